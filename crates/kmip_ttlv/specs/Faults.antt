@@ -1,0 +1,39 @@
+-- The number, the name and the place of each fault.
+use Rattle.std.specs.Prelude.{ℕ, List, Option, Some, None, codes}
+use Rattle.kmip_ttlv.specs.declared.fault.TtlvFault.{TtlvFault}
+use Rattle.kmip_ttlv.specs.declared.fault.TtlvFault.TheVariants.{
+  Short, UnknownType, BadLength, BadBoolean, BadText, ChildrenOverrun, TooDeep, TooLong, NoMemory,
+}
+
+abbrev pub fault_number : TtlvFault → ℕ
+fault_number (Short at) = 1
+fault_number (UnknownType at) = 2
+fault_number (BadLength at) = 3
+fault_number (BadBoolean at) = 4
+fault_number (BadText at) = 5
+fault_number (ChildrenOverrun at) = 6
+fault_number (TooDeep at) = 7
+fault_number (TooLong at) = 8
+fault_number NoMemory = 9
+
+abbrev pub fault_name : TtlvFault → List ℕ
+fault_name (Short at) = codes "Short"
+fault_name (UnknownType at) = codes "UnknownType"
+fault_name (BadLength at) = codes "BadLength"
+fault_name (BadBoolean at) = codes "BadBoolean"
+fault_name (BadText at) = codes "BadText"
+fault_name (ChildrenOverrun at) = codes "ChildrenOverrun"
+fault_name (TooDeep at) = codes "TooDeep"
+fault_name (TooLong at) = codes "TooLong"
+fault_name NoMemory = codes "NoMemory"
+
+abbrev pub fault_offset : TtlvFault → Option ℕ
+fault_offset (Short at) = Some at
+fault_offset (UnknownType at) = Some at
+fault_offset (BadLength at) = Some at
+fault_offset (BadBoolean at) = Some at
+fault_offset (BadText at) = Some at
+fault_offset (ChildrenOverrun at) = Some at
+fault_offset (TooDeep at) = Some at
+fault_offset (TooLong at) = Some at
+fault_offset NoMemory = None

@@ -1,0 +1,20 @@
+//! TTLV, the encoding of KMIP: items as bytes and bytes as items.
+//!
+//! An item is a tag, a type, a length and a value ("Key Management Interoperability Protocol
+//! Specification Version 2.1", TTLV Encoding). `read` takes the item at the front of some bytes,
+//! `write` appends the one written form of an item, and `fits` says which items have one.
+#![tactic(auto)]
+
+mod access;
+mod bytes;
+mod fault;
+mod item;
+mod making;
+mod tag;
+mod text;
+
+pub use bytes::Bytes;
+pub use fault::{NoMemory, TtlvFault};
+pub use item::{Item, Value};
+pub use tag::Tag;
+pub use text::Text;

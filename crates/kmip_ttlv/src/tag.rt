@@ -1,0 +1,42 @@
+//! The tag of an item.
+ghost use Rattle.std.specs.Prelude.{◌≡◌, ◌<◌, ◌^◌};
+
+use std::marker::Model;
+
+/// The number that says what an item means: three bytes, so below 2^24.
+///
+/// Source: KMIP 2.1, TTLV Encoding, Tag.
+#[derive(Clone, Copy, Debug, PartialEq, Eq)]
+pub struct Tag {
+    number: u32,
+}
+
+impl Model for Tag {
+    ghost use Rattle.std.specs.Prelude.{ℕ, ◌<◌, ◌^◌};
+
+    ghost Value = { ℕ };
+
+    ghost view = { λ t. t.number };
+
+    ghost invariant = { λ t. t.number < 2 ^ 24 };
+
+    ghost inverse = { λ n. record { number = n } };
+}
+
+impl Tag {
+    /// The tag of this number.
+    pub const fn new(number: u32) -> Self
+        requires { number < 2 ^ 24 }
+        ensures { result ≡ number }
+    {
+        Tag { number }
+    }
+
+    /// The tag's number.
+    pub fn number(self) -> u32
+        ensures value { result ≡ self }
+        ensures in_range { result < 2 ^ 24 }
+    {
+        self.number
+    }
+}
