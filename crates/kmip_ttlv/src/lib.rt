@@ -8,13 +8,23 @@
 mod access;
 mod bytes;
 mod fault;
+mod fitting;
 mod item;
+mod item_type;
+mod limits;
 mod making;
+mod reading;
 mod tag;
 mod text;
+mod writing;
 
 pub use bytes::Bytes;
 pub use fault::{NoMemory, TtlvFault};
+pub use fitting::fits;
 pub use item::{Item, Value};
+pub use item_type::ItemType;
+pub use limits::{MAX_DEPTH, MAX_SIZE};
+pub use reading::read;
 pub use tag::Tag;
 pub use text::Text;
+pub use writing::write;

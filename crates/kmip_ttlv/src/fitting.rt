@@ -1,0 +1,88 @@
+//! Which items have a written form.
+ghost use Rattle.std.specs.Prelude.{◌≡◌, ◌+◌, ◌≤◌, ◌<◌, ◌^◌, length, IfSome};
+
+use crate::item::{Item, Value};
+use crate::item_type::ItemType;
+use crate::limits::{HEAD_SIZE, MAX_DEPTH, MAX_SIZE, padding_of};
+
+/// Whether the item has a written form: at most `MAX_DEPTH` levels, at most `MAX_SIZE` bytes, and each
+/// Big Integer a positive multiple of eight bytes long. Takes no memory.
+pub fn fits(item: &Item) -> bool {
+    size_within(item, MAX_DEPTH, MAX_SIZE).is_some()
+}
+
+/// The size of the item's written form, where it has one of at most `levels` levels and `room` bytes.
+#[cycle(sizes)]
+fn size_within(item: &Item, levels: usize, room: usize) -> Option<usize>
+    requires { room ≤ 8192 }
+    ensures { IfSome result (λ size. size ≤ room) }
+{
+    if levels == 0 {
+        return None;
+    }
+    match &item.value {
+        Value::Structure(items) => structure_within(items.as_slice(), levels, room),
+        Value::BigInteger(digits) => {
+            let len = digits.as_slice().len();
+            if !ItemType::BigInteger.allows(len) {
+                return None;
+            }
+            leaf_within(len, room)
+        }
+        Value::TextString(text) => leaf_within(text.as_str().len(), room),
+        Value::ByteString(bytes) => leaf_within(bytes.as_slice().len(), room),
+        Value::Integer(_) | Value::Enumeration(_) | Value::Interval(_) => leaf_within(4, room),
+        Value::LongInteger(_)
+        | Value::Boolean(_)
+        | Value::DateTime(_)
+        | Value::DateTimeExtended(_) => leaf_within(8, room),
+    }
+}
+
+/// The size of a Structure of these items, as `size_within` has it.
+#[cycle(sizes)]
+fn structure_within(items: &[Item], levels: usize, room: usize) -> Option<usize>
+    requires room { room ≤ 8192 }
+    requires levels { 0 < levels }
+    ensures { IfSome result (λ size. size ≤ room) }
+{
+    if room < HEAD_SIZE {
+        return None;
+    }
+    match all_within(items, levels - 1, room - HEAD_SIZE) {
+        Some(size) => Some(HEAD_SIZE + size),
+        None => None,
+    }
+}
+
+/// The size of these items together, where each has at most `levels` levels and all at most `room`
+/// bytes.
+#[cycle(sizes)]
+pub(crate) fn all_within(items: &[Item], levels: usize, room: usize) -> Option<usize>
+    requires { room ≤ 8192 }
+    ensures { IfSome result (λ size. size ≤ room) }
+{
+    let mut size = 0;
+    for item in items {
+        match size_within(item, levels, room - size) {
+            Some(more) => size += more,
+            None => return None,
+        }
+    }
+    Some(size)
+}
+
+/// The size of an item without children whose value has this length.
+fn leaf_within(len: usize, room: usize) -> Option<usize>
+    requires { room ≤ 8192 }
+    ensures { IfSome result (λ size. size ≤ room) }
+{
+    if len > room {
+        return None;
+    }
+    let size = HEAD_SIZE + len + padding_of(len);
+    if size > room {
+        return None;
+    }
+    Some(size)
+}

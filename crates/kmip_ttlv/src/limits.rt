@@ -1,0 +1,20 @@
+//! How deep and how long an item may be, and how its value is padded.
+ghost use Rattle.std.specs.Prelude.{◌≡◌, ◌+◌, ◌-◌, ◌%◌, ◌<◌, ◌≤◌, ◌^◌};
+ghost use Rattle.kmip_ttlv.specs.Spelling.{padding};
+
+/// The most levels that an item may have: 1 for an item without children.
+pub const MAX_DEPTH: usize = 16;
+
+/// The most bytes that an item may take, with its head and its padding.
+pub const MAX_SIZE: usize = 8192;
+
+/// The bytes of a tag, a type and a length.
+pub(crate) const HEAD_SIZE: usize = 8;
+
+/// How many bytes of padding follow a value of this length: the fewest that make it a multiple of
+/// eight (KMIP 2.1, TTLV Encoding, Value).
+pub(crate) fn padding_of(len: usize) -> usize
+    ensures { result ≡ padding len }
+{
+    (8 - len % 8) % 8
+}

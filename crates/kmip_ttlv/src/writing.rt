@@ -1,0 +1,103 @@
+//! Items to bytes.
+ghost use Rattle.std.specs.Prelude.{◌≡◌, ◌+◌, ◌≤◌, ◌<◌, ◌^◌, length, take, OnErr};
+
+use crate::fault::NoMemory;
+use crate::fitting::all_within;
+use crate::item::{Item, Value};
+use crate::item_type::ItemType;
+use crate::limits::{HEAD_SIZE, MAX_DEPTH, MAX_SIZE, padding_of};
+use crate::tag::Tag;
+use byteorder::{BigEndian, ByteOrder};
+
+/// Appends the one written form of an item that `fits`, its padding zero.
+///
+/// # Errors
+/// Where there is no memory for the bytes; `out` is then as it was.
+pub fn write(item: &Item, out: &mut Vec<u8>) -> Result<(), NoMemory>
+    ensures err { OnErr result (out.new.items ≡ out.old.items) }
+{
+    let before = out.len();
+    match append(item, out) {
+        Ok(()) => Ok(()),
+        Err(fault) => {
+            out.truncate(before);
+            Err(fault)
+        }
+    }
+}
+
+/// Appends the written form of the item; at want of memory, a part of it.
+#[cycle(appending)]
+fn append(item: &Item, out: &mut Vec<u8>) -> Result<(), NoMemory>
+    ensures kept { take (length out.old.items) out.new.items ≡ out.old.items }
+{
+    let tag = item.tag;
+    match &item.value {
+        Value::Structure(items) => append_structure(tag, items.as_slice(), out),
+        Value::Integer(number) => append_leaf(tag, ItemType::Integer, &number.to_be_bytes(), out),
+        Value::LongInteger(number) => {
+            append_leaf(tag, ItemType::LongInteger, &number.to_be_bytes(), out)
+        }
+        Value::BigInteger(digits) => append_leaf(tag, ItemType::BigInteger, digits.as_slice(), out),
+        Value::Enumeration(number) => {
+            append_leaf(tag, ItemType::Enumeration, &number.to_be_bytes(), out)
+        }
+        Value::Boolean(truth) => {
+            append_leaf(tag, ItemType::Boolean, &u64::from(*truth).to_be_bytes(), out)
+        }
+        Value::TextString(text) => {
+            append_leaf(tag, ItemType::TextString, text.as_str().as_bytes(), out)
+        }
+        Value::ByteString(bytes) => append_leaf(tag, ItemType::ByteString, bytes.as_slice(), out),
+        Value::DateTime(number) => append_leaf(tag, ItemType::DateTime, &number.to_be_bytes(), out),
+        Value::Interval(number) => append_leaf(tag, ItemType::Interval, &number.to_be_bytes(), out),
+        Value::DateTimeExtended(number) => {
+            append_leaf(tag, ItemType::DateTimeExtended, &number.to_be_bytes(), out)
+        }
+    }
+}
+
+/// Appends a Structure: its head, and then its items, which end at a multiple of eight.
+#[cycle(appending)]
+fn append_structure(tag: Tag, items: &[Item], out: &mut Vec<u8>) -> Result<(), NoMemory>
+    ensures kept { take (length out.old.items) out.new.items ≡ out.old.items }
+{
+    let size = all_within(items, MAX_DEPTH, MAX_SIZE).unwrap_or(0);
+    append_head(tag, ItemType::Structure, size, out)?;
+    for item in items {
+        append(item, out)?;
+    }
+    Ok(())
+}
+
+/// Appends an item that has no children: its head, its value and its padding.
+fn append_leaf(
+    tag: Tag,
+    item_type: ItemType,
+    value: &[u8],
+    out: &mut Vec<u8>,
+) -> Result<(), NoMemory>
+    ensures kept { take (length out.old.items) out.new.items ≡ out.old.items }
+{
+    append_head(tag, item_type, value.len(), out)?;
+    out.extend_from_slice(value)?;
+    out.extend_from_slice(&[0; HEAD_SIZE][..padding_of(value.len())])?;
+    Ok(())
+}
+
+/// Appends a tag, a type and a length.
+fn append_head(
+    tag: Tag,
+    item_type: ItemType,
+    len: usize,
+    out: &mut Vec<u8>,
+) -> Result<(), NoMemory>
+    ensures kept { take (length out.old.items) out.new.items ≡ out.old.items }
+{
+    let mut head = [0; HEAD_SIZE];
+    BigEndian::write_u24(&mut head, tag.number());
+    head[3] = item_type.byte();
+    BigEndian::write_u32(&mut head[4..], u32::try_from(len).unwrap_or(u32::MAX));
+    out.extend_from_slice(&head)?;
+    Ok(())
+}

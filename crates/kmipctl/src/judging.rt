@@ -1,0 +1,42 @@
+//! What a line of the input of `answer` says.
+
+use crate::answer_fault::AnswerFault;
+use crate::lines::MOST_DIGITS;
+use hex::FromHexError;
+use std::alloc::Global;
+
+/// What a line says.
+#[derive(Debug, Drop)]
+pub enum Judged {
+    /// Nothing: the line is empty.
+    Empty,
+    /// More than a message may have.
+    Long,
+    /// No message: the digits are odd in number, or a byte is no digit.
+    NotHex,
+    /// The message that the digits spell.
+    Message(Vec<u8>),
+}
+
+/// Says what a line is. The length is judged before the bytes are.
+///
+/// # Errors
+///
+/// `NoMemory` alone.
+pub fn judge(alloc: Global, line: &[u8]) -> Result<Judged, AnswerFault> {
+    if line.is_empty() {
+        return Ok(Judged::Empty);
+    }
+    if line.len() > MOST_DIGITS {
+        return Ok(Judged::Long);
+    }
+    match hex::decode(alloc, line) {
+        Ok(message) => Ok(Judged::Message(message)),
+        Err(fault) => {
+            if fault == FromHexError::OutOfMemory {
+                return Err(AnswerFault::NoMemory);
+            }
+            Ok(Judged::NotHex)
+        }
+    }
+}

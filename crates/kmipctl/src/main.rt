@@ -1,0 +1,53 @@
+//! `kmipctl`, a program for messages of the Key Management Interoperability Protocol.
+//!
+//! It reads its command line, does what it asks for over standard input and standard output, and
+//! ends with the exit status of `exit_status`. Everything is printed on standard output, help and
+//! usage faults too.
+#![tactic(auto)]
+
+mod answer;
+mod answer_fault;
+mod command_line;
+mod exit_status;
+mod judging;
+mod lines;
+mod replies;
+
+use answer::run_answer;
+use command_line::{Choice, chosen, status_of};
+use exit_status::ExitStatus;
+use std::io::{BufReader, BufWriter, ErrorKind};
+use std::process::ExitCode;
+use std::{env, io};
+
+fn main(rt: HostRuntime) -> ExitCode {
+    let status = match run(&rt) {
+        Ok(status) => status,
+        Err(error) => {
+            if error.kind() == ErrorKind::OutOfMemory {
+                let _ = rt.println("no memory");
+            }
+            ExitStatus::Refused
+        }
+    };
+    ExitCode::from(status.code())
+}
+
+/// Does what the command line asks for.
+fn run(rt: &HostRuntime) -> io::Result<ExitStatus> {
+    let words: Vec<String> = env::args(rt)?.collect(rt.alloc())?;
+    match chosen(rt.alloc(), words.as_slice()) {
+        Ok(Choice::Answer) => answer_input(rt),
+        Err(error) => {
+            rt.print(&error)?;
+            Ok(status_of(&error))
+        }
+    }
+}
+
+/// The command `answer` from standard input to standard output.
+fn answer_input(rt: &HostRuntime) -> io::Result<ExitStatus> {
+    let mut reader = BufReader::new(rt.alloc(), rt.reader())?;
+    let mut writer = BufWriter::new(rt.alloc(), io::writer(rt))?;
+    Ok(run_answer(rt.alloc(), &mut reader, &mut writer))
+}

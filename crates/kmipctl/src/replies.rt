@@ -1,0 +1,35 @@
+//! What `answer` prints for a line.
+
+use crate::answer_fault::AnswerFault;
+use std::alloc::Global;
+use std::io::Write;
+
+/// What is printed for a line that is too long.
+pub const REFUSED_LENGTH: &[u8] = b"refused: length\n";
+
+/// What is printed for a line that is no hexadecimal.
+pub const REFUSED_HEX: &[u8] = b"refused: hex\n";
+
+/// Writes a reply in lower-case hexadecimal, and a line feed, by one write.
+///
+/// # Errors
+///
+/// `NoMemory`, and `Output` where the writer fails.
+pub fn write_reply<W: Write>(
+    alloc: Global,
+    reply: &[u8],
+    writer: &mut W,
+) -> Result<(), AnswerFault> {
+    let mut text = hex::encode(alloc, reply)?;
+    text.push('\n')?;
+    write_text(text.as_bytes(), writer)
+}
+
+/// Writes a text by one write.
+///
+/// # Errors
+///
+/// `Output` where the writer fails.
+pub fn write_text<W: Write>(text: &[u8], writer: &mut W) -> Result<(), AnswerFault> {
+    writer.write_all(text).map_err(|_error| AnswerFault::Output)
+}
