@@ -1,0 +1,5 @@
+pub mod States
+pub mod Faults
+pub mod Ranges
+pub mod Siblings
+pub mod Reading

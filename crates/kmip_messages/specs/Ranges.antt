@@ -1,0 +1,40 @@
+-- The values that the fields of a message may have.
+use Rattle.std.specs.Prelude.{ℕ, ℤ, pos, Bool, true, false, not, ◌&&◌, ◌||◌, ◌==◌, nat_lt, nat_le, int_lt, List, length, Option, Some, None, if◌then◌else◌}
+use Rattle.std.specs.List.{list_all}
+use Rattle.std.specs.Ordering.{int_eq}
+use Rattle.kmip_messages.specs.declared.standard.TheConstants.{ALGORITHM_AES, ALGORITHM_HMAC_SHA256, USAGE_MAX, NAME_MAX, ID_MAX}
+use Rattle.kmip_messages.specs.declared.request.KeyAttrs.{KeyAttrs}
+
+-- a printing ASCII character other than the space
+abbrev pub is_name_byte : ℕ → Bool
+is_name_byte b = nat_le 0x21 b && nat_le b 0x7E
+
+-- the name of a key in a request (own)
+abbrev pub is_name : List ℕ → Bool
+is_name s = nat_le 1 (length s) && nat_le (length s) NAME_MAX && list_all is_name_byte s
+
+-- a Unique Identifier (own)
+abbrev pub is_identifier : List ℕ → Bool
+is_identifier s = nat_le 1 (length s) && nat_le (length s) NAME_MAX
+
+-- a Unique Batch Item ID (own)
+abbrev pub is_batch_id : List ℕ → Bool
+is_batch_id s = nat_le (length s) ID_MAX
+
+-- the algorithms of the profile, and the lengths of their keys in bits
+abbrev pub is_algorithm : ℕ → Bool
+is_algorithm a = a == ALGORITHM_AES || a == ALGORITHM_HMAC_SHA256
+
+abbrev pub is_aes_length : ℤ → Bool
+is_aes_length l = int_eq l (pos 128) || int_eq l (pos 192) || int_eq l (pos 256)
+
+abbrev pub is_length : ℕ → ℤ → Bool
+is_length a l = if a == ALGORITHM_AES then is_aes_length l else a == ALGORITHM_HMAC_SHA256 && int_eq l (pos 256)
+
+-- a Cryptographic Usage Mask of a new key (own)
+abbrev pub is_usage : ℤ → Bool
+is_usage u = int_lt (pos 0) u && not (int_lt USAGE_MAX u)
+
+-- the attributes of a new key
+abbrev pub attrs_fit : KeyAttrs → Bool
+attrs_fit k = is_name k.name && is_algorithm k.algorithm && is_length k.algorithm k.length && is_usage k.usage

@@ -1,0 +1,20 @@
+//! The messages of KMIP: what requests ask and what replies say, and both as bytes.
+//!
+//! Source: KMIP 2.1, Message Structure and Operations. The profile is stated in the README.
+#![tactic(auto)]
+
+mod fault;
+mod fields;
+mod ranges;
+mod reply;
+mod request;
+pub mod standard;
+mod state;
+mod texts;
+
+pub use fault::{MessageFault, Refusal};
+pub use ranges::{attrs_fit, is_identifier, is_name};
+pub use reply::{Outcome, Reply};
+pub use request::{Ask, Attrs, KeyAttrs, Request};
+pub use state::KeyState;
+pub use texts::Texts;

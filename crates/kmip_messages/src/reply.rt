@@ -1,0 +1,33 @@
+//! What a reply says.
+
+use crate::request::Attrs;
+use crate::texts::Texts;
+use kmip_ttlv::{Bytes, Text};
+
+/// The server's answer to one question.
+#[derive(Debug, Drop)]
+pub struct Reply {
+    /// The operation that was asked, where the server could tell.
+    pub operation: Option<u32>,
+    /// The Unique Batch Item ID of the request, at most 128 bytes, where it had one.
+    pub id: Option<Bytes>,
+    pub outcome: Outcome,
+}
+
+/// How an operation went.
+///
+/// Source: KMIP 2.1, Operations, and Message Data, Result Status.
+#[derive(Debug, Drop)]
+pub enum Outcome {
+    /// The identifier of the new key.
+    Created(Text),
+    /// The identifiers of the objects that were found.
+    Located(Texts),
+    /// The identifier of the object, and its attributes.
+    Attributes(Text, Attrs),
+    Activated(Text),
+    Revoked(Text),
+    Destroyed(Text),
+    /// The Result Reason, where there is one.
+    Failed(Option<u32>),
+}

@@ -1,0 +1,58 @@
+//! What a request asks.
+
+use kmip_ttlv::{Bytes, Text};
+
+/// One question to the server.
+#[derive(Debug, Drop)]
+pub struct Request {
+    /// The Unique Batch Item ID, at most 128 bytes, where there is one.
+    pub id: Option<Bytes>,
+    pub ask: Ask,
+}
+
+/// An operation with what it is asked of.
+///
+/// Source: KMIP 2.1, Operations.
+#[derive(Debug, Drop)]
+pub enum Ask {
+    /// Make a symmetric key with these attributes.
+    Create(KeyAttrs),
+    /// The identifiers of the objects that have all the given attributes.
+    Locate {
+        /// The Storage Status Mask: which objects are searched.
+        mask: Option<i32>,
+        filter: Attrs,
+    },
+    /// The attributes of the object with this identifier.
+    GetAttributes(Text),
+    /// From Pre-Active to Active.
+    Activate(Text),
+    /// From Active to Deactivated, for the reason of this code.
+    Revoke(Text, u32),
+    /// From Pre-Active or Deactivated to Destroyed.
+    Destroy(Text),
+}
+
+/// The attributes that a key is made with.
+#[derive(Debug, Drop)]
+pub struct KeyAttrs {
+    /// 1 to 64 bytes, each 21 to 7E hexadecimal.
+    pub name: Text,
+    /// Cryptographic Algorithm: AES or HMAC-SHA256.
+    pub algorithm: u32,
+    /// Cryptographic Length in bits: 128, 192 or 256 for AES, 256 for HMAC-SHA256.
+    pub length: i32,
+    /// Cryptographic Usage Mask, 1 to 1FF hexadecimal.
+    pub usage: i32,
+}
+
+/// The attributes of the profile, each where it is given.
+#[derive(Debug, Drop)]
+pub struct Attrs {
+    pub object_type: Option<u32>,
+    pub name: Option<Text>,
+    pub algorithm: Option<u32>,
+    pub length: Option<i32>,
+    pub usage: Option<i32>,
+    pub state: Option<u32>,
+}

@@ -1,0 +1,32 @@
+//! The states of a key.
+ghost use Rattle.std.specs.Prelude.{◌≡◌};
+ghost use Rattle.kmip_messages.specs.States.{state_number};
+
+/// The states of a key, numbered 1 to 6 in this order.
+///
+/// Source: KMIP 2.1, Object Attributes, State.
+#[derive(Clone, Copy, Debug, PartialEq, Eq)]
+pub enum KeyState {
+    PreActive,
+    Active,
+    Deactivated,
+    Compromised,
+    Destroyed,
+    DestroyedCompromised,
+}
+
+impl KeyState {
+    /// The state's number.
+    pub fn number(self) -> u32
+        ensures { result ≡ state_number self }
+    {
+        match self {
+            KeyState::PreActive => 1,
+            KeyState::Active => 2,
+            KeyState::Deactivated => 3,
+            KeyState::Compromised => 4,
+            KeyState::Destroyed => 5,
+            KeyState::DestroyedCompromised => 6,
+        }
+    }
+}
