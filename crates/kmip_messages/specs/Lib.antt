@@ -3,3 +3,4 @@ pub mod Faults
 pub mod Ranges
 pub mod Siblings
 pub mod Reading
+pub mod RequestReading

@@ -2,8 +2,13 @@
 use Rattle.std.specs.Prelude.{ℕ, ℤ, pos, Bool, true, false, not, ◌&&◌, ◌||◌, ◌==◌, nat_lt, nat_le, int_lt, List, length, Option, Some, None, if◌then◌else◌}
 use Rattle.std.specs.List.{list_all}
 use Rattle.std.specs.Ordering.{int_eq}
-use Rattle.kmip_messages.specs.declared.standard.TheConstants.{ALGORITHM_AES, ALGORITHM_HMAC_SHA256, USAGE_MAX, NAME_MAX, ID_MAX}
+use Rattle.std.specs.Option.{option_map_or}
+use Rattle.kmip_messages.specs.declared.standard.TheConstants.{REVOCATION_UNSPECIFIED, REVOCATION_PRIVILEGE_WITHDRAWN, OPERATION_CREATE, OPERATION_LOCATE, OPERATION_GET_ATTRIBUTES, OPERATION_ACTIVATE, OPERATION_REVOKE, OPERATION_DESTROY, ALGORITHM_AES, ALGORITHM_HMAC_SHA256, USAGE_MAX, NAME_MAX, ID_MAX}
 use Rattle.kmip_messages.specs.declared.request.KeyAttrs.{KeyAttrs}
+use Rattle.kmip_messages.specs.declared.request.Attrs.{Attrs}
+use Rattle.kmip_messages.specs.declared.request.Ask.{Ask}
+use Rattle.kmip_messages.specs.declared.request.Ask.TheVariants.{Create, Locate, GetAttributes, Activate, Revoke, Destroy}
+use Rattle.kmip_messages.specs.declared.request.Request.{Request}
 
 -- a printing ASCII character other than the space
 abbrev pub is_name_byte : ℕ → Bool
@@ -35,6 +40,27 @@ is_length a l = if a == ALGORITHM_AES then is_aes_length l else a == ALGORITHM_H
 abbrev pub is_usage : ℤ → Bool
 is_usage u = int_lt (pos 0) u && not (int_lt USAGE_MAX u)
 
+-- a Revocation Reason Code
+abbrev pub is_revocation_code : ℕ → Bool
+is_revocation_code c = nat_le REVOCATION_UNSPECIFIED c && nat_le c REVOCATION_PRIVILEGE_WITHDRAWN
+
+-- one of the six operations
+abbrev pub is_operation : ℕ → Bool
+is_operation o = o == OPERATION_CREATE || o == OPERATION_LOCATE || o == OPERATION_GET_ATTRIBUTES
+    || o == OPERATION_ACTIVATE || o == OPERATION_REVOKE || o == OPERATION_DESTROY
+
 -- the attributes of a new key
 abbrev pub attrs_fit : KeyAttrs → Bool
 attrs_fit k = is_name k.name && is_algorithm k.algorithm && is_length k.algorithm k.length && is_usage k.usage
+
+-- a question whose values are in their ranges
+abbrev pub ask_fits : Ask → Bool
+ask_fits (Create k) = attrs_fit k
+ask_fits (Locate mask filter) = option_map_or is_name filter.name false
+ask_fits (GetAttributes uid) = is_identifier uid
+ask_fits (Activate uid) = is_identifier uid
+ask_fits (Revoke uid code) = is_identifier uid && is_revocation_code code
+ask_fits (Destroy uid) = is_identifier uid
+
+abbrev pub request_fits : Request → Bool
+request_fits r = option_map_or is_batch_id r.id true && ask_fits r.ask

@@ -2,9 +2,9 @@
 -- Source: KMIP 2.1, Message Structure: items that a reader does not use are skipped.
 use Rattle.std.specs.Prelude.{◌≡◌, ℕ, Bool, true, List, [], ◌∷◌, Option, Some, None, Result, Ok, Err, ◌==◌, not, if◌then◌else◌}
 use Rattle.std.specs.List.{list_any}
-use Rattle.kmip_ttlv.specs.Node.{Node, Content, tag_of, content_of}
+use Rattle.kmip_ttlv.specs.Node.{Node, Content, tag_of, content_of, as_structure}
 use Rattle.kmip_messages.specs.declared.fault.MessageFault.{MessageFault}
-use Rattle.kmip_messages.specs.declared.fault.MessageFault.TheVariants.{Missing, Twice, WrongType, OutOfRange}
+use Rattle.kmip_messages.specs.declared.fault.MessageFault.TheVariants.{Missing, Twice, WrongType, OutOfRange, BatchCount}
 
 -- what the items with a tag contain, in their order
 abbrev pub contents : ℕ → List Node → List Content
@@ -38,10 +38,18 @@ abbrev pub typed_if_any : {A : Type 0} → (Content → Option A) → ℕ → Op
 typed_if_any kind tag None = Ok None
 typed_if_any kind tag (Some c) = typed tag (kind c) >>= λ a. Ok (Some a)
 
--- a value in its range
+-- a test, and a value in its range
+abbrev pub guard : MessageFault → Bool → Result (Unit {0}) MessageFault
+guard fault true = Ok tt
+guard fault _ = Err fault
+
 abbrev pub within : ℕ → Bool → Result (Unit {0}) MessageFault
-within tag true = Ok tt
-within tag _ = Err (OutOfRange tag)
+within tag test = guard (OutOfRange tag) test
+
+-- the one item with a tag in a batch of one
+abbrev pub sole : ℕ → List Content → Result (List Node) MessageFault
+sole tag (c ∷ []) = typed tag (as_structure c)
+sole tag _ = Err BatchCount
 
 -- the one item with a tag, of a type
 unfoldable pub the : {A : Type 0} → (Content → Option A) → ℕ → List Node → Result A MessageFault

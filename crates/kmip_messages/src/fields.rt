@@ -1,11 +1,11 @@
 //! The items of one Structure, found by their tags.
-ghost use Rattle.std.specs.Prelude.{◌≡◌, ◌==◌, ◌<◌, ◌^◌, option_map};
+ghost use Rattle.std.specs.Prelude.{◌≡◌, ◌==◌, ◌<◌, ◌^◌, option_map, IfErr};
 ghost use Rattle.std.specs.List.{list_any};
 ghost use Rattle.kmip_ttlv.specs.Node.{
     content_of, as_structure, as_integer, as_enumeration, as_text_string, as_byte_string,
 };
 ghost use Rattle.kmip_ttlv.specs.View.{view, views};
-ghost use Rattle.kmip_messages.specs.Siblings.{contents, at_most_one_of, one_of, the, maybe, within, only};
+ghost use Rattle.kmip_messages.specs.Siblings.{contents, at_most_one_of, one_of, guard, sole, the, maybe, within, only};
 ghost use Rattle.kmip_messages.specs.Reading.{Gives};
 
 use crate::fault::MessageFault;
@@ -14,7 +14,8 @@ use kmip_ttlv::{Item, Tag};
 /// The item with this tag, where there is one; two or more are a fault.
 fn at_most_one(items: &[Item], tag: u32) -> Result<Option<&Item>, MessageFault>
     requires { tag < 2 ^ 24 }
-    ensures { Gives (λ o. option_map (λ i. content_of (view i.now)) o) result (at_most_one_of tag (contents tag (views items.now))) }
+    ensures exact { Gives (λ o. option_map (λ i. content_of (view i.now)) o) result (at_most_one_of tag (contents tag (views items.now))) }
+    ensures fault { IfErr result (λ e. at_most_one_of tag (contents tag (views items.now)) ≡ Err e) }
 {
     let mut found = None;
     for item in items {
@@ -130,6 +131,30 @@ pub fn bytes_if_any(items: &[Item], tag: u32) -> Result<Option<&[u8]>, MessageFa
             None => Err(MessageFault::WrongType(Tag::new(tag))),
         },
     }
+}
+
+/// The items of the one Structure with this tag in a batch of one item.
+pub fn sole_structure(items: &[Item], tag: u32) -> Result<&[Item], MessageFault>
+    requires { tag < 2 ^ 24 }
+    ensures { Gives (λ s. views s.now) result (sole tag (contents tag (views items.now))) }
+{
+    let Ok(found) = at_most_one(items, tag) else {
+        return Err(MessageFault::BatchCount);
+    };
+    let Some(item) = found else {
+        return Err(MessageFault::BatchCount);
+    };
+    match item.as_structure() {
+        Some(items) => Ok(items),
+        None => Err(MessageFault::WrongType(Tag::new(tag))),
+    }
+}
+
+/// The test holds, or it is this fault.
+pub fn check(test: bool, fault: MessageFault) -> Result<(), MessageFault>
+    ensures { result ≡ guard fault test }
+{
+    if test { Ok(()) } else { Err(fault) }
 }
 
 /// A value of the item with this tag is in its range.

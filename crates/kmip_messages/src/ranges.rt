@@ -2,11 +2,15 @@
 ghost use Rattle.std.specs.Prelude.{◌≡◌};
 ghost use Rattle.std.specs.List.{list_all};
 ghost use Rattle.kmip_messages.specs.Ranges.{
-    is_name_byte, is_name, is_identifier, is_batch_id, is_algorithm, is_aes_length, is_length, is_usage, attrs_fit,
+    is_name_byte, is_name, is_identifier, is_batch_id, is_algorithm, is_aes_length, is_length, is_usage, is_revocation_code, is_operation, attrs_fit,
 };
 
 use crate::request::KeyAttrs;
-use crate::standard::{ALGORITHM_AES, ALGORITHM_HMAC_SHA256, ID_MAX, NAME_MAX, USAGE_MAX};
+use crate::standard::{
+    ALGORITHM_AES, ALGORITHM_HMAC_SHA256, ID_MAX, NAME_MAX, OPERATION_ACTIVATE, OPERATION_CREATE,
+    OPERATION_DESTROY, OPERATION_GET_ATTRIBUTES, OPERATION_LOCATE, OPERATION_REVOKE,
+    REVOCATION_PRIVILEGE_WITHDRAWN, REVOCATION_UNSPECIFIED, USAGE_MAX,
+};
 
 /// Whether a key may be made with these attributes: each is in its range. Takes no memory.
 pub fn attrs_fit(attrs: &KeyAttrs) -> bool
@@ -75,4 +79,23 @@ pub fn is_usage(usage: i32) -> bool
     ensures { result ≡ is_usage usage }
 {
     usage > 0 && !(usage > USAGE_MAX)
+}
+
+/// Whether the number is a Revocation Reason Code: 1 to 7.
+pub fn is_revocation_code(code: u32) -> bool
+    ensures { result ≡ is_revocation_code code }
+{
+    REVOCATION_UNSPECIFIED <= code && code <= REVOCATION_PRIVILEGE_WITHDRAWN
+}
+
+/// Whether the number is one of the six operations of the profile.
+pub fn is_operation(operation: u32) -> bool
+    ensures { result ≡ is_operation operation }
+{
+    operation == OPERATION_CREATE
+        || operation == OPERATION_LOCATE
+        || operation == OPERATION_GET_ATTRIBUTES
+        || operation == OPERATION_ACTIVATE
+        || operation == OPERATION_REVOKE
+        || operation == OPERATION_DESTROY
 }

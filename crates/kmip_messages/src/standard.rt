@@ -25,6 +25,8 @@ pub const TAG_RESPONSE_MESSAGE: u32 = 0x42007B;
 pub const TAG_RESPONSE_PAYLOAD: u32 = 0x42007C;
 pub const TAG_RESULT_REASON: u32 = 0x42007E;
 pub const TAG_RESULT_STATUS: u32 = 0x42007F;
+pub const TAG_REVOCATION_REASON: u32 = 0x420081;
+pub const TAG_REVOCATION_REASON_CODE: u32 = 0x420082;
 pub const TAG_STATE: u32 = 0x42008D;
 pub const TAG_STORAGE_STATUS_MASK: u32 = 0x42008E;
 pub const TAG_TIME_STAMP: u32 = 0x420092;
@@ -47,6 +49,13 @@ pub const OBJECT_TYPE_SYMMETRIC_KEY: u32 = 0x2;
 pub const ALGORITHM_AES: u32 = 0x3;
 pub const ALGORITHM_HMAC_SHA256: u32 = 0x9;
 pub const NAME_TYPE_UNINTERPRETED_TEXT_STRING: u32 = 0x1;
+
+// Revocation reason codes.
+
+pub const REVOCATION_UNSPECIFIED: u32 = 0x1;
+pub const REVOCATION_KEY_COMPROMISE: u32 = 0x2;
+pub const REVOCATION_CA_COMPROMISE: u32 = 0x3;
+pub const REVOCATION_PRIVILEGE_WITHDRAWN: u32 = 0x7;
 
 // Result statuses.
 

@@ -1,0 +1,312 @@
+//! Requests from bytes.
+ghost use Rattle.std.specs.Prelude.{◌≡◌, ◌<◌, ◌^◌, ◌&&◌, false, IsTrue, IfOk};
+ghost use Rattle.std.specs.Option.{option_map_or};
+ghost use Rattle.std.specs.Ordering.{int_eq};
+ghost use Rattle.kmip_ttlv.specs.View.{view, views};
+ghost use Rattle.kmip_messages.specs.Ranges.{is_name, is_identifier, ask_fits, attrs_fit};
+ghost use Rattle.kmip_messages.specs.Reading.{Gives};
+ghost use Rattle.kmip_messages.specs.RequestReading.{
+    message_at, request_header_at, batch_at, id_at, identifier_at, name_at, key_attrs_at, filter_at, create_at, locate_at,
+    revoke_at, ask_in, ask_at, request_at, GivesRequest,
+};
+
+use crate::fault::{MessageFault, Refusal};
+use crate::fields::{
+    bytes_if_any, check, enumeration_if_any, integer_if_any, only, sole_structure, the_enumeration,
+    the_integer, the_structure, the_text, within,
+};
+use crate::ranges::{
+    is_algorithm, is_batch_id, is_identifier, is_length, is_name, is_operation, is_revocation_code,
+    is_usage,
+};
+use crate::request::{Ask, Attrs, KeyAttrs, Request};
+use crate::standard::{
+    NAME_TYPE_UNINTERPRETED_TEXT_STRING, OBJECT_TYPE_SYMMETRIC_KEY, OPERATION_ACTIVATE,
+    OPERATION_CREATE, OPERATION_GET_ATTRIBUTES, OPERATION_LOCATE, OPERATION_REVOKE, TAG_ATTRIBUTES,
+    TAG_BATCH_COUNT, TAG_BATCH_ITEM, TAG_CRYPTOGRAPHIC_ALGORITHM, TAG_CRYPTOGRAPHIC_LENGTH,
+    TAG_CRYPTOGRAPHIC_USAGE_MASK, TAG_NAME, TAG_NAME_TYPE, TAG_NAME_VALUE, TAG_OBJECT_TYPE,
+    TAG_OPERATION, TAG_PROTOCOL_VERSION, TAG_PROTOCOL_VERSION_MAJOR, TAG_PROTOCOL_VERSION_MINOR,
+    TAG_REQUEST_HEADER, TAG_REQUEST_MESSAGE, TAG_REQUEST_PAYLOAD, TAG_REVOCATION_REASON,
+    TAG_REVOCATION_REASON_CODE, TAG_STATE, TAG_STORAGE_STATUS_MASK, TAG_UNIQUE_BATCH_ITEM_ID,
+    TAG_UNIQUE_IDENTIFIER, VERSION_MAJOR, VERSION_MINOR,
+};
+use kmip_ttlv::{Bytes, Item, Text, read};
+use std::alloc::Global;
+
+/// The request that all the bytes are.
+///
+/// # Errors
+/// The first fault in the order of the checks, with the Operation and the Unique Batch Item ID where
+/// both are lawful; want of memory otherwise.
+pub fn read_request(alloc: Global, bytes: &[u8]) -> Result<Request, Refusal>
+    ensures fits { IfOk result (λ r. IsTrue (ask_fits r.ask)) }
+{
+    match read(alloc, bytes) {
+        Ok((item, size)) => {
+            if size != bytes.len() {
+                return Err(Refusal::from(MessageFault::NotMessage));
+            }
+            request_of(alloc, &item)
+        }
+        Err(fault) => Err(Refusal::from(MessageFault::from(fault))),
+    }
+}
+
+/// The request that an item is.
+#[tactic(auto, unfolding(crate::specs::RequestReading::request_at))]
+fn request_of(alloc: Global, item: &Item) -> Result<Request, Refusal>
+    ensures exact { GivesRequest result (request_at (view item.now)) }
+    ensures fits { IfOk result (λ r. IsTrue (ask_fits r.ask)) }
+{
+    let batch = batch_of(item)?;
+    let id = id_of(alloc, batch)?;
+    let operation = the_enumeration(batch, TAG_OPERATION)?;
+    match ask_of(alloc, operation, batch) {
+        Ok(ask) => Ok(Request { id, ask }),
+        Err(fault) => Err(Refusal {
+            fault,
+            operation: Some(operation),
+            id,
+        }),
+    }
+}
+
+/// The items of the one Batch Item of a Request Message.
+#[tactic(auto, unfolding(crate::specs::RequestReading::batch_at))]
+fn batch_of(item: &Item) -> Result<&[Item], MessageFault>
+    ensures { Gives (λ s. views s.now) result (batch_at (view item.now)) }
+{
+    let message = message_of(item, TAG_REQUEST_MESSAGE)?;
+    header_of(message)?;
+    let batch = sole_structure(message, TAG_BATCH_ITEM)?;
+    Ok(batch)
+}
+
+/// The items of a message of this tag.
+#[tactic(auto, unfolding(crate::specs::RequestReading::message_at))]
+fn message_of(item: &Item, tag: u32) -> Result<&[Item], MessageFault>
+    ensures { Gives (λ s. views s.now) result (message_at tag (view item.now)) }
+{
+    match item.as_structure() {
+        Some(items) => {
+            if item.tag().number() == tag {
+                Ok(items)
+            } else {
+                Err(MessageFault::NotMessage)
+            }
+        }
+        None => Err(MessageFault::NotMessage),
+    }
+}
+
+/// The header of a request has the version 2.1 and counts one Batch Item.
+#[tactic(auto, unfolding(crate::specs::RequestReading::request_header_at))]
+fn header_of(message: &[Item]) -> Result<(), MessageFault>
+    ensures { Gives (λ u. u) result (request_header_at (views message.now)) }
+{
+    let header = the_structure(message, TAG_REQUEST_HEADER)?;
+    let version = the_structure(header, TAG_PROTOCOL_VERSION)?;
+    let major = the_integer(version, TAG_PROTOCOL_VERSION_MAJOR)?;
+    let minor = the_integer(version, TAG_PROTOCOL_VERSION_MINOR)?;
+    check(is_version(major, minor), MessageFault::Version)?;
+    let count = the_integer(header, TAG_BATCH_COUNT)?;
+    check(count == 1, MessageFault::BatchCount)?;
+    Ok(())
+}
+
+fn is_version(major: i32, minor: i32) -> bool
+    ensures { result ≡ (int_eq major VERSION_MAJOR && int_eq minor VERSION_MINOR) }
+{
+    major == VERSION_MAJOR && minor == VERSION_MINOR
+}
+
+/// The Unique Batch Item ID, where there is one.
+#[tactic(auto, unfolding(crate::specs::RequestReading::id_at))]
+fn id_of(alloc: Global, batch: &[Item]) -> Result<Option<Bytes>, MessageFault>
+    ensures { Gives (λ o. o) result (id_at (views batch.now)) }
+{
+    match bytes_if_any(batch, TAG_UNIQUE_BATCH_ITEM_ID)? {
+        None => Ok(None),
+        Some(id) => {
+            within(TAG_UNIQUE_BATCH_ITEM_ID, is_batch_id(id))?;
+            let id = Bytes::copied(alloc, id)?;
+            Ok(Some(id))
+        }
+    }
+}
+
+/// What the Batch Item with this operation asks.
+#[tactic(auto, unfolding(crate::specs::RequestReading::ask_at))]
+fn ask_of(alloc: Global, operation: u32, batch: &[Item]) -> Result<Ask, MessageFault>
+    ensures exact { Gives (λ a. a) result (ask_at operation (views batch.now)) }
+    ensures fits { IfOk result (λ a. IsTrue (ask_fits a)) }
+{
+    check(is_operation(operation), MessageFault::UnknownOperation)?;
+    let payload = the_structure(batch, TAG_REQUEST_PAYLOAD)?;
+    let ask = payload_of(alloc, operation, payload)?;
+    Ok(ask)
+}
+
+/// What the payload of one of the six operations asks.
+fn payload_of(alloc: Global, operation: u32, payload: &[Item]) -> Result<Ask, MessageFault>
+    ensures exact { Gives (λ a. a) result (ask_in operation (views payload.now)) }
+    ensures fits { IfOk result (λ a. IsTrue (ask_fits a)) }
+{
+    match operation {
+        OPERATION_CREATE => {
+            let attrs = create_of(alloc, payload)?;
+            Ok(Ask::Create(attrs))
+        }
+        OPERATION_LOCATE => {
+            let ask = locate_of(alloc, payload)?;
+            Ok(ask)
+        }
+        OPERATION_GET_ATTRIBUTES => {
+            let uid = identifier_of(alloc, payload)?;
+            Ok(Ask::GetAttributes(uid))
+        }
+        OPERATION_ACTIVATE => {
+            let uid = identifier_of(alloc, payload)?;
+            Ok(Ask::Activate(uid))
+        }
+        OPERATION_REVOKE => {
+            let ask = revoke_of(alloc, payload)?;
+            Ok(ask)
+        }
+        _ => {
+            let uid = identifier_of(alloc, payload)?;
+            Ok(Ask::Destroy(uid))
+        }
+    }
+}
+
+/// The attributes of the key that a Create asks for.
+#[tactic(auto, unfolding(crate::specs::RequestReading::create_at))]
+fn create_of(alloc: Global, payload: &[Item]) -> Result<KeyAttrs, MessageFault>
+    ensures exact { Gives (λ k. k) result (create_at (views payload.now)) }
+    ensures fits { IfOk result (λ k. IsTrue (attrs_fit k)) }
+{
+    let object_type = the_enumeration(payload, TAG_OBJECT_TYPE)?;
+    within(TAG_OBJECT_TYPE, object_type == OBJECT_TYPE_SYMMETRIC_KEY)?;
+    let attributes = the_structure(payload, TAG_ATTRIBUTES)?;
+    let attrs = key_attrs_of(alloc, attributes)?;
+    Ok(attrs)
+}
+
+/// The four attributes of a new key.
+#[tactic(auto, unfolding(crate::specs::RequestReading::key_attrs_at))]
+fn key_attrs_of(alloc: Global, attributes: &[Item]) -> Result<KeyAttrs, MessageFault>
+    ensures exact { Gives (λ k. k) result (key_attrs_at (views attributes.now)) }
+    ensures fits { IfOk result (λ k. IsTrue (attrs_fit k)) }
+{
+    only(
+        &[
+            TAG_NAME,
+            TAG_CRYPTOGRAPHIC_ALGORITHM,
+            TAG_CRYPTOGRAPHIC_LENGTH,
+            TAG_CRYPTOGRAPHIC_USAGE_MASK,
+        ],
+        attributes,
+    )?;
+    let name = name_of(alloc, attributes)?;
+    let algorithm = the_enumeration(attributes, TAG_CRYPTOGRAPHIC_ALGORITHM)?;
+    within(TAG_CRYPTOGRAPHIC_ALGORITHM, is_algorithm(algorithm))?;
+    let length = the_integer(attributes, TAG_CRYPTOGRAPHIC_LENGTH)?;
+    within(TAG_CRYPTOGRAPHIC_LENGTH, is_length(algorithm, length))?;
+    let usage = the_integer(attributes, TAG_CRYPTOGRAPHIC_USAGE_MASK)?;
+    within(TAG_CRYPTOGRAPHIC_USAGE_MASK, is_usage(usage))?;
+    Ok(KeyAttrs {
+        name,
+        algorithm,
+        length,
+        usage,
+    })
+}
+
+/// The Name Value of the one Name, which is an uninterpreted text.
+#[tactic(auto, unfolding(crate::specs::RequestReading::name_at))]
+fn name_of(alloc: Global, attributes: &[Item]) -> Result<Text, MessageFault>
+    ensures exact { Gives (λ s. s) result (name_at (views attributes.now)) }
+    ensures fits { IfOk result (λ s. IsTrue (is_name s)) }
+{
+    let parts = the_structure(attributes, TAG_NAME)?;
+    let value = the_text(parts, TAG_NAME_VALUE)?;
+    within(TAG_NAME_VALUE, is_name(value))?;
+    let kind = the_enumeration(parts, TAG_NAME_TYPE)?;
+    within(
+        TAG_NAME_TYPE,
+        kind == NAME_TYPE_UNINTERPRETED_TEXT_STRING,
+    )?;
+    let name = Text::copied(alloc, value)?;
+    Ok(name)
+}
+
+/// A Locate: the mask and the attributes to look for.
+#[tactic(auto, unfolding(crate::specs::RequestReading::locate_at))]
+fn locate_of(alloc: Global, payload: &[Item]) -> Result<Ask, MessageFault>
+    ensures exact { Gives (λ a. a) result (locate_at (views payload.now)) }
+    ensures fits { IfOk result (λ a. IsTrue (ask_fits a)) }
+{
+    let mask = integer_if_any(payload, TAG_STORAGE_STATUS_MASK)?;
+    let attributes = the_structure(payload, TAG_ATTRIBUTES)?;
+    let filter = filter_of(alloc, attributes)?;
+    Ok(Ask::Locate { mask, filter })
+}
+
+/// The attributes to look for, the Name among them.
+#[tactic(auto, unfolding(crate::specs::RequestReading::filter_at))]
+fn filter_of(alloc: Global, attributes: &[Item]) -> Result<Attrs, MessageFault>
+    ensures exact { Gives (λ a. a) result (filter_at (views attributes.now)) }
+    ensures fits { IfOk result (λ a. IsTrue (option_map_or is_name a.name false)) }
+{
+    only(
+        &[
+            TAG_OBJECT_TYPE,
+            TAG_NAME,
+            TAG_CRYPTOGRAPHIC_ALGORITHM,
+            TAG_CRYPTOGRAPHIC_LENGTH,
+            TAG_CRYPTOGRAPHIC_USAGE_MASK,
+            TAG_STATE,
+        ],
+        attributes,
+    )?;
+    let object_type = enumeration_if_any(attributes, TAG_OBJECT_TYPE)?;
+    let name = name_of(alloc, attributes)?;
+    let algorithm = enumeration_if_any(attributes, TAG_CRYPTOGRAPHIC_ALGORITHM)?;
+    let length = integer_if_any(attributes, TAG_CRYPTOGRAPHIC_LENGTH)?;
+    let usage = integer_if_any(attributes, TAG_CRYPTOGRAPHIC_USAGE_MASK)?;
+    let state = enumeration_if_any(attributes, TAG_STATE)?;
+    Ok(Attrs {
+        object_type,
+        name: Some(name),
+        algorithm,
+        length,
+        usage,
+        state,
+    })
+}
+
+/// A Revoke: the identifier and the reason's code.
+#[tactic(auto, unfolding(crate::specs::RequestReading::revoke_at))]
+fn revoke_of(alloc: Global, payload: &[Item]) -> Result<Ask, MessageFault>
+    ensures exact { Gives (λ a. a) result (revoke_at (views payload.now)) }
+    ensures fits { IfOk result (λ a. IsTrue (ask_fits a)) }
+{
+    let uid = identifier_of(alloc, payload)?;
+    let reason = the_structure(payload, TAG_REVOCATION_REASON)?;
+    let code = the_enumeration(reason, TAG_REVOCATION_REASON_CODE)?;
+    within(TAG_REVOCATION_REASON_CODE, is_revocation_code(code))?;
+    Ok(Ask::Revoke(uid, code))
+}
+
+/// The one Unique Identifier.
+#[tactic(auto, unfolding(crate::specs::RequestReading::identifier_at))]
+fn identifier_of(alloc: Global, payload: &[Item]) -> Result<Text, MessageFault>
+    ensures exact { Gives (λ s. s) result (identifier_at (views payload.now)) }
+    ensures fits { IfOk result (λ s. IsTrue (is_identifier s)) }
+{
+    let uid = the_text(payload, TAG_UNIQUE_IDENTIFIER)?;
+    within(TAG_UNIQUE_IDENTIFIER, is_identifier(uid))?;
+    let uid = Text::copied(alloc, uid)?;
+    Ok(uid)
+}
