@@ -4,3 +4,4 @@ pub mod Ranges
 pub mod Siblings
 pub mod Reading
 pub mod RequestReading
+pub mod Written
