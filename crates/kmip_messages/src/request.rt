@@ -1,6 +1,9 @@
 //! What a request asks.
 
+ghost use Rattle.std.specs.Prelude.{◌≡◌, IfOk};
+
 use kmip_ttlv::{Bytes, Text};
+use std::alloc::{AllocError, Global};
 
 /// One question to the server.
 #[derive(Debug, Drop)]
@@ -44,6 +47,24 @@ pub struct KeyAttrs {
     pub length: i32,
     /// Cryptographic Usage Mask, 1 to 1FF hexadecimal.
     pub usage: i32,
+}
+
+impl KeyAttrs {
+    /// A copy of the attributes.
+    ///
+    /// # Errors
+    /// Where there is no memory for it.
+    pub fn copied(&self, alloc: Global) -> Result<Self, AllocError>
+        ensures { IfOk result (λ copy. copy ≡ self.now) }
+    {
+        let name = Text::copied(alloc, self.name.as_str())?;
+        Ok(KeyAttrs {
+            name,
+            algorithm: self.algorithm,
+            length: self.length,
+            usage: self.usage,
+        })
+    }
 }
 
 /// The attributes of the profile, each where it is given.
