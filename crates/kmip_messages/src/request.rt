@@ -1,7 +1,12 @@
 //! What a request asks.
 
 ghost use Rattle.std.specs.Prelude.{◌≡◌, IfOk};
+ghost use Rattle.kmip_messages.specs.Operations.{operation_of};
 
+use crate::standard::{
+    OPERATION_ACTIVATE, OPERATION_CREATE, OPERATION_DESTROY, OPERATION_GET_ATTRIBUTES,
+    OPERATION_LOCATE, OPERATION_REVOKE,
+};
 use kmip_ttlv::{Bytes, Text};
 use std::alloc::{AllocError, Global};
 
@@ -34,6 +39,22 @@ pub enum Ask {
     Revoke(Text, u32),
     /// From Pre-Active or Deactivated to Destroyed.
     Destroy(Text),
+}
+
+impl Ask {
+    /// The number of the operation.
+    pub fn operation(&self) -> u32
+        ensures { result ≡ operation_of self.now }
+    {
+        match self {
+            Ask::Create(_) => OPERATION_CREATE,
+            Ask::Locate { .. } => OPERATION_LOCATE,
+            Ask::GetAttributes(_) => OPERATION_GET_ATTRIBUTES,
+            Ask::Activate(_) => OPERATION_ACTIVATE,
+            Ask::Revoke(..) => OPERATION_REVOKE,
+            Ask::Destroy(_) => OPERATION_DESTROY,
+        }
+    }
 }
 
 /// The attributes that a key is made with.

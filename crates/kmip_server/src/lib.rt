@@ -1,0 +1,8 @@
+//! The test server: it answers each message of KMIP over the objects of a store.
+#![tactic(auto)]
+
+mod reasons;
+mod server;
+
+pub use kmip_store::{ListStore, Records};
+pub use server::Server;
