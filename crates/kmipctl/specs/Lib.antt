@@ -1,1 +1,5 @@
+pub mod AnswerText
 pub mod ExitStatus
+pub mod Judging
+pub mod Lines
+pub mod Serving

@@ -1,11 +1,16 @@
 //! The command `answer`: each line of its input is a message in hexadecimal, and each reply of one
 //! server a line of its output.
+ghost use Rattle.std.specs.Prelude.{◌≡◌, IfOk, OnOk, IfSome};
+ghost use Rattle.std.specs.Io.KnownBytes.{Keeps, Appends};
+ghost use Rattle.kmipctl.specs.AnswerText.{answer_text, has_refused, is_refused, saying_text, state_after_saying};
+ghost use Rattle.kmipctl.specs.Judging.{saying_of};
 
 use crate::answer_fault::AnswerFault;
 use crate::exit_status::ExitStatus;
 use crate::judging::{Judged, judge};
 use crate::lines::{NextLine, flush, read_line};
 use crate::replies::{REFUSED_HEX, REFUSED_LENGTH, write_reply, write_text};
+use crate::server::Server;
 use std::alloc::Global;
 use std::io::{BufRead, Write};
 
@@ -38,7 +43,29 @@ pub fn answer<R: BufRead, W: Write>(
     alloc: Global,
     reader: &mut R,
     writer: &mut W,
-) -> Result<bool, AnswerFault> {
+) -> Result<bool, AnswerFault>
+    ensures text { OnOk result (IfSome (R.remaining reader.old)
+        (λ input. Appends (W.contents writer.old) (W.contents writer.new) (answer_text 0 input))) }
+    ensures refused { IfOk result (λ r. IfSome (R.remaining reader.old)
+        (λ input. r ≡ has_refused input)) }
+{
+    let mut server = Server { handled: 0 };
+    answer_lines(alloc, &mut server, reader, writer)
+}
+
+/// `answer`, from a server of any state.
+fn answer_lines<R: BufRead, W: Write>(
+    alloc: Global,
+    server: &mut Server,
+    reader: &mut R,
+    writer: &mut W,
+) -> Result<bool, AnswerFault>
+    ensures text { OnOk result (IfSome (R.remaining reader.old)
+        (λ input. Appends (W.contents writer.old) (W.contents writer.new)
+        (answer_text server.old.handled input))) }
+    ensures refused { IfOk result (λ r. IfSome (R.remaining reader.old)
+        (λ input. r ≡ has_refused input)) }
+{
     let mut line = Vec::new(alloc);
     let mut has_refused = false;
     for _ in 0..u64::MAX {
@@ -46,39 +73,47 @@ pub fn answer<R: BufRead, W: Write>(
             flush(writer)?;
             return Ok(has_refused);
         };
-        if !answer_line(alloc, line.as_slice(), writer)? {
-            has_refused = true;
-        }
-        if !has_more {
-            flush(writer)?;
-        }
+        let is_refused = answer_line(alloc, server, line.as_slice(), writer)?;
+        has_refused |= is_refused;
+        flush_unless(has_more, writer)?;
     }
     Err(AnswerFault::Input)
 }
 
-/// Writes what a line is answered with, and says whether the line was taken.
-fn answer_line<W: Write>(alloc: Global, line: &[u8], writer: &mut W) -> Result<bool, AnswerFault> {
+/// Writes what a line is answered with, and says whether the line is refused.
+fn answer_line<W: Write>(
+    alloc: Global,
+    server: &mut Server,
+    line: &[u8],
+    writer: &mut W,
+) -> Result<bool, AnswerFault>
+    ensures text { OnOk result (Appends (W.contents writer.old) (W.contents writer.new)
+        (saying_text server.old.handled (saying_of line.now))) }
+    ensures state { OnOk result (server.new.handled
+        ≡ state_after_saying server.old.handled (saying_of line.now)) }
+    ensures refused { IfOk result (λ r. r ≡ is_refused (saying_of line.now)) }
+{
     match judge(alloc, line)? {
-        Judged::Empty => Ok(true),
+        Judged::Empty => Ok(false),
         Judged::Long => {
             write_text(REFUSED_LENGTH, writer)?;
-            Ok(false)
+            Ok(true)
         }
         Judged::NotHex => {
             write_text(REFUSED_HEX, writer)?;
-            Ok(false)
+            Ok(true)
         }
         Judged::Message(message) => {
-            let reply = reply_to(alloc, message.as_slice())?;
+            let reply = server.handle(alloc, message.as_slice(), 0)?;
             write_reply(alloc, reply.as_slice(), writer)?;
-            Ok(true)
+            Ok(false)
         }
     }
 }
 
-// Stands for the server.
-fn reply_to(alloc: Global, message: &[u8]) -> Result<Vec<u8>, AnswerFault> {
-    let mut reply = Vec::new(alloc);
-    reply.extend_from_slice(message)?;
-    Ok(reply)
+/// Sends on what the writer holds back, where the reader may wait for more input.
+fn flush_unless<W: Write>(has_more: bool, writer: &mut W) -> Result<(), AnswerFault>
+    ensures { Keeps (W.contents writer.old) (W.contents writer.new) }
+{
+    if has_more { Ok(()) } else { flush(writer) }
 }

@@ -1,4 +1,6 @@
 //! What a line of the input of `answer` says.
+ghost use Rattle.std.specs.Prelude.{◌≡◌, IfOk};
+ghost use Rattle.kmipctl.specs.Judging.{judged, saying_of};
 
 use crate::answer_fault::AnswerFault;
 use crate::lines::MOST_DIGITS;
@@ -23,7 +25,9 @@ pub enum Judged {
 /// # Errors
 ///
 /// `NoMemory` alone.
-pub fn judge(alloc: Global, line: &[u8]) -> Result<Judged, AnswerFault> {
+pub fn judge(alloc: Global, line: &[u8]) -> Result<Judged, AnswerFault>
+    ensures { IfOk result (λ j. judged j ≡ saying_of line.now) }
+{
     if line.is_empty() {
         return Ok(Judged::Empty);
     }

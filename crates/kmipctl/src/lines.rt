@@ -1,4 +1,8 @@
 //! The lines of a reader, each kept only as far as it is looked at.
+ghost use Rattle.std.specs.Prelude.{◌≡◌, ◌==◌, IfOk, OnOk, IfSome};
+ghost use Rattle.std.specs.List.{position};
+ghost use Rattle.std.specs.Io.KnownBytes.{Keeps};
+ghost use Rattle.kmipctl.specs.Lines.{TakesLine, TakesPiece, kept_with};
 
 use crate::answer_fault::AnswerFault;
 use std::io::{BufRead, ErrorKind, Write};
@@ -41,7 +45,11 @@ pub fn read_line<R: BufRead, W: Write>(
     reader: &mut R,
     writer: &mut W,
     line: &mut Vec<u8>,
-) -> Result<NextLine, AnswerFault> {
+) -> Result<NextLine, AnswerFault>
+    ensures line { IfOk result (λ next. IfSome (R.remaining reader.old)
+        (λ input. TakesLine input line.new.items (R.remaining reader.new) next)) }
+    ensures unwritten { Keeps (W.contents writer.old) (W.contents writer.new) }
+{
     line.clear();
     for _ in 0..u64::MAX {
         match take_piece(reader, line)? {
@@ -56,7 +64,10 @@ pub fn read_line<R: BufRead, W: Write>(
 
 /// Takes what the reader has buffered, up to and including the first line feed, and keeps it in
 /// `line` as far as there is room.
-fn take_piece<R: BufRead>(reader: &mut R, line: &mut Vec<u8>) -> Result<Piece, AnswerFault> {
+fn take_piece<R: BufRead>(reader: &mut R, line: &mut Vec<u8>) -> Result<Piece, AnswerFault>
+    ensures { IfOk result (TakesPiece (R.remaining reader.old) (R.remaining reader.new)
+        line.old.items line.new.items) }
+{
     let shown = match reader.fill_buf() {
         Ok(shown) => shown,
         Err(error) => {
@@ -68,7 +79,7 @@ fn take_piece<R: BufRead>(reader: &mut R, line: &mut Vec<u8>) -> Result<Piece, A
         }
     };
     let size = shown.len();
-    match shown.iter().position(|byte| *byte == LINE_FEED) {
+    match line_feed_in(shown) {
         Some(place) => {
             keep(line, &shown[..place])?;
             reader.consume(place + 1);
@@ -84,8 +95,17 @@ fn take_piece<R: BufRead>(reader: &mut R, line: &mut Vec<u8>) -> Result<Piece, A
     }
 }
 
+/// The place of the first line feed.
+fn line_feed_in(bytes: &[u8]) -> Option<usize>
+    ensures { result ≡ position (λ b. b == 10) bytes.now }
+{
+    bytes.iter().position(|byte| *byte == LINE_FEED)
+}
+
 /// Appends a piece to the line, as far as the line has room for it.
-fn keep(line: &mut Vec<u8>, piece: &[u8]) -> Result<(), AnswerFault> {
+fn keep(line: &mut Vec<u8>, piece: &[u8]) -> Result<(), AnswerFault>
+    ensures { OnOk result (line.new.items ≡ kept_with line.old.items piece.now) }
+{
     let room = MOST_KEPT.saturating_sub(line.len());
     line.extend_from_slice(&piece[..piece.len().min(room)])?;
     Ok(())
@@ -96,6 +116,8 @@ fn keep(line: &mut Vec<u8>, piece: &[u8]) -> Result<(), AnswerFault> {
 /// # Errors
 ///
 /// `Output` where the writer fails.
-pub fn flush<W: Write>(writer: &mut W) -> Result<(), AnswerFault> {
+pub fn flush<W: Write>(writer: &mut W) -> Result<(), AnswerFault>
+    ensures { Keeps (W.contents writer.old) (W.contents writer.new) }
+{
     writer.flush().map_err(|_error| AnswerFault::Output)
 }

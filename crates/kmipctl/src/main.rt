@@ -12,6 +12,9 @@ mod exit_status;
 mod judging;
 mod lines;
 mod replies;
+mod server;
+#[cfg(test)]
+mod tests;
 
 use answer::run_answer;
 use command_line::{Choice, chosen, status_of};

@@ -1,4 +1,7 @@
 //! What `answer` prints for a line.
+ghost use Rattle.std.specs.Prelude.{OnOk, ◌∷◌, ◌++◌, []};
+ghost use Rattle.std.specs.Io.KnownBytes.{Appends};
+ghost use Rattle.hex.specs.Hex.{encode_lower};
 
 use crate::answer_fault::AnswerFault;
 use std::alloc::Global;
@@ -15,11 +18,10 @@ pub const REFUSED_HEX: &[u8] = b"refused: hex\n";
 /// # Errors
 ///
 /// `NoMemory`, and `Output` where the writer fails.
-pub fn write_reply<W: Write>(
-    alloc: Global,
-    reply: &[u8],
-    writer: &mut W,
-) -> Result<(), AnswerFault> {
+pub fn write_reply<W: Write>(alloc: Global, reply: &[u8], writer: &mut W) -> Result<(), AnswerFault>
+    ensures { OnOk result (Appends (W.contents writer.old) (W.contents writer.new)
+        (encode_lower reply.now ++ 10 ∷ [])) }
+{
     let mut text = hex::encode(alloc, reply)?;
     text.push('\n')?;
     write_text(text.as_bytes(), writer)
@@ -30,6 +32,8 @@ pub fn write_reply<W: Write>(
 /// # Errors
 ///
 /// `Output` where the writer fails.
-pub fn write_text<W: Write>(text: &[u8], writer: &mut W) -> Result<(), AnswerFault> {
+pub fn write_text<W: Write>(text: &[u8], writer: &mut W) -> Result<(), AnswerFault>
+    ensures { OnOk result (Appends (W.contents writer.old) (W.contents writer.new) text.now) }
+{
     writer.write_all(text).map_err(|_error| AnswerFault::Output)
 }
