@@ -1,10 +1,11 @@
--- What a line says.
-use Rattle.std.specs.Prelude.{ℕ, List, length, nat_lt, ◌==◌, if◌then◌else◌, Result, Ok, Err}
+-- What a line says, and whether it is refused.
+use Rattle.std.specs.Prelude.{ℕ, Bool, true, false, ◌||◌, List, [], ◌∷◌, length, nat_lt, ◌==◌, if◌then◌else◌, Result, Ok, Err}
 use Rattle.hex.specs.declared.error.FromHexError.{FromHexError}
 use Rattle.hex.specs.Hex.{decode_of}
 use Rattle.kmipctl.specs.declared.judging.Judged.{Judged}
 use Rattle.kmipctl.specs.declared.judging.Judged.TheVariants.{Empty, Long, NotHex, Message}
 use Rattle.kmipctl.specs.declared.lines.TheConstants.{MOST_DIGITS}
+use Rattle.kmipctl.specs.Lines.{lines_of}
 
 -- what a line says: nothing, too much to be looked at, no hexadecimal, or a message
 pub data Saying : Type 0 where
@@ -30,3 +31,19 @@ judged Empty = nothing
 judged Long = too_long
 judged NotHex = no_hex
 judged (Message bytes) = message bytes.items
+
+-- whether a line is refused
+abbrev pub is_refused : Saying → Bool
+is_refused nothing = false
+is_refused too_long = true
+is_refused no_hex = true
+is_refused (message bytes) = false
+
+-- whether one of the lines is refused
+abbrev pub are_refused : List (List ℕ) → Bool
+are_refused [] = false
+are_refused (line ∷ lines) = is_refused (saying_of line) || are_refused lines
+
+-- whether a line of the input is refused
+abbrev pub has_refused : List ℕ → Bool
+has_refused input = are_refused (lines_of input)

@@ -1,5 +1,3 @@
-pub mod AnswerText
 pub mod ExitStatus
 pub mod Judging
 pub mod Lines
-pub mod Serving

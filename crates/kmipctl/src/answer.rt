@@ -1,18 +1,26 @@
 //! The command `answer`: each line of its input is a message in hexadecimal, and each reply of one
 //! server a line of its output.
-ghost use Rattle.std.specs.Prelude.{◌≡◌, IfOk, OnOk, IfSome};
-ghost use Rattle.std.specs.Io.KnownBytes.{Keeps, Appends};
-ghost use Rattle.kmipctl.specs.AnswerText.{answer_text, has_refused, is_refused, saying_text, state_after_saying};
-ghost use Rattle.kmipctl.specs.Judging.{saying_of};
+ghost use Rattle.std.specs.Prelude.{◌≡◌, IfOk, IfSome};
+ghost use Rattle.std.specs.Io.KnownBytes.{Keeps};
+ghost use Rattle.kmipctl.specs.Judging.{has_refused, is_refused, saying_of};
 
 use crate::answer_fault::AnswerFault;
 use crate::exit_status::ExitStatus;
 use crate::judging::{Judged, judge};
 use crate::lines::{NextLine, flush, read_line};
 use crate::replies::{REFUSED_HEX, REFUSED_LENGTH, write_reply, write_text};
-use crate::server::Server;
+use kmip_server::{ListStore, Server};
 use std::alloc::Global;
 use std::io::{BufRead, Write};
+
+/// The server's seed of key material.
+const SEED: [u8; 32] = [0; 32];
+
+/// How many objects the server has room for.
+const ROOM: usize = 10_000;
+
+/// The time of each reply.
+const NOW: i64 = 0;
 
 /// Runs `answer`, and prints a line for a fault of the reader and for want of memory.
 pub fn run_answer<R: BufRead, W: Write>(
@@ -44,26 +52,22 @@ pub fn answer<R: BufRead, W: Write>(
     reader: &mut R,
     writer: &mut W,
 ) -> Result<bool, AnswerFault>
-    ensures text { OnOk result (IfSome (R.remaining reader.old)
-        (λ input. Appends (W.contents writer.old) (W.contents writer.new) (answer_text 0 input))) }
-    ensures refused { IfOk result (λ r. IfSome (R.remaining reader.old)
+    ensures { IfOk result (λ r. IfSome (R.remaining reader.old)
         (λ input. r ≡ has_refused input)) }
 {
-    let mut server = Server { handled: 0 };
+    let store = ListStore::new(alloc, SEED, ROOM);
+    let mut server = Server::new(store);
     answer_lines(alloc, &mut server, reader, writer)
 }
 
 /// `answer`, from a server of any state.
 fn answer_lines<R: BufRead, W: Write>(
     alloc: Global,
-    server: &mut Server,
+    server: &mut Server<ListStore>,
     reader: &mut R,
     writer: &mut W,
 ) -> Result<bool, AnswerFault>
-    ensures text { OnOk result (IfSome (R.remaining reader.old)
-        (λ input. Appends (W.contents writer.old) (W.contents writer.new)
-        (answer_text server.old.handled input))) }
-    ensures refused { IfOk result (λ r. IfSome (R.remaining reader.old)
+    ensures { IfOk result (λ r. IfSome (R.remaining reader.old)
         (λ input. r ≡ has_refused input)) }
 {
     let mut line = Vec::new(alloc);
@@ -83,15 +87,11 @@ fn answer_lines<R: BufRead, W: Write>(
 /// Writes what a line is answered with, and says whether the line is refused.
 fn answer_line<W: Write>(
     alloc: Global,
-    server: &mut Server,
+    server: &mut Server<ListStore>,
     line: &[u8],
     writer: &mut W,
 ) -> Result<bool, AnswerFault>
-    ensures text { OnOk result (Appends (W.contents writer.old) (W.contents writer.new)
-        (saying_text server.old.handled (saying_of line.now))) }
-    ensures state { OnOk result (server.new.handled
-        ≡ state_after_saying server.old.handled (saying_of line.now)) }
-    ensures refused { IfOk result (λ r. r ≡ is_refused (saying_of line.now)) }
+    ensures { IfOk result (λ r. r ≡ is_refused (saying_of line.now)) }
 {
     match judge(alloc, line)? {
         Judged::Empty => Ok(false),
@@ -104,7 +104,7 @@ fn answer_line<W: Write>(
             Ok(true)
         }
         Judged::Message(message) => {
-            let reply = server.handle(alloc, message.as_slice(), 0)?;
+            let reply = server.handle(alloc, message.as_slice(), NOW)?;
             write_reply(alloc, reply.as_slice(), writer)?;
             Ok(false)
         }

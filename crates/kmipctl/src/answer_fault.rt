@@ -2,6 +2,7 @@
 ghost use Rattle.std.specs.Prelude.{◌≡◌};
 ghost use Rattle.kmipctl.specs.declared.answer_fault.AnswerFault.TheVariants as faults;
 
+use kmip_ttlv::NoMemory;
 use std::alloc::{AllocError, AllocFailed};
 use thiserror::Error;
 
@@ -17,6 +18,14 @@ pub enum AnswerFault {
     /// There was no memory for a growth.
     #[error("no memory")]
     NoMemory,
+}
+
+impl From<NoMemory> for AnswerFault {
+    ghost from_gives = { λ _ e. e ≡ faults.NoMemory };
+
+    fn from(_e: NoMemory) -> AnswerFault {
+        AnswerFault::NoMemory
+    }
 }
 
 impl From<AllocError> for AnswerFault {

@@ -5,18 +5,31 @@ use clap::error::ErrorKind;
 use clap::{Command, Error};
 use std::alloc::{AllocError, Global};
 
-const ABOUT: &str = "Answers messages of the Key Management Interoperability Protocol.";
+const ABOUT: &str = "\
+A test server for keys under the Key Management Interoperability Protocol (KMIP) 2.1, held in
+memory and spoken to in lines of hexadecimal digits.";
 
 const AFTER_HELP: &str = "\
-Without words it does `answer`.
+Without words it does `answer`. Everything is printed on standard output.
 
-Exit status: 0 where nothing was refused, 1 where a line was refused or reading, writing or memory
-failed, 2 where the command line is wrong. Everything is printed on standard output.
+Exit status:
+  0  nothing was refused
+  1  a line was refused, or reading, writing or memory failed
+  2  the command line is wrong
 
-Example, a Locate of the key `k1`:
-  kmipctl answer < messages.txt";
+Example, bytes that are no message and get the reply Invalid Message:
+  echo 00 | kmipctl answer";
 
-const ANSWER: &str = "Answers each line of standard input, a message in hexadecimal";
+const ANSWER: &str = "Replies to messages: a line of hexadecimal digits in, a line out";
+
+const ANSWER_LONG: &str = "\
+Replies to each line of standard input, a message in hexadecimal digits of either case, by a line of
+standard output, the reply in lower-case digits. One server replies to all of them in turn: it starts
+with no object, has room for 10,000, and tells the time 0.
+
+An empty line is skipped. A line of more than 16,384 digits prints `refused: length`, and one that is
+no hexadecimal prints `refused: hex`; neither ends the command. The last line may lack its line feed.
+Where reading fails it prints `cannot read input`, and where there is no memory `no memory`, and ends.";
 
 /// What the command line asks for.
 #[derive(Clone, Copy, Debug, PartialEq, Eq)]
@@ -44,7 +57,9 @@ pub fn status_of(error: &Error) -> ExitStatus {
 }
 
 fn command<'a>(alloc: Global) -> Result<Command<'a>, AllocError> {
-    let answer = Command::new(alloc, "answer").about(ANSWER);
+    let answer = Command::new(alloc, "answer")
+        .about(ANSWER)
+        .long_about(ANSWER_LONG);
     Command::new(alloc, "kmipctl")
         .about(ABOUT)
         .after_help(AFTER_HELP)

@@ -12,14 +12,13 @@ mod exit_status;
 mod judging;
 mod lines;
 mod replies;
-mod server;
 #[cfg(test)]
 mod tests;
 
 use answer::run_answer;
 use command_line::{Choice, chosen, status_of};
 use exit_status::ExitStatus;
-use std::io::{BufReader, BufWriter, ErrorKind};
+use std::io::{BufReader, BufWriter, Error, ErrorKind};
 use std::process::ExitCode;
 use std::{env, io};
 
@@ -42,8 +41,12 @@ fn run(rt: &HostRuntime) -> io::Result<ExitStatus> {
     match chosen(rt.alloc(), words.as_slice()) {
         Ok(Choice::Answer) => answer_input(rt),
         Err(error) => {
+            let status = status_of(&error);
+            if status == ExitStatus::Refused {
+                return Err(Error::from(ErrorKind::OutOfMemory));
+            }
             rt.print(&error)?;
-            Ok(status_of(&error))
+            Ok(status)
         }
     }
 }

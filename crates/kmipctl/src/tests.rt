@@ -95,7 +95,7 @@ fn answers_the_rows(rt: HostRuntime) -> Result<(), Fail> {
 fn takes_a_last_line_without_line_feed(rt: HostRuntime) -> Result<(), Fail> {
     let input = text_of(rt.alloc(), &[&LOCATE])?;
     let output = text_of(rt.alloc(), &[&NONE_FOUND])?;
-    let mut reader = &input.as_bytes()[..input.len() - 1];
+    let mut reader = input.trim_end().as_bytes();
     let mut writer = Vec::new(rt.alloc());
     let status = run_answer(rt.alloc(), &mut reader, &mut writer);
     assert_eq!(rt; status, ExitStatus::Done);
@@ -136,5 +136,20 @@ fn answers_lines_before_the_reader_fails(rt: HostRuntime) -> Result<(), Fail> {
         assert_eq!(rt; status, ExitStatus::Refused);
         assert_eq!(rt; from_utf8(writer.as_slice()), Ok(output.as_str()));
     }
+    Ok(())
+}
+
+#[test]
+fn ends_where_the_writer_fails(rt: HostRuntime) -> Result<(), Fail> {
+    let input = text_of(rt.alloc(), &[&LOCATE, &LOCATE])?;
+    let mut room = [0; 400];
+    let mut reader = input.as_bytes();
+    let mut writer = room.as_mut_slice();
+    let status = run_answer(rt.alloc(), &mut reader, &mut writer);
+    assert_eq!(rt; status, ExitStatus::Refused);
+    let mut reader = input.as_bytes();
+    let mut writer = room.as_mut_slice();
+    let fault = answer(rt.alloc(), &mut reader, &mut writer);
+    assert_eq!(rt; fault, Err(AnswerFault::Output));
     Ok(())
 }

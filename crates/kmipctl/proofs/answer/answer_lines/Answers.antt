@@ -1,23 +1,16 @@
 use Rattle.std.proofs.Common.{◌||◌, IfSome, ap, subst}
 use Rattle.kmipctl.specs.Lines.{TakesLine}
-use Rattle.kmipctl.proofs.AnswerLemmas.{Answering-line, Answering-text, Answering-refused}
+use Rattle.kmipctl.proofs.AnswerLemmas.{Counting-line, Counting-all}
 use Rattle.kmipctl.proofs.answer.answer_lines.Goals as goal
 
 pub loop-preserved : goal.loop-preserved
 loop-preserved g c =
     let read = c.read_line.new in
     let taken = subst (λ next. IfSome (g.R.Read.remaining c.loop.reader) (λ input. TakesLine input read.line.items (g.R.Read.remaining read.reader) next)) c.in-Line.is c.in_ok-has_more.ensures.line in
-    let answered = c.in_ok-is_refused.ensures in
-    Answering-line _ _ _ _ _ _ _ _ _ _ _ _ _ read.line.items _ c.loop.invariant taken c.as_slice.ensures.value c.read_line.ensures.unwritten answered.text c.flush_unless.ensures answered.state (ap (λ b. c.loop.has_refused || b) answered.refused)
+    Counting-line _ _ _ _ _ read.line.items _ c.loop.invariant taken c.as_slice.ensures.value (ap (λ b. c.loop.has_refused || b) c.in_ok-is_refused.ensures)
 
-pub returns-in_default-clause-text : goal.returns-in_default-clause-text
-returns-in_default-clause-text g c =
+pub returns-in_default : goal.returns-in_default
+returns-in_default g c =
     let read = c.read_line.new in
     let ended = subst (λ next. IfSome (g.R.Read.remaining c.loop.reader) (λ input. TakesLine input read.line.items (g.R.Read.remaining read.reader) next)) c.in_default.is c.in_ok-has_more.ensures.line in
-    Answering-text _ _ _ _ _ _ _ _ _ _ c.loop.invariant ended c.read_line.ensures.unwritten c.flush.ensures
-
-pub returns-in_default-clause-refused : goal.returns-in_default-clause-refused
-returns-in_default-clause-refused g c =
-    let read = c.read_line.new in
-    let ended = subst (λ next. IfSome (g.R.Read.remaining c.loop.reader) (λ input. TakesLine input read.line.items (g.R.Read.remaining read.reader) next)) c.in_default.is c.in_ok-has_more.ensures.line in
-    Answering-refused _ _ _ _ _ _ _ _ c.loop.invariant ended
+    Counting-all _ _ _ _ c.loop.invariant ended

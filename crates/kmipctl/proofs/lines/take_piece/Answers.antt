@@ -1,4 +1,4 @@
-use Rattle.std.proofs.Common.{◌≡◌, ◌≢◌, ℕ, ◌+◌, List, [], ◌∷◌, ◌++◌, length, take, refl, sym, ap, subst, ◌∙◌, rules, arith, append-nil, take_all, le_refl}
+use Rattle.std.proofs.Common.{◌≢◌, ◌+◌, [], length, take, refl, sym, subst, ◌∙◌, rules, arith, append-nil, take_all, le_refl}
 use Rattle.std.proofs.lemmas.List.Elements.{All-nil}
 use Rattle.std.specs.Io.KnownBytes.{Consumes}
 use Rattle.std.specs.Io.BufRead.{FillKeeps}
