@@ -1,1 +1,3 @@
 mod SiblingLemmas
+mod IdentifierLemmas
+pub mod WrittenLemmas

@@ -4,5 +4,10 @@ pub mod Operations
 pub mod Ranges
 pub mod Siblings
 pub mod Reading
+pub mod Parts
 pub mod RequestReading
+pub mod ReplyReading
 pub mod Written
+pub mod Fits
+pub mod MessageSizes
+pub mod Whole

@@ -22,17 +22,10 @@ use Rattle.kmip_messages.specs.declared.standard.TheConstants.{
   OPERATION_CREATE, OPERATION_LOCATE, OPERATION_GET_ATTRIBUTES, OPERATION_ACTIVATE, OPERATION_REVOKE,
 }
 use Rattle.kmip_messages.specs.Ranges.{
-  is_name, is_identifier, is_batch_id, is_algorithm, is_length, is_usage, is_revocation_code, is_operation,
+  is_name, is_algorithm, is_length, is_usage, is_revocation_code, is_operation,
 }
 use Rattle.kmip_messages.specs.Siblings.{◌>>=◌, guard, within, contents, sole, the, maybe, only}
-
--- the items of a message of this tag
-abbrev pub message_in : ℕ → ℕ → Option (List Node) → Result (List Node) MessageFault
-message_in tag own None = Err NotMessage
-message_in tag own (Some items) = if own == tag then Ok items else Err NotMessage
-
-unfoldable pub message_at : ℕ → Node → Result (List Node) MessageFault
-message_at tag n = message_in tag (tag_of n) (as_structure (content_of n))
+use Rattle.kmip_messages.specs.Parts.{message_at, id_at, identifier_at}
 
 -- Protocol Version 2.1, then one Batch Item
 unfoldable pub request_header_at : List Node → Result (Unit {0}) MessageFault
@@ -50,24 +43,6 @@ batch_at n = do
   message ← message_at TAG_REQUEST_MESSAGE n
   header ← request_header_at message
   sole TAG_BATCH_ITEM (contents TAG_BATCH_ITEM message)
-
--- the Unique Batch Item ID, where there is one
-abbrev pub id_in : Option (List ℕ) → Result (Option (List ℕ)) MessageFault
-id_in None = Ok None
-id_in (Some id) = do
-  fits ← within TAG_UNIQUE_BATCH_ITEM_ID (is_batch_id id)
-  Ok (Some id)
-
-unfoldable pub id_at : List Node → Result (Option (List ℕ)) MessageFault
-id_at batch = do
-  id ← maybe as_byte_string TAG_UNIQUE_BATCH_ITEM_ID batch
-  id_in id
-
-unfoldable pub identifier_at : List Node → Result (List ℕ) MessageFault
-identifier_at payload = do
-  uid ← the as_text_string TAG_UNIQUE_IDENTIFIER payload
-  fits ← within TAG_UNIQUE_IDENTIFIER (is_identifier uid)
-  Ok uid
 
 unfoldable pub name_at : List Node → Result (List ℕ) MessageFault
 name_at attributes = do

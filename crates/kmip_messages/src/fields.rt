@@ -118,6 +118,21 @@ pub fn enumeration_if_any(items: &[Item], tag: u32) -> Result<Option<u32>, Messa
     }
 }
 
+/// The items of the Structure with this tag, where there is one.
+#[tactic(auto, unfolding(crate::specs::Siblings::maybe))]
+pub fn structure_if_any(items: &[Item], tag: u32) -> Result<Option<&[Item]>, MessageFault>
+    requires { tag < 2 ^ 24 }
+    ensures { Gives (λ o. option_map (λ s. views s.now) o) result (maybe as_structure tag (views items.now)) }
+{
+    match at_most_one(items, tag)? {
+        None => Ok(None),
+        Some(item) => match item.as_structure() {
+            Some(items) => Ok(Some(items)),
+            None => Err(MessageFault::WrongType(Tag::new(tag))),
+        },
+    }
+}
+
 /// The bytes of the Byte String with this tag, where there is one.
 #[tactic(auto, unfolding(crate::specs::Siblings::maybe))]
 pub fn bytes_if_any(items: &[Item], tag: u32) -> Result<Option<&[u8]>, MessageFault>

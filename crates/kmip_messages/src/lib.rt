@@ -3,22 +3,30 @@
 //! Source: KMIP 2.1, Message Structure and Operations. The profile is stated in the README.
 #![tactic(auto)]
 
+mod building;
 mod fault;
 mod fields;
+mod fitting;
+mod parts;
 mod ranges;
 mod reply;
+mod reply_reading;
 mod reply_writing;
 mod request;
 mod request_reading;
+mod request_writing;
 pub mod standard;
 mod state;
 mod texts;
 
 pub use fault::{MessageFault, Refusal};
+pub use fitting::{reply_fits, request_fits};
 pub use ranges::{attrs_fit, is_identifier, is_name};
 pub use reply::{Outcome, Reply};
+pub use reply_reading::read_reply;
 pub use reply_writing::write_reply;
 pub use request::{Ask, Attrs, KeyAttrs, Request};
 pub use request_reading::read_request;
+pub use request_writing::write_request;
 pub use state::KeyState;
 pub use texts::Texts;

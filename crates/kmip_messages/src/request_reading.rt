@@ -1,23 +1,24 @@
 //! Requests from bytes.
-ghost use Rattle.std.specs.Prelude.{◌≡◌, ◌<◌, ◌^◌, ◌&&◌, false, IsTrue, IfOk};
+ghost use Rattle.std.specs.Prelude.{◌≡◌, ◌<◌, ◌^◌, ◌&&◌, true, false, IsTrue, IfOk, IfErr};
 ghost use Rattle.std.specs.Option.{option_map_or};
 ghost use Rattle.std.specs.Ordering.{int_eq};
 ghost use Rattle.kmip_ttlv.specs.View.{view, views};
-ghost use Rattle.kmip_messages.specs.Ranges.{is_name, is_identifier, ask_fits, attrs_fit};
+ghost use Rattle.kmip_messages.specs.Ranges.{is_name, is_batch_id, attrs_fit, ask_fits, request_fits};
 ghost use Rattle.kmip_messages.specs.Reading.{Gives};
+ghost use Rattle.kmip_messages.specs.Whole.{request_read};
 ghost use Rattle.kmip_messages.specs.RequestReading.{
-    message_at, request_header_at, batch_at, id_at, identifier_at, name_at, key_attrs_at, filter_at, create_at, locate_at,
+    request_header_at, batch_at, name_at, key_attrs_at, filter_at, create_at, locate_at,
     revoke_at, ask_in, ask_at, request_at, GivesRequest,
 };
 
 use crate::fault::{MessageFault, Refusal};
 use crate::fields::{
-    bytes_if_any, check, enumeration_if_any, integer_if_any, only, sole_structure, the_enumeration,
+    check, enumeration_if_any, integer_if_any, only, sole_structure, the_enumeration,
     the_integer, the_structure, the_text, within,
 };
+use crate::parts::{id_of, identifier_of, message_of, whole_item};
 use crate::ranges::{
-    is_algorithm, is_batch_id, is_identifier, is_length, is_name, is_operation, is_revocation_code,
-    is_usage,
+    is_algorithm, is_length, is_name, is_operation, is_revocation_code, is_usage,
 };
 use crate::request::{Ask, Attrs, KeyAttrs, Request};
 use crate::standard::{
@@ -27,10 +28,9 @@ use crate::standard::{
     TAG_CRYPTOGRAPHIC_USAGE_MASK, TAG_NAME, TAG_NAME_TYPE, TAG_NAME_VALUE, TAG_OBJECT_TYPE,
     TAG_OPERATION, TAG_PROTOCOL_VERSION, TAG_PROTOCOL_VERSION_MAJOR, TAG_PROTOCOL_VERSION_MINOR,
     TAG_REQUEST_HEADER, TAG_REQUEST_MESSAGE, TAG_REQUEST_PAYLOAD, TAG_REVOCATION_REASON,
-    TAG_REVOCATION_REASON_CODE, TAG_STATE, TAG_STORAGE_STATUS_MASK, TAG_UNIQUE_BATCH_ITEM_ID,
-    TAG_UNIQUE_IDENTIFIER, VERSION_MAJOR, VERSION_MINOR,
+    TAG_REVOCATION_REASON_CODE, TAG_STATE, TAG_STORAGE_STATUS_MASK, VERSION_MAJOR, VERSION_MINOR,
 };
-use kmip_ttlv::{Bytes, Item, Text, read};
+use kmip_ttlv::{Item, Text};
 use std::alloc::Global;
 
 /// The request that all the bytes are.
@@ -38,25 +38,23 @@ use std::alloc::Global;
 /// # Errors
 /// The first fault in the order of the checks, with the Operation and the Unique Batch Item ID where
 /// both are lawful; want of memory otherwise.
+#[tactic(auto, unfolding(crate::specs::Whole::request_read))]
 pub fn read_request(alloc: Global, bytes: &[u8]) -> Result<Request, Refusal>
-    ensures fits { IfOk result (λ r. IsTrue (ask_fits r.ask)) }
+    ensures exact { GivesRequest result (request_read bytes.now) }
+    ensures fits { IfOk result (λ r. IsTrue (request_fits r)) }
+    ensures carries { IfErr result (λ e. IsTrue (option_map_or is_batch_id e.id true)) }
 {
-    match read(alloc, bytes) {
-        Ok((item, size)) => {
-            if size != bytes.len() {
-                return Err(Refusal::from(MessageFault::NotMessage));
-            }
-            request_of(alloc, &item)
-        }
-        Err(fault) => Err(Refusal::from(MessageFault::from(fault))),
-    }
+    let item = whole_item(alloc, bytes)?;
+    let request = request_of(alloc, &item)?;
+    Ok(request)
 }
 
 /// The request that an item is.
 #[tactic(auto, unfolding(crate::specs::RequestReading::request_at))]
 fn request_of(alloc: Global, item: &Item) -> Result<Request, Refusal>
     ensures exact { GivesRequest result (request_at (view item.now)) }
-    ensures fits { IfOk result (λ r. IsTrue (ask_fits r.ask)) }
+    ensures fits { IfOk result (λ r. IsTrue (request_fits r)) }
+    ensures carries { IfErr result (λ e. IsTrue (option_map_or is_batch_id e.id true)) }
 {
     let batch = batch_of(item)?;
     let id = id_of(alloc, batch)?;
@@ -82,23 +80,6 @@ fn batch_of(item: &Item) -> Result<&[Item], MessageFault>
     Ok(batch)
 }
 
-/// The items of a message of this tag.
-#[tactic(auto, unfolding(crate::specs::RequestReading::message_at))]
-fn message_of(item: &Item, tag: u32) -> Result<&[Item], MessageFault>
-    ensures { Gives (λ s. views s.now) result (message_at tag (view item.now)) }
-{
-    match item.as_structure() {
-        Some(items) => {
-            if item.tag().number() == tag {
-                Ok(items)
-            } else {
-                Err(MessageFault::NotMessage)
-            }
-        }
-        None => Err(MessageFault::NotMessage),
-    }
-}
-
 /// The header of a request has the version 2.1 and counts one Batch Item.
 #[tactic(auto, unfolding(crate::specs::RequestReading::request_header_at))]
 fn header_of(message: &[Item]) -> Result<(), MessageFault>
@@ -118,21 +99,6 @@ fn is_version(major: i32, minor: i32) -> bool
     ensures { result ≡ (int_eq major VERSION_MAJOR && int_eq minor VERSION_MINOR) }
 {
     major == VERSION_MAJOR && minor == VERSION_MINOR
-}
-
-/// The Unique Batch Item ID, where there is one.
-#[tactic(auto, unfolding(crate::specs::RequestReading::id_at))]
-fn id_of(alloc: Global, batch: &[Item]) -> Result<Option<Bytes>, MessageFault>
-    ensures { Gives (λ o. o) result (id_at (views batch.now)) }
-{
-    match bytes_if_any(batch, TAG_UNIQUE_BATCH_ITEM_ID)? {
-        None => Ok(None),
-        Some(id) => {
-            within(TAG_UNIQUE_BATCH_ITEM_ID, is_batch_id(id))?;
-            let id = Bytes::copied(alloc, id)?;
-            Ok(Some(id))
-        }
-    }
 }
 
 /// What the Batch Item with this operation asks.
@@ -299,14 +265,3 @@ fn revoke_of(alloc: Global, payload: &[Item]) -> Result<Ask, MessageFault>
     Ok(Ask::Revoke(uid, code))
 }
 
-/// The one Unique Identifier.
-#[tactic(auto, unfolding(crate::specs::RequestReading::identifier_at))]
-fn identifier_of(alloc: Global, payload: &[Item]) -> Result<Text, MessageFault>
-    ensures exact { Gives (λ s. s) result (identifier_at (views payload.now)) }
-    ensures fits { IfOk result (λ s. IsTrue (is_identifier s)) }
-{
-    let uid = the_text(payload, TAG_UNIQUE_IDENTIFIER)?;
-    within(TAG_UNIQUE_IDENTIFIER, is_identifier(uid))?;
-    let uid = Text::copied(alloc, uid)?;
-    Ok(uid)
-}

@@ -1,6 +1,9 @@
 //! A server over the records of one store.
-ghost use Rattle.std.specs.Prelude.{◌≡◌, OnErr, IsTrue, IsSome};
-ghost use Rattle.kmip_messages.specs.Ranges.{attrs_fit, ask_fits};
+ghost use Rattle.std.specs.Prelude.{◌≡◌, true, OnErr, IfOk, IsTrue, IsSome, Some, None, option_to_list};
+ghost use Rattle.std.specs.Option.{option_map_or};
+ghost use Rattle.kmip_messages.specs.declared.reply.Outcome.TheVariants.{Failed};
+ghost use Rattle.kmip_messages.specs.declared.standard.TheConstants.{OPERATION_CREATE, OPERATION_LOCATE};
+ghost use Rattle.kmip_messages.specs.Ranges.{is_batch_id, attrs_fit, request_fits};
 
 use crate::reasons::{message_reason, store_reason};
 use kmip_messages::standard::REASON_OPERATION_NOT_SUPPORTED;
@@ -52,7 +55,7 @@ fn answer<S: Records>(
     request: Request,
     now: i64,
 ) -> Result<Vec<u8>, NoMemory>
-    requires { IsTrue (ask_fits request.ask) }
+    requires { IsTrue (request_fits request) }
     ensures { OnErr result (S.stock store.new ≡ S.stock store.old) }
 {
     let Request { id, ask } = request;
@@ -65,7 +68,9 @@ fn answer<S: Records>(
 }
 
 /// Answers a message that was refused.
-fn refuse_message(alloc: Global, refusal: Refusal, now: i64) -> Result<Vec<u8>, NoMemory> {
+fn refuse_message(alloc: Global, refusal: Refusal, now: i64) -> Result<Vec<u8>, NoMemory>
+    requires { IsTrue (option_map_or is_batch_id refusal.id true) }
+{
     let Refusal {
         fault,
         operation,
@@ -75,7 +80,9 @@ fn refuse_message(alloc: Global, refusal: Refusal, now: i64) -> Result<Vec<u8>, 
 }
 
 /// The reply of an operation that has not succeeded yet.
-fn failed(operation: Option<u32>, id: Option<Bytes>) -> Reply {
+fn failed(operation: Option<u32>, id: Option<Bytes>) -> Reply
+    ensures { result ≡ record { operation = operation; id = id; outcome = Failed None } }
+{
     Reply {
         operation,
         id,
@@ -89,7 +96,9 @@ fn refuse(
     mut reply: Reply,
     reason: Option<u32>,
     now: i64,
-) -> Result<Vec<u8>, NoMemory> {
+) -> Result<Vec<u8>, NoMemory>
+    requires { IsTrue (option_map_or is_batch_id reply.id true) }
+{
     if reason.is_none() {
         return Err(NoMemory);
     }
@@ -105,7 +114,9 @@ fn create<S: Records>(
     mut reply: Reply,
     now: i64,
 ) -> Result<Vec<u8>, NoMemory>
-    requires { IsTrue (attrs_fit attrs.now) }
+    requires attrs { IsTrue (attrs_fit attrs.now) }
+    requires id { IsTrue (option_map_or is_batch_id reply.id true) }
+    requires operation { reply.operation ≡ Some OPERATION_CREATE }
     ensures { OnErr result (S.stock store.new ≡ S.stock store.old) }
 {
     let uid = (store.count() + 1).to_string(alloc)?;
@@ -126,17 +137,29 @@ fn locate<S: Records>(
     mut reply: Reply,
     now: i64,
 ) -> Result<Vec<u8>, NoMemory>
-    requires { IsSome filter.now.name }
+    requires name { IsSome filter.now.name }
+    requires id { IsTrue (option_map_or is_batch_id reply.id true) }
+    requires operation { reply.operation ≡ Some OPERATION_LOCATE }
 {
     match store.locate(alloc, mask, filter) {
         Ok(found) => {
-            let mut uids = Texts::new(alloc);
-            if let Some(uid) = found {
-                uids.push(uid)?;
-            }
-            reply.outcome = Outcome::Located(uids);
+            reply.outcome = Outcome::Located(texts_of(alloc, found)?);
             write_reply(alloc, &reply, now)
         }
         Err(fault) => refuse(alloc, reply, store_reason(fault), now),
+    }
+}
+
+/// The text as a list, or none.
+fn texts_of(alloc: Global, text: Option<Text>) -> Result<Texts, NoMemory>
+    ensures { IfOk result (λ texts. texts ≡ option_to_list text) }
+{
+    let mut texts = Texts::new(alloc);
+    match text {
+        Some(text) => {
+            texts.push(text)?;
+            Ok(texts)
+        }
+        None => Ok(texts),
     }
 }

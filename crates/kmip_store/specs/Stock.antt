@@ -3,7 +3,8 @@
 use Rattle.std.specs.Prelude.{◌≡◌, ℕ, ◌+◌, ◌≤◌, ◌<◌, Bool, true, false, List, [], ◌∷◌, ◌++◌, length, nat_eq, Result, Ok, Err}
 use Rattle.std.specs.Cmp.Lexicographic.{pointwise}
 use Rattle.std.specs.Fmt.{decimal}
-use Rattle.std.specs.List.{list_any}
+use Rattle.std.specs.List.{list_any, list_all}
+use Rattle.kmip_messages.specs.Ranges.{is_identifier}
 use Rattle.kmip_messages.specs.declared.request.KeyAttrs.{KeyAttrs}
 use Rattle.kmip_messages.specs.declared.state.KeyState.TheVariants.{PreActive}
 use Rattle.kmip_store.specs.declared.row.Row.{Row}
@@ -35,3 +36,9 @@ MayRefuse name s (Err Full) = (has_name name s.rows ≡ false) × (s.room ≤ le
 MayRefuse name s (Err NoMemory) = (has_name name s.rows ≡ false) × (length s.rows < s.room)
 MayRefuse name s (Err NotFound) = ⊥
 MayRefuse name s (Err WrongState) = ⊥
+
+-- what the records keep: there is room for each row, and the identifiers are in their range
+pub record Keeps (rows : List Row) (room : ℕ) : Type 0 where
+  pub within : length rows ≤ room
+  pub small : room ≤ 10000
+  pub identified : list_all (λ r. is_identifier r.uid) rows ≡ true

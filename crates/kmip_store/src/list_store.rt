@@ -20,13 +20,13 @@ pub struct ListStore {
 
 impl Model for ListStore {
     ghost use Rattle.std.specs.Prelude.{◌≤◌, length};
-    ghost use Rattle.kmip_store.specs.Stock.{Stock};
+    ghost use Rattle.kmip_store.specs.Stock.{Stock, Keeps};
 
     ghost Value = { Stock };
 
     ghost view = { λ s. record { rows = s.rows.items; room = s.room } };
 
-    ghost invariant = { λ s. (length s.rows.items ≤ s.room) × (s.room ≤ 10000) };
+    ghost invariant = { λ s. Keeps s.rows.items s.room };
 }
 
 impl ListStore {

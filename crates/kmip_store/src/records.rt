@@ -2,8 +2,8 @@
 ghost use Rattle.std.specs.Prelude.{◌≡◌, ◌+◌, ◌++◌, ◌∷◌, [], ◌<◌, ◌≤◌, length, true, false, IsTrue, IsSome, IfOk, OnErr, OnOk, Ok, Err, Some, None};
 ghost use Rattle.std.specs.Fmt.{decimal};
 ghost use Rattle.std.specs.List.{slice_get};
-ghost use Rattle.std.specs.Option.{option_copied};
-ghost use Rattle.kmip_messages.specs.Ranges.{attrs_fit};
+ghost use Rattle.std.specs.Option.{option_copied, option_map_or};
+ghost use Rattle.kmip_messages.specs.Ranges.{attrs_fit, is_identifier};
 ghost use Rattle.kmip_store.specs.Stock.{Stock, has_name, new_row, added, MayRefuse};
 
 use crate::fault::StoreFault;
@@ -40,7 +40,8 @@ pub trait Records {
         filter: &Attrs,
     ) -> Result<Option<Text>, StoreFault>
         requires { IsSome filter.now.name }
-        ensures { OnErr result (result ≡ Err StoreFault.NoMemory) };
+        ensures uid { IfOk result (λ found. IsTrue (option_map_or is_identifier found true)) }
+        ensures fault { OnErr result (result ≡ Err StoreFault.NoMemory) };
 
     /// How many rows there are.
     fn count(&self) -> usize

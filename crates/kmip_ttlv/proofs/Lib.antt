@@ -1,1 +1,14 @@
 pub mod Views
+pub mod Lengths
+pub mod Within
+pub mod Written
+pub mod SoFar
+pub mod Steps
+pub mod Numbers
+pub mod Leaves
+pub mod Heads
+pub mod Takes
+pub mod Again
+pub mod Faults
+pub mod Laws
+pub mod Shown

@@ -2,7 +2,15 @@
 use Rattle.std.specs.Prelude.{ℕ, List, Option, Some, None, codes}
 use Rattle.kmip_ttlv.specs.declared.fault.TtlvFault.{TtlvFault}
 use Rattle.kmip_ttlv.specs.declared.fault.TtlvFault.TheVariants.{
-  Short, UnknownType, BadLength, BadBoolean, BadText, ChildrenOverrun, TooDeep, TooLong, NoMemory,
+  Short,
+  UnknownType,
+  BadLength,
+  BadBoolean,
+  BadText,
+  ChildrenOverrun,
+  TooDeep,
+  TooLong,
+  NoMemory,
 }
 
 abbrev pub fault_number : TtlvFault → ℕ

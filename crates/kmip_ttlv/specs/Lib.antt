@@ -2,4 +2,10 @@ pub mod Node
 pub mod View
 pub mod Faults
 pub mod Types
+pub mod Fitting
 pub mod Spelling
+pub mod Sizes
+pub mod Heads
+pub mod Reading
+pub mod Breaks
+pub mod Showing

@@ -1,7 +1,110 @@
--- How an item is spelled in bytes.
+-- How an item is spelled in bytes: a tag, a type, a length, a value and padding.
 -- Source: KMIP 2.1, TTLV Encoding.
-use Rattle.std.specs.Prelude.{ℕ, ◌-◌, ◌%◌}
+use Rattle.std.specs.Prelude.{◌≡◌, ℕ, ◌-◌, ◌%◌, ◌^◌, ◌<◌, ◌≤◌, List, [], ◌∷◌, ◌++◌, length, replicate}
+use Rattle.std.specs.Int.{w32, w64, cast_unsigned, from_bool}
+use Rattle.byteorder.specs.Endian.{big_bytes}
+use Rattle.kmip_ttlv.specs.declared.item_type.ItemType.{ItemType}
+use Rattle.kmip_ttlv.specs.declared.item_type.ItemType.TheVariants.{
+  Structure,
+  Integer,
+  LongInteger,
+  BigInteger,
+  Enumeration,
+  Boolean,
+  TextString,
+  ByteString,
+  DateTime,
+  Interval,
+  DateTimeExtended,
+}
+use Rattle.kmip_ttlv.specs.Node.{
+  Node,
+  node,
+  Content,
+  structure,
+  integer,
+  long_integer,
+  big_integer,
+  enumeration,
+  boolean,
+  text_string,
+  byte_string,
+  date_time,
+  interval,
+  date_time_extended,
+  Nodes,
+  no_more,
+  more,
+}
+use Rattle.kmip_ttlv.specs.Types.{byte_of_type}
+use Rattle.kmip_ttlv.specs.Fitting.{IsContentInRange, depth}
 
--- how many bytes of padding follow a value of this length
+-- how many bytes of padding follow a value of this length: the fewest that make it a multiple of eight
 abbrev pub padding : ℕ → ℕ
 padding len = (8 - len % 8) % 8
+
+-- the tag in three bytes, the type in one, and the length of the value in four
+unfoldable pub head : ℕ → ItemType → ℕ → List ℕ
+head tag type len = big_bytes 3 tag ++ byte_of_type type ∷ big_bytes 4 len
+
+abbrev pub item_bytes : ℕ → ItemType → List ℕ → List ℕ → List ℕ
+item_bytes tag type value pad = head tag type (length value) ++ value ++ pad
+
+abbrev pub zeros : ℕ → List ℕ
+zeros n = replicate n 0
+
+abbrev pub type_of : Content → ItemType
+type_of (structure items) = Structure
+type_of (integer z) = Integer
+type_of (long_integer z) = LongInteger
+type_of (big_integer octets) = BigInteger
+type_of (enumeration n) = Enumeration
+type_of (boolean b) = Boolean
+type_of (text_string text) = TextString
+type_of (byte_string octets) = ByteString
+type_of (date_time z) = DateTime
+type_of (interval n) = Interval
+type_of (date_time_extended z) = DateTimeExtended
+
+-- The one spelling that is written: its padding is zero.
+abbrev mutual
+  pub canon : Node → List ℕ
+  canon (node tag content) = item_bytes tag (type_of content) (value_bytes content) (zeros (padding (length (value_bytes content))))
+
+  pub value_bytes : Content → List ℕ
+  value_bytes (structure items) = canons items
+  value_bytes (integer z) = big_bytes 4 (cast_unsigned w32 z)
+  value_bytes (long_integer z) = big_bytes 8 (cast_unsigned w64 z)
+  value_bytes (big_integer octets) = octets
+  value_bytes (enumeration n) = big_bytes 4 n
+  value_bytes (boolean b) = big_bytes 8 (from_bool b)
+  value_bytes (text_string text) = text
+  value_bytes (byte_string octets) = octets
+  value_bytes (date_time z) = big_bytes 8 (cast_unsigned w64 z)
+  value_bytes (interval n) = big_bytes 4 n
+  value_bytes (date_time_extended z) = big_bytes 8 (cast_unsigned w64 z)
+
+  -- one after the other
+  pub canons : Nodes → List ℕ
+  canons no_more = []
+  canons (more n ns) = canon n ++ canons ns
+
+-- Every spelling that is read: its padding may be any bytes.
+abbrev mutual
+  pub Spelled : Node → List ℕ → Type 0
+  Spelled (node tag content) bytes =
+      (tag < 2 ^ 24) × (value : List ℕ) × (pad : List ℕ) × SpelledValue content value
+      × (length pad ≡ padding (length value)) × (bytes ≡ item_bytes tag (type_of content) value pad)
+
+  pub SpelledValue : Content → List ℕ → Type 0
+  SpelledValue (structure items) value = SpelledAll items value
+  SpelledValue leaf value = IsContentInRange leaf × (value ≡ value_bytes leaf)
+
+  pub SpelledAll : Nodes → List ℕ → Type 0
+  SpelledAll no_more bytes = bytes ≡ []
+  SpelledAll (more n ns) bytes =
+      (first : List ℕ) × (others : List ℕ) × Spelled n first × SpelledAll ns others × (bytes ≡ first ++ others)
+
+-- The bytes are those of an item that is neither too deep nor too long.
+abbrev pub Spells : Node → List ℕ → Type 0
+Spells n bytes = Spelled n bytes × (depth n ≤ 16) × (length bytes ≤ 8192)

@@ -3,7 +3,17 @@
 use Rattle.std.specs.Prelude.{ℕ, zero, suc, Bool, true, ◌==◌, ◌%◌, ◌&&◌, nat_lt, Option, Some, None}
 use Rattle.kmip_ttlv.specs.declared.item_type.ItemType.{ItemType}
 use Rattle.kmip_ttlv.specs.declared.item_type.ItemType.TheVariants.{
-  Structure, Integer, LongInteger, BigInteger, Enumeration, Boolean, TextString, ByteString, DateTime, Interval, DateTimeExtended,
+  Structure,
+  Integer,
+  LongInteger,
+  BigInteger,
+  Enumeration,
+  Boolean,
+  TextString,
+  ByteString,
+  DateTime,
+  Interval,
+  DateTimeExtended,
 }
 
 abbrev pub byte_of_type : ItemType → ℕ

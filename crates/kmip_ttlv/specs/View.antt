@@ -1,8 +1,21 @@
 -- What an `Item` of the code is as a pure value: where its parts lie in memory is left out.
-use Rattle.std.specs.Prelude.{ℕ, List, map}
+use Rattle.std.specs.Prelude.{List, map}
 use Rattle.kmip_ttlv.specs.Node.{
-  Node, node, Content, structure, integer, long_integer, big_integer, enumeration, boolean, text_string, byte_string,
-  date_time, interval, date_time_extended, nodes_of,
+  Node,
+  node,
+  Content,
+  structure,
+  integer,
+  long_integer,
+  big_integer,
+  enumeration,
+  boolean,
+  text_string,
+  byte_string,
+  date_time,
+  interval,
+  date_time_extended,
+  nodes_of,
 }
 use Rattle.kmip_ttlv.specs.declared.item.Item.{Item}
 use Rattle.kmip_ttlv.specs.declared.item.Value.{Value, fold-Value}

@@ -1,12 +1,42 @@
 //! What an item has inside, by its type.
 ghost use Rattle.std.specs.Prelude.{◌≡◌, option_map};
 ghost use Rattle.kmip_ttlv.specs.Node.{
-    tag_of, content_of, as_structure, as_integer, as_enumeration, as_text_string, as_byte_string, as_date_time,
+  tag_of,
+  content_of,
+  as_structure,
+  as_integer,
+  as_enumeration,
+  as_text_string,
+  as_byte_string,
+  as_date_time,
 };
-ghost use Rattle.kmip_ttlv.specs.View.{view, views};
+ghost use Rattle.kmip_ttlv.specs.View.{view, views, content};
+ghost use Rattle.kmip_ttlv.specs.Spelling.{type_of};
 
 use crate::item::{Item, Value};
+use crate::item_type::ItemType;
 use crate::tag::Tag;
+
+impl Value {
+    /// The type of the value.
+    pub fn item_type(&self) -> ItemType
+        ensures { result ≡ type_of (content self.now) }
+    {
+        match self {
+            Value::Structure(_) => ItemType::Structure,
+            Value::Integer(_) => ItemType::Integer,
+            Value::LongInteger(_) => ItemType::LongInteger,
+            Value::BigInteger(_) => ItemType::BigInteger,
+            Value::Enumeration(_) => ItemType::Enumeration,
+            Value::Boolean(_) => ItemType::Boolean,
+            Value::TextString(_) => ItemType::TextString,
+            Value::ByteString(_) => ItemType::ByteString,
+            Value::DateTime(_) => ItemType::DateTime,
+            Value::Interval(_) => ItemType::Interval,
+            Value::DateTimeExtended(_) => ItemType::DateTimeExtended,
+        }
+    }
+}
 
 impl Item {
     /// The item's tag.

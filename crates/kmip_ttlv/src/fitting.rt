@@ -1,5 +1,8 @@
 //! Which items have a written form.
-ghost use Rattle.std.specs.Prelude.{◌≡◌, ◌+◌, ◌≤◌, ◌<◌, ◌^◌, length, IfSome};
+ghost use Rattle.std.specs.Prelude.{◌≡◌, ◌+◌, ◌≤◌, ◌<◌, ◌↔◌, length, IsTrue};
+ghost use Rattle.kmip_ttlv.specs.Node.{nodes_of};
+ghost use Rattle.kmip_ttlv.specs.View.{view, views};
+ghost use Rattle.kmip_ttlv.specs.Sizes.{Fits, IsWritable, IsSizeWithin, AreSizesWithin, IsStructureWithin, padded, size_up_to};
 
 use crate::item::{Item, Value};
 use crate::item_type::ItemType;
@@ -7,7 +10,10 @@ use crate::limits::{HEAD_SIZE, MAX_DEPTH, MAX_SIZE, padding_of};
 
 /// Whether the item has a written form: at most `MAX_DEPTH` levels, at most `MAX_SIZE` bytes, and each
 /// Big Integer a positive multiple of eight bytes long. Takes no memory.
-pub fn fits(item: &Item) -> bool {
+pub fn fits(item: &Item) -> bool
+    ensures writable { IsTrue result ↔ IsWritable (view item.now) }
+    ensures in_range { IsTrue result ↔ Fits (view item.now) }
+{
     size_within(item, MAX_DEPTH, MAX_SIZE).is_some()
 }
 
@@ -15,8 +21,10 @@ pub fn fits(item: &Item) -> bool {
 #[cycle(sizes)]
 fn size_within(item: &Item, levels: usize, room: usize) -> Option<usize>
     requires { room ≤ 8192 }
-    ensures { IfSome result (λ size. size ≤ room) }
+    ensures { IsSizeWithin result (view item.now) levels room }
 {
+    // A tag is below 2^24.
+    let _tag = item.tag.number();
     if levels == 0 {
         return None;
     }
@@ -31,11 +39,13 @@ fn size_within(item: &Item, levels: usize, room: usize) -> Option<usize>
         }
         Value::TextString(text) => leaf_within(text.as_str().len(), room),
         Value::ByteString(bytes) => leaf_within(bytes.as_slice().len(), room),
-        Value::Integer(_) | Value::Enumeration(_) | Value::Interval(_) => leaf_within(4, room),
-        Value::LongInteger(_)
-        | Value::Boolean(_)
-        | Value::DateTime(_)
-        | Value::DateTimeExtended(_) => leaf_within(8, room),
+        Value::Integer(number) => leaf_within(number.to_be_bytes().len(), room),
+        Value::Enumeration(number) | Value::Interval(number) => {
+            leaf_within(number.to_be_bytes().len(), room)
+        }
+        Value::LongInteger(number) | Value::DateTime(number) | Value::DateTimeExtended(number) =>
+            leaf_within(number.to_be_bytes().len(), room),
+        Value::Boolean(_) => leaf_within(8, room),
     }
 }
 
@@ -44,7 +54,7 @@ fn size_within(item: &Item, levels: usize, room: usize) -> Option<usize>
 fn structure_within(items: &[Item], levels: usize, room: usize) -> Option<usize>
     requires room { room ≤ 8192 }
     requires levels { 0 < levels }
-    ensures { IfSome result (λ size. size ≤ room) }
+    ensures { IsStructureWithin result (nodes_of (views items.now)) levels room }
 {
     if room < HEAD_SIZE {
         return None;
@@ -60,7 +70,7 @@ fn structure_within(items: &[Item], levels: usize, room: usize) -> Option<usize>
 #[cycle(sizes)]
 pub(crate) fn all_within(items: &[Item], levels: usize, room: usize) -> Option<usize>
     requires { room ≤ 8192 }
-    ensures { IfSome result (λ size. size ≤ room) }
+    ensures { AreSizesWithin result (nodes_of (views items.now)) levels room }
 {
     let mut size = 0;
     for item in items {
@@ -75,7 +85,7 @@ pub(crate) fn all_within(items: &[Item], levels: usize, room: usize) -> Option<u
 /// The size of an item without children whose value has this length.
 fn leaf_within(len: usize, room: usize) -> Option<usize>
     requires { room ≤ 8192 }
-    ensures { IfSome result (λ size. size ≤ room) }
+    ensures { result ≡ size_up_to (8 + padded len) room }
 {
     if len > room {
         return None;

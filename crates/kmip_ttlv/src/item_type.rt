@@ -1,6 +1,7 @@
 //! The type byte of an item.
 ghost use Rattle.std.specs.Prelude.{◌≡◌, ◌<◌};
 ghost use Rattle.kmip_ttlv.specs.Types.{type_of_byte, byte_of_type, is_allowed};
+ghost use Rattle.kmip_ttlv.specs.Showing.{type_name};
 
 /// The types of TTLV, in the order of their numbers 01 to 0B.
 ///
@@ -57,6 +58,25 @@ impl ItemType {
             ItemType::DateTime => 9,
             ItemType::Interval => 10,
             ItemType::DateTimeExtended => 11,
+        }
+    }
+
+    /// The type's name, as it is shown.
+    pub fn name(self) -> &'static str
+        ensures { result.now ≡ type_name self }
+    {
+        match self {
+            ItemType::Structure => "Structure",
+            ItemType::Integer => "Integer",
+            ItemType::LongInteger => "LongInteger",
+            ItemType::BigInteger => "BigInteger",
+            ItemType::Enumeration => "Enumeration",
+            ItemType::Boolean => "Boolean",
+            ItemType::TextString => "TextString",
+            ItemType::ByteString => "ByteString",
+            ItemType::DateTime => "DateTime",
+            ItemType::Interval => "Interval",
+            ItemType::DateTimeExtended => "DateTimeExtended",
         }
     }
 

@@ -3,6 +3,7 @@
 //! An item is a tag, a type, a length and a value ("Key Management Interoperability Protocol
 //! Specification Version 2.1", TTLV Encoding). `read` takes the item at the front of some bytes,
 //! `write` appends the one written form of an item, and `fits` says which items have one.
+//! `show` gives an item as text.
 #![tactic(auto)]
 
 mod access;
@@ -14,6 +15,7 @@ mod item_type;
 mod limits;
 mod making;
 mod reading;
+mod showing;
 mod tag;
 mod text;
 mod writing;
@@ -25,6 +27,7 @@ pub use item::{Item, Value};
 pub use item_type::ItemType;
 pub use limits::{MAX_DEPTH, MAX_SIZE};
 pub use reading::read;
+pub use showing::show;
 pub use tag::Tag;
 pub use text::Text;
 pub use writing::write;

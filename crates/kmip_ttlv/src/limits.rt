@@ -1,5 +1,5 @@
 //! How deep and how long an item may be, and how its value is padded.
-ghost use Rattle.std.specs.Prelude.{◌≡◌, ◌+◌, ◌-◌, ◌%◌, ◌<◌, ◌≤◌, ◌^◌};
+ghost use Rattle.std.specs.Prelude.{◌≡◌, ◌-◌, ◌%◌};
 ghost use Rattle.kmip_ttlv.specs.Spelling.{padding};
 
 /// The most levels that an item may have: 1 for an item without children.

@@ -1,7 +1,19 @@
 //! Items made of their parts, none of which takes memory.
 ghost use Rattle.std.specs.Prelude.{◌≡◌};
 ghost use Rattle.kmip_ttlv.specs.Node.{
-    node, structure, integer, long_integer, big_integer, enumeration, boolean, text_string, byte_string, date_time, interval, date_time_extended, nodes_of,
+  node,
+  structure,
+  integer,
+  long_integer,
+  big_integer,
+  enumeration,
+  boolean,
+  text_string,
+  byte_string,
+  date_time,
+  interval,
+  date_time_extended,
+  nodes_of,
 };
 ghost use Rattle.kmip_ttlv.specs.View.{view, views};
 

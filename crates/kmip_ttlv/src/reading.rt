@@ -1,7 +1,16 @@
 //! Bytes to items.
-ghost use Rattle.std.specs.Prelude.{◌≡◌, ℕ, ◌+◌, ◌*◌, ◌<◌, ◌≤◌, ◌^◌, length, IfOk, IsTrue};
-ghost use Rattle.kmip_ttlv.specs.Spelling.{padding};
+ghost use Rattle.std.specs.Prelude.{◌≡◌, ℕ, ◌+◌, ◌<◌, ◌≤◌, ◌^◌, ◌⊎◌, List, ◌++◌, length, take, IfOk, IfErr, IsTrue};
+ghost use Rattle.kmip_ttlv.specs.declared.fault.TtlvFault.{TtlvFault};
+ghost use Rattle.kmip_ttlv.specs.declared.fault.TtlvFault.TheVariants as faults;
+ghost use Rattle.byteorder.specs.Endian.{big_number};
+ghost use Rattle.kmip_ttlv.specs.Node.{Node};
+ghost use Rattle.kmip_ttlv.specs.View.{view, views, content};
 ghost use Rattle.kmip_ttlv.specs.Types.{is_allowed};
+ghost use Rattle.kmip_ttlv.specs.Spelling.{padding, canon, Spells};
+ghost use Rattle.kmip_ttlv.specs.Sizes.{Fits, IsWritable};
+ghost use Rattle.kmip_ttlv.specs.Heads.{overrun, head_at};
+ghost use Rattle.kmip_ttlv.specs.Reading.{Gives, ReadsAs, IsRead, IsRefused, boolean_at, text_at, value_at, all_at, item_at};
+ghost use Rattle.kmip_ttlv.specs.Breaks.{Breaks};
 
 use crate::bytes::Bytes;
 use crate::fault::TtlvFault;
@@ -19,7 +28,19 @@ use std::alloc::Global;
 /// # Errors
 /// The first fault, with the offset of the first byte of the item at fault; want of memory otherwise.
 pub fn read(alloc: Global, bytes: &[u8]) -> Result<(Item, usize), TtlvFault>
-    ensures within { IfOk result (λ x. x.1 ≤ length bytes.now) }
+    // What is read is spelled so.
+    ensures found { IfOk result (λ x. (x.1 ≤ length bytes.now) × Spells (view x.0) (take x.1 bytes.now)) }
+    // What is spelled so is read, unless memory runs out.
+    ensures only { (n : Node) (count : ℕ) → count ≤ length bytes.now → Spells n (take count bytes.now) → IsRead result n count }
+    // What was written is read again, whatever follows it.
+    ensures back { (n : Node) (rest : List ℕ) → Fits n → bytes.now ≡ canon n ++ rest → IsRead result n (length (canon n)) }
+    // What is read has a written form.
+    ensures writable { IfOk result (λ x. IsWritable (view x.0)) }
+    // Which fault it is, and that there is no other.
+    ensures fault { IfErr result (λ e. (e ≡ faults.NoMemory) ⊎ Breaks 16 0 bytes.now e) }
+    ensures refused { (e : TtlvFault) → Breaks 16 0 bytes.now e → IsRefused result e }
+    // All of this as one function of the bytes.
+    ensures exact { ReadsAs result (item_at 16 0 bytes.now) }
 {
     item_of(alloc, MAX_DEPTH, 0, bytes)
 }
@@ -27,14 +48,11 @@ pub fn read(alloc: Global, bytes: &[u8]) -> Result<(Item, usize), TtlvFault>
 /// The item at the front of the bytes, which begin at offset `at` and end where its parent does.
 /// `left` counts the levels that are left, `MAX_DEPTH` for the outermost item.
 #[cycle(reading)]
-fn item_of(
-    alloc: Global,
-    left: usize,
-    at: usize,
-    bytes: &[u8],
-) -> Result<(Item, usize), TtlvFault>
+#[tactic(auto, unfolding(crate::specs::Reading::item_at))]
+fn item_of(alloc: Global, left: usize, at: usize, bytes: &[u8]) -> Result<(Item, usize), TtlvFault>
     requires levels { left ≤ 16 }
     requires offsets { at + length bytes.now < 2 ^ 64 }
+    ensures exact { ReadsAs result (item_at left at bytes.now) }
     ensures size { IfOk result (λ x. (0 < x.1) × (x.1 ≤ length bytes.now)) }
 {
     if left == 0 {
@@ -49,6 +67,7 @@ fn item_of(
 
 /// The value that these bytes are, without their padding, of the item at offset `at`.
 #[cycle(reading)]
+#[tactic(auto, unfolding(crate::specs::Reading::value_at))]
 fn value_of(
     alloc: Global,
     left: usize,
@@ -59,6 +78,7 @@ fn value_of(
     requires levels { left < 16 }
     requires offsets { at + 8 + length bytes.now < 2 ^ 64 }
     requires allowed { IsTrue (is_allowed item_type (length bytes.now)) }
+    ensures { Gives content result (value_at (item_at left) at item_type bytes.now) }
 {
     match item_type {
         ItemType::Structure => {
@@ -92,14 +112,10 @@ fn value_of(
 
 /// The children that take up all of the bytes, which begin at offset `at`.
 #[cycle(reading)]
-fn all_of(
-    alloc: Global,
-    left: usize,
-    at: usize,
-    bytes: &[u8],
-) -> Result<Vec<Item>, TtlvFault>
+fn all_of(alloc: Global, left: usize, at: usize, bytes: &[u8]) -> Result<Vec<Item>, TtlvFault>
     requires levels { left < 16 }
     requires offsets { at + length bytes.now < 2 ^ 64 }
+    ensures { Gives (λ v. views v.items) result (all_at (item_at left) (length bytes.now) at bytes.now) }
 {
     let mut items = Vec::new(alloc);
     let mut place = at;
@@ -116,11 +132,9 @@ fn all_of(
 
 /// The tag, the type and the value's length of the item at the front of the bytes, where it is within
 /// them and within the limits of the outermost item.
-fn head_of(
-    outermost: bool,
-    at: usize,
-    bytes: &[u8],
-) -> Result<(u32, ItemType, usize), TtlvFault>
+#[tactic(auto, unfolding(crate::specs::Heads::head_at, crate::specs::Heads::typed_head_at))]
+fn head_of(outermost: bool, at: usize, bytes: &[u8]) -> Result<(u32, ItemType, usize), TtlvFault>
+    ensures exact { result ≡ head_at outermost at bytes.now }
     ensures tag { IfOk result (λ h. h.0 < 2 ^ 24) }
     ensures allowed { IfOk result (λ h. IsTrue (is_allowed h.1 h.2)) }
     ensures within { IfOk result (λ h. 8 + h.2 + padding h.2 ≤ length bytes.now) }
@@ -147,7 +161,10 @@ fn head_of(
 }
 
 /// The fault of an item that passes the end: the outermost is short, a child passes its parent's end.
-fn overrun_of(outermost: bool, at: usize) -> TtlvFault {
+#[tactic(auto, unfolding(crate::specs::Heads::overrun))]
+fn overrun_of(outermost: bool, at: usize) -> TtlvFault
+    ensures { result ≡ overrun outermost at }
+{
     if outermost {
         TtlvFault::Short(at)
     } else {
@@ -156,8 +173,10 @@ fn overrun_of(outermost: bool, at: usize) -> TtlvFault {
 }
 
 /// The Boolean of eight bytes, of the item at offset `at`.
+#[tactic(auto, unfolding(crate::specs::Reading::boolean_at))]
 fn boolean_of(at: usize, bytes: &[u8]) -> Result<bool, TtlvFault>
     requires { 8 ≤ length bytes.now }
+    ensures { result ≡ boolean_at at (big_number 8 bytes.now) }
 {
     match BigEndian::read_u64(bytes) {
         0 => Ok(false),
@@ -167,7 +186,10 @@ fn boolean_of(at: usize, bytes: &[u8]) -> Result<bool, TtlvFault>
 }
 
 /// The text of the bytes, of the item at offset `at`.
-fn text_of(alloc: Global, at: usize, bytes: &[u8]) -> Result<Text, TtlvFault> {
+#[tactic(auto, using(crate::proofs::Steps::text_right, crate::proofs::Steps::text_wrong))]
+fn text_of(alloc: Global, at: usize, bytes: &[u8]) -> Result<Text, TtlvFault>
+    ensures { Gives (λ t. t) result (text_at at bytes.now) }
+{
     match std::str::from_utf8(bytes) {
         Ok(text) => {
             let text = Text::copied(alloc, text)?;

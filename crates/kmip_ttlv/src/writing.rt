@@ -1,5 +1,9 @@
 //! Items to bytes.
-ghost use Rattle.std.specs.Prelude.{◌≡◌, ◌+◌, ◌≤◌, ◌<◌, ◌^◌, length, take, OnErr};
+ghost use Rattle.std.specs.Prelude.{◌≡◌, ◌+◌, ◌<◌, ◌^◌, ◌++◌, length, take, OnErr, OnOk};
+ghost use Rattle.kmip_ttlv.specs.Node.{node, structure, nodes_of};
+ghost use Rattle.kmip_ttlv.specs.View.{view, views};
+ghost use Rattle.kmip_ttlv.specs.Spelling.{head, item_bytes, zeros, padding, canon, canons};
+ghost use Rattle.kmip_ttlv.specs.Sizes.{IsWritable};
 
 use crate::fault::NoMemory;
 use crate::fitting::all_within;
@@ -14,6 +18,8 @@ use byteorder::{BigEndian, ByteOrder};
 /// # Errors
 /// Where there is no memory for the bytes; `out` is then as it was.
 pub fn write(item: &Item, out: &mut Vec<u8>) -> Result<(), NoMemory>
+    requires { IsWritable (view item.now) }
+    ensures ok { OnOk result (out.new.items ≡ out.old.items ++ canon (view item.now)) }
     ensures err { OnErr result (out.new.items ≡ out.old.items) }
 {
     let before = out.len();
@@ -29,6 +35,8 @@ pub fn write(item: &Item, out: &mut Vec<u8>) -> Result<(), NoMemory>
 /// Appends the written form of the item; at want of memory, a part of it.
 #[cycle(appending)]
 fn append(item: &Item, out: &mut Vec<u8>) -> Result<(), NoMemory>
+    requires { IsWritable (view item.now) }
+    ensures ok { OnOk result (out.new.items ≡ out.old.items ++ canon (view item.now)) }
     ensures kept { take (length out.old.items) out.new.items ≡ out.old.items }
 {
     let tag = item.tag;
@@ -43,7 +51,12 @@ fn append(item: &Item, out: &mut Vec<u8>) -> Result<(), NoMemory>
             append_leaf(tag, ItemType::Enumeration, &number.to_be_bytes(), out)
         }
         Value::Boolean(truth) => {
-            append_leaf(tag, ItemType::Boolean, &u64::from(*truth).to_be_bytes(), out)
+            append_leaf(
+                tag,
+                ItemType::Boolean,
+                &u64::from(*truth).to_be_bytes(),
+                out,
+            )
         }
         Value::TextString(text) => {
             append_leaf(tag, ItemType::TextString, text.as_str().as_bytes(), out)
@@ -60,6 +73,8 @@ fn append(item: &Item, out: &mut Vec<u8>) -> Result<(), NoMemory>
 /// Appends a Structure: its head, and then its items, which end at a multiple of eight.
 #[cycle(appending)]
 fn append_structure(tag: Tag, items: &[Item], out: &mut Vec<u8>) -> Result<(), NoMemory>
+    requires { IsWritable (node tag (structure (nodes_of (views items.now)))) }
+    ensures ok { OnOk result (out.new.items ≡ out.old.items ++ canon (node tag (structure (nodes_of (views items.now))))) }
     ensures kept { take (length out.old.items) out.new.items ≡ out.old.items }
 {
     let size = all_within(items, MAX_DEPTH, MAX_SIZE).unwrap_or(0);
@@ -77,6 +92,8 @@ fn append_leaf(
     value: &[u8],
     out: &mut Vec<u8>,
 ) -> Result<(), NoMemory>
+    requires { length value.now < 2 ^ 32 }
+    ensures ok { OnOk result (out.new.items ≡ out.old.items ++ item_bytes tag item_type value.now (zeros (padding (length value.now)))) }
     ensures kept { take (length out.old.items) out.new.items ≡ out.old.items }
 {
     append_head(tag, item_type, value.len(), out)?;
@@ -86,18 +103,24 @@ fn append_leaf(
 }
 
 /// Appends a tag, a type and a length.
-fn append_head(
-    tag: Tag,
-    item_type: ItemType,
-    len: usize,
-    out: &mut Vec<u8>,
-) -> Result<(), NoMemory>
+fn append_head(tag: Tag, item_type: ItemType, len: usize, out: &mut Vec<u8>) -> Result<(), NoMemory>
+    requires { len < 2 ^ 32 }
+    ensures ok { OnOk result (out.new.items ≡ out.old.items ++ head tag item_type len) }
     ensures kept { take (length out.old.items) out.new.items ≡ out.old.items }
+{
+    out.extend_from_slice(&head_bytes(tag, item_type, len))?;
+    Ok(())
+}
+
+/// A tag, a type and a length as bytes.
+#[tactic(auto, unfolding(crate::specs::Spelling::head))]
+fn head_bytes(tag: Tag, item_type: ItemType, len: usize) -> [u8; HEAD_SIZE]
+    requires { len < 2 ^ 32 }
+    ensures { result ≡ head tag item_type len }
 {
     let mut head = [0; HEAD_SIZE];
     BigEndian::write_u24(&mut head, tag.number());
     head[3] = item_type.byte();
     BigEndian::write_u32(&mut head[4..], u32::try_from(len).unwrap_or(u32::MAX));
-    out.extend_from_slice(&head)?;
-    Ok(())
+    head
 }

@@ -1,13 +1,13 @@
 //! The words of the command line, and what they ask for.
 
-use crate::exit_status::ExitStatus;
 use clap::error::ErrorKind;
-use clap::{Command, Error};
+use clap::{Arg, ArgAction, Command, Error};
+use kmip_commands::{ExitStatus, Form};
 use std::alloc::{AllocError, Global};
 
 const ABOUT: &str = "\
-A test server for keys under the Key Management Interoperability Protocol (KMIP) 2.1, held in
-memory and spoken to in lines of hexadecimal digits.";
+Messages of the Key Management Interoperability Protocol (KMIP) 2.1 in lines of hexadecimal digits:
+answered by a test server that holds its keys in memory, or shown as text.";
 
 const AFTER_HELP: &str = "\
 Without words it does `answer`. Everything is printed on standard output.
@@ -17,8 +17,8 @@ Exit status:
   1  a line was refused, or reading, writing or memory failed
   2  the command line is wrong
 
-Example, bytes that are no message and get the reply Invalid Message:
-  echo 00 | kmipctl answer";
+Example, bytes that are no message, and the reply Invalid Message as text:
+  echo 00 | kmipctl answer | kmipctl show";
 
 const ANSWER: &str = "Replies to messages: a line of hexadecimal digits in, a line out";
 
@@ -31,10 +31,24 @@ An empty line is skipped. A line of more than 16,384 digits prints `refused: len
 no hexadecimal prints `refused: hex`; neither ends the command. The last line may lack its line feed.
 Where reading fails it prints `cannot read input`, and where there is no memory `no memory`, and ends.";
 
+const SHOW: &str = "Shows items: a line of hexadecimal digits in, lines of text out";
+
+const SHOW_LONG: &str = "\
+Shows the item that each line of standard input spells in hexadecimal digits of either case: a line
+for the item with its tag, its type and its value, and below a Structure's line those of its items,
+two spaces further to the right.
+
+A line that spells no item prints its first fault, as `refused: 1 Short at 0`, with the fault's number,
+its name and the offset of the item at fault; bytes behind the item print `refused: extra at 16`. Empty,
+long and wrong lines are treated as by `answer`.";
+
+const CANON: &str = "Print the item's one written form, the padding zero, in lower-case digits";
+
 /// What the command line asks for.
 #[derive(Clone, Copy, Debug, PartialEq, Eq)]
 pub enum Choice {
     Answer,
+    Show(Form),
 }
 
 /// What the words ask for; the first is the program's name.
@@ -43,8 +57,20 @@ pub enum Choice {
 ///
 /// The text to print, and `status_of` how to end: help, a usage fault, or want of memory.
 pub fn chosen(alloc: Global, words: &[String]) -> Result<Choice, Error> {
-    let _matches = command(alloc)?.try_get_matches_from(words)?;
-    Ok(Choice::Answer)
+    let matches = command(alloc)?.try_get_matches_from(words)?;
+    match matches.subcommand() {
+        Some(("show", options)) => Ok(Choice::Show(form_of(options.get_flag("canon")))),
+        _ => Ok(Choice::Answer),
+    }
+}
+
+/// The form that `show` prints, by whether it was asked for the canonical one.
+fn form_of(is_canonical: bool) -> Form {
+    if is_canonical {
+        Form::Canonical
+    } else {
+        Form::Text
+    }
 }
 
 /// How the program ends after it printed the text of `error`.
@@ -60,8 +86,17 @@ fn command<'a>(alloc: Global) -> Result<Command<'a>, AllocError> {
     let answer = Command::new(alloc, "answer")
         .about(ANSWER)
         .long_about(ANSWER_LONG);
+    let canon = Arg::new(alloc, "canon")
+        .long("canon")
+        .help(CANON)
+        .action(ArgAction::SetTrue);
+    let show = Command::new(alloc, "show")
+        .about(SHOW)
+        .long_about(SHOW_LONG)
+        .arg(canon)?;
     Command::new(alloc, "kmipctl")
         .about(ABOUT)
         .after_help(AFTER_HELP)
-        .subcommand(answer)
+        .subcommand(answer)?
+        .subcommand(show)
 }

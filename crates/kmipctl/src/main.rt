@@ -1,23 +1,14 @@
 //! `kmipctl`, a program for messages of the Key Management Interoperability Protocol.
 //!
 //! It reads its command line, does what it asks for over standard input and standard output, and
-//! ends with the exit status of `exit_status`. Everything is printed on standard output, help and
+//! ends with the code of an `ExitStatus`. Everything is printed on standard output, help and
 //! usage faults too.
 #![tactic(auto)]
 
-mod answer;
-mod answer_fault;
 mod command_line;
-mod exit_status;
-mod judging;
-mod lines;
-mod replies;
-#[cfg(test)]
-mod tests;
 
-use answer::run_answer;
 use command_line::{Choice, chosen, status_of};
-use exit_status::ExitStatus;
+use kmip_commands::{ExitStatus, Form, run_answer, run_show};
 use std::io::{BufReader, BufWriter, Error, ErrorKind};
 use std::process::ExitCode;
 use std::{env, io};
@@ -40,6 +31,7 @@ fn run(rt: &HostRuntime) -> io::Result<ExitStatus> {
     let words: Vec<String> = env::args(rt)?.collect(rt.alloc())?;
     match chosen(rt.alloc(), words.as_slice()) {
         Ok(Choice::Answer) => answer_input(rt),
+        Ok(Choice::Show(form)) => show_input(rt, form),
         Err(error) => {
             let status = status_of(&error);
             if status == ExitStatus::Refused {
@@ -56,4 +48,11 @@ fn answer_input(rt: &HostRuntime) -> io::Result<ExitStatus> {
     let mut reader = BufReader::new(rt.alloc(), rt.reader())?;
     let mut writer = BufWriter::new(rt.alloc(), io::writer(rt))?;
     Ok(run_answer(rt.alloc(), &mut reader, &mut writer))
+}
+
+/// The command `show` from standard input to standard output.
+fn show_input(rt: &HostRuntime, form: Form) -> io::Result<ExitStatus> {
+    let mut reader = BufReader::new(rt.alloc(), rt.reader())?;
+    let mut writer = BufWriter::new(rt.alloc(), io::writer(rt))?;
+    Ok(run_show(rt.alloc(), form, &mut reader, &mut writer))
 }

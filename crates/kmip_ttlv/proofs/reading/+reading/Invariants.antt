@@ -1,5 +1,8 @@
--- Three functions a level; the place and the rest go on together.
-use Rattle.std.proofs.Common.{◌≡◌, ◌+◌, ◌*◌, length}
+-- Three functions a level; the place and the rest go on together, and the items so far with them.
+use Rattle.std.proofs.Common.{◌+◌, ◌*◌, length}
+use Rattle.kmip_ttlv.specs.View.{views}
+use Rattle.kmip_ttlv.specs.Reading.{item_at}
+use Rattle.kmip_ttlv.proofs.SoFar.{AreReadSoFar}
 use Rattle.kmip_ttlv.proofs.reading.+reading.Given as goal
 
 abbrev pub decreases-all_of : goal.decreases-all_of
@@ -12,7 +15,8 @@ abbrev pub decreases-value_of : goal.decreases-value_of
 decreases-value_of l = 3 * l.left + 2
 
 abbrev pub invariant-all_of-loop-rest : goal.invariant-all_of-loop-rest
-invariant-all_of-loop-rest l = l.place + length l.rest ≡ l.at + length l.bytes
+invariant-all_of-loop-rest l =
+    AreReadSoFar (item_at l.left) l.at l.bytes (views l.items.items) l.place l.rest
 
 abbrev pub decreases-all_of-loop-rest : goal.decreases-all_of-loop-rest
 decreases-all_of-loop-rest l = length l.rest

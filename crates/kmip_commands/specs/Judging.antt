@@ -1,0 +1,49 @@
+-- What a line says, and whether it is refused.
+use Rattle.std.specs.Prelude.{ℕ, Bool, true, false, ◌||◌, List, [], ◌∷◌, length, nat_lt, ◌==◌, if◌then◌else◌, Result, Ok, Err}
+use Rattle.hex.specs.declared.error.FromHexError.{FromHexError}
+use Rattle.hex.specs.Hex.{decode_of}
+use Rattle.kmip_commands.specs.declared.judging.Judged.{Judged}
+use Rattle.kmip_commands.specs.declared.judging.Judged.TheVariants.{Empty, Long, NotHex, Message}
+use Rattle.kmip_commands.specs.declared.lines.TheConstants.{MOST_DIGITS}
+use Rattle.kmip_commands.specs.Lines.{lines_of}
+
+-- what a line says: nothing, too much to be looked at, no hexadecimal, or a message
+pub data Saying : Type 0 where
+  nothing : Saying
+  too_long : Saying
+  no_hex : Saying
+  message : List ℕ → Saying
+
+abbrev pub saying_decoded : Result (List ℕ) FromHexError → Saying
+saying_decoded (Ok bytes) = message bytes
+saying_decoded (Err fault) = no_hex
+
+-- what a line says; its length is looked at before its bytes
+abbrev pub saying_of : List ℕ → Saying
+saying_of line =
+    if length line == 0 then nothing
+    else if nat_lt MOST_DIGITS (length line) then too_long
+    else saying_decoded (decode_of line)
+
+-- what is judged, as a contract sees it
+abbrev pub judged : Judged → Saying
+judged Empty = nothing
+judged Long = too_long
+judged NotHex = no_hex
+judged (Message bytes) = message bytes.items
+
+-- whether a line is refused, by a command that refuses some messages
+abbrev pub is_refused : (List ℕ → Bool) → Saying → Bool
+is_refused refuses nothing = false
+is_refused refuses too_long = true
+is_refused refuses no_hex = true
+is_refused refuses (message bytes) = refuses bytes
+
+-- whether one of the lines is refused
+abbrev pub are_refused : (List ℕ → Bool) → List (List ℕ) → Bool
+are_refused refuses [] = false
+are_refused refuses (line ∷ lines) = is_refused refuses (saying_of line) || are_refused refuses lines
+
+-- whether a line of the input is refused
+abbrev pub has_refused : (List ℕ → Bool) → List ℕ → Bool
+has_refused refuses input = are_refused refuses (lines_of input)

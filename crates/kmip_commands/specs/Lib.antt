@@ -1,0 +1,4 @@
+pub mod ExitStatus
+pub mod Judging
+pub mod Lines
+pub mod Showing

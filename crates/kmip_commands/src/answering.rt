@@ -1,0 +1,73 @@
+//! The command `answer`: each line of its input is a message in hexadecimal, and each reply of one
+//! server a line of its output.
+ghost use Rattle.std.specs.Prelude.{◌≡◌, ℕ, List, Bool, false, IfOk, IfSome};
+ghost use Rattle.kmip_commands.specs.Judging.{has_refused};
+
+use crate::exit_status::ExitStatus;
+use crate::fault::CommandFault;
+use crate::replies::write_hex;
+use crate::responding::{Respond, finished, respond_to_lines};
+use kmip_server::{ListStore, Server};
+use std::alloc::Global;
+use std::io::{BufRead, Write};
+
+/// The server's seed of key material.
+const SEED: [u8; 32] = [0; 32];
+
+/// How many objects the server has room for.
+const ROOM: usize = 10_000;
+
+/// The time of each reply.
+const NOW: i64 = 0;
+
+/// Runs `answer`, and prints a line for a fault of the reader and for want of memory.
+pub fn run_answer<R: BufRead, W: Write>(
+    alloc: Global,
+    reader: &mut R,
+    writer: &mut W,
+) -> ExitStatus {
+    let ended = answer(alloc, reader, writer);
+    finished(ended, writer)
+}
+
+/// Answers each line of the reader on the writer, from one server without rows, and says whether a
+/// line was refused. A refused line prints why, and does not end the command.
+///
+/// # Errors
+///
+/// `Input` where the reader fails, `Output` where the writer does, and `NoMemory`.
+pub fn answer<R: BufRead, W: Write>(
+    alloc: Global,
+    reader: &mut R,
+    writer: &mut W,
+) -> Result<bool, CommandFault>
+    ensures { IfOk result (λ r. IfSome (R.remaining reader.old)
+        (λ input. r ≡ has_refused (λ _. false) input)) }
+{
+    let store = ListStore::new(alloc, SEED, ROOM);
+    let mut answerer = Answerer {
+        server: Server::new(store),
+    };
+    respond_to_lines(alloc, &mut answerer, reader, writer)
+}
+
+/// Answers a message by a server's reply.
+#[derive(Drop)]
+struct Answerer {
+    server: Server<ListStore>,
+}
+
+impl Respond for Answerer {
+    ghost refuses = { λ _. false };
+
+    fn respond<W: Write>(
+        &mut self,
+        alloc: Global,
+        message: &[u8],
+        writer: &mut W,
+    ) -> Result<bool, CommandFault> {
+        let reply = self.server.handle(alloc, message, NOW)?;
+        write_hex(alloc, reply.as_slice(), writer)?;
+        Ok(false)
+    }
+}

@@ -1,0 +1,27 @@
+//! How the program ends.
+ghost use Rattle.std.specs.Prelude.{◌≡◌};
+ghost use Rattle.kmip_commands.specs.ExitStatus.{code_of};
+
+/// What the exit status of the program says.
+#[derive(Clone, Copy, Debug, PartialEq, Eq)]
+pub enum ExitStatus {
+    /// All was done, and nothing was refused.
+    Done,
+    /// Something was refused, or reading, writing or memory failed.
+    Refused,
+    /// The command line is none that the program knows.
+    Usage,
+}
+
+impl ExitStatus {
+    /// The number that the process ends with.
+    pub fn code(self) -> u8
+        ensures { result ≡ code_of self }
+    {
+        match self {
+            ExitStatus::Done => 0,
+            ExitStatus::Refused => 1,
+            ExitStatus::Usage => 2,
+        }
+    }
+}

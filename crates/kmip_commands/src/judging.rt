@@ -1,0 +1,46 @@
+//! What a line of the input of `answer` says.
+ghost use Rattle.std.specs.Prelude.{◌≡◌, IfOk};
+ghost use Rattle.kmip_commands.specs.Judging.{judged, saying_of};
+
+use crate::fault::CommandFault;
+use crate::lines::MOST_DIGITS;
+use hex::FromHexError;
+use std::alloc::Global;
+
+/// What a line says.
+#[derive(Debug, Drop)]
+pub enum Judged {
+    /// Nothing: the line is empty.
+    Empty,
+    /// More than a message may have.
+    Long,
+    /// No message: the digits are odd in number, or a byte is no digit.
+    NotHex,
+    /// The message that the digits spell.
+    Message(Vec<u8>),
+}
+
+/// Says what a line is. The length is judged before the bytes are.
+///
+/// # Errors
+///
+/// `NoMemory` alone.
+pub fn judge(alloc: Global, line: &[u8]) -> Result<Judged, CommandFault>
+    ensures { IfOk result (λ j. judged j ≡ saying_of line.now) }
+{
+    if line.is_empty() {
+        return Ok(Judged::Empty);
+    }
+    if line.len() > MOST_DIGITS {
+        return Ok(Judged::Long);
+    }
+    match hex::decode(alloc, line) {
+        Ok(message) => Ok(Judged::Message(message)),
+        Err(fault) => {
+            if fault == FromHexError::OutOfMemory {
+                return Err(CommandFault::NoMemory);
+            }
+            Ok(Judged::NotHex)
+        }
+    }
+}

@@ -1,0 +1,19 @@
+//! The commands of `kmipctl`, each a public function over a reader and a writer.
+//!
+//! `answer` and `show_lines` do the work of their commands and return a fault as a value; `run_answer`
+//! and `run_show` also print the fault and say how the program ends.
+#![tactic(auto)]
+
+mod answering;
+mod exit_status;
+mod fault;
+mod judging;
+mod lines;
+mod replies;
+mod responding;
+mod showing;
+
+pub use answering::{answer, run_answer};
+pub use exit_status::ExitStatus;
+pub use fault::CommandFault;
+pub use showing::{Form, run_show, show_lines};

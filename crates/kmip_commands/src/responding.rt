@@ -1,0 +1,107 @@
+//! The loop over the lines of a command's input.
+ghost use Rattle.std.specs.Prelude.{◌≡◌, ℕ, List, Bool, IfOk, IfSome};
+ghost use Rattle.std.specs.Io.KnownBytes.{Keeps};
+ghost use Rattle.kmip_commands.specs.Judging.{has_refused, is_refused, saying_of};
+
+use crate::exit_status::ExitStatus;
+use crate::fault::CommandFault;
+use crate::judging::{Judged, judge};
+use crate::lines::{NextLine, flush, read_line};
+use crate::replies::{REFUSED_HEX, REFUSED_LENGTH, write_text};
+use std::alloc::Global;
+use std::io::{BufRead, Write};
+
+/// What a command prints for a message of its input.
+pub(crate) trait Respond {
+    ghost refuses: { List ℕ → Bool };
+
+    /// Writes what is printed for the message, and says whether the message is refused.
+    ///
+    /// # Errors
+    ///
+    /// `Output` where the writer fails, and `NoMemory`.
+    fn respond<W: Write>(
+        &mut self,
+        alloc: Global,
+        message: &[u8],
+        writer: &mut W,
+    ) -> Result<bool, CommandFault>
+        ensures { IfOk result (λ r. r ≡ refuses message.now) };
+}
+
+/// How the program ends after a command, whose fault is printed where there is one to print.
+pub(crate) fn finished<W: Write>(
+    ended: Result<bool, CommandFault>,
+    writer: &mut W,
+) -> ExitStatus {
+    match ended {
+        Ok(false) => ExitStatus::Done,
+        Ok(true) => ExitStatus::Refused,
+        Err(fault) => {
+            if fault != CommandFault::Output {
+                let _ = writeln!(writer, "{fault}");
+                let _ = writer.flush();
+            }
+            ExitStatus::Refused
+        }
+    }
+}
+
+/// Responds to each line of the reader, and says whether a line was refused. A refused line prints
+/// why, and does not end the command.
+///
+/// # Errors
+///
+/// `Input` where the reader fails, `Output` where the writer does, and `NoMemory`.
+pub(crate) fn respond_to_lines<C: Respond, R: BufRead, W: Write>(
+    alloc: Global,
+    command: &mut C,
+    reader: &mut R,
+    writer: &mut W,
+) -> Result<bool, CommandFault>
+    ensures { IfOk result (λ r. IfSome (R.remaining reader.old)
+        (λ input. r ≡ has_refused C.refuses input)) }
+{
+    let mut line = Vec::new(alloc);
+    let mut has_refused = false;
+    for _ in 0..u64::MAX {
+        let NextLine::Line { has_more } = read_line(reader, writer, &mut line)? else {
+            flush(writer)?;
+            return Ok(has_refused);
+        };
+        let is_refused = respond_to_line(alloc, command, line.as_slice(), writer)?;
+        has_refused |= is_refused;
+        flush_unless(has_more, writer)?;
+    }
+    Err(CommandFault::Input)
+}
+
+/// Writes what is printed for a line, and says whether the line is refused.
+fn respond_to_line<C: Respond, W: Write>(
+    alloc: Global,
+    command: &mut C,
+    line: &[u8],
+    writer: &mut W,
+) -> Result<bool, CommandFault>
+    ensures { IfOk result (λ r. r ≡ is_refused C.refuses (saying_of line.now)) }
+{
+    match judge(alloc, line)? {
+        Judged::Empty => Ok(false),
+        Judged::Long => {
+            write_text(REFUSED_LENGTH, writer)?;
+            Ok(true)
+        }
+        Judged::NotHex => {
+            write_text(REFUSED_HEX, writer)?;
+            Ok(true)
+        }
+        Judged::Message(message) => command.respond(alloc, message.as_slice(), writer),
+    }
+}
+
+/// Sends on what the writer holds back, where the reader may wait for more input.
+fn flush_unless<W: Write>(has_more: bool, writer: &mut W) -> Result<(), CommandFault>
+    ensures { Keeps (W.contents writer.old) (W.contents writer.new) }
+{
+    if has_more { Ok(()) } else { flush(writer) }
+}

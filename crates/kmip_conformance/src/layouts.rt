@@ -1,0 +1,212 @@
+//! Requests laid out item by item, and changes in them.
+
+use crate::tags::{
+    ALGORITHM, ATTRIBUTES, BATCH_COUNT, BATCH_ITEM, HEADER, ID, IDENTIFIER, LENGTH, MAJOR, MASK,
+    MINOR, NAME, NAME_TYPE, NAME_VALUE, OBJECT_TYPE, OPERATION, PAYLOAD, REQUEST, REVOCATION_CODE,
+    REVOCATION_REASON, USAGE, VERSION,
+};
+use kmip_ttlv::{Bytes, Item, Tag, Text, fits, write};
+use std::alloc::{AllocError, Global};
+use std::process::Abort;
+use std::test::Fail;
+
+/// What an item holds.
+#[derive(Clone, Copy, Debug)]
+pub enum Content {
+    /// The items on the next lines, as far as these are deeper.
+    Structure,
+    Integer(i32),
+    Enumeration(u32),
+    Text(&'static str),
+    Bytes(&'static [u8]),
+}
+
+/// An item: in how many Structures it stands, its tag, and what it holds.
+#[derive(Clone, Copy, Debug)]
+pub struct Line(pub usize, pub u32, pub Content);
+
+/// A change at the first item with the tag that stands first here.
+#[derive(Clone, Copy, Debug)]
+pub enum Change {
+    /// The item is left out.
+    Without(u32),
+    /// It stands there twice.
+    Doubled(u32),
+    /// It holds this, in place of what it held.
+    Holding(u32, Content),
+    /// It stands under the second tag.
+    Retagged(u32, u32),
+    /// A further item, of the second tag, stands before it.
+    Preceded(u32, u32, Content),
+}
+
+/// Up to the one Batch Item.
+const HEAD: [Line; 7] = [
+    Line(0, REQUEST, Content::Structure),
+    Line(1, HEADER, Content::Structure),
+    Line(2, VERSION, Content::Structure),
+    Line(3, MAJOR, Content::Integer(2)),
+    Line(3, MINOR, Content::Integer(1)),
+    Line(2, BATCH_COUNT, Content::Integer(1)),
+    Line(1, BATCH_ITEM, Content::Structure),
+];
+
+/// Locate `k1`, in the Batch Item.
+pub const LOCATE: [Line; 8] = [
+    Line(2, OPERATION, Content::Enumeration(0x8)),
+    Line(2, ID, Content::Bytes(b"\x08k1")),
+    Line(2, PAYLOAD, Content::Structure),
+    Line(3, MASK, Content::Integer(5)),
+    Line(3, ATTRIBUTES, Content::Structure),
+    Line(4, NAME, Content::Structure),
+    Line(5, NAME_VALUE, Content::Text("k1")),
+    Line(5, NAME_TYPE, Content::Enumeration(1)),
+];
+
+/// Create `k1`, AES with 256 bits, to encrypt and decrypt.
+pub const CREATE: [Line; 11] = [
+    Line(2, OPERATION, Content::Enumeration(0x1)),
+    Line(2, ID, Content::Bytes(b"\x01k1")),
+    Line(2, PAYLOAD, Content::Structure),
+    Line(3, OBJECT_TYPE, Content::Enumeration(2)),
+    Line(3, ATTRIBUTES, Content::Structure),
+    Line(4, NAME, Content::Structure),
+    Line(5, NAME_VALUE, Content::Text("k1")),
+    Line(5, NAME_TYPE, Content::Enumeration(1)),
+    Line(4, ALGORITHM, Content::Enumeration(3)),
+    Line(4, LENGTH, Content::Integer(256)),
+    Line(4, USAGE, Content::Integer(0xC)),
+];
+
+/// Activate object `1`; so, but for the operation, are Get Attributes and Destroy.
+pub const ACTIVATE: [Line; 3] = [
+    Line(2, OPERATION, Content::Enumeration(0x12)),
+    Line(2, PAYLOAD, Content::Structure),
+    Line(3, IDENTIFIER, Content::Text("1")),
+];
+
+/// Revoke object `1`, for no special reason.
+pub const REVOKE: [Line; 5] = [
+    Line(2, OPERATION, Content::Enumeration(0x13)),
+    Line(2, PAYLOAD, Content::Structure),
+    Line(3, IDENTIFIER, Content::Text("1")),
+    Line(3, REVOCATION_REASON, Content::Structure),
+    Line(4, REVOCATION_CODE, Content::Enumeration(1)),
+];
+
+/// A whole request of one Batch Item.
+pub fn request(alloc: Global, batch: &[Line]) -> Result<Vec<Line>, AllocError> {
+    let mut lines = Vec::from_slice(alloc, &HEAD)?;
+    lines.extend_from_slice(batch)?;
+    Ok(lines)
+}
+
+/// The lines with a change in them.
+pub fn changed(alloc: Global, lines: &[Line], change: Change) -> Result<Vec<Line>, Fail> {
+    let tag = tag_of(change);
+    let start = lines
+        .iter()
+        .position(|line| line.1 == tag)
+        .ok_or("no item to be changed")?;
+    let (before, from) = lines.split_at(start.min(lines.len()));
+    let (line, rest) = from.split_first().ok_or("no item to be changed")?;
+    let Line(level, _, content) = *line;
+    let size = rest
+        .iter()
+        .position(|line| line.0 <= level)
+        .unwrap_or(rest.len());
+    let (held, after) = rest.split_at(size.min(rest.len()));
+
+    let mut made = Vec::from_slice(alloc, before)?;
+    match change {
+        Change::Without(_) => {}
+        Change::Doubled(_) => {
+            made.push(*line)?;
+            made.extend_from_slice(held)?;
+            made.push(*line)?;
+            made.extend_from_slice(held)?;
+        }
+        Change::Holding(_, other) => made.push(Line(level, tag, other))?,
+        Change::Retagged(_, other) => {
+            made.push(Line(level, other, content))?;
+            made.extend_from_slice(held)?;
+        }
+        Change::Preceded(_, other, further) => {
+            made.push(Line(level, other, further))?;
+            made.push(*line)?;
+            made.extend_from_slice(held)?;
+        }
+    }
+    made.extend_from_slice(after)?;
+    Ok(made)
+}
+
+fn tag_of(change: Change) -> u32 {
+    match change {
+        Change::Without(tag)
+        | Change::Doubled(tag)
+        | Change::Holding(tag, _)
+        | Change::Retagged(tag, _)
+        | Change::Preceded(tag, _, _) => tag,
+    }
+}
+
+/// The bytes of the lines, each item written after the one before it.
+pub fn bytes_of(rt: &impl Abort, alloc: Global, lines: &[Line]) -> Result<Vec<u8>, Fail> {
+    let mut items: Vec<(usize, Item)> = Vec::new(alloc);
+    for line in lines.iter().rev() {
+        let item = item_of(rt, alloc, *line, &mut items)?;
+        items.push((line.0, item))?;
+    }
+    let mut bytes = Vec::new(alloc);
+    for (_, item) in items.iter().rev() {
+        assert!(rt; fits(item));
+        write(item, &mut bytes)?;
+    }
+    Ok(bytes)
+}
+
+/// The item of a line. `later` has the items behind it, the next one last; a Structure takes its own
+/// from there.
+fn item_of(
+    rt: &impl Abort,
+    alloc: Global,
+    line: Line,
+    later: &mut Vec<(usize, Item)>,
+) -> Result<Item, Fail> {
+    let Line(level, number, content) = line;
+    assert!(rt; number < 0x100_0000);
+    let tag = Tag::new(number);
+    match content {
+        Content::Structure => {
+            let items = deeper(alloc, level, later)?;
+            Ok(Item::structure(tag, items))
+        }
+        Content::Integer(number) => Ok(Item::integer(tag, number)),
+        Content::Enumeration(number) => Ok(Item::enumeration(tag, number)),
+        Content::Text(text) => {
+            let text = Text::copied(alloc, text)?;
+            Ok(Item::text_string(tag, text))
+        }
+        Content::Bytes(bytes) => {
+            let bytes = Bytes::copied(alloc, bytes)?;
+            Ok(Item::byte_string(tag, bytes))
+        }
+    }
+}
+
+/// Takes the items deeper than the level off the end.
+fn deeper(
+    alloc: Global,
+    level: usize,
+    later: &mut Vec<(usize, Item)>,
+) -> Result<Vec<Item>, AllocError> {
+    let count = later.iter().rev().take_while(|(at, _)| *at > level).count();
+    let mut items = Vec::new(alloc);
+    for _ in 0..count {
+        if let Some((_, item)) = later.pop() {
+            items.push(item)?;
+        }
+    }
+    Ok(items)
+}

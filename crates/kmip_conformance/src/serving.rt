@@ -1,0 +1,221 @@
+//! Messages answered by a server.
+ghost use Rattle.std.specs.Prelude.{◌≤◌};
+
+use crate::vectors::{
+    ALL, CREATE_K1, CREATE_K1_REPLY, INVALID_MESSAGE_REPLY, LOCATE_K1, LOCATE_K1_FOUND,
+    LOCATE_K1_NONE, NAME_USED_REPLY,
+};
+use kmip_messages::KeyState;
+use kmip_server::Server;
+use kmip_store::{ListStore, Records};
+use std::alloc::Global;
+use std::process::Abort;
+use std::test::Fail;
+
+/// `CREATE_K1` with the name `k2`.
+const CREATE_K2: &str = "\
+    42007801000000e04200770100000038420069010000002042006a0200000004\
+    000000020000000042006b0200000004000000010000000042000d0200000004\
+    000000010000000042000f010000009842005c05000000040000000100000000\
+    4200930800000003016b31000000000042007901000000704200570500000004\
+    0000000200000000420125010000005842005301000000204200550700000002\
+    6b32000000000000420054050000000400000001000000004200280500000004\
+    000000030000000042002a0200000004000001000000000042002c0200000004\
+    0000000c00000000";
+
+/// The reply to `CREATE_K2` where the room is used up.
+const FULL_REPLY: &str = "\
+    42007b010000009842007a0100000048420069010000002042006a0200000004\
+    000000020000000042006b020000000400000001000000004200920900000008\
+    000000000000000042000d0200000004000000010000000042000f0100000040\
+    42005c050000000400000001000000004200930800000003016b310000000000\
+    42007f0500000004000000010000000042007e05000000040000010000000000";
+
+/// The reply to a message, both in hexadecimal.
+fn reply_to(alloc: Global, server: &mut Server<ListStore>, text: &str) -> Result<String, Fail> {
+    let message = hex::decode(alloc, text)?;
+    let reply = server.handle(alloc, message.as_slice(), 0)?;
+    let text = hex::encode(alloc, reply.as_slice())?;
+    Ok(text)
+}
+
+/// A request with digits put in place of others, and how it is answered.
+struct Row {
+    name: &'static str,
+    from: &'static str,
+    to: &'static str,
+    answer: &'static str,
+}
+
+/// Changes of `CREATE_K1`, each with the reason of its refusal.
+const REFUSED: [Row; 6] = [
+    Row {
+        name: "a name that is used",
+        from: "6b31",
+        to: "6b31",
+        answer: "00000035",
+    },
+    Row {
+        name: "a space in the name",
+        from: "6b31000000000000",
+        to: "6b20000000000000",
+        answer: "00000007",
+    },
+    Row {
+        name: "another algorithm",
+        from: "42002805000000040000000300000000",
+        to: "42002805000000040000000400000000",
+        answer: "00000007",
+    },
+    Row {
+        name: "another attribute in place of the usage",
+        from: "42002c0200000004",
+        to: "5400010200000004",
+        answer: "00000007",
+    },
+    Row {
+        name: "another item in place of the object type",
+        from: "4200570500000004",
+        to: "5400010500000004",
+        answer: "00000006",
+    },
+    Row {
+        name: "another length under the same algorithm",
+        from: "42002a02000000040000010000000000",
+        to: "42002a02000000040000020000000000",
+        answer: "00000007",
+    },
+];
+
+/// Changes of `LOCATE_K1`, each with the reply, where `k1` is not destroyed.
+const LOCATED: [Row; 6] = [
+    Row {
+        name: "no change",
+        from: "6b31",
+        to: "6b31",
+        answer: LOCATE_K1_FOUND,
+    },
+    Row {
+        name: "another name",
+        from: "6b31000000000000",
+        to: "6b32000000000000",
+        answer: LOCATE_K1_NONE,
+    },
+    Row {
+        name: "a longer name",
+        from: "42005507000000026b31000000000000",
+        to: "42005507000000036b31310000000000",
+        answer: LOCATE_K1_NONE,
+    },
+    Row {
+        name: "only what is on-line",
+        from: "42008e02000000040000000500000000",
+        to: "42008e02000000040000000100000000",
+        answer: LOCATE_K1_FOUND,
+    },
+    Row {
+        name: "only what is destroyed",
+        from: "42008e02000000040000000500000000",
+        to: "42008e02000000040000000400000000",
+        answer: LOCATE_K1_NONE,
+    },
+    Row {
+        name: "no mask",
+        from: "42008e0200000004",
+        to: "5400010200000004",
+        answer: LOCATE_K1_FOUND,
+    },
+];
+
+/// A server with room for this many objects, and without any.
+fn server_of(alloc: Global, room: usize) -> Server<ListStore>
+    requires { room ≤ 10000 }
+{
+    Server::new(ListStore::new(alloc, [0; 32], room))
+}
+
+/// Asks the server a request with the row's digits, and compares the reply.
+fn ask(
+    rt: &impl Abort,
+    alloc: Global,
+    server: &mut Server<ListStore>,
+    request: &str,
+    row: &Row,
+    wanted: &str,
+) -> Result<(), Fail> {
+    let message = request.replace(alloc, row.from, row.to)?;
+    let reply = reply_to(alloc, server, message.as_str())?;
+    assert_eq!(rt; reply.as_str(), wanted, "{}", row.name);
+    Ok(())
+}
+
+/// Whether the records are `k1`, as it was created.
+fn is_k1_alone(records: &ListStore) -> bool {
+    if records.count() != 1 {
+        return false;
+    }
+    match records.at(0) {
+        Some(row) => row.attrs.name.as_str() == "k1" && row.state == KeyState::PreActive,
+        None => false,
+    }
+}
+
+#[test]
+fn answers_what_is_no_request(rt: HostRuntime) -> Result<(), Fail> {
+    let mut server = server_of(rt.alloc(), 10_000);
+    let wanted = hex::decode(rt.alloc(), INVALID_MESSAGE_REPLY)?;
+    for (name, text) in &ALL {
+        let message = hex::decode(rt.alloc(), *text)?;
+        let is_reply = text.starts_with("42007b");
+        for size in 0..message.len() + usize::from(is_reply) {
+            let front = &message[..size.min(message.len())];
+            let reply = server.handle(rt.alloc(), front, 0)?;
+            assert_eq!(rt;
+                reply.as_slice(),
+                wanted.as_slice(),
+                "the first {size} bytes of {name}"
+            );
+        }
+    }
+    assert_eq!(rt; server.records().count(), 0);
+    Ok(())
+}
+
+#[test]
+fn refuses_and_changes_nothing(rt: HostRuntime) -> Result<(), Fail> {
+    let mut server = server_of(rt.alloc(), 10_000);
+    let reply = reply_to(rt.alloc(), &mut server, CREATE_K1)?;
+    assert_eq!(rt; reply.as_str(), CREATE_K1_REPLY);
+    for row in &REFUSED {
+        let wanted = NAME_USED_REPLY.replace(rt.alloc(), "00000035", row.answer)?;
+        ask(
+            &rt,
+            rt.alloc(),
+            &mut server,
+            CREATE_K1,
+            row,
+            wanted.as_str(),
+        )?;
+        assert!(rt; is_k1_alone(server.records()), "{}", row.name);
+    }
+    for row in &LOCATED {
+        ask(&rt, rt.alloc(), &mut server, LOCATE_K1, row, row.answer)?;
+    }
+    assert!(rt; is_k1_alone(server.records()));
+    Ok(())
+}
+
+#[test]
+fn keeps_to_its_room(rt: HostRuntime) -> Result<(), Fail> {
+    let mut server = server_of(rt.alloc(), 1);
+    for (request, wanted) in [
+        (CREATE_K1, CREATE_K1_REPLY),
+        (CREATE_K2, FULL_REPLY),
+        (CREATE_K1, NAME_USED_REPLY),
+    ] {
+        let reply = reply_to(rt.alloc(), &mut server, request)?;
+        assert_eq!(rt; reply.as_str(), wanted);
+        assert!(rt; is_k1_alone(server.records()));
+    }
+    Ok(())
+}

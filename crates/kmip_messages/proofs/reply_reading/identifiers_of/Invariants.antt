@@ -1,0 +1,13 @@
+-- What was read, and then what is left, is all of it.
+use Rattle.std.proofs.Common.{◌≡◌, drop}
+use Rattle.kmip_ttlv.specs.View.{views}
+use Rattle.kmip_messages.specs.Siblings.{contents}
+use Rattle.kmip_messages.specs.ReplyReading.{identifiers_in}
+use Rattle.kmip_messages.specs.declared.standard.TheConstants.{TAG_UNIQUE_IDENTIFIER}
+use Rattle.kmip_messages.proofs.IdentifierLemmas.{with_front}
+use Rattle.kmip_messages.proofs.reply_reading.identifiers_of.Given as goal
+
+abbrev pub invariant-loop-item : goal.invariant-loop-item
+invariant-loop-item l =
+    with_front l.uids.items (identifiers_in (contents TAG_UNIQUE_IDENTIFIER (views (drop l.item-index l.payload))))
+    ≡ identifiers_in (contents TAG_UNIQUE_IDENTIFIER (views l.payload))

@@ -1,0 +1,206 @@
+//! Which requests and replies have a written form. Nothing here takes memory.
+ghost use Rattle.std.specs.Prelude.{◌≡◌, ◌+◌, ◌≤◌, ◌<◌, ◌==◌, pos, true, false, map, nat_le, length};
+ghost use Rattle.std.specs.List.{list_all};
+ghost use Rattle.std.specs.Option.{option_map_or};
+ghost use Rattle.kmip_ttlv.specs.Node.{nodes_of};
+ghost use Rattle.kmip_ttlv.specs.Sizes.{size, sizes, padded};
+ghost use Rattle.kmip_messages.specs.Ranges.{is_name, is_identifier, is_batch_id, ask_fits, request_fits};
+ghost use Rattle.kmip_messages.specs.Written.{uid_item, reply_item};
+ghost use Rattle.kmip_messages.specs.Fits.{is_own, outcome_fits, reply_fits};
+ghost use Rattle.kmip_messages.specs.MessageSizes.{
+    size_if_any, number_size, text_size, name_size, attrs_size, outcome_size, IsCapped,
+};
+
+use crate::ranges::{attrs_fit, is_batch_id, is_identifier, is_name, is_revocation_code};
+use crate::reply::{Outcome, Reply};
+use crate::request::{Ask, Attrs, Request};
+use crate::standard::{
+    OPERATION_ACTIVATE, OPERATION_CREATE, OPERATION_DESTROY, OPERATION_GET_ATTRIBUTES,
+    OPERATION_LOCATE, OPERATION_REVOKE,
+};
+use kmip_ttlv::{Bytes, MAX_SIZE, Text};
+
+/// Whether the request has a written form: its values are in their ranges. Takes no memory.
+pub fn request_fits(request: &Request) -> bool
+    ensures { result ≡ request_fits request.now }
+{
+    id_fits(&request.id) && ask_fits(&request.ask)
+}
+
+/// Whether what is asked is in its ranges.
+fn ask_fits(ask: &Ask) -> bool
+    ensures { result ≡ ask_fits ask.now }
+{
+    match ask {
+        Ask::Create(attrs) => attrs_fit(attrs),
+        Ask::Locate { mask: _, filter } => is_named(&filter.name),
+        Ask::GetAttributes(uid) | Ask::Activate(uid) | Ask::Destroy(uid) => {
+            is_identifier(uid.as_str())
+        }
+        Ask::Revoke(uid, code) => is_identifier(uid.as_str()) && is_revocation_code(*code),
+    }
+}
+
+/// Whether there is a name in its range.
+fn is_named(name: &Option<Text>) -> bool
+    ensures { result ≡ option_map_or is_name name.now false }
+{
+    match name {
+        Some(name) => is_name(name.as_str()),
+        None => false,
+    }
+}
+
+/// Whether the reply has a written form: its values are in their ranges, a success stands under its
+/// own operation, and the message has at most 8,192 bytes. Takes no memory.
+pub fn reply_fits(reply: &Reply) -> bool
+    ensures { result ≡ reply_fits reply.now }
+{
+    id_fits(&reply.id) && outcome_fits(reply.operation, &reply.outcome) && is_short(reply)
+}
+
+/// Whether the Unique Batch Item ID is in its range, where there is one.
+fn id_fits(id: &Option<Bytes>) -> bool
+    ensures { result ≡ option_map_or is_batch_id id.now true }
+{
+    match id {
+        Some(id) => is_batch_id(id.as_slice()),
+        None => true,
+    }
+}
+
+/// Whether the outcome stands under its own operation, with identifiers in their range.
+fn outcome_fits(asked: Option<u32>, outcome: &Outcome) -> bool
+    ensures { result ≡ outcome_fits asked outcome.now }
+{
+    match outcome {
+        Outcome::Created(uid) => is_own(OPERATION_CREATE, asked) && is_identifier(uid.as_str()),
+        Outcome::Located(uids) => {
+            is_own(OPERATION_LOCATE, asked) && are_identifiers(uids.as_slice())
+        }
+        Outcome::Attributes(uid, _) => {
+            is_own(OPERATION_GET_ATTRIBUTES, asked) && is_identifier(uid.as_str())
+        }
+        Outcome::Activated(uid) => is_own(OPERATION_ACTIVATE, asked) && is_identifier(uid.as_str()),
+        Outcome::Revoked(uid) => is_own(OPERATION_REVOKE, asked) && is_identifier(uid.as_str()),
+        Outcome::Destroyed(uid) => is_own(OPERATION_DESTROY, asked) && is_identifier(uid.as_str()),
+        Outcome::Failed(_) => true,
+    }
+}
+
+fn is_own(operation: u32, asked: Option<u32>) -> bool
+    ensures { result ≡ is_own operation asked }
+{
+    match asked {
+        Some(asked) => asked == operation,
+        None => false,
+    }
+}
+
+fn are_identifiers(uids: &[Text]) -> bool
+    ensures { result ≡ list_all is_identifier uids.now }
+{
+    uids.iter().all(|uid| is_identifier(uid.as_str()))
+}
+
+/// Whether the written reply has at most 8,192 bytes.
+fn is_short(reply: &Reply) -> bool
+    ensures { result ≡ nat_le (size (reply_item reply.now (pos 0))) 8192 }
+{
+    let operation = number_size(&reply.operation);
+    let id = id_size(&reply.id);
+    let outcome = outcome_size(&reply.outcome);
+    96 + operation + id + outcome <= MAX_SIZE
+}
+
+/// How many bytes an outcome takes in its Batch Item, or more than a message may have.
+fn outcome_size(outcome: &Outcome) -> usize
+    ensures size { IsCapped result (outcome_size outcome.now) }
+    ensures small { result ≤ 100000 }
+{
+    match outcome {
+        Outcome::Created(uid) => 40 + text_size(uid.as_str()),
+        Outcome::Located(uids) => 24 + texts_size(uids.as_slice()),
+        Outcome::Attributes(uid, attrs) => 24 + text_size(uid.as_str()) + attrs_size(attrs),
+        Outcome::Activated(uid) | Outcome::Revoked(uid) | Outcome::Destroyed(uid) => {
+            24 + text_size(uid.as_str())
+        }
+        Outcome::Failed(reason) => 16 + number_size(reason),
+    }
+}
+
+/// How many bytes the Attributes take, or more than a message may have.
+fn attrs_size(attrs: &Attrs) -> usize
+    ensures size { IsCapped result (attrs_size attrs.now) }
+    ensures small { result ≤ 20000 }
+{
+    let numbers = number_size(&attrs.object_type)
+        + number_size(&attrs.algorithm)
+        + number_size(&attrs.length)
+        + number_size(&attrs.usage)
+        + number_size(&attrs.state);
+    8 + numbers + name_size(&attrs.name)
+}
+
+/// How many bytes a Name takes, where there is one, or more than a message may have.
+fn name_size(name: &Option<Text>) -> usize
+    ensures size { IsCapped result (name_size name.now) }
+    ensures small { result ≤ 17000 }
+{
+    match name {
+        Some(name) => 24 + text_size(name.as_str()),
+        None => 0,
+    }
+}
+
+/// How many bytes a Unique Batch Item ID takes, where there is one, or more than a message may have.
+fn id_size(id: &Option<Bytes>) -> usize
+    ensures size { IsCapped result (size_if_any text_size id.now) }
+    ensures small { result ≤ 16400 }
+{
+    match id {
+        Some(id) => padded_size(id.as_slice().len()),
+        None => 0,
+    }
+}
+
+/// How many bytes a number takes, where there is one.
+fn number_size<T>(number: &Option<T>) -> usize
+    ensures { result ≡ number_size number.now }
+{
+    match number {
+        Some(_) => 16,
+        None => 0,
+    }
+}
+
+/// How many bytes the Unique Identifiers take together, or more than a message may have.
+fn texts_size(uids: &[Text]) -> usize
+    ensures size { IsCapped result (sizes (nodes_of (map uid_item uids.now))) }
+    ensures small { result ≤ 50000 }
+{
+    let mut size = 0;
+    for uid in uids {
+        size += text_size(uid.as_str());
+        if size > MAX_SIZE {
+            return size;
+        }
+    }
+    size
+}
+
+/// How many bytes a Text String takes, or more than a message may have.
+fn text_size(text: &str) -> usize
+    ensures size { IsCapped result (text_size text.now) }
+    ensures small { result ≤ 16400 }
+{
+    padded_size(text.len())
+}
+
+/// How many bytes an item takes whose value has this length, or more than a message may have.
+fn padded_size(len: usize) -> usize
+    ensures size { IsCapped result (8 + padded len) }
+    ensures small { result ≤ 16400 }
+{
+    8 + len.min(MAX_SIZE).div_ceil(8) * 8
+}

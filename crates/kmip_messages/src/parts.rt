@@ -1,0 +1,77 @@
+//! What both kinds of message have: their items, the Unique Batch Item ID, and Unique Identifiers.
+ghost use Rattle.std.specs.Prelude.{◌≡◌, true, IsTrue, IfOk};
+ghost use Rattle.std.specs.Option.{option_map_or};
+ghost use Rattle.kmip_ttlv.specs.View.{view, views};
+ghost use Rattle.kmip_messages.specs.Ranges.{is_identifier, is_batch_id};
+ghost use Rattle.kmip_messages.specs.Reading.{Gives};
+ghost use Rattle.kmip_messages.specs.Whole.{item_in};
+ghost use Rattle.kmip_messages.specs.Parts.{message_at, id_at, identifier_at};
+
+use crate::fault::MessageFault;
+use crate::fields::{bytes_if_any, the_text, within};
+use crate::ranges::{is_batch_id, is_identifier};
+use crate::standard::{TAG_UNIQUE_BATCH_ITEM_ID, TAG_UNIQUE_IDENTIFIER};
+use kmip_ttlv::{Bytes, Item, Text, read};
+use std::alloc::Global;
+
+/// The item that all the bytes are.
+#[tactic(auto, unfolding(crate::specs::Whole::item_in))]
+pub(crate) fn whole_item(alloc: Global, bytes: &[u8]) -> Result<Item, MessageFault>
+    ensures { Gives (λ i. view i) result (item_in bytes.now) }
+{
+    match read(alloc, bytes) {
+        Ok((item, size)) => {
+            if size == bytes.len() {
+                Ok(item)
+            } else {
+                Err(MessageFault::NotMessage)
+            }
+        }
+        Err(fault) => Err(MessageFault::from(fault)),
+    }
+}
+
+/// The items of a message of this tag.
+#[tactic(auto, unfolding(crate::specs::Parts::message_at))]
+pub(crate) fn message_of(item: &Item, tag: u32) -> Result<&[Item], MessageFault>
+    ensures { Gives (λ s. views s.now) result (message_at tag (view item.now)) }
+{
+    match item.as_structure() {
+        Some(items) => {
+            if item.tag().number() == tag {
+                Ok(items)
+            } else {
+                Err(MessageFault::NotMessage)
+            }
+        }
+        None => Err(MessageFault::NotMessage),
+    }
+}
+
+/// The Unique Batch Item ID, where there is one.
+#[tactic(auto, unfolding(crate::specs::Parts::id_at))]
+pub(crate) fn id_of(alloc: Global, batch: &[Item]) -> Result<Option<Bytes>, MessageFault>
+    ensures exact { Gives (λ o. o) result (id_at (views batch.now)) }
+    ensures fits { IfOk result (λ o. IsTrue (option_map_or is_batch_id o true)) }
+{
+    match bytes_if_any(batch, TAG_UNIQUE_BATCH_ITEM_ID)? {
+        None => Ok(None),
+        Some(id) => {
+            within(TAG_UNIQUE_BATCH_ITEM_ID, is_batch_id(id))?;
+            let id = Bytes::copied(alloc, id)?;
+            Ok(Some(id))
+        }
+    }
+}
+
+/// The one Unique Identifier.
+#[tactic(auto, unfolding(crate::specs::Parts::identifier_at))]
+pub(crate) fn identifier_of(alloc: Global, payload: &[Item]) -> Result<Text, MessageFault>
+    ensures exact { Gives (λ s. s) result (identifier_at (views payload.now)) }
+    ensures fits { IfOk result (λ s. IsTrue (is_identifier s)) }
+{
+    let uid = the_text(payload, TAG_UNIQUE_IDENTIFIER)?;
+    within(TAG_UNIQUE_IDENTIFIER, is_identifier(uid))?;
+    let uid = Text::copied(alloc, uid)?;
+    Ok(uid)
+}

@@ -1,0 +1,283 @@
+//! Replies from bytes.
+ghost use Rattle.std.specs.Prelude.{◌≡◌};
+ghost use Rattle.kmip_ttlv.specs.Node.{content_of};
+ghost use Rattle.kmip_ttlv.specs.View.{view, views};
+ghost use Rattle.kmip_messages.specs.Siblings.{contents};
+ghost use Rattle.kmip_messages.specs.Reading.{Gives};
+ghost use Rattle.kmip_messages.specs.Whole.{reply_read};
+ghost use Rattle.kmip_messages.specs.ReplyReading.{
+    reply_header_at, reply_batch_at, identifier_in, identifiers_in, any_name_at, attrs_at, attributes_at, located_at,
+    outcome_in, payload_at, success_in, failed_at, is_status, outcome_at, reply_at,
+};
+
+use crate::fault::MessageFault;
+use crate::fields::{
+    check, enumeration_if_any, integer_if_any, sole_structure, structure_if_any, the_enumeration,
+    the_integer, the_structure, the_text, within,
+};
+use crate::parts::{id_of, identifier_of, message_of, whole_item};
+use crate::ranges::{is_identifier, is_operation};
+use crate::reply::{Outcome, Reply};
+use crate::request::Attrs;
+use crate::standard::{
+    NAME_TYPE_UNINTERPRETED_TEXT_STRING, OPERATION_ACTIVATE, OPERATION_CREATE,
+    OPERATION_GET_ATTRIBUTES, OPERATION_LOCATE, OPERATION_REVOKE, STATUS_OPERATION_FAILED,
+    STATUS_SUCCESS, TAG_ATTRIBUTES, TAG_BATCH_COUNT, TAG_BATCH_ITEM, TAG_CRYPTOGRAPHIC_ALGORITHM,
+    TAG_CRYPTOGRAPHIC_LENGTH, TAG_CRYPTOGRAPHIC_USAGE_MASK, TAG_NAME, TAG_NAME_TYPE, TAG_NAME_VALUE,
+    TAG_OBJECT_TYPE, TAG_OPERATION, TAG_PROTOCOL_VERSION, TAG_PROTOCOL_VERSION_MAJOR,
+    TAG_PROTOCOL_VERSION_MINOR, TAG_RESPONSE_HEADER, TAG_RESPONSE_MESSAGE, TAG_RESPONSE_PAYLOAD,
+    TAG_RESULT_REASON, TAG_RESULT_STATUS, TAG_STATE, TAG_UNIQUE_IDENTIFIER, VERSION_MAJOR,
+};
+use crate::texts::Texts;
+use kmip_ttlv::{Item, Tag, Text};
+use std::alloc::Global;
+
+/// The reply that all the bytes are.
+///
+/// # Errors
+/// The first fault in the order of the checks; want of memory otherwise.
+#[tactic(auto, unfolding(crate::specs::Whole::reply_read))]
+pub fn read_reply(alloc: Global, bytes: &[u8]) -> Result<Reply, MessageFault>
+    ensures { Gives (λ r. r) result (reply_read bytes.now) }
+{
+    let item = whole_item(alloc, bytes)?;
+    let reply = reply_of(alloc, &item)?;
+    Ok(reply)
+}
+
+/// The reply that an item is.
+#[tactic(auto, unfolding(crate::specs::ReplyReading::reply_at))]
+fn reply_of(alloc: Global, item: &Item) -> Result<Reply, MessageFault>
+    ensures { Gives (λ r. r) result (reply_at (view item.now)) }
+{
+    let batch = batch_of(item)?;
+    let id = id_of(alloc, batch)?;
+    let operation = enumeration_if_any(batch, TAG_OPERATION)?;
+    let outcome = outcome_of(alloc, operation, batch)?;
+    Ok(Reply {
+        operation,
+        id,
+        outcome,
+    })
+}
+
+/// The items of the one Batch Item of a Response Message.
+#[tactic(auto, unfolding(crate::specs::ReplyReading::reply_batch_at))]
+fn batch_of(item: &Item) -> Result<&[Item], MessageFault>
+    ensures { Gives (λ s. views s.now) result (reply_batch_at (view item.now)) }
+{
+    let message = message_of(item, TAG_RESPONSE_MESSAGE)?;
+    header_of(message)?;
+    let batch = sole_structure(message, TAG_BATCH_ITEM)?;
+    Ok(batch)
+}
+
+/// The header of a reply has the version 2, with any minor number, and counts one Batch Item.
+#[tactic(auto, unfolding(crate::specs::ReplyReading::reply_header_at))]
+fn header_of(message: &[Item]) -> Result<(), MessageFault>
+    ensures { Gives (λ u. u) result (reply_header_at (views message.now)) }
+{
+    let header = the_structure(message, TAG_RESPONSE_HEADER)?;
+    let version = the_structure(header, TAG_PROTOCOL_VERSION)?;
+    let major = the_integer(version, TAG_PROTOCOL_VERSION_MAJOR)?;
+    the_integer(version, TAG_PROTOCOL_VERSION_MINOR)?;
+    check(major == VERSION_MAJOR, MessageFault::Version)?;
+    let count = the_integer(header, TAG_BATCH_COUNT)?;
+    check(count == 1, MessageFault::BatchCount)?;
+    Ok(())
+}
+
+/// How the operation went.
+#[tactic(auto, unfolding(crate::specs::ReplyReading::outcome_at))]
+fn outcome_of(
+    alloc: Global,
+    operation: Option<u32>,
+    batch: &[Item],
+) -> Result<Outcome, MessageFault>
+    ensures { Gives (λ o. o) result (outcome_at operation (views batch.now)) }
+{
+    let status = the_enumeration(batch, TAG_RESULT_STATUS)?;
+    within(TAG_RESULT_STATUS, is_status(status))?;
+    if status == STATUS_SUCCESS {
+        let outcome = success_of(alloc, operation, batch)?;
+        Ok(outcome)
+    } else {
+        let outcome = failure_of(batch)?;
+        Ok(outcome)
+    }
+}
+
+fn is_status(status: u32) -> bool
+    ensures { result ≡ is_status status }
+{
+    status == STATUS_SUCCESS || status == STATUS_OPERATION_FAILED
+}
+
+/// A failure, with its reason where there is one.
+#[tactic(auto, unfolding(crate::specs::ReplyReading::failed_at))]
+fn failure_of(batch: &[Item]) -> Result<Outcome, MessageFault>
+    ensures { Gives (λ o. o) result (failed_at (views batch.now)) }
+{
+    let reason = enumeration_if_any(batch, TAG_RESULT_REASON)?;
+    Ok(Outcome::Failed(reason))
+}
+
+/// A success of this operation, which has to be one of the six.
+fn success_of(
+    alloc: Global,
+    operation: Option<u32>,
+    batch: &[Item],
+) -> Result<Outcome, MessageFault>
+    ensures { Gives (λ o. o) result (success_in operation (views batch.now)) }
+{
+    let Some(operation) = operation else {
+        return Err(MessageFault::Missing(Tag::new(TAG_OPERATION)));
+    };
+    check(is_operation(operation), MessageFault::UnknownOperation)?;
+    if operation == OPERATION_LOCATE {
+        let outcome = located_of(alloc, batch)?;
+        Ok(outcome)
+    } else {
+        let outcome = payload_of(alloc, operation, batch)?;
+        Ok(outcome)
+    }
+}
+
+/// The identifiers that a Locate found; without a payload none.
+#[tactic(auto, unfolding(crate::specs::ReplyReading::located_at))]
+fn located_of(alloc: Global, batch: &[Item]) -> Result<Outcome, MessageFault>
+    ensures { Gives (λ o. o) result (located_at (views batch.now)) }
+{
+    match structure_if_any(batch, TAG_RESPONSE_PAYLOAD)? {
+        None => Ok(Outcome::Located(Texts::new(alloc))),
+        Some(payload) => {
+            let uids = identifiers_of(alloc, payload)?;
+            Ok(Outcome::Located(uids))
+        }
+    }
+}
+
+/// The Unique Identifiers of a payload, of which there may be any number.
+fn identifiers_of(alloc: Global, payload: &[Item]) -> Result<Texts, MessageFault>
+    ensures { Gives (λ t. t) result (identifiers_in (contents TAG_UNIQUE_IDENTIFIER (views payload.now))) }
+{
+    let mut uids = Vec::new(alloc);
+    for item in payload {
+        if item.tag().number() == TAG_UNIQUE_IDENTIFIER {
+            let uid = identifier_in(alloc, item)?;
+            uids.push(uid)?;
+        }
+    }
+    Ok(Texts::from_vec(uids))
+}
+
+/// The identifier that an item is.
+#[tactic(auto, unfolding(crate::specs::ReplyReading::identifier_in))]
+fn identifier_in(alloc: Global, item: &Item) -> Result<Text, MessageFault>
+    ensures { Gives (λ t. t) result (identifier_in (content_of (view item.now))) }
+{
+    let Some(uid) = item.as_text_string() else {
+        return Err(MessageFault::WrongType(Tag::new(TAG_UNIQUE_IDENTIFIER)));
+    };
+    within(TAG_UNIQUE_IDENTIFIER, is_identifier(uid))?;
+    let uid = Text::copied(alloc, uid)?;
+    Ok(uid)
+}
+
+/// What the payload of an operation other than Locate says.
+#[tactic(auto, unfolding(crate::specs::ReplyReading::payload_at))]
+fn payload_of(
+    alloc: Global,
+    operation: u32,
+    batch: &[Item],
+) -> Result<Outcome, MessageFault>
+    ensures { Gives (λ o. o) result (payload_at operation (views batch.now)) }
+{
+    let payload = the_structure(batch, TAG_RESPONSE_PAYLOAD)?;
+    let outcome = outcome_in(alloc, operation, payload)?;
+    Ok(outcome)
+}
+
+/// What this payload of the operation says.
+fn outcome_in(
+    alloc: Global,
+    operation: u32,
+    payload: &[Item],
+) -> Result<Outcome, MessageFault>
+    ensures { Gives (λ o. o) result (outcome_in operation (views payload.now)) }
+{
+    match operation {
+        OPERATION_CREATE => {
+            let uid = identifier_of(alloc, payload)?;
+            Ok(Outcome::Created(uid))
+        }
+        OPERATION_GET_ATTRIBUTES => {
+            let outcome = attributes_of(alloc, payload)?;
+            Ok(outcome)
+        }
+        OPERATION_ACTIVATE => {
+            let uid = identifier_of(alloc, payload)?;
+            Ok(Outcome::Activated(uid))
+        }
+        OPERATION_REVOKE => {
+            let uid = identifier_of(alloc, payload)?;
+            Ok(Outcome::Revoked(uid))
+        }
+        _ => {
+            let uid = identifier_of(alloc, payload)?;
+            Ok(Outcome::Destroyed(uid))
+        }
+    }
+}
+
+/// The identifier and the attributes that a Get Attributes answers.
+#[tactic(auto, unfolding(crate::specs::ReplyReading::attributes_at))]
+fn attributes_of(alloc: Global, payload: &[Item]) -> Result<Outcome, MessageFault>
+    ensures { Gives (λ o. o) result (attributes_at (views payload.now)) }
+{
+    let uid = identifier_of(alloc, payload)?;
+    let attributes = the_structure(payload, TAG_ATTRIBUTES)?;
+    let attrs = attrs_of(alloc, attributes)?;
+    Ok(Outcome::Attributes(uid, attrs))
+}
+
+/// The attributes of the profile that are given.
+#[tactic(auto, unfolding(crate::specs::ReplyReading::attrs_at))]
+fn attrs_of(alloc: Global, attributes: &[Item]) -> Result<Attrs, MessageFault>
+    ensures { Gives (λ a. a) result (attrs_at (views attributes.now)) }
+{
+    let object_type = enumeration_if_any(attributes, TAG_OBJECT_TYPE)?;
+    let name = name_of(alloc, attributes)?;
+    let algorithm = enumeration_if_any(attributes, TAG_CRYPTOGRAPHIC_ALGORITHM)?;
+    let length = integer_if_any(attributes, TAG_CRYPTOGRAPHIC_LENGTH)?;
+    let usage = integer_if_any(attributes, TAG_CRYPTOGRAPHIC_USAGE_MASK)?;
+    let state = enumeration_if_any(attributes, TAG_STATE)?;
+    Ok(Attrs {
+        object_type,
+        name,
+        algorithm,
+        length,
+        usage,
+        state,
+    })
+}
+
+/// The Name Value, of any text, where there is a Name.
+#[tactic(auto, unfolding(crate::specs::ReplyReading::any_name_at))]
+fn name_of(alloc: Global, attributes: &[Item]) -> Result<Option<Text>, MessageFault>
+    ensures { Gives (λ o. o) result (any_name_at (views attributes.now)) }
+{
+    match structure_if_any(attributes, TAG_NAME)? {
+        None => Ok(None),
+        Some(parts) => {
+            let value = the_text(parts, TAG_NAME_VALUE)?;
+            let kind = the_enumeration(parts, TAG_NAME_TYPE)?;
+            within(
+                TAG_NAME_TYPE,
+                kind == NAME_TYPE_UNINTERPRETED_TEXT_STRING,
+            )?;
+            let name = Text::copied(alloc, value)?;
+            Ok(Some(name))
+        }
+    }
+}

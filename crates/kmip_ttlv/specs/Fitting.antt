@@ -1,0 +1,73 @@
+-- The ranges of values, and how deep an item is.
+-- Source: KMIP 2.1, TTLV Encoding, Type and Value.
+use Rattle.std.specs.Prelude.{◌≡◌, ℕ, ◌+◌, ◌%◌, ◌^◌, ◌<◌, max, length, FitsSigned, IsUtf8}
+use Rattle.std.specs.Int.{w32, w64}
+use Rattle.kmip_ttlv.specs.Node.{
+  Node,
+  node,
+  Content,
+  structure,
+  integer,
+  long_integer,
+  big_integer,
+  enumeration,
+  boolean,
+  text_string,
+  byte_string,
+  date_time,
+  interval,
+  date_time_extended,
+  Nodes,
+  no_more,
+  more,
+}
+
+-- A tag has three bytes, and a value is in the range of its type. A Big Integer is made of groups of
+-- eight bytes, of which there is at least one.
+abbrev mutual
+  pub IsInRange : Node → Type 0
+  IsInRange (node tag content) = (tag < 2 ^ 24) × IsContentInRange content
+
+  pub IsContentInRange : Content → Type 0
+  IsContentInRange (structure items) = AreInRange items
+  IsContentInRange (integer z) = FitsSigned w32 z
+  IsContentInRange (long_integer z) = FitsSigned w64 z
+  IsContentInRange (big_integer octets) = (0 < length octets) × (length octets % 8 ≡ 0)
+  IsContentInRange (enumeration n) = n < 2 ^ 32
+  IsContentInRange (boolean b) = Unit {0}
+  IsContentInRange (text_string text) = IsUtf8 text
+  IsContentInRange (byte_string octets) = Unit {0}
+  IsContentInRange (date_time z) = FitsSigned w64 z
+  IsContentInRange (interval n) = n < 2 ^ 32
+  IsContentInRange (date_time_extended z) = FitsSigned w64 z
+
+  pub AreInRange : Nodes → Type 0
+  AreInRange no_more = Unit {0}
+  AreInRange (more n ns) = IsInRange n × AreInRange ns
+
+-- Each Big Integer is made of groups of eight bytes: what the types of the code do not say of an item.
+abbrev mutual
+  pub HasWholeGroups : Node → Type 0
+  HasWholeGroups (node tag content) = IsMadeOfWholeGroups content
+
+  pub IsMadeOfWholeGroups : Content → Type 0
+  IsMadeOfWholeGroups (structure items) = HaveWholeGroups items
+  IsMadeOfWholeGroups (big_integer octets) = (0 < length octets) × (length octets % 8 ≡ 0)
+  IsMadeOfWholeGroups leaf = Unit {0}
+
+  pub HaveWholeGroups : Nodes → Type 0
+  HaveWholeGroups no_more = Unit {0}
+  HaveWholeGroups (more n ns) = HasWholeGroups n × HaveWholeGroups ns
+
+-- one level for an item without children, else one more than the deepest child has
+abbrev mutual
+  pub depth : Node → ℕ
+  depth (node tag content) = 1 + content_depth content
+
+  pub content_depth : Content → ℕ
+  content_depth (structure items) = depths items
+  content_depth leaf = 0
+
+  pub depths : Nodes → ℕ
+  depths no_more = 0
+  depths (more n ns) = max (depth n) (depths ns)

@@ -1,0 +1,30 @@
+-- The checks of an item's head, in their order, and the first of them to fail.
+-- Source: KMIP 2.1, TTLV Encoding.
+use Rattle.std.specs.Prelude.{ℕ, ◌+◌, Bool, true, false, not, ◌&&◌, nat_lt, if◌then◌else◌, List, length, drop, slice_index, Option, Some, None, Result, Ok, Err}
+use Rattle.byteorder.specs.Endian.{big_number}
+use Rattle.kmip_ttlv.specs.declared.fault.TtlvFault.{TtlvFault}
+use Rattle.kmip_ttlv.specs.declared.fault.TtlvFault.TheVariants.{Short, UnknownType, BadLength, ChildrenOverrun, TooLong}
+use Rattle.kmip_ttlv.specs.declared.item_type.ItemType.{ItemType}
+use Rattle.kmip_ttlv.specs.Types.{type_of_byte, is_allowed}
+use Rattle.kmip_ttlv.specs.Sizes.{padded}
+
+-- the fault of an item that passes the end: the outermost is short, a child passes its parent's end
+unfoldable pub overrun : Bool → ℕ → TtlvFault
+overrun true at = Short at
+overrun false at = ChildrenOverrun at
+
+-- the tag, the type and the length of the value, where the type is known
+unfoldable pub typed_head_at : Bool → ℕ → List ℕ → Option ItemType → ℕ → Result (ℕ × ItemType × ℕ) TtlvFault
+typed_head_at outermost at bytes None len = Err (UnknownType at)
+typed_head_at outermost at bytes (Some type) len =
+    if not (is_allowed type len) then Err (BadLength at)
+    else if outermost && nat_lt 8192 (8 + padded len) then Err (TooLong at)
+    else if nat_lt (length bytes) (8 + padded len) then Err (overrun outermost at)
+    else Ok (big_number 3 bytes, type, len)
+
+-- The tag, the type and the length of the value of the item at the front of the bytes, which begin at
+-- this offset and end where the item's parent does.
+unfoldable pub head_at : Bool → ℕ → List ℕ → Result (ℕ × ItemType × ℕ) TtlvFault
+head_at outermost at bytes =
+    if nat_lt (length bytes) 8 then Err (overrun outermost at)
+    else typed_head_at outermost at bytes (type_of_byte (slice_index bytes 3)) (big_number 4 (drop 4 bytes))

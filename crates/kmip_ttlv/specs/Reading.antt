@@ -1,0 +1,126 @@
+-- Reading as a function: the item at the front of some bytes, or the first fault.
+-- Source: KMIP 2.1, TTLV Encoding.
+use Rattle.std.specs.Prelude.{◌≡◌, ℕ, zero, suc, ◌+◌, ◌==◌, ◌⊎◌, Bool, true, false, List, [], ◌∷◌, length, take, drop, if◌then◌else◌, Result, Ok, Err}
+use Rattle.std.specs.Int.{w32, w64, cast_signed}
+use Rattle.std.specs.Str.{is_utf8}
+use Rattle.byteorder.specs.Endian.{big_number}
+use Rattle.kmip_ttlv.specs.declared.fault.TtlvFault.{TtlvFault}
+use Rattle.kmip_ttlv.specs.declared.fault.TtlvFault.TheVariants.{BadBoolean, BadText, TooDeep, NoMemory}
+use Rattle.kmip_ttlv.specs.declared.item.Item.{Item}
+use Rattle.kmip_ttlv.specs.declared.item_type.ItemType.{ItemType}
+use Rattle.kmip_ttlv.specs.declared.item_type.ItemType.TheVariants.{
+  Structure,
+  Integer,
+  LongInteger,
+  BigInteger,
+  Enumeration,
+  Boolean,
+  TextString,
+  ByteString,
+  DateTime,
+  Interval,
+  DateTimeExtended,
+}
+use Rattle.kmip_ttlv.specs.Node.{
+  Node,
+  node,
+  Content,
+  structure,
+  integer,
+  long_integer,
+  big_integer,
+  enumeration,
+  boolean,
+  text_string,
+  byte_string,
+  date_time,
+  interval,
+  date_time_extended,
+  nodes_of,
+}
+use Rattle.kmip_ttlv.specs.View.{view}
+use Rattle.kmip_ttlv.specs.Sizes.{padded}
+use Rattle.kmip_ttlv.specs.Heads.{head_at}
+
+-- the second step, where the first gave a value
+infixl 10 ◌>>=◌
+abbrev pub ◌>>=◌ : {A B : Type 0} → Result A TtlvFault → (A → Result B TtlvFault) → Result B TtlvFault
+(Ok x) >>= f = f x
+(Err e) >>= f = Err e
+
+-- a reader of the item at the front of bytes that begin at an offset: the item and its size
+abbrev pub Reader : Type 0
+Reader = ℕ → List ℕ → Result (Node × ℕ) TtlvFault
+
+-- The items that take up all of the bytes, of which there are at most as many as bytes.
+unfoldable pub all_at : Reader → ℕ → ℕ → List ℕ → Result (List Node) TtlvFault
+all_at reader zero at bytes = Ok []
+all_at reader (suc most) at [] = Ok []
+all_at reader (suc most) at (b ∷ bs) = do
+  first ← reader at (b ∷ bs)
+  others ← all_at reader most (at + first.1) (drop first.1 (b ∷ bs))
+  Ok (first.0 ∷ others)
+
+unfoldable pub boolean_at : ℕ → ℕ → Result Bool TtlvFault
+boolean_at at zero = Ok false
+boolean_at at (suc zero) = Ok true
+boolean_at at (suc (suc n)) = Err (BadBoolean at)
+
+unfoldable pub text_at : ℕ → List ℕ → Result (List ℕ) TtlvFault
+text_at at text = if is_utf8 text then Ok text else Err (BadText at)
+
+-- the content that a value of this type is, of the item at this offset
+unfoldable pub value_at : Reader → ℕ → ItemType → List ℕ → Result Content TtlvFault
+value_at reader at Structure value = do
+  items ← all_at reader (length value) (at + 8) value
+  Ok (structure (nodes_of items))
+value_at reader at Integer value = Ok (integer (cast_signed w32 (big_number 4 value)))
+value_at reader at LongInteger value = Ok (long_integer (cast_signed w64 (big_number 8 value)))
+value_at reader at BigInteger value = Ok (big_integer value)
+value_at reader at Enumeration value = Ok (enumeration (big_number 4 value))
+value_at reader at Boolean value = do
+  truth ← boolean_at at (big_number 8 value)
+  Ok (boolean truth)
+value_at reader at TextString value = do
+  text ← text_at at value
+  Ok (text_string text)
+value_at reader at ByteString value = Ok (byte_string value)
+value_at reader at DateTime value = Ok (date_time (cast_signed w64 (big_number 8 value)))
+value_at reader at Interval value = Ok (interval (big_number 4 value))
+value_at reader at DateTimeExtended value = Ok (date_time_extended (cast_signed w64 (big_number 8 value)))
+
+-- The item at the front of the bytes, which begin at this offset and end where the item's parent does,
+-- and its size with the padding. So many levels are left for it: 16 for the outermost item.
+unfoldable pub item_at : ℕ → ℕ → List ℕ → Result (Node × ℕ) TtlvFault
+item_at zero at bytes = Err (TooDeep at)
+item_at (suc left) at bytes = do
+  found ← head_at (suc left == 16) at bytes
+  content ← value_at (item_at left) at found.1 (take found.2 (drop 8 bytes))
+  Ok (node found.0 content, 8 + padded found.2)
+
+-- ---- what the code answers
+
+-- the code's fault is the fault of reading, but for want of memory
+abbrev pub Fails : {Y : Type 0} → TtlvFault → Result Y TtlvFault → Type 0
+Fails NoMemory read = Unit {0}
+Fails e read = read ≡ Err e
+
+-- What the code answered, seen by a view, is what reading gives, unless memory ran out.
+abbrev pub Gives : {X Y : Type 0} → (X → Y) → Result X TtlvFault → Result Y TtlvFault → Type 0
+Gives seen (Ok x) read = read ≡ Ok (seen x)
+Gives seen (Err e) read = Fails e read
+
+-- the same for an item and its size
+abbrev pub ReadsAs : Result (Item × ℕ) TtlvFault → Result (Node × ℕ) TtlvFault → Type 0
+ReadsAs (Ok x) read = read ≡ Ok (view x.0, x.1)
+ReadsAs (Err e) read = Fails e read
+
+-- the code answered this item and this size, unless memory ran out
+abbrev pub IsRead : Result (Item × ℕ) TtlvFault → Node → ℕ → Type 0
+IsRead (Ok x) n size = (view x.0 ≡ n) × (x.1 ≡ size)
+IsRead (Err e) n size = e ≡ NoMemory
+
+-- the code answered this fault, unless memory ran out
+abbrev pub IsRefused : Result (Item × ℕ) TtlvFault → TtlvFault → Type 0
+IsRefused (Ok x) fault = ⊥
+IsRefused (Err e) fault = (e ≡ NoMemory) ⊎ (e ≡ fault)

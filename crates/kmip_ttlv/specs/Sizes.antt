@@ -1,0 +1,80 @@
+-- How many bytes an item takes, and which items have a written form.
+-- Source: KMIP 2.1, TTLV Encoding.
+use Rattle.std.specs.Prelude.{◌≡◌, ℕ, ◌+◌, ◌≤◌, length, nat_le, if◌then◌else◌, Option, Some, None}
+use Rattle.kmip_ttlv.specs.Node.{
+  Node,
+  node,
+  Content,
+  structure,
+  integer,
+  long_integer,
+  big_integer,
+  enumeration,
+  boolean,
+  text_string,
+  byte_string,
+  date_time,
+  interval,
+  date_time_extended,
+  Nodes,
+  no_more,
+  more,
+}
+use Rattle.kmip_ttlv.specs.Fitting.{IsInRange, AreInRange, HasWholeGroups, HaveWholeGroups, depth, depths}
+use Rattle.kmip_ttlv.specs.Spelling.{padding, canon}
+
+-- a length with its padding
+abbrev pub padded : ℕ → ℕ
+padded len = len + padding len
+
+-- the length of the written form
+abbrev mutual
+  pub size : Node → ℕ
+  size (node tag content) = 8 + content_size content
+
+  pub content_size : Content → ℕ
+  content_size (structure items) = sizes items
+  content_size (integer z) = 8
+  content_size (long_integer z) = 8
+  content_size (big_integer octets) = padded (length octets)
+  content_size (enumeration n) = 8
+  content_size (boolean b) = 8
+  content_size (text_string text) = padded (length text)
+  content_size (byte_string octets) = padded (length octets)
+  content_size (date_time z) = 8
+  content_size (interval n) = 8
+  content_size (date_time_extended z) = 8
+
+  pub sizes : Nodes → ℕ
+  sizes no_more = 0
+  sizes (more n ns) = size n + sizes ns
+
+-- The item has a written form: in range, at most 16 levels, at most 8,192 bytes.
+abbrev pub Fits : Node → Type 0
+Fits n = IsInRange n × (depth n ≤ 16) × (length (canon n) ≤ 8192)
+
+-- The same of an item of the code, whose numbers and texts are in range by their types.
+abbrev pub IsWritable : Node → Type 0
+IsWritable n = HasWholeGroups n × (depth n ≤ 16) × (length (canon n) ≤ 8192)
+
+-- ---- what the code answers
+
+-- a size, where the room holds it
+abbrev pub size_up_to : ℕ → ℕ → Option ℕ
+size_up_to size room = if nat_le size room then Some size else None
+
+-- the size of an item, where it has at most so many levels and bytes
+abbrev pub IsSizeWithin : Option ℕ → Node → ℕ → ℕ → Type 0
+IsSizeWithin (Some found) n levels room = IsInRange n × (depth n ≤ levels) × (found ≡ size n) × (found ≤ room)
+IsSizeWithin None n levels room = HasWholeGroups n → depth n ≤ levels → size n ≤ room → ⊥
+
+-- the size of these items together
+abbrev pub AreSizesWithin : Option ℕ → Nodes → ℕ → ℕ → Type 0
+AreSizesWithin (Some found) ns levels room = AreInRange ns × (depths ns ≤ levels) × (found ≡ sizes ns) × (found ≤ room)
+AreSizesWithin None ns levels room = HaveWholeGroups ns → depths ns ≤ levels → sizes ns ≤ room → ⊥
+
+-- the size of a Structure of these items
+abbrev pub IsStructureWithin : Option ℕ → Nodes → ℕ → ℕ → Type 0
+IsStructureWithin (Some found) ns levels room =
+    AreInRange ns × (1 + depths ns ≤ levels) × (found ≡ 8 + sizes ns) × (found ≤ room)
+IsStructureWithin None ns levels room = HaveWholeGroups ns → 1 + depths ns ≤ levels → 8 + sizes ns ≤ room → ⊥

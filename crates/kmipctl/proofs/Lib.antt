@@ -1,2 +1,0 @@
-mod AnswerLemmas
-mod LineLemmas

@@ -1,3 +1,0 @@
-pub mod ExitStatus
-pub mod Judging
-pub mod Lines
