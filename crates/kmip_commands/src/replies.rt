@@ -35,5 +35,7 @@ pub fn write_hex<W: Write>(alloc: Global, bytes: &[u8], writer: &mut W) -> Resul
 pub fn write_text<W: Write>(text: &[u8], writer: &mut W) -> Result<(), CommandFault>
     ensures { OnOk result (Appends (W.contents writer.old) (W.contents writer.new) text.now) }
 {
-    writer.write_all(text).map_err(|_error| CommandFault::Output)
+    writer
+        .write_all(text)
+        .map_err(|_error| CommandFault::Output)
 }

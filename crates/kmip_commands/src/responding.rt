@@ -30,10 +30,7 @@ pub(crate) trait Respond {
 }
 
 /// How the program ends after a command, whose fault is printed where there is one to print.
-pub(crate) fn finished<W: Write>(
-    ended: Result<bool, CommandFault>,
-    writer: &mut W,
-) -> ExitStatus {
+pub(crate) fn finished<W: Write>(ended: Result<bool, CommandFault>, writer: &mut W) -> ExitStatus {
     match ended {
         Ok(false) => ExitStatus::Done,
         Ok(true) => ExitStatus::Refused,

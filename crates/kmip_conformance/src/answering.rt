@@ -5,7 +5,7 @@ use crate::vectors::{
     ACTIVATE_1, CREATE_K1, CREATE_K1_REPLY, INVALID_MESSAGE_REPLY, LOCATE_K1, LOCATE_K1_FOUND,
     LOCATE_K1_NONE, NAME_USED_REPLY,
 };
-use kmip_commands::{AnswerFault, ExitStatus, answer, run_answer};
+use kmip_commands::{CommandFault, ExitStatus, answer, run_answer};
 use std::alloc::{AllocError, Global};
 use std::str::from_utf8;
 use std::test::Fail;
@@ -146,7 +146,7 @@ fn answers_lines_before_the_reader_fails(rt: HostRuntime) -> Result<(), Fail> {
         let mut writer = Vec::new(rt.alloc());
         let mut reader = PieceReader::failing(bytes, piece_len);
         let fault = answer(rt.alloc(), &mut reader, &mut writer);
-        assert_eq!(rt; fault, Err(AnswerFault::Input));
+        assert_eq!(rt; fault, Err(CommandFault::Input));
 
         let mut writer = Vec::new(rt.alloc());
         let mut reader = PieceReader::failing(bytes, piece_len);
@@ -168,6 +168,6 @@ fn ends_where_the_writer_fails(rt: HostRuntime) -> Result<(), Fail> {
     let mut reader = input.as_bytes();
     let mut writer = room.as_mut_slice();
     let fault = answer(rt.alloc(), &mut reader, &mut writer);
-    assert_eq!(rt; fault, Err(AnswerFault::Output));
+    assert_eq!(rt; fault, Err(CommandFault::Output));
     Ok(())
 }

@@ -30,7 +30,7 @@ pub only_refused : (tags : List ℕ) (items : List Item) (i : ℕ) (item : Item)
 only_refused tags items i item tag number b h is at same test was before =
     ap (λ n. Err (OutOfRange n)) at
     ∙ sym (only-drop tags items i item h is
-        ∙ ap (λ c. cond c (only tags (views (drop (i + 1) items))) (Err (OutOfRange item.tag))) (is_tested tags item.tag tag number b false at same test was))
+    ∙ ap (λ c. cond c (only tags (views (drop (i + 1) items))) (Err (OutOfRange item.tag))) (is_tested tags item.tag tag number b false at same test was))
     ∙ before
 
 pub only_passed : (tags : List ℕ) (items : List Item) (i : ℕ) (item : Item) (tag number : ℕ) (b : Bool)
@@ -39,5 +39,5 @@ pub only_passed : (tags : List ℕ) (items : List Item) (i : ℕ) (item : Item) 
     → only tags (views (drop (i + 1) items)) ≡ only tags (views items)
 only_passed tags items i item tag number b h is at same test was before =
     sym (only-drop tags items i item h is
-        ∙ ap (λ c. cond c (only tags (views (drop (i + 1) items))) (Err (OutOfRange item.tag))) (is_tested tags item.tag tag number b true at same test was))
+    ∙ ap (λ c. cond c (only tags (views (drop (i + 1) items))) (Err (OutOfRange item.tag))) (is_tested tags item.tag tag number b true at same test was))
     ∙ before

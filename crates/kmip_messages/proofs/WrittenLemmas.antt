@@ -15,12 +15,34 @@ use Rattle.kmip_messages.specs.declared.reply.Outcome.{Outcome}
 use Rattle.kmip_messages.specs.declared.reply.Outcome.TheVariants.{Created, Located, Attributes, Activated, Revoked, Destroyed, Failed}
 use Rattle.kmip_messages.specs.declared.reply.Reply.{Reply}
 use Rattle.kmip_messages.specs.declared.standard.TheConstants.{
-  OPERATION_CREATE, OPERATION_LOCATE, TAG_REQUEST_PAYLOAD, TAG_STORAGE_STATUS_MASK, TAG_OPERATION, TAG_UNIQUE_BATCH_ITEM_ID, TAG_OBJECT_TYPE, TAG_CRYPTOGRAPHIC_ALGORITHM, TAG_CRYPTOGRAPHIC_LENGTH,
-  TAG_CRYPTOGRAPHIC_USAGE_MASK, TAG_STATE, TAG_RESULT_REASON,
+  OPERATION_CREATE,
+  OPERATION_LOCATE,
+  TAG_REQUEST_PAYLOAD,
+  TAG_STORAGE_STATUS_MASK,
+  TAG_OPERATION,
+  TAG_UNIQUE_BATCH_ITEM_ID,
+  TAG_OBJECT_TYPE,
+  TAG_CRYPTOGRAPHIC_ALGORITHM,
+  TAG_CRYPTOGRAPHIC_LENGTH,
+  TAG_CRYPTOGRAPHIC_USAGE_MASK,
+  TAG_STATE,
+  TAG_RESULT_REASON,
 }
 use Rattle.kmip_messages.specs.Written.{
-  given, inside, uid_item, name_item, attrs_item, success_items, outcome_items, reply_header_item, reply_batch_item, reply_item,
-  key_attrs_item, ask_items, request_batch_item, request_item,
+  given,
+  inside,
+  uid_item,
+  name_item,
+  attrs_item,
+  success_items,
+  outcome_items,
+  reply_header_item,
+  reply_batch_item,
+  reply_item,
+  key_attrs_item,
+  ask_items,
+  request_batch_item,
+  request_item,
 }
 use Rattle.kmip_messages.specs.Operations.{operation_of}
 use Rattle.kmip_messages.specs.Ranges.{is_name, is_identifier, is_batch_id, attrs_fit, ask_fits, request_fits}
@@ -154,7 +176,7 @@ pub is_short_test : (r : Reply) (operation id outcome : ℕ) → operation ≡ n
 is_short_test r operation id outcome is_operation is_id is_outcome =
     let first : 96 + operation ≡ 96 + number_size r.operation = omega (arith, is_operation) in
     let sum = capped_sum (96 + operation + id) outcome (96 + number_size r.operation + size_if_any text_size r.id) (outcome_size r.outcome)
-        (capped_sum (96 + operation) id (96 + number_size r.operation) (size_if_any text_size r.id) (exact (96 + operation) (96 + number_size r.operation) first) is_id) is_outcome in
+    (capped_sum (96 + operation) id (96 + number_size r.operation) (size_if_any text_size r.id) (exact (96 + operation) (96 + number_size r.operation) first) is_id) is_outcome in
     let whole : 96 + number_size r.operation + size_if_any text_size r.id + outcome_size r.outcome ≡ size (reply_item r (pos 0)) = omega (arith, size-reply r (pos 0)) in
     capped_test (96 + operation + id + outcome) (96 + number_size r.operation + size_if_any text_size r.id + outcome_size r.outcome) sum ∙ ap (λ k. nat_le k 8192) whole
 
@@ -217,8 +239,16 @@ ask_bound : (a : Ask) → ask_fits a ≡ true → ask_size a ≤ 400
 unfolding ask_size
 ask_bound (Create k) h = omega (arith, text_bound k.name 64 (name_length k.name (and_parts _ _ (and_parts _ _ (and_parts _ _ h).0).0).0))
 ask_bound (Locate mask filter) h =
-    omega (arith, name_bound filter.name h, number_bound mask, number_bound filter.object_type, number_bound filter.algorithm,
-        number_bound filter.length, number_bound filter.usage, number_bound filter.state)
+    omega (
+      arith,
+      name_bound filter.name h,
+      number_bound mask,
+      number_bound filter.object_type,
+      number_bound filter.algorithm,
+      number_bound filter.length,
+      number_bound filter.usage,
+      number_bound filter.state,
+    )
 ask_bound (GetAttributes uid) h = omega (arith, text_bound uid 64 (uid_length uid h))
 ask_bound (Activate uid) h = omega (arith, text_bound uid 64 (uid_length uid h))
 ask_bound (Revoke uid code) h = omega (arith, text_bound uid 64 (uid_length uid (and_parts _ _ h).0))
@@ -230,7 +260,7 @@ request_batch_parts r =
     let id = given_parts 5 (λ s. node TAG_UNIQUE_BATCH_ITEM_ID (byte_string s)) text_size (λ s. omega arith) (λ s. tt) (λ s. refl) r.id in
     let asks = ask_parts r.ask in
     let payload : AreParts 5 (8 + ask_size r.ask) (node TAG_REQUEST_PAYLOAD (inside (ask_items r.ask)) ∷ []) =
-        record { deep = omega (arith, asks.deep); groups = (asks.groups, tt); long = omega (arith, asks.long) } in
+    record { deep = omega (arith, asks.deep); groups = (asks.groups, tt); long = omega (arith, asks.long) } in
     let all = both_parts 5 _ _ _ _ (both_parts 5 _ _ _ _ operation id) payload in
     record { deep = omega (arith, all.deep); groups = (all.groups, tt); long = omega (arith, all.long) }
 
@@ -239,7 +269,7 @@ request_writable r fits =
     let batch = request_batch_parts r in
     let parts = and_parts _ _ fits in
     writable_of (request_item r) (((tt, (tt, tt)), (tt, tt)), batch.groups) (omega (arith, batch.deep))
-        (omega (arith, batch.long, id_bound r.id parts.0, ask_bound r.ask parts.1))
+    (omega (arith, batch.long, id_bound r.id parts.0, ask_bound r.ask parts.1))
 
 pub request_fits_writable : (r : Request) (item : Node) → IsTrue (request_fits r) → item ≡ request_item r → IsWritable item
 request_fits_writable r item fits is = subst IsWritable (sym is) (request_writable r fits)

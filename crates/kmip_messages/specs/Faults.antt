@@ -4,7 +4,16 @@ use Rattle.kmip_ttlv.specs.declared.fault.TtlvFault.{TtlvFault}
 use Rattle.kmip_ttlv.specs.declared.fault.TtlvFault.TheVariants as ttlv
 use Rattle.kmip_messages.specs.declared.fault.MessageFault.{MessageFault}
 use Rattle.kmip_messages.specs.declared.fault.MessageFault.TheVariants.{
-  Ttlv, NotMessage, Version, BatchCount, Missing, Twice, WrongType, OutOfRange, UnknownOperation, NoMemory,
+  Ttlv,
+  NotMessage,
+  Version,
+  BatchCount,
+  Missing,
+  Twice,
+  WrongType,
+  OutOfRange,
+  UnknownOperation,
+  NoMemory,
 }
 
 -- a fault of the item, where want of memory is the message's own

@@ -7,7 +7,12 @@ use Rattle.kmip_messages.specs.declared.reply.Outcome.{Outcome}
 use Rattle.kmip_messages.specs.declared.reply.Outcome.TheVariants.{Created, Located, Attributes, Activated, Revoked, Destroyed, Failed}
 use Rattle.kmip_messages.specs.declared.reply.Reply.{Reply}
 use Rattle.kmip_messages.specs.declared.standard.TheConstants.{
-  OPERATION_CREATE, OPERATION_LOCATE, OPERATION_GET_ATTRIBUTES, OPERATION_ACTIVATE, OPERATION_REVOKE, OPERATION_DESTROY,
+  OPERATION_CREATE,
+  OPERATION_LOCATE,
+  OPERATION_GET_ATTRIBUTES,
+  OPERATION_ACTIVATE,
+  OPERATION_REVOKE,
+  OPERATION_DESTROY,
 }
 use Rattle.kmip_messages.specs.Ranges.{is_identifier, is_batch_id}
 use Rattle.kmip_messages.specs.Written.{reply_item}

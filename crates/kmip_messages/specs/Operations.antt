@@ -4,7 +4,12 @@ use Rattle.std.specs.Prelude.{ℕ}
 use Rattle.kmip_messages.specs.declared.request.Ask.{Ask}
 use Rattle.kmip_messages.specs.declared.request.Ask.TheVariants.{Create, Locate, GetAttributes, Activate, Revoke, Destroy}
 use Rattle.kmip_messages.specs.declared.standard.TheConstants.{
-  OPERATION_CREATE, OPERATION_LOCATE, OPERATION_GET_ATTRIBUTES, OPERATION_ACTIVATE, OPERATION_REVOKE, OPERATION_DESTROY,
+  OPERATION_CREATE,
+  OPERATION_LOCATE,
+  OPERATION_GET_ATTRIBUTES,
+  OPERATION_ACTIVATE,
+  OPERATION_REVOKE,
+  OPERATION_DESTROY,
 }
 
 abbrev pub operation_of : Ask → ℕ

@@ -3,7 +3,12 @@
 use Rattle.std.specs.Prelude.{◌≡◌, ℕ, ℤ, pos, Bool, true, false, ◌==◌, ◌||◌, List, [], ◌∷◌, Option, Some, None, Result, Ok, Err, if◌then◌else◌}
 use Rattle.std.specs.Ordering.{int_eq}
 use Rattle.kmip_ttlv.specs.Node.{
-  Node, Content, as_structure, as_integer, as_enumeration, as_text_string,
+  Node,
+  Content,
+  as_structure,
+  as_integer,
+  as_enumeration,
+  as_text_string,
 }
 use Rattle.kmip_messages.specs.declared.fault.MessageFault.{MessageFault}
 use Rattle.kmip_messages.specs.declared.fault.MessageFault.TheVariants.{Version, BatchCount, Missing, UnknownOperation}
@@ -12,12 +17,36 @@ use Rattle.kmip_messages.specs.declared.reply.Outcome.{Outcome}
 use Rattle.kmip_messages.specs.declared.reply.Outcome.TheVariants.{Created, Located, Attributes, Activated, Revoked, Destroyed, Failed}
 use Rattle.kmip_messages.specs.declared.reply.Reply.{Reply}
 use Rattle.kmip_messages.specs.declared.standard.TheConstants.{
-  TAG_RESPONSE_MESSAGE, TAG_RESPONSE_HEADER, TAG_PROTOCOL_VERSION, TAG_PROTOCOL_VERSION_MAJOR, TAG_PROTOCOL_VERSION_MINOR,
-  TAG_BATCH_COUNT, TAG_BATCH_ITEM, TAG_OPERATION, TAG_RESULT_STATUS, TAG_RESULT_REASON, TAG_RESPONSE_PAYLOAD,
-  TAG_OBJECT_TYPE, TAG_ATTRIBUTES, TAG_NAME, TAG_NAME_VALUE, TAG_NAME_TYPE, TAG_CRYPTOGRAPHIC_ALGORITHM,
-  TAG_CRYPTOGRAPHIC_LENGTH, TAG_CRYPTOGRAPHIC_USAGE_MASK, TAG_STATE, TAG_UNIQUE_IDENTIFIER, VERSION_MAJOR,
-  NAME_TYPE_UNINTERPRETED_TEXT_STRING, STATUS_SUCCESS, STATUS_OPERATION_FAILED,
-  OPERATION_CREATE, OPERATION_LOCATE, OPERATION_GET_ATTRIBUTES, OPERATION_ACTIVATE, OPERATION_REVOKE,
+  TAG_RESPONSE_MESSAGE,
+  TAG_RESPONSE_HEADER,
+  TAG_PROTOCOL_VERSION,
+  TAG_PROTOCOL_VERSION_MAJOR,
+  TAG_PROTOCOL_VERSION_MINOR,
+  TAG_BATCH_COUNT,
+  TAG_BATCH_ITEM,
+  TAG_OPERATION,
+  TAG_RESULT_STATUS,
+  TAG_RESULT_REASON,
+  TAG_RESPONSE_PAYLOAD,
+  TAG_OBJECT_TYPE,
+  TAG_ATTRIBUTES,
+  TAG_NAME,
+  TAG_NAME_VALUE,
+  TAG_NAME_TYPE,
+  TAG_CRYPTOGRAPHIC_ALGORITHM,
+  TAG_CRYPTOGRAPHIC_LENGTH,
+  TAG_CRYPTOGRAPHIC_USAGE_MASK,
+  TAG_STATE,
+  TAG_UNIQUE_IDENTIFIER,
+  VERSION_MAJOR,
+  NAME_TYPE_UNINTERPRETED_TEXT_STRING,
+  STATUS_SUCCESS,
+  STATUS_OPERATION_FAILED,
+  OPERATION_CREATE,
+  OPERATION_LOCATE,
+  OPERATION_GET_ATTRIBUTES,
+  OPERATION_ACTIVATE,
+  OPERATION_REVOKE,
 }
 use Rattle.kmip_messages.specs.Ranges.{is_identifier, is_operation}
 use Rattle.kmip_messages.specs.Siblings.{◌>>=◌, guard, within, contents, typed, sole, the, maybe}

@@ -3,7 +3,12 @@
 use Rattle.std.specs.Prelude.{ℕ}
 use Rattle.kmip_messages.specs.declared.state.KeyState.{KeyState}
 use Rattle.kmip_messages.specs.declared.state.KeyState.TheVariants.{
-  PreActive, Active, Deactivated, Compromised, Destroyed, DestroyedCompromised,
+  PreActive,
+  Active,
+  Deactivated,
+  Compromised,
+  Destroyed,
+  DestroyedCompromised,
 }
 
 abbrev pub state_number : KeyState → ℕ

@@ -2,7 +2,16 @@
 -- Source: KMIP 2.1, Message Structure, Operations and Object Attributes; the order of optional items is own.
 use Rattle.std.specs.Prelude.{ℕ, ℤ, pos, List, [], ◌∷◌, ◌++◌, map, Option, Some, None}
 use Rattle.kmip_ttlv.specs.Node.{
-  Node, node, Content, structure, integer, enumeration, text_string, byte_string, date_time, nodes_of,
+  Node,
+  node,
+  Content,
+  structure,
+  integer,
+  enumeration,
+  text_string,
+  byte_string,
+  date_time,
+  nodes_of,
 }
 use Rattle.kmip_messages.specs.declared.request.Attrs.{Attrs}
 use Rattle.kmip_messages.specs.declared.request.KeyAttrs.{KeyAttrs}
@@ -13,12 +22,40 @@ use Rattle.kmip_messages.specs.declared.reply.Reply.{Reply}
 use Rattle.kmip_messages.specs.declared.reply.Outcome.{Outcome}
 use Rattle.kmip_messages.specs.declared.reply.Outcome.TheVariants.{Created, Located, Attributes, Activated, Revoked, Destroyed, Failed}
 use Rattle.kmip_messages.specs.declared.standard.TheConstants.{
-  TAG_REQUEST_MESSAGE, TAG_REQUEST_HEADER, TAG_REQUEST_PAYLOAD, TAG_STORAGE_STATUS_MASK, TAG_REVOCATION_REASON,
-  TAG_REVOCATION_REASON_CODE, TAG_RESPONSE_MESSAGE, TAG_RESPONSE_HEADER, TAG_RESPONSE_PAYLOAD, TAG_PROTOCOL_VERSION, TAG_PROTOCOL_VERSION_MAJOR,
-  TAG_PROTOCOL_VERSION_MINOR, TAG_TIME_STAMP, TAG_BATCH_COUNT, TAG_BATCH_ITEM, TAG_UNIQUE_BATCH_ITEM_ID, TAG_OPERATION,
-  TAG_RESULT_STATUS, TAG_RESULT_REASON, TAG_OBJECT_TYPE, TAG_ATTRIBUTES, TAG_NAME, TAG_NAME_VALUE, TAG_NAME_TYPE,
-  TAG_CRYPTOGRAPHIC_ALGORITHM, TAG_CRYPTOGRAPHIC_LENGTH, TAG_CRYPTOGRAPHIC_USAGE_MASK, TAG_STATE, TAG_UNIQUE_IDENTIFIER,
-  VERSION_MAJOR, VERSION_MINOR, OBJECT_TYPE_SYMMETRIC_KEY, NAME_TYPE_UNINTERPRETED_TEXT_STRING, STATUS_SUCCESS,
+  TAG_REQUEST_MESSAGE,
+  TAG_REQUEST_HEADER,
+  TAG_REQUEST_PAYLOAD,
+  TAG_STORAGE_STATUS_MASK,
+  TAG_REVOCATION_REASON,
+  TAG_REVOCATION_REASON_CODE,
+  TAG_RESPONSE_MESSAGE,
+  TAG_RESPONSE_HEADER,
+  TAG_RESPONSE_PAYLOAD,
+  TAG_PROTOCOL_VERSION,
+  TAG_PROTOCOL_VERSION_MAJOR,
+  TAG_PROTOCOL_VERSION_MINOR,
+  TAG_TIME_STAMP,
+  TAG_BATCH_COUNT,
+  TAG_BATCH_ITEM,
+  TAG_UNIQUE_BATCH_ITEM_ID,
+  TAG_OPERATION,
+  TAG_RESULT_STATUS,
+  TAG_RESULT_REASON,
+  TAG_OBJECT_TYPE,
+  TAG_ATTRIBUTES,
+  TAG_NAME,
+  TAG_NAME_VALUE,
+  TAG_NAME_TYPE,
+  TAG_CRYPTOGRAPHIC_ALGORITHM,
+  TAG_CRYPTOGRAPHIC_LENGTH,
+  TAG_CRYPTOGRAPHIC_USAGE_MASK,
+  TAG_STATE,
+  TAG_UNIQUE_IDENTIFIER,
+  VERSION_MAJOR,
+  VERSION_MINOR,
+  OBJECT_TYPE_SYMMETRIC_KEY,
+  NAME_TYPE_UNINTERPRETED_TEXT_STRING,
+  STATUS_SUCCESS,
   STATUS_OPERATION_FAILED,
 }
 use Rattle.kmip_messages.specs.Operations.{operation_of}

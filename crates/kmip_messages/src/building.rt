@@ -7,9 +7,10 @@ ghost use Rattle.kmip_messages.specs.Written.{given, version_item, uid_item, nam
 use crate::request::Attrs;
 use crate::standard::{
     NAME_TYPE_UNINTERPRETED_TEXT_STRING, TAG_ATTRIBUTES, TAG_CRYPTOGRAPHIC_ALGORITHM,
-    TAG_CRYPTOGRAPHIC_LENGTH, TAG_CRYPTOGRAPHIC_USAGE_MASK, TAG_NAME, TAG_NAME_TYPE, TAG_NAME_VALUE,
-    TAG_OBJECT_TYPE, TAG_PROTOCOL_VERSION, TAG_PROTOCOL_VERSION_MAJOR, TAG_PROTOCOL_VERSION_MINOR,
-    TAG_STATE, TAG_UNIQUE_BATCH_ITEM_ID, TAG_UNIQUE_IDENTIFIER, VERSION_MAJOR, VERSION_MINOR,
+    TAG_CRYPTOGRAPHIC_LENGTH, TAG_CRYPTOGRAPHIC_USAGE_MASK, TAG_NAME, TAG_NAME_TYPE,
+    TAG_NAME_VALUE, TAG_OBJECT_TYPE, TAG_PROTOCOL_VERSION, TAG_PROTOCOL_VERSION_MAJOR,
+    TAG_PROTOCOL_VERSION_MINOR, TAG_STATE, TAG_UNIQUE_BATCH_ITEM_ID, TAG_UNIQUE_IDENTIFIER,
+    VERSION_MAJOR, VERSION_MINOR,
 };
 use kmip_ttlv::{Bytes, Item, NoMemory, Tag, Text};
 use std::alloc::Global;
@@ -25,13 +26,20 @@ pub(crate) fn version_item(alloc: Global) -> Result<Item, NoMemory>
 }
 
 /// Puts the Unique Batch Item ID at the end, where there is one.
-pub(crate) fn push_id(alloc: Global, items: &mut Vec<Item>, id: &Option<Bytes>) -> Result<(), NoMemory>
+pub(crate) fn push_id(
+    alloc: Global,
+    items: &mut Vec<Item>,
+    id: &Option<Bytes>,
+) -> Result<(), NoMemory>
     ensures { OnOk result (views items.new.items ≡ views items.old.items ++ given (λ s. node TAG_UNIQUE_BATCH_ITEM_ID (byte_string s)) id.now) }
 {
     match id {
         Some(id) => {
             let id = Bytes::copied(alloc, id.as_slice())?;
-            push(items, Item::byte_string(Tag::new(TAG_UNIQUE_BATCH_ITEM_ID), id))?;
+            push(
+                items,
+                Item::byte_string(Tag::new(TAG_UNIQUE_BATCH_ITEM_ID), id),
+            )?;
             Ok(())
         }
         None => Ok(()),
@@ -61,7 +69,11 @@ pub(crate) fn attrs_item(alloc: Global, attrs: &Attrs) -> Result<Item, NoMemory>
 }
 
 /// Puts a Name of this value at the end, where there is one.
-pub(crate) fn push_name(alloc: Global, items: &mut Vec<Item>, name: &Option<Text>) -> Result<(), NoMemory>
+pub(crate) fn push_name(
+    alloc: Global,
+    items: &mut Vec<Item>,
+    name: &Option<Text>,
+) -> Result<(), NoMemory>
     ensures { OnOk result (views items.new.items ≡ views items.old.items ++ given name_item name.now) }
 {
     match name {
@@ -78,14 +90,21 @@ pub(crate) fn push_name(alloc: Global, items: &mut Vec<Item>, name: &Option<Text
 pub(crate) fn name_item(alloc: Global, name: &Text) -> Result<Item, NoMemory>
     ensures { IfOk result (λ i. view i ≡ name_item name.now) }
 {
-    let value = Item::text_string(Tag::new(TAG_NAME_VALUE), Text::copied(alloc, name.as_str())?);
+    let value = Item::text_string(
+        Tag::new(TAG_NAME_VALUE),
+        Text::copied(alloc, name.as_str())?,
+    );
     let kind = Item::enumeration(Tag::new(TAG_NAME_TYPE), NAME_TYPE_UNINTERPRETED_TEXT_STRING);
     let items = vec![in alloc; value, kind]?;
     Ok(Item::structure(Tag::new(TAG_NAME), items))
 }
 
 /// Puts an Enumeration at the end, where there is one.
-pub(crate) fn push_enumeration(items: &mut Vec<Item>, tag: u32, value: Option<u32>) -> Result<(), NoMemory>
+pub(crate) fn push_enumeration(
+    items: &mut Vec<Item>,
+    tag: u32,
+    value: Option<u32>,
+) -> Result<(), NoMemory>
     requires { tag < 2 ^ 24 }
     ensures { OnOk result (views items.new.items ≡ views items.old.items ++ given (λ n. node tag (enumeration n)) value) }
 {
@@ -99,7 +118,11 @@ pub(crate) fn push_enumeration(items: &mut Vec<Item>, tag: u32, value: Option<u3
 }
 
 /// Puts an Integer at the end, where there is one.
-pub(crate) fn push_integer(items: &mut Vec<Item>, tag: u32, value: Option<i32>) -> Result<(), NoMemory>
+pub(crate) fn push_integer(
+    items: &mut Vec<Item>,
+    tag: u32,
+    value: Option<i32>,
+) -> Result<(), NoMemory>
     requires { tag < 2 ^ 24 }
     ensures { OnOk result (views items.new.items ≡ views items.old.items ++ given (λ z. node tag (integer z)) value) }
 {

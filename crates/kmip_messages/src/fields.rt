@@ -2,7 +2,12 @@
 ghost use Rattle.std.specs.Prelude.{◌≡◌, ◌==◌, ◌<◌, ◌^◌, option_map, IfErr};
 ghost use Rattle.std.specs.List.{list_any};
 ghost use Rattle.kmip_ttlv.specs.Node.{
-    content_of, as_structure, as_integer, as_enumeration, as_text_string, as_byte_string,
+  content_of,
+  as_structure,
+  as_integer,
+  as_enumeration,
+  as_text_string,
+  as_byte_string,
 };
 ghost use Rattle.kmip_ttlv.specs.View.{view, views};
 ghost use Rattle.kmip_messages.specs.Siblings.{contents, at_most_one_of, one_of, guard, sole, the, maybe, within, only};

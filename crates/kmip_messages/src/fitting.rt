@@ -8,7 +8,13 @@ ghost use Rattle.kmip_messages.specs.Ranges.{is_name, is_identifier, is_batch_id
 ghost use Rattle.kmip_messages.specs.Written.{uid_item, reply_item};
 ghost use Rattle.kmip_messages.specs.Fits.{is_own, outcome_fits, reply_fits};
 ghost use Rattle.kmip_messages.specs.MessageSizes.{
-    size_if_any, number_size, text_size, name_size, attrs_size, outcome_size, IsCapped,
+  size_if_any,
+  number_size,
+  text_size,
+  name_size,
+  attrs_size,
+  outcome_size,
+  IsCapped,
 };
 
 use crate::ranges::{attrs_fit, is_batch_id, is_identifier, is_name, is_revocation_code};

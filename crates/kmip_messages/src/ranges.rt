@@ -2,7 +2,17 @@
 ghost use Rattle.std.specs.Prelude.{◌≡◌};
 ghost use Rattle.std.specs.List.{list_all};
 ghost use Rattle.kmip_messages.specs.Ranges.{
-    is_name_byte, is_name, is_identifier, is_batch_id, is_algorithm, is_aes_length, is_length, is_usage, is_revocation_code, is_operation, attrs_fit,
+  is_name_byte,
+  is_name,
+  is_identifier,
+  is_batch_id,
+  is_algorithm,
+  is_aes_length,
+  is_length,
+  is_usage,
+  is_revocation_code,
+  is_operation,
+  attrs_fit,
 };
 
 use crate::request::KeyAttrs;

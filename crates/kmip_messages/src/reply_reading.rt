@@ -6,8 +6,21 @@ ghost use Rattle.kmip_messages.specs.Siblings.{contents};
 ghost use Rattle.kmip_messages.specs.Reading.{Gives};
 ghost use Rattle.kmip_messages.specs.Whole.{reply_read};
 ghost use Rattle.kmip_messages.specs.ReplyReading.{
-    reply_header_at, reply_batch_at, identifier_in, identifiers_in, any_name_at, attrs_at, attributes_at, located_at,
-    outcome_in, payload_at, success_in, failed_at, is_status, outcome_at, reply_at,
+  reply_header_at,
+  reply_batch_at,
+  identifier_in,
+  identifiers_in,
+  any_name_at,
+  attrs_at,
+  attributes_at,
+  located_at,
+  outcome_in,
+  payload_at,
+  success_in,
+  failed_at,
+  is_status,
+  outcome_at,
+  reply_at,
 };
 
 use crate::fault::MessageFault;
@@ -23,10 +36,11 @@ use crate::standard::{
     NAME_TYPE_UNINTERPRETED_TEXT_STRING, OPERATION_ACTIVATE, OPERATION_CREATE,
     OPERATION_GET_ATTRIBUTES, OPERATION_LOCATE, OPERATION_REVOKE, STATUS_OPERATION_FAILED,
     STATUS_SUCCESS, TAG_ATTRIBUTES, TAG_BATCH_COUNT, TAG_BATCH_ITEM, TAG_CRYPTOGRAPHIC_ALGORITHM,
-    TAG_CRYPTOGRAPHIC_LENGTH, TAG_CRYPTOGRAPHIC_USAGE_MASK, TAG_NAME, TAG_NAME_TYPE, TAG_NAME_VALUE,
-    TAG_OBJECT_TYPE, TAG_OPERATION, TAG_PROTOCOL_VERSION, TAG_PROTOCOL_VERSION_MAJOR,
-    TAG_PROTOCOL_VERSION_MINOR, TAG_RESPONSE_HEADER, TAG_RESPONSE_MESSAGE, TAG_RESPONSE_PAYLOAD,
-    TAG_RESULT_REASON, TAG_RESULT_STATUS, TAG_STATE, TAG_UNIQUE_IDENTIFIER, VERSION_MAJOR,
+    TAG_CRYPTOGRAPHIC_LENGTH, TAG_CRYPTOGRAPHIC_USAGE_MASK, TAG_NAME, TAG_NAME_TYPE,
+    TAG_NAME_VALUE, TAG_OBJECT_TYPE, TAG_OPERATION, TAG_PROTOCOL_VERSION,
+    TAG_PROTOCOL_VERSION_MAJOR, TAG_PROTOCOL_VERSION_MINOR, TAG_RESPONSE_HEADER,
+    TAG_RESPONSE_MESSAGE, TAG_RESPONSE_PAYLOAD, TAG_RESULT_REASON, TAG_RESULT_STATUS, TAG_STATE,
+    TAG_UNIQUE_IDENTIFIER, VERSION_MAJOR,
 };
 use crate::texts::Texts;
 use kmip_ttlv::{Item, Tag, Text};
@@ -186,11 +200,7 @@ fn identifier_in(alloc: Global, item: &Item) -> Result<Text, MessageFault>
 
 /// What the payload of an operation other than Locate says.
 #[tactic(auto, unfolding(crate::specs::ReplyReading::payload_at))]
-fn payload_of(
-    alloc: Global,
-    operation: u32,
-    batch: &[Item],
-) -> Result<Outcome, MessageFault>
+fn payload_of(alloc: Global, operation: u32, batch: &[Item]) -> Result<Outcome, MessageFault>
     ensures { Gives (λ o. o) result (payload_at operation (views batch.now)) }
 {
     let payload = the_structure(batch, TAG_RESPONSE_PAYLOAD)?;
@@ -199,11 +209,7 @@ fn payload_of(
 }
 
 /// What this payload of the operation says.
-fn outcome_in(
-    alloc: Global,
-    operation: u32,
-    payload: &[Item],
-) -> Result<Outcome, MessageFault>
+fn outcome_in(alloc: Global, operation: u32, payload: &[Item]) -> Result<Outcome, MessageFault>
     ensures { Gives (λ o. o) result (outcome_in operation (views payload.now)) }
 {
     match operation {
@@ -272,10 +278,7 @@ fn name_of(alloc: Global, attributes: &[Item]) -> Result<Option<Text>, MessageFa
         Some(parts) => {
             let value = the_text(parts, TAG_NAME_VALUE)?;
             let kind = the_enumeration(parts, TAG_NAME_TYPE)?;
-            within(
-                TAG_NAME_TYPE,
-                kind == NAME_TYPE_UNINTERPRETED_TEXT_STRING,
-            )?;
+            within(TAG_NAME_TYPE, kind == NAME_TYPE_UNINTERPRETED_TEXT_STRING)?;
             let name = Text::copied(alloc, value)?;
             Ok(Some(name))
         }

@@ -5,12 +5,16 @@ ghost use Rattle.kmip_messages.specs.Fits.{reply_fits};
 ghost use Rattle.kmip_ttlv.specs.Node.{node, enumeration};
 ghost use Rattle.kmip_ttlv.specs.View.{view, views};
 ghost use Rattle.kmip_messages.specs.Written.{
-    uid_item, attrs_item, success_items, outcome_items, reply_header_item, reply_batch_item, reply_item,
+  uid_item,
+  attrs_item,
+  success_items,
+  outcome_items,
+  reply_header_item,
+  reply_batch_item,
+  reply_item,
 };
 
-use crate::building::{
-    attrs_item, push, push_enumeration, push_id, uid_item, version_item,
-};
+use crate::building::{attrs_item, push, push_enumeration, push_id, uid_item, version_item};
 use crate::reply::{Outcome, Reply};
 use crate::request::Attrs;
 use crate::standard::{
@@ -93,7 +97,10 @@ fn push_outcome(alloc: Global, items: &mut Vec<Item>, outcome: &Outcome) -> Resu
             Ok(())
         }
         Outcome::Failed(reason) => {
-            push(items, Item::enumeration(Tag::new(TAG_RESULT_STATUS), STATUS_OPERATION_FAILED))?;
+            push(
+                items,
+                Item::enumeration(Tag::new(TAG_RESULT_STATUS), STATUS_OPERATION_FAILED),
+            )?;
             push_enumeration(items, TAG_RESULT_REASON, *reason)?;
             Ok(())
         }
@@ -104,8 +111,14 @@ fn push_outcome(alloc: Global, items: &mut Vec<Item>, outcome: &Outcome) -> Resu
 fn push_success(items: &mut Vec<Item>, payload: Vec<Item>) -> Result<(), NoMemory>
     ensures { OnOk result (views items.new.items ≡ views items.old.items ++ success_items (views payload.items)) }
 {
-    push(items, Item::enumeration(Tag::new(TAG_RESULT_STATUS), STATUS_SUCCESS))?;
-    push(items, Item::structure(Tag::new(TAG_RESPONSE_PAYLOAD), payload))?;
+    push(
+        items,
+        Item::enumeration(Tag::new(TAG_RESULT_STATUS), STATUS_SUCCESS),
+    )?;
+    push(
+        items,
+        Item::structure(Tag::new(TAG_RESPONSE_PAYLOAD), payload),
+    )?;
     Ok(())
 }
 
@@ -149,4 +162,3 @@ fn identifier_items(alloc: Global, uid: &Text) -> Result<Vec<Item>, NoMemory>
     let items = vec![in alloc; uid]?;
     Ok(items)
 }
-

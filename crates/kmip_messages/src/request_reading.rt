@@ -7,19 +7,27 @@ ghost use Rattle.kmip_messages.specs.Ranges.{is_name, is_batch_id, attrs_fit, as
 ghost use Rattle.kmip_messages.specs.Reading.{Gives};
 ghost use Rattle.kmip_messages.specs.Whole.{request_read};
 ghost use Rattle.kmip_messages.specs.RequestReading.{
-    request_header_at, batch_at, name_at, key_attrs_at, filter_at, create_at, locate_at,
-    revoke_at, ask_in, ask_at, request_at, GivesRequest,
+  request_header_at,
+  batch_at,
+  name_at,
+  key_attrs_at,
+  filter_at,
+  create_at,
+  locate_at,
+  revoke_at,
+  ask_in,
+  ask_at,
+  request_at,
+  GivesRequest,
 };
 
 use crate::fault::{MessageFault, Refusal};
 use crate::fields::{
-    check, enumeration_if_any, integer_if_any, only, sole_structure, the_enumeration,
-    the_integer, the_structure, the_text, within,
+    check, enumeration_if_any, integer_if_any, only, sole_structure, the_enumeration, the_integer,
+    the_structure, the_text, within,
 };
 use crate::parts::{id_of, identifier_of, message_of, whole_item};
-use crate::ranges::{
-    is_algorithm, is_length, is_name, is_operation, is_revocation_code, is_usage,
-};
+use crate::ranges::{is_algorithm, is_length, is_name, is_operation, is_revocation_code, is_usage};
 use crate::request::{Ask, Attrs, KeyAttrs, Request};
 use crate::standard::{
     NAME_TYPE_UNINTERPRETED_TEXT_STRING, OBJECT_TYPE_SYMMETRIC_KEY, OPERATION_ACTIVATE,
@@ -199,10 +207,7 @@ fn name_of(alloc: Global, attributes: &[Item]) -> Result<Text, MessageFault>
     let value = the_text(parts, TAG_NAME_VALUE)?;
     within(TAG_NAME_VALUE, is_name(value))?;
     let kind = the_enumeration(parts, TAG_NAME_TYPE)?;
-    within(
-        TAG_NAME_TYPE,
-        kind == NAME_TYPE_UNINTERPRETED_TEXT_STRING,
-    )?;
+    within(TAG_NAME_TYPE, kind == NAME_TYPE_UNINTERPRETED_TEXT_STRING)?;
     let name = Text::copied(alloc, value)?;
     Ok(name)
 }
@@ -264,4 +269,3 @@ fn revoke_of(alloc: Global, payload: &[Item]) -> Result<Ask, MessageFault>
     within(TAG_REVOCATION_REASON_CODE, is_revocation_code(code))?;
     Ok(Ask::Revoke(uid, code))
 }
-

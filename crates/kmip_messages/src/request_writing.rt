@@ -6,7 +6,14 @@ ghost use Rattle.kmip_ttlv.specs.Spelling.{canon};
 ghost use Rattle.kmip_messages.specs.Ranges.{request_fits};
 ghost use Rattle.kmip_messages.specs.declared.request.Ask.TheVariants.{Locate};
 ghost use Rattle.kmip_messages.specs.Written.{
-    uid_item, attrs_item, key_attrs_item, reason_item, ask_items, request_header_item, request_batch_item, request_item,
+  uid_item,
+  attrs_item,
+  key_attrs_item,
+  reason_item,
+  ask_items,
+  request_header_item,
+  request_batch_item,
+  request_item,
 };
 
 use crate::building::{
@@ -64,7 +71,10 @@ fn batch_item(alloc: Global, request: &Request) -> Result<Item, NoMemory>
     let mut items = Vec::new(alloc);
     push_enumeration(&mut items, TAG_OPERATION, Some(request.ask.operation()))?;
     push_id(alloc, &mut items, &request.id)?;
-    push(&mut items, Item::structure(Tag::new(TAG_REQUEST_PAYLOAD), payload))?;
+    push(
+        &mut items,
+        Item::structure(Tag::new(TAG_REQUEST_PAYLOAD), payload),
+    )?;
     Ok(Item::structure(Tag::new(TAG_BATCH_ITEM), items))
 }
 
@@ -116,11 +126,7 @@ fn key_attrs_item(alloc: Global, attrs: &KeyAttrs) -> Result<Item, NoMemory>
 }
 
 /// The payload of a Locate.
-fn locate_items(
-    alloc: Global,
-    mask: Option<i32>,
-    filter: &Attrs,
-) -> Result<Vec<Item>, NoMemory>
+fn locate_items(alloc: Global, mask: Option<i32>, filter: &Attrs) -> Result<Vec<Item>, NoMemory>
     ensures { IfOk result (λ v. views v.items ≡ ask_items (Locate mask filter.now)) }
 {
     let mut items = Vec::new(alloc);

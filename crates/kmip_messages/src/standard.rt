@@ -5,72 +5,119 @@
 // Tags.
 
 pub const TAG_BATCH_COUNT: u32 = 0x42000D;
+
 pub const TAG_BATCH_ITEM: u32 = 0x42000F;
+
 pub const TAG_CRYPTOGRAPHIC_ALGORITHM: u32 = 0x420028;
+
 pub const TAG_CRYPTOGRAPHIC_LENGTH: u32 = 0x42002A;
+
 pub const TAG_CRYPTOGRAPHIC_USAGE_MASK: u32 = 0x42002C;
+
 pub const TAG_NAME: u32 = 0x420053;
+
 pub const TAG_NAME_TYPE: u32 = 0x420054;
+
 pub const TAG_NAME_VALUE: u32 = 0x420055;
+
 pub const TAG_OBJECT_TYPE: u32 = 0x420057;
+
 pub const TAG_OPERATION: u32 = 0x42005C;
+
 pub const TAG_PROTOCOL_VERSION: u32 = 0x420069;
+
 pub const TAG_PROTOCOL_VERSION_MAJOR: u32 = 0x42006A;
+
 pub const TAG_PROTOCOL_VERSION_MINOR: u32 = 0x42006B;
+
 pub const TAG_REQUEST_HEADER: u32 = 0x420077;
+
 pub const TAG_REQUEST_MESSAGE: u32 = 0x420078;
+
 pub const TAG_REQUEST_PAYLOAD: u32 = 0x420079;
+
 pub const TAG_RESPONSE_HEADER: u32 = 0x42007A;
+
 pub const TAG_RESPONSE_MESSAGE: u32 = 0x42007B;
+
 pub const TAG_RESPONSE_PAYLOAD: u32 = 0x42007C;
+
 pub const TAG_RESULT_REASON: u32 = 0x42007E;
+
 pub const TAG_RESULT_STATUS: u32 = 0x42007F;
+
 pub const TAG_REVOCATION_REASON: u32 = 0x420081;
+
 pub const TAG_REVOCATION_REASON_CODE: u32 = 0x420082;
+
 pub const TAG_STATE: u32 = 0x42008D;
+
 pub const TAG_STORAGE_STATUS_MASK: u32 = 0x42008E;
+
 pub const TAG_TIME_STAMP: u32 = 0x420092;
+
 pub const TAG_UNIQUE_BATCH_ITEM_ID: u32 = 0x420093;
+
 pub const TAG_UNIQUE_IDENTIFIER: u32 = 0x420094;
+
 pub const TAG_ATTRIBUTES: u32 = 0x420125;
 
 // Operations.
 
 pub const OPERATION_CREATE: u32 = 0x1;
+
 pub const OPERATION_LOCATE: u32 = 0x8;
+
 pub const OPERATION_GET_ATTRIBUTES: u32 = 0xB;
+
 pub const OPERATION_ACTIVATE: u32 = 0x12;
+
 pub const OPERATION_REVOKE: u32 = 0x13;
+
 pub const OPERATION_DESTROY: u32 = 0x14;
 
 // Object types, cryptographic algorithms and name types.
 
 pub const OBJECT_TYPE_SYMMETRIC_KEY: u32 = 0x2;
+
 pub const ALGORITHM_AES: u32 = 0x3;
+
 pub const ALGORITHM_HMAC_SHA256: u32 = 0x9;
+
 pub const NAME_TYPE_UNINTERPRETED_TEXT_STRING: u32 = 0x1;
 
 // Revocation reason codes.
 
 pub const REVOCATION_UNSPECIFIED: u32 = 0x1;
+
 pub const REVOCATION_KEY_COMPROMISE: u32 = 0x2;
+
 pub const REVOCATION_CA_COMPROMISE: u32 = 0x3;
+
 pub const REVOCATION_PRIVILEGE_WITHDRAWN: u32 = 0x7;
 
 // Result statuses.
 
 pub const STATUS_SUCCESS: u32 = 0x0;
+
 pub const STATUS_OPERATION_FAILED: u32 = 0x1;
 
 // Result reasons.
 
 pub const REASON_ITEM_NOT_FOUND: u32 = 0x1;
+
 pub const REASON_INVALID_MESSAGE: u32 = 0x4;
+
 pub const REASON_OPERATION_NOT_SUPPORTED: u32 = 0x5;
+
 pub const REASON_MISSING_DATA: u32 = 0x6;
+
 pub const REASON_INVALID_FIELD: u32 = 0x7;
+
 pub const REASON_FEATURE_NOT_SUPPORTED: u32 = 0x8;
+
 pub const REASON_NON_UNIQUE_NAME: u32 = 0x35;
+
 pub const REASON_WRONG_STATE: u32 = 0x43;
 /// All the room of the server is used up (own).
 pub const REASON_SERVER_FULL: u32 = 0x100;
@@ -85,6 +132,7 @@ pub const STORAGE_DESTROYED: u32 = 0x4;
 // The version of the protocol.
 
 pub const VERSION_MAJOR: i32 = 2;
+
 pub const VERSION_MINOR: i32 = 1;
 
 /// The bits that a Cryptographic Usage Mask may have: it is 1 to this number (own).

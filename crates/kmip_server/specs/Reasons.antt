@@ -3,11 +3,26 @@
 use Rattle.std.specs.Prelude.{ℕ, Option, Some, None}
 use Rattle.kmip_messages.specs.declared.fault.MessageFault.{MessageFault}
 use Rattle.kmip_messages.specs.declared.fault.MessageFault.TheVariants.{
-  Ttlv, NotMessage, Version, BatchCount, Missing, Twice, WrongType, OutOfRange, UnknownOperation, NoMemory,
+  Ttlv,
+  NotMessage,
+  Version,
+  BatchCount,
+  Missing,
+  Twice,
+  WrongType,
+  OutOfRange,
+  UnknownOperation,
+  NoMemory,
 }
 use Rattle.kmip_messages.specs.declared.standard.TheConstants.{
-  REASON_INVALID_MESSAGE, REASON_OPERATION_NOT_SUPPORTED, REASON_MISSING_DATA, REASON_INVALID_FIELD,
-  REASON_ITEM_NOT_FOUND, REASON_NON_UNIQUE_NAME, REASON_WRONG_STATE, REASON_SERVER_FULL,
+  REASON_INVALID_MESSAGE,
+  REASON_OPERATION_NOT_SUPPORTED,
+  REASON_MISSING_DATA,
+  REASON_INVALID_FIELD,
+  REASON_ITEM_NOT_FOUND,
+  REASON_NON_UNIQUE_NAME,
+  REASON_WRONG_STATE,
+  REASON_SERVER_FULL,
 }
 use Rattle.kmip_store.specs.declared.fault.StoreFault.{StoreFault}
 use Rattle.kmip_store.specs.declared.fault.StoreFault.TheVariants as store

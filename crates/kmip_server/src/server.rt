@@ -35,12 +35,7 @@ impl<S: Records> Server<S> {
     ///
     /// # Errors
     /// Where there is no memory; the records are then as they were.
-    pub fn handle(
-        &mut self,
-        alloc: Global,
-        message: &[u8],
-        now: i64,
-    ) -> Result<Vec<u8>, NoMemory> {
+    pub fn handle(&mut self, alloc: Global, message: &[u8], now: i64) -> Result<Vec<u8>, NoMemory> {
         match read_request(alloc, message) {
             Ok(request) => answer(&mut self.store, alloc, request, now),
             Err(refusal) => refuse_message(alloc, refusal, now),

@@ -16,6 +16,10 @@ keeps_more rows room attrs row keeps free is = record {
   within = omega (arith, keeps.within, free, length-append rows (row ∷ []));
   small = keeps.small;
   identified =
-      rw (list_all-append (λ r. is_identifier r.uid) rows (row ∷ []), keeps.identified, is,
-          decimal_identifier (length rows + 1) (omega (arith, keeps.small, free))) refl;
+      rw (
+        list_all-append (λ r. is_identifier r.uid) rows (row ∷ []),
+        keeps.identified,
+        is,
+        decimal_identifier (length rows + 1) (omega (arith, keeps.small, free)),
+      ) refl;
 }

@@ -16,7 +16,7 @@ use Rattle.kmip_ttlv.specs.Spelling.{SpelledAll}
 use Rattle.kmip_ttlv.specs.Sizes.{padded}
 use Rattle.kmip_ttlv.specs.Heads.{head_at}
 use Rattle.kmip_ttlv.specs.Reading.{◌>>=◌, Reader, boolean_at, text_at, all_at, value_at, item_at}
-use Rattle.kmip_ttlv.specs.Breaks.{Breaks}
+use Rattle.kmip_ttlv.specs.Breaks.{LeafBreaks, Breaks}
 use Rattle.kmip_ttlv.proofs.SoFar.{one_at}
 use Rattle.kmip_ttlv.proofs.Steps.{value_next, text_wrong}
 use Rattle.kmip_ttlv.proofs.Numbers.{IsBytes, IsBytes-drop, IsBytes-take, below_4}
@@ -126,25 +126,18 @@ text_breaks at text e is = text_checked (is_utf8 text) text (faults.BadText at) 
 -- what is wrong with a value
 abbrev ValueBreaks : ℕ → Reader → ℕ → ItemType → List ℕ → TtlvFault → Type 0
 ValueBreaks levels reader at type value e =
-    ((type ≡ types.Boolean) × (2 ≤ big_number 8 value) × (e ≡ faults.BadBoolean at))
-    ⊎ (((type ≡ types.TextString) × (IsUtf8 value → ⊥) × (e ≡ faults.BadText at))
-    ⊎ ((type ≡ types.Structure) × IsBroken levels reader (at + 8) value e))
+    LeafBreaks type at value e ⊎ ((type ≡ types.Structure) × IsBroken levels reader (at + 8) value e)
 
 value_breaks : (levels : ℕ) (reader : Reader) → Takes levels reader → (at : ℕ) (type : ItemType) (value : List ℕ) (e : TtlvFault) → IsBytes value
     → value_at reader at type value ≡ Err e → ValueBreaks levels reader at type value e
 unfolding value_at
 value_breaks levels reader takes at types.Structure value e fits is =
-    inr (inr (
-      refl,
-      all_break levels reader takes (length value) (at + 8) value e fits (omega arith)
-          (only_first (all_at reader (length value) (at + 8) value) (λ ns. structure (nodes_of ns)) e is),
-    ))
+    let all = all_at reader (length value) (at + 8) value in
+    inr (refl, all_break levels reader takes (length value) (at + 8) value e fits (omega arith) (only_first all (λ ns. structure (nodes_of ns)) e is))
 value_breaks levels reader takes at types.Boolean value e fits is =
-    let b = boolean_breaks at (big_number 8 value) e (only_first (boolean_at at (big_number 8 value)) (λ t. boolean t) e is) in
-    inl (refl, b.0, b.1)
+    inl (boolean_breaks at (big_number 8 value) e (only_first (boolean_at at (big_number 8 value)) (λ t. boolean t) e is))
 value_breaks levels reader takes at types.TextString value e fits is =
-    let t = text_breaks at value e (only_first (text_at at value) (λ t. text_string t) e is) in
-    inr (inl (refl, t.0, t.1))
+    inl (text_breaks at value e (only_first (text_at at value) (λ t. text_string t) e is))
 value_breaks levels reader takes at type value e fits is = absurd cc
 
 pub item_breaks : (levels at : ℕ) (bytes : List ℕ) (e : TtlvFault) → IsBytes bytes → item_at levels at bytes ≡ Err e → Breaks levels at bytes e
@@ -167,13 +160,10 @@ item_breaks (suc left) at bytes e fits is =
             next.1,
             refl,
             elim wrong [
-              | inl b ↦ inl b
-              | inr others ↦ inr (elim others [
-                | inl t ↦ inl t
-                | inr s ↦
-                    let b = s.1 in
-                    inr (s.0, b.children, b.front, b.rest, b.spelled, b.deep, b.parts, b.some, item_breaks left (at + 8 + length b.front) b.rest e b.bytes_fit b.fault)
-              ])
+              | inl leaf ↦ inl leaf
+              | inr s ↦
+                  let b = s.1 in
+                  inr (s.0, b.children, b.front, b.rest, b.spelled, b.deep, b.parts, b.some, item_breaks left (at + 8 + length b.front) b.rest e b.bytes_fit b.fault)
             ],
           )
     ]
@@ -230,6 +220,11 @@ text_fails : (reader : Reader) (at : ℕ) (value : List ℕ) → (IsUtf8 value �
 unfolding value_at
 text_fails reader at value h = rw (text_wrong at value h) refl
 
+leaf_fails : (reader : Reader) (at : ℕ) (type : ItemType) (value : List ℕ) (e : TtlvFault) → LeafBreaks type at value e → value_at reader at type value ≡ Err e
+leaf_fails reader at types.Boolean value e leaf = rw leaf.1 (boolean_fails reader at value leaf.0)
+leaf_fails reader at types.TextString value e leaf = rw leaf.1 (text_fails reader at value leaf.0)
+leaf_fails reader at type value e leaf = absurd leaf
+
 item_fails : (left at : ℕ) (bytes : List ℕ) (tag : ℕ) (type : ItemType) (len : ℕ) (value : List ℕ) (e : TtlvFault) → head_at (eqb (suc left) 16) at bytes ≡ Ok (tag, type, len)
     → value ≡ take len (drop 8 bytes) → value_at (item_at left) at type value ≡ Err e → item_at (suc left) at bytes ≡ Err e
 item_fails left at bytes tag type len value e head is wrong =
@@ -263,11 +258,9 @@ pub breaks_item : (levels at : ℕ) (bytes : List ℕ) (e : TtlvFault) → level
 unfolding item_at Breaks
 breaks_item zero at bytes e few fits wrong = ap (λ (y : TtlvFault). Err y) (sym wrong)
 breaks_item (suc left) at bytes e few fits (inl head) = rw head refl
-breaks_item (suc left) at bytes e few fits (inr (tag, type, len, value, head, is, inl (type_is, two, e_is))) =
-    item_fails left at bytes tag type len value e head is (rw (type_is, e_is) (boolean_fails (item_at left) at value two))
-breaks_item (suc left) at bytes e few fits (inr (tag, type, len, value, head, is, inr (inl (type_is, bad, e_is)))) =
-    item_fails left at bytes tag type len value e head is (rw (type_is, e_is) (text_fails (item_at left) at value bad))
-breaks_item (suc left) at bytes e few fits (inr (tag, type, len, value, head, is, inr (inr (type_is, children, front, rest, spelled, deep, parts, some, wrong)))) =
+breaks_item (suc left) at bytes e few fits (inr (tag, type, len, value, head, is, inl leaf)) =
+    item_fails left at bytes tag type len value e head is (leaf_fails (item_at left) at type value e leaf)
+breaks_item (suc left) at bytes e few fits (inr (tag, type, len, value, head, is, inr (type_is, children, front, rest, spelled, deep, parts, some, wrong))) =
     let value_is = value_fits (eqb (suc left) 16) at bytes tag type len value fits head is in
     let below = breaks_item left (at + 8 + length front) rest e (omega arith) (IsBytes-rest value front rest parts value_is.0) wrong in
     let broken : value_at (item_at left) at types.Structure value ≡ Err e =

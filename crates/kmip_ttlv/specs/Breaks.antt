@@ -11,18 +11,23 @@ use Rattle.kmip_ttlv.specs.Fitting.{depths}
 use Rattle.kmip_ttlv.specs.Spelling.{SpelledAll}
 use Rattle.kmip_ttlv.specs.Heads.{head_at}
 
+-- a Boolean that is neither 0 nor 1, or a text that is not UTF-8
+abbrev pub LeafBreaks : ItemType → ℕ → List ℕ → TtlvFault → Type 0
+LeafBreaks Boolean at value fault = (2 ≤ big_number 8 value) × (fault ≡ BadBoolean at)
+LeafBreaks TextString at value fault = (IsUtf8 value → ⊥) × (fault ≡ BadText at)
+LeafBreaks type at value fault = ⊥
+
 -- The first fault of the item at the front of the bytes, which begin at this offset and end where the
 -- item's parent does. So many levels are left for it: 16 for the outermost item.
--- The item is too deep; or its head is at fault; or its head is right, and its Boolean is neither 0
--- nor 1, or its text is no UTF-8, or after some whole children of a Structure the next one is at fault.
+-- The item is too deep; or its head is at fault; or its head is right, and its value is that of a leaf
+-- at fault, or that of a Structure in which after no or more whole children the next one is at fault.
 unfoldable pub Breaks : ℕ → ℕ → List ℕ → TtlvFault → Type 0
 Breaks zero at bytes fault = fault ≡ TooDeep at
 Breaks (suc left) at bytes fault =
     (head_at (suc left == 16) at bytes ≡ Err fault)
     ⊎ ((tag : ℕ) × (type : ItemType) × (len : ℕ) × (value : List ℕ)
     × (head_at (suc left == 16) at bytes ≡ Ok (tag, type, len)) × (value ≡ take len (drop 8 bytes))
-    × (((type ≡ Boolean) × (2 ≤ big_number 8 value) × (fault ≡ BadBoolean at))
-    ⊎ (((type ≡ TextString) × (IsUtf8 value → ⊥) × (fault ≡ BadText at))
+    × (LeafBreaks type at value fault
     ⊎ ((type ≡ Structure) × (children : Nodes) × (front : List ℕ) × (rest : List ℕ)
     × SpelledAll children front × (depths children ≤ left) × (value ≡ front ++ rest) × (0 < length rest)
-    × Breaks left (at + 8 + length front) rest fault))))
+    × Breaks left (at + 8 + length front) rest fault)))
