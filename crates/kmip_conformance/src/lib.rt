@@ -13,11 +13,15 @@ mod layouts;
 #[cfg(test)]
 mod readers;
 #[cfg(test)]
+mod replies;
+#[cfg(test)]
 mod request_rows;
 #[cfg(test)]
 mod requests;
 #[cfg(test)]
 mod serving;
+#[cfg(test)]
+mod showing;
 #[cfg(test)]
 mod tags;
 #[cfg(test)]

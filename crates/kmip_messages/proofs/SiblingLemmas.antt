@@ -1,11 +1,10 @@
 -- Items found by their tags, one item at a time.
-use Rattle.std.proofs.Common.{◌≡◌, ℕ, ◌+◌, ◌<◌, ◌==◌, Bool, true, false, cond, List, [], ◌∷◌, length, drop, get_or, Result, Ok, Err, refl, ap, sym, ◌∙◌}
+use Rattle.std.proofs.Common.{◌≡◌, ℕ, ◌+◌, ◌<◌, ◌==◌, Bool, true, false, cond, List, length, drop, get_or, Err, ap, sym, ◌∙◌}
 use Rattle.std.specs.List.{list_any}
 use Rattle.kmip_ttlv.specs.Node.{tag_of}
 use Rattle.kmip_ttlv.specs.View.{view, views}
 use Rattle.kmip_ttlv.specs.declared.item.Item.{Item}
 use Rattle.kmip_ttlv.proofs.Views.{views-drop}
-use Rattle.kmip_messages.specs.declared.fault.MessageFault.{MessageFault}
 use Rattle.kmip_messages.specs.declared.fault.MessageFault.TheVariants.{OutOfRange}
 use Rattle.kmip_messages.specs.Siblings.{only}
 

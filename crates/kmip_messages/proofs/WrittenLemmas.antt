@@ -1,55 +1,26 @@
 -- Written messages: how deep, how long, and of whole groups.
-use Rattle.std.proofs.Common.{◌≡◌, ℕ, ◌+◌, ◌-◌, ◌≤◌, ◌<◌, ◌^◌, max, ℤ, pos, Bool, true, false, List, [], ◌∷◌, ◌++◌, length, map, Option, Some, None, IsTrue, nat_le, refl, sym, subst, ap, ◌∙◌, inl, inr, lit<, arith}
-use Rattle.kmip_ttlv.specs.Node.{Node, node, structure, enumeration, integer, byte_string, nodes_of}
+use Rattle.std.proofs.Common.{◌≡◌, ℕ, ◌+◌, ◌≤◌, ℤ, pos, true, false, List, [], ◌∷◌, ◌++◌, length, map, Option, Some, None, IsTrue, nat_le, refl, sym, subst, ap, ◌∙◌, inl, inr, lit<, arith}
+use Rattle.kmip_ttlv.specs.Node.{Node, node, enumeration, integer, byte_string, nodes_of}
 use Rattle.kmip_ttlv.specs.Fitting.{HasWholeGroups, HaveWholeGroups, depth, depths}
-use Rattle.kmip_ttlv.specs.Sizes.{size, sizes, padded, IsWritable}
+use Rattle.kmip_ttlv.specs.Sizes.{size, sizes, IsWritable}
 use Rattle.kmip_ttlv.proofs.Lengths.{writable_of}
 use Rattle.std.proofs.lemmas.Bool.{and_parts, leb-true, le-leb, cases_lt}
 use Rattle.std.proofs.lemmas.Bool.Decides.{leb_tells}
 use Rattle.kmip_messages.specs.declared.request.Attrs.{Attrs}
-use Rattle.kmip_messages.specs.declared.request.KeyAttrs.{KeyAttrs}
 use Rattle.kmip_messages.specs.declared.request.Ask.{Ask}
 use Rattle.kmip_messages.specs.declared.request.Ask.TheVariants.{Create, Locate, GetAttributes, Activate, Revoke, Destroy}
 use Rattle.kmip_messages.specs.declared.request.Request.{Request}
 use Rattle.kmip_messages.specs.declared.reply.Outcome.{Outcome}
 use Rattle.kmip_messages.specs.declared.reply.Outcome.TheVariants.{Created, Located, Attributes, Activated, Revoked, Destroyed, Failed}
 use Rattle.kmip_messages.specs.declared.reply.Reply.{Reply}
-use Rattle.kmip_messages.specs.declared.standard.TheConstants.{
-  OPERATION_CREATE,
-  OPERATION_LOCATE,
-  TAG_REQUEST_PAYLOAD,
-  TAG_STORAGE_STATUS_MASK,
-  TAG_OPERATION,
-  TAG_UNIQUE_BATCH_ITEM_ID,
-  TAG_OBJECT_TYPE,
-  TAG_CRYPTOGRAPHIC_ALGORITHM,
-  TAG_CRYPTOGRAPHIC_LENGTH,
-  TAG_CRYPTOGRAPHIC_USAGE_MASK,
-  TAG_STATE,
-  TAG_RESULT_REASON,
-}
-use Rattle.kmip_messages.specs.Written.{
-  given,
-  inside,
-  uid_item,
-  name_item,
-  attrs_item,
-  success_items,
-  outcome_items,
-  reply_header_item,
-  reply_batch_item,
-  reply_item,
-  key_attrs_item,
-  ask_items,
-  request_batch_item,
-  request_item,
-}
+use Rattle.kmip_messages.specs.declared.standard.TheConstants.{TAG_REQUEST_PAYLOAD, TAG_STORAGE_STATUS_MASK, TAG_OPERATION, TAG_UNIQUE_BATCH_ITEM_ID, TAG_OBJECT_TYPE, TAG_CRYPTOGRAPHIC_ALGORITHM, TAG_CRYPTOGRAPHIC_LENGTH, TAG_CRYPTOGRAPHIC_USAGE_MASK, TAG_STATE, TAG_RESULT_REASON}
+use Rattle.kmip_messages.specs.Written.{given, inside, uid_item, name_item, attrs_item, success_items, outcome_items, reply_batch_item, reply_item, ask_items, request_batch_item, request_item}
 use Rattle.kmip_messages.specs.Operations.{operation_of}
-use Rattle.kmip_messages.specs.Ranges.{is_name, is_identifier, is_batch_id, attrs_fit, ask_fits, request_fits}
+use Rattle.kmip_messages.specs.Ranges.{is_name, is_identifier, is_batch_id, ask_fits, request_fits}
 use Rattle.std.specs.Option.{option_map_or}
 use Rattle.std.specs.Fmt.{decimal}
 use Rattle.std.proofs.lemmas.Fmt.{decimal_nonempty, length-decimal-le}
-use Rattle.kmip_messages.specs.Fits.{reply_fits, outcome_fits}
+use Rattle.kmip_messages.specs.Fits.{reply_fits}
 use Rattle.kmip_messages.specs.MessageSizes.{IsCapped, size_if_any, number_size, text_size, name_size, attrs_size, outcome_size}
 
 -- the items have at most so many levels, whole groups, and this size together
@@ -264,7 +235,7 @@ request_batch_parts r =
     let all = both_parts 5 _ _ _ _ (both_parts 5 _ _ _ _ operation id) payload in
     record { deep = omega (arith, all.deep); groups = (all.groups, tt); long = omega (arith, all.long) }
 
-request_writable : (r : Request) → IsTrue (request_fits r) → IsWritable (request_item r)
+pub request_writable : (r : Request) → IsTrue (request_fits r) → IsWritable (request_item r)
 request_writable r fits =
     let batch = request_batch_parts r in
     let parts = and_parts _ _ fits in

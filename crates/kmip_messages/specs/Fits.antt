@@ -1,5 +1,5 @@
 -- Which requests and replies have a written form.
-use Rattle.std.specs.Prelude.{ℕ, ◌+◌, pos, Bool, true, false, ◌&&◌, ◌==◌, nat_le, List, length, Option, Some, None}
+use Rattle.std.specs.Prelude.{ℕ, pos, Bool, true, false, ◌&&◌, ◌==◌, nat_le, Option}
 use Rattle.std.specs.List.{list_all}
 use Rattle.std.specs.Option.{option_map_or}
 use Rattle.kmip_ttlv.specs.Sizes.{size}

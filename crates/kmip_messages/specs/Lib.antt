@@ -3,11 +3,14 @@ pub mod Faults
 pub mod Operations
 pub mod Ranges
 pub mod Siblings
+pub mod Standing
 pub mod Reading
 pub mod Parts
 pub mod RequestReading
 pub mod ReplyReading
 pub mod Written
+pub mod Requests
+pub mod Replies
 pub mod Fits
 pub mod MessageSizes
 pub mod Whole

@@ -1,5 +1,5 @@
 -- How long the parts of a message are.
-use Rattle.std.specs.Prelude.{◌≡◌, ℕ, ◌+◌, ◌<◌, ◌≤◌, List, [], ◌∷◌, length, map, Option, Some, None}
+use Rattle.std.specs.Prelude.{◌≡◌, ℕ, ◌+◌, ◌<◌, ◌≤◌, List, length, map, Option, Some, None}
 use Rattle.kmip_ttlv.specs.Node.{nodes_of}
 use Rattle.kmip_ttlv.specs.Sizes.{padded, sizes}
 use Rattle.kmip_messages.specs.declared.request.Attrs.{Attrs}

@@ -1,7 +1,7 @@
 -- What both kinds of message have: their items, the Unique Batch Item ID, and Unique Identifiers.
 -- Source: KMIP 2.1, Message Structure.
-use Rattle.std.specs.Prelude.{◌≡◌, ℕ, ◌==◌, List, Option, Some, None, Result, Ok, Err, if◌then◌else◌}
-use Rattle.kmip_ttlv.specs.Node.{Node, Content, tag_of, content_of, as_structure, as_text_string, as_byte_string}
+use Rattle.std.specs.Prelude.{ℕ, ◌==◌, List, Option, Some, None, Result, Ok, Err, if◌then◌else◌}
+use Rattle.kmip_ttlv.specs.Node.{Node, tag_of, content_of, as_structure, as_text_string, as_byte_string}
 use Rattle.kmip_messages.specs.declared.fault.MessageFault.{MessageFault}
 use Rattle.kmip_messages.specs.declared.fault.MessageFault.TheVariants.{NotMessage}
 use Rattle.kmip_messages.specs.declared.standard.TheConstants.{TAG_UNIQUE_BATCH_ITEM_ID, TAG_UNIQUE_IDENTIFIER}

@@ -1,11 +1,10 @@
 -- The values that the fields of a message may have.
-use Rattle.std.specs.Prelude.{ℕ, ℤ, pos, Bool, true, false, not, ◌&&◌, ◌||◌, ◌==◌, nat_lt, nat_le, int_lt, List, length, Option, Some, None, if◌then◌else◌}
+use Rattle.std.specs.Prelude.{ℕ, ℤ, pos, Bool, true, false, not, ◌&&◌, ◌||◌, ◌==◌, nat_le, int_lt, List, length, if◌then◌else◌}
 use Rattle.std.specs.List.{list_all}
 use Rattle.std.specs.Ordering.{int_eq}
 use Rattle.std.specs.Option.{option_map_or}
 use Rattle.kmip_messages.specs.declared.standard.TheConstants.{REVOCATION_UNSPECIFIED, REVOCATION_PRIVILEGE_WITHDRAWN, OPERATION_CREATE, OPERATION_LOCATE, OPERATION_GET_ATTRIBUTES, OPERATION_ACTIVATE, OPERATION_REVOKE, OPERATION_DESTROY, ALGORITHM_AES, ALGORITHM_HMAC_SHA256, USAGE_MAX, NAME_MAX, ID_MAX}
 use Rattle.kmip_messages.specs.declared.request.KeyAttrs.{KeyAttrs}
-use Rattle.kmip_messages.specs.declared.request.Attrs.{Attrs}
 use Rattle.kmip_messages.specs.declared.request.Ask.{Ask}
 use Rattle.kmip_messages.specs.declared.request.Ask.TheVariants.{Create, Locate, GetAttributes, Activate, Revoke, Destroy}
 use Rattle.kmip_messages.specs.declared.request.Request.{Request}

@@ -1,6 +1,6 @@
 -- A reply read from an item: the reply, or the first fault.
 -- Source: KMIP 2.1, Message Structure, Operations and Object Attributes; the order of the checks is own.
-use Rattle.std.specs.Prelude.{◌≡◌, ℕ, ℤ, pos, Bool, true, false, ◌==◌, ◌||◌, List, [], ◌∷◌, Option, Some, None, Result, Ok, Err, if◌then◌else◌}
+use Rattle.std.specs.Prelude.{ℕ, pos, Bool, ◌==◌, ◌||◌, List, [], ◌∷◌, Option, Some, None, Result, Ok, Err, if◌then◌else◌}
 use Rattle.std.specs.Ordering.{int_eq}
 use Rattle.kmip_ttlv.specs.Node.{
   Node,

@@ -1,60 +1,17 @@
 -- A request read from an item: the request, or the first fault.
 -- Source: KMIP 2.1, Message Structure, Operations and Object Attributes; the order of the checks is own.
-use Rattle.std.specs.Prelude.{◌≡◌, ℕ, ℤ, pos, Bool, true, false, ◌==◌, ◌&&◌, List, [], ◌∷◌, Option, Some, None, Result, Ok, Err, if◌then◌else◌}
+use Rattle.std.specs.Prelude.{◌≡◌, ℕ, pos, ◌==◌, ◌&&◌, List, [], ◌∷◌, Option, Some, None, Result, Ok, Err, if◌then◌else◌}
 use Rattle.std.specs.Ordering.{int_eq}
-use Rattle.kmip_ttlv.specs.Node.{
-  Node,
-  Content,
-  tag_of,
-  content_of,
-  as_structure,
-  as_integer,
-  as_enumeration,
-  as_text_string,
-  as_byte_string,
-}
+use Rattle.kmip_ttlv.specs.Node.{Node, as_structure, as_integer, as_enumeration, as_text_string}
 use Rattle.kmip_messages.specs.declared.fault.MessageFault.{MessageFault}
-use Rattle.kmip_messages.specs.declared.fault.MessageFault.TheVariants.{NotMessage, Version, BatchCount, UnknownOperation, NoMemory}
+use Rattle.kmip_messages.specs.declared.fault.MessageFault.TheVariants.{Version, BatchCount, UnknownOperation, NoMemory}
 use Rattle.kmip_messages.specs.declared.fault.Refusal.{Refusal}
 use Rattle.kmip_messages.specs.declared.request.KeyAttrs.{KeyAttrs}
 use Rattle.kmip_messages.specs.declared.request.Attrs.{Attrs}
 use Rattle.kmip_messages.specs.declared.request.Ask.{Ask}
 use Rattle.kmip_messages.specs.declared.request.Ask.TheVariants.{Create, Locate, GetAttributes, Activate, Revoke, Destroy}
 use Rattle.kmip_messages.specs.declared.request.Request.{Request}
-use Rattle.kmip_messages.specs.declared.standard.TheConstants.{
-  TAG_REQUEST_MESSAGE,
-  TAG_REQUEST_HEADER,
-  TAG_PROTOCOL_VERSION,
-  TAG_PROTOCOL_VERSION_MAJOR,
-  TAG_PROTOCOL_VERSION_MINOR,
-  TAG_BATCH_COUNT,
-  TAG_BATCH_ITEM,
-  TAG_UNIQUE_BATCH_ITEM_ID,
-  TAG_OPERATION,
-  TAG_REQUEST_PAYLOAD,
-  TAG_OBJECT_TYPE,
-  TAG_ATTRIBUTES,
-  TAG_NAME,
-  TAG_NAME_VALUE,
-  TAG_NAME_TYPE,
-  TAG_CRYPTOGRAPHIC_ALGORITHM,
-  TAG_CRYPTOGRAPHIC_LENGTH,
-  TAG_CRYPTOGRAPHIC_USAGE_MASK,
-  TAG_STATE,
-  TAG_STORAGE_STATUS_MASK,
-  TAG_UNIQUE_IDENTIFIER,
-  TAG_REVOCATION_REASON,
-  TAG_REVOCATION_REASON_CODE,
-  VERSION_MAJOR,
-  VERSION_MINOR,
-  OBJECT_TYPE_SYMMETRIC_KEY,
-  NAME_TYPE_UNINTERPRETED_TEXT_STRING,
-  OPERATION_CREATE,
-  OPERATION_LOCATE,
-  OPERATION_GET_ATTRIBUTES,
-  OPERATION_ACTIVATE,
-  OPERATION_REVOKE,
-}
+use Rattle.kmip_messages.specs.declared.standard.TheConstants.{TAG_REQUEST_MESSAGE, TAG_REQUEST_HEADER, TAG_PROTOCOL_VERSION, TAG_PROTOCOL_VERSION_MAJOR, TAG_PROTOCOL_VERSION_MINOR, TAG_BATCH_COUNT, TAG_BATCH_ITEM, TAG_OPERATION, TAG_REQUEST_PAYLOAD, TAG_OBJECT_TYPE, TAG_ATTRIBUTES, TAG_NAME, TAG_NAME_VALUE, TAG_NAME_TYPE, TAG_CRYPTOGRAPHIC_ALGORITHM, TAG_CRYPTOGRAPHIC_LENGTH, TAG_CRYPTOGRAPHIC_USAGE_MASK, TAG_STATE, TAG_STORAGE_STATUS_MASK, TAG_REVOCATION_REASON, TAG_REVOCATION_REASON_CODE, VERSION_MAJOR, VERSION_MINOR, OBJECT_TYPE_SYMMETRIC_KEY, NAME_TYPE_UNINTERPRETED_TEXT_STRING, OPERATION_CREATE, OPERATION_LOCATE, OPERATION_GET_ATTRIBUTES, OPERATION_ACTIVATE, OPERATION_REVOKE}
 use Rattle.kmip_messages.specs.Ranges.{
   is_name,
   is_algorithm,

@@ -1,6 +1,6 @@
 -- The items of one Structure, found by their tags.
 -- Source: KMIP 2.1, Message Structure: items that a reader does not use are skipped.
-use Rattle.std.specs.Prelude.{◌≡◌, ℕ, Bool, true, List, [], ◌∷◌, Option, Some, None, Result, Ok, Err, ◌==◌, not, if◌then◌else◌}
+use Rattle.std.specs.Prelude.{ℕ, Bool, true, List, [], ◌∷◌, Option, Some, None, Result, Ok, Err, ◌==◌, if◌then◌else◌}
 use Rattle.std.specs.List.{list_any}
 use Rattle.kmip_ttlv.specs.Node.{Node, Content, tag_of, content_of, as_structure}
 use Rattle.kmip_messages.specs.declared.fault.MessageFault.{MessageFault}

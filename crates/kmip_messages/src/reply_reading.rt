@@ -1,10 +1,16 @@
 //! Replies from bytes.
-ghost use Rattle.std.specs.Prelude.{◌≡◌};
-ghost use Rattle.kmip_ttlv.specs.Node.{content_of};
+ghost use Rattle.std.specs.Prelude.{◌≡◌, ℤ, Ok, IsTrue, IfOk};
+ghost use Rattle.kmip_ttlv.specs.Fitting.{IsInRange};
+ghost use Rattle.kmip_ttlv.specs.Node.{Node, content_of};
+ghost use Rattle.kmip_ttlv.specs.Spelling.{canon, Spells};
 ghost use Rattle.kmip_ttlv.specs.View.{view, views};
+ghost use Rattle.kmip_messages.specs.declared.reply.Reply.{Reply};
+ghost use Rattle.kmip_messages.specs.Fits.{reply_fits};
+ghost use Rattle.kmip_messages.specs.Replies.{IsReply};
 ghost use Rattle.kmip_messages.specs.Siblings.{contents};
 ghost use Rattle.kmip_messages.specs.Reading.{Gives};
 ghost use Rattle.kmip_messages.specs.Whole.{reply_read};
+ghost use Rattle.kmip_messages.specs.Written.{reply_item};
 ghost use Rattle.kmip_messages.specs.ReplyReading.{
   reply_header_at,
   reply_batch_at,
@@ -50,8 +56,22 @@ use std::alloc::Global;
 ///
 /// # Errors
 /// The first fault in the order of the checks; want of memory otherwise.
-#[tactic(auto, unfolding(crate::specs::Whole::reply_read))]
 pub fn read_reply(alloc: Global, bytes: &[u8]) -> Result<Reply, MessageFault>
+    // What is read is a reply that the bytes spell.
+    ensures found { IfOk result (λ r. (n : Node) × Spells n bytes.now × IsReply r n) }
+    // Such a reply is read, unless memory runs out.
+    ensures only { (r : Reply) (n : Node) → Spells n bytes.now → IsReply r n → Gives (λ x. x) result (Ok r) }
+    // What was written is read again.
+    ensures back { (r : Reply) (now : ℤ) → IsTrue (reply_fits r) → IsInRange (reply_item r now) → bytes.now ≡ canon (reply_item r now) → Gives (λ x. x) result (Ok r) }
+    // Which fault it is.
+    ensures exact { Gives (λ r. r) result (reply_read bytes.now) }
+{
+    whole_reply(alloc, bytes)
+}
+
+/// The reply that all the bytes are, as reading gives it.
+#[tactic(auto, unfolding(crate::specs::Whole::reply_read))]
+fn whole_reply(alloc: Global, bytes: &[u8]) -> Result<Reply, MessageFault>
     ensures { Gives (λ r. r) result (reply_read bytes.now) }
 {
     let item = whole_item(alloc, bytes)?;

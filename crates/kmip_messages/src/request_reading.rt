@@ -2,10 +2,15 @@
 ghost use Rattle.std.specs.Prelude.{◌≡◌, ◌<◌, ◌^◌, ◌&&◌, true, false, IsTrue, IfOk, IfErr};
 ghost use Rattle.std.specs.Option.{option_map_or};
 ghost use Rattle.std.specs.Ordering.{int_eq};
+ghost use Rattle.kmip_ttlv.specs.Node.{Node};
 ghost use Rattle.kmip_ttlv.specs.View.{view, views};
+ghost use Rattle.kmip_ttlv.specs.Fitting.{IsInRange};
+ghost use Rattle.kmip_ttlv.specs.Spelling.{canon, Spells};
 ghost use Rattle.kmip_messages.specs.Ranges.{is_name, is_batch_id, attrs_fit, ask_fits, request_fits};
 ghost use Rattle.kmip_messages.specs.Reading.{Gives};
 ghost use Rattle.kmip_messages.specs.Whole.{request_read};
+ghost use Rattle.kmip_messages.specs.Requests.{IsRequest};
+ghost use Rattle.kmip_messages.specs.Written.{request_item};
 ghost use Rattle.kmip_messages.specs.RequestReading.{
   request_header_at,
   batch_at,
@@ -46,8 +51,20 @@ use std::alloc::Global;
 /// # Errors
 /// The first fault in the order of the checks, with the Operation and the Unique Batch Item ID where
 /// both are lawful; want of memory otherwise.
-#[tactic(auto, unfolding(crate::specs::Whole::request_read))]
 pub fn read_request(alloc: Global, bytes: &[u8]) -> Result<Request, Refusal>
+    ensures found { IfOk result (λ r. (n : Node) × Spells n bytes.now × IsRequest r n) }
+    ensures only { (r : Request) (n : Node) → Spells n bytes.now → IsRequest r n → GivesRequest result (Ok r) }
+    ensures back { (r : Request) → IsTrue (request_fits r) → IsInRange (request_item r) → bytes.now ≡ canon (request_item r) → GivesRequest result (Ok r) }
+    ensures exact { GivesRequest result (request_read bytes.now) }
+    ensures fits { IfOk result (λ r. IsTrue (request_fits r)) }
+    ensures carries { IfErr result (λ e. IsTrue (option_map_or is_batch_id e.id true)) }
+{
+    whole_request(alloc, bytes)
+}
+
+/// The same, by the order of the checks.
+#[tactic(auto, unfolding(crate::specs::Whole::request_read))]
+fn whole_request(alloc: Global, bytes: &[u8]) -> Result<Request, Refusal>
     ensures exact { GivesRequest result (request_read bytes.now) }
     ensures fits { IfOk result (λ r. IsTrue (request_fits r)) }
     ensures carries { IfErr result (λ e. IsTrue (option_map_or is_batch_id e.id true)) }

@@ -1,5 +1,4 @@
 -- The sizes of the parts are that of the whole.
-use Rattle.std.proofs.Common.{◌∙◌}
 use Rattle.kmip_messages.proofs.WrittenLemmas.{is_short_test}
 use Rattle.kmip_messages.proofs.fitting.is_short.Goals as goal
 

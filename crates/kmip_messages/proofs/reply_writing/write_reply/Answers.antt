@@ -1,5 +1,4 @@
 -- A reply that fits can be written, at any time.
-use Rattle.std.proofs.Common.{rules}
 use Rattle.kmip_messages.proofs.WrittenLemmas.{fits_writable}
 use Rattle.kmip_messages.proofs.reply_writing.write_reply.Goals as goal
 

@@ -1,0 +1,146 @@
+-- What it is for an item to be a reply: each item that is used stands once among its siblings, in any order, and other
+-- items are skipped.
+-- Source: KMIP 2.1, Message Structure, Operations and Object Attributes.
+use Rattle.std.specs.Prelude.{◌≡◌, ℕ, ℤ, pos, List, [], map, Option, Some, None, IsTrue}
+use Rattle.std.specs.List.{list_all}
+use Rattle.std.specs.Option.{option_map}
+use Rattle.kmip_ttlv.specs.Node.{Node, node, integer, enumeration, text_string}
+use Rattle.kmip_ttlv.specs.Spelling.{Spells}
+use Rattle.kmip_messages.specs.declared.request.Attrs.{Attrs}
+use Rattle.kmip_messages.specs.declared.reply.Outcome.{Outcome}
+use Rattle.kmip_messages.specs.declared.reply.Outcome.TheVariants.{Created, Located, Attributes, Activated, Revoked, Destroyed, Failed}
+use Rattle.kmip_messages.specs.declared.reply.Reply.{Reply}
+use Rattle.kmip_messages.specs.declared.standard.TheConstants.{
+  TAG_RESPONSE_MESSAGE,
+  TAG_RESPONSE_HEADER,
+  TAG_PROTOCOL_VERSION,
+  TAG_PROTOCOL_VERSION_MAJOR,
+  TAG_PROTOCOL_VERSION_MINOR,
+  TAG_BATCH_COUNT,
+  TAG_BATCH_ITEM,
+  TAG_OPERATION,
+  TAG_RESULT_STATUS,
+  TAG_RESULT_REASON,
+  TAG_RESPONSE_PAYLOAD,
+  TAG_OBJECT_TYPE,
+  TAG_ATTRIBUTES,
+  TAG_NAME,
+  TAG_NAME_VALUE,
+  TAG_NAME_TYPE,
+  TAG_CRYPTOGRAPHIC_ALGORITHM,
+  TAG_CRYPTOGRAPHIC_LENGTH,
+  TAG_CRYPTOGRAPHIC_USAGE_MASK,
+  TAG_STATE,
+  TAG_UNIQUE_IDENTIFIER,
+  VERSION_MAJOR,
+  NAME_TYPE_UNINTERPRETED_TEXT_STRING,
+  STATUS_SUCCESS,
+  STATUS_OPERATION_FAILED,
+  OPERATION_CREATE,
+  OPERATION_LOCATE,
+  OPERATION_GET_ATTRIBUTES,
+  OPERATION_ACTIVATE,
+  OPERATION_REVOKE,
+  OPERATION_DESTROY,
+}
+use Rattle.kmip_messages.specs.Ranges.{is_identifier}
+use Rattle.kmip_messages.specs.Siblings.{contents}
+use Rattle.kmip_messages.specs.Standing.{Once, AtMostOnce, IsMarked, IsIdentifier}
+use Rattle.kmip_messages.specs.Written.{inside}
+
+-- Protocol Version 2 with any minor number, and one Batch Item
+pub record IsReplyHeader (header : List Node) : Type 0 where
+  pub version : List Node
+  pub minor : ℤ
+  pub has_version : Once TAG_PROTOCOL_VERSION (inside version) header
+  pub has_major : Once TAG_PROTOCOL_VERSION_MAJOR (integer VERSION_MAJOR) version
+  pub has_minor : Once TAG_PROTOCOL_VERSION_MINOR (integer minor) version
+  pub has_count : Once TAG_BATCH_COUNT (integer (pos 1)) header
+
+-- the item is a Response Message, and these are the items of its one Batch Item
+pub record IsReplyBatch (item : Node) (batch : List Node) : Type 0 where
+  pub message : List Node
+  pub header : List Node
+  pub is_message : item ≡ node TAG_RESPONSE_MESSAGE (inside message)
+  pub has_header : Once TAG_RESPONSE_HEADER (inside header) message
+  pub is_header : IsReplyHeader header
+  pub has_batch : Once TAG_BATCH_ITEM (inside batch) message
+
+-- all the Unique Identifiers, in their order
+pub record AreIdentifiers (payload : List Node) (uids : List (List ℕ)) : Type 0 where
+  pub stand : contents TAG_UNIQUE_IDENTIFIER payload ≡ map text_string uids
+  pub in_range : IsTrue (list_all is_identifier uids)
+
+-- a Name with any text
+pub record IsAnyName (attributes : List Node) (name : List ℕ) : Type 0 where
+  pub parts : List Node
+  pub has_name : Once TAG_NAME (inside parts) attributes
+  pub has_value : Once TAG_NAME_VALUE (text_string name) parts
+  pub has_type : Once TAG_NAME_TYPE (enumeration NAME_TYPE_UNINTERPRETED_TEXT_STRING) parts
+
+abbrev pub IsNameIfAny : List Node → Option (List ℕ) → Type 0
+IsNameIfAny attributes None = AtMostOnce TAG_NAME None attributes
+IsNameIfAny attributes (Some name) = IsAnyName attributes name
+
+-- the attributes that a reply gives, each of any value
+pub record AreAttrs (attributes : List Node) (attrs : Attrs) : Type 0 where
+  pub object_type : AtMostOnce TAG_OBJECT_TYPE (option_map enumeration attrs.object_type) attributes
+  pub name : IsNameIfAny attributes attrs.name
+  pub algorithm : AtMostOnce TAG_CRYPTOGRAPHIC_ALGORITHM (option_map enumeration attrs.algorithm) attributes
+  pub length : AtMostOnce TAG_CRYPTOGRAPHIC_LENGTH (option_map integer attrs.length) attributes
+  pub usage : AtMostOnce TAG_CRYPTOGRAPHIC_USAGE_MASK (option_map integer attrs.usage) attributes
+  pub state : AtMostOnce TAG_STATE (option_map enumeration attrs.state) attributes
+
+-- the payload of Get Attributes: an identifier, and the attributes of its object
+pub record IsObject (payload : List Node) (uid : List ℕ) (attrs : Attrs) : Type 0 where
+  pub attributes : List Node
+  pub is_identifier : IsIdentifier payload uid
+  pub has_attributes : Once TAG_ATTRIBUTES (inside attributes) payload
+  pub are : AreAttrs attributes attrs
+
+-- a success of the operation that was asked, with a payload that says this
+pub record IsSuccess (batch : List Node) (asked : Option ℕ) (operation : ℕ) (Says : List Node → Type 0) : Type 0 where
+  pub is_own : asked ≡ Some operation
+  pub has_status : Once TAG_RESULT_STATUS (enumeration STATUS_SUCCESS) batch
+  pub payload : List Node
+  pub has_payload : Once TAG_RESPONSE_PAYLOAD (inside payload) batch
+  pub says : Says payload
+
+-- a success of Locate, where no payload says what an empty one does
+abbrev pub AreFound : Option (List Node) → List (List ℕ) → Type 0
+AreFound None uids = uids ≡ []
+AreFound (Some payload) uids = AreIdentifiers payload uids
+
+pub record IsLocated (batch : List Node) (asked : Option ℕ) (uids : List (List ℕ)) : Type 0 where
+  pub is_own : asked ≡ Some OPERATION_LOCATE
+  pub has_status : Once TAG_RESULT_STATUS (enumeration STATUS_SUCCESS) batch
+  pub payload : Option (List Node)
+  pub has_payload : AtMostOnce TAG_RESPONSE_PAYLOAD (option_map inside payload) batch
+  pub says : AreFound payload uids
+
+-- a failure, with its reason where there is one; no payload is looked at
+pub record IsFailed (batch : List Node) (reason : Option ℕ) : Type 0 where
+  pub has_status : Once TAG_RESULT_STATUS (enumeration STATUS_OPERATION_FAILED) batch
+  pub has_reason : AtMostOnce TAG_RESULT_REASON (option_map enumeration reason) batch
+
+-- how the operation that was asked went
+abbrev pub IsOutcome : List Node → Option ℕ → Outcome → Type 0
+IsOutcome batch asked (Created uid) = IsSuccess batch asked OPERATION_CREATE (λ payload. IsIdentifier payload uid)
+IsOutcome batch asked (Located uids) = IsLocated batch asked uids
+IsOutcome batch asked (Attributes uid attrs) = IsSuccess batch asked OPERATION_GET_ATTRIBUTES (λ payload. IsObject payload uid attrs)
+IsOutcome batch asked (Activated uid) = IsSuccess batch asked OPERATION_ACTIVATE (λ payload. IsIdentifier payload uid)
+IsOutcome batch asked (Revoked uid) = IsSuccess batch asked OPERATION_REVOKE (λ payload. IsIdentifier payload uid)
+IsOutcome batch asked (Destroyed uid) = IsSuccess batch asked OPERATION_DESTROY (λ payload. IsIdentifier payload uid)
+IsOutcome batch asked (Failed reason) = IsFailed batch reason
+
+-- the item is this reply
+pub record IsReply (reply : Reply) (item : Node) : Type 0 where
+  pub batch : List Node
+  pub is_batch : IsReplyBatch item batch
+  pub operation : AtMostOnce TAG_OPERATION (option_map enumeration reply.operation) batch
+  pub id : IsMarked batch reply.id
+  pub outcome : IsOutcome batch reply.operation reply.outcome
+
+-- the bytes spell an item that is the reply
+abbrev pub SpellReply : List ℕ → Reply → Type 0
+SpellReply bytes reply = (n : Node) × Spells n bytes × IsReply reply n

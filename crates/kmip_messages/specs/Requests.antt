@@ -1,0 +1,146 @@
+-- What a request says, whatever the order of its items: no faults, and no reading.
+-- Source: KMIP 2.1, Message Structure (Request Message), Operations (Create, Locate, Get Attributes, Activate, Revoke,
+-- Destroy) and Object Attributes; the ranges of names, identifiers and key attributes are own.
+use Rattle.std.specs.Prelude.{◌≡◌, ℕ, ℤ, pos, List, [], ◌∷◌, Option, Some, IsTrue}
+use Rattle.std.specs.Option.{option_map}
+use Rattle.kmip_ttlv.specs.Node.{Node, node, integer, enumeration, text_string}
+use Rattle.kmip_messages.specs.declared.request.KeyAttrs.{KeyAttrs}
+use Rattle.kmip_messages.specs.declared.request.Attrs.{Attrs}
+use Rattle.kmip_messages.specs.declared.request.Ask.{Ask}
+use Rattle.kmip_messages.specs.declared.request.Ask.TheVariants.{Create, Locate, GetAttributes, Activate, Revoke, Destroy}
+use Rattle.kmip_messages.specs.declared.request.Request.{Request}
+use Rattle.kmip_messages.specs.declared.standard.TheConstants.{
+  TAG_REQUEST_MESSAGE,
+  TAG_REQUEST_HEADER,
+  TAG_PROTOCOL_VERSION,
+  TAG_PROTOCOL_VERSION_MAJOR,
+  TAG_PROTOCOL_VERSION_MINOR,
+  TAG_BATCH_COUNT,
+  TAG_BATCH_ITEM,
+  TAG_OPERATION,
+  TAG_REQUEST_PAYLOAD,
+  TAG_OBJECT_TYPE,
+  TAG_ATTRIBUTES,
+  TAG_NAME,
+  TAG_NAME_VALUE,
+  TAG_NAME_TYPE,
+  TAG_CRYPTOGRAPHIC_ALGORITHM,
+  TAG_CRYPTOGRAPHIC_LENGTH,
+  TAG_CRYPTOGRAPHIC_USAGE_MASK,
+  TAG_STATE,
+  TAG_STORAGE_STATUS_MASK,
+  TAG_REVOCATION_REASON,
+  TAG_REVOCATION_REASON_CODE,
+  VERSION_MAJOR,
+  VERSION_MINOR,
+  OBJECT_TYPE_SYMMETRIC_KEY,
+  NAME_TYPE_UNINTERPRETED_TEXT_STRING,
+}
+use Rattle.kmip_messages.specs.Ranges.{is_name, is_algorithm, is_length, is_usage, is_revocation_code}
+use Rattle.kmip_messages.specs.Operations.{operation_of}
+use Rattle.kmip_messages.specs.Standing.{Once, AtMostOnce, HaveTags, IsMarked, IsIdentifier}
+use Rattle.kmip_messages.specs.Written.{inside}
+
+-- the Protocol Version 2.1
+pub record IsVersion (header : List Node) : Type 0 where
+  pub parts : List Node
+  pub stands : Once TAG_PROTOCOL_VERSION (inside parts) header
+  pub major : Once TAG_PROTOCOL_VERSION_MAJOR (integer VERSION_MAJOR) parts
+  pub minor : Once TAG_PROTOCOL_VERSION_MINOR (integer VERSION_MINOR) parts
+
+-- the Request Header, which counts one Batch Item
+pub record IsHeader (message : List Node) : Type 0 where
+  pub parts : List Node
+  pub stands : Once TAG_REQUEST_HEADER (inside parts) message
+  pub version : IsVersion parts
+  pub count : Once TAG_BATCH_COUNT (integer (pos 1)) parts
+
+-- the items of the one Batch Item of a Request Message
+pub record IsBatch (item : Node) (batch : List Node) : Type 0 where
+  pub parts : List Node
+  pub is_message : item ≡ node TAG_REQUEST_MESSAGE (inside parts)
+  pub header : IsHeader parts
+  pub stands : Once TAG_BATCH_ITEM (inside batch) parts
+
+-- the Name, an uninterpreted text
+pub record IsName (attributes : List Node) (text : List ℕ) : Type 0 where
+  pub parts : List Node
+  pub stands : Once TAG_NAME (inside parts) attributes
+  pub value : Once TAG_NAME_VALUE (text_string text) parts
+  pub in_range : IsTrue (is_name text)
+  pub plain : Once TAG_NAME_TYPE (enumeration NAME_TYPE_UNINTERPRETED_TEXT_STRING) parts
+
+-- the attributes of a new key, and those that keys are looked for by
+abbrev pub key_tags : List ℕ
+key_tags = TAG_NAME ∷ TAG_CRYPTOGRAPHIC_ALGORITHM ∷ TAG_CRYPTOGRAPHIC_LENGTH ∷ TAG_CRYPTOGRAPHIC_USAGE_MASK ∷ []
+
+abbrev pub filter_tags : List ℕ
+filter_tags = TAG_OBJECT_TYPE ∷ TAG_NAME ∷ TAG_CRYPTOGRAPHIC_ALGORITHM ∷ TAG_CRYPTOGRAPHIC_LENGTH ∷ TAG_CRYPTOGRAPHIC_USAGE_MASK ∷ TAG_STATE ∷ []
+
+-- the attributes of a new key, all four of them and no others
+pub record IsKeyAttrs (attributes : List Node) (key : KeyAttrs) : Type 0 where
+  pub no_others : HaveTags key_tags attributes
+  pub called : IsName attributes key.name
+  pub algorithm : Once TAG_CRYPTOGRAPHIC_ALGORITHM (enumeration key.algorithm) attributes
+  pub algorithm_in_range : IsTrue (is_algorithm key.algorithm)
+  pub bits : Once TAG_CRYPTOGRAPHIC_LENGTH (integer key.length) attributes
+  pub bits_in_range : IsTrue (is_length key.algorithm key.length)
+  pub mask : Once TAG_CRYPTOGRAPHIC_USAGE_MASK (integer key.usage) attributes
+  pub mask_in_range : IsTrue (is_usage key.usage)
+
+-- the attributes to look for, the Name among them, and no attributes outside the profile
+pub record IsFilter (attributes : List Node) (filter : Attrs) : Type 0 where
+  pub no_others : HaveTags filter_tags attributes
+  pub object_type : AtMostOnce TAG_OBJECT_TYPE (option_map enumeration filter.object_type) attributes
+  pub text : List ℕ
+  pub has_name : Some text ≡ filter.name
+  pub called : IsName attributes text
+  pub algorithm : AtMostOnce TAG_CRYPTOGRAPHIC_ALGORITHM (option_map enumeration filter.algorithm) attributes
+  pub bits : AtMostOnce TAG_CRYPTOGRAPHIC_LENGTH (option_map integer filter.length) attributes
+  pub mask : AtMostOnce TAG_CRYPTOGRAPHIC_USAGE_MASK (option_map integer filter.usage) attributes
+  pub stage : AtMostOnce TAG_STATE (option_map enumeration filter.state) attributes
+
+-- Create: a symmetric key with these attributes
+pub record IsCreate (payload : List Node) (key : KeyAttrs) : Type 0 where
+  pub object_type : Once TAG_OBJECT_TYPE (enumeration OBJECT_TYPE_SYMMETRIC_KEY) payload
+  pub attributes : List Node
+  pub stands : Once TAG_ATTRIBUTES (inside attributes) payload
+  pub are : IsKeyAttrs attributes key
+
+-- Locate: the storage to look in, where it is said, and the attributes to look for
+pub record IsLocate (payload : List Node) (storage : Option ℤ) (filter : Attrs) : Type 0 where
+  pub mask : AtMostOnce TAG_STORAGE_STATUS_MASK (option_map integer storage) payload
+  pub attributes : List Node
+  pub stands : Once TAG_ATTRIBUTES (inside attributes) payload
+  pub are : IsFilter attributes filter
+
+-- Revoke: the key and the reason's code
+pub record IsRevoke (payload : List Node) (uid : List ℕ) (code : ℕ) : Type 0 where
+  pub identifier : IsIdentifier payload uid
+  pub reason : List Node
+  pub stands : Once TAG_REVOCATION_REASON (inside reason) payload
+  pub says : Once TAG_REVOCATION_REASON_CODE (enumeration code) reason
+  pub in_range : IsTrue (is_revocation_code code)
+
+-- what the items of a Request Payload ask
+abbrev pub IsPayload : List Node → Ask → Type 0
+IsPayload payload (Create key) = IsCreate payload key
+IsPayload payload (Locate storage filter) = IsLocate payload storage filter
+IsPayload payload (GetAttributes uid) = IsIdentifier payload uid
+IsPayload payload (Activate uid) = IsIdentifier payload uid
+IsPayload payload (Revoke uid code) = IsRevoke payload uid code
+IsPayload payload (Destroy uid) = IsIdentifier payload uid
+
+-- the Operation and the Request Payload of a Batch Item
+pub record IsAsk (batch : List Node) (ask : Ask) : Type 0 where
+  pub operation : Once TAG_OPERATION (enumeration (operation_of ask)) batch
+  pub payload : List Node
+  pub stands : Once TAG_REQUEST_PAYLOAD (inside payload) batch
+  pub says : IsPayload payload ask
+
+-- The item is a message of this request.
+pub record IsRequest (request : Request) (item : Node) : Type 0 where
+  pub batch : List Node
+  pub is_batch : IsBatch item batch
+  pub mark : IsMarked batch request.id
+  pub asks : IsAsk batch request.ask
