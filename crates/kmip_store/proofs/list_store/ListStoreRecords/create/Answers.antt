@@ -1,5 +1,5 @@
 -- There is room for the row, and its identifier is the number of its place.
-use Rattle.std.proofs.Common.{ℕ, ◌<◌, length, rules, arith}
+use Rattle.std.proofs.Common.{◌<◌, length, rules, arith}
 use Rattle.kmip_store.proofs.StockLemmas.{keeps_more}
 use Rattle.kmip_store.proofs.list_store.ListStoreRecords.create.Goals as goal
 
