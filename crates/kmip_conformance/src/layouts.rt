@@ -2,8 +2,9 @@
 
 use crate::tags::{
     ALGORITHM, ATTRIBUTES, BATCH_COUNT, BATCH_ITEM, HEADER, ID, IDENTIFIER, LENGTH, MAJOR, MASK,
-    MINOR, NAME, NAME_TYPE, NAME_VALUE, OBJECT_TYPE, OPERATION, PAYLOAD, REQUEST, REVOCATION_CODE,
-    REVOCATION_REASON, USAGE, VERSION,
+    MINOR, NAME, NAME_TYPE, NAME_VALUE, OBJECT_TYPE, OPERATION, PAYLOAD, REASON, REQUEST, RESPONSE,
+    RESPONSE_HEADER, RESPONSE_PAYLOAD, REVOCATION_CODE, REVOCATION_REASON, STATE, STATUS, USAGE,
+    VERSION,
 };
 use kmip_ttlv::{Bytes, Item, Tag, Text, fits, write};
 use std::alloc::{AllocError, Global};
@@ -93,6 +94,67 @@ pub const REVOKE: [Line; 5] = [
     Line(3, REVOCATION_REASON, Content::Structure),
     Line(4, REVOCATION_CODE, Content::Enumeration(1)),
 ];
+
+/// Up to the one Batch Item of a reply, the Time Stamp left out.
+const REPLY_HEAD: [Line; 7] = [
+    Line(0, RESPONSE, Content::Structure),
+    Line(1, RESPONSE_HEADER, Content::Structure),
+    Line(2, VERSION, Content::Structure),
+    Line(3, MAJOR, Content::Integer(2)),
+    Line(3, MINOR, Content::Integer(1)),
+    Line(2, BATCH_COUNT, Content::Integer(1)),
+    Line(1, BATCH_ITEM, Content::Structure),
+];
+
+/// Object `1` was made; so, but for the operation and the Object Type, are the replies to Activate,
+/// Revoke and Destroy.
+pub const CREATED: [Line; 6] = [
+    Line(2, OPERATION, Content::Enumeration(0x1)),
+    Line(2, ID, Content::Bytes(b"\x01k1")),
+    Line(2, STATUS, Content::Enumeration(0)),
+    Line(2, RESPONSE_PAYLOAD, Content::Structure),
+    Line(3, OBJECT_TYPE, Content::Enumeration(2)),
+    Line(3, IDENTIFIER, Content::Text("1")),
+];
+
+/// Object `1` was found.
+pub const LOCATED: [Line; 4] = [
+    Line(2, OPERATION, Content::Enumeration(0x8)),
+    Line(2, STATUS, Content::Enumeration(0)),
+    Line(2, RESPONSE_PAYLOAD, Content::Structure),
+    Line(3, IDENTIFIER, Content::Text("1")),
+];
+
+/// The attributes of object `1`.
+pub const DESCRIBED: [Line; 13] = [
+    Line(2, OPERATION, Content::Enumeration(0xB)),
+    Line(2, STATUS, Content::Enumeration(0)),
+    Line(2, RESPONSE_PAYLOAD, Content::Structure),
+    Line(3, IDENTIFIER, Content::Text("1")),
+    Line(3, ATTRIBUTES, Content::Structure),
+    Line(4, OBJECT_TYPE, Content::Enumeration(2)),
+    Line(4, NAME, Content::Structure),
+    Line(5, NAME_VALUE, Content::Text("k1")),
+    Line(5, NAME_TYPE, Content::Enumeration(1)),
+    Line(4, ALGORITHM, Content::Enumeration(3)),
+    Line(4, LENGTH, Content::Integer(256)),
+    Line(4, USAGE, Content::Integer(0xC)),
+    Line(4, STATE, Content::Enumeration(1)),
+];
+
+/// A Create that failed, since its name is used.
+pub const FAILED: [Line; 3] = [
+    Line(2, OPERATION, Content::Enumeration(0x1)),
+    Line(2, STATUS, Content::Enumeration(1)),
+    Line(2, REASON, Content::Enumeration(0x35)),
+];
+
+/// A whole reply of one Batch Item.
+pub fn reply(alloc: Global, batch: &[Line]) -> Result<Vec<Line>, AllocError> {
+    let mut lines = Vec::from_slice(alloc, &REPLY_HEAD)?;
+    lines.extend_from_slice(batch)?;
+    Ok(lines)
+}
 
 /// A whole request of one Batch Item.
 pub fn request(alloc: Global, batch: &[Line]) -> Result<Vec<Line>, AllocError> {

@@ -15,6 +15,8 @@ mod readers;
 #[cfg(test)]
 mod replies;
 #[cfg(test)]
+mod reply_rows;
+#[cfg(test)]
 mod request_rows;
 #[cfg(test)]
 mod requests;

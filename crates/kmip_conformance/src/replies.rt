@@ -1,5 +1,10 @@
 //! Replies read, and written back.
 
+use crate::layouts::{Change, Content, bytes_of, changed, reply};
+use crate::reply_rows::{REPLY_TABLES, ReplyTable};
+use crate::request_rows::Verdict;
+use crate::requests::verdict_of;
+use crate::tags::OPERATION;
 use crate::vectors::{
     ACTIVATE_1_REPLY, CREATE_K1_LOOSE_REPLY, CREATE_K1_REPLY, INVALID_MESSAGE_REPLY, LOCATE_K1,
     LOCATE_K1_FOUND, LOCATE_K1_NONE, NAME_USED_REPLY, WRONG_STATE_REPLY,
@@ -137,5 +142,37 @@ fn refuses_a_request(rt: HostRuntime) -> Result<(), Fail> {
     let bytes = hex::decode(rt.alloc(), LOCATE_K1)?;
     let fault = read_reply(rt.alloc(), bytes.as_slice()).err();
     assert_eq!(rt; fault, Some(MessageFault::NotMessage));
+    Ok(())
+}
+
+/// Tries the rows of a table.
+fn try_rows(rt: &impl Abort, alloc: Global, table: &ReplyTable) -> Result<(), Fail> {
+    let lines = reply(alloc, table.batch)?;
+    let operation = Content::Enumeration(table.operation);
+    let lines = changed(
+        alloc,
+        lines.as_slice(),
+        Change::Holding(OPERATION, operation),
+    )?;
+    for (changes, wanted) in table.rows {
+        let mut lines = Vec::from_slice(alloc, lines.as_slice())?;
+        for change in *changes {
+            lines = changed(alloc, lines.as_slice(), *change)?;
+        }
+        let bytes = bytes_of(rt, alloc, lines.as_slice())?;
+        let verdict = match read_reply(alloc, bytes.as_slice()) {
+            Ok(_) => Verdict::Read,
+            Err(fault) => verdict_of(fault),
+        };
+        assert_eq!(rt; verdict, *wanted, "{changes:?}");
+    }
+    Ok(())
+}
+
+#[test]
+fn refuses_with_the_first_fault(rt: HostRuntime) -> Result<(), Fail> {
+    for table in &REPLY_TABLES {
+        try_rows(&rt, rt.alloc(), table)?;
+    }
     Ok(())
 }

@@ -4,12 +4,13 @@ use crate::layouts::{ACTIVATE, CREATE, Change, Content, LOCATE, Line, bytes_of, 
 use crate::request_rows::{TABLES, Table, Verdict};
 use crate::tags::{ID, OPERATION};
 use crate::vectors::{ACTIVATE_1, CREATE_K1, DESTROY_1, LOCATE_K1};
-use kmip_messages::{Ask, Attrs, MessageFault, Refusal, read_request};
+use kmip_messages::{Ask, Attrs, MessageFault, Refusal, read_request, request_fits, write_request};
 use std::alloc::Global;
 use std::process::Abort;
 use std::test::Fail;
 
-fn verdict_of(fault: MessageFault) -> Verdict {
+/// What a fault is called in the rows.
+pub fn verdict_of(fault: MessageFault) -> Verdict {
     match fault {
         MessageFault::Ttlv(fault) => Verdict::Ttlv(fault),
         MessageFault::NotMessage => Verdict::NotMessage,
@@ -115,7 +116,7 @@ fn is_k1(filter: &Attrs) -> bool {
 }
 
 #[test]
-fn reads_what_is_asked(rt: HostRuntime) -> Result<(), Fail> {
+fn reads_what_is_asked_and_writes_it_back(rt: HostRuntime) -> Result<(), Fail> {
     for (text, operation) in [
         (LOCATE_K1, 0x8),
         (CREATE_K1, 0x1),
@@ -126,6 +127,9 @@ fn reads_what_is_asked(rt: HostRuntime) -> Result<(), Fail> {
         let request = read_request(rt.alloc(), bytes.as_slice())?;
         assert_eq!(rt; request.ask.operation(), operation);
         assert!(rt; is_known(&request.ask), "operation {operation}");
+        assert!(rt; request_fits(&request));
+        let again = write_request(rt.alloc(), &request)?;
+        assert_eq!(rt; again.as_slice(), bytes.as_slice());
     }
     Ok(())
 }

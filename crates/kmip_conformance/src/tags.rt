@@ -34,7 +34,15 @@ pub const REQUEST: u32 = 0x420078;
 
 pub const PAYLOAD: u32 = 0x420079;
 
+pub const RESPONSE_HEADER: u32 = 0x42007A;
+
 pub const RESPONSE: u32 = 0x42007B;
+
+pub const RESPONSE_PAYLOAD: u32 = 0x42007C;
+
+pub const REASON: u32 = 0x42007E;
+
+pub const STATUS: u32 = 0x42007F;
 
 pub const REVOCATION_REASON: u32 = 0x420081;
 
@@ -43,6 +51,8 @@ pub const REVOCATION_CODE: u32 = 0x420082;
 pub const STATE: u32 = 0x42008D;
 
 pub const MASK: u32 = 0x42008E;
+
+pub const TIME_STAMP: u32 = 0x420092;
 
 pub const ID: u32 = 0x420093;
 
