@@ -145,6 +145,14 @@ fn refuses_a_request(rt: HostRuntime) -> Result<(), Fail> {
     Ok(())
 }
 
+/// What comes of the bytes.
+fn outcome_of(alloc: Global, bytes: &[u8]) -> Verdict {
+    match read_reply(alloc, bytes).err() {
+        None => Verdict::Read,
+        Some(fault) => verdict_of(fault),
+    }
+}
+
 /// Tries the rows of a table.
 fn try_rows(rt: &impl Abort, alloc: Global, table: &ReplyTable) -> Result<(), Fail> {
     let lines = reply(alloc, table.batch)?;
@@ -160,10 +168,7 @@ fn try_rows(rt: &impl Abort, alloc: Global, table: &ReplyTable) -> Result<(), Fa
             lines = changed(alloc, lines.as_slice(), *change)?;
         }
         let bytes = bytes_of(rt, alloc, lines.as_slice())?;
-        let verdict = match read_reply(alloc, bytes.as_slice()) {
-            Ok(_) => Verdict::Read,
-            Err(fault) => verdict_of(fault),
-        };
+        let verdict = outcome_of(alloc, bytes.as_slice());
         assert_eq!(rt; verdict, *wanted, "{changes:?}");
     }
     Ok(())
