@@ -1,5 +1,6 @@
 pub mod States
 pub mod Faults
+pub mod Lifecycle
 pub mod Objects
 pub mod Operations
 pub mod Ranges

@@ -17,6 +17,7 @@ mod request_reading;
 mod request_writing;
 pub mod standard;
 mod state;
+mod step;
 mod texts;
 
 pub use fault::{MessageFault, Refusal};
@@ -29,4 +30,5 @@ pub use request::{Ask, Attrs, KeyAttrs, Request};
 pub use request_reading::read_request;
 pub use request_writing::write_request;
 pub use state::KeyState;
+pub use step::Step;
 pub use texts::Texts;

@@ -1,2 +1,4 @@
 pub mod Faults
 pub mod Stock
+pub mod Stepping
+pub mod Locating

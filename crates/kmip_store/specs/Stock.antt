@@ -1,32 +1,59 @@
--- What the records hold.
--- Source: KMIP 2.1, Object Attributes, State, and Operations, Create.
-use Rattle.std.specs.Prelude.{◌≡◌, ℕ, ◌+◌, ◌≤◌, ◌<◌, Bool, true, false, List, [], ◌∷◌, ◌++◌, length, nat_eq, Result, Ok, Err}
+-- What the records hold, and what a Create adds.
+-- Source: KMIP 2.1, Object Attributes, Name, State and Unique Identifier; Operations, Create.
+use Rattle.std.specs.Prelude.{◌≡◌, ◌≢◌, ℕ, ◌+◌, ◌/◌, ◌≤◌, ◌<◌, ℤ, pos, negsuc, Bool, true, false, ◌&&◌, List, [], ◌∷◌, ◌++◌, length, map, nat_eq, Result, Ok, Err, IsTrue, Unit, tt}
 use Rattle.std.specs.Cmp.Lexicographic.{pointwise}
 use Rattle.std.specs.Fmt.{decimal}
-use Rattle.std.specs.List.{list_any, list_all}
-use Rattle.kmip_messages.specs.Ranges.{is_identifier}
+use Rattle.std.specs.List.{list_any, list_all, find}
+use Rattle.rand_core.specs.Steps.{fill_via_u32}
+use Rattle.rand_chacha.specs.ChaCha.{ChaCha, next_word, of_seed}
+use Rattle.kmip_messages.specs.Objects.{Object}
+use Rattle.kmip_messages.specs.Ranges.{attrs_fit}
 use Rattle.kmip_messages.specs.declared.request.KeyAttrs.{KeyAttrs}
 use Rattle.kmip_messages.specs.declared.state.KeyState.TheVariants.{PreActive}
 use Rattle.kmip_store.specs.declared.row.Row.{Row}
 use Rattle.kmip_store.specs.declared.fault.StoreFault.{StoreFault}
 use Rattle.kmip_store.specs.declared.fault.StoreFault.TheVariants.{NotFound, SameName, WrongState, Full, NoMemory}
 
--- the rows in the order in which they were made, and how many there may be
+-- the rows in the order in which they were made, how many there may be, and where the stream of key material stands
 pub record Stock : Type 0 where
   pub rows : List Row
   pub room : ℕ
+  pub stream : ChaCha
+
+-- the records of a new store: no row, and the stream of ChaCha20 that the seed begins
+abbrev pub empty_stock : List ℕ → ℕ → Stock
+empty_stock seed room = record { rows = []; room = room; stream = of_seed seed }
+
+-- a row as a client may know it
+abbrev pub object_of : Row → Object
+object_of r = record { uid = r.uid; attrs = r.attrs; state = r.state }
+
+abbrev pub objects_of : List Row → List Object
+objects_of rows = map object_of rows
 
 -- a row has the name
 abbrev pub has_name : List ℕ → List Row → Bool
 has_name name rows = list_any (λ r. pointwise nat_eq name r.attrs.name) rows
 
--- the row of a new object at a place from 0
-abbrev pub new_row : ℕ → KeyAttrs → Row
-new_row place attrs = record { uid = decimal (place + 1); attrs = attrs; state = PreActive; material = [] }
+-- the bytes of a key of so many bits
+abbrev pub material_size : ℤ → ℕ
+material_size (pos bits) = bits / 8
+material_size (negsuc n) = 0
 
--- the records with one object more
+-- the next bytes of the stream, and the stream behind them
+abbrev pub drawn : ℕ → ChaCha → List ℕ × ChaCha
+drawn size stream = fill_via_u32 (next_word 10) size stream
+
+-- the row of a new object at a place from 0
+abbrev pub new_row : ℕ → KeyAttrs → List ℕ → Row
+new_row place attrs material = record { uid = decimal (place + 1); attrs = attrs; state = PreActive; material = material }
+
+-- the records with one object more, what was drawn for it being its material
+abbrev pub added_drawn : KeyAttrs → Stock → List ℕ × ChaCha → Stock
+added_drawn attrs s next = record { rows = s.rows ++ new_row (length s.rows) attrs next.0 ∷ []; room = s.room; stream = next.1 }
+
 abbrev pub added : KeyAttrs → Stock → Stock
-added attrs s = record { rows = s.rows ++ new_row (length s.rows) attrs ∷ []; room = s.room }
+added attrs s = added_drawn attrs s (drawn (material_size attrs.length) s.stream)
 
 -- when a Create is refused, and why: first for its name, then for want of room, then of memory
 abbrev pub MayRefuse : {A : Type 0} → List ℕ → Stock → Result A StoreFault → Type 0
@@ -37,8 +64,20 @@ MayRefuse name s (Err NoMemory) = (has_name name s.rows ≡ false) × (length s.
 MayRefuse name s (Err NotFound) = ⊥
 MayRefuse name s (Err WrongState) = ⊥
 
--- what the records keep: there is room for each row, and the identifiers are in their range
-pub record Keeps (rows : List Row) (room : ℕ) : Type 0 where
+-- the identifiers are the decimal numbers of the places, from this place on
+abbrev pub AreNumbered : ℕ → List Row → Type 0
+AreNumbered place [] = Unit {0}
+AreNumbered place (r ∷ rows) = (r.uid ≡ decimal (place + 1)) × AreNumbered (place + 1) rows
+
+-- no two rows have one name
+abbrev pub HaveOwnNames : List Row → Type 0
+HaveOwnNames [] = Unit {0}
+HaveOwnNames (r ∷ rows) = (has_name r.attrs.name rows ≡ false) × HaveOwnNames rows
+
+-- what holds of the records at all times
+pub record IsKept (rows : List Row) (room : ℕ) : Type 0 where
   pub within : length rows ≤ room
   pub small : room ≤ 10000
-  pub identified : list_all (λ r. is_identifier r.uid) rows ≡ true
+  pub numbered : AreNumbered 0 rows
+  pub named : HaveOwnNames rows
+  pub fit : list_all (λ r. attrs_fit r.attrs) rows ≡ true

@@ -1,10 +1,13 @@
 //! What a server keeps its objects in.
-ghost use Rattle.std.specs.Prelude.{◌≡◌, ◌+◌, ◌++◌, ◌∷◌, [], ◌<◌, ◌≤◌, length, true, false, IsTrue, IsSome, IfOk, OnErr, OnOk, Ok, Err, Some, None};
+ghost use Rattle.std.specs.Prelude.{◌≡◌, ◌+◌, ◌≤◌, length, true, IsTrue, IsSome, IfOk, IfSome, OnErr, Err, option_to_list};
 ghost use Rattle.std.specs.Fmt.{decimal};
 ghost use Rattle.std.specs.List.{slice_get};
-ghost use Rattle.std.specs.Option.{option_copied, option_map_or};
+ghost use Rattle.std.specs.Option.{option_copied};
 ghost use Rattle.kmip_messages.specs.Ranges.{attrs_fit, is_identifier};
-ghost use Rattle.kmip_store.specs.Stock.{Stock, has_name, new_row, added, MayRefuse};
+ghost use Rattle.kmip_messages.specs.declared.step.Step.TheVariants as steps;
+ghost use Rattle.kmip_store.specs.Stock.{Stock, IsKept, added, MayRefuse, objects_of};
+ghost use Rattle.kmip_store.specs.Stepping.{Becomes, row_with, stepped};
+ghost use Rattle.kmip_store.specs.Locating.{located};
 
 use crate::fault::StoreFault;
 use crate::row::Row;
@@ -16,7 +19,8 @@ use std::alloc::Global;
 pub trait Records {
     ghost stock: { Self → Stock };
 
-    /// Makes an object in the state Pre-Active, and answers its identifier.
+    /// Makes an object in the state Pre-Active, and answers its identifier: the decimal number of its
+    /// place, from 1. Its key material is the next bytes of the stream, as many as its length says.
     ///
     /// # Errors
     /// `SameName` where a row has the name, then `Full` where the room is used up, then `NoMemory`;
@@ -40,14 +44,44 @@ pub trait Records {
         filter: &Attrs,
     ) -> Result<Option<Text>, StoreFault>
         requires { IsSome filter.now.name }
-        ensures uid { IfOk result (λ found. IsTrue (option_map_or is_identifier found true)) }
+        ensures found { IfOk result (λ uid. located mask filter.now (objects_of (stock self.now).rows) ≡ option_to_list uid) }
+        ensures uid { IfOk result (λ uid. IfSome uid (λ u. IsTrue (is_identifier u))) }
         ensures fault { OnErr result (result ≡ Err StoreFault.NoMemory) };
+
+    /// The row with the identifier.
+    fn find(&self, uid: &str) -> Option<&Row>
+        ensures value { option_copied result ≡ row_with uid.now (stock self.now).rows }
+        ensures fits { IfSome result (λ row. IsTrue (is_identifier row.now.uid) × IsTrue (attrs_fit row.now.attrs)) };
+
+    /// Makes the object with the identifier Active, where it is Pre-Active.
+    ///
+    /// # Errors
+    /// `NotFound` where no row has the identifier, `WrongState` where its row is in another state; the
+    /// records are then as they were. Takes no memory.
+    fn activate(&mut self, uid: &str) -> Result<(), StoreFault>
+        ensures { Becomes result (stock self.old) (stock self.new) (stepped steps.Activate uid.now (stock self.old)) };
+
+    /// Makes the object with the identifier Deactivated, where it is Active.
+    ///
+    /// # Errors
+    /// `NotFound` where no row has the identifier, `WrongState` where its row is in another state; the
+    /// records are then as they were. Takes no memory.
+    fn revoke(&mut self, uid: &str) -> Result<(), StoreFault>
+        ensures { Becomes result (stock self.old) (stock self.new) (stepped steps.Revoke uid.now (stock self.old)) };
+
+    /// Makes the object with the identifier Destroyed, where it is Pre-Active or Deactivated. Its key
+    /// material is then empty; its name is never free again.
+    ///
+    /// # Errors
+    /// `NotFound` where no row has the identifier, `WrongState` where its row is in another state; the
+    /// records are then as they were. Takes no memory.
+    fn destroy(&mut self, uid: &str) -> Result<(), StoreFault>
+        ensures { Becomes result (stock self.old) (stock self.new) (stepped steps.Destroy uid.now (stock self.old)) };
 
     /// How many rows there are.
     fn count(&self) -> usize
         ensures value { result ≡ length (stock self.now).rows }
-        ensures within { result ≤ (stock self.now).room }
-        ensures small { (stock self.now).room ≤ 10000 };
+        ensures kept { IsKept (stock self.now).rows (stock self.now).room };
 
     /// The row at a place, from 0.
     fn at(&self, place: usize) -> Option<&Row>

@@ -1,0 +1,15 @@
+-- The lifecycle of an object: which step leads from which state to which.
+-- Source: KMIP 2.1, Object Attributes, State. Steps that a compromise takes are left out (own).
+use Rattle.std.specs.Prelude.{Option, Some, None}
+use Rattle.kmip_messages.specs.declared.state.KeyState.{KeyState}
+use Rattle.kmip_messages.specs.declared.state.KeyState.TheVariants.{PreActive, Active, Deactivated, Compromised, Destroyed, DestroyedCompromised}
+use Rattle.kmip_messages.specs.declared.step.Step.{Step}
+use Rattle.kmip_messages.specs.declared.step.Step.TheVariants.{Create, Activate, Revoke, Destroy}
+
+-- the state after a step, in the four rows of the lifecycle; none in any other case
+abbrev pub after : KeyState → Step → Option KeyState
+after PreActive Activate = Some Active
+after Active Revoke = Some Deactivated
+after PreActive Destroy = Some Destroyed
+after Deactivated Destroy = Some Destroyed
+after state step = None

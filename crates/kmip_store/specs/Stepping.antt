@@ -1,0 +1,49 @@
+-- What Activate, Revoke and Destroy do to the records.
+-- Source: KMIP 2.1, Operations, Activate, Revoke and Destroy; Object Attributes, State.
+use Rattle.std.specs.Prelude.{◌≡◌, ℕ, List, [], map, nat_eq, Option, Some, None, Result, Ok, Err, if◌then◌else◌}
+use Rattle.std.specs.Cmp.Lexicographic.{pointwise}
+use Rattle.std.specs.List.{find}
+use Rattle.kmip_messages.specs.Lifecycle.{after}
+use Rattle.kmip_messages.specs.declared.state.KeyState.{KeyState}
+use Rattle.kmip_messages.specs.declared.state.KeyState.TheVariants.{PreActive, Active, Deactivated, Compromised, Destroyed, DestroyedCompromised}
+use Rattle.kmip_messages.specs.declared.step.Step.{Step}
+use Rattle.kmip_store.specs.declared.row.Row.{Row}
+use Rattle.kmip_store.specs.declared.fault.StoreFault.{StoreFault}
+use Rattle.kmip_store.specs.declared.fault.StoreFault.TheVariants.{NotFound, WrongState}
+use Rattle.kmip_store.specs.Stock.{Stock}
+
+-- the row with the identifier
+abbrev pub row_with : List ℕ → List Row → Option Row
+row_with uid rows = find (λ r. pointwise nat_eq uid r.uid) rows
+
+-- the material of an object in a state: none once it is destroyed
+abbrev pub material_in : KeyState → List ℕ → List ℕ
+material_in Destroyed material = []
+material_in state material = material
+
+-- the row in this state, where it has the identifier
+abbrev pub row_moved : List ℕ → KeyState → Row → Row
+row_moved uid state r =
+    if pointwise nat_eq uid r.uid then record r { state = state; material = material_in state r.material } else r
+
+-- the rows, with the one that has the identifier in this state
+abbrev pub rows_moved : List ℕ → KeyState → List Row → List Row
+rows_moved uid state rows = map (row_moved uid state) rows
+
+-- the records once the object with the identifier is in the state that a step led to, if there was such a step
+abbrev pub moved_to : List ℕ → Stock → Option KeyState → Result Stock StoreFault
+moved_to uid s None = Err WrongState
+moved_to uid s (Some state) = Ok (record s { rows = rows_moved uid state s.rows })
+
+abbrev pub stepped_from : Step → List ℕ → Stock → Option Row → Result Stock StoreFault
+stepped_from step uid s None = Err NotFound
+stepped_from step uid s (Some row) = moved_to uid s (after row.state step)
+
+-- the records after a step of the object with the identifier, or why there is no such step
+abbrev pub stepped : Step → List ℕ → Stock → Result Stock StoreFault
+stepped step uid s = stepped_from step uid s (row_with uid s.rows)
+
+-- a call did what it says of the records before it, and left them as they were where it was refused
+abbrev pub Becomes : {A : Type 0} → Result A StoreFault → Stock → Stock → Result Stock StoreFault → Type 0
+Becomes (Ok a) old new wanted = wanted ≡ Ok new
+Becomes (Err fault) old new wanted = (wanted ≡ Err fault) × (new ≡ old)
