@@ -19,13 +19,13 @@ const LOCATE_K1_MINOR_0: &str = "\
     0000000500000000420125010000002842005301000000204200550700000002\
     6b3100000000000042005405000000040000000100000000";
 
-/// The reply to `ACTIVATE_1` by a server that has no such operation.
-const NOT_SUPPORTED_REPLY: &str = "\
+/// The reply to `ACTIVATE_1` where there is no object `1`.
+const NOT_FOUND_REPLY: &str = "\
     42007b010000008842007a0100000048420069010000002042006a0200000004\
     000000020000000042006b020000000400000001000000004200920900000008\
     000000000000000042000d0200000004000000010000000042000f0100000030\
     42005c0500000004000000120000000042007f05000000040000000100000000\
-    42007e05000000040000000500000000";
+    42007e05000000040000000100000000";
 
 const REFUSED_HEX: &str = "refused: hex";
 
@@ -78,9 +78,9 @@ const ROWS: [Row; 6] = [
         is_refused: false,
     },
     Row {
-        name: "an operation that the server does not have",
+        name: "an identifier that no object has",
         input: &[ACTIVATE_1],
-        output: &[NOT_SUPPORTED_REPLY],
+        output: &[NOT_FOUND_REPLY],
         is_refused: false,
     },
 ];

@@ -11,6 +11,8 @@ mod items;
 #[cfg(test)]
 mod layouts;
 #[cfg(test)]
+mod lifecycle;
+#[cfg(test)]
 mod readers;
 #[cfg(test)]
 mod replies;

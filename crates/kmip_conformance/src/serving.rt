@@ -32,7 +32,11 @@ const FULL_REPLY: &str = "\
     42007f0500000004000000010000000042007e05000000040000010000000000";
 
 /// The reply to a message, both in hexadecimal.
-fn reply_to(alloc: Global, server: &mut Server<ListStore>, text: &str) -> Result<String, Fail> {
+pub fn reply_to(
+    alloc: Global,
+    server: &mut Server<ListStore>,
+    text: &str,
+) -> Result<String, Fail> {
     let message = hex::decode(alloc, text)?;
     let reply = server.handle(alloc, message.as_slice(), 0)?;
     let text = hex::encode(alloc, reply.as_slice())?;
@@ -128,7 +132,7 @@ const LOCATED: [Row; 6] = [
 ];
 
 /// A server with room for this many objects, and without any.
-fn server_of(alloc: Global, room: usize) -> Server<ListStore>
+pub fn server_of(alloc: Global, room: usize) -> Server<ListStore>
     requires { room ≤ 10000 }
 {
     Server::new(ListStore::new(alloc, [0; 32], room))

@@ -189,20 +189,20 @@ number_bound : {A : Type 0} (o : Option A) → number_size o ≤ 16
 number_bound None = omega arith
 number_bound (Some a) = omega arith
 
-text_bound : (s : List ℕ) (most : ℕ) → length s ≤ most → text_size s ≤ most + 15
+pub text_bound : (s : List ℕ) (most : ℕ) → length s ≤ most → text_size s ≤ most + 15
 text_bound s most h = omega (arith, h)
 
-name_length : (s : List ℕ) → is_name s ≡ true → length s ≤ 64
+pub name_length : (s : List ℕ) → is_name s ≡ true → length s ≤ 64
 name_length s h = leb-true _ _ (and_parts _ _ (and_parts _ _ h).0).1
 
-uid_length : (s : List ℕ) → is_identifier s ≡ true → length s ≤ 64
+pub uid_length : (s : List ℕ) → is_identifier s ≡ true → length s ≤ 64
 uid_length s h = leb-true _ _ (and_parts _ _ h).1
 
 name_bound : (o : Option (List ℕ)) → option_map_or is_name o false ≡ true → name_size o ≤ 103
 name_bound None h = omega arith
 name_bound (Some s) h = omega (arith, text_bound s 64 (name_length s h))
 
-id_bound : (o : Option (List ℕ)) → option_map_or is_batch_id o true ≡ true → size_if_any text_size o ≤ 143
+pub id_bound : (o : Option (List ℕ)) → option_map_or is_batch_id o true ≡ true → size_if_any text_size o ≤ 143
 id_bound None h = omega arith
 id_bound (Some s) h = text_bound s 128 (leb-true _ _ h)
 

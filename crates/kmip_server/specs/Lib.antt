@@ -1,1 +1,3 @@
 pub mod Reasons
+pub mod Serving
+pub mod Answering

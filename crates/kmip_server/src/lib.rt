@@ -1,6 +1,7 @@
 //! The test server: it answers each message of KMIP over the objects of a store.
 #![tactic(auto)]
 
+mod answering;
 mod reasons;
 mod server;
 

@@ -1,1 +1,3 @@
-pub mod StockLemmas
+pub mod KeptLemmas
+pub mod SteppingLemmas
+pub mod LocatingLemmas

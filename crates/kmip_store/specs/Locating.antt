@@ -1,7 +1,7 @@
 -- Which objects a Locate finds.
 -- Source: KMIP 2.1, Operations, Locate; Enumerations and Masks, Storage Status Mask. That the usage mask is compared by
 -- equality is own.
-use Rattle.std.specs.Prelude.{ℕ, ◌==◌, nat_eq, ℤ, Bool, true, false, not, ◌&&◌, List, map, filter, Option, Some, None, bit_and, if◌then◌else◌}
+use Rattle.std.specs.Prelude.{ℕ, ◌==◌, nat_eq, ℤ, Bool, true, not, ◌&&◌, List, map, filter, Option, bit_and}
 use Rattle.std.specs.Cmp.Lexicographic.{pointwise}
 use Rattle.std.specs.Int.{w32, cast_unsigned}
 use Rattle.std.specs.Ordering.{int_eq}
@@ -12,8 +12,6 @@ use Rattle.kmip_messages.specs.declared.request.Attrs.{Attrs}
 use Rattle.kmip_messages.specs.declared.standard.TheConstants.{OBJECT_TYPE_SYMMETRIC_KEY, STORAGE_ON_LINE, STORAGE_DESTROYED}
 use Rattle.kmip_messages.specs.declared.state.KeyState.{KeyState}
 use Rattle.kmip_messages.specs.declared.state.KeyState.TheVariants.{Destroyed}
-use Rattle.kmip_store.specs.declared.row.Row.{Row}
-use Rattle.kmip_store.specs.Stock.{object_of}
 
 -- the bit of a Storage Status Mask that stands for objects of a state
 abbrev pub storage_bit : KeyState → ℕ

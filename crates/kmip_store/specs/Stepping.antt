@@ -5,7 +5,7 @@ use Rattle.std.specs.Cmp.Lexicographic.{pointwise}
 use Rattle.std.specs.List.{find}
 use Rattle.kmip_messages.specs.Lifecycle.{after}
 use Rattle.kmip_messages.specs.declared.state.KeyState.{KeyState}
-use Rattle.kmip_messages.specs.declared.state.KeyState.TheVariants.{PreActive, Active, Deactivated, Compromised, Destroyed, DestroyedCompromised}
+use Rattle.kmip_messages.specs.declared.state.KeyState.TheVariants.{Destroyed}
 use Rattle.kmip_messages.specs.declared.step.Step.{Step}
 use Rattle.kmip_store.specs.declared.row.Row.{Row}
 use Rattle.kmip_store.specs.declared.fault.StoreFault.{StoreFault}
@@ -21,10 +21,13 @@ abbrev pub material_in : KeyState → List ℕ → List ℕ
 material_in Destroyed material = []
 material_in state material = material
 
+-- the row in this state
+abbrev pub entered : KeyState → Row → Row
+entered state r = record r { state = state; material = material_in state r.material }
+
 -- the row in this state, where it has the identifier
 abbrev pub row_moved : List ℕ → KeyState → Row → Row
-row_moved uid state r =
-    if pointwise nat_eq uid r.uid then record r { state = state; material = material_in state r.material } else r
+row_moved uid state r = if pointwise nat_eq uid r.uid then entered state r else r
 
 -- the rows, with the one that has the identifier in this state
 abbrev pub rows_moved : List ℕ → KeyState → List Row → List Row

@@ -4,8 +4,10 @@
 mod fault;
 mod list_store;
 mod matching;
+mod material;
 mod records;
 mod row;
+mod stepping;
 
 pub use fault::StoreFault;
 pub use list_store::ListStore;

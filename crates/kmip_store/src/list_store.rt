@@ -1,13 +1,17 @@
 //! The records as a plain list.
-ghost use Rattle.std.specs.Prelude.{◌≡◌, ◌+◌, ◌≤◌, ◌<◌, [], length, IfOk};
-ghost use Rattle.kmip_store.specs.Stock.{new_row};
+ghost use Rattle.std.specs.Prelude.{◌≡◌, ◌≤◌, ◌<◌, length, IfOk};
+ghost use Rattle.kmip_store.specs.Stock.{empty_stock, new_row, material_size};
 
 use crate::fault::StoreFault;
-use crate::matching::{has_name, is_wanted};
+use crate::matching::{first_wanted, has_name, row_with};
+use crate::material::{draw, zeroed};
 use crate::records::Records;
 use crate::row::Row;
-use kmip_messages::{Attrs, KeyAttrs, KeyState};
-use kmip_ttlv::{Bytes, Text};
+use crate::stepping::step;
+use kmip_messages::{Attrs, KeyAttrs, KeyState, Step};
+use kmip_ttlv::Text;
+use rand_chacha::ChaCha20Rng;
+use rand_core::SeedableRng;
 use std::alloc::{AllocError, Global};
 use std::marker::Model;
 
@@ -16,29 +20,30 @@ use std::marker::Model;
 pub struct ListStore {
     rows: Vec<Row>,
     room: usize,
+    stream: ChaCha20Rng,
 }
 
 impl Model for ListStore {
-    ghost use Rattle.std.specs.Prelude.{◌≤◌, length};
-    ghost use Rattle.kmip_store.specs.Stock.{Stock, Keeps};
+    ghost use Rattle.kmip_store.specs.Stock.{Stock, IsKept};
 
     ghost Value = { Stock };
 
-    ghost view = { λ s. record { rows = s.rows.items; room = s.room } };
+    ghost view = { λ s. record { rows = s.rows.items; room = s.room; stream = s.stream } };
 
-    ghost invariant = { λ s. Keeps s.rows.items s.room };
+    ghost invariant = { λ s. IsKept s.rows.items s.room };
 }
 
 impl ListStore {
-    /// No rows, and room for this many, at most 10,000. The key material is drawn from the seed.
-    /// Takes no memory.
-    pub fn new(alloc: Global, _seed: [u8; 32], room: usize) -> Self
+    /// No rows, and room for this many, at most 10,000. The key material is drawn from the stream of
+    /// ChaCha20 that the seed begins. Takes no memory.
+    pub fn new(alloc: Global, seed: [u8; 32], room: usize) -> Self
         requires { room ≤ 10000 }
-        ensures { result ≡ record { rows = []; room = room } }
+        ensures { result ≡ empty_stock seed room }
     {
         ListStore {
             rows: Vec::new(alloc),
             room,
+            stream: ChaCha20Rng::from_seed(seed),
         }
     }
 }
@@ -53,9 +58,11 @@ impl Records for ListStore {
         if self.rows.len() >= self.room {
             return Err(StoreFault::Full);
         }
+        // All memory is taken before the stream moves on.
         let row = new_row(alloc, self.rows.len(), attrs)?;
         let uid = Text::copied(alloc, row.uid.as_str())?;
-        self.rows.push(row)?;
+        self.rows.reserve(1)?;
+        self.rows.push_reserved(draw(&mut self.stream, row));
         Ok(uid)
     }
 
@@ -65,13 +72,27 @@ impl Records for ListStore {
         mask: Option<i32>,
         filter: &Attrs,
     ) -> Result<Option<Text>, StoreFault> {
-        for row in &self.rows {
-            if is_wanted(row, mask, filter) {
-                let uid = Text::copied(alloc, row.uid.as_str())?;
-                return Ok(Some(uid));
-            }
-        }
-        Ok(None)
+        let Some(row) = first_wanted(self.rows.as_slice(), mask, filter) else {
+            return Ok(None);
+        };
+        let uid = Text::copied(alloc, row.uid.as_str())?;
+        Ok(Some(uid))
+    }
+
+    fn find(&self, uid: &str) -> Option<&Row> {
+        row_with(self.rows.as_slice(), uid)
+    }
+
+    fn activate(&mut self, uid: &str) -> Result<(), StoreFault> {
+        step(&mut self.rows, uid, Step::Activate)
+    }
+
+    fn revoke(&mut self, uid: &str) -> Result<(), StoreFault> {
+        step(&mut self.rows, uid, Step::Revoke)
+    }
+
+    fn destroy(&mut self, uid: &str) -> Result<(), StoreFault> {
+        step(&mut self.rows, uid, Step::Destroy)
     }
 
     fn count(&self) -> usize {
@@ -83,17 +104,19 @@ impl Records for ListStore {
     }
 }
 
-/// The row of a new object at a place from 0.
+/// The row of a new object at a place from 0, with zeros in the place of its material.
 fn new_row(alloc: Global, place: usize, attrs: &KeyAttrs) -> Result<Row, AllocError>
     requires { place < 10000 }
-    ensures { IfOk result (λ row. row ≡ new_row place attrs.now) }
+    ensures row { IfOk result (λ row. row ≡ new_row place attrs.now row.material) }
+    ensures size { IfOk result (λ row. length row.material ≡ material_size attrs.now.length) }
 {
     let uid = (place + 1).to_string(alloc)?;
     let attrs = attrs.copied(alloc)?;
+    let material = zeroed(alloc, attrs.length)?;
     Ok(Row {
         uid: Text::from_string(uid),
         attrs,
         state: KeyState::PreActive,
-        material: Bytes::from_vec(Vec::new(alloc)),
+        material,
     })
 }

@@ -1,6 +1,12 @@
-//! Which rows a Locate finds.
-ghost use Rattle.std.specs.Prelude.{◌≡◌};
-ghost use Rattle.kmip_store.specs.Stock.{has_name};
+//! Rows found by name, by identifier, and by what a Locate gives.
+ghost use Rattle.std.specs.Prelude.{◌≡◌, ◌==◌, nat_eq, true};
+ghost use Rattle.std.specs.Cmp.Lexicographic.{pointwise};
+ghost use Rattle.std.specs.List.{find};
+ghost use Rattle.std.specs.Option.{option_copied, option_map_or};
+ghost use Rattle.std.specs.Ordering.{int_eq};
+ghost use Rattle.kmip_store.specs.Locating.{storage_bit, is_searched, has_given, is_wanted};
+ghost use Rattle.kmip_store.specs.Stepping.{row_with};
+ghost use Rattle.kmip_store.specs.Stock.{has_name, object_of};
 
 use crate::row::Row;
 use kmip_messages::standard::{OBJECT_TYPE_SYMMETRIC_KEY, STORAGE_DESTROYED, STORAGE_ON_LINE};
@@ -13,51 +19,86 @@ pub(crate) fn has_name(rows: &[Row], name: &str) -> bool
     rows.iter().any(|row| name == row.attrs.name.as_str())
 }
 
+/// The row with the identifier.
+pub(crate) fn row_with<'a>(rows: &'a [Row], uid: &str) -> Option<&'a Row>
+    ensures { option_copied result ≡ row_with uid.now rows.now }
+{
+    rows.iter().find(|row| uid == row.uid.as_str())
+}
+
+/// The first row that is searched under the mask and has every attribute that is given.
+pub(crate) fn first_wanted<'a>(
+    rows: &'a [Row],
+    mask: Option<i32>,
+    filter: &Attrs,
+) -> Option<&'a Row>
+    ensures { option_copied result ≡ find (λ r. is_wanted mask filter.now (object_of r)) rows.now }
+{
+    rows.iter().find(|row| is_wanted(row, mask, filter))
+}
+
 /// Whether the row is searched under the mask, and has every attribute that is given.
-pub(crate) fn is_wanted(row: &Row, mask: Option<i32>, filter: &Attrs) -> bool {
-    is_searched(row.state, mask) && is_named(row, filter) && has_attributes(row, filter)
+fn is_wanted(row: &Row, mask: Option<i32>, filter: &Attrs) -> bool
+    ensures { result ≡ is_wanted mask filter.now (object_of row.now) }
+{
+    is_searched(mask, row.state) && has_given(filter, row)
 }
 
 /// Whether rows of the state are searched under a Storage Status Mask.
-fn is_searched(state: KeyState, mask: Option<i32>) -> bool {
-    let bit = if state == KeyState::Destroyed {
-        STORAGE_DESTROYED
-    } else {
-        STORAGE_ON_LINE
-    };
+fn is_searched(mask: Option<i32>, state: KeyState) -> bool
+    ensures { result ≡ is_searched mask state }
+{
     let mask = match mask {
         Some(mask) => mask.cast_unsigned(),
         None => STORAGE_ON_LINE,
     };
-    mask & bit != 0
+    mask & storage_bit(state) != 0
 }
 
-/// Whether the row has the filter's name, where there is one.
-fn is_named(row: &Row, filter: &Attrs) -> bool {
-    match &filter.name {
-        Some(name) => name.as_str() == row.attrs.name.as_str(),
-        None => true,
+/// The bit of a Storage Status Mask that stands for rows of the state.
+fn storage_bit(state: KeyState) -> u32
+    ensures { result ≡ storage_bit state }
+{
+    match state {
+        KeyState::Destroyed => STORAGE_DESTROYED,
+        _ => STORAGE_ON_LINE,
     }
 }
 
-/// Whether the row has every attribute but the name that is given. The usage mask is compared by
-/// equality (own).
-fn has_attributes(row: &Row, filter: &Attrs) -> bool {
-    is_given_number(filter.object_type, OBJECT_TYPE_SYMMETRIC_KEY)
+/// Whether the row has every attribute that is given. The usage mask is compared by equality (own).
+fn has_given(filter: &Attrs, row: &Row) -> bool
+    ensures { result ≡ has_given filter.now (object_of row.now) }
+{
+    is_named(filter, row)
+        && is_given_number(filter.object_type, OBJECT_TYPE_SYMMETRIC_KEY)
         && is_given_number(filter.algorithm, row.attrs.algorithm)
         && is_given_integer(filter.length, row.attrs.length)
         && is_given_integer(filter.usage, row.attrs.usage)
         && is_given_number(filter.state, row.state.number())
 }
 
-fn is_given_number(given: Option<u32>, own: u32) -> bool {
+/// Whether the row has the name that is given.
+fn is_named(filter: &Attrs, row: &Row) -> bool
+    ensures { result ≡ option_map_or (λ name. pointwise nat_eq name row.now.attrs.name) filter.now.name true }
+{
+    match &filter.name {
+        Some(name) => name.as_str() == row.attrs.name.as_str(),
+        None => true,
+    }
+}
+
+fn is_given_number(given: Option<u32>, own: u32) -> bool
+    ensures { result ≡ option_map_or (λ n. n == own) given true }
+{
     match given {
         Some(given) => given == own,
         None => true,
     }
 }
 
-fn is_given_integer(given: Option<i32>, own: i32) -> bool {
+fn is_given_integer(given: Option<i32>, own: i32) -> bool
+    ensures { result ≡ option_map_or (λ n. int_eq n own) given true }
+{
     match given {
         Some(given) => given == own,
         None => true,

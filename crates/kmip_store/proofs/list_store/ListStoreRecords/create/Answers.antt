@@ -1,10 +1,12 @@
--- There is room for the row, and its identifier is the number of its place.
+-- There is room for the row, and its name is new.
 use Rattle.std.proofs.Common.{◌<◌, length, rules, arith}
-use Rattle.kmip_store.proofs.StockLemmas.{keeps_more}
+use Rattle.kmip_store.proofs.KeptLemmas.{kept_more}
 use Rattle.kmip_store.proofs.list_store.ListStoreRecords.create.Goals as goal
 
 pub invariant_of-self-2 : goal.invariant_of-self-2
 invariant_of-self-2 c =
-    let free : length c.self.inside.rows.items < c.self.inside.room = omega (arith, c.self.inside.rows.ok.0) in
-    rw c.in_ok-push.ensures.items
-    (keeps_more c.self.inside.rows.items c.self.inside.room c.args.attrs.now c.in_ok-row.row c.self.invariant free (search rules))
+    let rows = c.self.inside.rows.items in
+    let free : length rows < c.self.inside.room = omega (arith, c.self.inside.rows.ok.0) in
+    rw c.push_reserved.ensures.items
+    (rw c.reserve.ensures.items
+    (kept_more rows c.self.inside.room c.args.attrs.now c.draw.result c.draw.result.material c.self.invariant free (search rules) c.requires (search rules)))

@@ -1,0 +1,202 @@
+//! A key on its way through the states, its key material, and what is told of it.
+
+use crate::serving::{reply_to, server_of};
+use crate::vectors::{
+    ACTIVATE_1, ACTIVATE_1_REPLY, CREATE_K1, CREATE_K1_REPLY, DESTROY_1, LOCATE_K1,
+    LOCATE_K1_FOUND, LOCATE_K1_NONE, NAME_USED_REPLY, WRONG_STATE_REPLY,
+};
+use kmip_messages::KeyState;
+use kmip_store::{ListStore, Records};
+use std::alloc::{AllocError, Global};
+use std::process::Abort;
+use std::test::Fail;
+
+/// Revoke object `1`, unspecified, without a batch item id.
+const REVOKE_1: &str = "\
+    42007801000000884200770100000038420069010000002042006a0200000004\
+    000000020000000042006b0200000004000000010000000042000d0200000004\
+    000000010000000042000f010000004042005c05000000040000001300000000\
+    4200790100000028420094070000000131000000000000004200810100000010\
+    42008205000000040000000100000000";
+
+/// What Get Attributes tells of object `1`, `k1` as it was created.
+const ATTRIBUTES_1_REPLY: &str = "\
+    42007b010000011042007a0100000048420069010000002042006a0200000004\
+    000000020000000042006b020000000400000001000000004200920900000008\
+    000000000000000042000d0200000004000000010000000042000f01000000b8\
+    42005c05000000040000000b0000000042007f05000000040000000000000000\
+    42007c0100000090420094070000000131000000000000004201250100000078\
+    4200570500000004000000020000000042005301000000204200550700000002\
+    6b31000000000000420054050000000400000001000000004200280500000004\
+    000000030000000042002a0200000004000001000000000042002c0200000004\
+    0000000c0000000042008d05000000040000000100000000";
+
+/// The first 64 bytes of the stream of ChaCha20 under a key of zeros (RFC 8439, appendix A.1).
+const STREAM: [&str; 2] = [
+    "76b8e0ada0f13d90405d6ae55386bd28bdd219b8a08ded1aa836efcc8b770dc7",
+    "da41597c5157488d7724e03fb8d84a376a43b8f41518a11cc387b669b2ee6586",
+];
+
+const ACTIVATE: &str = "0000001200000000";
+
+const REVOKE: &str = "0000001300000000";
+
+const DESTROY: &str = "0000001400000000";
+
+const GET_ATTRIBUTES: &str = "0000000b00000000";
+
+/// A question about object `1`, the reason it is refused for or nothing, and what the object is then.
+struct Turn {
+    name: &'static str,
+    operation: &'static str,
+    code: &'static str,
+    reason: &'static str,
+    state: KeyState,
+}
+
+const fn turn(
+    name: &'static str,
+    operation: &'static str,
+    code: &'static str,
+    reason: &'static str,
+    state: KeyState,
+) -> Turn {
+    Turn {
+        name,
+        operation,
+        code,
+        reason,
+        state,
+    }
+}
+
+/// The turns of one key, from the moment it is made.
+const LIFE: [Turn; 14] = [
+    turn("revoked too early", REVOKE, "1", "43", KeyState::PreActive),
+    turn("revoked as compromised", REVOKE, "2", "08", KeyState::PreActive),
+    turn("activated", ACTIVATE, "", "", KeyState::Active),
+    turn("activated again", ACTIVATE, "", "43", KeyState::Active),
+    turn("destroyed too early", DESTROY, "", "43", KeyState::Active),
+    turn("revoked with its authority", REVOKE, "3", "08", KeyState::Active),
+    turn("revoked", REVOKE, "4", "", KeyState::Deactivated),
+    turn("revoked again", REVOKE, "4", "43", KeyState::Deactivated),
+    turn("activated late", ACTIVATE, "", "43", KeyState::Deactivated),
+    turn("destroyed", DESTROY, "", "", KeyState::Destroyed),
+    turn("destroyed again", DESTROY, "", "43", KeyState::Destroyed),
+    turn("activated after all", ACTIVATE, "", "43", KeyState::Destroyed),
+    turn("revoked after all", REVOKE, "1", "43", KeyState::Destroyed),
+    turn("compromised after all", REVOKE, "2", "08", KeyState::Destroyed),
+];
+
+/// Questions about object `1` where there is none, with the reason of the refusal.
+const UNKNOWN: [Turn; 6] = [
+    turn("activated", ACTIVATE, "", "01", KeyState::PreActive),
+    turn("destroyed", DESTROY, "", "01", KeyState::PreActive),
+    turn("revoked", REVOKE, "1", "01", KeyState::PreActive),
+    turn("compromised", REVOKE, "2", "08", KeyState::PreActive),
+    turn("compromised by its authority", REVOKE, "3", "08", KeyState::PreActive),
+    turn("told of", GET_ATTRIBUTES, "", "01", KeyState::PreActive),
+];
+
+/// The request of a turn.
+fn request_of(alloc: Global, turn: &Turn) -> Result<String, AllocError> {
+    if turn.operation == REVOKE {
+        let code = format!(in alloc; "0000000{}00000000", turn.code)?;
+        let whole = format!(in alloc; "4200820500000004{}", code)?;
+        return REVOKE_1.replace(alloc, "42008205000000040000000100000000", whole.as_str());
+    }
+    ACTIVATE_1.replace(alloc, ACTIVATE, turn.operation)
+}
+
+/// The reply of a turn.
+fn reply_of(alloc: Global, turn: &Turn) -> Result<String, AllocError> {
+    if turn.reason.is_empty() {
+        return ACTIVATE_1_REPLY.replace(alloc, ACTIVATE, turn.operation);
+    }
+    let reason = format!(in alloc; "000000{}00000000", turn.reason)?;
+    let refused = WRONG_STATE_REPLY.replace(alloc, "0000004300000000", reason.as_str())?;
+    refused.replace(alloc, DESTROY, turn.operation)
+}
+
+/// Checks that the one row is in the state, and has its material just as long as it is not destroyed.
+fn check_row(rt: &impl Abort, records: &ListStore, turn: &Turn) {
+    assert_eq!(rt; records.count(), 1, "{}", turn.name);
+    let state = records.at(0).map(|row| row.state);
+    assert_eq!(rt; state, Some(turn.state), "{}", turn.name);
+    let size = records.at(0).map(|row| row.material.as_slice().len());
+    let wanted = if turn.state == KeyState::Destroyed { 0 } else { 32 };
+    assert_eq!(rt; size, Some(wanted), "{}", turn.name);
+}
+
+#[test]
+fn goes_through_the_states(rt: HostRuntime) -> Result<(), Fail> {
+    let mut server = server_of(rt.alloc(), 10_000);
+    let made = reply_to(rt.alloc(), &mut server, CREATE_K1)?;
+    assert_eq!(rt; made.as_str(), CREATE_K1_REPLY);
+    for turn in &LIFE {
+        let request = request_of(rt.alloc(), turn)?;
+        let wanted = reply_of(rt.alloc(), turn)?;
+        let reply = reply_to(rt.alloc(), &mut server, request.as_str())?;
+        assert_eq!(rt; reply.as_str(), wanted.as_str(), "{}", turn.name);
+        check_row(&rt, server.records(), turn);
+    }
+    for (mask, wanted) in [
+        ("0000000500000000", LOCATE_K1_FOUND),
+        ("0000000400000000", LOCATE_K1_FOUND),
+        ("0000000100000000", LOCATE_K1_NONE),
+    ] {
+        let request = LOCATE_K1.replace(rt.alloc(), "0000000500000000", mask)?;
+        let reply = reply_to(rt.alloc(), &mut server, request.as_str())?;
+        assert_eq!(rt; reply.as_str(), wanted, "{mask}");
+    }
+    let again = reply_to(rt.alloc(), &mut server, CREATE_K1)?;
+    assert_eq!(rt; again.as_str(), NAME_USED_REPLY);
+    Ok(())
+}
+
+#[test]
+fn keeps_an_active_key(rt: HostRuntime) -> Result<(), Fail> {
+    let mut server = server_of(rt.alloc(), 10_000);
+    for (request, wanted) in [
+        (CREATE_K1, CREATE_K1_REPLY),
+        (ACTIVATE_1, ACTIVATE_1_REPLY),
+        (DESTROY_1, WRONG_STATE_REPLY),
+    ] {
+        let reply = reply_to(rt.alloc(), &mut server, request)?;
+        assert_eq!(rt; reply.as_str(), wanted);
+    }
+    assert_eq!(rt; server.records().at(0).map(|row| row.state), Some(KeyState::Active));
+    Ok(())
+}
+
+#[test]
+fn refuses_an_unknown_identifier(rt: HostRuntime) -> Result<(), Fail> {
+    let mut server = server_of(rt.alloc(), 10_000);
+    for turn in &UNKNOWN {
+        let request = request_of(rt.alloc(), turn)?;
+        let wanted = reply_of(rt.alloc(), turn)?;
+        let reply = reply_to(rt.alloc(), &mut server, request.as_str())?;
+        assert_eq!(rt; reply.as_str(), wanted.as_str(), "{}", turn.name);
+        assert_eq!(rt; server.records().count(), 0);
+    }
+    Ok(())
+}
+
+#[test]
+fn tells_and_keeps_what_was_made(rt: HostRuntime) -> Result<(), Fail> {
+    let mut server = server_of(rt.alloc(), 10_000);
+    for place in 0..2 {
+        let name = if place == 0 { "6b31000000000000" } else { "6b32000000000000" };
+        let request = CREATE_K1.replace(rt.alloc(), "6b31000000000000", name)?;
+        reply_to(rt.alloc(), &mut server, request.as_str())?;
+        if let Some(row) = server.records().at(place) {
+            let material = hex::encode(rt.alloc(), row.material.as_slice())?;
+            assert_eq!(rt; material.as_str(), STREAM[place]);
+        }
+    }
+    assert_eq!(rt; server.records().count(), 2);
+    let request = ACTIVATE_1.replace(rt.alloc(), ACTIVATE, GET_ATTRIBUTES)?;
+    let reply = reply_to(rt.alloc(), &mut server, request.as_str())?;
+    assert_eq!(rt; reply.as_str(), ATTRIBUTES_1_REPLY);
+    Ok(())
+}

@@ -1,0 +1,10 @@
+-- The reply that is being made, in the clauses of the functions that make it.
+use Rattle.std.specs.Prelude.{ℕ, ℤ, List}
+use Rattle.kmip_ttlv.specs.Spelling.{canon}
+use Rattle.kmip_messages.specs.Written.{reply_item}
+use Rattle.kmip_messages.specs.declared.reply.Outcome.{Outcome}
+use Rattle.kmip_messages.specs.declared.reply.Reply.{Reply}
+
+-- the bytes of the reply with this outcome
+abbrev pub written_with : Reply → Outcome → ℤ → List ℕ
+written_with reply outcome now = canon (reply_item (record reply { outcome = outcome }) now)

@@ -1,0 +1,132 @@
+-- What holds of the records at all times: with one object more, and of each object that is found.
+use Rattle.std.proofs.Common.{◌≡◌, ℕ, ◌+◌, ◌<◌, ◌≤◌, Bool, true, false, cond, nat_eq, List, [], ◌∷◌, ◌++◌, length, Option, Some, None, Bor, IfSome, subst, refl, sym, ap, ◌∙◌, inl, inr, arith}
+use Rattle.std.specs.Cmp.Lexicographic.{pointwise}
+use Rattle.std.specs.Fmt.{decimal}
+use Rattle.std.specs.List.{list_all, find}
+use Rattle.std.specs.Option.{option_copied}
+use Rattle.std.proofs.lemmas.Bool.{and_parts, or_parts, or_from, cases_Bool, false_from_ne_true, both_ways}
+use Rattle.std.proofs.lemmas.List.{length-append, length-map}
+use Rattle.std.proofs.lemmas.List.Folds.{list_all-append}
+use Rattle.std.proofs.lemmas.Slice.Eq.{bytes_eq-Decides}
+use Rattle.kmip_messages.specs.Ranges.{is_identifier, attrs_fit}
+use Rattle.kmip_messages.specs.declared.request.KeyAttrs.{KeyAttrs}
+use Rattle.kmip_messages.proofs.WrittenLemmas.{decimal_identifier}
+use Rattle.kmip_messages.specs.declared.state.KeyState.{KeyState}
+use Rattle.kmip_store.specs.declared.row.Row.{Row}
+use Rattle.kmip_store.specs.Stock.{has_name, new_row, AreNumbered, HaveOwnNames, IsKept}
+use Rattle.kmip_store.specs.Stepping.{entered, row_moved, rows_moved}
+
+-- two texts that are apart one way are apart the other way
+apart_back : (a b : List ℕ) → pointwise nat_eq a b ≡ false → pointwise nat_eq b a ≡ false
+apart_back a b apart =
+    false_from_ne_true (pointwise nat_eq b a) (λ same. both_ways _ apart ((bytes_eq-Decides a b).1 (sym ((bytes_eq-Decides b a).0 same))))
+
+numbered_more : (place : ℕ) (rows : List Row) (row : Row) → AreNumbered place rows → row.uid ≡ decimal (place + length rows + 1)
+    → AreNumbered place (rows ++ row ∷ [])
+numbered_more place [] row numbered is =
+    let here : place + 0 + 1 ≡ place + 1 = omega arith in
+    (is ∙ ap decimal here, tt)
+numbered_more place (r ∷ rows) row numbered is =
+    let more : place + length (r ∷ rows) + 1 ≡ (place + 1) + length rows + 1 = omega arith in
+    (numbered.0, numbered_more (place + 1) rows row numbered.1 (is ∙ ap decimal more))
+
+other_name : (name : List ℕ) (rows : List Row) (row : Row) → has_name name rows ≡ false → pointwise nat_eq name row.attrs.name ≡ false
+    → has_name name (rows ++ row ∷ []) ≡ false
+other_name name [] row free apart = or_from _ _ apart refl
+other_name name (r ∷ rows) row free apart =
+    let parts = or_parts _ (has_name name rows) free in
+    or_from _ _ parts.0 (other_name name rows row parts.1 apart)
+
+named_more : (rows : List Row) (row : Row) → HaveOwnNames rows → has_name row.attrs.name rows ≡ false → HaveOwnNames (rows ++ row ∷ [])
+named_more [] row named free = (refl, tt)
+named_more (r ∷ rows) row named free =
+    let parts = or_parts _ (has_name row.attrs.name rows) free in
+    (other_name r.attrs.name rows row named.0 (apart_back row.attrs.name r.attrs.name parts.0), named_more rows row named.1 parts.1)
+
+pub kept_more : (rows : List Row) (room : ℕ) (attrs : KeyAttrs) (row : Row) (material : List ℕ) → IsKept rows room → length rows < room
+    → has_name attrs.name rows ≡ false → attrs_fit attrs ≡ true → row ≡ new_row (length rows) attrs material
+    → IsKept (rows ++ row ∷ []) room
+kept_more rows room attrs row material kept free new fits is = record {
+  within = omega (arith, kept.within, free, length-append rows (row ∷ []));
+  small = kept.small;
+  numbered =
+      let last : length rows + 1 ≡ 0 + length rows + 1 = omega arith in
+      numbered_more 0 rows row kept.numbered (ap (λ r. r.uid) is ∙ ap decimal last);
+  named = named_more rows row kept.named (ap (λ r. has_name r.attrs.name rows) is ∙ new);
+  fit =
+      rw (
+        list_all-append (λ r. attrs_fit r.attrs) rows (row ∷ []),
+        kept.fit,
+        is,
+        fits,
+      ) refl;
+}
+
+-- what the server may say of a row fits into a message
+abbrev pub IsLawful : Row → Type 0
+IsLawful r = (is_identifier r.uid ≡ true) × (attrs_fit r.attrs ≡ true)
+
+-- the first row that passes a test is lawful
+found_fits : (test : Row → Bool) (place : ℕ) (rows : List Row) → AreNumbered place rows → place + length rows ≤ 10000
+    → list_all (λ r. attrs_fit r.attrs) rows ≡ true
+    → IfSome (find test rows) IsLawful
+found_fits test place [] numbered small fit = tt
+found_fits test place (r ∷ rows) numbered small fit =
+    let parts = and_parts (attrs_fit r.attrs) (list_all (λ r. attrs_fit r.attrs) rows) fit in
+    elim (cases_Bool (test r)) [
+      | inl passes ↦
+          rw passes
+          (ap is_identifier numbered.0 ∙ decimal_identifier (place + 1) (omega (arith, small)), parts.0)
+      | inr fails ↦ rw fails (found_fits test (place + 1) rows numbered.1 (omega (arith, small)) parts.1)
+    ]
+
+pub kept_fits : (test : Row → Bool) (rows : List Row) (room : ℕ) (found : Option (Bor Row)) → IsKept rows room
+    → option_copied found ≡ find test rows
+    → IfSome found (λ r. IsLawful r.now)
+kept_fits test rows room None kept is = tt
+kept_fits test rows room (Some r) kept is =
+    subst (λ o. IfSome o IsLawful) (sym is)
+    (found_fits test 0 rows kept.numbered (omega (arith, kept.within, kept.small)) kept.fit)
+
+-- another state changes neither the identifier nor the attributes
+same_columns : (b : Bool) (state : KeyState) (r : Row)
+    → ((cond b (entered state r) r).uid ≡ r.uid) × ((cond b (entered state r) r).attrs ≡ r.attrs)
+same_columns true state r = (refl, refl)
+same_columns false state r = (refl, refl)
+
+moved_attrs : (uid : List ℕ) (state : KeyState) (r : Row) → (row_moved uid state r).attrs ≡ r.attrs
+moved_attrs uid state r = (same_columns (pointwise nat_eq uid r.uid) state r).1
+
+numbered_moved : (uid : List ℕ) (state : KeyState) (place : ℕ) (rows : List Row) → AreNumbered place rows
+    → AreNumbered place (rows_moved uid state rows)
+numbered_moved uid state place [] numbered = tt
+numbered_moved uid state place (r ∷ rows) numbered =
+    ((same_columns (pointwise nat_eq uid r.uid) state r).0 ∙ numbered.0, numbered_moved uid state (place + 1) rows numbered.1)
+
+has_name_moved : (uid : List ℕ) (state : KeyState) (name : List ℕ) (rows : List Row)
+    → has_name name (rows_moved uid state rows) ≡ has_name name rows
+has_name_moved uid state name [] = refl
+has_name_moved uid state name (r ∷ rows) = rw (moved_attrs uid state r, has_name_moved uid state name rows) refl
+
+named_moved : (uid : List ℕ) (state : KeyState) (rows : List Row) → HaveOwnNames rows → HaveOwnNames (rows_moved uid state rows)
+named_moved uid state [] named = tt
+named_moved uid state (r ∷ rows) named = (
+  ap (λ a. has_name a.name (rows_moved uid state rows)) (moved_attrs uid state r)
+      ∙ has_name_moved uid state r.attrs.name rows
+      ∙ named.0,
+  named_moved uid state rows named.1,
+)
+
+fit_moved : (uid : List ℕ) (state : KeyState) (rows : List Row)
+    → list_all (λ r. attrs_fit r.attrs) (rows_moved uid state rows) ≡ list_all (λ r. attrs_fit r.attrs) rows
+fit_moved uid state [] = refl
+fit_moved uid state (r ∷ rows) = rw (moved_attrs uid state r, fit_moved uid state rows) refl
+
+pub kept_moved : (uid : List ℕ) (state : KeyState) (rows : List Row) (room : ℕ) → IsKept rows room → IsKept (rows_moved uid state rows) room
+kept_moved uid state rows room kept = record {
+  within = omega (arith, kept.within, length-map rows (row_moved uid state));
+  small = kept.small;
+  numbered = numbered_moved uid state 0 rows kept.numbered;
+  named = named_moved uid state rows kept.named;
+  fit = fit_moved uid state rows ∙ kept.fit;
+}
