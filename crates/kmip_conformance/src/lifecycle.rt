@@ -6,6 +6,7 @@ use crate::vectors::{
     LOCATE_K1_FOUND, LOCATE_K1_NONE, NAME_USED_REPLY, WRONG_STATE_REPLY,
 };
 use kmip_messages::KeyState;
+use kmip_server::Server;
 use kmip_store::{ListStore, Records};
 use std::alloc::{AllocError, Global};
 use std::process::Abort;
@@ -45,87 +46,92 @@ const DESTROY: &str = "0000001400000000";
 
 const GET_ATTRIBUTES: &str = "0000000b00000000";
 
-/// A question about object `1`, the reason it is refused for or nothing, and what the object is then.
-struct Turn {
-    name: &'static str,
-    operation: &'static str,
-    code: &'static str,
-    reason: &'static str,
-    state: KeyState,
-}
-
-const fn turn(
-    name: &'static str,
-    operation: &'static str,
-    code: &'static str,
-    reason: &'static str,
-    state: KeyState,
-) -> Turn {
-    Turn {
-        name,
-        operation,
-        code,
-        reason,
-        state,
-    }
-}
+/// A question about object `1`: its name, the operation, the revocation code where there is one, the
+/// reason that it is refused for or nothing, and the state that the object is then in.
+#[derive(Drop)]
+struct Turn(
+    &'static str,
+    &'static str,
+    &'static str,
+    &'static str,
+    KeyState,
+);
 
 /// The turns of one key, from the moment it is made.
 const LIFE: [Turn; 14] = [
-    turn("revoked too early", REVOKE, "1", "43", KeyState::PreActive),
-    turn("revoked as compromised", REVOKE, "2", "08", KeyState::PreActive),
-    turn("activated", ACTIVATE, "", "", KeyState::Active),
-    turn("activated again", ACTIVATE, "", "43", KeyState::Active),
-    turn("destroyed too early", DESTROY, "", "43", KeyState::Active),
-    turn("revoked with its authority", REVOKE, "3", "08", KeyState::Active),
-    turn("revoked", REVOKE, "4", "", KeyState::Deactivated),
-    turn("revoked again", REVOKE, "4", "43", KeyState::Deactivated),
-    turn("activated late", ACTIVATE, "", "43", KeyState::Deactivated),
-    turn("destroyed", DESTROY, "", "", KeyState::Destroyed),
-    turn("destroyed again", DESTROY, "", "43", KeyState::Destroyed),
-    turn("activated after all", ACTIVATE, "", "43", KeyState::Destroyed),
-    turn("revoked after all", REVOKE, "1", "43", KeyState::Destroyed),
-    turn("compromised after all", REVOKE, "2", "08", KeyState::Destroyed),
+    Turn("revoked too early", REVOKE, "1", "43", KeyState::PreActive),
+    Turn("revoked as compromised", REVOKE, "2", "08", KeyState::PreActive),
+    Turn("activated", ACTIVATE, "", "", KeyState::Active),
+    Turn("activated again", ACTIVATE, "", "43", KeyState::Active),
+    Turn("destroyed too early", DESTROY, "", "43", KeyState::Active),
+    Turn("revoked with its authority", REVOKE, "3", "08", KeyState::Active),
+    Turn("revoked", REVOKE, "4", "", KeyState::Deactivated),
+    Turn("revoked again", REVOKE, "4", "43", KeyState::Deactivated),
+    Turn("activated late", ACTIVATE, "", "43", KeyState::Deactivated),
+    Turn("destroyed", DESTROY, "", "", KeyState::Destroyed),
+    Turn("destroyed again", DESTROY, "", "43", KeyState::Destroyed),
+    Turn("activated after all", ACTIVATE, "", "43", KeyState::Destroyed),
+    Turn("revoked after all", REVOKE, "1", "43", KeyState::Destroyed),
+    Turn("compromised after all", REVOKE, "2", "08", KeyState::Destroyed),
 ];
 
 /// Questions about object `1` where there is none, with the reason of the refusal.
 const UNKNOWN: [Turn; 6] = [
-    turn("activated", ACTIVATE, "", "01", KeyState::PreActive),
-    turn("destroyed", DESTROY, "", "01", KeyState::PreActive),
-    turn("revoked", REVOKE, "1", "01", KeyState::PreActive),
-    turn("compromised", REVOKE, "2", "08", KeyState::PreActive),
-    turn("compromised by its authority", REVOKE, "3", "08", KeyState::PreActive),
-    turn("told of", GET_ATTRIBUTES, "", "01", KeyState::PreActive),
+    Turn("activated", ACTIVATE, "", "01", KeyState::PreActive),
+    Turn("destroyed", DESTROY, "", "01", KeyState::PreActive),
+    Turn("revoked", REVOKE, "1", "01", KeyState::PreActive),
+    Turn("compromised", REVOKE, "2", "08", KeyState::PreActive),
+    Turn("compromised by its authority", REVOKE, "3", "08", KeyState::PreActive),
+    Turn("told of", GET_ATTRIBUTES, "", "01", KeyState::PreActive),
 ];
 
 /// The request of a turn.
 fn request_of(alloc: Global, turn: &Turn) -> Result<String, AllocError> {
-    if turn.operation == REVOKE {
-        let code = format!(in alloc; "0000000{}00000000", turn.code)?;
-        let whole = format!(in alloc; "4200820500000004{}", code)?;
-        return REVOKE_1.replace(alloc, "42008205000000040000000100000000", whole.as_str());
+    let Turn(_, operation, code, _, _) = turn;
+    if *operation == REVOKE {
+        let item = format!(in alloc; "42008205000000040000000{}00000000", *code)?;
+        return REVOKE_1.replace(alloc, "42008205000000040000000100000000", item.as_str());
     }
-    ACTIVATE_1.replace(alloc, ACTIVATE, turn.operation)
+    ACTIVATE_1.replace(alloc, ACTIVATE, *operation)
 }
 
 /// The reply of a turn.
 fn reply_of(alloc: Global, turn: &Turn) -> Result<String, AllocError> {
-    if turn.reason.is_empty() {
-        return ACTIVATE_1_REPLY.replace(alloc, ACTIVATE, turn.operation);
+    let Turn(_, operation, _, reason, _) = turn;
+    if reason.is_empty() {
+        return ACTIVATE_1_REPLY.replace(alloc, ACTIVATE, *operation);
     }
-    let reason = format!(in alloc; "000000{}00000000", turn.reason)?;
+    let reason = format!(in alloc; "000000{}00000000", *reason)?;
     let refused = WRONG_STATE_REPLY.replace(alloc, "0000004300000000", reason.as_str())?;
-    refused.replace(alloc, DESTROY, turn.operation)
+    refused.replace(alloc, DESTROY, *operation)
 }
 
-/// Checks that the one row is in the state, and has its material just as long as it is not destroyed.
+/// Checks that the one row is in the turn's state, and has its material until it is destroyed.
 fn check_row(rt: &impl Abort, records: &ListStore, turn: &Turn) {
-    assert_eq!(rt; records.count(), 1, "{}", turn.name);
-    let state = records.at(0).map(|row| row.state);
-    assert_eq!(rt; state, Some(turn.state), "{}", turn.name);
-    let size = records.at(0).map(|row| row.material.as_slice().len());
-    let wanted = if turn.state == KeyState::Destroyed { 0 } else { 32 };
-    assert_eq!(rt; size, Some(wanted), "{}", turn.name);
+    let Turn(name, _, _, _, wanted) = turn;
+    let size = if *wanted == KeyState::Destroyed { 0 } else { 32 };
+    assert_eq!(rt; records.count(), 1, "{name}");
+    match records.at(0) {
+        Some(row) => {
+            assert_eq!(rt; row.state, *wanted, "{name}");
+            assert_eq!(rt; row.material.as_slice().len(), size, "{name}");
+        }
+        None => assert!(rt; false, "{name}"),
+    }
+}
+
+/// Asks the question of a turn, and compares the reply.
+fn take_turn(
+    rt: &impl Abort,
+    alloc: Global,
+    server: &mut Server<ListStore>,
+    turn: &Turn,
+) -> Result<(), Fail> {
+    let request = request_of(alloc, turn)?;
+    let wanted = reply_of(alloc, turn)?;
+    let reply = reply_to(alloc, server, request.as_str())?;
+    assert_eq!(rt; reply.as_str(), wanted.as_str(), "{}", turn.0);
+    Ok(())
 }
 
 #[test]
@@ -134,10 +140,7 @@ fn goes_through_the_states(rt: HostRuntime) -> Result<(), Fail> {
     let made = reply_to(rt.alloc(), &mut server, CREATE_K1)?;
     assert_eq!(rt; made.as_str(), CREATE_K1_REPLY);
     for turn in &LIFE {
-        let request = request_of(rt.alloc(), turn)?;
-        let wanted = reply_of(rt.alloc(), turn)?;
-        let reply = reply_to(rt.alloc(), &mut server, request.as_str())?;
-        assert_eq!(rt; reply.as_str(), wanted.as_str(), "{}", turn.name);
+        take_turn(&rt, rt.alloc(), &mut server, turn)?;
         check_row(&rt, server.records(), turn);
     }
     for (mask, wanted) in [
@@ -165,7 +168,8 @@ fn keeps_an_active_key(rt: HostRuntime) -> Result<(), Fail> {
         let reply = reply_to(rt.alloc(), &mut server, request)?;
         assert_eq!(rt; reply.as_str(), wanted);
     }
-    assert_eq!(rt; server.records().at(0).map(|row| row.state), Some(KeyState::Active));
+    let turn = Turn("destroyed too early", "", "", "", KeyState::Active);
+    check_row(&rt, server.records(), &turn);
     Ok(())
 }
 
@@ -173,28 +177,24 @@ fn keeps_an_active_key(rt: HostRuntime) -> Result<(), Fail> {
 fn refuses_an_unknown_identifier(rt: HostRuntime) -> Result<(), Fail> {
     let mut server = server_of(rt.alloc(), 10_000);
     for turn in &UNKNOWN {
-        let request = request_of(rt.alloc(), turn)?;
-        let wanted = reply_of(rt.alloc(), turn)?;
-        let reply = reply_to(rt.alloc(), &mut server, request.as_str())?;
-        assert_eq!(rt; reply.as_str(), wanted.as_str(), "{}", turn.name);
-        assert_eq!(rt; server.records().count(), 0);
+        take_turn(&rt, rt.alloc(), &mut server, turn)?;
+        assert_eq!(rt; server.records().count(), 0, "{}", turn.0);
     }
     Ok(())
 }
 
 #[test]
-fn tells_and_keeps_what_was_made(rt: HostRuntime) -> Result<(), Fail> {
+fn draws_the_material_in_turn(rt: HostRuntime) -> Result<(), Fail> {
     let mut server = server_of(rt.alloc(), 10_000);
-    for place in 0..2 {
-        let name = if place == 0 { "6b31000000000000" } else { "6b32000000000000" };
+    for (place, name) in [(0, "6b31000000000000"), (1, "6b32000000000000")] {
         let request = CREATE_K1.replace(rt.alloc(), "6b31000000000000", name)?;
         reply_to(rt.alloc(), &mut server, request.as_str())?;
-        if let Some(row) = server.records().at(place) {
-            let material = hex::encode(rt.alloc(), row.material.as_slice())?;
-            assert_eq!(rt; material.as_str(), STREAM[place]);
+        let wanted = hex::decode(rt.alloc(), STREAM[place])?;
+        match server.records().at(place) {
+            Some(row) => assert_eq!(rt; row.material.as_slice(), wanted.as_slice(), "{place}"),
+            None => assert!(rt; false, "{place}"),
         }
     }
-    assert_eq!(rt; server.records().count(), 2);
     let request = ACTIVATE_1.replace(rt.alloc(), ACTIVATE, GET_ATTRIBUTES)?;
     let reply = reply_to(rt.alloc(), &mut server, request.as_str())?;
     assert_eq!(rt; reply.as_str(), ATTRIBUTES_1_REPLY);
