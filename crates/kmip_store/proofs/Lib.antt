@@ -1,3 +1,4 @@
 pub mod KeptLemmas
 pub mod SteppingLemmas
 pub mod LocatingLemmas
+pub mod CallingLemmas

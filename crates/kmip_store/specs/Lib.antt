@@ -2,3 +2,4 @@ pub mod Faults
 pub mod Stock
 pub mod Stepping
 pub mod Locating
+pub mod Calling

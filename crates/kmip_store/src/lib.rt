@@ -1,6 +1,8 @@
-//! The objects of the test server: the trait `Records`, and the plain list that keeps them.
+//! The objects of the test server: the trait `Records`, the plain list that keeps them, and the law
+//! that any two stores answer alike.
 #![tactic(auto)]
 
+mod calling;
 mod fault;
 mod list_store;
 mod matching;
@@ -9,6 +11,7 @@ mod records;
 mod row;
 mod stepping;
 
+pub use calling::{Answer, Call, call_all};
 pub use fault::StoreFault;
 pub use list_store::ListStore;
 pub use records::Records;

@@ -1,0 +1,68 @@
+-- What a list of calls answers, and what the records hold behind it: both follow from the records before it, whatever keeps
+-- them.
+use Rattle.std.specs.Prelude.{◌+◌, Bool, true, List, [], ◌∷◌, length, nat_lt, Result, Ok, Err, if◌then◌else◌}
+use Rattle.std.specs.Fmt.{decimal}
+use Rattle.std.specs.List.{slice_get}
+use Rattle.std.specs.Option.{is_some}
+use Rattle.kmip_messages.specs.Ranges.{attrs_fit}
+use Rattle.kmip_messages.specs.declared.request.KeyAttrs.{KeyAttrs}
+use Rattle.kmip_messages.specs.declared.step.Step.TheVariants as steps
+use Rattle.kmip_store.specs.declared.calling.Answer.{Answer}
+use Rattle.kmip_store.specs.declared.calling.Answer.TheVariants as answers
+use Rattle.kmip_store.specs.declared.calling.Call.{Call}
+use Rattle.kmip_store.specs.declared.calling.Call.TheVariants.{Create, Locate, Find, Activate, Revoke, Destroy, Count, At}
+use Rattle.kmip_store.specs.declared.fault.StoreFault.{StoreFault}
+use Rattle.kmip_store.specs.declared.fault.StoreFault.TheVariants.{SameName, Full}
+use Rattle.kmip_store.specs.Stock.{Stock, has_name, added, objects_of}
+use Rattle.kmip_store.specs.Stepping.{row_with, stepped}
+use Rattle.kmip_store.specs.Locating.{located}
+
+-- the call may be made: the attributes of a Create are in their ranges, and a Locate gives a name
+abbrev pub may_call : Call → Bool
+may_call (Create attrs) = attrs_fit attrs
+may_call (Locate mask filter) = is_some filter.name
+may_call call = true
+
+-- the records with one object more, or why there is none: its name is used, or the room is
+abbrev pub created : KeyAttrs → Stock → Result Stock StoreFault
+created attrs s =
+    if has_name attrs.name s.rows then Err SameName else (if nat_lt (length s.rows) s.room then Ok (added attrs s) else Err Full)
+
+-- the answer to a change of the records that was made or refused
+abbrev pub answer_of : Answer → Result Stock StoreFault → Answer
+answer_of done (Ok after) = done
+answer_of done (Err fault) = answers.Refused fault
+
+-- the records behind a change that was made or refused
+abbrev pub stock_of : Stock → Result Stock StoreFault → Stock
+stock_of before (Ok after) = after
+stock_of before (Err fault) = before
+
+-- what a call answers
+abbrev pub answer_to : Call → Stock → Answer
+answer_to (Create attrs) s = answer_of (answers.Created (decimal (length s.rows + 1))) (created attrs s)
+answer_to (Locate mask filter) s = answers.Located (slice_get (located mask filter (objects_of s.rows)) 0)
+answer_to (Find uid) s = answers.Found (row_with uid s.rows)
+answer_to (Activate uid) s = answer_of answers.Moved (stepped steps.Activate uid s)
+answer_to (Revoke uid) s = answer_of answers.Moved (stepped steps.Revoke uid s)
+answer_to (Destroy uid) s = answer_of answers.Moved (stepped steps.Destroy uid s)
+answer_to Count s = answers.Counted (length s.rows)
+answer_to (At place) s = answers.Found (slice_get s.rows place)
+
+-- the records behind a call
+abbrev pub stock_after : Call → Stock → Stock
+stock_after (Create attrs) s = stock_of s (created attrs s)
+stock_after (Activate uid) s = stock_of s (stepped steps.Activate uid s)
+stock_after (Revoke uid) s = stock_of s (stepped steps.Revoke uid s)
+stock_after (Destroy uid) s = stock_of s (stepped steps.Destroy uid s)
+stock_after call s = s
+
+-- what the calls answer, one after the other
+abbrev pub answers_to : List Call → Stock → List Answer
+answers_to [] s = []
+answers_to (call ∷ calls) s = answer_to call s ∷ answers_to calls (stock_after call s)
+
+-- the records behind the calls
+abbrev pub stock_behind : List Call → Stock → Stock
+stock_behind [] s = s
+stock_behind (call ∷ calls) s = stock_behind calls (stock_after call s)

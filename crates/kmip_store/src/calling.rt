@@ -1,0 +1,170 @@
+//! A law of everything that keeps records: what a list of calls answers follows from the records
+//! before it alone. So two stores of one seed and one room answer any list of calls alike, however
+//! each keeps its rows.
+ghost use Rattle.std.specs.Prelude.{◌≡◌, ℕ, take, IfOk, OnOk, OnErr, IsTrue, IsSome};
+ghost use Rattle.std.specs.List.{list_all};
+ghost use Rattle.std.specs.Option.{option_copied};
+ghost use Rattle.kmip_messages.specs.Ranges.{attrs_fit};
+ghost use Rattle.kmip_store.specs.Calling.{
+  may_call,
+  answer_to,
+  stock_after,
+  answers_to,
+  stock_behind,
+};
+ghost use Rattle.kmip_store.specs.declared.calling.Answer.TheVariants as answers;
+ghost use Rattle.kmip_store.specs.declared.calling.Call.TheVariants as calls;
+
+use crate::fault::StoreFault;
+use crate::records::Records;
+use crate::row::Row;
+use kmip_messages::{Attrs, KeyAttrs};
+use kmip_ttlv::{NoMemory, Text};
+use std::alloc::Global;
+
+/// A call of a method of the records, with what it is given.
+#[derive(Debug, Drop)]
+pub enum Call {
+    Create(KeyAttrs),
+    Locate { mask: Option<i32>, filter: Attrs },
+    Find(Text),
+    Activate(Text),
+    Revoke(Text),
+    Destroy(Text),
+    Count,
+    At(usize),
+}
+
+/// What a call answered, other than want of memory.
+#[derive(Debug, Drop)]
+pub enum Answer {
+    /// An object was made, and has this identifier.
+    Created(Text),
+    /// The identifier of the object that a Locate found.
+    Located(Option<Text>),
+    /// The row with an identifier or at a place.
+    Found(Option<Row>),
+    /// An object is in another state.
+    Moved,
+    /// How many rows there are.
+    Counted(usize),
+    /// Nothing was changed, for this reason.
+    Refused(StoreFault),
+}
+
+/// Makes the calls one after the other, and answers what each of them answered.
+///
+/// # Errors
+/// Where there is no memory for a call or for its answer; the records are then those behind some of
+/// the calls, from the first on.
+pub fn call_all<S: Records>(
+    alloc: Global,
+    store: &mut S,
+    calls: &[Call],
+) -> Result<Vec<Answer>, NoMemory>
+    requires { IsTrue (list_all may_call calls.now) }
+    ensures answers { IfOk result (λ answers. answers.items ≡ answers_to calls.now (S.stock store.old)) }
+    ensures stock { OnOk result (S.stock store.new ≡ stock_behind calls.now (S.stock store.old)) }
+    ensures broken_off { OnErr result ((done : ℕ) × (S.stock store.new ≡ stock_behind (take done calls.now) (S.stock store.old))) }
+{
+    let mut answers = Vec::new(alloc);
+    for call in calls {
+        let answer = call_one(alloc, store, call)?;
+        answers.push(answer)?;
+    }
+    Ok(answers)
+}
+
+/// Makes a call, and answers what it answered.
+fn call_one<S: Records>(alloc: Global, store: &mut S, call: &Call) -> Result<Answer, NoMemory>
+    requires { IsTrue (may_call call.now) }
+    ensures answer { IfOk result (λ answer. answer ≡ answer_to call.now (S.stock store.old)) }
+    ensures stock { OnOk result (S.stock store.new ≡ stock_after call.now (S.stock store.old)) }
+    ensures same { OnErr result (S.stock store.new ≡ S.stock store.old) }
+{
+    match call {
+        Call::Create(attrs) => create(alloc, store, attrs),
+        Call::Locate { mask, filter } => locate(alloc, store, *mask, filter),
+        Call::Find(uid) => copied(alloc, store.find(uid.as_str())),
+        Call::Activate(uid) => Ok(activate(store, uid.as_str())),
+        Call::Revoke(uid) => Ok(revoke(store, uid.as_str())),
+        Call::Destroy(uid) => Ok(destroy(store, uid.as_str())),
+        Call::Count => Ok(Answer::Counted(store.count())),
+        Call::At(place) => copied(alloc, store.at(*place)),
+    }
+}
+
+fn create<S: Records>(alloc: Global, store: &mut S, attrs: &KeyAttrs) -> Result<Answer, NoMemory>
+    requires { IsTrue (attrs_fit attrs.now) }
+    ensures answer { IfOk result (λ answer. answer ≡ answer_to (calls.Create attrs.now) (S.stock store.old)) }
+    ensures stock { OnOk result (S.stock store.new ≡ stock_after (calls.Create attrs.now) (S.stock store.old)) }
+    ensures same { OnErr result (S.stock store.new ≡ S.stock store.old) }
+{
+    match store.create(alloc, attrs) {
+        Ok(uid) => Ok(Answer::Created(uid)),
+        Err(fault) => {
+            if fault == StoreFault::NoMemory {
+                return Err(NoMemory);
+            }
+            Ok(Answer::Refused(fault))
+        }
+    }
+}
+
+fn locate<S: Records>(
+    alloc: Global,
+    store: &S,
+    mask: Option<i32>,
+    filter: &Attrs,
+) -> Result<Answer, NoMemory>
+    requires { IsSome filter.now.name }
+    ensures { IfOk result (λ answer. answer ≡ answer_to (calls.Locate mask filter.now) (S.stock store.now)) }
+{
+    match store.locate(alloc, mask, filter) {
+        Ok(uid) => Ok(Answer::Located(uid)),
+        Err(_) => Err(NoMemory),
+    }
+}
+
+fn activate<S: Records>(store: &mut S, uid: &str) -> Answer
+    ensures answer { result ≡ answer_to (calls.Activate uid.now) (S.stock store.old) }
+    ensures stock { S.stock store.new ≡ stock_after (calls.Activate uid.now) (S.stock store.old) }
+{
+    match store.activate(uid) {
+        Ok(()) => Answer::Moved,
+        Err(fault) => Answer::Refused(fault),
+    }
+}
+
+fn revoke<S: Records>(store: &mut S, uid: &str) -> Answer
+    ensures answer { result ≡ answer_to (calls.Revoke uid.now) (S.stock store.old) }
+    ensures stock { S.stock store.new ≡ stock_after (calls.Revoke uid.now) (S.stock store.old) }
+{
+    match store.revoke(uid) {
+        Ok(()) => Answer::Moved,
+        Err(fault) => Answer::Refused(fault),
+    }
+}
+
+fn destroy<S: Records>(store: &mut S, uid: &str) -> Answer
+    ensures answer { result ≡ answer_to (calls.Destroy uid.now) (S.stock store.old) }
+    ensures stock { S.stock store.new ≡ stock_after (calls.Destroy uid.now) (S.stock store.old) }
+{
+    match store.destroy(uid) {
+        Ok(()) => Answer::Moved,
+        Err(fault) => Answer::Refused(fault),
+    }
+}
+
+/// A copy of a row that may have been found.
+fn copied(alloc: Global, found: Option<&Row>) -> Result<Answer, NoMemory>
+    ensures { IfOk result (λ answer. answer ≡ answers.Found (option_copied found.entry)) }
+{
+    match found {
+        Some(row) => {
+            let row = row.copied(alloc)?;
+            Ok(Answer::Found(Some(row)))
+        }
+        None => Ok(Answer::Found(None)),
+    }
+}
