@@ -1,7 +1,7 @@
 -- Refusals that are answered, and how long a reply of Get Attributes is.
 use Rattle.std.proofs.Common.{◌≡◌, ◌≢◌, ◌≤◌, ◌+◌, ◌&&◌, ◌==◌, ℕ, pos, Bool, true, false, List, length, Option, Some, None, Result, Ok, Err, IfOk, OnOk, IsSome, IsTrue, nat_le, refl, sym, subst, ap, ◌∙◌, arith}
 use Rattle.std.specs.Option.{option_map_or}
-use Rattle.std.proofs.lemmas.Bool.{and_parts, le-leb, lt-leb}
+use Rattle.std.proofs.lemmas.Bool.{and_parts, le-leb, lt-ltb, le-ltb}
 use Rattle.kmip_ttlv.specs.Sizes.{size}
 use Rattle.kmip_messages.specs.declared.fault.MessageFault.{MessageFault}
 use Rattle.kmip_messages.specs.declared.fault.MessageFault.TheVariants as faults
@@ -22,9 +22,9 @@ use Rattle.kmip_messages.specs.Written.{reply_item}
 use Rattle.kmip_messages.proofs.WrittenLemmas.{size-reply, id_bound, name_length, text_bound, uid_length}
 use Rattle.kmip_store.specs.declared.fault.StoreFault.{StoreFault}
 use Rattle.kmip_store.specs.declared.fault.StoreFault.TheVariants.{NotFound, SameName, WrongState, Full, NoMemory}
-use Rattle.kmip_store.specs.Stock.{Stock, MayRefuse, added}
+use Rattle.kmip_store.specs.Stock.{Stock, MayRefuse, added, created}
 use Rattle.kmip_server.specs.Reasons.{message_reason, store_reason}
-use Rattle.kmip_server.specs.Serving.{attributes_of, created}
+use Rattle.kmip_server.specs.Serving.{attributes_of}
 
 -- what holds of a value where this and that do
 pub if_ok : {A E : Type 0} (r : Result A E) (P Q : A → Type 0) (C : Type 0) → IfOk r P → IfOk r (λ _. C) → (C → (a : A) → P a → Q a) → IfOk r Q
@@ -58,7 +58,7 @@ refused : (attrs : KeyAttrs) (s : Stock) (fault : StoreFault) → MayRefuse {A =
 refused attrs s NotFound h other = absurd h
 refused attrs s SameName h other = rw h refl
 refused attrs s WrongState h other = absurd h
-refused attrs s Full h other = rw (h.0, le-leb s.room (length s.rows) h.1) refl
+refused attrs s Full h other = rw (h.0, le-ltb (length s.rows) s.room h.1) refl
 refused attrs s NoMemory h other = absurd (other refl)
 
 -- a Create that is refused, and not for want of memory, is refused by its definition
@@ -68,7 +68,7 @@ created_refused attrs s fault h other = refused attrs s fault h other
 
 -- and one that is made, is made by it
 pub created_made : (attrs : KeyAttrs) (s : Stock) (uid : List ℕ) → MayRefuse attrs.name s (Ok uid) → created attrs s ≡ Ok (added attrs s)
-created_made attrs s uid h = rw (h.0, lt-leb s.room (length s.rows) h.1) refl
+created_made attrs s uid h = rw (h.0, lt-ltb (length s.rows) s.room h.1) refl
 
 both : {a b : Bool} → a ≡ true → b ≡ true → (a && b) ≡ true
 both h k = rw (h, k) refl

@@ -1,6 +1,6 @@
 -- What the server answers a message, and what its records are behind it.
 -- Source: KMIP 2.1, Operations. Which reason answers which refusal is own, and that a compromise is refused.
-use Rattle.std.specs.Prelude.{ℕ, ◌+◌, ◌==◌, nat_le, ◌||◌, ℤ, Bool, List, length, Option, Some, None, Result, Ok, Err, if◌then◌else◌}
+use Rattle.std.specs.Prelude.{ℕ, ◌+◌, ◌==◌, ◌||◌, ℤ, Bool, List, length, Option, Some, None, Result, Ok, Err, if◌then◌else◌}
 use Rattle.std.specs.Fmt.{decimal}
 use Rattle.kmip_ttlv.specs.Spelling.{canon}
 use Rattle.kmip_messages.specs.Objects.{Object}
@@ -15,7 +15,6 @@ use Rattle.kmip_messages.specs.declared.reply.Reply.{Reply}
 use Rattle.kmip_messages.specs.declared.request.Ask.{Ask}
 use Rattle.kmip_messages.specs.declared.request.Ask.TheVariants.{Create, Locate, GetAttributes, Activate, Revoke, Destroy}
 use Rattle.kmip_messages.specs.declared.request.Attrs.{Attrs}
-use Rattle.kmip_messages.specs.declared.request.KeyAttrs.{KeyAttrs}
 use Rattle.kmip_messages.specs.declared.request.Request.{Request}
 use Rattle.kmip_messages.specs.declared.standard.TheConstants.{
   OBJECT_TYPE_SYMMETRIC_KEY,
@@ -25,19 +24,12 @@ use Rattle.kmip_messages.specs.declared.standard.TheConstants.{
 }
 use Rattle.kmip_messages.specs.declared.step.Step.TheVariants as steps
 use Rattle.kmip_store.specs.declared.fault.StoreFault.{StoreFault}
-use Rattle.kmip_store.specs.declared.fault.StoreFault.TheVariants.{NotFound, SameName, Full}
+use Rattle.kmip_store.specs.declared.fault.StoreFault.TheVariants.{NotFound}
 use Rattle.kmip_store.specs.declared.row.Row.{Row}
-use Rattle.kmip_store.specs.Stock.{Stock, added, has_name, object_of, objects_of}
+use Rattle.kmip_store.specs.Stock.{Stock, created, object_of, objects_of}
 use Rattle.kmip_store.specs.Stepping.{row_with, stepped}
 use Rattle.kmip_store.specs.Locating.{located}
 use Rattle.kmip_server.specs.Reasons.{message_reason, store_reason}
-
--- the records with the object of a Create, or why it is refused
-abbrev pub created : KeyAttrs → Stock → Result Stock StoreFault
-created attrs s =
-    if has_name attrs.name s.rows then Err SameName
-    else if nat_le s.room (length s.rows) then Err Full
-    else Ok (added attrs s)
 
 -- the attributes that Get Attributes tells of an object
 abbrev pub attributes_of : Object → Attrs

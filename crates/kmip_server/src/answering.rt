@@ -9,9 +9,9 @@ ghost use Rattle.kmip_messages.specs.Ranges.{is_batch_id, is_identifier, attrs_f
 ghost use Rattle.kmip_messages.specs.declared.request.Ask.TheVariants as asks;
 ghost use Rattle.kmip_server.specs.Answering.{written_with};
 ghost use Rattle.kmip_server.specs.Reasons.{message_reason};
-ghost use Rattle.kmip_server.specs.Serving.{answered, attributes_of, created, is_compromise, refusal_reply, reply_to};
+ghost use Rattle.kmip_server.specs.Serving.{answered, attributes_of, is_compromise, refusal_reply, reply_to};
 ghost use Rattle.kmip_store.specs.Stepping.{Becomes};
-ghost use Rattle.kmip_store.specs.Stock.{object_of};
+ghost use Rattle.kmip_store.specs.Stock.{created, object_of};
 
 use crate::reasons::{message_reason, store_reason};
 use kmip_messages::standard::{

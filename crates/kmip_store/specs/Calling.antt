@@ -1,19 +1,17 @@
 -- What a list of calls answers, and what the records hold behind it: both follow from the records before it, whatever keeps
 -- them.
-use Rattle.std.specs.Prelude.{◌+◌, Bool, true, List, [], ◌∷◌, length, nat_lt, Result, Ok, Err, if◌then◌else◌}
+use Rattle.std.specs.Prelude.{◌+◌, Bool, true, List, [], ◌∷◌, length, Result, Ok, Err}
 use Rattle.std.specs.Fmt.{decimal}
 use Rattle.std.specs.List.{slice_get}
 use Rattle.std.specs.Option.{is_some}
 use Rattle.kmip_messages.specs.Ranges.{attrs_fit}
-use Rattle.kmip_messages.specs.declared.request.KeyAttrs.{KeyAttrs}
 use Rattle.kmip_messages.specs.declared.step.Step.TheVariants as steps
 use Rattle.kmip_store.specs.declared.calling.Answer.{Answer}
 use Rattle.kmip_store.specs.declared.calling.Answer.TheVariants as answers
 use Rattle.kmip_store.specs.declared.calling.Call.{Call}
 use Rattle.kmip_store.specs.declared.calling.Call.TheVariants.{Create, Locate, Find, Activate, Revoke, Destroy, Count, At}
 use Rattle.kmip_store.specs.declared.fault.StoreFault.{StoreFault}
-use Rattle.kmip_store.specs.declared.fault.StoreFault.TheVariants.{SameName, Full}
-use Rattle.kmip_store.specs.Stock.{Stock, has_name, added, objects_of}
+use Rattle.kmip_store.specs.Stock.{Stock, created, objects_of}
 use Rattle.kmip_store.specs.Stepping.{row_with, stepped}
 use Rattle.kmip_store.specs.Locating.{located}
 
@@ -22,11 +20,6 @@ abbrev pub may_call : Call → Bool
 may_call (Create attrs) = attrs_fit attrs
 may_call (Locate mask filter) = is_some filter.name
 may_call call = true
-
--- the records with one object more, or why there is none: its name is used, or the room is
-abbrev pub created : KeyAttrs → Stock → Result Stock StoreFault
-created attrs s =
-    if has_name attrs.name s.rows then Err SameName else (if nat_lt (length s.rows) s.room then Ok (added attrs s) else Err Full)
 
 -- the answer to a change of the records that was made or refused
 abbrev pub answer_of : Answer → Result Stock StoreFault → Answer

@@ -1,6 +1,6 @@
 -- What the records hold, and what a Create adds.
 -- Source: KMIP 2.1, Object Attributes, Name, State and Unique Identifier; Operations, Create.
-use Rattle.std.specs.Prelude.{◌≡◌, ℕ, ◌+◌, ◌/◌, ◌≤◌, ◌<◌, ℤ, pos, negsuc, Bool, true, false, List, [], ◌∷◌, ◌++◌, length, map, nat_eq, Result, Ok, Err}
+use Rattle.std.specs.Prelude.{◌≡◌, ℕ, ◌+◌, ◌/◌, ◌≤◌, ◌<◌, ℤ, pos, negsuc, Bool, true, false, List, [], ◌∷◌, ◌++◌, length, map, nat_eq, nat_lt, Result, Ok, Err, if◌then◌else◌}
 use Rattle.std.specs.Cmp.Lexicographic.{pointwise}
 use Rattle.std.specs.Fmt.{decimal}
 use Rattle.std.specs.List.{list_any, list_all}
@@ -54,6 +54,11 @@ added_drawn attrs s next = record { rows = s.rows ++ new_row (length s.rows) att
 
 abbrev pub added : KeyAttrs → Stock → Stock
 added attrs s = added_drawn attrs s (drawn (material_size attrs.length) s.stream)
+
+-- the records with one object more, or why there is none: its name is used, or the room is
+abbrev pub created : KeyAttrs → Stock → Result Stock StoreFault
+created attrs s =
+    if has_name attrs.name s.rows then Err SameName else (if nat_lt (length s.rows) s.room then Ok (added attrs s) else Err Full)
 
 -- when a Create is refused, and why: first for its name, then for want of room, then of memory
 abbrev pub MayRefuse : {A : Type 0} → List ℕ → Stock → Result A StoreFault → Type 0
