@@ -1,2 +1,2 @@
-mod RefusalLemmas
+mod RespondingLemmas
 mod LineLemmas

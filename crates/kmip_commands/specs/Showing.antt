@@ -1,8 +1,16 @@
--- Which messages `show` refuses.
-use Rattle.std.specs.Prelude.{ℕ, ◌==◌, Bool, true, not, List, length, Result, Ok, Err}
+-- What `show` writes for a message, and which messages it refuses.
+use Rattle.std.specs.Prelude.{ℕ, ◌==◌, Bool, true, not, List, [], ◌∷◌, ◌++◌, length, codes, if◌then◌else◌, Option, Some, None, Result, Ok, Err}
+use Rattle.std.specs.Fmt.{decimal}
+use Rattle.hex.specs.Hex.{encode_lower}
 use Rattle.kmip_ttlv.specs.declared.fault.TtlvFault.{TtlvFault}
+use Rattle.kmip_ttlv.specs.Faults.{fault_number, fault_name, fault_offset}
 use Rattle.kmip_ttlv.specs.Node.{Node}
 use Rattle.kmip_ttlv.specs.Reading.{item_at}
+use Rattle.kmip_ttlv.specs.Showing.{shown_text}
+use Rattle.kmip_ttlv.specs.Spelling.{canon}
+use Rattle.kmip_commands.specs.declared.showing.Form.{Form}
+use Rattle.kmip_commands.specs.declared.showing.Form.TheVariants.{Text, Canonical}
+use Rattle.kmip_commands.specs.LineText.{input_text}
 
 -- no item was read, or bytes stand behind it
 abbrev pub leaves_bytes : ℕ → Result (Node × ℕ) TtlvFault → Bool
@@ -12,3 +20,33 @@ leaves_bytes len (Err fault) = true
 -- the bytes are not one item
 unfoldable pub is_no_item : List ℕ → Bool
 is_no_item bytes = leaves_bytes (length bytes) (item_at 16 0 bytes)
+
+-- an item as lines of text, or its one written form in hexadecimal and a line feed
+abbrev pub item_text : Form → Node → List ℕ
+item_text Text item = shown_text item
+item_text Canonical item = encode_lower (canon item) ++ 10 ∷ []
+
+-- that bytes stand behind an item of this size
+unfoldable pub extra_text : ℕ → List ℕ
+extra_text size = codes "refused: extra at " ++ decimal size ++ codes "\n"
+
+abbrev pub place_text : Option ℕ → List ℕ
+place_text (Some at) = codes " at " ++ decimal at
+place_text None = []
+
+-- the number, the name and the place of a fault
+abbrev pub fault_text : TtlvFault → List ℕ
+fault_text fault = codes "refused: " ++ decimal (fault_number fault) ++ codes " " ++ fault_name fault ++ place_text (fault_offset fault) ++ codes "\n"
+
+-- what is written for what was read of so many bytes
+abbrev pub read_text : Form → ℕ → Result (Node × ℕ) TtlvFault → List ℕ
+read_text form len (Ok x) = if x.1 == len then item_text form x.0 else extra_text x.1
+read_text form len (Err fault) = fault_text fault
+
+-- what is written for a message
+unfoldable pub show_text : Form → List ℕ → List ℕ
+show_text form bytes = read_text form (length bytes) (item_at 16 0 bytes)
+
+-- what `show` writes for its whole input: no message changes what is written for the next
+abbrev pub shown_input : Form → List ℕ → List ℕ
+shown_input form input = input_text show_text (λ form message. form) form input

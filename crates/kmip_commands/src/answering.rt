@@ -1,6 +1,11 @@
 //! The command `answer`: each line of its input is a message in hexadecimal, and each reply of one
 //! server a line of its output.
-ghost use Rattle.std.specs.Prelude.{◌≡◌, ℕ, List, Bool, false, IfOk, IfSome};
+ghost use Rattle.std.specs.Prelude.{◌≡◌, false, IfOk, OnOk, IfSome};
+ghost use Rattle.std.specs.Io.KnownBytes.{Appends};
+ghost use Rattle.kmip_store.specs.Stock.{Stock};
+ghost use Rattle.kmip_server.specs.Serving.{stock_after};
+ghost use Rattle.kmip_commands.specs.declared.exit_status.ExitStatus.TheVariants.{Done};
+ghost use Rattle.kmip_commands.specs.AnswerText.{answer_text, reply_text};
 ghost use Rattle.kmip_commands.specs.Judging.{has_refused};
 
 use crate::exit_status::ExitStatus;
@@ -20,18 +25,19 @@ const ROOM: usize = 10_000;
 /// The time of each reply.
 const NOW: i64 = 0;
 
-/// Runs `answer`, and prints a line for a fault of the reader and for want of memory.
-pub fn run_answer<R: BufRead, W: Write>(
-    alloc: Global,
-    reader: &mut R,
-    writer: &mut W,
-) -> ExitStatus {
+/// Runs `answer`, and prints a line for a fault of the reader and for want of memory. At `Done` every
+/// line was answered, and none was refused.
+pub fn run_answer<R: BufRead, W: Write>(alloc: Global, reader: &mut R, writer: &mut W) -> ExitStatus
+    ensures { result ≡ Done → IfSome (R.remaining reader.old) (λ input. (has_refused (λ _. false) input ≡ false)
+        × Appends (W.contents writer.old) (W.contents writer.new) (answer_text input)) }
+{
     let ended = answer(alloc, reader, writer);
     finished(ended, writer)
 }
 
 /// Answers each line of the reader on the writer, from one server without rows, and says whether a
-/// line was refused. A refused line prints why, and does not end the command.
+/// line was refused. A refused line prints why, and does not end the command. For a reader and a
+/// writer that tell their bytes, what is written is the answers to what is read, and nothing else.
 ///
 /// # Errors
 ///
@@ -41,7 +47,9 @@ pub fn answer<R: BufRead, W: Write>(
     reader: &mut R,
     writer: &mut W,
 ) -> Result<bool, CommandFault>
-    ensures { IfOk result (λ r. IfSome (R.remaining reader.old)
+    ensures text { OnOk result (IfSome (R.remaining reader.old)
+        (λ input. Appends (W.contents writer.old) (W.contents writer.new) (answer_text input))) }
+    ensures refused { IfOk result (λ r. IfSome (R.remaining reader.old)
         (λ input. r ≡ has_refused (λ _. false) input)) }
 {
     let store = ListStore::new(alloc, SEED, ROOM);
@@ -58,6 +66,14 @@ struct Answerer {
 }
 
 impl Respond for Answerer {
+    ghost State = { Stock };
+
+    ghost state = { λ a. a.server };
+
+    ghost text = { reply_text };
+
+    ghost behind = { stock_after };
+
     ghost refuses = { λ _. false };
 
     fn respond<W: Write>(

@@ -1,7 +1,9 @@
 //! The loop over the lines of a command's input.
-ghost use Rattle.std.specs.Prelude.{◌≡◌, ℕ, List, Bool, IfOk, IfSome};
-ghost use Rattle.std.specs.Io.KnownBytes.{Keeps};
+ghost use Rattle.std.specs.Prelude.{◌≡◌, ℕ, List, Bool, IfOk, OnOk, IfSome};
+ghost use Rattle.std.specs.Io.KnownBytes.{Keeps, Appends};
+ghost use Rattle.kmip_commands.specs.ExitStatus.{status_of};
 ghost use Rattle.kmip_commands.specs.Judging.{has_refused, is_refused, saying_of};
+ghost use Rattle.kmip_commands.specs.LineText.{input_text, saying_text, behind_saying};
 
 use crate::exit_status::ExitStatus;
 use crate::fault::CommandFault;
@@ -13,6 +15,19 @@ use std::io::{BufRead, Write};
 
 /// What a command prints for a message of its input.
 pub(crate) trait Respond {
+    /// What the responses depend on.
+    ghost State: { Type 0 };
+
+    /// The state that the command is in.
+    ghost state: { Self → State };
+
+    /// What is written for a message.
+    ghost text: { State → List ℕ → List ℕ };
+
+    /// The state behind a message.
+    ghost behind: { State → List ℕ → State };
+
+    /// Whether a message is refused.
     ghost refuses: { List ℕ → Bool };
 
     /// Writes what is printed for the message, and says whether the message is refused.
@@ -26,11 +41,17 @@ pub(crate) trait Respond {
         message: &[u8],
         writer: &mut W,
     ) -> Result<bool, CommandFault>
-        ensures { IfOk result (λ r. r ≡ refuses message.now) };
+        ensures text { OnOk result (Appends (W.contents writer.old) (W.contents writer.new)
+            (text (state self.old) message.now)) }
+        ensures behind { OnOk result (state self.new ≡ behind (state self.old) message.now) }
+        ensures refused { IfOk result (λ r. r ≡ refuses message.now) };
 }
 
 /// How the program ends after a command, whose fault is printed where there is one to print.
-pub(crate) fn finished<W: Write>(ended: Result<bool, CommandFault>, writer: &mut W) -> ExitStatus {
+pub(crate) fn finished<W: Write>(ended: Result<bool, CommandFault>, writer: &mut W) -> ExitStatus
+    ensures status { result ≡ status_of ended }
+    ensures unwritten { OnOk ended (Keeps (W.contents writer.old) (W.contents writer.new)) }
+{
     match ended {
         Ok(false) => ExitStatus::Done,
         Ok(true) => ExitStatus::Refused,
@@ -44,8 +65,8 @@ pub(crate) fn finished<W: Write>(ended: Result<bool, CommandFault>, writer: &mut
     }
 }
 
-/// Responds to each line of the reader, and says whether a line was refused. A refused line prints
-/// why, and does not end the command.
+/// Responds to each line of the reader in order, and says whether a line was refused. A refused line
+/// prints why, and does not end the command. Nothing but the lines' texts is written.
 ///
 /// # Errors
 ///
@@ -56,7 +77,10 @@ pub(crate) fn respond_to_lines<C: Respond, R: BufRead, W: Write>(
     reader: &mut R,
     writer: &mut W,
 ) -> Result<bool, CommandFault>
-    ensures { IfOk result (λ r. IfSome (R.remaining reader.old)
+    ensures text { OnOk result (IfSome (R.remaining reader.old)
+        (λ input. Appends (W.contents writer.old) (W.contents writer.new)
+        (input_text C.text C.behind (C.state command.old) input))) }
+    ensures refused { IfOk result (λ r. IfSome (R.remaining reader.old)
         (λ input. r ≡ has_refused C.refuses input)) }
 {
     let mut line = Vec::new(alloc);
@@ -80,7 +104,11 @@ fn respond_to_line<C: Respond, W: Write>(
     line: &[u8],
     writer: &mut W,
 ) -> Result<bool, CommandFault>
-    ensures { IfOk result (λ r. r ≡ is_refused C.refuses (saying_of line.now)) }
+    ensures text { OnOk result (Appends (W.contents writer.old) (W.contents writer.new)
+        (saying_text C.text (C.state command.old) (saying_of line.now))) }
+    ensures behind { OnOk result (C.state command.new
+        ≡ behind_saying C.behind (C.state command.old) (saying_of line.now)) }
+    ensures refused { IfOk result (λ r. r ≡ is_refused C.refuses (saying_of line.now)) }
 {
     match judge(alloc, line)? {
         Judged::Empty => Ok(false),

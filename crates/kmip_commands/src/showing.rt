@@ -1,11 +1,14 @@
 //! The command `show`: each line of its input is an item in hexadecimal, which is printed as text, or
 //! in its one written form.
-ghost use Rattle.std.specs.Prelude.{◌≡◌, ℕ, List, Bool, IfOk, IfSome, OnOk, IsSome};
+ghost use Rattle.std.specs.Prelude.{◌≡◌, false, IfOk, IfSome, OnOk, IsSome};
+ghost use Rattle.std.specs.Io.KnownBytes.{Appends};
 ghost use Rattle.kmip_ttlv.specs.Faults.{fault_offset};
 ghost use Rattle.kmip_ttlv.specs.Sizes.{IsWritable};
 ghost use Rattle.kmip_ttlv.specs.View.{view};
+ghost use Rattle.kmip_commands.specs.declared.exit_status.ExitStatus.TheVariants.{Done};
+ghost use Rattle.kmip_commands.specs.declared.showing.Form.{Form};
 ghost use Rattle.kmip_commands.specs.Judging.{has_refused};
-ghost use Rattle.kmip_commands.specs.Showing.{is_no_item};
+ghost use Rattle.kmip_commands.specs.Showing.{is_no_item, show_text, shown_input, item_text, extra_text, fault_text};
 
 use crate::exit_status::ExitStatus;
 use crate::fault::CommandFault;
@@ -24,13 +27,17 @@ pub enum Form {
     Canonical,
 }
 
-/// Runs `show`, and prints a line for a fault of the reader and for want of memory.
+/// Runs `show`, and prints a line for a fault of the reader and for want of memory. At `Done` every
+/// line was shown, and none was refused.
 pub fn run_show<R: BufRead, W: Write>(
     alloc: Global,
     form: Form,
     reader: &mut R,
     writer: &mut W,
-) -> ExitStatus {
+) -> ExitStatus
+    ensures { result ≡ Done → IfSome (R.remaining reader.old) (λ input. (has_refused is_no_item input ≡ false)
+        × Appends (W.contents writer.old) (W.contents writer.new) (shown_input form input)) }
+{
     let ended = show_lines(alloc, form, reader, writer);
     finished(ended, writer)
 }
@@ -47,7 +54,9 @@ pub fn show_lines<R: BufRead, W: Write>(
     reader: &mut R,
     writer: &mut W,
 ) -> Result<bool, CommandFault>
-    ensures { IfOk result (λ r. IfSome (R.remaining reader.old)
+    ensures text { OnOk result (IfSome (R.remaining reader.old)
+        (λ input. Appends (W.contents writer.old) (W.contents writer.new) (shown_input form input))) }
+    ensures refused { IfOk result (λ r. IfSome (R.remaining reader.old)
         (λ input. r ≡ has_refused is_no_item input)) }
 {
     let mut shower = Shower { form };
@@ -61,6 +70,14 @@ struct Shower {
 }
 
 impl Respond for Shower {
+    ghost State = { Form };
+
+    ghost state = { λ s. s.form };
+
+    ghost text = { show_text };
+
+    ghost behind = { λ form _. form };
+
     ghost refuses = { is_no_item };
 
     fn respond<W: Write>(
@@ -69,20 +86,21 @@ impl Respond for Shower {
         message: &[u8],
         writer: &mut W,
     ) -> Result<bool, CommandFault> {
-        let is_refused = show_message(alloc, self.form, message, writer)?;
-        Ok(is_refused)
+        show_message(alloc, self.form, message, writer)
     }
 }
 
 /// Prints the item that all the bytes are, or why they are none, and says whether they are none.
-#[tactic(auto, unfolding(crate::specs::Showing::is_no_item))]
+#[tactic(auto, unfolding(crate::specs::Showing::is_no_item, crate::specs::Showing::show_text))]
 fn show_message<W: Write>(
     alloc: Global,
     form: Form,
     message: &[u8],
     writer: &mut W,
 ) -> Result<bool, CommandFault>
-    ensures { IfOk result (λ r. r ≡ is_no_item message.now) }
+    ensures text { OnOk result (Appends (W.contents writer.old) (W.contents writer.new)
+        (show_text form message.now)) }
+    ensures refused { IfOk result (λ r. r ≡ is_no_item message.now) }
 {
     match read(alloc, message) {
         Ok((item, size)) => {
@@ -109,6 +127,8 @@ fn print_item<W: Write>(
     writer: &mut W,
 ) -> Result<(), CommandFault>
     requires { IsWritable (view item.now) }
+    ensures { OnOk result (Appends (W.contents writer.old) (W.contents writer.new)
+        (item_text form (view item.now))) }
 {
     match form {
         Form::Text => {
@@ -124,7 +144,11 @@ fn print_item<W: Write>(
 }
 
 /// Prints that bytes stand behind the item, from this offset on.
-fn print_extra<W: Write>(alloc: Global, offset: usize, writer: &mut W) -> Result<(), CommandFault> {
+#[tactic(auto, unfolding(crate::specs::Showing::extra_text))]
+fn print_extra<W: Write>(alloc: Global, offset: usize, writer: &mut W) -> Result<(), CommandFault>
+    ensures { OnOk result (Appends (W.contents writer.old) (W.contents writer.new)
+        (extra_text offset)) }
+{
     let text = format!(in alloc; "refused: extra at {offset}\n")?;
     write_text(text.as_str().as_bytes(), writer)
 }
@@ -136,7 +160,9 @@ fn print_fault<W: Write>(
     fault: TtlvFault,
     writer: &mut W,
 ) -> Result<(), CommandFault>
-    ensures { OnOk result (IsSome (fault_offset fault)) }
+    ensures offset { OnOk result (IsSome (fault_offset fault)) }
+    ensures text { OnOk result (Appends (W.contents writer.old) (W.contents writer.new)
+        (fault_text fault)) }
 {
     let Some(offset) = fault.offset() else {
         return Err(CommandFault::NoMemory);

@@ -1,6 +1,11 @@
--- Which refusals `respond_to_lines` counted.
-use Rattle.kmip_commands.proofs.RefusalLemmas.{Counting}
+-- What `respond_to_lines` wrote for the lines that it read, and which of them it refused.
+use Rattle.kmip_commands.proofs.RespondingLemmas.{Responding}
 use Rattle.kmip_commands.proofs.responding.respond_to_lines.Given as goal
 
 abbrev pub invariant-loop : goal.invariant-loop
-invariant-loop g l = Counting g.C.Respond.refuses (g.R.Read.remaining l.fn.reader) (g.R.Read.remaining l.reader) l.has_refused
+invariant-loop g l =
+    let command = g.C.Respond in
+    Responding command.text command.behind command.refuses
+    (g.R.Read.remaining l.fn.reader) (g.R.Read.remaining l.reader)
+    (g.W.Write.contents l.fn.writer) (g.W.Write.contents l.writer)
+    (command.state l.fn.command) (command.state l.command) l.has_refused
