@@ -1,0 +1,27 @@
+//! One growth of memory refused, wherever it is: a call either needs none of it or changes nothing.
+//!
+//! `rt try --test growths --fail-alloc N` refuses the growth N; in the gate none is refused.
+
+use crate::serving::server_of;
+use crate::vectors::{CREATE_K1, CREATE_K1_REPLY};
+use kmip_store::Records;
+use kmip_ttlv::NoMemory;
+use std::test::Fail;
+
+#[test]
+fn creates_at_the_second_call(rt: HostRuntime) -> Result<(), Fail> {
+    let message = hex::decode(rt.alloc(), CREATE_K1)?;
+    let wanted = hex::decode(rt.alloc(), CREATE_K1_REPLY)?;
+    let mut server = server_of(rt.alloc(), 10_000);
+    let first = server.handle(rt.alloc(), message.as_slice(), 0);
+    if first.is_ok() {
+        assert_eq!(rt; server.records().count(), 1);
+        return Ok(());
+    }
+    assert_eq!(rt; first.err(), Some(NoMemory));
+    assert_eq!(rt; server.records().count(), 0);
+    let second = server.handle(rt.alloc(), message.as_slice(), 0)?;
+    assert_eq!(rt; second.as_slice(), wanted.as_slice());
+    assert_eq!(rt; server.records().count(), 1);
+    Ok(())
+}
