@@ -1,1 +1,5 @@
 pub mod ServingLemmas
+pub mod ObjectLemmas
+pub mod StepLaws
+pub mod BehindLemmas
+pub mod AgainLaws

@@ -62,7 +62,8 @@ impl Records for ListStore {
         let row = new_row(alloc, self.rows.len(), attrs)?;
         let uid = Text::copied(alloc, row.uid.as_str())?;
         self.rows.reserve(1)?;
-        self.rows.push_reserved(draw(&mut self.stream, row));
+        let row = draw(&mut self.stream, row);
+        self.rows.push_reserved(row);
         Ok(uid)
     }
 

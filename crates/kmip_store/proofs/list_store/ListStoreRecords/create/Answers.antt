@@ -9,4 +9,4 @@ invariant_of-self-2 c =
     let free : length rows < c.self.inside.room = omega (arith, c.self.inside.rows.ok.0) in
     rw c.push_reserved.ensures.items
     (rw c.reserve.ensures.items
-    (kept_more rows c.self.inside.room c.args.attrs.now c.draw.result c.draw.result.material c.self.invariant free (search rules) c.requires (search rules)))
+    (kept_more rows c.self.inside.room c.args.attrs.now c.draw-row.result c.draw-row.result.material c.self.invariant free (search rules) c.requires (search rules)))

@@ -1,0 +1,26 @@
+-- Questions in turn: which may change the records, and which were refused.
+-- Source: KMIP 2.1, Operations.
+use Rattle.std.specs.Prelude.{Bool, true, false, List, [], ◌∷◌}
+use Rattle.kmip_messages.specs.declared.reply.Outcome.{Outcome}
+use Rattle.kmip_messages.specs.declared.reply.Outcome.TheVariants.{Failed}
+use Rattle.kmip_messages.specs.declared.request.Ask.{Ask}
+use Rattle.kmip_messages.specs.declared.request.Ask.TheVariants.{Create, Activate, Revoke, Destroy}
+use Rattle.kmip_store.specs.Stock.{Stock}
+use Rattle.kmip_server.specs.Serving.{answered}
+
+-- operations that change the records
+abbrev pub changes : Ask → Bool
+changes (Create attrs) = true
+changes (Activate uid) = true
+changes (Revoke uid code) = true
+changes (Destroy uid) = true
+changes ask = false
+
+abbrev pub has_failed : Outcome → Bool
+has_failed (Failed reason) = true
+has_failed outcome = false
+
+-- the records behind some questions in turn
+abbrev pub behind_all : List Ask → Stock → Stock
+behind_all [] s = s
+behind_all (ask ∷ asks) s = behind_all asks (answered s ask).1

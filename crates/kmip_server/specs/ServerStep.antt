@@ -1,0 +1,64 @@
+-- The step of the server: what it may answer a question over its objects, and the objects behind it, a rule a case.
+-- Source: KMIP 2.1, Operations; Object Attributes, State. Which reason answers which refusal is own, and that a
+-- compromise is refused.
+use Rattle.std.specs.Prelude.{◌≡◌, ℕ, ◌<◌, ◌≤◌, ℤ, List, [], ◌∷◌, ◌++◌, length, Option, Some, None, IsTrue, IsSome, if◌then◌else◌}
+use Rattle.kmip_messages.specs.Lifecycle.{after}
+use Rattle.kmip_messages.specs.Objects.{Object, object_named, object_with, all_restated}
+use Rattle.kmip_messages.specs.Ranges.{is_identifier}
+use Rattle.kmip_messages.specs.declared.reply.Outcome.{Outcome}
+use Rattle.kmip_messages.specs.declared.reply.Outcome.TheVariants.{Created, Located, Attributes, Activated, Revoked, Destroyed, Failed}
+use Rattle.kmip_messages.specs.declared.request.Ask.{Ask}
+use Rattle.kmip_messages.specs.declared.request.Ask.TheVariants.{Create, Locate, GetAttributes, Activate, Revoke, Destroy}
+use Rattle.kmip_messages.specs.declared.request.Attrs.{Attrs}
+use Rattle.kmip_messages.specs.declared.request.KeyAttrs.{KeyAttrs}
+use Rattle.kmip_messages.specs.declared.standard.TheConstants.{
+  REASON_FEATURE_NOT_SUPPORTED,
+  REASON_ITEM_NOT_FOUND,
+  REASON_NON_UNIQUE_NAME,
+  REASON_SERVER_FULL,
+  REASON_WRONG_STATE,
+}
+use Rattle.kmip_messages.specs.declared.state.KeyState.{KeyState}
+use Rattle.kmip_messages.specs.declared.state.KeyState.TheVariants.{PreActive}
+use Rattle.kmip_messages.specs.declared.step.Step.{Step}
+use Rattle.kmip_messages.specs.declared.step.Step.TheVariants as steps
+use Rattle.kmip_store.specs.Locating.{located}
+use Rattle.kmip_server.specs.Serving.{attributes_of, is_compromise}
+
+-- the step that a question asks of an object, and the object's identifier; a compromise is none
+abbrev pub step_asked : Ask → Option (Step × List ℕ)
+step_asked (Activate uid) = Some (steps.Activate, uid)
+step_asked (Revoke uid code) = if is_compromise code then None else Some (steps.Revoke, uid)
+step_asked (Destroy uid) = Some (steps.Destroy, uid)
+step_asked ask = None
+
+-- the success of a step
+abbrev pub success_of : Step → List ℕ → Outcome
+success_of steps.Create uid = Created uid
+success_of steps.Activate uid = Activated uid
+success_of steps.Revoke uid = Revoked uid
+success_of steps.Destroy uid = Destroyed uid
+
+pub data ServerStep (room : ℕ) (objects : List Object) : Ask → Outcome → List Object → Type 0 where
+  name_taken : {attrs : KeyAttrs} → IsSome (object_named attrs.name objects)
+      → ServerStep room objects (Create attrs) (Failed (Some REASON_NON_UNIQUE_NAME)) objects
+  full : {attrs : KeyAttrs} → object_named attrs.name objects ≡ None → room ≤ length objects
+      → ServerStep room objects (Create attrs) (Failed (Some REASON_SERVER_FULL)) objects
+  created : {attrs : KeyAttrs} {uid : List ℕ} → object_named attrs.name objects ≡ None → length objects < room
+      → object_with uid objects ≡ None → IsTrue (is_identifier uid)
+      → ServerStep room objects (Create attrs) (Created uid) (objects ++ record { uid = uid; attrs = attrs; state = PreActive } ∷ [])
+  searched : {mask : Option ℤ} {given : Attrs} → ServerStep room objects (Locate mask given) (Located (located mask given objects)) objects
+  told : {uid : List ℕ} {o : Object} → object_with uid objects ≡ Some o
+      → ServerStep room objects (GetAttributes uid) (Attributes uid (attributes_of o)) objects
+  unknown : {uid : List ℕ} → object_with uid objects ≡ None
+      → ServerStep room objects (GetAttributes uid) (Failed (Some REASON_ITEM_NOT_FOUND)) objects
+  compromised : {uid : List ℕ} {code : ℕ} → IsTrue (is_compromise code)
+      → ServerStep room objects (Revoke uid code) (Failed (Some REASON_FEATURE_NOT_SUPPORTED)) objects
+  not_found : {ask : Ask} {step : Step} {uid : List ℕ} → step_asked ask ≡ Some (step, uid) → object_with uid objects ≡ None
+      → ServerStep room objects ask (Failed (Some REASON_ITEM_NOT_FOUND)) objects
+  wrong_state : {ask : Ask} {step : Step} {uid : List ℕ} {o : Object} → step_asked ask ≡ Some (step, uid)
+      → object_with uid objects ≡ Some o → after o.state step ≡ None
+      → ServerStep room objects ask (Failed (Some REASON_WRONG_STATE)) objects
+  done : {ask : Ask} {step : Step} {uid : List ℕ} {o : Object} {state : KeyState} → step_asked ask ≡ Some (step, uid)
+      → object_with uid objects ≡ Some o → after o.state step ≡ Some state
+      → ServerStep room objects ask (success_of step uid) (all_restated uid state objects)
