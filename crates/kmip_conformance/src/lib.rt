@@ -29,6 +29,8 @@ mod serving;
 #[cfg(test)]
 mod showing;
 #[cfg(test)]
+mod storing;
+#[cfg(test)]
 mod tags;
 #[cfg(test)]
 mod vectors;
