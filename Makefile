@@ -1,11 +1,13 @@
 # make         builds the program (a clean clone is proved first, which takes minutes)
 # make demo    answers the example requests, and prints only the replies
 # make test    the gate: every proof from nothing, the wrong bodies, the tests and the program
+# make bench   compares the program with a baseline in plain Rust (needs rustc)
+# make refuse  refuses each growth of memory of the program in turn (needs cc)
 
 program := crates/kmipctl/out/kmipctl
 sources := crates.txt $(shell find crates -name out -prune -o \( -name '*.rt' -o -name '*.antt' \) -print)
 
-.PHONY: all demo test
+.PHONY: all demo test bench refuse
 
 all: $(program)
 
@@ -19,3 +21,9 @@ demo: $(program)
 
 test:
 	@rt ci
+
+bench: $(program)
+	@bench/bench.sh $(program)
+
+refuse: $(program)
+	@bench/refuse.sh $(program)

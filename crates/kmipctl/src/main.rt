@@ -28,7 +28,10 @@ fn main(rt: HostRuntime) -> ExitCode {
 
 /// Does what the command line asks for.
 fn run(rt: &HostRuntime) -> io::Result<ExitStatus> {
-    let words: Vec<String> = env::args(rt)?.collect(rt.alloc())?;
+    let mut words = Vec::new(rt.alloc());
+    for word in env::args(rt)? {
+        words.push(word)?;
+    }
     match chosen(rt.alloc(), words.as_slice()) {
         Ok(Choice::Answer) => answer_input(rt),
         Ok(Choice::Show(form)) => show_input(rt, form),
