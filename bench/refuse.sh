@@ -10,10 +10,6 @@
 # `no memory`, and to end with exit status 1. Where none was refused, it has to print the undisturbed
 # output and to end with exit status 0.
 #
-# There is one other lawful end: the program asks again at once for as many bytes or fewer, is
-# granted them, and goes on undisturbed. Rattle's std does so where it collects an iterator: what it
-# asks for first is a guess of the number of items. These growths are named.
-#
 # Then the same is done with all growths refused from the N-th on, and there every run has to end
 # with `no memory`. The exit status is 1 at the first N where one of these rules does not hold.
 set -euo pipefail
@@ -54,19 +50,14 @@ is_undisturbed() {
 }
 
 # Refuses each growth in turn, alone or with all after it ($1 is `one` or `all`). Sets `met` to how
-# many were refused, and `again` to those that the program asked for again.
+# many were refused.
 refuse_each() {
-    again=()
     for ((n = 1; n <= most; n++)); do
         run_refusing "$n" "$1"
         if [[ -z $marks ]] && is_undisturbed; then
             met=$((n - 1))
             return
-        elif [[ -n $marks ]] && is_refusal; then
-            continue
-        elif [[ $1 == one && $marks == '!?' ]] && is_undisturbed; then
-            again+=("$n")
-        else
+        elif [[ -z $marks ]] || ! is_refusal; then
             echo "growth $n refused ($1): exit status $status, and written:"
             cat "$out/written" "$out/errors"
             exit 1
@@ -80,9 +71,5 @@ refuse_each() {
 
 refuse_each one
 echo "$met growths refused, one a run: each time whole lines, \`no memory\` and exit status 1"
-if [[ ${#again[@]} -gt 0 ]]; then
-    echo "  but for growth ${again[*]}: asked for again and granted, so all is as undisturbed"
-fi
-
 refuse_each all
 echo "$met growths refused, each with all after it: the same each time"

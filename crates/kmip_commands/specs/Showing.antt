@@ -30,6 +30,7 @@ item_text Canonical item = encode_lower (canon item) ++ 10 ∷ []
 unfoldable pub extra_text : ℕ → List ℕ
 extra_text size = codes "refused: extra at " ++ decimal size ++ codes "\n"
 
+-- the offset of a fault; want of memory has none, and is no refusal
 abbrev pub place_text : Option ℕ → List ℕ
 place_text (Some at) = codes " at " ++ decimal at
 place_text None = []
