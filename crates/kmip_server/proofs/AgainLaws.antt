@@ -19,6 +19,7 @@ use Rattle.kmip_messages.specs.declared.step.Step.TheVariants as steps
 use Rattle.kmip_store.specs.declared.row.Row.{Row}
 use Rattle.kmip_store.specs.Stepping.{entered, moved_to, row_moved, row_with, rows_moved, stepped_from}
 use Rattle.kmip_store.specs.Stock.{Stock, has_name}
+use Rattle.kmip_store.proofs.KeptLemmas.{has_name_moved, moved_uid}
 use Rattle.kmip_server.specs.Again.{behind_all, changes, has_failed}
 use Rattle.kmip_server.specs.Serving.{answered, changed, is_compromise}
 use Rattle.kmip_server.proofs.BehindLemmas.{Behind, behind, more, moves, stays}
@@ -92,23 +93,15 @@ found_own uid (r ∷ rows) row is = elim (cases_Bool (pointwise nat_eq uid r.uid
   | inr other ↦ found_own uid rows row (sym (cond-false _ (Some r) (row_with uid rows) other) ∙ is)
 ]
 
--- another state is no other identifier
-uid_if : (b : Bool) (state : KeyState) (r : Row) → (cond b (entered state r) r).uid ≡ r.uid
-uid_if true state r = refl
-uid_if false state r = refl
-
-uid_moved : (own : List ℕ) (state : KeyState) (r : Row) → (row_moved own state r).uid ≡ r.uid
-uid_moved own state r = uid_if (pointwise nat_eq own r.uid) state r
-
 found_moved : (uid own : List ℕ) (state : KeyState) (rows : List Row)
     → row_with uid (rows_moved own state rows) ≡ option_map (row_moved own state) (row_with uid rows)
 found_moved uid own state [] = refl
 found_moved uid own state (r ∷ rows) = elim (cases_Bool (pointwise nat_eq uid r.uid)) [
   | inl same ↦
-      cond-true _ (Some (row_moved own state r)) (row_with uid (rows_moved own state rows)) (ap (pointwise nat_eq uid) (uid_moved own state r) ∙ same)
+      cond-true _ (Some (row_moved own state r)) (row_with uid (rows_moved own state rows)) (ap (pointwise nat_eq uid) (moved_uid own state r) ∙ same)
       ∙ sym (ap (option_map (row_moved own state)) (cond-true _ (Some r) (row_with uid rows) same))
   | inr other ↦
-      cond-false _ (Some (row_moved own state r)) (row_with uid (rows_moved own state rows)) (ap (pointwise nat_eq uid) (uid_moved own state r) ∙ other)
+      cond-false _ (Some (row_moved own state r)) (row_with uid (rows_moved own state rows)) (ap (pointwise nat_eq uid) (moved_uid own state r) ∙ other)
       ∙ found_moved uid own state rows
       ∙ sym (ap (option_map (row_moved own state)) (cond-false _ (Some r) (row_with uid rows) other))
 ]
@@ -141,16 +134,6 @@ has_past_moved : (step moved : Step) (uid own : List ℕ) (state : KeyState) (ro
 has_past_moved step moved uid own state rows row other is past =
     ap (λ o. option_map_or (λ r. is_past step r.state) o false) (found_moved uid own state rows)
     ∙ found_stays_past step moved uid own state rows row (row_with uid rows) refl other is past
-
--- the name of a row goes on
-name_if : (b : Bool) (state : KeyState) (r : Row) → (cond b (entered state r) r).attrs ≡ r.attrs
-name_if true state r = refl
-name_if false state r = refl
-
-has_name_moved : (uid : List ℕ) (state : KeyState) (name : List ℕ) (rows : List Row)
-    → has_name name (rows_moved uid state rows) ≡ has_name name rows
-has_name_moved uid state name [] = refl
-has_name_moved uid state name (r ∷ rows) = rw (name_if (pointwise nat_eq uid r.uid) state r, has_name_moved uid state name rows) refl
 
 has_name_more : (name : List ℕ) (rows others : List Row) → has_name name rows ≡ true → has_name name (rows ++ others) ≡ true
 has_name_more name rows others taken =

@@ -94,6 +94,9 @@ same_columns : (b : Bool) (state : KeyState) (r : Row)
 same_columns true state r = (refl, refl)
 same_columns false state r = (refl, refl)
 
+pub moved_uid : (uid : List ℕ) (state : KeyState) (r : Row) → (row_moved uid state r).uid ≡ r.uid
+moved_uid uid state r = (same_columns (pointwise nat_eq uid r.uid) state r).0
+
 moved_attrs : (uid : List ℕ) (state : KeyState) (r : Row) → (row_moved uid state r).attrs ≡ r.attrs
 moved_attrs uid state r = (same_columns (pointwise nat_eq uid r.uid) state r).1
 
@@ -101,9 +104,9 @@ numbered_moved : (uid : List ℕ) (state : KeyState) (place : ℕ) (rows : List 
     → AreNumbered place (rows_moved uid state rows)
 numbered_moved uid state place [] numbered = tt
 numbered_moved uid state place (r ∷ rows) numbered =
-    ((same_columns (pointwise nat_eq uid r.uid) state r).0 ∙ numbered.0, numbered_moved uid state (place + 1) rows numbered.1)
+    (moved_uid uid state r ∙ numbered.0, numbered_moved uid state (place + 1) rows numbered.1)
 
-has_name_moved : (uid : List ℕ) (state : KeyState) (name : List ℕ) (rows : List Row)
+pub has_name_moved : (uid : List ℕ) (state : KeyState) (name : List ℕ) (rows : List Row)
     → has_name name (rows_moved uid state rows) ≡ has_name name rows
 has_name_moved uid state name [] = refl
 has_name_moved uid state name (r ∷ rows) = rw (moved_attrs uid state r, has_name_moved uid state name rows) refl
