@@ -7,6 +7,8 @@
 #[cfg(test)]
 mod answering;
 #[cfg(test)]
+mod framing;
+#[cfg(test)]
 mod growths;
 #[cfg(test)]
 mod items;

@@ -1,6 +1,6 @@
 -- The lifecycle of an object: which step leads from which state to which.
 -- Source: KMIP 2.1, Object Attributes, State. Steps that a compromise takes are left out (own).
-use Rattle.std.specs.Prelude.{Option, Some, None}
+use Rattle.std.specs.Prelude.{ℕ, List, codes, Option, Some, None}
 use Rattle.kmip_messages.specs.declared.state.KeyState.{KeyState}
 use Rattle.kmip_messages.specs.declared.state.KeyState.TheVariants.{PreActive, Active, Deactivated, Compromised, Destroyed, DestroyedCompromised}
 use Rattle.kmip_messages.specs.declared.step.Step.{Step}
@@ -13,3 +13,10 @@ after Active Revoke = Some Deactivated
 after PreActive Destroy = Some Destroyed
 after Deactivated Destroy = Some Destroyed
 after state step = None
+
+-- the name of a step
+abbrev pub step_word : Step → List ℕ
+step_word Create = codes "Create"
+step_word Activate = codes "Activate"
+step_word Revoke = codes "Revoke"
+step_word Destroy = codes "Destroy"

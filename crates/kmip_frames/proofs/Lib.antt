@@ -1,0 +1,6 @@
+pub mod Sizes
+pub mod Messages
+pub mod Feeding
+pub mod Steps
+pub mod SoFar
+pub mod Calls

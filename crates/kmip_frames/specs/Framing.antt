@@ -1,0 +1,59 @@
+-- What a framer holds, takes and hands over. It is seen as the bytes that it holds.
+use Rattle.std.specs.Prelude.{◌≡◌, ℕ, ◌+◌, ◌-◌, ◌<◌, min, nat_lt, if◌then◌else◌, ◌⊎◌, List, [], ◌++◌, length, take, Option, Some, None, is_some, IsSome, Result, Ok, Err}
+use Rattle.kmip_frames.specs.declared.head.TheConstants.{HEAD_SIZE}
+use Rattle.kmip_frames.specs.declared.fault.FrameFault.{FrameFault}
+use Rattle.kmip_frames.specs.declared.fault.FrameFault.TheVariants.{BadHead, BadLength, TooLong, Failed, NoMemory}
+use Rattle.kmip_frames.specs.Heads.{said, head_fault}
+use Rattle.kmip_frames.specs.Streams.{IsMessage, BeginsWithNoMessage}
+
+-- the fault of the head that the bytes begin with; none while it is not whole
+unfoldable pub fault_in : List ℕ → Option FrameFault
+fault_in bytes = if nat_lt (length bytes) HEAD_SIZE then None else head_fault (take HEAD_SIZE bytes)
+
+-- how many bytes the message at the front takes, as far as they say it: those of its head, until that is whole and lawful
+unfoldable pub needed : List ℕ → ℕ
+needed bytes =
+    if nat_lt (length bytes) HEAD_SIZE then HEAD_SIZE
+    else if is_some (head_fault (take HEAD_SIZE bytes)) then HEAD_SIZE
+    else HEAD_SIZE + said (take HEAD_SIZE bytes)
+
+-- how many bytes the present head, or once it is whole the message, still lacks
+abbrev pub lacking : List ℕ → ℕ
+lacking held = needed held - length held
+
+-- the part of what is held that a message may be: after a fault the head, until then less than a head, a front of one message
+-- or a whole one
+abbrev pub IsHeldAfter : Option FrameFault → List ℕ → Type 0
+IsHeldAfter (Some fault) held = length held ≡ HEAD_SIZE
+IsHeldAfter None held = (length held < HEAD_SIZE) ⊎ ((more : List ℕ) × IsMessage (held ++ more))
+
+abbrev pub IsHeld : List ℕ → Type 0
+IsHeld held = IsHeldAfter (fault_in held) held
+
+-- How many bytes of a piece are taken: all, or as many as the present message lacks. Its head may become whole by the piece,
+-- so the size is that which both together say.
+abbrev pub taken : List ℕ → List ℕ → ℕ
+taken held piece = min (length piece) (needed (held ++ piece) - length held)
+
+-- what is held once they are taken
+abbrev pub held_after : List ℕ → List ℕ → List ℕ
+held_after held piece = held ++ take (taken held piece) piece
+
+abbrev pub answer_after : Option FrameFault → Option FrameFault → ℕ → Result ℕ FrameFault
+answer_after (Some before) now count = Err Failed
+answer_after None (Some fault) count = Err fault
+answer_after None None count = Ok count
+
+-- what `feed` answers: a fault that came before, or that of a head which is whole now, else how many bytes were taken
+abbrev pub fed : List ℕ → List ℕ → Result ℕ FrameFault
+fed held piece = answer_after (fault_in held) (fault_in (held ++ piece)) (taken held piece)
+
+-- what `next` answers, and what is held before it and after
+abbrev pub Hands : {M : Type 0} → (M → List ℕ) → Result (Option M) FrameFault → List ℕ → List ℕ → Type 0
+Hands bytes (Ok (Some message)) old new = IsMessage old × (bytes message ≡ old) × (new ≡ [])
+Hands bytes (Ok None) old new = (fault_in old ≡ None) × BeginsWithNoMessage old × (new ≡ old)
+Hands bytes (Err Failed) old new = IsSome (fault_in old) × (new ≡ old)
+Hands bytes (Err NoMemory) old new = IsMessage old × (new ≡ old)
+Hands bytes (Err BadHead) old new = ⊥
+Hands bytes (Err BadLength) old new = ⊥
+Hands bytes (Err TooLong) old new = ⊥

@@ -1,0 +1,5 @@
+pub mod Faults
+pub mod Heads
+pub mod Streams
+pub mod Framing
+pub mod Calls

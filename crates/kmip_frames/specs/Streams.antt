@@ -1,0 +1,25 @@
+-- What a message is, and what a stream of them.
+-- Source: KMIP 2.1, Message Structure; TTLV Encoding.
+use Rattle.std.specs.Prelude.{◌≡◌, ℕ, ◌+◌, ◌≤◌, List, ◌++◌, length, take, None}
+use Rattle.std.specs.List.{flat_map, AllByRecursion}
+use Rattle.kmip_frames.specs.declared.head.TheConstants.{HEAD_SIZE}
+use Rattle.kmip_frames.specs.Heads.{said, head_fault}
+
+-- a lawful head, and as many bytes as it says
+pub record IsMessage (bytes : List ℕ) : Type 0 where
+  pub head : HEAD_SIZE ≤ length bytes
+  pub lawful : head_fault (take HEAD_SIZE bytes) ≡ None
+  pub size : length bytes ≡ HEAD_SIZE + said (take HEAD_SIZE bytes)
+
+abbrev pub BeginsWithNoMessage : List ℕ → Type 0
+BeginsWithNoMessage bytes = (message more : List ℕ) → bytes ≡ message ++ more → ¬ (IsMessage message)
+
+-- the messages, one after the other
+abbrev pub joined : List (List ℕ) → List ℕ
+joined messages = flat_map (λ message. message) messages
+
+-- the bytes are the messages joined, then a rest that begins with no whole message
+pub record Stream (bytes : List ℕ) (messages : List (List ℕ)) (rest : List ℕ) : Type 0 where
+  pub whole : bytes ≡ joined messages ++ rest
+  pub each : AllByRecursion IsMessage messages
+  pub partial : BeginsWithNoMessage rest

@@ -1,0 +1,125 @@
+//! The framer.
+ghost use Rattle.std.specs.Prelude.{◌≡◌, ◌≤◌, ◌<◌, ◌-◌, ◌++◌, min, [], length, take, vec_capacity, None, Some, Err, IfOk, IfErr, IsSome};
+ghost use Rattle.kmip_frames.specs.Framing.{fault_in, lacking, held_after, fed, IsHeld, Hands};
+ghost use Rattle.kmip_frames.specs.Streams.{IsMessage, BeginsWithNoMessage};
+
+use crate::fault::FrameFault;
+use crate::head::{HEAD_SIZE, fault_of, size_needed};
+use kmip_ttlv::MAX_SIZE;
+use std::alloc::Global;
+use std::marker::Model;
+
+/// Takes a stream of bytes in any pieces and hands its messages over one by one.
+///
+/// A message begins with a head of eight bytes: the tag of a Request or Response Message, the type
+/// Structure, and a length that is a multiple of eight. It takes at most 8,192 bytes with its head.
+#[derive(Debug, Drop)]
+pub struct Framer {
+    held: Vec<u8>,
+}
+
+impl Model for Framer {
+    ghost use Rattle.std.specs.Prelude.{ℕ, List, length, ◌≤◌, vec_capacity};
+    ghost use Rattle.kmip_frames.specs.Framing.{needed};
+
+    ghost Value = { List ℕ };
+
+    ghost view = { λ f. f.held.items };
+
+    ghost invariant = { λ f. (8192 ≤ vec_capacity f.held) × (length f.held.items ≤ needed f.held.items) };
+}
+
+impl Framer {
+    /// A framer that holds nothing. It takes room for the longest message once, and `feed` no more.
+    ///
+    /// # Errors
+    /// `NoMemory`.
+    pub fn new(alloc: Global) -> Result<Framer, FrameFault>
+        ensures empty { IfOk result (λ framer. framer ≡ []) }
+        ensures refused { IfErr result (λ fault. fault ≡ FrameFault.NoMemory) }
+    {
+        let held = Vec::with_capacity(alloc, MAX_SIZE)?;
+        Ok(Framer { held })
+    }
+
+    /// Takes bytes from the front of the piece up to the end of the present message, and answers how
+    /// many. While a whole message waits it takes none. A head is judged once its eighth byte is
+    /// taken. Takes no memory.
+    ///
+    /// # Errors
+    /// `BadHead`, `BadLength` or `TooLong`, by the first check that fails, where the next eight bytes
+    /// are no head of a message: these are then held. `Failed` where that came before: nothing is
+    /// changed.
+    pub fn feed(&mut self, piece: &[u8]) -> Result<usize, FrameFault>
+        ensures answer { result ≡ fed self.old piece.now }
+        ensures held { self.new ≡ held_after self.old piece.now }
+        ensures failed { IsSome (fault_in self.old) → (result ≡ Err FrameFault.Failed) × (self.new ≡ self.old) }
+        ensures refused { fault_in self.old ≡ None → IfErr result (λ fault. fault_in (self.old ++ piece.now) ≡ Some fault) }
+        ensures taken { IfOk result (λ count. (count ≤ length piece.now) × (self.new ≡ self.old ++ take count piece.now)) }
+        ensures whole { IfOk result (λ count. count < length piece.now → IsMessage self.new) }
+        ensures some { IfOk result (λ count. BeginsWithNoMessage self.old → 0 < length piece.now → 0 < count) }
+    {
+        if fault_of(self.held.as_slice()).is_some() {
+            return Err(FrameFault::Failed);
+        }
+        let of_head = fill(&mut self.held, HEAD_SIZE, piece);
+        if let Some(fault) = fault_of(self.held.as_slice()) {
+            return Err(fault);
+        }
+        let size = size_needed(self.held.as_slice());
+        let of_body = fill(&mut self.held, size, &piece[of_head..]);
+        Ok(of_head + of_body)
+    }
+
+    /// Hands the waiting message over, so that nothing is held; `None` where none is whole.
+    ///
+    /// # Errors
+    /// `Failed` after a fault of `feed`. `NoMemory`: the message waits on. Nothing is changed.
+    pub fn next(&mut self, alloc: Global) -> Result<Option<Vec<u8>>, FrameFault>
+        ensures { Hands (λ message. message.items) result self.old self.new }
+    {
+        if fault_of(self.held.as_slice()).is_some() {
+            return Err(FrameFault::Failed);
+        }
+        if self.held.len() < size_needed(self.held.as_slice()) {
+            return Ok(None);
+        }
+        let message = Vec::from_slice(alloc, self.held.as_slice())?;
+        self.held.clear();
+        Ok(Some(message))
+    }
+
+    /// How many bytes are taken and not handed over: at most 8,192, and 8 after a fault of `feed`.
+    pub fn pending(&self) -> usize
+        ensures value { result ≡ length self.now }
+        ensures at_most { result ≤ 8192 }
+        ensures held { IsHeld self.now }
+    {
+        self.held.len()
+    }
+
+    /// How many bytes the present head, or once it is whole the message, still lacks: 0 while a
+    /// message waits and after a fault of `feed`.
+    pub fn wants(&self) -> usize
+        ensures value { result ≡ lacking self.now }
+        ensures waiting { IsMessage self.now → result ≡ 0 }
+        ensures failed { IsSome (fault_in self.now) → result ≡ 0 }
+    {
+        size_needed(self.held.as_slice()) - self.held.len()
+    }
+}
+
+/// Appends bytes from the front of the piece until this many are held, or the piece ends. Answers how
+/// many.
+fn fill(held: &mut Vec<u8>, size: usize, piece: &[u8]) -> usize
+    requires { size ≤ vec_capacity held.old }
+    ensures count { result ≡ min (length piece.now) (size - length held.old.items) }
+    ensures items { held.new.items ≡ held.old.items ++ take result piece.now }
+    ensures room { vec_capacity held.old ≤ vec_capacity held.new }
+{
+    let count = piece.len().min(size.saturating_sub(held.len()));
+    match held.extend_from_slice(&piece[..count]) {
+        Ok(()) => count,
+        Err(_) => unreachable!(),
+    }
+}

@@ -1,0 +1,16 @@
+//! Messages out of a stream of bytes, in whatever pieces it comes.
+//!
+//! A message is one TTLV Structure, a Request Message or a Response Message ("Key Management
+//! Interoperability Protocol Specification Version 2.1", Message Structure). `Framer` takes the
+//! bytes as they come and hands over each message once it is whole.
+#![tactic(auto)]
+
+mod fault;
+mod framer;
+mod head;
+mod laws;
+
+pub use fault::FrameFault;
+pub use framer::Framer;
+pub use head::{HEAD_SIZE, TAG_REQUEST_MESSAGE, TAG_RESPONSE_MESSAGE};
+pub use laws::{framer_laws, stream_laws};

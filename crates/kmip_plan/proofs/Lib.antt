@@ -1,0 +1,4 @@
+pub mod TableLemmas
+pub mod ChainLemmas
+pub mod WordLemmas
+pub mod PlanLemmas

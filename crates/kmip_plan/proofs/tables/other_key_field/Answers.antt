@@ -1,0 +1,13 @@
+-- The first key of the map that does not pass is the first other member.
+use Rattle.std.proofs.Common.{ap, ◌∙◌, Some}
+use Rattle.kmip_plan.specs.Tables.{is_key_field}
+use Rattle.kmip_plan.proofs.TableLemmas.{other_found}
+use Rattle.kmip_plan.proofs.tables.other_key_field.Goals as goal
+
+pub returns-in-Some : goal.returns-in-Some
+returns-in-Some c =
+    ap Some c.as_str.ensures.value
+    ∙ other_found is_key_field c.args.table.now.entries c.other_key.result _ c.other_key.ensures c.in-Some.is
+
+pub returns-in-None : goal.returns-in-None
+returns-in-None c = other_found is_key_field c.args.table.now.entries c.other_key.result _ c.other_key.ensures c.in-None.is

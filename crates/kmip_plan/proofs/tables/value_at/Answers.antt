@@ -1,0 +1,6 @@
+-- What the map finds at a key is the member at that key.
+use Rattle.toml.proofs.Views.{table_get}
+use Rattle.kmip_plan.proofs.tables.value_at.Goals as goal
+
+pub returns : goal.returns
+returns c = table_get c.get.result c.args.key.now c.args.table.now.entries c.get.ensures.value

@@ -1,0 +1,76 @@
+-- What a plan is, without a word of the order in which it is read.
+use Rattle.std.specs.Prelude.{◌≡◌, ◌≤◌, ℕ, ℤ, pos, Bool, true, false, ◌&&◌, ◌||◌, ◌==◌, List, [], ◌∷◌, ◌++◌, length, codes, Some, if◌then◌else◌}
+use Rattle.std.specs.List.{list_all}
+use Rattle.kmip_messages.specs.Ranges.{is_name, is_length, is_usage, attrs_fit}
+use Rattle.toml.specs.Data.{Items, no_items, item, Members}
+use Rattle.kmip_plan.specs.declared.key.Key.{Key}
+use Rattle.kmip_plan.specs.declared.target.Target.{Target}
+use Rattle.kmip_plan.specs.Chains.{is_revoked}
+use Rattle.kmip_plan.specs.Fields.{are_once, mask_of, reason_of}
+use Rattle.kmip_plan.specs.Reading.{has_name}
+use Rattle.kmip_plan.specs.Tables.{text_at, integer_at, array_at, fields_of, is_top_field, is_key_field, has_only, all_words}
+use Rattle.kmip_plan.specs.Words.{target_word, algorithm_word, is_usage_word}
+
+-- the array has each usage word of a mask once, no other words, and at least one
+pub record IsUsage (ms : Members) (mask : ℤ) : Type 0 where
+  pub items : Items
+  pub stands : array_at (codes "usage") ms ≡ Some items
+  pub words : all_words is_usage_word items ≡ true
+  pub once : are_once items ≡ true
+  pub mask_is : mask ≡ pos (mask_of items)
+  pub in_range : is_usage mask ≡ true
+
+-- the word of the key's algorithm stands in the table
+pub record IsAlgorithm (ms : Members) (algorithm : ℕ) : Type 0 where
+  pub word : List ℕ
+  pub stands : text_at (codes "algorithm") ms ≡ Some word
+  pub named : algorithm_word algorithm ≡ Some word
+
+-- the table has the fields of this key, each in its range, and no others
+pub record IsKey (ms : Members) (key : Key) : Type 0 where
+  pub no_others : has_only is_key_field ms ≡ true
+  pub name : text_at (codes "name") ms ≡ Some key.attrs.name
+  pub name_in_range : is_name key.attrs.name ≡ true
+  pub algorithm : IsAlgorithm ms key.attrs.algorithm
+  pub bits : integer_at (codes "length") ms ≡ Some key.attrs.length
+  pub bits_in_range : is_length key.attrs.algorithm key.attrs.length ≡ true
+  pub usage : IsUsage ms key.attrs.usage
+  pub target : text_at (codes "target") ms ≡ Some (target_word key.target)
+  pub reason : reason_of key.target ms ≡ Some key.reason
+
+-- the items are the keys' tables, one for one
+abbrev pub AreKeys : Items → List Key → Type 0
+AreKeys no_items [] = Unit {0}
+AreKeys no_items (key ∷ keys) = ⊥
+AreKeys (item d ds) [] = ⊥
+AreKeys (item d ds) (key ∷ keys) = IsKey (fields_of d) key × AreKeys ds keys
+
+-- each key has a name that no key before it has
+abbrev pub HaveNewNames : List Key → List Key → Type 0
+HaveNewNames before [] = Unit {0}
+HaveNewNames before (key ∷ keys) = (has_name key.attrs.name before ≡ false) × HaveNewNames (before ++ key ∷ []) keys
+
+-- a table is a plan of these keys
+pub record IsPlan (ms : Members) (keys : List Key) : Type 0 where
+  pub no_others : has_only is_top_field ms ≡ true
+  pub items : Items
+  pub stands : array_at (codes "key") ms ≡ Some items
+  pub each : AreKeys items keys
+  pub some : 1 ≤ length keys
+  pub few : length keys ≤ 1000
+  pub distinct : HaveNewNames [] keys
+
+-- the reason of a Revoke that is no compromise, and 0 where the chain has no Revoke
+abbrev pub reason_fits : Target → ℕ → Bool
+reason_fits target reason =
+    if is_revoked target then reason == 1 || reason == 4 || reason == 5 || reason == 6 || reason == 7 else reason == 0
+
+abbrev pub key_fits : Key → Bool
+key_fits key = attrs_fit key.attrs && reason_fits key.target key.reason
+
+-- what holds of the keys of every plan
+pub record IsLawful (keys : List Key) : Type 0 where
+  pub some : 1 ≤ length keys
+  pub few : length keys ≤ 1000
+  pub distinct : HaveNewNames [] keys
+  pub fit : list_all key_fits keys ≡ true

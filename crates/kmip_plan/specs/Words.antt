@@ -1,0 +1,73 @@
+-- The words of a plan, and the numbers that they stand for.
+-- Source: KMIP 2.1, Cryptographic Algorithm, Cryptographic Usage Mask and Revocation Reason Code; the words are own.
+use Rattle.std.specs.Prelude.{ℕ, ◌+◌, ◌==◌, nat_eq, Bool, ◌||◌, List, codes, Option, Some, None, if◌then◌else◌}
+use Rattle.std.specs.Cmp.Lexicographic.{pointwise}
+use Rattle.kmip_messages.specs.declared.standard.TheConstants.{ALGORITHM_AES, ALGORITHM_HMAC_SHA256}
+use Rattle.kmip_plan.specs.declared.target.Target.{Target}
+use Rattle.kmip_plan.specs.declared.target.Target.TheVariants.{Created, Active, Revoked, Destroyed, Discarded}
+
+-- the two texts have the same bytes
+abbrev pub is_text : List ℕ → List ℕ → Bool
+is_text s t = pointwise nat_eq s t
+
+abbrev pub target_word : Target → List ℕ
+target_word Created = codes "created"
+target_word Active = codes "active"
+target_word Revoked = codes "revoked"
+target_word Destroyed = codes "destroyed"
+target_word Discarded = codes "discarded"
+
+abbrev pub target_of_word : List ℕ → Option Target
+target_of_word word =
+    if is_text word (codes "created") then Some Created
+    else if is_text word (codes "active") then Some Active
+    else if is_text word (codes "revoked") then Some Revoked
+    else if is_text word (codes "destroyed") then Some Destroyed
+    else if is_text word (codes "discarded") then Some Discarded
+    else None
+
+abbrev pub algorithm_word : ℕ → Option (List ℕ)
+algorithm_word a =
+    if a == ALGORITHM_AES then Some (codes "AES")
+    else if a == ALGORITHM_HMAC_SHA256 then Some (codes "HMAC-SHA256")
+    else None
+
+abbrev pub algorithm_of_word : List ℕ → Option ℕ
+algorithm_of_word word =
+    if is_text word (codes "AES") then Some ALGORITHM_AES
+    else if is_text word (codes "HMAC-SHA256") then Some ALGORITHM_HMAC_SHA256
+    else None
+
+-- the reasons of a Revoke; a compromise has no word
+abbrev pub reason_of_word : List ℕ → Option ℕ
+reason_of_word word =
+    if is_text word (codes "unspecified") then Some 1
+    else if is_text word (codes "affiliation-changed") then Some 4
+    else if is_text word (codes "superseded") then Some 5
+    else if is_text word (codes "cessation-of-operation") then Some 6
+    else if is_text word (codes "privilege-withdrawn") then Some 7
+    else None
+
+-- one of the eight words for a usage
+abbrev pub is_usage_word : List ℕ → Bool
+is_usage_word word =
+    is_text word (codes "sign")
+    || is_text word (codes "verify")
+    || is_text word (codes "encrypt")
+    || is_text word (codes "decrypt")
+    || is_text word (codes "wrap-key")
+    || is_text word (codes "unwrap-key")
+    || is_text word (codes "mac-generate")
+    || is_text word (codes "mac-verify")
+
+-- the sum over the usage words, where each one counts for something that depends on its number
+abbrev pub usage_sum : (List ℕ → ℕ → ℕ) → ℕ
+usage_sum counted =
+    counted (codes "sign") 1
+    + counted (codes "verify") 2
+    + counted (codes "encrypt") 4
+    + counted (codes "decrypt") 8
+    + counted (codes "wrap-key") 16
+    + counted (codes "unwrap-key") 32
+    + counted (codes "mac-generate") 128
+    + counted (codes "mac-verify") 256

@@ -1,0 +1,97 @@
+//! The steps of a key on its way to its target, and the states that it comes through.
+ghost use Rattle.std.specs.Prelude.{◌≡◌, ◌≤◌, ◌==◌, length};
+ghost use Rattle.std.specs.List.{position};
+ghost use Rattle.kmip_messages.specs.States.{state_number};
+ghost use Rattle.kmip_plan.specs.Chains.{chain, states, step_at, state_at, place_at, is_revoked};
+
+use crate::key::Key;
+use crate::target::Target;
+use kmip_messages::{KeyState, Step};
+
+/// How many steps lead to the key's target. Takes no memory.
+pub fn chain_length(key: &Key) -> usize
+    ensures steps { result ≡ length (chain key.now.target) }
+    ensures some { 1 ≤ result }
+    ensures few { result ≤ 4 }
+{
+    steps_to(key.target).len()
+}
+
+/// The step of the key at a place from 1. Takes no memory.
+pub fn chain(key: &Key, place: usize) -> Option<Step>
+    ensures { result ≡ step_at key.now.target place }
+{
+    if place == 0 {
+        return None;
+    }
+    steps_to(key.target).get(place - 1).copied()
+}
+
+/// The state of the key after so many steps; none after no step. Takes no memory.
+pub fn state_after(key: &Key, steps: usize) -> Option<KeyState>
+    ensures { result ≡ state_at key.now.target steps }
+{
+    if steps == 0 {
+        return None;
+    }
+    states_to(key.target).get(steps - 1).copied()
+}
+
+/// After how many steps the key is in the state of this number, where its way leads through that state.
+/// Takes no memory.
+pub fn place_of(key: &Key, state: u32) -> Option<usize>
+    ensures { result ≡ place_at key.now.target state }
+{
+    match index_of(states_to(key.target), state) {
+        Some(index) => Some(index + 1),
+        None => None,
+    }
+}
+
+/// Where the state of this number stands.
+fn index_of(states: &[KeyState], number: u32) -> Option<usize>
+    ensures { result ≡ position (λ state. state_number state == number) states.now }
+{
+    states.iter().position(|state| state.number() == number)
+}
+
+/// Whether a Revoke leads to the target.
+pub(crate) fn is_revoked(target: Target) -> bool
+    ensures { result ≡ is_revoked target }
+{
+    match target {
+        Target::Created | Target::Active | Target::Discarded => false,
+        Target::Revoked | Target::Destroyed => true,
+    }
+}
+
+/// The steps that lead to a target.
+fn steps_to(target: Target) -> &'static [Step]
+    ensures { result.now ≡ chain target }
+{
+    match target {
+        Target::Created => &[Step::Create],
+        Target::Active => &[Step::Create, Step::Activate],
+        Target::Revoked => &[Step::Create, Step::Activate, Step::Revoke],
+        Target::Destroyed => &[Step::Create, Step::Activate, Step::Revoke, Step::Destroy],
+        Target::Discarded => &[Step::Create, Step::Destroy],
+    }
+}
+
+/// The states on the way to a target, one for each step.
+fn states_to(target: Target) -> &'static [KeyState]
+    ensures { result.now ≡ states target }
+{
+    match target {
+        Target::Created => &[KeyState::PreActive],
+        Target::Active => &[KeyState::PreActive, KeyState::Active],
+        Target::Revoked => &[KeyState::PreActive, KeyState::Active, KeyState::Deactivated],
+        Target::Destroyed => &[
+            KeyState::PreActive,
+            KeyState::Active,
+            KeyState::Deactivated,
+            KeyState::Destroyed,
+        ],
+        Target::Discarded => &[KeyState::PreActive, KeyState::Destroyed],
+    }
+}

@@ -1,0 +1,158 @@
+//! Why a text is no plan.
+ghost use Rattle.std.specs.Prelude.{◌≡◌, None, option_map};
+ghost use Rattle.kmip_plan.specs.Faults.{field_word, plan_fault_number, plan_fault_name, plan_fault_place, plan_fault_field};
+ghost use Rattle.kmip_plan.specs.declared.fault.PlanFault.TheVariants as faults;
+
+use kmip_ttlv::Text;
+use std::alloc::{AllocError, AllocFailed};
+use thiserror::Error;
+
+/// A field of a key in a plan.
+#[derive(Clone, Copy, Debug, PartialEq, Eq)]
+pub enum Field {
+    Name,
+    Algorithm,
+    Length,
+    Usage,
+    Target,
+    /// The one field that may be absent.
+    Reason,
+}
+
+impl Field {
+    /// The field's name in a plan.
+    pub fn word(self) -> &'static str
+        ensures { result.now ≡ field_word self }
+    {
+        match self {
+            Field::Name => "name",
+            Field::Algorithm => "algorithm",
+            Field::Length => "length",
+            Field::Usage => "usage",
+            Field::Target => "target",
+            Field::Reason => "reason",
+        }
+    }
+}
+
+/// The first thing that is wrong with a plan. A number is the place of the key, from 1; an unknown
+/// field beside the keys is at place 0.
+#[derive(Debug, Drop, Error)]
+pub enum PlanFault {
+    #[error("no TOML")]
+    Toml,
+    /// There is no array of keys, or it is empty.
+    #[error("no keys")]
+    NoKeys,
+    /// More than 1,000 keys.
+    #[error("too many keys")]
+    TooMany,
+    #[error("missing {0:?} at key {1}")]
+    Missing(Field, usize),
+    /// A field that plans do not have.
+    #[error("unknown {0:?} at key {1}")]
+    Unknown(Text, usize),
+    #[error("bad name at key {0}")]
+    BadName(usize),
+    /// The algorithm is none of the profile, or has no keys of this length.
+    #[error("bad length at key {0}")]
+    BadLength(usize),
+    #[error("bad usage at key {0}")]
+    BadUsage(usize),
+    #[error("bad target at key {0}")]
+    BadTarget(usize),
+    /// No reason of a Revoke, or a reason with a target that has no Revoke.
+    #[error("bad reason at key {0}")]
+    BadReason(usize),
+    /// A key before has the name.
+    #[error("the name of key {0} is used")]
+    SameName(usize),
+    #[error("no memory")]
+    NoMemory,
+}
+
+impl PlanFault {
+    /// The fault's number, 1 to 12.
+    pub fn number(&self) -> u32
+        ensures { result ≡ plan_fault_number self.now }
+    {
+        match self {
+            PlanFault::Toml => 1,
+            PlanFault::NoKeys => 2,
+            PlanFault::TooMany => 3,
+            PlanFault::Missing(..) => 4,
+            PlanFault::Unknown(..) => 5,
+            PlanFault::BadName(_) => 6,
+            PlanFault::BadLength(_) => 7,
+            PlanFault::BadUsage(_) => 8,
+            PlanFault::BadTarget(_) => 9,
+            PlanFault::BadReason(_) => 10,
+            PlanFault::SameName(_) => 11,
+            PlanFault::NoMemory => 12,
+        }
+    }
+
+    /// The fault's name, as it is printed.
+    pub fn name(&self) -> &'static str
+        ensures { result.now ≡ plan_fault_name self.now }
+    {
+        match self {
+            PlanFault::Toml => "Toml",
+            PlanFault::NoKeys => "NoKeys",
+            PlanFault::TooMany => "TooMany",
+            PlanFault::Missing(..) => "Missing",
+            PlanFault::Unknown(..) => "Unknown",
+            PlanFault::BadName(_) => "BadName",
+            PlanFault::BadLength(_) => "BadLength",
+            PlanFault::BadUsage(_) => "BadUsage",
+            PlanFault::BadTarget(_) => "BadTarget",
+            PlanFault::BadReason(_) => "BadReason",
+            PlanFault::SameName(_) => "SameName",
+            PlanFault::NoMemory => "NoMemory",
+        }
+    }
+
+    /// The place from 1 of the key that is at fault, 0 for a field beside the keys.
+    pub fn place(&self) -> Option<usize>
+        ensures { result ≡ plan_fault_place self.now }
+    {
+        match self {
+            PlanFault::Missing(_, place)
+            | PlanFault::Unknown(_, place)
+            | PlanFault::BadName(place)
+            | PlanFault::BadLength(place)
+            | PlanFault::BadUsage(place)
+            | PlanFault::BadTarget(place)
+            | PlanFault::BadReason(place)
+            | PlanFault::SameName(place) => Some(*place),
+            PlanFault::Toml | PlanFault::NoKeys | PlanFault::TooMany | PlanFault::NoMemory => None,
+        }
+    }
+
+    /// The name of the field that is missing or unknown.
+    pub fn field(&self) -> Option<&str>
+        ensures { option_map (λ word. word.now) result ≡ plan_fault_field self.now }
+    {
+        match self {
+            PlanFault::Missing(field, _) => Some(field.word()),
+            PlanFault::Unknown(word, _) => Some(word.as_str()),
+            _ => None,
+        }
+    }
+}
+
+impl From<AllocError> for PlanFault {
+    ghost from_gives = { λ _ e. e ≡ faults.NoMemory };
+
+    fn from(_e: AllocError) -> PlanFault {
+        PlanFault::NoMemory
+    }
+}
+
+impl<T: Drop> From<AllocFailed<T>> for PlanFault {
+    ghost from_gives = { λ _ e. e ≡ faults.NoMemory };
+
+    fn from(_e: AllocFailed<T>) -> PlanFault {
+        PlanFault::NoMemory
+    }
+}

@@ -1,0 +1,27 @@
+//! The plan of a client: which keys it is to make, and how far each is to go.
+#![tactic(auto)]
+
+mod chains;
+mod counts;
+mod fault;
+mod fields;
+mod key;
+mod laws;
+mod plan;
+mod reading;
+mod tables;
+mod target;
+mod words;
+
+pub use chains::{chain, chain_length, place_of, state_after};
+pub use fault::{Field, PlanFault};
+pub use key::Key;
+pub use kmip_messages::Step;
+pub use laws::{
+    done_steps_are_no_rows, places_and_states, states_are_distinct, steps_are_distinct,
+    steps_follow_the_lifecycle, targets_and_words,
+};
+pub use plan::{Plan, bound};
+pub use reading::read_plan;
+pub use target::Target;
+pub use words::algorithm_word;

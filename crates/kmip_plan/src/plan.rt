@@ -1,0 +1,82 @@
+//! The keys of a plan.
+ghost use Rattle.std.specs.Prelude.{◌≡◌, ◌≤◌, length, IfSome, IsTrue};
+ghost use Rattle.std.specs.List.{slice_get};
+ghost use Rattle.std.specs.Option.{option_copied};
+ghost use Rattle.kmip_plan.specs.Chains.{bound};
+ghost use Rattle.kmip_plan.specs.Plans.{IsLawful, key_fits};
+
+use crate::chains::chain_length;
+use crate::key::Key;
+use std::marker::Model;
+
+/// The keys of a plan in their order: 1 to 1,000, each in its ranges and with a name of its own. A
+/// contract sees the list of them.
+#[derive(Debug, Drop)]
+pub struct Plan {
+    keys: Vec<Key>,
+}
+
+impl Model for Plan {
+    ghost use Rattle.std.specs.Prelude.{List};
+    ghost use Rattle.kmip_plan.specs.declared.key.Key.{Key};
+    ghost use Rattle.kmip_plan.specs.Plans.{IsLawful};
+
+    ghost Value = { List Key };
+
+    ghost view = { λ p. p.keys.items };
+
+    ghost invariant = { λ p. IsLawful p.keys.items };
+}
+
+impl Plan {
+    /// The plan of these keys.
+    pub(crate) fn new(keys: Vec<Key>) -> Self
+        requires { IsLawful keys.items }
+        ensures { result ≡ keys.items }
+    {
+        Plan { keys }
+    }
+
+    /// How many keys there are. Takes no memory.
+    pub fn count(&self) -> usize
+        ensures count { result ≡ length self.now }
+        ensures lawful { IsLawful self.now }
+    {
+        self.keys.len()
+    }
+
+    /// The key at a place from 0. Takes no memory.
+    pub fn key(&self, place: usize) -> Option<&Key>
+        ensures key { option_copied result ≡ slice_get self.now place }
+        ensures lawful { IsLawful self.now }
+        ensures fits { IfSome result (λ key. IsTrue (key_fits key.now)) }
+    {
+        key_at(self.keys.as_slice(), place)
+    }
+}
+
+fn key_at(keys: &[Key], place: usize) -> Option<&Key>
+    ensures { option_copied result ≡ slice_get keys.now place }
+{
+    keys.get(place)
+}
+
+/// The sum over the keys of the steps of each, and two more. Takes no memory.
+pub fn bound(plan: &Plan) -> usize
+    ensures bound { result ≡ bound plan.now }
+    ensures small { result ≤ 6000 }
+{
+    bound_of(plan.keys.as_slice())
+}
+
+fn bound_of(keys: &[Key]) -> usize
+    requires { length keys.now ≤ 1000 }
+    ensures bound { result ≡ bound keys.now }
+    ensures small { result ≤ 6000 }
+{
+    let mut total = 0;
+    for key in keys {
+        total += chain_length(key) + 2;
+    }
+    total
+}

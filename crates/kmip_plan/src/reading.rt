@@ -1,0 +1,185 @@
+//! A plan from its text.
+ghost use Rattle.std.specs.Prelude.{◌≡◌, [], List, Some, Ok, IfOk, option_map};
+ghost use Rattle.toml.specs.Data.{Members, get_member};
+ghost use Rattle.toml.specs.Parse.{parse_document};
+ghost use Rattle.toml.specs.View.{view, array_view, table_view};
+ghost use Rattle.kmip_plan.specs.Faults.{field_word};
+ghost use Rattle.kmip_plan.specs.declared.key.Key.{Key};
+ghost use Rattle.kmip_plan.specs.Plans.{IsPlan};
+ghost use Rattle.kmip_plan.specs.Reading.{need, none_other, has_name, all_there, suite_of, key_in, keys_in, plan_in, plan_read, Gives};
+ghost use Rattle.kmip_plan.specs.Tables.{fields_of};
+
+use crate::counts::count;
+use crate::fault::{Field, PlanFault};
+use crate::fields::{algorithm_of, length_of, name_of, reason_of, target_of, usage_of};
+use crate::key::Key;
+use crate::plan::Plan;
+use crate::tables::{array_at, other_key_field, other_top_field, value_at};
+use kmip_messages::KeyAttrs;
+use kmip_ttlv::Text;
+use std::alloc::Global;
+use toml::value::Array;
+use toml::{Table, Value};
+
+/// The most keys that a plan may have.
+const KEYS_MAX: usize = 1000;
+
+/// The plan that a text is: TOML with an array of tables `key` and nothing else.
+///
+/// # Errors
+/// The first fault in the order of the checks; want of memory otherwise.
+pub fn read_plan(alloc: Global, text: &str) -> Result<Plan, PlanFault>
+    ensures found { IfOk result (λ plan. (ms : Members) × (parse_document text.now ≡ Some ms) × IsPlan ms plan) }
+    ensures only { (ms : Members) (keys : List Key) → parse_document text.now ≡ Some ms → IsPlan ms keys → Gives (λ plan. plan) result (Ok keys) }
+    ensures exact { Gives (λ plan. plan) result (plan_read text.now) }
+{
+    whole_plan(alloc, text)
+}
+
+/// The same, by the order of the checks.
+fn whole_plan(alloc: Global, text: &str) -> Result<Plan, PlanFault>
+    ensures { Gives (λ plan. plan) result (plan_read text.now) }
+{
+    let keys = plan_of(alloc, text)?;
+    Ok(Plan::new(keys))
+}
+
+/// The keys of a text.
+#[tactic(auto, unfolding(crate::specs::Reading::plan_read))]
+fn plan_of(alloc: Global, text: &str) -> Result<Vec<Key>, PlanFault>
+    ensures { Gives (λ keys. keys.items) result (plan_read text.now) }
+{
+    match toml::table_from_str(alloc, text) {
+        Ok(table) => {
+            let keys = keys_of(alloc, &table)?;
+            Ok(keys)
+        }
+        Err(fault) if fault.is_memory() => Err(PlanFault::NoMemory),
+        Err(_) => Err(PlanFault::Toml),
+    }
+}
+
+/// The keys of a table, in their order.
+#[tactic(auto, unfolding(crate::specs::Reading::plan_in))]
+fn keys_of(alloc: Global, table: &Table) -> Result<Vec<Key>, PlanFault>
+    ensures { Gives (λ keys. keys.items) result (plan_in (table_view table.now)) }
+{
+    check_other(alloc, other_top_field(table), 0)?;
+    let Some(array) = array_at(table, "key") else {
+        return Err(PlanFault::NoKeys);
+    };
+    let count = count(array);
+    if count < 1 {
+        return Err(PlanFault::NoKeys);
+    }
+    if count > KEYS_MAX {
+        return Err(PlanFault::TooMany);
+    }
+    let keys = keys_in(alloc, array)?;
+    Ok(keys)
+}
+
+/// The keys of an array.
+fn keys_in(alloc: Global, array: &Array) -> Result<Vec<Key>, PlanFault>
+    ensures { Gives (λ keys. keys.items) result (keys_in [] (array_view array.now)) }
+{
+    let mut keys = Vec::new(alloc);
+    for value in array {
+        let key = key_of(alloc, keys.as_slice(), value)?;
+        keys.push(key)?;
+    }
+    Ok(keys)
+}
+
+/// The key of an element; one that is no table is read as an empty table.
+#[tactic(auto, unfolding(crate::specs::Reading::key_in, crate::specs::Reading::all_there))]
+fn key_of(alloc: Global, keys: &[Key], value: &Value) -> Result<Key, PlanFault>
+    ensures { Gives (λ key. key) result (key_in keys.now (fields_of (view value.now))) }
+{
+    match value {
+        Value::Table(table) => key_in(alloc, keys, table),
+        _ => Err(PlanFault::Missing(Field::Name, keys.len() + 1)),
+    }
+}
+
+/// The key of a table, after the keys before it.
+#[tactic(auto, unfolding(crate::specs::Reading::key_in))]
+fn key_in(alloc: Global, keys: &[Key], table: &Table) -> Result<Key, PlanFault>
+    ensures { Gives (λ key. key) result (key_in keys.now (table_view table.now)) }
+{
+    let place = keys.len() + 1;
+    check_fields(table, place)?;
+    check_other(alloc, other_key_field(table), place)?;
+    let name = name_of(table).ok_or(PlanFault::BadName(place))?;
+    let (algorithm, length) = suite_of(table, place)?;
+    let usage = usage_of(table).ok_or(PlanFault::BadUsage(place))?;
+    let target = target_of(table).ok_or(PlanFault::BadTarget(place))?;
+    let reason = reason_of(target, table).ok_or(PlanFault::BadReason(place))?;
+    if has_name(keys, name) {
+        return Err(PlanFault::SameName(place));
+    }
+    let attrs = KeyAttrs {
+        name: Text::copied(alloc, name)?,
+        algorithm,
+        length,
+        usage,
+    };
+    Ok(Key {
+        attrs,
+        target,
+        reason,
+    })
+}
+
+/// The algorithm, and how many bits its key has.
+#[tactic(auto, unfolding(crate::specs::Reading::suite_of))]
+fn suite_of(table: &Table, place: usize) -> Result<(u32, i32), PlanFault>
+    ensures { Gives (λ suite. suite) result (suite_of place (table_view table.now)) }
+{
+    let algorithm = algorithm_of(table).ok_or(PlanFault::BadLength(place))?;
+    let length = length_of(algorithm, table).ok_or(PlanFault::BadLength(place))?;
+    Ok((algorithm, length))
+}
+
+/// Each field that a key must have is there.
+#[tactic(auto, unfolding(crate::specs::Reading::all_there))]
+fn check_fields(table: &Table, place: usize) -> Result<(), PlanFault>
+    ensures { Gives (λ u. u) result (all_there place (table_view table.now)) }
+{
+    require(table, Field::Name, place)?;
+    require(table, Field::Algorithm, place)?;
+    require(table, Field::Length, place)?;
+    require(table, Field::Usage, place)?;
+    require(table, Field::Target, place)?;
+    Ok(())
+}
+
+/// The field is there.
+fn require<'a>(table: &'a Table, field: Field, place: usize) -> Result<&'a Value, PlanFault>
+    ensures { Gives (λ value. view value.now) result (need (PlanFault.Missing field place) (get_member (field_word field) (table_view table.now))) }
+{
+    match value_at(table, field.word()) {
+        Some(value) => Ok(value),
+        None => Err(PlanFault::Missing(field, place)),
+    }
+}
+
+/// There is no other field.
+fn check_other(alloc: Global, other: Option<&str>, place: usize) -> Result<(), PlanFault>
+    ensures { Gives (λ u. u) result (none_other place (option_map (λ word. word.now) other.entry)) }
+{
+    match other {
+        Some(word) => {
+            let word = Text::copied(alloc, word)?;
+            Err(PlanFault::Unknown(word, place))
+        }
+        None => Ok(()),
+    }
+}
+
+/// Whether a key has the name.
+fn has_name(keys: &[Key], name: &str) -> bool
+    ensures { result ≡ has_name name.now keys.now }
+{
+    keys.iter().any(|key| name == key.attrs.name.as_str())
+}

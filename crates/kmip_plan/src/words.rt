@@ -1,0 +1,57 @@
+//! The words that stand for the numbers of the standard.
+ghost use Rattle.std.specs.Prelude.{◌≡◌, option_map};
+ghost use Rattle.kmip_plan.specs.Words.{algorithm_word, algorithm_of_word, reason_of_word, is_usage_word};
+
+use kmip_messages::standard::{
+    ALGORITHM_AES, ALGORITHM_HMAC_SHA256, REVOCATION_PRIVILEGE_WITHDRAWN, REVOCATION_UNSPECIFIED,
+};
+
+/// The word for a Cryptographic Algorithm of a plan. Takes no memory.
+pub fn algorithm_word(algorithm: u32) -> Option<&'static str>
+    ensures { option_map (λ word. word.now) result ≡ algorithm_word algorithm }
+{
+    match algorithm {
+        ALGORITHM_AES => Some("AES"),
+        ALGORITHM_HMAC_SHA256 => Some("HMAC-SHA256"),
+        _ => None,
+    }
+}
+
+/// The Cryptographic Algorithm that a word of a plan names.
+pub(crate) fn algorithm_of_word(word: &str) -> Option<u32>
+    ensures { result ≡ algorithm_of_word word.now }
+{
+    match word {
+        "AES" => Some(ALGORITHM_AES),
+        "HMAC-SHA256" => Some(ALGORITHM_HMAC_SHA256),
+        _ => None,
+    }
+}
+
+/// The Revocation Reason Code that a word of a plan names; a compromise has no word.
+pub(crate) fn reason_of_word(word: &str) -> Option<u32>
+    ensures { result ≡ reason_of_word word.now }
+{
+    match word {
+        "unspecified" => Some(REVOCATION_UNSPECIFIED),
+        "affiliation-changed" => Some(4),
+        "superseded" => Some(5),
+        "cessation-of-operation" => Some(6),
+        "privilege-withdrawn" => Some(REVOCATION_PRIVILEGE_WITHDRAWN),
+        _ => None,
+    }
+}
+
+/// Whether the word names a usage.
+pub(crate) fn is_usage_word(word: &str) -> bool
+    ensures { result ≡ is_usage_word word.now }
+{
+    word == "sign"
+        || word == "verify"
+        || word == "encrypt"
+        || word == "decrypt"
+        || word == "wrap-key"
+        || word == "unwrap-key"
+        || word == "mac-generate"
+        || word == "mac-verify"
+}
