@@ -159,7 +159,11 @@ fn waits_for_the_end_of_a_message(rt: HostRuntime) -> Result<(), Fail> {
         assert!(rt; message.is_none(), "{size} bytes");
         assert_eq!(rt; framer.pending(), size);
         let whole: usize = if size < 8 { 8 } else { 184 };
-        assert_eq!(rt; framer.wants(), whole.saturating_sub(size), "after {size} bytes");
+        assert_eq!(rt;
+            framer.wants(),
+            whole.saturating_sub(size),
+            "after {size} bytes"
+        );
     }
     Ok(())
 }

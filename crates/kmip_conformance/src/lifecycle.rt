@@ -60,19 +60,43 @@ struct Turn(
 /// The turns of one key, from the moment it is made.
 const LIFE: [Turn; 14] = [
     Turn("revoked too early", REVOKE, "1", "43", KeyState::PreActive),
-    Turn("revoked as compromised", REVOKE, "2", "08", KeyState::PreActive),
+    Turn(
+        "revoked as compromised",
+        REVOKE,
+        "2",
+        "08",
+        KeyState::PreActive,
+    ),
     Turn("activated", ACTIVATE, "", "", KeyState::Active),
     Turn("activated again", ACTIVATE, "", "43", KeyState::Active),
     Turn("destroyed too early", DESTROY, "", "43", KeyState::Active),
-    Turn("revoked with its authority", REVOKE, "3", "08", KeyState::Active),
+    Turn(
+        "revoked with its authority",
+        REVOKE,
+        "3",
+        "08",
+        KeyState::Active,
+    ),
     Turn("revoked", REVOKE, "4", "", KeyState::Deactivated),
     Turn("revoked again", REVOKE, "4", "43", KeyState::Deactivated),
     Turn("activated late", ACTIVATE, "", "43", KeyState::Deactivated),
     Turn("destroyed", DESTROY, "", "", KeyState::Destroyed),
     Turn("destroyed again", DESTROY, "", "43", KeyState::Destroyed),
-    Turn("activated after all", ACTIVATE, "", "43", KeyState::Destroyed),
+    Turn(
+        "activated after all",
+        ACTIVATE,
+        "",
+        "43",
+        KeyState::Destroyed,
+    ),
     Turn("revoked after all", REVOKE, "1", "43", KeyState::Destroyed),
-    Turn("compromised after all", REVOKE, "2", "08", KeyState::Destroyed),
+    Turn(
+        "compromised after all",
+        REVOKE,
+        "2",
+        "08",
+        KeyState::Destroyed,
+    ),
 ];
 
 /// Questions about object `1` where there is none, with the reason of the refusal.
@@ -81,7 +105,13 @@ const UNKNOWN: [Turn; 6] = [
     Turn("destroyed", DESTROY, "", "01", KeyState::PreActive),
     Turn("revoked", REVOKE, "1", "01", KeyState::PreActive),
     Turn("compromised", REVOKE, "2", "08", KeyState::PreActive),
-    Turn("compromised by its authority", REVOKE, "3", "08", KeyState::PreActive),
+    Turn(
+        "compromised by its authority",
+        REVOKE,
+        "3",
+        "08",
+        KeyState::PreActive,
+    ),
     Turn("told of", GET_ATTRIBUTES, "", "01", KeyState::PreActive),
 ];
 
@@ -109,7 +139,11 @@ fn reply_of(alloc: Global, turn: &Turn) -> Result<String, AllocError> {
 /// Checks that the one row is in the turn's state, and has its material until it is destroyed.
 fn check_row(rt: &impl Abort, records: &ListStore, turn: &Turn) {
     let Turn(name, _, _, _, wanted) = turn;
-    let size = if *wanted == KeyState::Destroyed { 0 } else { 32 };
+    let size = if *wanted == KeyState::Destroyed {
+        0
+    } else {
+        32
+    };
     assert_eq!(rt; records.count(), 1, "{name}");
     match records.at(0) {
         Some(row) => {

@@ -32,11 +32,7 @@ const FULL_REPLY: &str = "\
     42007f0500000004000000010000000042007e05000000040000010000000000";
 
 /// The reply to a message, both in hexadecimal.
-pub fn reply_to(
-    alloc: Global,
-    server: &mut Server<ListStore>,
-    text: &str,
-) -> Result<String, Fail> {
+pub fn reply_to(alloc: Global, server: &mut Server<ListStore>, text: &str) -> Result<String, Fail> {
     let message = hex::decode(alloc, text)?;
     let reply = server.handle(alloc, message.as_slice(), 0)?;
     let text = hex::encode(alloc, reply.as_slice())?;

@@ -18,9 +18,7 @@ use kmip_messages::standard::{
     OBJECT_TYPE_SYMMETRIC_KEY, REASON_FEATURE_NOT_SUPPORTED, REVOCATION_CA_COMPROMISE,
     REVOCATION_KEY_COMPROMISE,
 };
-use kmip_messages::{
-    Ask, Attrs, KeyAttrs, Outcome, Refusal, Reply, Request, Texts, write_reply,
-};
+use kmip_messages::{Ask, Attrs, KeyAttrs, Outcome, Refusal, Reply, Request, Texts, write_reply};
 use kmip_store::{Records, Row, StoreFault};
 use kmip_ttlv::{Bytes, NoMemory, Text};
 use std::alloc::Global;
@@ -50,11 +48,7 @@ pub(crate) fn answer<S: Records>(
 }
 
 /// Answers a message that was refused.
-pub(crate) fn refuse_message(
-    alloc: Global,
-    refusal: Refusal,
-    now: i64,
-) -> Result<Vec<u8>, NoMemory>
+pub(crate) fn refuse_message(alloc: Global, refusal: Refusal, now: i64) -> Result<Vec<u8>, NoMemory>
     requires { IsTrue (option_map_or is_batch_id refusal.id true) }
     ensures reply { IfOk result (λ v. v.items ≡ canon (reply_item (refusal_reply refusal) now)) }
     ensures told { IfOk result (λ _. IsSome (message_reason refusal.fault)) }

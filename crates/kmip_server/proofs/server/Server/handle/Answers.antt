@@ -14,7 +14,7 @@ returns-in-Err-clause-reply g c =
     let refusal = c.in-Err.refusal in
     let known : IfOk c.refuse_message.result (λ v. v.items ≡ canon (reply_item (refusal_reply refusal) c.args.now)) = search (rules, c.refuse_message.ensures.reply) in
     if_ok c.refuse_message.result (λ v. v.items ≡ canon (reply_item (refusal_reply refusal) c.args.now)) _ (IsSome (message_reason refusal.fault)) known c.refuse_message.ensures.told (λ some v p.
-      p ∙ ap (λ read. canon (reply_item (reply_to c.args.self.now read) c.args.now)) (sym (refusal_read refusal (request_read c.args.message.now) c.in-Err.ensures.exact some)))
+    p ∙ ap (λ read. canon (reply_item (reply_to c.args.self.now read) c.args.now)) (sym (refusal_read refusal (request_read c.args.message.now) c.in-Err.ensures.exact some)))
 
 -- src/server.rt:47:5
 pub returns-in-Err-clause-behind : goal.returns-in-Err-clause-behind
@@ -22,4 +22,4 @@ unfolding stock_after
 returns-in-Err-clause-behind g c =
     let s = c.args.self.now in
     on_ok c.refuse_message.result _ _ c.refuse_message.ensures.told (λ some.
-      ap (λ read. stock_behind s read) (sym (refusal_read c.in-Err.refusal (request_read c.args.message.now) c.in-Err.ensures.exact some)))
+    ap (λ read. stock_behind s read) (sym (refusal_read c.in-Err.refusal (request_read c.args.message.now) c.in-Err.ensures.exact some)))
