@@ -1,5 +1,5 @@
 -- Refusals that are answered, and how long a reply of Get Attributes is.
-use Rattle.std.proofs.Common.{◌≡◌, ◌≢◌, ◌≤◌, ◌+◌, ◌&&◌, ◌==◌, ℕ, pos, Bool, true, false, List, length, Option, Some, None, Result, Ok, Err, IfOk, OnOk, IsSome, IsTrue, nat_le, refl, sym, subst, ap, ◌∙◌, arith}
+use Rattle.std.proofs.Common.{◌≡◌, ◌≢◌, ◌≤◌, ◌&&◌, ◌==◌, ℕ, pos, Bool, true, false, List, length, Some, Result, Ok, Err, IfOk, OnOk, IsSome, IsTrue, refl, ap, arith}
 use Rattle.std.specs.Option.{option_map_or}
 use Rattle.std.proofs.lemmas.Bool.{and_parts, le-leb, lt-ltb, le-ltb}
 use Rattle.kmip_ttlv.specs.Sizes.{size}
@@ -9,21 +9,20 @@ use Rattle.kmip_messages.specs.declared.fault.Refusal.{Refusal}
 use Rattle.kmip_messages.specs.declared.request.Attrs.{Attrs}
 use Rattle.kmip_messages.specs.declared.request.KeyAttrs.{KeyAttrs}
 use Rattle.kmip_messages.specs.declared.request.Request.{Request}
-use Rattle.kmip_messages.specs.declared.reply.Outcome.{Outcome}
 use Rattle.kmip_messages.specs.declared.reply.Outcome.TheVariants.{Attributes}
 use Rattle.kmip_messages.specs.declared.reply.Reply.{Reply}
 use Rattle.kmip_messages.specs.declared.standard.TheConstants.{OPERATION_GET_ATTRIBUTES}
 use Rattle.kmip_messages.specs.Fits.{reply_fits}
-use Rattle.kmip_messages.specs.MessageSizes.{number_size, size_if_any, text_size, attrs_size}
+use Rattle.kmip_messages.specs.MessageSizes.{number_size, attrs_size}
 use Rattle.kmip_messages.specs.Objects.{Object}
-use Rattle.kmip_messages.specs.Ranges.{attrs_fit, is_batch_id, is_identifier, is_name}
+use Rattle.kmip_messages.specs.Ranges.{attrs_fit, is_batch_id, is_identifier}
 use Rattle.kmip_messages.specs.RequestReading.{RefusalIs}
 use Rattle.kmip_messages.specs.Written.{reply_item}
 use Rattle.kmip_messages.proofs.WrittenLemmas.{size-reply, id_bound, name_length, text_bound, uid_length}
 use Rattle.kmip_store.specs.declared.fault.StoreFault.{StoreFault}
 use Rattle.kmip_store.specs.declared.fault.StoreFault.TheVariants.{NotFound, SameName, WrongState, Full, NoMemory}
 use Rattle.kmip_store.specs.Stock.{Stock, MayRefuse, added, created}
-use Rattle.kmip_server.specs.Reasons.{message_reason, store_reason}
+use Rattle.kmip_server.specs.Reasons.{message_reason}
 use Rattle.kmip_server.specs.Serving.{attributes_of}
 
 -- what holds of a value where this and that do
