@@ -2,7 +2,7 @@
 -- Source: KMIP 2.1, Object Attributes, State. Steps that a compromise takes are left out (own).
 use Rattle.std.specs.Prelude.{ℕ, List, codes, Option, Some, None}
 use Rattle.kmip_messages.specs.declared.state.KeyState.{KeyState}
-use Rattle.kmip_messages.specs.declared.state.KeyState.TheVariants.{PreActive, Active, Deactivated, Compromised, Destroyed, DestroyedCompromised}
+use Rattle.kmip_messages.specs.declared.state.KeyState.TheVariants.{PreActive, Active, Deactivated, Destroyed}
 use Rattle.kmip_messages.specs.declared.step.Step.{Step}
 use Rattle.kmip_messages.specs.declared.step.Step.TheVariants.{Create, Activate, Revoke, Destroy}
 
