@@ -17,6 +17,8 @@ mod layouts;
 #[cfg(test)]
 mod lifecycle;
 #[cfg(test)]
+mod planning;
+#[cfg(test)]
 mod readers;
 #[cfg(test)]
 mod replies;

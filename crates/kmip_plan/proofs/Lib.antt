@@ -1,4 +1,5 @@
 pub mod TableLemmas
 pub mod ChainLemmas
 pub mod WordLemmas
+pub mod FieldLemmas
 pub mod PlanLemmas

@@ -1,12 +1,12 @@
 -- A plan is read from a table just where the table is that plan.
-use Rattle.std.proofs.Common.{◌≡◌, ℕ, zero, suc, leb, ℤ, pos, ◌+◌, ◌≤◌, Bool, true, false, not, ◌&&◌, ◌||◌, ◌==◌, nat_le, cond, List, [], ◌∷◌, ◌++◌, length, codes, Option, Some, None, Result, Ok, Err, IfOk, IfSome, Bor, if◌then◌else◌, subst, refl, sym, ap, ◌∙◌, append_assoc, inl, inr, arith}
-use Rattle.std.proofs.lemmas.Bool.{cases_Bool, and_parts, eqb-true, leb-true, le-leb, false_from_ne_true}
+use Rattle.std.proofs.Common.{◌≡◌, ℕ, zero, suc, ℤ, ◌+◌, ◌≤◌, Bool, true, false, not, ◌&&◌, ◌||◌, ◌==◌, nat_le, List, [], ◌∷◌, ◌++◌, length, codes, Option, Some, None, Result, Ok, Err, IfOk, IfSome, Bor, if◌then◌else◌, subst, refl, sym, ap, ◌∙◌, append_assoc, arith}
+use Rattle.std.proofs.lemmas.Bool.{and_parts, leb-true, le-leb}
 use Rattle.std.proofs.lemmas.List.{append-nil}
 use Rattle.std.specs.List.{list_all, slice_get}
 use Rattle.std.specs.Option.{option_and_then, option_copied}
-use Rattle.kmip_messages.specs.Ranges.{is_name, is_length, is_usage}
+use Rattle.kmip_messages.specs.Ranges.{is_name, is_length}
 use Rattle.kmip_messages.proofs.Laws.{Reads, reads-ok, reads-bind, reads-as}
-use Rattle.toml.specs.Data.{Data, Items, no_items, item, Members, no_members, member, get_member, as_str, as_integer, as_array}
+use Rattle.toml.specs.Data.{Data, Items, no_items, item, Members, get_member, as_str, as_integer, as_array}
 use Rattle.toml.specs.Parse.{parse_document}
 use Rattle.kmip_plan.specs.declared.fault.PlanFault.{PlanFault}
 use Rattle.kmip_plan.specs.declared.fault.PlanFault.TheVariants as faults
@@ -14,173 +14,14 @@ use Rattle.kmip_plan.specs.declared.fault.Field.TheVariants as field
 use Rattle.kmip_plan.specs.declared.key.Key.{Key}
 use Rattle.kmip_plan.specs.declared.target.Target.{Target}
 use Rattle.kmip_plan.specs.Chains.{is_revoked}
-use Rattle.kmip_plan.specs.Fields.{if_so, name_of, algorithm_of, length_of, are_once, bit_of, mask_of, usage_in, usage_of, target_of, reason_in, reason_of}
-use Rattle.kmip_plan.specs.Plans.{IsUsage, IsAlgorithm, IsKey, AreKeys, HaveNewNames, IsPlan, key_fits, IsLawful}
-use Rattle.kmip_plan.specs.Reading.{need, guard, none_other, has_name, all_there, suite_of, key_in, keys_in, plan_in, plan_read, Gives}
-use Rattle.kmip_plan.specs.Tables.{text_at, integer_at, array_at, fields_of, is_top_field, is_key_field, has_only, first_other, count, times, all_words}
-use Rattle.kmip_plan.specs.Words.{target_word, target_of_word, algorithm_of_word, reason_of_word, is_usage_word}
+use Rattle.kmip_plan.specs.Fields.{name_of, algorithm_of, length_of, usage_of, target_of, reason_in, reason_of}
+use Rattle.kmip_plan.specs.Plans.{IsKey, AreKeys, HaveNewNames, IsPlan, key_fits, IsLawful}
+use Rattle.kmip_plan.specs.Reading.{has_name, all_there, suite_of, key_in, keys_in, plan_in, plan_read, Gives}
+use Rattle.kmip_plan.specs.Tables.{text_at, integer_at, array_at, fields_of, is_top_field, is_key_field, has_only, count}
+use Rattle.kmip_plan.specs.Words.{reason_of_word}
 use Rattle.kmip_plan.proofs.ChainLemmas.{same_some, not_some}
-use Rattle.kmip_plan.proofs.WordLemmas.{word_of_target, target_of_its_word, word_of_algorithm, algorithm_of_its_word, algorithm_in_range, reason_in_range}
-
--- ---- the steps of a reader
-
-abbrev ok : (A : Type 0) → A → Result A PlanFault
-ok A a = Ok a
-
-abbrev err : (A : Type 0) → PlanFault → Result A PlanFault
-err A e = Err e
-
-same_ok : {A : Type 0} (x y : A) → ok A x ≡ ok A y → x ≡ y
-same_ok x y e = cc
-
-not_ok : {A X : Type 0} (e : PlanFault) (a : A) → err A e ≡ ok A a → X
-not_ok e a is = absurd cc
-
-reads-need : {A : Type 0} (fault : PlanFault) (o : Option A) → Reads (need fault o) (λ a. o ≡ Some a)
-reads-need fault None = record { sound = λ a e. not_ok fault a e; complete = λ a e. not_some a e }
-reads-need fault (Some x) = record { sound = λ a e. ap Some (same_ok x a e); complete = λ a e. ap Ok (same_some x a e) }
-
-reads-guard : (fault : PlanFault) (b : Bool) → Reads (guard fault b) (λ u. b ≡ true)
-reads-guard fault true = record { sound = λ u e. refl; complete = λ u e. refl }
-reads-guard fault false = record { sound = λ u e. not_ok fault u e; complete = λ u e. absurd cc }
-
-none_if_only : (known : List ℕ → Bool) (ms : Members) → has_only known ms ≡ true → first_other known ms ≡ None
-none_if_only known no_members h = refl
-none_if_only known (member word d ms) h =
-    let parts = and_parts (known word) (has_only known ms) h in
-    rw parts.0 (none_if_only known ms parts.1)
-
-only_step : (b : Bool) (word : List ℕ) (rest : Option (List ℕ)) (only : Bool) → (rest ≡ None → only ≡ true)
-    → cond b rest (Some word) ≡ None → (b && only) ≡ true
-only_step true word rest only h e = h e
-only_step false word rest only h e = absurd cc
-
-only_if_none : (known : List ℕ → Bool) (ms : Members) → first_other known ms ≡ None → has_only known ms ≡ true
-only_if_none known no_members e = refl
-only_if_none known (member word d ms) e = only_step (known word) word (first_other known ms) (has_only known ms) (only_if_none known ms) e
-
-reads-nothing : (place : ℕ) (o : Option (List ℕ)) → Reads (none_other place o) (λ u. o ≡ None)
-reads-nothing place None = record { sound = λ u e. refl; complete = λ u e. refl }
-reads-nothing place (Some word) = record { sound = λ u e. not_ok (faults.Unknown word place) u e; complete = λ u e. absurd cc }
-
-reads-only : (place : ℕ) (known : List ℕ → Bool) (ms : Members) → Reads (none_other place (first_other known ms)) (λ u. has_only known ms ≡ true)
-reads-only place known ms =
-    reads-as _ _ (λ u. has_only known ms ≡ true) (λ u e. only_if_none known ms e) (λ u e. none_if_only known ms e)
-    (reads-nothing place (first_other known ms))
-
--- ---- the fields
-
--- a value that was found, and then judged
-there : {A B : Type 0} (f : A → Option B) (o : Option A) (b : B) → option_and_then f o ≡ Some b → (a : A) × (o ≡ Some a) × (f a ≡ Some b)
-there f None b e = not_some b e
-there f (Some a) b e = (a, refl, e)
-
-judged : {A B : Type 0} (f : A → Option B) (o : Option A) (a : A) (b : B) → o ≡ Some a → f a ≡ Some b → option_and_then f o ≡ Some b
-judged f o a b is e = ap (option_and_then f) is ∙ e
-
-passed : {A : Type 0} (test : A → Bool) (b : Bool) (a x : A) → test a ≡ b → (if b then Some a else None) ≡ Some x → (Some a ≡ Some x) × (test x ≡ true)
-passed test true a x h e = (e, ap test (sym (same_some a x e)) ∙ h)
-passed test false a x h e = not_some x e
-
--- a value that passes a test, as the value and the test
-found_so : {A : Type 0} (test : A → Bool) (o : Option A) (x : A) → option_and_then (if_so test) o ≡ Some x → (o ≡ Some x) × (test x ≡ true)
-found_so test o x e =
-    let (a, is, so) = there (if_so test) o x e in
-    let (same, fits) = passed test (test a) a x refl so in
-    (is ∙ same, fits)
-
-read_so : {A : Type 0} (test : A → Bool) (o : Option A) (x : A) → o ≡ Some x → test x ≡ true → option_and_then (if_so test) o ≡ Some x
-read_so test o x is fits = judged (if_so test) o x x is (rw fits refl)
-
-algorithm_found : (ms : Members) (a : ℕ) → algorithm_of ms ≡ Some a → IsAlgorithm ms a
-algorithm_found ms a e =
-    let (word, is, names) = there algorithm_of_word (text_at (codes "algorithm") ms) a e in
-    record { word = word; stands = is; named = word_of_algorithm word a names }
-
-algorithm_read : (ms : Members) (a : ℕ) → IsAlgorithm ms a → algorithm_of ms ≡ Some a
-algorithm_read ms a h = judged algorithm_of_word _ h.word a h.stands (algorithm_of_its_word a h.word h.named)
-
-target_found : (ms : Members) (t : Target) → target_of ms ≡ Some t → text_at (codes "target") ms ≡ Some (target_word t)
-target_found ms t e =
-    let (word, is, names) = there target_of_word (text_at (codes "target") ms) t e in
-    is ∙ ap Some (word_of_target word t names)
-
-target_read : (ms : Members) (t : Target) → text_at (codes "target") ms ≡ Some (target_word t) → target_of ms ≡ Some t
-target_read ms t is = judged target_of_word _ (target_word t) t is (target_of_its_word t)
-
-bit_within : (items : Items) (word : List ℕ) (bit : ℕ) → bit_of items word bit ≤ bit
-bit_within items word bit =
-    elim (cases_Bool (times word items == 0)) [
-      | inl none ↦ rw none (omega arith)
-      | inr some ↦ rw some (omega arith)
-    ]
-
-mask_within : (items : Items) → mask_of items ≤ 511
-mask_within items =
-    omega (
-      arith,
-      bit_within items (codes "sign") 1,
-      bit_within items (codes "verify") 2,
-      bit_within items (codes "encrypt") 4,
-      bit_within items (codes "decrypt") 8,
-      bit_within items (codes "wrap-key") 16,
-      bit_within items (codes "unwrap-key") 32,
-      bit_within items (codes "mac-generate") 128,
-      bit_within items (codes "mac-verify") 256,
-    )
-
-both_tests : (a b : Bool) → a ≡ true → b ≡ false → (a && not b) ≡ true
-both_tests a b h k = rw (h, k) refl
-
-positive : (n : ℕ) → (n == 0) ≡ false → 1 ≤ n
-positive zero e = absurd cc
-positive (suc n) e = omega arith
-
-not_large : (n : ℕ) → n ≤ 511 → 512 ≤ n → ⊥
-not_large n small large = absurd (omega (arith, small, large))
-
--- a mask that is not zero is in its range, and one in its range is not zero
-usage_in_range : (n : ℕ) → n ≤ 511 → (n == 0) ≡ false → is_usage (pos n) ≡ true
-usage_in_range n small some = both_tests _ _ (le-leb 1 n (positive n some)) (false_from_ne_true (leb 512 n) (λ large. not_large n small (leb-true 512 n large)))
-
-zero_is_none : is_usage (pos 0) ≡ true → ⊥
-zero_is_none e = absurd cc
-
-usage_not_zero : (n : ℕ) → is_usage (pos n) ≡ true → (n == 0) ≡ false
-usage_not_zero n fits =
-    elim (cases_Bool (n == 0)) [
-      | inl zeroes ↦ absurd (zero_is_none (ap (λ m. is_usage (pos m)) (sym (eqb-true n 0 zeroes)) ∙ fits))
-      | inr some ↦ some
-    ]
-
-usage_parts : (a b c : Bool) (mask : ℕ) (m : ℤ) → (if a && b then (if c then None else Some (pos mask)) else None) ≡ Some m
-    → (a ≡ true) × (b ≡ true) × (c ≡ false) × (pos mask ≡ m)
-usage_parts true true false mask m e = (refl, refl, refl, same_some (pos mask) m e)
-usage_parts true true true mask m e = not_some m e
-usage_parts true false c mask m e = not_some m e
-usage_parts false b c mask m e = not_some m e
-
-usage_found : (ms : Members) (m : ℤ) → usage_of ms ≡ Some m → IsUsage ms m
-usage_found ms m e =
-    let (items, is, in_it) = there usage_in (array_at (codes "usage") ms) m e in
-    let (words, once, some, same) = usage_parts (all_words is_usage_word items) (are_once items) (mask_of items == 0) (mask_of items) m in_it in
-    record {
-      items = items;
-      stands = is;
-      words = words;
-      once = once;
-      mask_is = sym same;
-      in_range = ap is_usage (sym same) ∙ usage_in_range (mask_of items) (mask_within items) some;
-    }
-
-usage_whole : (a b c : Bool) (mask : ℕ) → a ≡ true → b ≡ true → c ≡ false → (if a && b then (if c then None else Some (pos mask)) else None) ≡ Some (pos mask)
-usage_whole a b c mask words once some = rw (words, once, some) refl
-
-usage_read : (ms : Members) (m : ℤ) → IsUsage ms m → usage_of ms ≡ Some m
-usage_read ms m h =
-    let some = usage_not_zero (mask_of h.items) (ap is_usage (sym h.mask_is) ∙ h.in_range) in
-    judged usage_in _ h.items m h.stands
-    (usage_whole _ _ (mask_of h.items == 0) (mask_of h.items) h.words h.once some ∙ ap Some (sym h.mask_is))
+use Rattle.kmip_plan.proofs.WordLemmas.{algorithm_of_its_word, algorithm_in_range, reason_in_range}
+use Rattle.kmip_plan.proofs.FieldLemmas.{ok, reads-need, reads-guard, reads-only, there, found_so, read_so, algorithm_found, algorithm_read, target_found, target_read, usage_found, usage_read}
 
 -- ---- a key
 

@@ -11,7 +11,6 @@ field_word field.Algorithm = codes "algorithm"
 field_word field.Length = codes "length"
 field_word field.Usage = codes "usage"
 field_word field.Target = codes "target"
-field_word field.Reason = codes "reason"
 
 abbrev pub plan_fault_number : PlanFault → ℕ
 plan_fault_number Toml = 1

@@ -7,7 +7,7 @@ use kmip_ttlv::Text;
 use std::alloc::{AllocError, AllocFailed};
 use thiserror::Error;
 
-/// A field of a key in a plan.
+/// A field that each key of a plan has.
 #[derive(Clone, Copy, Debug, PartialEq, Eq)]
 pub enum Field {
     Name,
@@ -15,8 +15,6 @@ pub enum Field {
     Length,
     Usage,
     Target,
-    /// The one field that may be absent.
-    Reason,
 }
 
 impl Field {
@@ -30,7 +28,6 @@ impl Field {
             Field::Length => "length",
             Field::Usage => "usage",
             Field::Target => "target",
-            Field::Reason => "reason",
         }
     }
 }

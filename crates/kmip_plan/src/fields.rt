@@ -56,11 +56,7 @@ fn bits_of(algorithm: u32, bits: i64) -> Option<i32>
         256 => 256,
         _ => return None,
     };
-    let fits = if algorithm == ALGORITHM_AES {
-        true
-    } else {
-        algorithm == ALGORITHM_HMAC_SHA256 && length == 256
-    };
+    let fits = algorithm == ALGORITHM_AES || algorithm == ALGORITHM_HMAC_SHA256 && length == 256;
     if fits { Some(length) } else { None }
 }
 

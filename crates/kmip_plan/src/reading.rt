@@ -69,7 +69,7 @@ fn keys_of(alloc: Global, table: &Table) -> Result<Vec<Key>, PlanFault>
         return Err(PlanFault::NoKeys);
     };
     let count = count(array);
-    if count < 1 {
+    if count == 0 {
         return Err(PlanFault::NoKeys);
     }
     if count > KEYS_MAX {
