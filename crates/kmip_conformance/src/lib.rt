@@ -17,6 +17,8 @@ mod layouts;
 #[cfg(test)]
 mod lifecycle;
 #[cfg(test)]
+mod plan_rows;
+#[cfg(test)]
 mod planning;
 #[cfg(test)]
 mod readers;

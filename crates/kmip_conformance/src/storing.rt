@@ -1,9 +1,9 @@
-//! A store's answers to calls, one after the other.
+//! The answers of two stores to the same calls, one after the other.
 ghost use Rattle.std.specs.Prelude.{IfOk, IsTrue};
 ghost use Rattle.kmip_store.specs.Calling.{may_call};
 
 use kmip_messages::{Attrs, KeyAttrs, attrs_fit};
-use kmip_store::{Answer, Call, ListStore, call_all};
+use kmip_store::{Answer, Call, ListStore, call_both};
 use kmip_ttlv::Text;
 use std::alloc::{AllocError, Global};
 use std::test::Fail;
@@ -99,13 +99,16 @@ fn words_of(alloc: Global, answer: &Answer) -> Result<String, AllocError> {
 #[test]
 fn answers_call_by_call(rt: HostRuntime) -> Result<(), Fail> {
     let mut store = ListStore::new(rt.alloc(), [0; 32], 1);
+    let mut other = ListStore::new(rt.alloc(), [0; 32], 1);
     for row in &ROWS {
         let call = call_of(rt.alloc(), row)?;
-        let answers = call_all(rt.alloc(), &mut store, &[call])?;
-        assert_eq!(rt; answers.len(), 1, "{}", row.2);
-        for answer in &answers {
-            let words = words_of(rt.alloc(), answer)?;
-            assert_eq!(rt; words.as_str(), row.2);
+        let (ours, theirs) = call_both(rt.alloc(), &mut store, &mut other, &[call])?;
+        for answers in [&ours, &theirs] {
+            assert_eq!(rt; answers.len(), 1, "{}", row.2);
+            for answer in answers {
+                let words = words_of(rt.alloc(), answer)?;
+                assert_eq!(rt; words.as_str(), row.2);
+            }
         }
     }
     Ok(())

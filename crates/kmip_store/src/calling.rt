@@ -75,6 +75,28 @@ pub fn call_all<S: Records>(
     Ok(answers)
 }
 
+/// Makes the same calls of two stores, and answers what each of them answered. Where both had the same
+/// records, as two stores of one seed and room have, the answers are the same, and so are the records
+/// behind them, however each keeps its rows.
+///
+/// # Errors
+/// Where there is no memory for a call or for its answer; the records of each are then those behind
+/// some of the calls, from the first on.
+pub fn call_both<A: Records, B: Records>(
+    alloc: Global,
+    first: &mut A,
+    second: &mut B,
+    calls: &[Call],
+) -> Result<(Vec<Answer>, Vec<Answer>), NoMemory>
+    requires { IsTrue (list_all may_call calls.now) }
+    ensures answers { IfOk result (λ both. A.stock first.old ≡ B.stock second.old → both.0.items ≡ both.1.items) }
+    ensures stock { OnOk result (A.stock first.old ≡ B.stock second.old → A.stock first.new ≡ B.stock second.new) }
+{
+    let ours = call_all(alloc, first, calls)?;
+    let theirs = call_all(alloc, second, calls)?;
+    Ok((ours, theirs))
+}
+
 /// Makes a call, and answers what it answered.
 fn call_one<S: Records>(alloc: Global, store: &mut S, call: &Call) -> Result<Answer, NoMemory>
     requires { IsTrue (may_call call.now) }

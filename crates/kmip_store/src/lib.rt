@@ -11,7 +11,7 @@ mod records;
 mod row;
 mod stepping;
 
-pub use calling::{Answer, Call, call_all};
+pub use calling::{Answer, Call, call_all, call_both};
 pub use fault::StoreFault;
 pub use list_store::ListStore;
 pub use records::Records;
