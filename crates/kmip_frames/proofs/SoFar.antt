@@ -3,6 +3,7 @@
 use Rattle.std.proofs.Common.{◌≡◌, ℕ, List, [], ◌∷◌, ◌++◌, refl, sym, ap, ◌∙◌, append_assoc}
 use Rattle.std.specs.List.{AllByRecursion}
 use Rattle.std.proofs.lemmas.List.{append-nil}
+use Rattle.std.proofs.lemmas.List.Concat.{flat_map-append}
 use Rattle.kmip_frames.specs.Streams.{IsMessage, BeginsWithNoMessage, joined, Stream}
 
 -- of the bytes taken so far, these messages were handed over, and this is held
@@ -21,18 +22,17 @@ so_far_took bytes messages held more s = record {
 }
 
 joined_more : (messages : List (List ℕ)) (message : List ℕ) → joined (messages ++ message ∷ []) ≡ joined messages ++ message
-joined_more [] message = append-nil message
-joined_more (m ∷ ms) message = ap (λ b. m ++ b) (joined_more ms message) ∙ sym (append_assoc m (joined ms) message)
+joined_more messages message = flat_map-append (λ m. m) messages (message ∷ []) ∙ ap (λ b. joined messages ++ b) (append-nil message)
 
-each_more : (messages : List (List ℕ)) (message : List ℕ) → AllByRecursion IsMessage messages → IsMessage message → AllByRecursion IsMessage (messages ++ message ∷ [])
-each_more [] message each is = (is, tt)
-each_more (m ∷ ms) message each is = (each.0, each_more ms message each.1 is)
+each_append : (messages others : List (List ℕ)) → AllByRecursion IsMessage messages → AllByRecursion IsMessage others → AllByRecursion IsMessage (messages ++ others)
+each_append [] others each every = every
+each_append (m ∷ ms) others each every = (each.0, each_append ms others each.1 every)
 
 -- `next` handed over what was held
 pub so_far_handed : (bytes : List ℕ) (messages : List (List ℕ)) (held : List ℕ) → IsSoFar bytes messages held → IsMessage held → IsSoFar bytes (messages ++ held ∷ []) []
 so_far_handed bytes messages held s is = record {
   whole = s.whole ∙ sym (joined_more messages held) ∙ sym (append-nil (joined (messages ++ held ∷ [])));
-  each = each_more messages held s.each is;
+  each = each_append messages (held ∷ []) s.each (is, tt);
 }
 
 -- no whole message is at hand any more, where this was not read
@@ -42,4 +42,14 @@ so_far_ended bytes messages held unread s none = record {
   whole = ap (λ b. b ++ unread) s.whole ∙ append_assoc (joined messages) held unread;
   each = s.each;
   partial = none;
+}
+
+-- of a further piece these messages were handed over, beginning with what was held
+pub so_far_further : (bytes : List ℕ) (messages : List (List ℕ)) (held piece : List ℕ) (more : List (List ℕ)) (new : List ℕ) → IsSoFar bytes messages held
+    → IsSoFar (held ++ piece) more new → IsSoFar (bytes ++ piece) (messages ++ more) new
+so_far_further bytes messages held piece more new one two = record {
+  whole =
+      ap (λ b. b ++ piece) one.whole ∙ append_assoc (joined messages) held piece ∙ ap (λ b. joined messages ++ b) two.whole
+      ∙ sym (append_assoc (joined messages) (joined more) new) ∙ ap (λ b. b ++ new) (sym (flat_map-append (λ m. m) messages more));
+  each = each_append messages more one.each two.each;
 }

@@ -21,8 +21,7 @@ needed bytes =
 abbrev pub lacking : List ℕ → ℕ
 lacking held = needed held - length held
 
--- the part of what is held that a message may be: after a fault the head, until then less than a head, a front of one message
--- or a whole one
+-- what may be held: after a fault the eight bytes of the head, until then less than a head, a front of one message or a whole one
 abbrev pub IsHeldAfter : Option FrameFault → List ℕ → Type 0
 IsHeldAfter (Some fault) held = length held ≡ HEAD_SIZE
 IsHeldAfter None held = (length held < HEAD_SIZE) ⊎ ((more : List ℕ) × IsMessage (held ++ more))
