@@ -1,2 +1,3 @@
+mod CheckingLemmas
 mod RespondingLemmas
 mod LineLemmas

@@ -1,4 +1,5 @@
 pub mod AnswerText
+pub mod Checking
 pub mod ExitStatus
 pub mod Judging
 pub mod LineText

@@ -1,10 +1,11 @@
 //! The commands of `kmipctl`, each a public function over a reader and a writer.
 //!
-//! `answer` and `show_lines` do the work of their commands and return a fault as a value; `run_answer`
-//! and `run_show` also print the fault and say how the program ends.
+//! `answer`, `show_lines` and `check` do the work of their commands and return a fault as a value;
+//! `run_answer`, `run_show` and `run_check` also print the fault and say how the program ends.
 #![tactic(auto)]
 
 mod answering;
+mod checking;
 mod exit_status;
 mod fault;
 mod judging;
@@ -14,6 +15,7 @@ mod responding;
 mod showing;
 
 pub use answering::{answer, run_answer};
+pub use checking::{check, run_check};
 pub use exit_status::ExitStatus;
 pub use fault::CommandFault;
 pub use showing::{Form, run_show, show_lines};

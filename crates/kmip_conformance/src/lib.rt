@@ -7,6 +7,8 @@
 #[cfg(test)]
 mod answering;
 #[cfg(test)]
+mod checking;
+#[cfg(test)]
 mod framing;
 #[cfg(test)]
 mod growths;

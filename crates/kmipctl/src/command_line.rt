@@ -7,14 +7,15 @@ use std::alloc::{AllocError, Global};
 
 const ABOUT: &str = "\
 Messages of the Key Management Interoperability Protocol (KMIP) 2.1 in lines of hexadecimal digits:
-answered by a test server that holds its keys in memory, or shown as text.";
+answered by a test server that holds its keys in memory, or shown as text. Plans of keys, checked
+before anything is asked of a server.";
 
 const AFTER_HELP: &str = "\
 Without words it does `answer`. Everything is printed on standard output.
 
 Exit status:
   0  nothing was refused
-  1  a line was refused, or reading, writing or memory failed
+  1  a line or a plan was refused, or reading, writing or memory failed
   2  the command line is wrong
 
 Example, bytes that are no message, and the reply Invalid Message as text:
@@ -42,13 +43,41 @@ A line that spells no item prints its first fault, as `refused: 1 Short at 0`, w
 its name and the offset of the item at fault; bytes behind the item print `refused: extra at 16`. Empty,
 long and wrong lines are treated as by `answer`.";
 
+const CHECK: &str = "Judges a plan of keys, and prints a line for each key";
+
+const CHECK_LONG: &str = "\
+Judges the plan in a file, and prints for each of its keys the name, the algorithm, the length in bits,
+the usage mask in hexadecimal, the target, and the steps that lead there:
+  k1 AES 256 0000000c active: Create Activate
+
+A plan is TOML with 1 to 1,000 tables `[[key]]`:
+  [[key]]
+  name = \"k1\"                    # 1 to 64 characters, none of them a space
+  algorithm = \"AES\"              # or \"HMAC-SHA256\"
+  length = 256                   # for AES also 128 and 192
+  usage = [\"encrypt\", \"decrypt\"]
+  target = \"active\"
+
+A usage is sign, verify, encrypt, decrypt, wrap-key, unwrap-key, mac-generate or mac-verify. A target is
+created, active, revoked, destroyed or discarded. A key that is revoked or destroyed may have a `reason`:
+unspecified, affiliation-changed, superseded, cessation-of-operation or privilege-withdrawn.
+
+The whole plan is judged before anything is printed. One with a fault prints its first one alone, as
+`plan refused: 4 Missing length at key 1`: the fault's number, its name, the field where there is one,
+and the place of the key, where 0 is beside the keys. A file that cannot be read as text prints
+`cannot read PATH`.";
+
+const PLAN: &str = "The file of the plan";
+
 const CANON: &str = "Print the item's one written form, the padding zero, in lower-case digits";
 
 /// What the command line asks for.
-#[derive(Clone, Copy, Debug, PartialEq, Eq)]
+#[derive(Debug, Drop)]
 pub enum Choice {
     Answer,
     Show(Form),
+    /// Check the plan at this path.
+    Check(String),
 }
 
 /// What the words ask for; the first is the program's name.
@@ -60,6 +89,11 @@ pub fn chosen(alloc: Global, words: &[String]) -> Result<Choice, Error> {
     let matches = command(alloc)?.try_get_matches_from(words)?;
     match matches.subcommand() {
         Some(("show", options)) => Ok(Choice::Show(form_of(options.get_flag("canon")))),
+        Some(("check", options)) => {
+            let path = options.get_str("plan").unwrap_or("");
+            let path = String::from_str(alloc, path)?;
+            Ok(Choice::Check(path))
+        }
         _ => Ok(Choice::Answer),
     }
 }
@@ -94,9 +128,19 @@ fn command<'a>(alloc: Global) -> Result<Command<'a>, AllocError> {
         .about(SHOW)
         .long_about(SHOW_LONG)
         .arg(canon)?;
+    let plan = Arg::new(alloc, "plan")
+        .long("plan")
+        .value_name("PATH")
+        .help(PLAN)
+        .required(true);
+    let check = Command::new(alloc, "check")
+        .about(CHECK)
+        .long_about(CHECK_LONG)
+        .arg(plan)?;
     Command::new(alloc, "kmipctl")
         .about(ABOUT)
         .after_help(AFTER_HELP)
         .subcommand(answer)?
-        .subcommand(show)
+        .subcommand(show)?
+        .subcommand(check)
 }

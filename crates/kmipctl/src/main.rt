@@ -1,17 +1,17 @@
 //! `kmipctl`, a program for messages of the Key Management Interoperability Protocol.
 //!
-//! It reads its command line, does what it asks for over standard input and standard output, and
-//! ends with the code of an `ExitStatus`. Everything is printed on standard output, help and
+//! It reads its command line, does what it asks for over standard input, files and standard output,
+//! and ends with the code of an `ExitStatus`. Everything is printed on standard output, help and
 //! usage faults too.
 #![tactic(auto)]
 
 mod command_line;
 
 use command_line::{Choice, chosen, status_of};
-use kmip_commands::{ExitStatus, Form, run_answer, run_show};
+use kmip_commands::{ExitStatus, Form, run_answer, run_check, run_show};
 use std::io::{BufReader, BufWriter, Error, ErrorKind};
 use std::process::ExitCode;
-use std::{env, io};
+use std::{env, fs, io};
 
 fn main(rt: HostRuntime) -> ExitCode {
     let status = match run(&rt) {
@@ -35,6 +35,7 @@ fn run(rt: &HostRuntime) -> io::Result<ExitStatus> {
     match chosen(rt.alloc(), words.as_slice()) {
         Ok(Choice::Answer) => answer_input(rt),
         Ok(Choice::Show(form)) => show_input(rt, form),
+        Ok(Choice::Check(path)) => check_plan(rt, path.as_str()),
         Err(error) => {
             let status = status_of(&error);
             if status == ExitStatus::Refused {
@@ -58,4 +59,21 @@ fn show_input(rt: &HostRuntime, form: Form) -> io::Result<ExitStatus> {
     let mut reader = BufReader::new(rt.alloc(), rt.reader())?;
     let mut writer = BufWriter::new(rt.alloc(), io::writer(rt))?;
     Ok(run_show(rt.alloc(), form, &mut reader, &mut writer))
+}
+
+/// The command `check` from a file to standard output.
+fn check_plan(rt: &HostRuntime, path: &str) -> io::Result<ExitStatus> {
+    match fs::read_to_string(rt, path) {
+        Ok(plan) => {
+            let mut writer = BufWriter::new(rt.alloc(), io::writer(rt))?;
+            Ok(run_check(rt.alloc(), plan.as_str(), &mut writer))
+        }
+        Err(error) => {
+            if error.kind() == ErrorKind::OutOfMemory {
+                return Err(error);
+            }
+            rt.println(format_args!("cannot read {path}"))?;
+            Ok(ExitStatus::Refused)
+        }
+    }
 }
