@@ -52,7 +52,7 @@ the usage mask in hexadecimal, the target, and the steps that lead there:
 
 A plan is TOML with 1 to 1,000 tables `[[key]]`:
   [[key]]
-  name = \"k1\"                    # of one key alone: 1 to 64 printable ASCII characters, no space
+  name = \"k1\"                    # 1 to 64 characters, none of them a space
   algorithm = \"AES\"              # or \"HMAC-SHA256\"
   length = 256                   # for AES also 128 and 192
   usage = [\"encrypt\", \"decrypt\"]
