@@ -1,3 +1,4 @@
 mod CheckingLemmas
 mod RespondingLemmas
 mod LineLemmas
+mod StreamingLemmas

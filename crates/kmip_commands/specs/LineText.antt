@@ -1,6 +1,6 @@
 -- What a command writes for the lines of its input, where `text` is what it writes for a message and
 -- `behind` the state that a message leaves it in.
-use Rattle.std.specs.Prelude.{ℕ, List, [], ◌∷◌, ◌++◌, codes}
+use Rattle.std.specs.Prelude.{ℕ, Bool, true, false, List, [], ◌∷◌, ◌++◌, codes}
 use Rattle.kmip_commands.specs.Judging.{Saying, nothing, too_long, no_hex, message, saying_of}
 use Rattle.kmip_commands.specs.Lines.{lines_of}
 
@@ -27,3 +27,16 @@ lines_text text behind state (line ∷ lines) =
 -- what is written for the whole input
 abbrev pub input_text : {S : Type 0} → (S → List ℕ → List ℕ) → (S → List ℕ → S) → S → List ℕ → List ℕ
 input_text text behind state input = lines_text text behind state (lines_of input)
+
+-- the state behind lines, and behind the whole input
+abbrev pub lines_behind : {S : Type 0} → (S → List ℕ → S) → S → List (List ℕ) → S
+lines_behind behind state [] = state
+lines_behind behind state (line ∷ lines) = lines_behind behind (behind_saying behind state (saying_of line)) lines
+
+abbrev pub input_behind : {S : Type 0} → (S → List ℕ → S) → S → List ℕ → S
+input_behind behind state input = lines_behind behind state (lines_of input)
+
+-- a promise, unless something is the case
+abbrev pub Unless : Bool → Type 0 → Type 0
+Unless true P = Unit {0}
+Unless false P = P

@@ -1,11 +1,12 @@
 //! The command `answer`: each line of its input is a message in hexadecimal, and each reply of one
 //! server a line of its output.
 ghost use Rattle.std.specs.Prelude.{◌≡◌, false, IfOk, OnOk, IfSome};
+ghost use Rattle.std.proofs.Common.{true≢false, sym};
 ghost use Rattle.std.specs.Io.KnownBytes.{Appends};
 ghost use Rattle.kmip_store.specs.Stock.{Stock};
 ghost use Rattle.kmip_server.specs.Serving.{stock_after};
 ghost use Rattle.kmip_commands.specs.declared.exit_status.ExitStatus.TheVariants.{Done};
-ghost use Rattle.kmip_commands.specs.AnswerText.{answer_text, reply_text};
+ghost use Rattle.kmip_commands.specs.AnswerText.{answer_text, first_stock, reply_text};
 ghost use Rattle.kmip_commands.specs.Judging.{has_refused};
 
 use crate::exit_status::ExitStatus;
@@ -52,11 +53,32 @@ pub fn answer<R: BufRead, W: Write>(
     ensures refused { IfOk result (λ r. IfSome (R.remaining reader.old)
         (λ input. r ≡ has_refused (λ _. false) input)) }
 {
-    let store = ListStore::new(alloc, SEED, ROOM);
-    let mut answerer = Answerer {
-        server: Server::new(store),
-    };
+    let server = new_server(alloc);
+    let mut answerer = Answerer { server };
     respond_to_lines(alloc, &mut answerer, reader, writer)
+}
+
+/// The server that answers: without rows at first.
+pub(crate) fn new_server(alloc: Global) -> Server<ListStore>
+    ensures { result ≡ first_stock }
+{
+    let store = ListStore::new(alloc, SEED, ROOM);
+    Server::new(store)
+}
+
+/// Writes the server's reply to a message.
+pub(crate) fn reply_to<W: Write>(
+    alloc: Global,
+    server: &mut Server<ListStore>,
+    message: &[u8],
+    writer: &mut W,
+) -> Result<(), CommandFault>
+    ensures text { OnOk result (Appends (W.contents writer.old) (W.contents writer.new)
+        (reply_text server.old message.now)) }
+    ensures behind { OnOk result (server.new ≡ stock_after server.old message.now) }
+{
+    let reply = server.handle(alloc, message, NOW)?;
+    write_hex(alloc, reply.as_slice(), writer)
 }
 
 /// Answers a message by a server's reply.
@@ -76,14 +98,25 @@ impl Respond for Answerer {
 
     ghost refuses = { λ _. false };
 
+    ghost over = { λ _. false };
+
+    ghost IsReady = { λ _. Unit {0} };
+
+    ghost stays_ready = { λ _ _ ready. ready };
+
+    ghost stays_over = { λ _ _ over. absurd (true≢false (sym over)) };
+
     fn respond<W: Write>(
         &mut self,
         alloc: Global,
         message: &[u8],
         writer: &mut W,
     ) -> Result<bool, CommandFault> {
-        let reply = self.server.handle(alloc, message, NOW)?;
-        write_hex(alloc, reply.as_slice(), writer)?;
+        reply_to(alloc, &mut self.server, message, writer)?;
         Ok(false)
+    }
+
+    fn is_over(&self) -> bool {
+        false
     }
 }

@@ -1,7 +1,8 @@
 //! The commands of `kmipctl`, each a public function over a reader and a writer.
 //!
-//! `answer`, `show_lines` and `check` do the work of their commands and return a fault as a value;
-//! `run_answer`, `run_show` and `run_check` also print the fault and say how the program ends.
+//! `answer`, `answer_stream`, `show_lines` and `check` do the work of their commands and return a fault
+//! as a value; `run_answer`, `run_answer_stream`, `run_show` and `run_check` also print the fault and
+//! say how the program ends.
 #![tactic(auto)]
 
 mod answering;
@@ -13,9 +14,11 @@ mod lines;
 mod replies;
 mod responding;
 mod showing;
+mod streaming;
 
 pub use answering::{answer, run_answer};
 pub use checking::{check, run_check};
 pub use exit_status::ExitStatus;
 pub use fault::CommandFault;
 pub use showing::{Form, run_show, show_lines};
+pub use streaming::{StreamEnd, StreamOutcome, answer_stream, run_answer_stream};

@@ -1,9 +1,9 @@
 //! The loop over the lines of a command's input.
-ghost use Rattle.std.specs.Prelude.{◌≡◌, ℕ, List, Bool, IfOk, OnOk, IfSome};
+ghost use Rattle.std.specs.Prelude.{◌≡◌, ◌&&◌, true, [], ℕ, List, Bool, IfOk, OnOk, IfSome};
 ghost use Rattle.std.specs.Io.KnownBytes.{Keeps, Appends};
 ghost use Rattle.kmip_commands.specs.ExitStatus.{status_of};
 ghost use Rattle.kmip_commands.specs.Judging.{has_refused, is_refused, saying_of};
-ghost use Rattle.kmip_commands.specs.LineText.{input_text, saying_text, behind_saying};
+ghost use Rattle.kmip_commands.specs.LineText.{input_text, saying_text, behind_saying, input_behind, Unless};
 
 use crate::exit_status::ExitStatus;
 use crate::fault::CommandFault;
@@ -30,6 +30,12 @@ pub(crate) trait Respond {
     /// Whether a message is refused.
     ghost refuses: { List ℕ → Bool };
 
+    /// Whether the command is over in a state: no line is looked at any more.
+    ghost over: { State → Bool };
+
+    /// What holds of the state between two messages.
+    ghost IsReady: { State → Type 0 };
+
     /// Writes what is printed for the message, and says whether the message is refused.
     ///
     /// # Errors
@@ -41,10 +47,20 @@ pub(crate) trait Respond {
         message: &[u8],
         writer: &mut W,
     ) -> Result<bool, CommandFault>
+        requires { IsReady (state self.old) }
         ensures text { OnOk result (Appends (W.contents writer.old) (W.contents writer.new)
             (text (state self.old) message.now)) }
         ensures behind { OnOk result (state self.new ≡ behind (state self.old) message.now) }
         ensures refused { IfOk result (λ r. r ≡ refuses message.now) };
+
+    /// Whether the command is over: it looks at no further line.
+    fn is_over(&self) -> bool
+        ensures { result ≡ over (state self.now) };
+
+    ghost stays_ready: { (s : State) (message : List ℕ) → IsReady s → IsReady (behind s message) };
+
+    ghost stays_over: { (s : State) (message : List ℕ) → over s ≡ true
+        → (text s message ≡ []) × (behind s message ≡ s) };
 }
 
 /// How the program ends after a command, whose fault is printed where there is one to print.
@@ -65,8 +81,9 @@ pub(crate) fn finished<W: Write>(ended: Result<bool, CommandFault>, writer: &mut
     }
 }
 
-/// Responds to each line of the reader in order, and says whether a line was refused. A refused line
-/// prints why, and does not end the command. Nothing but the lines' texts is written.
+/// Responds to each line of the reader in order until the command is over, and says whether a line
+/// was refused. A refused line prints why, and does not end the command. Nothing but the lines' texts
+/// is written.
 ///
 /// # Errors
 ///
@@ -77,11 +94,15 @@ pub(crate) fn respond_to_lines<C: Respond, R: BufRead, W: Write>(
     reader: &mut R,
     writer: &mut W,
 ) -> Result<bool, CommandFault>
+    requires { C.IsReady (C.state command.old) }
     ensures text { OnOk result (IfSome (R.remaining reader.old)
-        (λ input. Appends (W.contents writer.old) (W.contents writer.new)
-        (input_text C.text C.behind (C.state command.old) input))) }
+        (λ input. Unless (C.over (C.state command.new) && has_refused C.refuses input)
+        (Appends (W.contents writer.old) (W.contents writer.new)
+        (input_text C.text C.behind (C.state command.old) input)))) }
+    ensures behind { OnOk result (IfSome (R.remaining reader.old)
+        (λ input. C.state command.new ≡ input_behind C.behind (C.state command.old) input)) }
     ensures refused { IfOk result (λ r. IfSome (R.remaining reader.old)
-        (λ input. r ≡ has_refused C.refuses input)) }
+        (λ input. Unless (C.over (C.state command.new)) (r ≡ has_refused C.refuses input))) }
 {
     let mut line = Vec::new(alloc);
     let mut has_refused = false;
@@ -92,6 +113,10 @@ pub(crate) fn respond_to_lines<C: Respond, R: BufRead, W: Write>(
         };
         let is_refused = respond_to_line(alloc, command, line.as_slice(), writer)?;
         has_refused |= is_refused;
+        if command.is_over() {
+            flush(writer)?;
+            return Ok(has_refused);
+        }
         flush_unless(has_more, writer)?;
     }
     Err(CommandFault::Input)
@@ -104,6 +129,7 @@ fn respond_to_line<C: Respond, W: Write>(
     line: &[u8],
     writer: &mut W,
 ) -> Result<bool, CommandFault>
+    requires { C.IsReady (C.state command.old) }
     ensures text { OnOk result (Appends (W.contents writer.old) (W.contents writer.new)
         (saying_text C.text (C.state command.old) (saying_of line.now))) }
     ensures behind { OnOk result (C.state command.new

@@ -1,6 +1,7 @@
 //! The command `show`: each line of its input is an item in hexadecimal, which is printed as text, or
 //! in its one written form.
 ghost use Rattle.std.specs.Prelude.{◌≡◌, false, IfOk, IfSome, OnOk, IsSome};
+ghost use Rattle.std.proofs.Common.{true≢false, sym};
 ghost use Rattle.std.specs.Io.KnownBytes.{Appends};
 ghost use Rattle.kmip_ttlv.specs.Faults.{fault_offset};
 ghost use Rattle.kmip_ttlv.specs.Sizes.{IsWritable};
@@ -80,6 +81,14 @@ impl Respond for Shower {
 
     ghost refuses = { is_no_item };
 
+    ghost over = { λ _. false };
+
+    ghost IsReady = { λ _. Unit {0} };
+
+    ghost stays_ready = { λ _ _ ready. ready };
+
+    ghost stays_over = { λ _ _ over. absurd (true≢false (sym over)) };
+
     fn respond<W: Write>(
         &mut self,
         alloc: Global,
@@ -87,6 +96,10 @@ impl Respond for Shower {
         writer: &mut W,
     ) -> Result<bool, CommandFault> {
         show_message(alloc, self.form, message, writer)
+    }
+
+    fn is_over(&self) -> bool {
+        false
     }
 }
 

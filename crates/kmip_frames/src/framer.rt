@@ -107,6 +107,13 @@ impl Framer {
     {
         size_needed(self.held.as_slice()) - self.held.len()
     }
+
+    /// Why the eight bytes held are no head of a message, after a fault of `feed`.
+    pub fn fault(&self) -> Option<FrameFault>
+        ensures { result ≡ fault_in self.now }
+    {
+        fault_of(self.held.as_slice())
+    }
 }
 
 /// Appends bytes from the front of the piece until this many are held, or the piece ends. Answers how

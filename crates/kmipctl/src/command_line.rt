@@ -15,7 +15,7 @@ Without words it does `answer`. Everything is printed on standard output.
 
 Exit status:
   0  nothing was refused
-  1  a line or a plan was refused, or reading, writing or memory failed
+  1  a line, a stream or a plan was refused, or reading, writing or memory failed
   2  the command line is wrong
 
 Example, bytes that are no message, and the reply Invalid Message as text:
@@ -30,7 +30,14 @@ with no object, has room for 10,000, and tells the time 0.
 
 An empty line is skipped. A line of more than 16,384 digits prints `refused: length`, and one that is
 no hexadecimal prints `refused: hex`; neither ends the command. The last line may lack its line feed.
-Where reading fails it prints `cannot read input`, and where there is no memory `no memory`, and ends.";
+Where reading fails it prints `cannot read input`, and where there is no memory `no memory`, and ends.
+
+With --stream the lines are pieces of one stream of messages, cut anywhere, and each message is answered
+as soon as it is whole; a line that is refused adds nothing. Eight bytes that should begin a message and
+do not print `stream refused: 1 BadHead`, with the fault's number and name, and end the command; where the
+stream ends inside a message, `stream cut: 100` says how many bytes of it came.";
+
+const STREAM: &str = "Take the lines as pieces of one stream of messages";
 
 const SHOW: &str = "Shows items: a line of hexadecimal digits in, lines of text out";
 
@@ -52,7 +59,7 @@ the usage mask in hexadecimal, the target, and the steps that lead there:
 
 A plan is TOML with 1 to 1,000 tables `[[key]]`:
   [[key]]
-  name = \"k1\"                    # 1 to 64 characters, none of them a space
+  name = \"k1\"                    # of one key alone: 1 to 64 printable ASCII characters, no space
   algorithm = \"AES\"              # or \"HMAC-SHA256\"
   length = 256                   # for AES also 128 and 192
   usage = [\"encrypt\", \"decrypt\"]
@@ -74,7 +81,10 @@ const CANON: &str = "Print the item's one written form, the padding zero, in low
 /// What the command line asks for.
 #[derive(Debug, Drop)]
 pub enum Choice {
+    /// Answer a message a line.
     Answer,
+    /// Answer the messages of the stream that the lines are pieces of.
+    AnswerStream,
     Show(Form),
     /// Check the plan at this path.
     Check(String),
@@ -88,6 +98,7 @@ pub enum Choice {
 pub fn chosen(alloc: Global, words: &[String]) -> Result<Choice, Error> {
     let matches = command(alloc)?.try_get_matches_from(words)?;
     match matches.subcommand() {
+        Some(("answer", options)) => Ok(answer_of(options.get_flag("stream"))),
         Some(("show", options)) => Ok(Choice::Show(form_of(options.get_flag("canon")))),
         Some(("check", options)) => {
             let path = options.get_str("plan").unwrap_or("");
@@ -95,6 +106,15 @@ pub fn chosen(alloc: Global, words: &[String]) -> Result<Choice, Error> {
             Ok(Choice::Check(path))
         }
         _ => Ok(Choice::Answer),
+    }
+}
+
+/// How to answer, by whether the lines are pieces of a stream.
+fn answer_of(is_stream: bool) -> Choice {
+    if is_stream {
+        Choice::AnswerStream
+    } else {
+        Choice::Answer
     }
 }
 
@@ -117,9 +137,14 @@ pub fn status_of(error: &Error) -> ExitStatus {
 }
 
 fn command<'a>(alloc: Global) -> Result<Command<'a>, AllocError> {
+    let stream = Arg::new(alloc, "stream")
+        .long("stream")
+        .help(STREAM)
+        .action(ArgAction::SetTrue);
     let answer = Command::new(alloc, "answer")
         .about(ANSWER)
-        .long_about(ANSWER_LONG);
+        .long_about(ANSWER_LONG)
+        .arg(stream)?;
     let canon = Arg::new(alloc, "canon")
         .long("canon")
         .help(CANON)

@@ -8,7 +8,7 @@
 mod command_line;
 
 use command_line::{Choice, chosen, status_of};
-use kmip_commands::{ExitStatus, Form, run_answer, run_check, run_show};
+use kmip_commands::{ExitStatus, Form, run_answer, run_answer_stream, run_check, run_show};
 use std::io::{BufReader, BufWriter, Error, ErrorKind};
 use std::process::ExitCode;
 use std::{env, fs, io};
@@ -34,6 +34,7 @@ fn run(rt: &HostRuntime) -> io::Result<ExitStatus> {
     }
     match chosen(rt.alloc(), words.as_slice()) {
         Ok(Choice::Answer) => answer_input(rt),
+        Ok(Choice::AnswerStream) => answer_stream_input(rt),
         Ok(Choice::Show(form)) => show_input(rt, form),
         Ok(Choice::Check(path)) => check_plan(rt, path.as_str()),
         Err(error) => {
@@ -52,6 +53,13 @@ fn answer_input(rt: &HostRuntime) -> io::Result<ExitStatus> {
     let mut reader = BufReader::new(rt.alloc(), rt.reader())?;
     let mut writer = BufWriter::new(rt.alloc(), io::writer(rt))?;
     Ok(run_answer(rt.alloc(), &mut reader, &mut writer))
+}
+
+/// The command `answer --stream` from standard input to standard output.
+fn answer_stream_input(rt: &HostRuntime) -> io::Result<ExitStatus> {
+    let mut reader = BufReader::new(rt.alloc(), rt.reader())?;
+    let mut writer = BufWriter::new(rt.alloc(), io::writer(rt))?;
+    Ok(run_answer_stream(rt.alloc(), &mut reader, &mut writer))
 }
 
 /// The command `show` from standard input to standard output.

@@ -1,0 +1,92 @@
+-- What `answer --stream` writes, whose lines are pieces of one stream of messages, and how it ends.
+use Rattle.std.specs.Prelude.{◌≡◌, ◌==◌, ℕ, Bool, true, false, not, ◌&&◌, if◌then◌else◌, List, [], ◌∷◌, ◌++◌, length, codes, Option, Some, None}
+use Rattle.std.specs.Fmt.{decimal}
+use Rattle.std.specs.Io.KnownBytes.{Appends}
+use Rattle.std.specs.List.{flat_map}
+use Rattle.kmip_frames.specs.Faults.{frame_fault_number, frame_fault_name}
+use Rattle.kmip_frames.specs.Framing.{fault_in}
+use Rattle.kmip_frames.specs.Streams.{Stream}
+use Rattle.kmip_frames.specs.declared.fault.FrameFault.{FrameFault}
+use Rattle.kmip_store.specs.Stock.{Stock}
+use Rattle.kmip_server.specs.Serving.{stock_after}
+use Rattle.kmip_commands.specs.AnswerText.{first_stock, reply_text}
+use Rattle.kmip_commands.specs.Judging.{Saying, nothing, too_long, no_hex, message, saying_of, has_refused}
+use Rattle.kmip_commands.specs.Lines.{lines_of}
+use Rattle.kmip_commands.specs.declared.streaming.StreamEnd.{StreamEnd}
+use Rattle.kmip_commands.specs.declared.streaming.StreamEnd.TheVariants.{Whole, Cut, Refused}
+use Rattle.kmip_commands.specs.declared.streaming.StreamOutcome.{StreamOutcome}
+
+-- the bytes that a line adds to the stream: none where it is empty or refused
+abbrev pub piece_of : Saying → List ℕ
+piece_of nothing = []
+piece_of too_long = []
+piece_of no_hex = []
+piece_of (message bytes) = bytes
+
+-- the pieces of lines, joined
+abbrev pub pieces_of : List (List ℕ) → List ℕ
+pieces_of lines = flat_map (λ line. piece_of (saying_of line)) lines
+
+-- the stream that the lines of the input are pieces of
+abbrev pub stream_of : List ℕ → List ℕ
+stream_of input = pieces_of (lines_of input)
+
+-- the replies of one server, each to a message as the messages before it left the records
+abbrev pub replies_text : Stock → List (List ℕ) → List ℕ
+replies_text stock [] = []
+replies_text stock (m ∷ messages) = reply_text stock m ++ replies_text (stock_after stock m) messages
+
+-- how a stream ends, by the fault of what is left of it and its size
+abbrev pub ended : Option FrameFault → ℕ → StreamEnd
+ended (Some fault) left = Refused fault
+ended None left = if left == 0 then Whole else Cut left
+
+-- how a stream ends of which this rest is left
+abbrev pub end_of : List ℕ → StreamEnd
+end_of rest = ended (fault_in rest) (length rest)
+
+-- the number and the name of the fault of a head
+unfoldable pub refusal_text : FrameFault → List ℕ
+refusal_text fault = codes "stream refused: " ++ decimal (frame_fault_number fault) ++ codes " " ++ frame_fault_name fault ++ codes "\n"
+
+-- how many bytes are left
+unfoldable pub cut_text : ℕ → List ℕ
+cut_text left = codes "stream cut: " ++ decimal left ++ codes "\n"
+
+-- what is written at the end
+abbrev pub end_text : StreamEnd → List ℕ
+end_text Whole = []
+end_text (Cut left) = cut_text left
+end_text (Refused fault) = refusal_text fault
+
+-- the lines behind a fault are not looked at
+abbrev pub is_refusal : StreamEnd → Bool
+is_refusal Whole = false
+is_refusal (Cut left) = false
+is_refusal (Refused fault) = true
+
+-- no line was refused, and the stream neither refused nor cut
+abbrev pub is_whole_end : StreamEnd → Bool
+is_whole_end Whole = true
+is_whole_end (Cut left) = false
+is_whole_end (Refused fault) = false
+
+abbrev pub is_whole : StreamOutcome → Bool
+is_whole outcome = not outcome.has_refused && is_whole_end outcome.end
+
+-- The stream was answered: what is left of it says how it ends, and where no line is refused the replies to its messages
+-- and the line of its end are all that was written.
+pub record IsAnswered (input : List ℕ) (outcome : StreamOutcome) (old new : Option (List ℕ)) : Type 0 where
+  pub messages : List (List ℕ)
+  pub rest : List ℕ
+  pub stream : Stream (stream_of input) messages rest
+  pub end : outcome.end ≡ end_of rest
+  pub lines : is_refusal outcome.end ≡ false → outcome.has_refused ≡ has_refused (λ _. false) input
+  pub text : has_refused (λ _. false) input ≡ false → Appends old new (replies_text first_stock messages ++ end_text outcome.end)
+
+-- No line is refused, the stream is messages to its end, and the replies to them are all that was written.
+pub record IsAllAnswered (input : List ℕ) (old new : Option (List ℕ)) : Type 0 where
+  pub messages : List (List ℕ)
+  pub stream : Stream (stream_of input) messages []
+  pub lines : has_refused (λ _. false) input ≡ false
+  pub text : Appends old new (replies_text first_stock messages)
