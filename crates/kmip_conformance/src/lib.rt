@@ -39,6 +39,8 @@ mod showing;
 #[cfg(test)]
 mod storing;
 #[cfg(test)]
+mod streaming;
+#[cfg(test)]
 mod tags;
 #[cfg(test)]
 mod vectors;
