@@ -1,5 +1,5 @@
 -- `answer --stream`: what its framer takes and hands over is what its bytes say one by one, and so the stream's messages.
-use Rattle.std.proofs.Common.{◌≡◌, ℕ, ◌+◌, ◌-◌, ◌<◌, ◌≤◌, Bool, true, false, not, ◌&&◌, ◌||◌, ◌==◌, cond, eqb, min, List, [], ◌∷◌, ◌++◌, ◌⊎◌, length, take, drop, codes, Option, Some, None, IfSome, is_some, inl, inr, refl, sym, ap, subst, ◌∙◌, arith, append_assoc, append-nil, eqb-true, eq-eqb, ne_eqb, true≢false, take_all}
+use Rattle.std.proofs.Common.{◌≡◌, ℕ, ◌+◌, ◌-◌, ◌<◌, ◌≤◌, Bool, true, false, not, ◌&&◌, ◌||◌, cond, eqb, min, List, [], ◌∷◌, ◌++◌, ◌⊎◌, length, take, drop, codes, Option, Some, None, IfSome, is_some, inl, inr, refl, sym, ap, subst, ◌∙◌, arith, append_assoc, append-nil, eqb-true, eq-eqb, ne_eqb, true≢false, take_all}
 use Rattle.std.specs.Fmt.{decimal}
 use Rattle.std.specs.Io.KnownBytes.{Appends}
 use Rattle.std.proofs.KnownBytes.{Appends-nil, Appends-trans}
@@ -10,7 +10,7 @@ use Rattle.kmip_frames.specs.declared.fault.FrameFault.{FrameFault}
 use Rattle.kmip_frames.specs.Faults.{frame_fault_number, frame_fault_name}
 use Rattle.kmip_frames.specs.Framing.{fault_in, needed, held_after}
 use Rattle.kmip_frames.specs.Streams.{IsMessage, BeginsWithNoMessage, Stream}
-use Rattle.kmip_frames.proofs.Sizes.{fault_short, fault_long, fault_size, fault_more, needed_fault, needed_more, needed_least}
+use Rattle.kmip_frames.proofs.Sizes.{fault_short, fault_size, fault_more, needed_fault, needed_more, needed_least}
 use Rattle.kmip_frames.proofs.Messages.{message_lawful, message_size, message_whole, fault_stays}
 use Rattle.kmip_frames.proofs.SoFar.{IsSoFar, nothing_so_far, so_far_took, so_far_handed, so_far_ended}
 use Rattle.kmip_store.specs.Stock.{Stock}
@@ -22,7 +22,7 @@ use Rattle.kmip_commands.proofs.LineLemmas.{take_joined}
 use Rattle.kmip_commands.specs.Judging.{Saying, nothing, too_long, no_hex, message, saying_of, is_refused, are_refused, has_refused}
 use Rattle.kmip_commands.specs.Lines.{lines_of}
 use Rattle.kmip_commands.specs.LineText.{saying_text, behind_saying, lines_text, lines_behind, input_text, input_behind, Unless}
-use Rattle.kmip_commands.specs.StreamText.{piece_of, pieces_of, stream_of, replies_text, ended, end_of, refusal_text, cut_text, end_text, is_refusal, is_whole_end, is_whole, IsAnswered, IsAllAnswered}
+use Rattle.kmip_commands.specs.StreamText.{piece_of, pieces_of, stream_of, replies_text, ended, end_of, refusal_text, end_text, is_refusal, is_whole_end, is_whole, IsAnswered, IsAllAnswered}
 use Rattle.kmip_commands.specs.declared.streaming.StreamEnd.{StreamEnd}
 use Rattle.kmip_commands.specs.declared.streaming.StreamEnd.TheVariants.{Whole, Cut, Refused}
 use Rattle.kmip_commands.specs.declared.streaming.StreamOutcome.{StreamOutcome}

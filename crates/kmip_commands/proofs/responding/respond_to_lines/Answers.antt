@@ -1,5 +1,4 @@
 use Rattle.std.proofs.Common.{◌||◌, IfSome, sym, ap, subst, ◌∙◌}
-use Rattle.kmip_commands.specs.Judging.{has_refused, saying_of}
 use Rattle.kmip_commands.specs.Lines.{TakesLine}
 use Rattle.kmip_commands.proofs.RespondingLemmas.{Responding-line, Responding-text, Responding-behind, Responding-refused, Responding-over, Responding-over_behind, Responding-ready, Unless-over}
 use Rattle.kmip_commands.proofs.responding.respond_to_lines.Goals as goal

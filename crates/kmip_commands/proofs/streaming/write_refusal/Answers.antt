@@ -1,5 +1,5 @@
 -- The line is made of its parts.
-use Rattle.std.proofs.Common.{sym, ◌∙◌, subst}
+use Rattle.std.proofs.Common.{◌∙◌, subst}
 use Rattle.std.specs.Result.{OnOk}
 use Rattle.std.specs.Io.KnownBytes.{Appends}
 use Rattle.kmip_commands.proofs.StreamingLemmas.{refusal_line}
