@@ -1,10 +1,9 @@
 -- Texts of items, one after the other.
-use Rattle.std.proofs.Common.{◌≡◌, ℕ, ℤ, zero, suc, ◌+◌, ◌≤◌, List, [], ◌∷◌, ◌++◌, codes, Option, Some, None, length, drop, refl, sym, ap, subst, ◌∙◌, arith, append_assoc, append-nil}
-use Rattle.std.proofs.lemmas.List.{drop_all}
+use Rattle.std.proofs.Common.{◌≡◌, ℕ, ℤ, zero, suc, ◌+◌, List, [], ◌∷◌, ◌++◌, codes, Option, Some, None, drop, refl, sym, ap, subst, ◌∙◌, arith, append_assoc}
 use Rattle.std.specs.Fmt.{decimal, signed_decimal}
 use Rattle.std.specs.List.{slice_get, flat_map}
 use Rattle.std.specs.Io.KnownBytes.{Appends}
-use Rattle.std.proofs.KnownBytes.{Appends-nil, Appends-trans}
+use Rattle.std.proofs.KnownBytes.{Appends-trans}
 use Rattle.kmip_messages.specs.declared.step.Step.{Step}
 use Rattle.kmip_plan.specs.Chains.{chain, step_at}
 use Rattle.kmip_plan.specs.Faults.{plan_fault_number, plan_fault_name, plan_fault_field, plan_fault_place}
@@ -49,9 +48,6 @@ pub record HasWritten {X : Type 0} (f : X → List ℕ) (xs : List X) (i : ℕ) 
   pub written : Appends old now done
   pub whole : done ++ flat_map f (drop i xs) ≡ flat_map f xs
 
-pub written_none : {X : Type 0} (f : X → List ℕ) (xs : List X) (old : Option (List ℕ)) → HasWritten f xs 0 old old
-written_none f xs old = record { done = []; written = Appends-nil old; whole = refl }
-
 pub written_next : {X : Type 0} (f : X → List ℕ) (xs : List X) (i : ℕ) (x : X) (old now new : Option (List ℕ)) → slice_get xs i ≡ Some x
     → HasWritten f xs i old now → Appends now new (f x) → HasWritten f xs (i + 1) old new
 written_next f xs i x old now new e so_far more =
@@ -71,12 +67,6 @@ written_past f xs i old now e so_far =
       written = so_far.written;
       whole = text_past f xs i so_far.done so_far.done (flat_map f xs) e so_far.whole refl;
     })
-
-pub written_all : {X : Type 0} (f : X → List ℕ) (xs : List X) (i : ℕ) (old now : Option (List ℕ)) → length xs ≤ i
-    → HasWritten f xs i old now → Appends old now (flat_map f xs)
-written_all f xs i old now e so_far =
-    let none : so_far.done ≡ flat_map f xs = sym (append-nil so_far.done) ∙ ap (λ ys. so_far.done ++ flat_map f ys) (sym (drop_all i xs e)) ∙ so_far.whole in
-    subst (λ bs. Appends old now bs) none so_far.written
 
 -- the next step of a key
 pub steps_next : (target : Target) (i : ℕ) (step : Step) (done more whole : List ℕ) → step_at target (i + 1) ≡ Some step

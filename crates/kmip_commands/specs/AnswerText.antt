@@ -1,4 +1,5 @@
 -- What `answer` writes for its whole input.
+-- Source: own: what the program prints.
 use Rattle.std.specs.Prelude.{ℕ, pos, List, [], ◌∷◌, ◌++◌, replicate}
 use Rattle.hex.specs.Hex.{encode_lower}
 use Rattle.kmip_store.specs.Stock.{Stock, empty_stock}

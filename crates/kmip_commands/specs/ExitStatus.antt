@@ -1,4 +1,5 @@
 -- How the program ends.
+-- Source: own; 0 for success is that of POSIX.
 use Rattle.std.specs.Prelude.{ℕ, Bool, true, false, Result, Ok, Err}
 use Rattle.kmip_commands.specs.declared.exit_status.ExitStatus.{ExitStatus}
 use Rattle.kmip_commands.specs.declared.exit_status.ExitStatus.TheVariants.{Done, Refused, Usage}

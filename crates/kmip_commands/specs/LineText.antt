@@ -1,5 +1,6 @@
 -- What a command writes for the lines of its input, where `text` is what it writes for a message and
 -- `behind` the state that a message leaves it in.
+-- Source: own: what the program prints.
 use Rattle.std.specs.Prelude.{ℕ, Bool, true, false, List, [], ◌∷◌, ◌++◌, codes}
 use Rattle.kmip_commands.specs.Judging.{Saying, nothing, too_long, no_hex, message, saying_of}
 use Rattle.kmip_commands.specs.Lines.{lines_of}

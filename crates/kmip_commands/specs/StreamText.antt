@@ -1,4 +1,5 @@
 -- What `answer --stream` writes, whose lines are pieces of one stream of messages, and how it ends.
+-- Source: own: what the program prints.
 use Rattle.std.specs.Prelude.{◌≡◌, ◌==◌, ℕ, Bool, true, false, not, ◌&&◌, if◌then◌else◌, List, [], ◌∷◌, ◌++◌, length, codes, Option, Some, None}
 use Rattle.std.specs.Fmt.{decimal}
 use Rattle.std.specs.Io.KnownBytes.{Appends}

@@ -1,4 +1,5 @@
 -- A framer's calls, one after another.
+-- Source: own: what the laws of framers speak of.
 use Rattle.std.specs.Prelude.{◌≡◌, ℕ, ◌+◌, List, [], ◌∷◌, ◌++◌, drop, Result, Ok, Err}
 use Rattle.kmip_frames.specs.declared.fault.FrameFault.{FrameFault}
 use Rattle.kmip_frames.specs.Streams.{IsMessage}

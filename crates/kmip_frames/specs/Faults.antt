@@ -1,4 +1,5 @@
 -- The number and the name of each fault.
+-- Source: own: the standard does not number the faults of a reader.
 use Rattle.std.specs.Prelude.{ℕ, List, codes}
 use Rattle.kmip_frames.specs.declared.fault.FrameFault.{FrameFault}
 use Rattle.kmip_frames.specs.declared.fault.FrameFault.TheVariants.{BadHead, BadLength, TooLong, Failed, NoMemory}

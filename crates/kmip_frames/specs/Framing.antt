@@ -1,4 +1,5 @@
 -- What a framer holds, takes and hands over. It is seen as the bytes that it holds.
+-- Source: own: how a contract sees the code.
 use Rattle.std.specs.Prelude.{◌≡◌, ℕ, ◌+◌, ◌-◌, ◌<◌, min, nat_lt, if◌then◌else◌, ◌⊎◌, List, [], ◌++◌, length, take, Option, Some, None, is_some, IsSome, Result, Ok, Err}
 use Rattle.kmip_frames.specs.declared.head.TheConstants.{HEAD_SIZE}
 use Rattle.kmip_frames.specs.declared.fault.FrameFault.{FrameFault}

@@ -1,4 +1,5 @@
 -- The number and the name of each fault, and the fault of a message that is no item.
+-- Source: own: the standard does not number the faults of a reader.
 use Rattle.std.specs.Prelude.{ℕ, List, codes}
 use Rattle.kmip_ttlv.specs.declared.fault.TtlvFault.{TtlvFault}
 use Rattle.kmip_ttlv.specs.declared.fault.TtlvFault.TheVariants as ttlv

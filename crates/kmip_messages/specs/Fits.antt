@@ -1,4 +1,5 @@
 -- Which requests and replies have a written form.
+-- Source: own: the ranges of the fields, and the limits of an item.
 use Rattle.std.specs.Prelude.{ℕ, pos, Bool, true, false, ◌&&◌, ◌==◌, nat_le, Option}
 use Rattle.std.specs.List.{list_all}
 use Rattle.std.specs.Option.{option_map_or}

@@ -1,4 +1,5 @@
 -- How long the parts of a message are.
+-- Source: KMIP 2.1, TTLV Encoding.
 use Rattle.std.specs.Prelude.{◌≡◌, ℕ, ◌+◌, ◌<◌, ◌≤◌, List, length, map, Option, Some, None}
 use Rattle.kmip_ttlv.specs.Node.{nodes_of}
 use Rattle.kmip_ttlv.specs.Sizes.{padded, sizes}

@@ -1,4 +1,5 @@
 -- The values that the fields of a message may have.
+-- Source: KMIP 2.1, Object Attributes and Enumerations; the ranges are own.
 use Rattle.std.specs.Prelude.{ℕ, ℤ, pos, Bool, true, false, not, ◌&&◌, ◌||◌, ◌==◌, nat_le, int_lt, List, length, if◌then◌else◌}
 use Rattle.std.specs.List.{list_all}
 use Rattle.std.specs.Ordering.{int_eq}

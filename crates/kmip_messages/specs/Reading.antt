@@ -1,4 +1,5 @@
 -- How a message is read: a value, or the first fault. One function for each function of the code.
+-- Source: own: how a contract sees the code.
 use Rattle.std.specs.Prelude.{◌≡◌, Result, Ok, Err}
 use Rattle.kmip_messages.specs.declared.fault.MessageFault.{MessageFault}
 use Rattle.kmip_messages.specs.declared.fault.MessageFault.TheVariants.{NoMemory}

@@ -1,4 +1,5 @@
 -- Messages in bytes: all of the bytes spell one item, and the item is the message.
+-- Source: KMIP 2.1, Message Structure; the order of the checks is own.
 use Rattle.std.specs.Prelude.{ℕ, ◌==◌, List, length, Option, None, Result, Ok, Err, if◌then◌else◌}
 use Rattle.std.specs.Result.{result_ok}
 use Rattle.kmip_ttlv.specs.declared.fault.TtlvFault.{TtlvFault}

@@ -1,6 +1,7 @@
 //! The messages of KMIP: what requests ask and what replies say, and both as bytes.
 //!
-//! Source: KMIP 2.1, Message Structure and Operations. The profile is stated in the README.
+//! Source: KMIP 2.1, Message Structure and Operations. The profile is in
+//! docs/DECISIONS.md.
 #![tactic(auto)]
 
 mod building;

@@ -1,4 +1,5 @@
 -- The number, the name, the field and the place of each fault.
+-- Source: own.
 use Rattle.std.specs.Prelude.{ℕ, List, codes, Option, Some, None}
 use Rattle.kmip_plan.specs.declared.fault.Field.{Field}
 use Rattle.kmip_plan.specs.declared.fault.Field.TheVariants as field

@@ -1,4 +1,5 @@
 -- What holds of the five chains.
+-- Source: own: what the laws of the chains say.
 use Rattle.std.specs.Prelude.{◌≡◌, ◌≤◌, ℕ, suc, List, Some, None}
 use Rattle.kmip_messages.specs.Lifecycle.{after}
 use Rattle.kmip_messages.specs.States.{state_number}

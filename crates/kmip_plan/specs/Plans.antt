@@ -1,4 +1,5 @@
 -- What a plan is, without a word of the order in which it is read.
+-- Source: TOML 1.1, Table and Array of Tables; the fields and their values are own.
 use Rattle.std.specs.Prelude.{◌≡◌, ◌≤◌, ℕ, ℤ, pos, Bool, true, false, ◌&&◌, ◌||◌, ◌==◌, List, [], ◌∷◌, ◌++◌, length, codes, Some, if◌then◌else◌}
 use Rattle.std.specs.List.{list_all}
 use Rattle.kmip_messages.specs.Ranges.{is_name, is_length, is_usage, attrs_fit}

@@ -1,5 +1,5 @@
 -- How a plan is read: the list of its keys, or the first fault. One function for each function of the code.
--- The fields and the order of the checks are own.
+-- Source: TOML 1.1; the fields and the order of the checks are own.
 use Rattle.std.specs.Prelude.{◌≡◌, ℕ, ◌+◌, ℤ, Bool, true, false, not, nat_le, List, [], ◌∷◌, ◌++◌, length, codes, Option, Some, None, Result, Ok, Err}
 use Rattle.std.specs.List.{list_any}
 use Rattle.kmip_messages.specs.Siblings.{◌>>=◌}

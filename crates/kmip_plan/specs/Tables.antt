@@ -1,4 +1,5 @@
 -- What stands in a table of TOML, in the words of its reader: the members of a table ascend by their keys.
+-- Source: TOML 1.1, as the crate `toml` parses it.
 use Rattle.std.specs.Prelude.{ℕ, suc, ◌+◌, ℤ, Bool, true, false, ◌&&◌, ◌||◌, cond, List, codes, Option, Some, None, option_and_then}
 use Rattle.std.specs.Option.{option_map_or}
 use Rattle.toml.specs.Data.{Data, table, Items, no_items, item, Members, no_members, member, get_member, as_str, as_integer, as_array}

@@ -1,4 +1,5 @@
 -- The reply that is being made, in the clauses of the functions that make it.
+-- Source: own: how a contract sees the code.
 use Rattle.std.specs.Prelude.{ℕ, ℤ, List}
 use Rattle.kmip_ttlv.specs.Spelling.{canon}
 use Rattle.kmip_messages.specs.Written.{reply_item}

@@ -39,8 +39,8 @@ impl<S: Records> Server<S> {
         &self.store
     }
 
-    /// The reply to a message, with `now` as its Time Stamp, in seconds since the start of 1970. A
-    /// message that is no request is told why; no byte of it is without an answer.
+    /// The reply to a message, with `now` as its Time Stamp, in seconds since the start of 1970. Bytes
+    /// that are no request get a reply too, which says why.
     ///
     /// # Errors
     /// Where there is no memory; the records are then as they were.

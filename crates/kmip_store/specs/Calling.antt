@@ -1,5 +1,6 @@
 -- What a list of calls answers, and what the records hold behind it: both follow from the records before it, whatever keeps
 -- them.
+-- Source: own: what the law of two stores says.
 use Rattle.std.specs.Prelude.{◌+◌, Bool, true, List, [], ◌∷◌, length, Result, Ok, Err}
 use Rattle.std.specs.Fmt.{decimal}
 use Rattle.std.specs.List.{slice_get}

@@ -1,4 +1,5 @@
 -- The number and the name of each fault.
+-- Source: own.
 use Rattle.std.specs.Prelude.{ℕ, List, codes}
 use Rattle.kmip_store.specs.declared.fault.StoreFault.{StoreFault}
 use Rattle.kmip_store.specs.declared.fault.StoreFault.TheVariants.{NotFound, SameName, WrongState, Full, NoMemory}

@@ -1,5 +1,6 @@
 -- What the records hold, and what a Create adds.
--- Source: KMIP 2.1, Object Attributes, Name, State and Unique Identifier; Operations, Create.
+-- Source: KMIP 2.1, Object Attributes, Name, State and Unique Identifier; Operations, Create. The stream of key material
+-- is the ChaCha20 of RFC 8439; that keys are made of it, the room and the identifiers are own.
 use Rattle.std.specs.Prelude.{◌≡◌, ℕ, ◌+◌, ◌/◌, ◌≤◌, ◌<◌, ℤ, pos, negsuc, Bool, true, false, List, [], ◌∷◌, ◌++◌, length, map, nat_eq, nat_lt, Result, Ok, Err, if◌then◌else◌}
 use Rattle.std.specs.Cmp.Lexicographic.{pointwise}
 use Rattle.std.specs.Fmt.{decimal}

@@ -1,4 +1,5 @@
 -- The number, the name and the place of each fault.
+-- Source: own: the standard does not number the faults of a reader.
 use Rattle.std.specs.Prelude.{ℕ, List, Option, Some, None, codes}
 use Rattle.kmip_ttlv.specs.declared.fault.TtlvFault.{TtlvFault}
 use Rattle.kmip_ttlv.specs.declared.fault.TtlvFault.TheVariants.{

@@ -1,4 +1,5 @@
 -- What an `Item` of the code is as a pure value: where its parts lie in memory is left out.
+-- Source: own: how a contract sees the code.
 use Rattle.std.specs.Prelude.{List, map}
 use Rattle.kmip_ttlv.specs.Node.{
   Node,
