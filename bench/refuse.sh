@@ -4,7 +4,7 @@
 #
 #     bench/refuse.sh PROGRAM
 #
-# The input is examples/answer-life.hex. For N = 1, 2, .. the shim of bench/refuse.c refuses the
+# The input is examples/answer-life.hex, and `answer` is run without and with `--stream`. For N = 1, 2, .. the shim of bench/refuse.c refuses the
 # N-th growth alone, until a run meets no refusal. Where a growth was refused, the program has to
 # print some whole lines of the undisturbed output, from its first line on, and then the line
 # `no memory`, and to end with exit status 1. Where none was refused, it has to print the undisturbed
@@ -30,7 +30,7 @@ run_refusing() {
     local environment=(LD_PRELOAD="$PWD/$out/refuse.so" REFUSE_AT="$1")
     if [[ $2 == all ]]; then environment+=(REFUSE_ALL=1); fi
     status=0
-    env "${environment[@]}" "$program" answer < "$input" \
+    env "${environment[@]}" "$program" "${words[@]}" < "$input" \
         > "$out/written" 2> "$out/errors" 9> "$out/marks" || status=$?
     marks=$(cat "$out/marks")
 }
@@ -67,9 +67,15 @@ refuse_each() {
     exit 1
 }
 
-"$program" answer < "$input" > "$out/undisturbed"
+# Tries the command of the given words.
+try_command() {
+    words=("$@")
+    "$program" "${words[@]}" < "$input" > "$out/undisturbed"
+    refuse_each one
+    echo "${words[*]}: $met growths refused, one a run: each time whole lines, \`no memory\` and exit status 1"
+    refuse_each all
+    echo "${words[*]}: $met growths refused, each with all after it: the same each time"
+}
 
-refuse_each one
-echo "$met growths refused, one a run: each time whole lines, \`no memory\` and exit status 1"
-refuse_each all
-echo "$met growths refused, each with all after it: the same each time"
+try_command answer
+try_command answer --stream
