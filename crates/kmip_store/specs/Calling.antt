@@ -1,7 +1,7 @@
 -- What a list of calls answers, and what the records hold behind it: both follow from the records before it, whatever keeps
 -- them.
 -- Source: own: what the law of two stores says.
-use Rattle.std.specs.Prelude.{◌+◌, Bool, true, List, [], ◌∷◌, length, Result, Ok, Err}
+use Rattle.std.specs.Prelude.{◌≡◌, ℕ, ◌+◌, Bool, true, List, [], ◌∷◌, length, take, Result, Ok, Err}
 use Rattle.std.specs.Fmt.{decimal}
 use Rattle.std.specs.List.{slice_get}
 use Rattle.std.specs.Option.{is_some}
@@ -60,3 +60,7 @@ answers_to (call ∷ calls) s = answer_to call s ∷ answers_to calls (stock_aft
 abbrev pub stock_behind : List Call → Stock → Stock
 stock_behind [] s = s
 stock_behind (call ∷ calls) s = stock_behind calls (stock_after call s)
+
+-- the records are those behind some of the calls, from the first on
+abbrev pub IsBehindSome : List Call → Stock → Stock → Type 0
+IsBehindSome calls old new = (done : ℕ) × (new ≡ stock_behind (take done calls) old)

@@ -1,7 +1,7 @@
 //! A law of everything that keeps records: what a list of calls answers follows from the records
 //! before it alone. So two stores of one seed and one room answer any list of calls alike, however
 //! each keeps its rows.
-ghost use Rattle.std.specs.Prelude.{◌≡◌, ℕ, take, IfOk, OnOk, OnErr, IsTrue, IsSome};
+ghost use Rattle.std.specs.Prelude.{◌≡◌, IfOk, OnOk, OnErr, IsTrue, IsSome};
 ghost use Rattle.std.specs.List.{list_all};
 ghost use Rattle.std.specs.Option.{option_copied};
 ghost use Rattle.kmip_messages.specs.Ranges.{attrs_fit};
@@ -11,6 +11,7 @@ ghost use Rattle.kmip_store.specs.Calling.{
   stock_after,
   answers_to,
   stock_behind,
+  IsBehindSome,
 };
 ghost use Rattle.kmip_store.specs.declared.calling.Answer.TheVariants as answers;
 ghost use Rattle.kmip_store.specs.declared.calling.Call.TheVariants as calls;
@@ -65,7 +66,7 @@ pub fn call_all<S: Records>(
     requires { IsTrue (list_all may_call calls.now) }
     ensures answers { IfOk result (λ answers. answers.items ≡ answers_to calls.now (S.stock store.old)) }
     ensures stock { OnOk result (S.stock store.new ≡ stock_behind calls.now (S.stock store.old)) }
-    ensures broken_off { OnErr result ((done : ℕ) × (S.stock store.new ≡ stock_behind (take done calls.now) (S.stock store.old))) }
+    ensures broken_off { OnErr result (IsBehindSome calls.now (S.stock store.old) (S.stock store.new)) }
 {
     let mut answers = Vec::new(alloc);
     for call in calls {
@@ -89,6 +90,9 @@ pub fn call_both<A: Records, B: Records>(
     calls: &[Call],
 ) -> Result<(Vec<Answer>, Vec<Answer>), NoMemory>
     requires { IsTrue (list_all may_call calls.now) }
+    ensures each { IfOk result (λ both. (both.0.items ≡ answers_to calls.now (A.stock first.old)) × (both.1.items ≡ answers_to calls.now (B.stock second.old))) }
+    ensures behind { OnOk result ((A.stock first.new ≡ stock_behind calls.now (A.stock first.old)) × (B.stock second.new ≡ stock_behind calls.now (B.stock second.old))) }
+    ensures broken_off { OnErr result (IsBehindSome calls.now (A.stock first.old) (A.stock first.new) × IsBehindSome calls.now (B.stock second.old) (B.stock second.new)) }
     ensures answers { IfOk result (λ both. A.stock first.old ≡ B.stock second.old → both.0.items ≡ both.1.items) }
     ensures stock { OnOk result (A.stock first.old ≡ B.stock second.old → A.stock first.new ≡ B.stock second.new) }
 {
