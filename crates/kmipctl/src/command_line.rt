@@ -72,7 +72,7 @@ unspecified, affiliation-changed, superseded, cessation-of-operation or privileg
 The whole plan is judged before anything is printed. One with a fault prints its first one alone, as
 `plan refused: 4 Missing length at key 1`: the fault's number, its name, the field where there is one,
 and the place of the key, where 0 is beside the keys. A file that cannot be read as text prints
-`cannot read PATH`.";
+`cannot read PATH`, and one of more than 16,777,216 bytes `longer than 16777216 bytes: PATH`.";
 
 const PLAN: &str = "The file of the plan";
 

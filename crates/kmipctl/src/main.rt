@@ -9,9 +9,12 @@ mod command_line;
 
 use command_line::{Choice, chosen, status_of};
 use kmip_commands::{ExitStatus, Form, run_answer, run_answer_stream, run_check, run_show};
-use std::io::{BufReader, BufWriter, Error, ErrorKind};
+use std::io::{BufReader, BufWriter, Error, ErrorKind, Read};
 use std::process::ExitCode;
 use std::{env, fs, io};
+
+/// No more is read of a plan's file: its 1,000 keys take less than a tenth of it.
+const MOST_PLAN_BYTES: u64 = 16_777_216;
 
 fn main(rt: HostRuntime) -> ExitCode {
     let status = match run(&rt) {
@@ -71,10 +74,14 @@ fn show_input(rt: &HostRuntime, form: Form) -> io::Result<ExitStatus> {
 
 /// The command `check` from a file to standard output.
 fn check_plan(rt: &HostRuntime, path: &str) -> io::Result<ExitStatus> {
-    match fs::read_to_string(rt, path) {
-        Ok(plan) => {
+    match plan_text(rt, path) {
+        Ok(Some(plan)) => {
             let mut writer = BufWriter::new(rt.alloc(), io::writer(rt))?;
             Ok(run_check(rt.alloc(), plan.as_str(), &mut writer))
+        }
+        Ok(None) => {
+            rt.println(format_args!("longer than {MOST_PLAN_BYTES} bytes: {path}"))?;
+            Ok(ExitStatus::Refused)
         }
         Err(error) => {
             if error.kind() == ErrorKind::OutOfMemory {
@@ -84,4 +91,14 @@ fn check_plan(rt: &HostRuntime, path: &str) -> io::Result<ExitStatus> {
             Ok(ExitStatus::Refused)
         }
     }
+}
+
+/// The text of a plan's file, unless it is longer than a plan may be.
+fn plan_text(rt: &HostRuntime, path: &str) -> io::Result<Option<String>> {
+    let file = fs::open(rt, path)?;
+    let text = io::read_to_string(rt.alloc(), file.take(MOST_PLAN_BYTES + 1))?;
+    if text.len() as u64 > MOST_PLAN_BYTES {
+        return Ok(None);
+    }
+    Ok(Some(text))
 }
