@@ -1,11 +1,11 @@
 //! What the command `answer` prints.
 
 use crate::readers::PieceReader;
-use crate::vectors::{
+use kmip_commands::{CommandFault, ExitStatus, answer, run_answer};
+use kmip_vectors::{
     ACTIVATE_1, CREATE_K1, CREATE_K1_REPLY, INVALID_MESSAGE_REPLY, LOCATE_K1, LOCATE_K1_FOUND,
     LOCATE_K1_NONE, NAME_USED_REPLY,
 };
-use kmip_commands::{CommandFault, ExitStatus, answer, run_answer};
 use std::alloc::{AllocError, Global};
 use std::str::from_utf8;
 use std::test::Fail;

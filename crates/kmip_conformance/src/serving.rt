@@ -1,13 +1,13 @@
 //! Messages answered by a server.
 ghost use Rattle.std.specs.Prelude.{◌≤◌};
 
-use crate::vectors::{
-    ALL, CREATE_K1, CREATE_K1_REPLY, INVALID_MESSAGE_REPLY, LOCATE_K1, LOCATE_K1_FOUND,
-    LOCATE_K1_NONE, NAME_USED_REPLY,
-};
 use kmip_messages::KeyState;
 use kmip_server::Server;
 use kmip_store::{ListStore, Records};
+use kmip_vectors::{
+    ALL, CREATE_K1, CREATE_K1_REPLY, INVALID_MESSAGE_REPLY, LOCATE_K1, LOCATE_K1_FOUND,
+    LOCATE_K1_NONE, NAME_USED_REPLY,
+};
 use std::alloc::Global;
 use std::process::Abort;
 use std::test::Fail;

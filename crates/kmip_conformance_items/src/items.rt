@@ -1,7 +1,7 @@
 //! Items of TTLV read from bytes and written back.
 
-use crate::vectors::{ALL, LOCATE_K1};
 use kmip_ttlv::{Bytes, Item, Tag, Text, TtlvFault, fits, read, write};
+use kmip_vectors::{ALL, LOCATE_K1};
 use std::alloc::{AllocError, Global};
 use std::process::Abort;
 use std::test::Fail;

@@ -1,4 +1,8 @@
-//! Messages that are known from outside, in lower-case hexadecimal. Replies have the time 0.
+//! What the tests of several crates share: messages that are known from outside, in lower-case
+//! hexadecimal. Replies have the time 0.
+//!
+//! Source: KMIP 2.1, Message Structure and Operations, in the layout of this project's profile.
+#![tactic(auto)]
 
 /// Locate `k1`, destroyed or not.
 pub const LOCATE_K1: &str = "\
