@@ -8,6 +8,8 @@
 #[cfg(test)]
 mod answering;
 #[cfg(test)]
+mod changing;
+#[cfg(test)]
 mod checking;
 #[cfg(test)]
 mod growths;

@@ -150,12 +150,16 @@ fn ask(
 }
 
 /// Whether the records are `k1`, as it was created.
-fn is_k1_alone(records: &ListStore) -> bool {
+pub fn is_k1_alone(records: &ListStore) -> bool {
     if records.count() != 1 {
         return false;
     }
     match records.at(0) {
-        Some(row) => row.attrs.name.as_str() == "k1" && row.state == KeyState::PreActive,
+        Some(row) => {
+            row.uid.as_str() == "1"
+                && row.attrs.name.as_str() == "k1"
+                && row.state == KeyState::PreActive
+        }
         None => false,
     }
 }

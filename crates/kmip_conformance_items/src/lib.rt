@@ -5,6 +5,10 @@
 #![tactic(auto)]
 
 #[cfg(test)]
+mod changing;
+#[cfg(test)]
 mod framing;
 #[cfg(test)]
 mod items;
+#[cfg(test)]
+mod nesting;

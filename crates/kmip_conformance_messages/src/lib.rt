@@ -5,6 +5,8 @@
 #![tactic(auto)]
 
 #[cfg(test)]
+mod changing;
+#[cfg(test)]
 mod layouts;
 #[cfg(test)]
 mod replies;

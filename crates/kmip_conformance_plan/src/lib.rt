@@ -4,6 +4,8 @@
 #![tactic(auto)]
 
 #[cfg(test)]
+mod long_texts;
+#[cfg(test)]
 mod plan_rows;
 #[cfg(test)]
 mod planning;
