@@ -3,11 +3,12 @@
 # make test    the gate: every proof from nothing, the wrong bodies, the tests and the program
 # make bench   compares the program with a baseline in plain Rust (needs rustc)
 # make refuse  refuses each growth of memory of the program in turn (needs cc)
+# make hostile gives the program lines of ten megabytes, under limits of memory
 
 program := crates/kmipctl/out/kmipctl
 sources := crates.txt $(shell find crates -name out -prune -o \( -name '*.rt' -o -name '*.antt' \) -print)
 
-.PHONY: all demo test bench refuse
+.PHONY: all demo test bench refuse hostile
 
 all: $(program)
 
@@ -27,3 +28,6 @@ bench: $(program)
 
 refuse: $(program)
 	@bench/refuse.sh $(program)
+
+hostile: $(program)
+	@bench/hostile.sh $(program)

@@ -1,12 +1,12 @@
 //! What the command `answer` prints.
 
 use crate::readers::PieceReader;
-use crate::vectors::{
+use crate::texts::text_of;
+use kmip_commands::{CommandFault, ExitStatus, answer, run_answer};
+use kmip_vectors::{
     ACTIVATE_1, CREATE_K1, CREATE_K1_REPLY, INVALID_MESSAGE_REPLY, LOCATE_K1, LOCATE_K1_FOUND,
     LOCATE_K1_NONE, NAME_USED_REPLY,
 };
-use kmip_commands::{CommandFault, ExitStatus, answer, run_answer};
-use std::alloc::{AllocError, Global};
 use std::str::from_utf8;
 use std::test::Fail;
 
@@ -84,16 +84,6 @@ const ROWS: [Row; 6] = [
         is_refused: false,
     },
 ];
-
-/// The lines, each ended by a line feed.
-fn text_of(alloc: Global, lines: &[&str]) -> Result<String, AllocError> {
-    let mut text = String::new(alloc);
-    for line in lines {
-        text.push_str(line)?;
-        text.push('\n')?;
-    }
-    Ok(text)
-}
 
 #[test]
 fn answers_lines(rt: HostRuntime) -> Result<(), Fail> {

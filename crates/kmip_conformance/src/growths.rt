@@ -3,9 +3,9 @@
 //! `rt try --test growths --fail-alloc N` refuses the growth N; in the gate none is refused.
 
 use crate::serving::server_of;
-use crate::vectors::{CREATE_K1, CREATE_K1_REPLY};
 use kmip_store::Records;
 use kmip_ttlv::NoMemory;
+use kmip_vectors::{CREATE_K1, CREATE_K1_REPLY};
 use std::test::Fail;
 
 #[test]

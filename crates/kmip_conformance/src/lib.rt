@@ -1,4 +1,5 @@
-//! Tests over all the crates below, against messages and values that are known from outside.
+//! Tests of kmip_store, kmip_server and kmip_commands, against messages and values that are known
+//! from outside.
 //!
 //! The expected values come from the Key Management Interoperability Protocol Specification Version
 //! 2.1 and from this project's profile of it, and never from what the crates wrote.
@@ -7,31 +8,15 @@
 #[cfg(test)]
 mod answering;
 #[cfg(test)]
-mod checking;
+mod changing;
 #[cfg(test)]
-mod framing;
+mod checking;
 #[cfg(test)]
 mod growths;
 #[cfg(test)]
-mod items;
-#[cfg(test)]
-mod layouts;
-#[cfg(test)]
 mod lifecycle;
 #[cfg(test)]
-mod plan_rows;
-#[cfg(test)]
-mod planning;
-#[cfg(test)]
 mod readers;
-#[cfg(test)]
-mod replies;
-#[cfg(test)]
-mod reply_rows;
-#[cfg(test)]
-mod request_rows;
-#[cfg(test)]
-mod requests;
 #[cfg(test)]
 mod serving;
 #[cfg(test)]
@@ -41,6 +26,4 @@ mod storing;
 #[cfg(test)]
 mod streaming;
 #[cfg(test)]
-mod tags;
-#[cfg(test)]
-mod vectors;
+mod texts;

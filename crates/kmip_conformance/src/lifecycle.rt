@@ -1,13 +1,13 @@
 //! A key on its way through the states, its key material, and what is told of it.
 
 use crate::serving::{reply_to, server_of};
-use crate::vectors::{
-    ACTIVATE_1, ACTIVATE_1_REPLY, CREATE_K1, CREATE_K1_REPLY, DESTROY_1, LOCATE_K1,
-    LOCATE_K1_FOUND, LOCATE_K1_NONE, NAME_USED_REPLY, WRONG_STATE_REPLY,
-};
 use kmip_messages::KeyState;
 use kmip_server::Server;
 use kmip_store::{ListStore, Records};
+use kmip_vectors::{
+    ACTIVATE_1, ACTIVATE_1_REPLY, CREATE_K1, CREATE_K1_REPLY, DESTROY_1, LOCATE_K1,
+    LOCATE_K1_FOUND, LOCATE_K1_NONE, NAME_USED_REPLY, WRONG_STATE_REPLY,
+};
 use std::alloc::{AllocError, Global};
 use std::process::Abort;
 use std::test::Fail;

@@ -1,13 +1,13 @@
 //! Messages answered by a server.
 ghost use Rattle.std.specs.Prelude.{◌≤◌};
 
-use crate::vectors::{
-    ALL, CREATE_K1, CREATE_K1_REPLY, INVALID_MESSAGE_REPLY, LOCATE_K1, LOCATE_K1_FOUND,
-    LOCATE_K1_NONE, NAME_USED_REPLY,
-};
 use kmip_messages::KeyState;
 use kmip_server::Server;
 use kmip_store::{ListStore, Records};
+use kmip_vectors::{
+    ALL, CREATE_K1, CREATE_K1_REPLY, INVALID_MESSAGE_REPLY, LOCATE_K1, LOCATE_K1_FOUND,
+    LOCATE_K1_NONE, NAME_USED_REPLY,
+};
 use std::alloc::Global;
 use std::process::Abort;
 use std::test::Fail;
@@ -150,12 +150,16 @@ fn ask(
 }
 
 /// Whether the records are `k1`, as it was created.
-fn is_k1_alone(records: &ListStore) -> bool {
+pub fn is_k1_alone(records: &ListStore) -> bool {
     if records.count() != 1 {
         return false;
     }
     match records.at(0) {
-        Some(row) => row.attrs.name.as_str() == "k1" && row.state == KeyState::PreActive,
+        Some(row) => {
+            row.uid.as_str() == "1"
+                && row.attrs.name.as_str() == "k1"
+                && row.state == KeyState::PreActive
+        }
         None => false,
     }
 }

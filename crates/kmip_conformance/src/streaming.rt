@@ -1,14 +1,13 @@
 //! What the command `answer --stream` prints.
 
 use crate::readers::PieceReader;
-use crate::vectors::{
-    CREATE_K1, CREATE_K1_REPLY, INVALID_MESSAGE_REPLY, LOCATE_K1, LOCATE_K1_NONE,
-};
+use crate::texts::text_of;
 use kmip_commands::{
     CommandFault, ExitStatus, StreamEnd, StreamOutcome, answer_stream, run_answer_stream,
 };
 use kmip_frames::FrameFault;
-use std::alloc::{AllocError, Global};
+use kmip_vectors::{CREATE_K1, CREATE_K1_REPLY, INVALID_MESSAGE_REPLY, LOCATE_K1, LOCATE_K1_NONE};
+use std::alloc::Global;
 use std::process::Abort;
 use std::str::from_utf8;
 use std::test::Fail;
@@ -101,16 +100,6 @@ const ROWS: [Row; 11] = [
         has_refused: false,
     },
 ];
-
-/// The lines, each ended by a line feed.
-fn text_of(alloc: Global, lines: &[&str]) -> Result<String, AllocError> {
-    let mut text = String::new(alloc);
-    for line in lines {
-        text.push_str(line)?;
-        text.push('\n')?;
-    }
-    Ok(text)
-}
 
 /// The two messages, cut into these lines, get their two replies.
 fn assert_answers(

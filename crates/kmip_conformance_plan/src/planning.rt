@@ -19,7 +19,7 @@ fn changed(alloc: Global, changes: &[(&str, &str)]) -> Result<String, AllocError
 }
 
 /// What is said of a text: nothing where it is read, else the fault with its number, field and place.
-fn refusal(alloc: Global, text: &str) -> Result<String, AllocError> {
+pub fn refusal(alloc: Global, text: &str) -> Result<String, AllocError> {
     match read_plan(alloc, text) {
         Ok(_) => Ok(String::new(alloc)),
         Err(fault) => described(alloc, &fault),

@@ -1,4 +1,12 @@
-//! Messages that are known from outside, in lower-case hexadecimal. Replies have the time 0.
+//! What the tests of several crates share: messages that are known from outside, in lower-case
+//! hexadecimal, and how one is changed. Replies have the time 0.
+//!
+//! Source: KMIP 2.1, Message Structure and Operations, in the layout of this project's profile.
+#![tactic(auto)]
+
+ghost use Rattle.std.specs.Prelude.{◌≡◌, ◌<◌, length, set, IfOk};
+
+use std::alloc::{AllocError, Global};
 
 /// Locate `k1`, destroyed or not.
 pub const LOCATE_K1: &str = "\
@@ -116,3 +124,16 @@ pub const ALL: [(&str, &str); 12] = [
     ("wrong state reply", WRONG_STATE_REPLY),
     ("create k1 loose reply", CREATE_K1_LOOSE_REPLY),
 ];
+
+/// The bytes with another value at one place.
+///
+/// # Errors
+/// Where there is no memory for them.
+pub fn changed(alloc: Global, bytes: &[u8], place: usize, value: u8) -> Result<Vec<u8>, AllocError>
+    requires { place < length bytes.now }
+    ensures { IfOk result (λ changed. changed.items ≡ set bytes.now place value) }
+{
+    let mut changed = Vec::from_slice(alloc, bytes)?;
+    changed[place] = value;
+    Ok(changed)
+}

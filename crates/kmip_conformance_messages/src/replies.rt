@@ -5,11 +5,11 @@ use crate::reply_rows::{REPLY_TABLES, ReplyTable};
 use crate::request_rows::Verdict;
 use crate::requests::verdict_of;
 use crate::tags::OPERATION;
-use crate::vectors::{
+use kmip_messages::{MessageFault, Outcome, Reply, read_reply, reply_fits, write_reply};
+use kmip_vectors::{
     ACTIVATE_1_REPLY, CREATE_K1_LOOSE_REPLY, CREATE_K1_REPLY, INVALID_MESSAGE_REPLY, LOCATE_K1,
     LOCATE_K1_FOUND, LOCATE_K1_NONE, NAME_USED_REPLY, WRONG_STATE_REPLY,
 };
-use kmip_messages::{MessageFault, Outcome, Reply, read_reply, reply_fits, write_reply};
 use std::alloc::Global;
 use std::process::Abort;
 use std::test::Fail;

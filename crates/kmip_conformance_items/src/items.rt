@@ -1,7 +1,7 @@
 //! Items of TTLV read from bytes and written back.
 
-use crate::vectors::{ALL, LOCATE_K1};
 use kmip_ttlv::{Bytes, Item, Tag, Text, TtlvFault, fits, read, write};
+use kmip_vectors::{ALL, LOCATE_K1};
 use std::alloc::{AllocError, Global};
 use std::process::Abort;
 use std::test::Fail;
@@ -64,7 +64,7 @@ fn structure(alloc: Global, tag: Tag) -> Result<Item, AllocError> {
 }
 
 /// What `read` says of the bytes: the size of the item, which fits, or the fault.
-fn size_of(rt: &impl Abort, alloc: Global, bytes: &[u8]) -> Result<usize, TtlvFault> {
+pub fn size_of(rt: &impl Abort, alloc: Global, bytes: &[u8]) -> Result<usize, TtlvFault> {
     let (item, size) = read(alloc, bytes)?;
     assert!(rt; fits(&item));
     Ok(size)

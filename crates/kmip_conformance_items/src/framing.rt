@@ -1,7 +1,7 @@
 //! Messages out of a stream of bytes, in whatever pieces it comes.
 
-use crate::vectors::{CREATE_K1, LOCATE_K1};
 use kmip_frames::{FrameFault, Framer};
+use kmip_vectors::{CREATE_K1, LOCATE_K1};
 use std::alloc::Global;
 use std::process::Abort;
 use std::test::Fail;

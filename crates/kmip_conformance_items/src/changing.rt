@@ -1,0 +1,118 @@
+//! Messages with one byte changed, read as items.
+
+use crate::items::size_of;
+use kmip_ttlv::{TtlvFault, fits, read, write};
+use kmip_vectors::{CREATE_K1, CREATE_K1_REPLY, LOCATE_K1, LOCATE_K1_FOUND, changed};
+use std::alloc::Global;
+use std::process::Abort;
+use std::test::Fail;
+
+/// A message, and where the header in it ends.
+const MESSAGES: [(&str, usize); 4] = [
+    (LOCATE_K1, 72),
+    (CREATE_K1, 72),
+    (CREATE_K1_REPLY, 88),
+    (LOCATE_K1_FOUND, 88),
+];
+
+/// How a byte is changed: which of its bits are kept, and which are then turned over.
+const CHANGES: [(u8, u8); 13] = [
+    (0xFF, 0x01),
+    (0xFF, 0x02),
+    (0xFF, 0x04),
+    (0xFF, 0x08),
+    (0xFF, 0x10),
+    (0xFF, 0x20),
+    (0xFF, 0x40),
+    (0xFF, 0x80),
+    (0x00, 0x00),
+    (0x00, 0x01),
+    (0x00, 0x7F),
+    (0x00, 0x80),
+    (0x00, 0xFF),
+];
+
+/// Whether the bytes are the written form but for padding, which is written as zeros.
+fn is_spelled(written: &[u8], bytes: &[u8]) -> bool {
+    written.len() == bytes.len()
+        && written
+            .iter()
+            .zip(bytes)
+            .all(|(written, byte)| written == byte || *written == 0)
+}
+
+/// What is read can be written as it stands in the bytes, and what is refused is at fault in them.
+fn try_bytes(rt: &impl Abort, alloc: Global, bytes: &[u8]) -> Result<(), Fail> {
+    match read(alloc, bytes) {
+        Ok((item, size)) => {
+            assert!(rt; fits(&item) && size <= bytes.len());
+            let mut again = Vec::new(alloc);
+            write(&item, &mut again)?;
+            assert!(rt; is_spelled(again.as_slice(), &bytes[..size]), "{bytes:?}");
+            assert_eq!(rt; size_of(rt, alloc, again.as_slice()), Ok(size), "{bytes:?}");
+        }
+        Err(fault) => {
+            let is_inside = fault.offset().is_some_and(|at| at < bytes.len());
+            assert!(rt; is_inside, "{fault:?} of {bytes:?}");
+        }
+    }
+    Ok(())
+}
+
+#[test]
+fn reads_what_it_can_write_again(rt: HostRuntime) -> Result<(), Fail> {
+    for (text, _) in &MESSAGES {
+        let bytes = hex::decode(rt.alloc(), *text)?;
+        for (place, old) in bytes.iter().enumerate() {
+            for (kept, turned) in CHANGES {
+                let value = (*old & kept) ^ turned;
+                let changed = changed(rt.alloc(), bytes.as_slice(), place, value)?;
+                try_bytes(&rt, rt.alloc(), changed.as_slice())?;
+            }
+        }
+    }
+    Ok(())
+}
+
+/// What comes of a message whose outermost head has this type and length: its size as it is read, or
+/// the fault. `size` is the size of all its bytes.
+fn outcome_of(
+    item_type: u8,
+    len: usize,
+    size: usize,
+    header_end: usize,
+) -> Result<usize, TtlvFault> {
+    match item_type {
+        0x01 if len % 8 != 0 => Err(TtlvFault::BadLength(0)),
+        0x01 if len > 8184 => Err(TtlvFault::TooLong(0)),
+        0x01 if len > size.saturating_sub(8) => Err(TtlvFault::Short(0)),
+        // The whole message, nothing in it, or its header alone.
+        0x01 if [size, 8, header_end].contains(&(len + 8)) => Ok(len + 8),
+        0x01 if len + 8 < header_end => Err(TtlvFault::ChildrenOverrun(8)),
+        0x01 => Err(TtlvFault::ChildrenOverrun(header_end)),
+        0x04 | 0x08 => Ok(size),
+        // The bytes of a message are no UTF-8.
+        0x07 => Err(TtlvFault::BadText(0)),
+        0x02..=0x0B => Err(TtlvFault::BadLength(0)),
+        _ => Err(TtlvFault::UnknownType(0)),
+    }
+}
+
+#[test]
+fn judges_each_head(rt: HostRuntime) -> Result<(), Fail> {
+    for (text, header_end) in &MESSAGES {
+        let bytes = hex::decode(rt.alloc(), *text)?;
+        for place in 0..bytes.len().min(8) {
+            for value in 0..=255 {
+                let changed = changed(rt.alloc(), bytes.as_slice(), place, value)?;
+                let outcome = size_of(&rt, rt.alloc(), changed.as_slice());
+                if let [_, _, _, item_type, a, b, c, d, ..] = changed.as_slice() {
+                    let len = u32::from_be_bytes([*a, *b, *c, *d]) as usize;
+                    let wanted = outcome_of(*item_type, len, bytes.len(), *header_end);
+                    assert_eq!(rt; outcome, wanted, "{value} at {place} of {text}");
+                }
+            }
+        }
+    }
+    Ok(())
+}

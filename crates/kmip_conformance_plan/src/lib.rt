@@ -1,0 +1,11 @@
+//! Tests of kmip_plan: texts of plans, and the chains of their keys.
+//!
+//! The expected values come from this project's profile, and never from what the crates wrote.
+#![tactic(auto)]
+
+#[cfg(test)]
+mod long_texts;
+#[cfg(test)]
+mod plan_rows;
+#[cfg(test)]
+mod planning;
