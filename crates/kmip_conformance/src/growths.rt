@@ -1,6 +1,6 @@
 //! One growth of memory refused, wherever it is: a call either needs none of it or changes nothing.
 //!
-//! `rt try --test growths --fail-alloc N` refuses the growth N; in the gate none is refused.
+//! `rt try --test --fail-alloc N` refuses the growth N; in the gate none is refused.
 
 use crate::serving::server_of;
 use kmip_store::Records;
