@@ -19,10 +19,11 @@ use Rattle.kmip_commands.specs.AnswerText.{first_stock, reply_text}
 use Rattle.kmip_commands.specs.Bytewise.{StreamState, is_over, byte_text, byte_behind, piece_text, piece_behind, tail_text}
 use Rattle.kmip_commands.specs.BytewiseLaws.{no_fault_front, byte_made, stays_over, stays_ready, nothing_waits, longer_waits}
 use Rattle.kmip_commands.proofs.LineLemmas.{take_joined}
+use Rattle.kmip_commands.proofs.RespondingLemmas.{read_on}
 use Rattle.kmip_commands.specs.Judging.{Saying, nothing, too_long, no_hex, message, saying_of, is_refused, are_refused, has_refused}
 use Rattle.kmip_commands.specs.Lines.{lines_of}
-use Rattle.kmip_commands.specs.LineText.{saying_text, behind_saying, lines_text, lines_behind, input_text, input_behind, Unless}
-use Rattle.kmip_commands.specs.StreamText.{piece_of, pieces_of, stream_of, replies_text, ended, end_of, refusal_text, end_text, is_refusal, is_whole_end, is_whole, IsAnswered, IsAllAnswered}
+use Rattle.kmip_commands.specs.LineText.{saying_text, behind_saying, lines_text, lines_behind, lines_read}
+use Rattle.kmip_commands.specs.StreamText.{piece_of, pieces_of, stream_of, replies_text, ended, end_of, refusal_text, end_text, is_refusal, is_whole_end, is_whole, records_behind, GoesOn, IsPassedOver, IsTaken, IsTold, AreTold, IsWritten, IsAnswered, IsAllAnswered}
 use Rattle.kmip_commands.specs.declared.streaming.StreamEnd.{StreamEnd}
 use Rattle.kmip_commands.specs.declared.streaming.StreamEnd.TheVariants.{Whole, Cut, Refused}
 use Rattle.kmip_commands.specs.declared.streaming.StreamOutcome.{StreamOutcome}
@@ -211,49 +212,52 @@ abbrev pub fault_text : Option FrameFault → List ℕ
 fault_text (Some fault) = refusal_text fault
 fault_text None = []
 
--- Behind the bytes `done`, which were messages and what was held, came further ones: more messages, this text, and what is
--- held now. Where that is a fault the rest was not looked at.
-pub record IsStreamed (done bytes : List ℕ) (before : List (List ℕ)) (stock : Stock) (text now : List ℕ) : Type 0 where
+-- Behind the bytes `done`, which were messages and what was held, came further ones: more messages, this text, the records
+-- and what is held now. Where that is a fault the rest was not looked at.
+pub record IsStreamed (done bytes : List ℕ) (before : List (List ℕ)) (stock : Stock) (text : List ℕ) (after : StreamState) : Type 0 where
   pub more : List (List ℕ)
   pub unread : List ℕ
-  pub stream : Stream (done ++ bytes) (before ++ more) (now ++ unread)
-  pub fault : fault_in (now ++ unread) ≡ fault_in now
-  pub all_read : fault_in now ≡ None → unread ≡ []
-  pub texts : text ≡ replies_text stock more ++ fault_text (fault_in now)
+  pub stream : Stream (done ++ bytes) (before ++ more) (after.1 ++ unread)
+  pub fault : fault_in (after.1 ++ unread) ≡ fault_in after.1
+  pub all_read : fault_in after.1 ≡ None → unread ≡ []
+  pub texts : text ≡ replies_text stock more ++ fault_text (fault_in after.1)
+  pub records : after.0 ≡ records_behind stock more
 
 -- the same text, and the same held
-retold : (done bytes : List ℕ) (before : List (List ℕ)) (stock : Stock) (text now text' now' : List ℕ) → text' ≡ text → now' ≡ now
+retold : (done bytes : List ℕ) (before : List (List ℕ)) (stock : Stock) (text text' : List ℕ) (now now' : StreamState) → text' ≡ text → now' ≡ now
     → IsStreamed done bytes before stock text now → IsStreamed done bytes before stock text' now'
-retold done bytes before stock text now text' now' p q is =
-    subst (λ t. IsStreamed done bytes before stock t now') (sym p) (subst (λ h. IsStreamed done bytes before stock text h) (sym q) is)
+retold done bytes before stock text text' now now' p q is =
+    subst (λ t. IsStreamed done bytes before stock t now') (sym p) (subst (λ s. IsStreamed done bytes before stock text s) (sym q) is)
 
 -- the bytes of before and those behind them, cut at another place
-recut : (done bytes more : List ℕ) (before : List (List ℕ)) (stock : Stock) (text now : List ℕ)
+recut : (done bytes more : List ℕ) (before : List (List ℕ)) (stock : Stock) (text : List ℕ) (now : StreamState)
     → IsStreamed (done ++ bytes) more before stock text now → IsStreamed done (bytes ++ more) before stock text now
 recut done bytes more before stock text now is = record {
   more = is.more;
   unread = is.unread;
-  stream = subst (λ d. Stream d (before ++ is.more) (now ++ is.unread)) (append_assoc done bytes more) is.stream;
+  stream = subst (λ d. Stream d (before ++ is.more) (now.1 ++ is.unread)) (append_assoc done bytes more) is.stream;
   fault = is.fault;
   all_read = is.all_read;
   texts = is.texts;
+  records = is.records;
 }
 
 -- a message was handed over before
-one_before : (done bytes : List ℕ) (before : List (List ℕ)) (m : List ℕ) (stock : Stock) (text now : List ℕ)
+one_before : (done bytes : List ℕ) (before : List (List ℕ)) (m : List ℕ) (stock : Stock) (text : List ℕ) (now : StreamState)
     → IsStreamed done bytes (before ++ m ∷ []) (stock_after stock m) text now → IsStreamed done bytes before stock (reply_text stock m ++ text) now
 one_before done bytes before m stock text now is = record {
   more = m ∷ is.more;
   unread = is.unread;
-  stream = subst (λ ms. Stream (done ++ bytes) ms (now ++ is.unread)) (append_assoc before (m ∷ []) is.more) is.stream;
+  stream = subst (λ ms. Stream (done ++ bytes) ms (now.1 ++ is.unread)) (append_assoc before (m ∷ []) is.more) is.stream;
   fault = is.fault;
   all_read = is.all_read;
-  texts = ap (λ t. reply_text stock m ++ t) is.texts ∙ sym (append_assoc (reply_text stock m) (replies_text (stock_after stock m) is.more) (fault_text (fault_in now)));
+  texts = ap (λ t. reply_text stock m ++ t) is.texts ∙ sym (append_assoc (reply_text stock m) (replies_text (stock_after stock m) is.more) (fault_text (fault_in now.1)));
+  records = is.records;
 }
 
 -- a fault: what follows is not looked at
 at_fault : (done bytes : List ℕ) (before : List (List ℕ)) (stock : Stock) (held : List ℕ) (fault : FrameFault) → fault_in held ≡ Some fault
-    → IsSoFar done before held → IsStreamed done bytes before stock (refusal_text fault) held
+    → IsSoFar done before held → IsStreamed done bytes before stock (refusal_text fault) (stock, held)
 at_fault done bytes before stock held fault is so_far =
     let stays = fault_stays held bytes fault is in
     record {
@@ -263,6 +267,7 @@ at_fault done bytes before stock held fault is so_far =
       fault = stays.0 ∙ sym is;
       all_read = λ lawful. absurd (some_none (sym is ∙ lawful));
       texts = ap fault_text (sym is);
+      records = refl;
     }
   where
     some_none : Some fault ≡ None → ⊥
@@ -270,7 +275,7 @@ at_fault done bytes before stock held fault is so_far =
 
 -- no byte came
 no_byte : (done : List ℕ) (before : List (List ℕ)) (stock : Stock) (held : List ℕ) → fault_in held ≡ None → BeginsWithNoMessage held
-    → IsSoFar done before held → IsStreamed done [] before stock [] held
+    → IsSoFar done before held → IsStreamed done [] before stock [] (stock, held)
 no_byte done before stock held lawful none so_far = record {
   more = [];
   unread = [];
@@ -278,10 +283,11 @@ no_byte done before stock held lawful none so_far = record {
   fault = ap fault_in (append-nil held);
   all_read = λ _. refl;
   texts = ap fault_text (sym lawful);
+  records = refl;
 }
 
 pub is_streamed : (done : List ℕ) (before : List (List ℕ)) (stock : Stock) (held bytes : List ℕ) → fault_in held ≡ None → BeginsWithNoMessage held
-    → IsSoFar done before held → IsStreamed done bytes before stock (piece_text (stock, held) bytes) (piece_behind (stock, held) bytes).1
+    → IsSoFar done before held → IsStreamed done bytes before stock (piece_text (stock, held) bytes) (piece_behind (stock, held) bytes)
 is_streamed done before stock held [] lawful none so_far = no_byte done before stock held lawful none so_far
 is_streamed done before stock held (b ∷ bytes) lawful none so_far = split (fault_in h) refl (eqb (length h) (needed h)) refl
     (is_streamed (done ++ b ∷ []) (before ++ h ∷ []) (stock_after stock h) [] bytes (fault_short [] (omega arith)) nothing_waits)
@@ -294,33 +300,33 @@ is_streamed done before stock held (b ∷ bytes) lawful none so_far = split (fau
     took = so_far_took done before held (b ∷ []) so_far
 
     Goal : Type 0
-    Goal = IsStreamed done (b ∷ bytes) before stock (piece_text (stock, held) (b ∷ bytes)) (piece_behind (stock, held) (b ∷ bytes)).1
+    Goal = IsStreamed done (b ∷ bytes) before stock (piece_text (stock, held) (b ∷ bytes)) (piece_behind (stock, held) (b ∷ bytes))
 
     split : (o : Option FrameFault) → fault_in h ≡ o → (whole : Bool) → eqb (length h) (needed h) ≡ whole
         → (IsSoFar (done ++ b ∷ []) (before ++ h ∷ []) []
-        → IsStreamed (done ++ b ∷ []) bytes (before ++ h ∷ []) (stock_after stock h) (piece_text (stock_after stock h, []) bytes) (piece_behind (stock_after stock h, []) bytes).1)
+        → IsStreamed (done ++ b ∷ []) bytes (before ++ h ∷ []) (stock_after stock h) (piece_text (stock_after stock h, []) bytes) (piece_behind (stock_after stock h, []) bytes))
         → (fault_in h ≡ None → BeginsWithNoMessage h → IsSoFar (done ++ b ∷ []) before h
-        → IsStreamed (done ++ b ∷ []) bytes before stock (piece_text (stock, h) bytes) (piece_behind (stock, h) bytes).1)
+        → IsStreamed (done ++ b ∷ []) bytes before stock (piece_text (stock, h) bytes) (piece_behind (stock, h) bytes))
         → Goal
     split (Some fault) now whole size handed waits =
         let made = byte_made stock held b (Some fault) whole lawful now size in
         let over = stays_over (stock, h) bytes (ap is_some now) in
-        recut done (b ∷ []) bytes before stock _ _ (retold (done ++ b ∷ []) bytes before stock (refusal_text fault) h _ _
+        recut done (b ∷ []) bytes before stock _ _ (retold (done ++ b ∷ []) bytes before stock (refusal_text fault) _ (stock, h) _
         (ap (λ t. t ++ piece_text (byte_behind (stock, held) b) bytes) made.0 ∙ ap (λ s. refusal_text fault ++ piece_text s bytes) made.1 ∙ ap (λ t. refusal_text fault ++ t) over.0 ∙ append-nil (refusal_text fault))
-        (ap (λ s. (piece_behind s bytes).1) made.1 ∙ ap (λ s. s.1) over.1)
+        (ap (λ s. piece_behind s bytes) made.1 ∙ over.1)
         (at_fault (done ++ b ∷ []) bytes before stock h fault now took))
     split None now true size handed waits =
         let made = byte_made stock held b None true lawful now size in
         recut done (b ∷ []) bytes before stock _ _ (retold (done ++ b ∷ []) bytes before stock _ _ _ _
         (ap (λ t. t ++ piece_text (byte_behind (stock, held) b) bytes) made.0 ∙ ap (λ s. reply_text stock h ++ piece_text s bytes) made.1)
-        (ap (λ s. (piece_behind s bytes).1) made.1)
+        (ap (λ s. piece_behind s bytes) made.1)
         (one_before (done ++ b ∷ []) bytes before h stock _ _ (handed (so_far_handed (done ++ b ∷ []) before h took (message_whole h now (eqb-true _ _ size))))))
     split None now false size handed waits =
         let made = byte_made stock held b None false lawful now size in
         let ready = longer_waits held b none (λ whole. true≢false (sym (eq-eqb _ _ (message_size h whole)) ∙ size)) in
         recut done (b ∷ []) bytes before stock _ _ (retold (done ++ b ∷ []) bytes before stock _ _ _ _
         (ap (λ t. t ++ piece_text (byte_behind (stock, held) b) bytes) made.0 ∙ ap (λ s. piece_text s bytes) made.1)
-        (ap (λ s. (piece_behind s bytes).1) made.1)
+        (ap (λ s. piece_behind s bytes) made.1)
         (waits now ready took))
 
 -- ---- the lines of the input
@@ -422,37 +428,88 @@ not_over : (o : Option FrameFault) (left : ℕ) → is_refusal (ended o left) �
 not_over (Some fault) left none = absurd (true≢false none)
 not_over None left none = refl
 
-told : (b : Bool) (P : Type 0) → b ≡ false → Unless b P → P
-told true P not is = absurd (true≢false not)
-told false P not is = is
+-- behind a fault no line changes anything
+over_moved : (s : StreamState) (lines : List (List ℕ)) → is_over s ≡ true → lines_behind piece_behind s lines ≡ s
+over_moved s lines over = lines_moved s lines ∙ (stays_over s (pieces_of lines) over).1
 
-and_false : (a b : Bool) → b ≡ false → (a && b) ≡ false
-and_false true b is = is
-and_false false b is = refl
+-- the lines that are read, and where all are
+reads_all : (s : StreamState) (lines : List (List ℕ)) → is_over (lines_behind piece_behind s (lines_read piece_behind is_over s lines)) ≡ false
+    → lines_read piece_behind is_over s lines ≡ lines
+reads_all s [] not = refl
+reads_all s (line ∷ lines) not = split (is_over after) refl (reads_all after lines)
+  where
+    after : StreamState
+    after = behind_saying piece_behind s (saying_of line)
 
-answered_whole : (read : Option (List ℕ)) (outcome : StreamOutcome) (state : StreamState) (old mid new : Option (List ℕ))
-    → IfSome read (λ input. Unless (is_over state && has_refused (λ _. false) input) (Appends old mid (input_text piece_text piece_behind (first_stock, []) input)))
-    → IfSome read (λ input. state ≡ input_behind piece_behind (first_stock, []) input)
-    → IfSome read (λ input. Unless (is_over state) (outcome.has_refused ≡ has_refused (λ _. false) input))
+    split : (b : Bool) → is_over after ≡ b → (is_over (lines_behind piece_behind after (lines_read piece_behind is_over after lines)) ≡ false → lines_read piece_behind is_over after lines ≡ lines)
+        → lines_read piece_behind is_over s (line ∷ lines) ≡ line ∷ lines
+    split true is later =
+        let read = read_on piece_behind is_over s after line line lines true refl refl is in
+        absurd (true≢false (sym is ∙ sym (ap (λ l. is_over (lines_behind piece_behind s l)) read) ∙ not))
+    split false is later =
+        let read = read_on piece_behind is_over s after line line lines false refl refl is in
+        read ∙ ap (λ l. line ∷ l) (later (sym (ap (λ l. is_over (lines_behind piece_behind s l)) read) ∙ not))
+
+-- where no line is refused, the lines that are not read would change nothing
+read_moved : (s : StreamState) (lines : List (List ℕ)) → lines_behind piece_behind s (lines_read piece_behind is_over s lines) ≡ lines_behind piece_behind s lines
+read_moved s [] = refl
+read_moved s (line ∷ lines) = split (is_over after) refl (read_moved after lines)
+  where
+    after : StreamState
+    after = behind_saying piece_behind s (saying_of line)
+
+    split : (b : Bool) → is_over after ≡ b → lines_behind piece_behind after (lines_read piece_behind is_over after lines) ≡ lines_behind piece_behind after lines
+        → lines_behind piece_behind s (lines_read piece_behind is_over s (line ∷ lines)) ≡ lines_behind piece_behind s (line ∷ lines)
+    split true is later = ap (lines_behind piece_behind s) (read_on piece_behind is_over s after line line lines true refl refl is) ∙ sym (over_moved after lines is)
+    split false is later = ap (lines_behind piece_behind s) (read_on piece_behind is_over s after line line lines false refl refl is) ∙ later
+
+read_written : (s : StreamState) (lines : List (List ℕ)) → are_refused (λ _. false) lines ≡ false
+    → lines_text piece_text piece_behind s (lines_read piece_behind is_over s lines) ≡ lines_text piece_text piece_behind s lines
+read_written s [] none = refl
+read_written s (line ∷ lines) none = split (is_over after) refl (read_written after lines (none_first _ _ none).1)
+  where
+    after : StreamState
+    after = behind_saying piece_behind s (saying_of line)
+
+    here : List ℕ
+    here = saying_text piece_text s (saying_of line)
+
+    split : (b : Bool) → is_over after ≡ b
+        → lines_text piece_text piece_behind after (lines_read piece_behind is_over after lines) ≡ lines_text piece_text piece_behind after lines
+        → lines_text piece_text piece_behind s (lines_read piece_behind is_over s (line ∷ lines)) ≡ lines_text piece_text piece_behind s (line ∷ lines)
+    split true is later =
+        ap (lines_text piece_text piece_behind s) (read_on piece_behind is_over s after line line lines true refl refl is)
+        ∙ ap (λ t. here ++ t) (sym (lines_written after lines (none_first _ _ none).1 ∙ (stays_over after (pieces_of lines) is).0))
+    split false is later =
+        ap (lines_text piece_text piece_behind s) (read_on piece_behind is_over s after line line lines false refl refl is) ∙ ap (λ t. here ++ t) later
+
+-- the first state, and the lines that are read from it
+abbrev start : StreamState
+start = (first_stock, [])
+
+answered_whole : (input : List ℕ) (outcome : StreamOutcome) (state : StreamState) (old mid new : Option (List ℕ))
+    → Appends old mid (lines_text piece_text piece_behind start (lines_read piece_behind is_over start (lines_of input)))
+    → state ≡ lines_behind piece_behind start (lines_read piece_behind is_over start (lines_of input))
+    → outcome.has_refused ≡ are_refused (λ _. false) (lines_read piece_behind is_over start (lines_of input))
     → outcome.end ≡ end_of state.1 → Appends mid new (tail_text outcome.end)
-    → IfSome read (λ input. IsAnswered input outcome old new)
-answered_whole None outcome state old mid new written state_is refused_is end_is tail = tt
-answered_whole (Some input) outcome state old mid new written state_is refused_is end_is tail =
+    → IsAnswered input outcome old new
+answered_whole input outcome state old mid new written state_is refused_is end_is tail =
     let bytes = stream_of input in
     let run = is_streamed [] [] first_stock [] bytes (fault_short [] (omega arith)) nothing_waits nothing_so_far in
     let held : List ℕ = (piece_behind (first_stock, []) bytes).1 in
-    let here : state.1 ≡ held = ap (λ s. s.1) (state_is ∙ lines_moved (first_stock, []) (lines_of input)) in
+    let here : state.1 ≡ held = ap (λ s. s.1) (state_is ∙ read_moved (first_stock, []) (lines_of input) ∙ lines_moved (first_stock, []) (lines_of input)) in
     record {
       messages = run.more;
       rest = held ++ run.unread;
       stream = run.stream;
       end = end_is ∙ ap end_of here ∙ same_end held run.unread run.fault run.all_read;
-      lines = λ none. told _ _ (not_over (fault_in state.1) (length state.1) (ap is_refusal (sym end_is) ∙ none)) refused_is;
+      lines = λ none.
+          let not = not_over (fault_in state.1) (length state.1) (ap is_refusal (sym end_is) ∙ none) in
+          refused_is ∙ ap (are_refused (λ _. false)) (reads_all start (lines_of input) (ap is_over (sym state_is) ∙ not));
       text = λ none.
-          let lines = told _ _ (and_false (is_over state) _ none) written in
-          let all : input_text piece_text piece_behind (first_stock, []) input ≡ replies_text first_stock run.more ++ fault_text (fault_in held) =
-          lines_written (first_stock, []) (lines_of input) none ∙ run.texts in
-          let both = Appends-trans old mid new _ (tail_text outcome.end) (subst (Appends old mid) all lines) tail in
+          let all : lines_text piece_text piece_behind start (lines_read piece_behind is_over start (lines_of input)) ≡ replies_text first_stock run.more ++ fault_text (fault_in held) =
+          read_written start (lines_of input) none ∙ lines_written (first_stock, []) (lines_of input) none ∙ run.texts in
+          let both = Appends-trans old mid new _ (tail_text outcome.end) (subst (Appends old mid) all written) tail in
           let ends : outcome.end ≡ ended (fault_in held) (length held) = end_is ∙ ap end_of here in
           subst (Appends old new)
           (append_assoc (replies_text first_stock run.more) (fault_text (fault_in held)) (tail_text outcome.end)
@@ -462,19 +519,150 @@ answered_whole (Some input) outcome state old mid new written state_is refused_i
           both;
     }
 
+-- ---- every input, line by line
+
+-- what is to be shown of lines that are told
+abbrev Told : List (List ℕ) → Type 0
+Told lines = (s : StreamState) (text : List ℕ) (end : StreamEnd) (refused : Bool)
+    → text ≡ lines_text piece_text piece_behind s (lines_read piece_behind is_over s lines) ++ tail_text end
+    → end ≡ end_of (lines_behind piece_behind s (lines_read piece_behind is_over s lines)).1
+    → refused ≡ are_refused (λ _. false) (lines_read piece_behind is_over s lines)
+    → fault_in s.1 ≡ None → BeginsWithNoMessage s.1 → AreTold lines s.0 s.1 text end refused
+
+-- a line that changes nothing does not end the command
+reads_on : (s : StreamState) (lines more : List (List ℕ)) → fault_in s.1 ≡ None
+    → more ≡ cond (is_over s) [] (lines_read piece_behind is_over s lines) → more ≡ lines_read piece_behind is_over s lines
+reads_on s lines more lawful is = is ∙ ap (λ o. cond (is_some o) [] (lines_read piece_behind is_over s lines)) lawful
+
+passed_over : (why : List ℕ) (lines : List (List ℕ)) → Told lines → (s : StreamState) (text : List ℕ) (end : StreamEnd) (refused : Bool) (more : List (List ℕ))
+    → text ≡ (why ++ lines_text piece_text piece_behind s more) ++ tail_text end → end ≡ end_of (lines_behind piece_behind s more).1 → refused ≡ true
+    → more ≡ lines_read piece_behind is_over s lines → fault_in s.1 ≡ None → BeginsWithNoMessage s.1
+    → IsPassedOver why (AreTold lines) s.0 s.1 text end refused
+passed_over why lines later s text end refused more text_is end_is refused_is more_is lawful none = record {
+  more = lines_text piece_text piece_behind s more ++ tail_text end;
+  others = are_refused (λ _. false) more;
+  text_is = text_is ∙ append_assoc why (lines_text piece_text piece_behind s more) (tail_text end);
+  is_refused = refused_is;
+  behind = later s _ end _ (ap (λ l. lines_text piece_text piece_behind s l ++ tail_text end) more_is) (end_is ∙ ap (λ l. end_of (lines_behind piece_behind s l).1) more_is) (ap (are_refused (λ _. false)) more_is) lawful none;
+}
+
+-- a piece, and the lines behind it
+taken_piece : (piece : List ℕ) (lines : List (List ℕ)) → Told lines → (s : StreamState) (text : List ℕ) (end : StreamEnd) (refused : Bool) (more : List (List ℕ))
+    → text ≡ (piece_text s piece ++ lines_text piece_text piece_behind (piece_behind s piece) more) ++ tail_text end
+    → end ≡ end_of (lines_behind piece_behind (piece_behind s piece) more).1 → refused ≡ are_refused (λ _. false) more
+    → more ≡ cond (is_over (piece_behind s piece)) [] (lines_read piece_behind is_over (piece_behind s piece) lines)
+    → fault_in s.1 ≡ None → BeginsWithNoMessage s.1 → IsTaken piece (AreTold lines) s.0 s.1 text end refused
+taken_piece piece lines later s text end refused more text_is end_is refused_is more_is lawful none =
+    record {
+      messages = run.more;
+      rest = after.1 ++ run.unread;
+      more = fault_text (fault_in after.1) ++ (lines_text piece_text piece_behind after more ++ tail_text end);
+      stream = run.stream;
+      text_is =
+          text_is ∙ ap (λ t. (t ++ lines_text piece_text piece_behind after more) ++ tail_text end) run.texts
+          ∙ four (replies_text s.0 run.more) (fault_text (fault_in after.1)) (lines_text piece_text piece_behind after more) (tail_text end);
+      behind = split (fault_in after.1) refl;
+    }
+  where
+    after : StreamState
+    after = piece_behind s piece
+
+    run : IsStreamed s.1 piece [] s.0 (piece_text s piece) after
+    run = is_streamed s.1 [] s.0 s.1 piece lawful none (record { whole = refl; each = tt })
+
+    four : (a b c d : List ℕ) → ((a ++ b) ++ c) ++ d ≡ a ++ (b ++ (c ++ d))
+    four a b c d = simp append_assoc
+
+    split : (o : Option FrameFault) → fault_in after.1 ≡ o
+        → GoesOn (fault_in (after.1 ++ run.unread)) (AreTold lines) (records_behind s.0 run.more) (after.1 ++ run.unread)
+        (fault_text (fault_in after.1) ++ (lines_text piece_text piece_behind after more ++ tail_text end)) end refused
+    split (Some fault) is =
+        let none_more : more ≡ [] = more_is ∙ ap (λ o. cond (is_some o) [] (lines_read piece_behind is_over after lines)) is in
+        let refuses : end ≡ Refused fault = end_is ∙ ap (λ l. end_of (lines_behind piece_behind after l).1) none_more ∙ ap (λ o. ended o (length after.1)) is in
+        subst (λ o. GoesOn o (AreTold lines) (records_behind s.0 run.more) (after.1 ++ run.unread) (fault_text (fault_in after.1) ++ (lines_text piece_text piece_behind after more ++ tail_text end)) end refused)
+        (sym (run.fault ∙ is)) (
+          ap (λ o. fault_text o ++ (lines_text piece_text piece_behind after more ++ tail_text end)) is
+              ∙ ap (λ l. refusal_text fault ++ (lines_text piece_text piece_behind after l ++ tail_text end)) none_more
+              ∙ ap (λ e. refusal_text fault ++ tail_text e) refuses
+              ∙ append-nil (refusal_text fault),
+          refuses,
+          refused_is ∙ ap (are_refused (λ _. false)) none_more,
+        )
+    split None is =
+        let all : more ≡ lines_read piece_behind is_over after lines = reads_on after lines more is more_is in
+        let nothing_left : after.1 ++ run.unread ≡ after.1 = ap (λ u. after.1 ++ u) (run.all_read is) ∙ append-nil after.1 in
+        let text_here : fault_text (fault_in after.1) ++ (lines_text piece_text piece_behind after more ++ tail_text end)
+        ≡ lines_text piece_text piece_behind after (lines_read piece_behind is_over after lines) ++ tail_text end =
+        ap (λ o. fault_text o ++ (lines_text piece_text piece_behind after more ++ tail_text end)) is ∙ ap (λ l. lines_text piece_text piece_behind after l ++ tail_text end) all in
+        let told = later after _ end refused text_here (end_is ∙ ap (λ l. end_of (lines_behind piece_behind after l).1) all) (refused_is ∙ ap (are_refused (λ _. false)) all) is (stays_ready s piece none) in
+        subst (λ o. GoesOn o (AreTold lines) (records_behind s.0 run.more) (after.1 ++ run.unread) (fault_text (fault_in after.1) ++ (lines_text piece_text piece_behind after more ++ tail_text end)) end refused)
+        (sym (run.fault ∙ is))
+        (subst (λ r. AreTold lines r (after.1 ++ run.unread) (fault_text (fault_in after.1) ++ (lines_text piece_text piece_behind after more ++ tail_text end)) end refused) run.records
+        (subst (λ h. AreTold lines after.0 h (fault_text (fault_in after.1) ++ (lines_text piece_text piece_behind after more ++ tail_text end)) end refused) (sym nothing_left) told))
+
+-- a line, by what it says
+told_line : (y : Saying) (lines : List (List ℕ)) → Told lines → (s : StreamState) (text : List ℕ) (end : StreamEnd) (refused : Bool) (more : List (List ℕ))
+    → text ≡ (saying_text piece_text s y ++ lines_text piece_text piece_behind (behind_saying piece_behind s y) more) ++ tail_text end
+    → end ≡ end_of (lines_behind piece_behind (behind_saying piece_behind s y) more).1
+    → refused ≡ (is_refused (λ _. false) y || are_refused (λ _. false) more)
+    → more ≡ cond (is_over (behind_saying piece_behind s y)) [] (lines_read piece_behind is_over (behind_saying piece_behind s y) lines)
+    → fault_in s.1 ≡ None → BeginsWithNoMessage s.1 → IsTold y (AreTold lines) s.0 s.1 text end refused
+told_line nothing lines later s text end refused more text_is end_is refused_is more_is lawful none =
+    let all = reads_on s lines more lawful more_is in
+    later s text end refused (text_is ∙ ap (λ l. lines_text piece_text piece_behind s l ++ tail_text end) all) (end_is ∙ ap (λ l. end_of (lines_behind piece_behind s l).1) all) (refused_is ∙ ap (are_refused (λ _. false)) all) lawful none
+told_line too_long lines later s text end refused more text_is end_is refused_is more_is lawful none =
+    passed_over (codes "refused: length\n") lines later s text end refused more text_is end_is refused_is (reads_on s lines more lawful more_is) lawful none
+told_line no_hex lines later s text end refused more text_is end_is refused_is more_is lawful none =
+    passed_over (codes "refused: hex\n") lines later s text end refused more text_is end_is refused_is (reads_on s lines more lawful more_is) lawful none
+told_line (message piece) lines later s text end refused more text_is end_is refused_is more_is lawful none =
+    taken_piece piece lines later s text end refused more text_is end_is refused_is more_is lawful none
+
+are_told : (lines : List (List ℕ)) → Told lines
+are_told [] s text end refused text_is end_is refused_is lawful none = (
+  text_is ∙ ap tail_text end_is ∙ sym (ap (λ o. fault_text o ++ tail_text (end_of s.1)) lawful) ∙ both_texts (fault_in s.1) (length s.1) ∙ ap end_text (sym end_is),
+  end_is,
+  refused_is,
+)
+are_told (line ∷ lines) s text end refused text_is end_is refused_is lawful none =
+    let y = saying_of line in
+    let after = behind_saying piece_behind s y in
+    let more = cond (is_over after) [] (lines_read piece_behind is_over after lines) in
+    told_line y lines (are_told lines) s text end refused more text_is end_is refused_is refl lawful none
+
+pub stream_written : (read : Option (List ℕ)) (outcome : StreamOutcome) (stock : Stock) (held : List ℕ) (state : StreamState) (old mid new : Option (List ℕ))
+    → (stock ≡ first_stock) × (held ≡ [])
+    → IfSome read (λ input. Appends old mid (lines_text piece_text piece_behind (stock, held) (lines_read piece_behind is_over (stock, held) (lines_of input))))
+    → IfSome read (λ input. state ≡ lines_behind piece_behind (stock, held) (lines_read piece_behind is_over (stock, held) (lines_of input)))
+    → IfSome read (λ input. outcome.has_refused ≡ are_refused (λ _. false) (lines_read piece_behind is_over (stock, held) (lines_of input)))
+    → outcome.end ≡ end_of state.1 → Appends mid new (tail_text outcome.end)
+    → IfSome read (λ input. IsWritten input outcome old new)
+stream_written None outcome stock held state old mid new first written state_is refused_is end_is tail = tt
+stream_written (Some input) outcome stock held state old mid new first written state_is refused_is end_is tail =
+    let s : StreamState = (stock, held) in
+    let text = lines_text piece_text piece_behind s (lines_read piece_behind is_over s (lines_of input)) ++ tail_text outcome.end in
+    let lawful = ap fault_in first.1 ∙ fault_short [] (omega arith) in
+    let told = are_told (lines_of input) s text outcome.end outcome.has_refused refl (end_is ∙ ap (λ x. end_of x.1) state_is) refused_is lawful (subst BeginsWithNoMessage (sym first.1) nothing_waits) in
+    record {
+      text = text;
+      written = Appends-trans old mid new _ (tail_text outcome.end) written tail;
+      told = subst (λ h. AreTold (lines_of input) first_stock h text outcome.end outcome.has_refused) first.1 (subst (λ r. AreTold (lines_of input) r held text outcome.end outcome.has_refused) first.0 told);
+    }
+
 pub stream_answered : (read : Option (List ℕ)) (outcome : StreamOutcome) (stock : Stock) (held : List ℕ) (state : StreamState) (old mid new : Option (List ℕ))
     → (stock ≡ first_stock) × (held ≡ [])
-    → IfSome read (λ input. Unless (is_over state && has_refused (λ _. false) input) (Appends old mid (input_text piece_text piece_behind (stock, held) input)))
-    → IfSome read (λ input. state ≡ input_behind piece_behind (stock, held) input)
-    → IfSome read (λ input. Unless (is_over state) (outcome.has_refused ≡ has_refused (λ _. false) input))
+    → IfSome read (λ input. Appends old mid (lines_text piece_text piece_behind (stock, held) (lines_read piece_behind is_over (stock, held) (lines_of input))))
+    → IfSome read (λ input. state ≡ lines_behind piece_behind (stock, held) (lines_read piece_behind is_over (stock, held) (lines_of input)))
+    → IfSome read (λ input. outcome.has_refused ≡ are_refused (λ _. false) (lines_read piece_behind is_over (stock, held) (lines_of input)))
     → outcome.end ≡ end_of state.1 → Appends mid new (tail_text outcome.end)
     → IfSome read (λ input. IsAnswered input outcome old new)
-stream_answered read outcome stock held state old mid new first written state_is refused_is end_is tail =
-    let is : (stock, held) ≡ (first_stock, []) = ap (λ s. (s, held)) first.0 ∙ ap (λ h. (first_stock, h)) first.1 in
-    answered_whole read outcome state old mid new
-    (subst (λ (s : StreamState). IfSome read (λ input. Unless (is_over state && has_refused (λ _. false) input) (Appends old mid (input_text piece_text piece_behind s input)))) is written)
-    (subst (λ (s : StreamState). IfSome read (λ input. state ≡ input_behind piece_behind s input)) is state_is)
-    refused_is end_is tail
+stream_answered None outcome stock held state old mid new first written state_is refused_is end_is tail = tt
+stream_answered (Some input) outcome stock held state old mid new first written state_is refused_is end_is tail =
+    let is : (stock, held) ≡ start = ap (λ r. (r, held)) first.0 ∙ ap (λ h. (first_stock, h)) first.1 in
+    answered_whole input outcome state old mid new
+    (subst (λ (s : StreamState). Appends old mid (lines_text piece_text piece_behind s (lines_read piece_behind is_over s (lines_of input)))) is written)
+    (subst (λ (s : StreamState). state ≡ lines_behind piece_behind s (lines_read piece_behind is_over s (lines_of input))) is state_is)
+    (subst (λ (s : StreamState). outcome.has_refused ≡ are_refused (λ _. false) (lines_read piece_behind is_over s (lines_of input))) is refused_is)
+    end_is tail
 
 -- where nothing was refused and the stream is whole, it is messages to its end
 whole_rest : (rest : List ℕ) (o : Option FrameFault) → is_whole_end (ended o (length rest)) ≡ true → rest ≡ []

@@ -1,7 +1,7 @@
 -- What a command writes for the lines of its input, where `text` is what it writes for a message and
 -- `behind` the state that a message leaves it in.
 -- Source: own: what the program prints.
-use Rattle.std.specs.Prelude.{ℕ, Bool, true, false, List, [], ◌∷◌, ◌++◌, codes}
+use Rattle.std.specs.Prelude.{ℕ, Bool, if◌then◌else◌, List, [], ◌∷◌, ◌++◌, codes}
 use Rattle.kmip_commands.specs.Judging.{Saying, nothing, too_long, no_hex, message, saying_of}
 use Rattle.kmip_commands.specs.Lines.{lines_of}
 
@@ -29,15 +29,13 @@ lines_text text behind state (line ∷ lines) =
 abbrev pub input_text : {S : Type 0} → (S → List ℕ → List ℕ) → (S → List ℕ → S) → S → List ℕ → List ℕ
 input_text text behind state input = lines_text text behind state (lines_of input)
 
--- the state behind lines, and behind the whole input
+-- the state behind lines
 abbrev pub lines_behind : {S : Type 0} → (S → List ℕ → S) → S → List (List ℕ) → S
 lines_behind behind state [] = state
 lines_behind behind state (line ∷ lines) = lines_behind behind (behind_saying behind state (saying_of line)) lines
 
-abbrev pub input_behind : {S : Type 0} → (S → List ℕ → S) → S → List ℕ → S
-input_behind behind state input = lines_behind behind state (lines_of input)
-
--- a promise, unless something is the case
-abbrev pub Unless : Bool → Type 0 → Type 0
-Unless true P = Unit {0}
-Unless false P = P
+-- the lines that are read: up to the first behind which the command is over
+abbrev pub lines_read : {S : Type 0} → (S → List ℕ → S) → (S → Bool) → S → List (List ℕ) → List (List ℕ)
+lines_read behind over state [] = []
+lines_read behind over state (line ∷ lines) =
+    line ∷ (if over (behind_saying behind state (saying_of line)) then [] else lines_read behind over (behind_saying behind state (saying_of line)) lines)

@@ -75,6 +75,55 @@ is_whole_end (Refused fault) = false
 abbrev pub is_whole : StreamOutcome → Bool
 is_whole outcome = not outcome.has_refused && is_whole_end outcome.end
 
+-- the records behind messages in turn
+abbrev pub records_behind : Stock → List (List ℕ) → Stock
+records_behind stock [] = stock
+records_behind stock (m ∷ messages) = records_behind (stock_after stock m) messages
+
+-- what is said of lines, where the records are these and so much is held of a message: what is written, how the stream ends,
+-- and whether a line is refused
+abbrev pub Telling : Type 1
+Telling = Stock → List ℕ → List ℕ → StreamEnd → Bool → Type 0
+
+-- a refused line says why, and the stream goes on behind it
+pub record IsPassedOver (why : List ℕ) (later : Telling) (stock : Stock) (held text : List ℕ) (end : StreamEnd) (refused : Bool) : Type 0 where
+  pub more : List ℕ
+  pub others : Bool
+  pub text_is : text ≡ why ++ more
+  pub is_refused : refused ≡ true
+  pub behind : later stock held more end others
+
+-- what comes behind a piece: no line is looked at behind a fault
+abbrev pub GoesOn : Option FrameFault → Telling → Telling
+GoesOn (Some fault) later stock held text end refused = (text ≡ refusal_text fault) × (end ≡ Refused fault) × (refused ≡ false)
+GoesOn None later stock held text end refused = later stock held text end refused
+
+-- a piece is answered by the replies to the messages that are whole with it
+pub record IsTaken (piece : List ℕ) (later : Telling) (stock : Stock) (held text : List ℕ) (end : StreamEnd) (refused : Bool) : Type 0 where
+  pub messages : List (List ℕ)
+  pub rest : List ℕ
+  pub more : List ℕ
+  pub stream : Stream (held ++ piece) messages rest
+  pub text_is : text ≡ replies_text stock messages ++ more
+  pub behind : GoesOn (fault_in rest) later (records_behind stock messages) rest more end refused
+
+abbrev pub IsTold : Saying → Telling → Telling
+IsTold nothing later = later
+IsTold too_long later = IsPassedOver (codes "refused: length\n") later
+IsTold no_hex later = IsPassedOver (codes "refused: hex\n") later
+IsTold (message piece) later = IsTaken piece later
+
+-- the lines one after the other, and behind the last the end of the stream
+abbrev pub AreTold : List (List ℕ) → Telling
+AreTold [] stock held text end refused = (text ≡ end_text end) × (end ≡ end_of held) × (refused ≡ false)
+AreTold (line ∷ lines) stock held text end refused = IsTold (saying_of line) (AreTold lines) stock held text end refused
+
+-- what was written, and what is said of the stream, are those of the lines of the input
+pub record IsWritten (input : List ℕ) (outcome : StreamOutcome) (old new : Option (List ℕ)) : Type 0 where
+  pub text : List ℕ
+  pub written : Appends old new text
+  pub told : AreTold (lines_of input) first_stock [] text outcome.end outcome.has_refused
+
 -- The stream was answered: what is left of it says how it ends, and where no line is refused the replies to its messages
 -- and the line of its end are all that was written.
 pub record IsAnswered (input : List ℕ) (outcome : StreamOutcome) (old new : Option (List ℕ)) : Type 0 where

@@ -1,7 +1,6 @@
 //! The command `answer`: each line of its input is a message in hexadecimal, and each reply of one
 //! server a line of its output.
 ghost use Rattle.std.specs.Prelude.{◌≡◌, false, IfOk, OnOk, IfSome};
-ghost use Rattle.std.proofs.Common.{true≢false, sym};
 ghost use Rattle.std.specs.Io.KnownBytes.{Appends};
 ghost use Rattle.kmip_store.specs.Stock.{Stock};
 ghost use Rattle.kmip_server.specs.Serving.{stock_after};
@@ -103,8 +102,6 @@ impl Respond for Answerer {
     ghost IsReady = { λ _. Unit {0} };
 
     ghost stays_ready = { λ _ _ ready. ready };
-
-    ghost stays_over = { λ _ _ over. absurd (true≢false (sym over)) };
 
     fn respond<W: Write>(
         &mut self,

@@ -1,9 +1,10 @@
 //! The loop over the lines of a command's input.
-ghost use Rattle.std.specs.Prelude.{◌≡◌, ◌&&◌, true, [], ℕ, List, Bool, IfOk, OnOk, IfSome};
+ghost use Rattle.std.specs.Prelude.{◌≡◌, ℕ, List, Bool, IfOk, OnOk, IfSome};
 ghost use Rattle.std.specs.Io.KnownBytes.{Keeps, Appends};
 ghost use Rattle.kmip_commands.specs.ExitStatus.{status_of};
-ghost use Rattle.kmip_commands.specs.Judging.{has_refused, is_refused, saying_of};
-ghost use Rattle.kmip_commands.specs.LineText.{input_text, saying_text, behind_saying, input_behind, Unless};
+ghost use Rattle.kmip_commands.specs.Judging.{are_refused, is_refused, saying_of};
+ghost use Rattle.kmip_commands.specs.LineText.{saying_text, behind_saying, lines_text, lines_behind, lines_read};
+ghost use Rattle.kmip_commands.specs.Lines.{lines_of};
 
 use crate::exit_status::ExitStatus;
 use crate::fault::CommandFault;
@@ -58,9 +59,6 @@ pub(crate) trait Respond {
         ensures { result ≡ over (state self.now) };
 
     ghost stays_ready: { (s : State) (message : List ℕ) → IsReady s → IsReady (behind s message) };
-
-    ghost stays_over: { (s : State) (message : List ℕ) → over s ≡ true
-        → (text s message ≡ []) × (behind s message ≡ s) };
 }
 
 /// How the program ends after a command, whose fault is printed where there is one to print.
@@ -95,14 +93,13 @@ pub(crate) fn respond_to_lines<C: Respond, R: BufRead, W: Write>(
     writer: &mut W,
 ) -> Result<bool, CommandFault>
     requires { C.IsReady (C.state command.old) }
-    ensures text { OnOk result (IfSome (R.remaining reader.old)
-        (λ input. Unless (C.over (C.state command.new) && has_refused C.refuses input)
-        (Appends (W.contents writer.old) (W.contents writer.new)
-        (input_text C.text C.behind (C.state command.old) input)))) }
-    ensures behind { OnOk result (IfSome (R.remaining reader.old)
-        (λ input. C.state command.new ≡ input_behind C.behind (C.state command.old) input)) }
-    ensures refused { IfOk result (λ r. IfSome (R.remaining reader.old)
-        (λ input. Unless (C.over (C.state command.new)) (r ≡ has_refused C.refuses input))) }
+    ensures text { OnOk result (IfSome (R.remaining reader.old) (λ input. Appends (W.contents writer.old) (W.contents writer.new)
+        (lines_text C.text C.behind (C.state command.old)
+        (lines_read C.behind C.over (C.state command.old) (lines_of input))))) }
+    ensures behind { OnOk result (IfSome (R.remaining reader.old) (λ input. C.state command.new
+        ≡ lines_behind C.behind (C.state command.old) (lines_read C.behind C.over (C.state command.old) (lines_of input)))) }
+    ensures refused { IfOk result (λ r. IfSome (R.remaining reader.old) (λ input. r
+        ≡ are_refused C.refuses (lines_read C.behind C.over (C.state command.old) (lines_of input)))) }
 {
     let mut line = Vec::new(alloc);
     let mut has_refused = false;

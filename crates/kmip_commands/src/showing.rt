@@ -1,7 +1,6 @@
 //! The command `show`: each line of its input is an item in hexadecimal, which is printed as text, or
 //! in its one written form.
 ghost use Rattle.std.specs.Prelude.{◌≡◌, false, IfOk, IfSome, OnOk, IsSome};
-ghost use Rattle.std.proofs.Common.{true≢false, sym};
 ghost use Rattle.std.specs.Io.KnownBytes.{Appends};
 ghost use Rattle.kmip_ttlv.specs.Faults.{fault_offset};
 ghost use Rattle.kmip_ttlv.specs.Sizes.{IsWritable};
@@ -86,8 +85,6 @@ impl Respond for Shower {
     ghost IsReady = { λ _. Unit {0} };
 
     ghost stays_ready = { λ _ _ ready. ready };
-
-    ghost stays_over = { λ _ _ over. absurd (true≢false (sym over)) };
 
     fn respond<W: Write>(
         &mut self,

@@ -7,8 +7,8 @@ ghost use Rattle.kmip_frames.specs.Streams.{BeginsWithNoMessage};
 ghost use Rattle.kmip_commands.specs.declared.exit_status.ExitStatus.TheVariants.{Done};
 ghost use Rattle.kmip_commands.specs.AnswerText.{first_stock};
 ghost use Rattle.kmip_commands.specs.Bytewise.{StreamState, is_over, IsReady, piece_text, piece_behind, tail_text};
-ghost use Rattle.kmip_commands.specs.BytewiseLaws.{stays_ready, stays_over};
-ghost use Rattle.kmip_commands.specs.StreamText.{end_of, refusal_text, cut_text, is_whole, IsAnswered, IsAllAnswered};
+ghost use Rattle.kmip_commands.specs.BytewiseLaws.{stays_ready};
+ghost use Rattle.kmip_commands.specs.StreamText.{end_of, refusal_text, cut_text, is_whole, IsWritten, IsAnswered, IsAllAnswered};
 
 use crate::answering::{new_server, reply_to};
 use crate::exit_status::ExitStatus;
@@ -89,7 +89,9 @@ pub fn answer_stream<R: BufRead, W: Write>(
     reader: &mut R,
     writer: &mut W,
 ) -> Result<StreamOutcome, CommandFault>
-    ensures { IfOk result (λ outcome. IfSome (R.remaining reader.old)
+    ensures lines { IfOk result (λ outcome. IfSome (R.remaining reader.old)
+        (λ input. IsWritten input outcome (W.contents writer.old) (W.contents writer.new))) }
+    ensures stream { IfOk result (λ outcome. IfSome (R.remaining reader.old)
         (λ input. IsAnswered input outcome (W.contents writer.old) (W.contents writer.new))) }
 {
     let mut streamer = Streamer::new(alloc)?;
@@ -182,8 +184,6 @@ impl Respond for Streamer {
     ghost IsReady = { IsReady };
 
     ghost stays_ready = { stays_ready };
-
-    ghost stays_over = { stays_over };
 
     fn respond<W: Write>(
         &mut self,

@@ -1,0 +1,13 @@
+-- The command is never over: it reads all lines.
+use Rattle.std.proofs.Common.{refl}
+use Rattle.kmip_commands.specs.Showing.{is_no_item, show_text}
+use Rattle.kmip_commands.proofs.RespondingLemmas.{whole_text, whole_refused}
+use Rattle.kmip_commands.proofs.showing.show_lines.Goals as goal
+
+pub returns-clause-text : goal.returns-clause-text
+returns-clause-text g c =
+    whole_text show_text (λ form message. form) c.respond_to_lines.result _ _ _ _ _ refl c.respond_to_lines.ensures.text
+
+pub returns-clause-refused : goal.returns-clause-refused
+returns-clause-refused g c =
+    whole_refused (λ form message. form) is_no_item c.respond_to_lines.result _ _ c.respond_to_lines.ensures.refused
