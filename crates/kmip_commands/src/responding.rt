@@ -58,6 +58,7 @@ pub(crate) trait Respond {
     fn is_over(&self) -> bool
         ensures { result ≡ over (state self.now) };
 
+    /// A message leaves the command ready for the next.
     ghost stays_ready: { (s : State) (message : List ℕ) → IsReady s → IsReady (behind s message) };
 }
 
