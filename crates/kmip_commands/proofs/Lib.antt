@@ -2,3 +2,5 @@ mod CheckingLemmas
 mod RespondingLemmas
 mod LineLemmas
 mod StreamingLemmas
+mod AdvancingLemmas
+mod MessagesLemmas

@@ -1,7 +1,7 @@
 -- The three ways of an advance: a fault, a piece of a message, and a message's end.
 use Rattle.std.proofs.Common.{Ok, ◌∙◌, subst, take}
 use Rattle.kmip_frames.specs.Framing.{Hands}
-use Rattle.kmip_commands.proofs.StreamingLemmas.{advance_refused, advance_quiet, advance_answered}
+use Rattle.kmip_commands.proofs.AdvancingLemmas.{advance_refused, advance_quiet, advance_answered}
 use Rattle.kmip_commands.proofs.streaming.Streamer.advance.Goals as goal
 
 pub returns-in-Err-clause-text : goal.returns-in-Err-clause-text

@@ -1,6 +1,6 @@
 -- Each advance is one more.
 use Rattle.std.proofs.Common.{inr, sym, subst}
-use Rattle.kmip_commands.proofs.StreamingLemmas.{HasAdvanced, advanced_more, advanced_all}
+use Rattle.kmip_commands.proofs.AdvancingLemmas.{HasAdvanced, advanced_more, advanced_all}
 use Rattle.kmip_commands.proofs.streaming.StreamerRespond.respond.Goals as goal
 
 pub loop-self-preserved : goal.loop-self-preserved

@@ -1,6 +1,6 @@
 -- The bytes of a piece that are left.
 use Rattle.std.proofs.Common.{length}
-use Rattle.kmip_commands.proofs.StreamingLemmas.{HasAdvanced}
+use Rattle.kmip_commands.proofs.AdvancingLemmas.{HasAdvanced}
 use Rattle.kmip_commands.proofs.streaming.StreamerRespond.respond.Given as goal
 
 abbrev pub invariant-loop-self : goal.invariant-loop-self
