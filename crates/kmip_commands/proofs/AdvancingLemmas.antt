@@ -6,29 +6,29 @@ use Rattle.std.proofs.Math.Nat.{min_comm}
 use Rattle.std.proofs.lemmas.Bool.{cases_lt}
 use Rattle.std.proofs.lemmas.List.{length-append, take_at, take_min, take-append-drop}
 use Rattle.kmip_frames.specs.declared.fault.FrameFault.{FrameFault}
-use Rattle.kmip_frames.specs.Framing.{fault_in, needed, held_after}
+use Rattle.kmip_frames.specs.Framing.{fault_in, size_needed, held_after}
 use Rattle.kmip_frames.specs.Streams.{IsMessage, BeginsWithNoMessage}
 use Rattle.kmip_frames.proofs.Sizes.{fault_size, fault_more, needed_fault, needed_more, needed_least}
 use Rattle.kmip_frames.proofs.Messages.{message_lawful, message_size, message_whole, fault_stays}
 use Rattle.kmip_store.specs.Stock.{Stock}
 use Rattle.kmip_server.specs.Serving.{stock_after}
 use Rattle.kmip_commands.specs.AnswerText.{reply_text}
-use Rattle.kmip_commands.specs.Bytewise.{StreamState, is_over, byte_text, byte_behind, piece_text, piece_behind}
+use Rattle.kmip_commands.specs.Bytewise.{StreamState, is_over, byte_text, state_after_byte, piece_text, state_after_piece}
 use Rattle.kmip_commands.specs.BytewiseLaws.{no_fault_front, byte_made, stays_over, stays_ready}
 use Rattle.kmip_commands.proofs.LineLemmas.{take_joined}
-use Rattle.kmip_commands.specs.StreamText.{ended, refusal_text}
+use Rattle.kmip_commands.specs.StreamText.{end_by, stream_refusal_text}
 
 -- ---- bytes, and bytes after them
 
-pub piece_text_joined : (s : StreamState) (xs ys : List ℕ) → piece_text s (xs ++ ys) ≡ piece_text s xs ++ piece_text (piece_behind s xs) ys
+pub piece_text_joined : (s : StreamState) (xs ys : List ℕ) → piece_text s (xs ++ ys) ≡ piece_text s xs ++ piece_text (state_after_piece s xs) ys
 piece_text_joined s [] ys = refl
 piece_text_joined s (x ∷ xs) ys =
-    ap (λ t. byte_text s x ++ t) (piece_text_joined (byte_behind s x) xs ys)
-    ∙ sym (append_assoc (byte_text s x) (piece_text (byte_behind s x) xs) (piece_text (piece_behind (byte_behind s x) xs) ys))
+    ap (λ t. byte_text s x ++ t) (piece_text_joined (state_after_byte s x) xs ys)
+    ∙ sym (append_assoc (byte_text s x) (piece_text (state_after_byte s x) xs) (piece_text (state_after_piece (state_after_byte s x) xs) ys))
 
-pub piece_behind_joined : (s : StreamState) (xs ys : List ℕ) → piece_behind s (xs ++ ys) ≡ piece_behind (piece_behind s xs) ys
+pub piece_behind_joined : (s : StreamState) (xs ys : List ℕ) → state_after_piece s (xs ++ ys) ≡ state_after_piece (state_after_piece s xs) ys
 piece_behind_joined s [] ys = refl
-piece_behind_joined s (x ∷ xs) ys = piece_behind_joined (byte_behind s x) xs ys
+piece_behind_joined s (x ∷ xs) ys = piece_behind_joined (state_after_byte s x) xs ys
 
 -- ---- what the framer takes
 
@@ -36,29 +36,29 @@ one_more : (held : List ℕ) (x : ℕ) (xs : List ℕ) → (held ++ x ∷ []) ++
 one_more held x xs = append_assoc held (x ∷ []) xs
 
 -- a front of bytes that begin with no message is not as many as are needed
-not_whole : (h : List ℕ) → fault_in h ≡ None → ¬ (IsMessage h) → eqb (length h) (needed h) ≡ false
-not_whole h lawful not = split (eqb (length h) (needed h)) refl
+not_whole : (h : List ℕ) → fault_in h ≡ None → ¬ (IsMessage h) → eqb (length h) (size_needed h) ≡ false
+not_whole h lawful not = split (eqb (length h) (size_needed h)) refl
   where
-    split : (b : Bool) → eqb (length h) (needed h) ≡ b → b ≡ false
+    split : (b : Bool) → eqb (length h) (size_needed h) ≡ b → b ≡ false
     split true is = absurd (not (message_whole h lawful (eqb-true _ _ is)))
     split false is = refl
 
 -- bytes that make no message yet
 pub quiet : (stock : Stock) (held xs : List ℕ) → BeginsWithNoMessage (held ++ xs) → fault_in (held ++ xs) ≡ None
-    → (piece_text (stock, held) xs ≡ []) × (piece_behind (stock, held) xs ≡ (stock, held ++ xs))
+    → (piece_text (stock, held) xs ≡ []) × (state_after_piece (stock, held) xs ≡ (stock, held ++ xs))
 quiet stock held [] none lawful = (refl, ap (λ h. (stock, h)) (sym (append-nil held)))
 quiet stock held (x ∷ xs) none lawful =
     let all = one_more held x xs in
     let here = no_fault_front (held ++ x ∷ []) xs (ap fault_in all ∙ lawful) in
     let made = byte_made stock held x None false (no_fault_front held (x ∷ xs) lawful) here (not_whole (held ++ x ∷ []) here (none (held ++ x ∷ []) xs (sym all))) in
     let later = quiet stock (held ++ x ∷ []) xs (subst BeginsWithNoMessage (sym all) none) (ap fault_in all ∙ lawful) in (
-      ap (λ t. t ++ piece_text (byte_behind (stock, held) x) xs) made.0 ∙ ap (λ s. piece_text s xs) made.1 ∙ later.0,
-      ap (λ s. piece_behind s xs) made.1 ∙ later.1 ∙ ap (λ h. (stock, h)) all,
+      ap (λ t. t ++ piece_text (state_after_byte (stock, held) x) xs) made.0 ∙ ap (λ s. piece_text s xs) made.1 ∙ later.0,
+      ap (λ s. state_after_piece s xs) made.1 ∙ later.1 ∙ ap (λ h. (stock, h)) all,
     )
 
 -- bytes that end a message
 pub answered : (stock : Stock) (held xs : List ℕ) → IsMessage (held ++ xs) → 0 < length xs
-    → (piece_text (stock, held) xs ≡ reply_text stock (held ++ xs)) × (piece_behind (stock, held) xs ≡ (stock_after stock (held ++ xs), []))
+    → (piece_text (stock, held) xs ≡ reply_text stock (held ++ xs)) × (state_after_piece (stock, held) xs ≡ (stock_after stock (held ++ xs), []))
 answered stock held [] is some = absurd (omega arith)
 answered stock held (x ∷ []) is some =
     let lawful = message_lawful (held ++ x ∷ []) is in
@@ -71,8 +71,8 @@ answered stock held (x ∷ y ∷ xs) is some =
     let here = no_fault_front h (y ∷ xs) (message_lawful (h ++ y ∷ xs) whole) in
     let made = byte_made stock held x None false (no_fault_front held (x ∷ y ∷ xs) (message_lawful (held ++ x ∷ y ∷ xs) is)) here (not_whole h here (partial h y xs whole)) in
     let later = answered stock h (y ∷ xs) whole (omega arith) in (
-      ap (λ t. t ++ piece_text (byte_behind (stock, held) x) (y ∷ xs)) made.0 ∙ ap (λ s. piece_text s (y ∷ xs)) made.1 ∙ later.0 ∙ ap (reply_text stock) all,
-      ap (λ s. piece_behind s (y ∷ xs)) made.1 ∙ later.1 ∙ ap (λ m. (stock_after stock m, [])) all,
+      ap (λ t. t ++ piece_text (state_after_byte (stock, held) x) (y ∷ xs)) made.0 ∙ ap (λ s. piece_text s (y ∷ xs)) made.1 ∙ later.0 ∙ ap (reply_text stock) all,
+      ap (λ s. state_after_piece s (y ∷ xs)) made.1 ∙ later.1 ∙ ap (λ m. (stock_after stock m, [])) all,
     )
   where
     partial : (h : List ℕ) (y : ℕ) (xs : List ℕ) → IsMessage (h ++ y ∷ xs) → ¬ (IsMessage h)
@@ -92,7 +92,7 @@ eight_bytes held x fault lawful is =
     ]
 
 -- and before them no message is whole
-few_bytes : (h xs : List ℕ) (fault : FrameFault) → fault_in h ≡ None → fault_in (h ++ xs) ≡ Some fault → length h ≡ needed h → ⊥
+few_bytes : (h xs : List ℕ) (fault : FrameFault) → fault_in h ≡ None → fault_in (h ++ xs) ≡ Some fault → length h ≡ size_needed h → ⊥
 few_bytes h xs fault now is whole = elim (cases_lt (length h) 8) [
   | inl short ↦ omega (arith, whole, needed_least h)
   | inr long ↦ (let same = sym (fault_more h xs long) ∙ is in absurd cc)
@@ -100,7 +100,7 @@ few_bytes h xs fault now is whole = elim (cases_lt (length h) 8) [
 
 -- bytes that make a head which is no message's
 pub refused : (stock : Stock) (held xs : List ℕ) (fault : FrameFault) → fault_in held ≡ None → fault_in (held ++ xs) ≡ Some fault
-    → (piece_text (stock, held) xs ≡ refusal_text fault) × (piece_behind (stock, held) xs ≡ (stock, take 8 (held ++ xs)))
+    → (piece_text (stock, held) xs ≡ stream_refusal_text fault) × (state_after_piece (stock, held) xs ≡ (stock, take 8 (held ++ xs)))
 refused stock held [] fault lawful is = let same = ap fault_in (sym (append-nil held)) in absurd cc
 refused stock held (x ∷ xs) fault lawful is = split (fault_in (held ++ x ∷ [])) refl (refused stock (held ++ x ∷ []) xs fault)
   where
@@ -111,21 +111,21 @@ refused stock held (x ∷ xs) fault lawful is = split (fault_in (held ++ x ∷ [
     all = one_more held x xs
 
     split : (o : Option FrameFault) → fault_in h ≡ o
-        → (fault_in h ≡ None → fault_in (h ++ xs) ≡ Some fault → (piece_text (stock, h) xs ≡ refusal_text fault) × (piece_behind (stock, h) xs ≡ (stock, take 8 (h ++ xs))))
-        → (piece_text (stock, held) (x ∷ xs) ≡ refusal_text fault) × (piece_behind (stock, held) (x ∷ xs) ≡ (stock, take 8 (held ++ x ∷ xs)))
+        → (fault_in h ≡ None → fault_in (h ++ xs) ≡ Some fault → (piece_text (stock, h) xs ≡ stream_refusal_text fault) × (state_after_piece (stock, h) xs ≡ (stock, take 8 (h ++ xs))))
+        → (piece_text (stock, held) (x ∷ xs) ≡ stream_refusal_text fault) × (state_after_piece (stock, held) (x ∷ xs) ≡ (stock, take 8 (held ++ x ∷ xs)))
     split (Some other) now later =
         let same : Some other ≡ Some fault = sym (fault_stays h xs other now).0 ∙ ap fault_in all ∙ is in
         let made = byte_made stock held x (Some fault) _ lawful (now ∙ same) refl in
         let over = stays_over (stock, h) xs (ap is_some now) in
         let eight = eight_bytes held x other lawful now in (
-          ap (λ t. t ++ piece_text (byte_behind (stock, held) x) xs) made.0 ∙ ap (λ s. refusal_text fault ++ piece_text s xs) made.1 ∙ ap (λ t. refusal_text fault ++ t) over.0 ∙ append-nil (refusal_text fault),
-          ap (λ s. piece_behind s xs) made.1 ∙ over.1 ∙ ap (λ b. (stock, b)) (sym (take_at h xs 8 eight) ∙ ap (take 8) all),
+          ap (λ t. t ++ piece_text (state_after_byte (stock, held) x) xs) made.0 ∙ ap (λ s. stream_refusal_text fault ++ piece_text s xs) made.1 ∙ ap (λ t. stream_refusal_text fault ++ t) over.0 ∙ append-nil (stream_refusal_text fault),
+          ap (λ s. state_after_piece s xs) made.1 ∙ over.1 ∙ ap (λ b. (stock, b)) (sym (take_at h xs 8 eight) ∙ ap (take 8) all),
         )
     split None now later =
         let made = byte_made stock held x None false lawful now (ne_eqb _ _ (few_bytes h xs fault now (ap fault_in all ∙ is))) in
         let more = later now (ap fault_in all ∙ is) in (
-          ap (λ t. t ++ piece_text (byte_behind (stock, held) x) xs) made.0 ∙ ap (λ s. piece_text s xs) made.1 ∙ more.0,
-          ap (λ s. piece_behind s xs) made.1 ∙ more.1 ∙ ap (λ b. (stock, take 8 b)) all,
+          ap (λ t. t ++ piece_text (state_after_byte (stock, held) x) xs) made.0 ∙ ap (λ s. piece_text s xs) made.1 ∙ more.0,
+          ap (λ s. state_after_piece s xs) made.1 ∙ more.1 ∙ ap (λ b. (stock, take 8 b)) all,
         )
 
 -- what the framer holds then
@@ -147,19 +147,19 @@ held_of_fault held xs fault lawful is =
 -- what was written, and the state now, are those of the bytes that were taken
 pub record Advances (s now : StreamState) (bytes : List ℕ) (old new : Option (List ℕ)) : Type 0 where
   pub text : Appends old new (piece_text s bytes)
-  pub behind : now ≡ piece_behind s bytes
+  pub behind : now ≡ state_after_piece s bytes
 
-advances : (s now after : StreamState) (bytes text : List ℕ) (old new : Option (List ℕ)) → (piece_text s bytes ≡ text) × (piece_behind s bytes ≡ after)
+advances : (s now after : StreamState) (bytes text : List ℕ) (old new : Option (List ℕ)) → (piece_text s bytes ≡ text) × (state_after_piece s bytes ≡ after)
     → Appends old new text → now ≡ after → Advances s now bytes old new
 advances s now after bytes text old new is written state =
     record { text = subst (Appends old new) (sym is.0) written; behind = state ∙ sym is.1 }
 
 pub advance_refused : (stock : Stock) (held held' piece : List ℕ) (fault : FrameFault) (old new : Option (List ℕ)) → fault_in held ≡ None
-    → fault_in (held ++ piece) ≡ Some fault → held' ≡ held_after held piece → Appends old new (refusal_text fault)
+    → fault_in (held ++ piece) ≡ Some fault → held' ≡ held_after held piece → Appends old new (stream_refusal_text fault)
     → Advances (stock, held) (stock, held') (take (length piece) piece) old new
 advance_refused stock held held' piece fault old new lawful is after written =
     subst (λ p. Advances (stock, held) (stock, held') p old new) (sym (take_all (length piece) piece (omega arith)))
-    (advances (stock, held) (stock, held') (stock, take 8 (held ++ piece)) piece (refusal_text fault) old new (refused stock held piece fault lawful is) written
+    (advances (stock, held) (stock, held') (stock, take 8 (held ++ piece)) piece (stream_refusal_text fault) old new (refused stock held piece fault lawful is) written
     (ap (λ h. (stock, h)) (after ∙ held_of_fault held piece fault lawful is)))
 
 pub advance_quiet : (stock : Stock) (held held' now bytes : List ℕ) (old : Option (List ℕ)) → held' ≡ held ++ bytes
@@ -190,14 +190,14 @@ pub record HasAdvanced (first now : StreamState) (piece rest : List ℕ) (old ne
   pub done : List ℕ
   pub written : Appends old new done
   pub texts : piece_text first piece ≡ done ++ piece_text now rest
-  pub states : piece_behind first piece ≡ piece_behind now rest
+  pub states : state_after_piece first piece ≡ state_after_piece now rest
   pub ready : BeginsWithNoMessage now.1
 
 pub advanced_none : (first : StreamState) (piece : List ℕ) (old : Option (List ℕ)) → BeginsWithNoMessage first.1 → HasAdvanced first first piece piece old old
 advanced_none first piece old ready = record { done = []; written = Appends-nil old; texts = refl; states = refl; ready = ready }
 
 pub advanced_more : (first now next : StreamState) (piece rest : List ℕ) (count : ℕ) (old mid new : Option (List ℕ)) → HasAdvanced first now piece rest old mid
-    → Appends mid new (piece_text now (take count rest)) → next ≡ piece_behind now (take count rest)
+    → Appends mid new (piece_text now (take count rest)) → next ≡ state_after_piece now (take count rest)
     → HasAdvanced first next piece (drop count rest) old new
 advanced_more first now next piece rest count old mid new h written state =
     let front = take count rest in
@@ -208,18 +208,18 @@ advanced_more first now next piece rest count old mid new h written state =
       written = Appends-trans old mid new h.done (piece_text now front) h.written written;
       texts = h.texts ∙ ap (λ r. h.done ++ piece_text now r) cut ∙ ap (λ t. h.done ++ t) (piece_text_joined now front back)
           ∙ ap (λ s. h.done ++ (piece_text now front ++ piece_text s back)) (sym state) ∙ sym (append_assoc h.done (piece_text now front) (piece_text next back));
-      states = h.states ∙ ap (piece_behind now) cut ∙ piece_behind_joined now front back ∙ ap (λ s. piece_behind s back) (sym state);
+      states = h.states ∙ ap (state_after_piece now) cut ∙ piece_behind_joined now front back ∙ ap (λ s. state_after_piece s back) (sym state);
       ready = subst (λ s. BeginsWithNoMessage s.1) (sym state) (stays_ready now front h.ready);
     }
 
 -- at the end of the piece, or behind a fault, all is written
 pub advanced_all : (first now : StreamState) (piece rest : List ℕ) (old new : Option (List ℕ)) → HasAdvanced first now piece rest old new
-    → (length rest ≡ 0) ⊎ (is_over now ≡ true) → Appends old new (piece_text first piece) × (now ≡ piece_behind first piece)
-advanced_all first now piece rest old new h ended =
-    let over = both rest ended in
+    → (length rest ≡ 0) ⊎ (is_over now ≡ true) → Appends old new (piece_text first piece) × (now ≡ state_after_piece first piece)
+advanced_all first now piece rest old new h end_by =
+    let over = both rest end_by in
     (subst (Appends old new) (sym (h.texts ∙ ap (λ t. h.done ++ t) over.0 ∙ append-nil h.done)) h.written, sym (h.states ∙ over.1))
   where
-    both : (rest : List ℕ) → (length rest ≡ 0) ⊎ (is_over now ≡ true) → (piece_text now rest ≡ []) × (piece_behind now rest ≡ now)
-    both [] ended = (refl, refl)
+    both : (rest : List ℕ) → (length rest ≡ 0) ⊎ (is_over now ≡ true) → (piece_text now rest ≡ []) × (state_after_piece now rest ≡ now)
+    both [] end_by = (refl, refl)
     both (x ∷ xs) (inl none) = absurd (omega arith)
     both (x ∷ xs) (inr over) = stays_over now (x ∷ xs) over

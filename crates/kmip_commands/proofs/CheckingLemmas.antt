@@ -11,7 +11,7 @@ use Rattle.kmip_plan.specs.Words.{algorithm_word, target_word}
 use Rattle.kmip_plan.specs.declared.fault.PlanFault.{PlanFault}
 use Rattle.kmip_plan.specs.declared.key.Key.{Key}
 use Rattle.kmip_plan.specs.declared.target.Target.{Target}
-use Rattle.kmip_commands.specs.Checking.{or_nothing, mask_text, step_text, steps_text, key_text, field_text, place_text, refusal_text}
+use Rattle.kmip_commands.specs.Checking.{or_nothing, mask_text, step_text, steps_text, key_text, field_text, key_place_text, plan_refusal_text}
 
 -- the text of what is left is that of the next item, and then that of the rest
 next : {X : Type 0} (f : X → List ℕ) (xs : List X) (i : ℕ) (x : X) → slice_get xs i ≡ Some x
@@ -94,9 +94,9 @@ twelve a b c d e f g h i j k l = simp append_assoc refl
 -- the line of a refusal, from its parts
 pub refusal_line : (fault : PlanFault) (number : ℕ) (name field place : List ℕ)
     → number ≡ plan_fault_number fault → name ≡ plan_fault_name fault → field ≡ field_text (plan_fault_field fault)
-    → place ≡ place_text (plan_fault_place fault)
-    → codes "plan refused: " ++ (decimal number ++ (codes " " ++ (name ++ (field ++ (place ++ codes "\n"))))) ≡ refusal_text fault
-unfolding refusal_text
+    → place ≡ key_place_text (plan_fault_place fault)
+    → codes "plan refused: " ++ (decimal number ++ (codes " " ++ (name ++ (field ++ (place ++ codes "\n"))))) ≡ plan_refusal_text fault
+unfolding plan_refusal_text
 refusal_line fault number name field place p q r s =
     seven (codes "plan refused: ") (decimal number) (codes " ") name field place (codes "\n")
     ∙ ap (λ x. codes "plan refused: " ++ decimal x ++ codes " " ++ name ++ field ++ place ++ codes "\n") p

@@ -5,8 +5,8 @@ use Rattle.std.proofs.lemmas.Bool.Decides.{nat_tests}
 use Rattle.std.specs.Io.KnownBytes.{Keeps, Appends}
 use Rattle.std.proofs.KnownBytes.{Appends-nil, Appends-trans, Appends-kept}
 use Rattle.hex.specs.Hex.{decode_of}
-use Rattle.kmip_commands.specs.Judging.{Saying, nothing, too_long, no_hex, message, saying_of, saying_decoded, is_refused, are_refused, has_refused}
-use Rattle.kmip_commands.specs.LineText.{saying_text, behind_saying, lines_text, input_text, lines_behind, lines_read}
+use Rattle.kmip_commands.specs.Judging.{Saying, nothing, too_long, no_hex, message, saying_of, saying_decoded, is_saying_refused, are_refused, has_refused}
+use Rattle.kmip_commands.specs.LineText.{saying_text, state_after_saying, lines_text, input_text, state_after_lines, lines_read}
 use Rattle.kmip_commands.specs.Lines.{lines_of, TakesFirst}
 use Rattle.kmip_commands.specs.declared.fault.CommandFault.{CommandFault}
 use Rattle.kmip_commands.specs.declared.lines.TheConstants.{MOST_DIGITS, MOST_KEPT}
@@ -45,7 +45,7 @@ pub record HasResponded {S : Type 0} (text : S → List ℕ → List ℕ) (behin
   pub done : List ℕ
   pub written : Appends old now done
   pub texts : lines_text text behind first lines ≡ done ++ lines_text text behind state left
-  pub states : lines_behind behind first lines ≡ lines_behind behind state left
+  pub states : state_after_lines behind first lines ≡ state_after_lines behind state left
   pub refusals : are_refused refuses lines ≡ (refused || are_refused refuses left)
 
 -- the same of a reader, where its bytes are known
@@ -66,33 +66,33 @@ one_line : {S : Type 0} (text : S → List ℕ → List ℕ) (behind : S → Lis
     (old now mid wrote then : Option (List ℕ)) (first state after : S) (refused refused' : Bool) (line seen : List ℕ)
     → HasResponded text behind refuses lines left old now first state refused → left ≡ line ∷ more → saying_of line ≡ saying_of seen
     → Keeps now mid → Appends mid wrote (saying_text text state (saying_of seen)) → Keeps wrote then
-    → after ≡ behind_saying behind state (saying_of seen) → refused' ≡ (refused || is_refused refuses (saying_of seen))
+    → after ≡ state_after_saying behind state (saying_of seen) → refused' ≡ (refused || is_saying_refused refuses (saying_of seen))
     → HasResponded text behind refuses lines more old then first after refused'
 one_line text behind refuses lines left more old now mid wrote then first state after refused refused' line seen h is same p q k e f =
     let here = saying_text text state (saying_of seen) in
     let split : lines_text text behind state left ≡ here ++ lines_text text behind after more =
     ap (lines_text text behind state) is
-    ∙ ap (λ y. saying_text text state y ++ lines_text text behind (behind_saying behind state y) more) same
+    ∙ ap (λ y. saying_text text state y ++ lines_text text behind (state_after_saying behind state y) more) same
     ∙ ap (λ y. here ++ lines_text text behind y more) (sym e) in
-    let moved : lines_behind behind state left ≡ lines_behind behind after more =
-    ap (lines_behind behind state) is ∙ ap (λ y. lines_behind behind (behind_saying behind state y) more) same ∙ ap (λ y. lines_behind behind y more) (sym e) in
-    let counted : are_refused refuses left ≡ (is_refused refuses (saying_of seen) || are_refused refuses more) =
-    ap (are_refused refuses) is ∙ ap (λ y. is_refused refuses y || are_refused refuses more) same in
+    let moved : state_after_lines behind state left ≡ state_after_lines behind after more =
+    ap (state_after_lines behind state) is ∙ ap (λ y. state_after_lines behind (state_after_saying behind state y) more) same ∙ ap (λ y. state_after_lines behind y more) (sym e) in
+    let counted : are_refused refuses left ≡ (is_saying_refused refuses (saying_of seen) || are_refused refuses more) =
+    ap (are_refused refuses) is ∙ ap (λ y. is_saying_refused refuses y || are_refused refuses more) same in
     record {
       done = h.done ++ here;
       written = Appends-kept old wrote then _ (Appends-trans old mid wrote h.done here (Appends-kept old now mid h.done h.written p) q) k;
       texts = h.texts ∙ ap (λ l. h.done ++ l) split ∙ sym (append_assoc h.done here (lines_text text behind after more));
       states = h.states ∙ moved;
-      refusals = h.refusals ∙ ap (λ b. refused || b) counted ∙ or_assoc refused (is_refused refuses (saying_of seen)) (are_refused refuses more)
+      refusals = h.refusals ∙ ap (λ b. refused || b) counted ∙ or_assoc refused (is_saying_refused refuses (saying_of seen)) (are_refused refuses more)
           ∙ ap (λ b. b || are_refused refuses more) (sym f);
     }
 
 -- which lines are read from a line on
 pub read_on : {S : Type 0} (behind : S → List ℕ → S) (over : S → Bool) (state after : S) (line seen : List ℕ) (lines : List (List ℕ)) (b : Bool)
-    → saying_of line ≡ saying_of seen → after ≡ behind_saying behind state (saying_of seen) → over after ≡ b
+    → saying_of line ≡ saying_of seen → after ≡ state_after_saying behind state (saying_of seen) → over after ≡ b
     → lines_read behind over state (line ∷ lines) ≡ line ∷ cond b [] (lines_read behind over after lines)
 read_on behind over state after line seen lines b same e is =
-    let there : behind_saying behind state (saying_of line) ≡ after = ap (behind_saying behind state) same ∙ sym e in
+    let there : state_after_saying behind state (saying_of line) ≡ after = ap (state_after_saying behind state) same ∙ sym e in
     ap (λ s. line ∷ cond (over s) [] (lines_read behind over s lines)) there ∙ ap (λ o. line ∷ cond o [] (lines_read behind over after lines)) is
 
 -- a line, and what is left where the command is not over behind it, or is
@@ -101,7 +101,7 @@ line_read : {S : Type 0} (text : S → List ℕ → List ℕ) (behind : S → Li
     → HasResponded text behind refuses (lines_read behind over first (lines_of input)) (lines_read behind over state (lines_of rest)) old now first state refused
     → (t : TakesFirst rest kept next) → seen ≡ kept
     → Keeps now mid → Appends mid wrote (saying_text text state (saying_of seen)) → Keeps wrote then
-    → after ≡ behind_saying behind state (saying_of seen) → refused' ≡ (refused || is_refused refuses (saying_of seen)) → over after ≡ b
+    → after ≡ state_after_saying behind state (saying_of seen) → refused' ≡ (refused || is_saying_refused refuses (saying_of seen)) → over after ≡ b
     → HasResponded text behind refuses (lines_read behind over first (lines_of input)) (cond b [] (lines_read behind over after (lines_of t.after))) old then first after refused'
 line_read text behind refuses over b input rest next old now mid wrote then first state after refused refused' kept seen h t s p q k e f is =
     let same : saying_of t.line ≡ saying_of seen = sym (ap saying_of (s ∙ t.is_kept) ∙ saying_of-kept t.line) in
@@ -113,7 +113,7 @@ pub Responding-line : {S : Type 0} (text : S → List ℕ → List ℕ) (behind 
     (read left next old now mid wrote then : Option (List ℕ)) (first state after : S) (refused refused' : Bool) (kept seen : List ℕ)
     → Responding text behind refuses over read left old now first state refused → IfSome left (λ input. TakesFirst input kept next) → seen ≡ kept
     → Keeps now mid → Appends mid wrote (saying_text text state (saying_of seen)) → Keeps wrote then
-    → after ≡ behind_saying behind state (saying_of seen) → refused' ≡ (refused || is_refused refuses (saying_of seen)) → over after ≡ false
+    → after ≡ state_after_saying behind state (saying_of seen) → refused' ≡ (refused || is_saying_refused refuses (saying_of seen)) → over after ≡ false
     → Responding text behind refuses over read next old then first after refused'
 Responding-line text behind refuses over None left next old now mid wrote then first state after refused refused' kept seen r taken s p q k e f is =
     record { so_far = tt }
@@ -126,7 +126,7 @@ Responding-line text behind refuses over (Some input) left next old now mid wrot
 pub record AreAnswered {S : Type 0} (text : S → List ℕ → List ℕ) (behind : S → List ℕ → S) (refuses : List ℕ → Bool) (over : S → Bool)
     (old now : Option (List ℕ)) (first state : S) (refused : Bool) (input : List ℕ) : Type 0 where
   pub text_is : Appends old now (lines_text text behind first (lines_read behind over first (lines_of input)))
-  pub state_is : state ≡ lines_behind behind first (lines_read behind over first (lines_of input))
+  pub state_is : state ≡ state_after_lines behind first (lines_read behind over first (lines_of input))
   pub refused_is : refused ≡ are_refused refuses (lines_read behind over first (lines_of input))
 
 answered : {S : Type 0} (text : S → List ℕ → List ℕ) (behind : S → List ℕ → S) (refuses : List ℕ → Bool) (over : S → Bool)
@@ -160,7 +160,7 @@ pub Responding-over : {S : Type 0} (text : S → List ℕ → List ℕ) (behind 
     (read left next old now mid wrote then : Option (List ℕ)) (first state after : S) (refused refused' : Bool) (kept seen : List ℕ)
     → Responding text behind refuses over read left old now first state refused → IfSome left (λ input. TakesFirst input kept next) → seen ≡ kept
     → Keeps now mid → Appends mid wrote (saying_text text state (saying_of seen)) → Keeps wrote then
-    → after ≡ behind_saying behind state (saying_of seen) → refused' ≡ (refused || is_refused refuses (saying_of seen)) → over after ≡ true
+    → after ≡ state_after_saying behind state (saying_of seen) → refused' ≡ (refused || is_saying_refused refuses (saying_of seen)) → over after ≡ true
     → IfSome read (λ input. AreAnswered text behind refuses over old then first after refused' input)
 Responding-over text behind refuses over None left next old now mid wrote then first state after refused refused' kept seen r taken s p q k e f is = tt
 Responding-over text behind refuses over (Some input) left next old now mid wrote then first state after refused refused' kept seen r taken s p q k e f is =
@@ -180,7 +180,7 @@ answered-text text behind refuses over (Some input) old now first state refused 
 pub answered-behind : {S : Type 0} (text : S → List ℕ → List ℕ) (behind : S → List ℕ → S) (refuses : List ℕ → Bool) (over : S → Bool)
     (read old now : Option (List ℕ)) (first state : S) (refused : Bool)
     → IfSome read (λ input. AreAnswered text behind refuses over old now first state refused input)
-    → IfSome read (λ input. state ≡ lines_behind behind first (lines_read behind over first (lines_of input)))
+    → IfSome read (λ input. state ≡ state_after_lines behind first (lines_read behind over first (lines_of input)))
 answered-behind text behind refuses over None old now first state refused is = tt
 answered-behind text behind refuses over (Some input) old now first state refused is = is.state_is
 
@@ -194,7 +194,7 @@ answered-refused text behind refuses over (Some input) old now first state refus
 -- a command that is never over reads all lines
 all_lines : {S : Type 0} (behind : S → List ℕ → S) (state : S) (lines : List (List ℕ)) → lines_read behind (λ _. false) state lines ≡ lines
 all_lines behind state [] = refl
-all_lines behind state (line ∷ lines) = ap (λ l. line ∷ l) (all_lines behind (behind_saying behind state (saying_of line)) lines)
+all_lines behind state (line ∷ lines) = ap (λ l. line ∷ l) (all_lines behind (state_after_saying behind state (saying_of line)) lines)
 
 pub whole_text : {S : Type 0} (text : S → List ℕ → List ℕ) (behind : S → List ℕ → S) (result : Result Bool CommandFault) (read old now : Option (List ℕ)) (first first' : S)
     → first ≡ first' → OnOk result (IfSome read (λ input. Appends old now (lines_text text behind first (lines_read behind (λ _. false) first (lines_of input)))))
@@ -213,10 +213,10 @@ whole_refused behind refuses (Ok refused) (Some input) first is = is ∙ ap (are
 
 -- a line keeps what holds between two messages
 pub Responding-ready : {S : Type 0} (behind : S → List ℕ → S) (IsReady : S → Type 0) → ((s : S) (m : List ℕ) → IsReady s → IsReady (behind s m))
-    → (state after : S) (y : Saying) → IsReady state → after ≡ behind_saying behind state y → IsReady after
+    → (state after : S) (y : Saying) → IsReady state → after ≡ state_after_saying behind state y → IsReady after
 Responding-ready behind IsReady stays state after y ready is = subst IsReady (sym is) (still y)
   where
-    still : (y : Saying) → IsReady (behind_saying behind state y)
+    still : (y : Saying) → IsReady (state_after_saying behind state y)
     still nothing = ready
     still too_long = ready
     still no_hex = ready

@@ -11,23 +11,23 @@ use Rattle.kmip_frames.proofs.Sizes.{fault_short}
 use Rattle.kmip_frames.proofs.SoFar.{nothing_so_far}
 use Rattle.kmip_store.specs.Stock.{Stock}
 use Rattle.kmip_commands.specs.AnswerText.{first_stock}
-use Rattle.kmip_commands.specs.Bytewise.{StreamState, is_over, piece_text, piece_behind, tail_text}
+use Rattle.kmip_commands.specs.Bytewise.{StreamState, is_over, piece_text, state_after_piece, tail_text}
 use Rattle.kmip_commands.specs.BytewiseLaws.{stays_over, stays_ready, nothing_waits}
 use Rattle.kmip_commands.proofs.RespondingLemmas.{read_on}
-use Rattle.kmip_commands.specs.Judging.{Saying, nothing, too_long, no_hex, message, saying_of, is_refused, are_refused, has_refused}
+use Rattle.kmip_commands.specs.Judging.{Saying, nothing, too_long, no_hex, message, saying_of, is_saying_refused, are_refused, has_refused}
 use Rattle.kmip_commands.specs.Lines.{lines_of}
-use Rattle.kmip_commands.specs.LineText.{saying_text, behind_saying, lines_text, lines_behind, lines_read}
-use Rattle.kmip_commands.specs.StreamText.{piece_of, pieces_of, stream_of, replies_text, ended, end_of, refusal_text, end_text, is_refusal, is_whole_end, is_whole, records_behind, GoesOn, IsPassedOver, IsTaken, IsTold, AreTold, IsWritten, IsAnswered, IsAllAnswered}
-use Rattle.kmip_commands.specs.declared.streaming.StreamEnd.{StreamEnd}
-use Rattle.kmip_commands.specs.declared.streaming.StreamEnd.TheVariants.{Whole, Cut, Refused}
+use Rattle.kmip_commands.specs.LineText.{saying_text, state_after_saying, lines_text, state_after_lines, lines_read}
+use Rattle.kmip_commands.specs.StreamText.{piece_of, pieces_of, stream_of, replies_text, end_by, end_of, stream_refusal_text, end_text, is_refusal, is_whole_end, is_whole, stock_after_messages, GoesOn, IsPassedOver, IsTaken, IsTold, AreTold, IsWritten, IsAnswered, IsAllAnswered}
+use Rattle.kmip_commands.specs.declared.streaming.InputEnd.{InputEnd}
+use Rattle.kmip_commands.specs.declared.streaming.InputEnd.TheVariants.{Whole, Cut, Refused}
 use Rattle.kmip_commands.specs.declared.streaming.StreamOutcome.{StreamOutcome}
 use Rattle.kmip_commands.proofs.AdvancingLemmas.{piece_text_joined, piece_behind_joined}
 use Rattle.kmip_commands.proofs.MessagesLemmas.{fault_text, IsStreamed, is_streamed}
 
 -- the line of a fault, from its parts
 pub refusal_line : (fault : FrameFault) (number : ℕ) (name : List ℕ) → number ≡ frame_fault_number fault → name ≡ frame_fault_name fault
-    → codes "stream refused: " ++ (decimal number ++ (codes " " ++ (name ++ codes "\n"))) ≡ refusal_text fault
-unfolding refusal_text
+    → codes "stream refused: " ++ (decimal number ++ (codes " " ++ (name ++ codes "\n"))) ≡ stream_refusal_text fault
+unfolding stream_refusal_text
 refusal_line fault number name p q =
     ap (λ n. codes "stream refused: " ++ (decimal n ++ (codes " " ++ (name ++ codes "\n")))) p
     ∙ ap (λ n. codes "stream refused: " ++ (decimal (frame_fault_number fault) ++ (codes " " ++ (n ++ codes "\n")))) q
@@ -38,36 +38,36 @@ refusal_line fault number name p q =
 
 -- ---- the lines of the input
 
-saying_behind : (s : StreamState) (y : Saying) → behind_saying piece_behind s y ≡ piece_behind s (piece_of y)
+saying_behind : (s : StreamState) (y : Saying) → state_after_saying state_after_piece s y ≡ state_after_piece s (piece_of y)
 saying_behind s nothing = refl
 saying_behind s too_long = refl
 saying_behind s no_hex = refl
 saying_behind s (message bytes) = refl
 
-saying_written : (s : StreamState) (y : Saying) → is_refused (λ _. false) y ≡ false → saying_text piece_text s y ≡ piece_text s (piece_of y)
+saying_written : (s : StreamState) (y : Saying) → is_saying_refused (λ _. false) y ≡ false → saying_text piece_text s y ≡ piece_text s (piece_of y)
 saying_written s nothing none = refl
 saying_written s too_long none = absurd (true≢false none)
 saying_written s no_hex none = absurd (true≢false none)
 saying_written s (message bytes) none = refl
 
-pub lines_moved : (s : StreamState) (lines : List (List ℕ)) → lines_behind piece_behind s lines ≡ piece_behind s (pieces_of lines)
+pub lines_moved : (s : StreamState) (lines : List (List ℕ)) → state_after_lines state_after_piece s lines ≡ state_after_piece s (pieces_of lines)
 lines_moved s [] = refl
 lines_moved s (line ∷ lines) =
     let piece = piece_of (saying_of line) in
-    ap (λ s'. lines_behind piece_behind s' lines) (saying_behind s (saying_of line)) ∙ lines_moved (piece_behind s piece) lines ∙ sym (piece_behind_joined s piece (pieces_of lines))
+    ap (λ s'. state_after_lines state_after_piece s' lines) (saying_behind s (saying_of line)) ∙ lines_moved (state_after_piece s piece) lines ∙ sym (piece_behind_joined s piece (pieces_of lines))
 
 none_first : (a b : Bool) → (a || b) ≡ false → (a ≡ false) × (b ≡ false)
 none_first true b none = absurd (true≢false none)
 none_first false b none = (refl, none)
 
-pub lines_written : (s : StreamState) (lines : List (List ℕ)) → are_refused (λ _. false) lines ≡ false → lines_text piece_text piece_behind s lines ≡ piece_text s (pieces_of lines)
+pub lines_written : (s : StreamState) (lines : List (List ℕ)) → are_refused (λ _. false) lines ≡ false → lines_text piece_text state_after_piece s lines ≡ piece_text s (pieces_of lines)
 lines_written s [] none = refl
 lines_written s (line ∷ lines) none =
     let y = saying_of line in
     let both = none_first _ _ none in
-    ap (λ t. t ++ lines_text piece_text piece_behind (behind_saying piece_behind s y) lines) (saying_written s y both.0)
-    ∙ ap (λ s'. piece_text s (piece_of y) ++ lines_text piece_text piece_behind s' lines) (saying_behind s y)
-    ∙ ap (λ t. piece_text s (piece_of y) ++ t) (lines_written (piece_behind s (piece_of y)) lines both.1)
+    ap (λ t. t ++ lines_text piece_text state_after_piece (state_after_saying state_after_piece s y) lines) (saying_written s y both.0)
+    ∙ ap (λ s'. piece_text s (piece_of y) ++ lines_text piece_text state_after_piece s' lines) (saying_behind s y)
+    ∙ ap (λ t. piece_text s (piece_of y) ++ t) (lines_written (state_after_piece s (piece_of y)) lines both.1)
     ∙ sym (piece_text_joined s (piece_of y) (pieces_of lines))
 
 -- ---- the whole input
@@ -77,12 +77,12 @@ same_end : (held unread : List ℕ) → fault_in (held ++ unread) ≡ fault_in h
 same_end held unread same all_read = split (fault_in held) refl
   where
     split : (o : Option FrameFault) → fault_in held ≡ o → end_of held ≡ end_of (held ++ unread)
-    split (Some fault) is = ap (λ o. ended o (length held)) is ∙ sym (ap (λ o. ended o (length (held ++ unread))) (same ∙ is))
+    split (Some fault) is = ap (λ o. end_by o (length held)) is ∙ sym (ap (λ o. end_by o (length (held ++ unread))) (same ∙ is))
     split None is = ap end_of (sym (append-nil held)) ∙ ap (λ u. end_of (held ++ u)) (sym (all_read is))
 
 -- a fault was written when it came, and a cut is written at the end
-both_texts : (o : Option FrameFault) (left : ℕ) → fault_text o ++ tail_text (ended o left) ≡ end_text (ended o left)
-both_texts (Some fault) left = append-nil (refusal_text fault)
+both_texts : (o : Option FrameFault) (left : ℕ) → fault_text o ++ tail_text (end_by o left) ≡ end_text (end_by o left)
+both_texts (Some fault) left = append-nil (stream_refusal_text fault)
 both_texts None left = split (eqb left 0)
   where
     split : (b : Bool) → tail_text (cond b Whole (Cut left)) ≡ end_text (cond b Whole (Cut left))
@@ -90,79 +90,79 @@ both_texts None left = split (eqb left 0)
     split false = refl
 
 -- a stream that is not refused is not over
-not_over : (o : Option FrameFault) (left : ℕ) → is_refusal (ended o left) ≡ false → is_some o ≡ false
+not_over : (o : Option FrameFault) (left : ℕ) → is_refusal (end_by o left) ≡ false → is_some o ≡ false
 not_over (Some fault) left none = absurd (true≢false none)
 not_over None left none = refl
 
 -- behind a fault no line changes anything
-over_moved : (s : StreamState) (lines : List (List ℕ)) → is_over s ≡ true → lines_behind piece_behind s lines ≡ s
+over_moved : (s : StreamState) (lines : List (List ℕ)) → is_over s ≡ true → state_after_lines state_after_piece s lines ≡ s
 over_moved s lines over = lines_moved s lines ∙ (stays_over s (pieces_of lines) over).1
 
 -- the lines that are read, and where all are
-reads_all : (s : StreamState) (lines : List (List ℕ)) → is_over (lines_behind piece_behind s (lines_read piece_behind is_over s lines)) ≡ false
-    → lines_read piece_behind is_over s lines ≡ lines
+reads_all : (s : StreamState) (lines : List (List ℕ)) → is_over (state_after_lines state_after_piece s (lines_read state_after_piece is_over s lines)) ≡ false
+    → lines_read state_after_piece is_over s lines ≡ lines
 reads_all s [] not = refl
 reads_all s (line ∷ lines) not = split (is_over after) refl (reads_all after lines)
   where
     after : StreamState
-    after = behind_saying piece_behind s (saying_of line)
+    after = state_after_saying state_after_piece s (saying_of line)
 
-    split : (b : Bool) → is_over after ≡ b → (is_over (lines_behind piece_behind after (lines_read piece_behind is_over after lines)) ≡ false → lines_read piece_behind is_over after lines ≡ lines)
-        → lines_read piece_behind is_over s (line ∷ lines) ≡ line ∷ lines
+    split : (b : Bool) → is_over after ≡ b → (is_over (state_after_lines state_after_piece after (lines_read state_after_piece is_over after lines)) ≡ false → lines_read state_after_piece is_over after lines ≡ lines)
+        → lines_read state_after_piece is_over s (line ∷ lines) ≡ line ∷ lines
     split true is later =
-        let read = read_on piece_behind is_over s after line line lines true refl refl is in
-        absurd (true≢false (sym is ∙ sym (ap (λ l. is_over (lines_behind piece_behind s l)) read) ∙ not))
+        let read = read_on state_after_piece is_over s after line line lines true refl refl is in
+        absurd (true≢false (sym is ∙ sym (ap (λ l. is_over (state_after_lines state_after_piece s l)) read) ∙ not))
     split false is later =
-        let read = read_on piece_behind is_over s after line line lines false refl refl is in
-        read ∙ ap (λ l. line ∷ l) (later (sym (ap (λ l. is_over (lines_behind piece_behind s l)) read) ∙ not))
+        let read = read_on state_after_piece is_over s after line line lines false refl refl is in
+        read ∙ ap (λ l. line ∷ l) (later (sym (ap (λ l. is_over (state_after_lines state_after_piece s l)) read) ∙ not))
 
 -- where no line is refused, the lines that are not read would change nothing
-read_moved : (s : StreamState) (lines : List (List ℕ)) → lines_behind piece_behind s (lines_read piece_behind is_over s lines) ≡ lines_behind piece_behind s lines
+read_moved : (s : StreamState) (lines : List (List ℕ)) → state_after_lines state_after_piece s (lines_read state_after_piece is_over s lines) ≡ state_after_lines state_after_piece s lines
 read_moved s [] = refl
 read_moved s (line ∷ lines) = split (is_over after) refl (read_moved after lines)
   where
     after : StreamState
-    after = behind_saying piece_behind s (saying_of line)
+    after = state_after_saying state_after_piece s (saying_of line)
 
-    split : (b : Bool) → is_over after ≡ b → lines_behind piece_behind after (lines_read piece_behind is_over after lines) ≡ lines_behind piece_behind after lines
-        → lines_behind piece_behind s (lines_read piece_behind is_over s (line ∷ lines)) ≡ lines_behind piece_behind s (line ∷ lines)
-    split true is later = ap (lines_behind piece_behind s) (read_on piece_behind is_over s after line line lines true refl refl is) ∙ sym (over_moved after lines is)
-    split false is later = ap (lines_behind piece_behind s) (read_on piece_behind is_over s after line line lines false refl refl is) ∙ later
+    split : (b : Bool) → is_over after ≡ b → state_after_lines state_after_piece after (lines_read state_after_piece is_over after lines) ≡ state_after_lines state_after_piece after lines
+        → state_after_lines state_after_piece s (lines_read state_after_piece is_over s (line ∷ lines)) ≡ state_after_lines state_after_piece s (line ∷ lines)
+    split true is later = ap (state_after_lines state_after_piece s) (read_on state_after_piece is_over s after line line lines true refl refl is) ∙ sym (over_moved after lines is)
+    split false is later = ap (state_after_lines state_after_piece s) (read_on state_after_piece is_over s after line line lines false refl refl is) ∙ later
 
 read_written : (s : StreamState) (lines : List (List ℕ)) → are_refused (λ _. false) lines ≡ false
-    → lines_text piece_text piece_behind s (lines_read piece_behind is_over s lines) ≡ lines_text piece_text piece_behind s lines
+    → lines_text piece_text state_after_piece s (lines_read state_after_piece is_over s lines) ≡ lines_text piece_text state_after_piece s lines
 read_written s [] none = refl
 read_written s (line ∷ lines) none = split (is_over after) refl (read_written after lines (none_first _ _ none).1)
   where
     after : StreamState
-    after = behind_saying piece_behind s (saying_of line)
+    after = state_after_saying state_after_piece s (saying_of line)
 
     here : List ℕ
     here = saying_text piece_text s (saying_of line)
 
     split : (b : Bool) → is_over after ≡ b
-        → lines_text piece_text piece_behind after (lines_read piece_behind is_over after lines) ≡ lines_text piece_text piece_behind after lines
-        → lines_text piece_text piece_behind s (lines_read piece_behind is_over s (line ∷ lines)) ≡ lines_text piece_text piece_behind s (line ∷ lines)
+        → lines_text piece_text state_after_piece after (lines_read state_after_piece is_over after lines) ≡ lines_text piece_text state_after_piece after lines
+        → lines_text piece_text state_after_piece s (lines_read state_after_piece is_over s (line ∷ lines)) ≡ lines_text piece_text state_after_piece s (line ∷ lines)
     split true is later =
-        ap (lines_text piece_text piece_behind s) (read_on piece_behind is_over s after line line lines true refl refl is)
+        ap (lines_text piece_text state_after_piece s) (read_on state_after_piece is_over s after line line lines true refl refl is)
         ∙ ap (λ t. here ++ t) (sym (lines_written after lines (none_first _ _ none).1 ∙ (stays_over after (pieces_of lines) is).0))
     split false is later =
-        ap (lines_text piece_text piece_behind s) (read_on piece_behind is_over s after line line lines false refl refl is) ∙ ap (λ t. here ++ t) later
+        ap (lines_text piece_text state_after_piece s) (read_on state_after_piece is_over s after line line lines false refl refl is) ∙ ap (λ t. here ++ t) later
 
 -- the first state, and the lines that are read from it
 abbrev start : StreamState
 start = (first_stock, [])
 
 answered_whole : (input : List ℕ) (outcome : StreamOutcome) (state : StreamState) (old mid new : Option (List ℕ))
-    → Appends old mid (lines_text piece_text piece_behind start (lines_read piece_behind is_over start (lines_of input)))
-    → state ≡ lines_behind piece_behind start (lines_read piece_behind is_over start (lines_of input))
-    → outcome.has_refused ≡ are_refused (λ _. false) (lines_read piece_behind is_over start (lines_of input))
+    → Appends old mid (lines_text piece_text state_after_piece start (lines_read state_after_piece is_over start (lines_of input)))
+    → state ≡ state_after_lines state_after_piece start (lines_read state_after_piece is_over start (lines_of input))
+    → outcome.has_refused ≡ are_refused (λ _. false) (lines_read state_after_piece is_over start (lines_of input))
     → outcome.end ≡ end_of state.1 → Appends mid new (tail_text outcome.end)
     → IsAnswered input outcome old new
 answered_whole input outcome state old mid new written state_is refused_is end_is tail =
     let bytes = stream_of input in
     let run = is_streamed [] [] first_stock [] bytes (fault_short [] (omega arith)) nothing_waits nothing_so_far in
-    let held : List ℕ = (piece_behind (first_stock, []) bytes).1 in
+    let held : List ℕ = (state_after_piece (first_stock, []) bytes).1 in
     let here : state.1 ≡ held = ap (λ s. s.1) (state_is ∙ read_moved (first_stock, []) (lines_of input) ∙ lines_moved (first_stock, []) (lines_of input)) in
     record {
       messages = run.more;
@@ -173,10 +173,10 @@ answered_whole input outcome state old mid new written state_is refused_is end_i
           let not = not_over (fault_in state.1) (length state.1) (ap is_refusal (sym end_is) ∙ none) in
           refused_is ∙ ap (are_refused (λ _. false)) (reads_all start (lines_of input) (ap is_over (sym state_is) ∙ not));
       text = λ none.
-          let all : lines_text piece_text piece_behind start (lines_read piece_behind is_over start (lines_of input)) ≡ replies_text first_stock run.more ++ fault_text (fault_in held) =
+          let all : lines_text piece_text state_after_piece start (lines_read state_after_piece is_over start (lines_of input)) ≡ replies_text first_stock run.more ++ fault_text (fault_in held) =
           read_written start (lines_of input) none ∙ lines_written (first_stock, []) (lines_of input) none ∙ run.texts in
           let both = Appends-trans old mid new _ (tail_text outcome.end) (subst (Appends old mid) all written) tail in
-          let ends : outcome.end ≡ ended (fault_in held) (length held) = end_is ∙ ap end_of here in
+          let ends : outcome.end ≡ end_by (fault_in held) (length held) = end_is ∙ ap end_of here in
           subst (Appends old new)
           (append_assoc (replies_text first_stock run.more) (fault_text (fault_in held)) (tail_text outcome.end)
           ∙ ap (λ e. replies_text first_stock run.more ++ (fault_text (fault_in held) ++ tail_text e)) ends
@@ -189,49 +189,49 @@ answered_whole input outcome state old mid new written state_is refused_is end_i
 
 -- what is to be shown of lines that are told
 abbrev Told : List (List ℕ) → Type 0
-Told lines = (s : StreamState) (text : List ℕ) (end : StreamEnd) (refused : Bool)
-    → text ≡ lines_text piece_text piece_behind s (lines_read piece_behind is_over s lines) ++ tail_text end
-    → end ≡ end_of (lines_behind piece_behind s (lines_read piece_behind is_over s lines)).1
-    → refused ≡ are_refused (λ _. false) (lines_read piece_behind is_over s lines)
+Told lines = (s : StreamState) (text : List ℕ) (end : InputEnd) (refused : Bool)
+    → text ≡ lines_text piece_text state_after_piece s (lines_read state_after_piece is_over s lines) ++ tail_text end
+    → end ≡ end_of (state_after_lines state_after_piece s (lines_read state_after_piece is_over s lines)).1
+    → refused ≡ are_refused (λ _. false) (lines_read state_after_piece is_over s lines)
     → fault_in s.1 ≡ None → BeginsWithNoMessage s.1 → AreTold lines s.0 s.1 text end refused
 
 -- a line that changes nothing does not end the command
 reads_on : (s : StreamState) (lines more : List (List ℕ)) → fault_in s.1 ≡ None
-    → more ≡ cond (is_over s) [] (lines_read piece_behind is_over s lines) → more ≡ lines_read piece_behind is_over s lines
-reads_on s lines more lawful is = is ∙ ap (λ o. cond (is_some o) [] (lines_read piece_behind is_over s lines)) lawful
+    → more ≡ cond (is_over s) [] (lines_read state_after_piece is_over s lines) → more ≡ lines_read state_after_piece is_over s lines
+reads_on s lines more lawful is = is ∙ ap (λ o. cond (is_some o) [] (lines_read state_after_piece is_over s lines)) lawful
 
-passed_over : (why : List ℕ) (lines : List (List ℕ)) → Told lines → (s : StreamState) (text : List ℕ) (end : StreamEnd) (refused : Bool) (more : List (List ℕ))
-    → text ≡ (why ++ lines_text piece_text piece_behind s more) ++ tail_text end → end ≡ end_of (lines_behind piece_behind s more).1 → refused ≡ true
-    → more ≡ lines_read piece_behind is_over s lines → fault_in s.1 ≡ None → BeginsWithNoMessage s.1
+passed_over : (why : List ℕ) (lines : List (List ℕ)) → Told lines → (s : StreamState) (text : List ℕ) (end : InputEnd) (refused : Bool) (more : List (List ℕ))
+    → text ≡ (why ++ lines_text piece_text state_after_piece s more) ++ tail_text end → end ≡ end_of (state_after_lines state_after_piece s more).1 → refused ≡ true
+    → more ≡ lines_read state_after_piece is_over s lines → fault_in s.1 ≡ None → BeginsWithNoMessage s.1
     → IsPassedOver why (AreTold lines) s.0 s.1 text end refused
 passed_over why lines later s text end refused more text_is end_is refused_is more_is lawful none = record {
-  more = lines_text piece_text piece_behind s more ++ tail_text end;
+  more = lines_text piece_text state_after_piece s more ++ tail_text end;
   others = are_refused (λ _. false) more;
-  text_is = text_is ∙ append_assoc why (lines_text piece_text piece_behind s more) (tail_text end);
+  text_is = text_is ∙ append_assoc why (lines_text piece_text state_after_piece s more) (tail_text end);
   is_refused = refused_is;
-  behind = later s _ end _ (ap (λ l. lines_text piece_text piece_behind s l ++ tail_text end) more_is) (end_is ∙ ap (λ l. end_of (lines_behind piece_behind s l).1) more_is) (ap (are_refused (λ _. false)) more_is) lawful none;
+  behind = later s _ end _ (ap (λ l. lines_text piece_text state_after_piece s l ++ tail_text end) more_is) (end_is ∙ ap (λ l. end_of (state_after_lines state_after_piece s l).1) more_is) (ap (are_refused (λ _. false)) more_is) lawful none;
 }
 
 -- a piece, and the lines behind it
-taken_piece : (piece : List ℕ) (lines : List (List ℕ)) → Told lines → (s : StreamState) (text : List ℕ) (end : StreamEnd) (refused : Bool) (more : List (List ℕ))
-    → text ≡ (piece_text s piece ++ lines_text piece_text piece_behind (piece_behind s piece) more) ++ tail_text end
-    → end ≡ end_of (lines_behind piece_behind (piece_behind s piece) more).1 → refused ≡ are_refused (λ _. false) more
-    → more ≡ cond (is_over (piece_behind s piece)) [] (lines_read piece_behind is_over (piece_behind s piece) lines)
+taken_piece : (piece : List ℕ) (lines : List (List ℕ)) → Told lines → (s : StreamState) (text : List ℕ) (end : InputEnd) (refused : Bool) (more : List (List ℕ))
+    → text ≡ (piece_text s piece ++ lines_text piece_text state_after_piece (state_after_piece s piece) more) ++ tail_text end
+    → end ≡ end_of (state_after_lines state_after_piece (state_after_piece s piece) more).1 → refused ≡ are_refused (λ _. false) more
+    → more ≡ cond (is_over (state_after_piece s piece)) [] (lines_read state_after_piece is_over (state_after_piece s piece) lines)
     → fault_in s.1 ≡ None → BeginsWithNoMessage s.1 → IsTaken piece (AreTold lines) s.0 s.1 text end refused
 taken_piece piece lines later s text end refused more text_is end_is refused_is more_is lawful none =
     record {
       messages = run.more;
       rest = after.1 ++ run.unread;
-      more = fault_text (fault_in after.1) ++ (lines_text piece_text piece_behind after more ++ tail_text end);
+      more = fault_text (fault_in after.1) ++ (lines_text piece_text state_after_piece after more ++ tail_text end);
       stream = run.stream;
       text_is =
-          text_is ∙ ap (λ t. (t ++ lines_text piece_text piece_behind after more) ++ tail_text end) run.texts
-          ∙ four (replies_text s.0 run.more) (fault_text (fault_in after.1)) (lines_text piece_text piece_behind after more) (tail_text end);
+          text_is ∙ ap (λ t. (t ++ lines_text piece_text state_after_piece after more) ++ tail_text end) run.texts
+          ∙ four (replies_text s.0 run.more) (fault_text (fault_in after.1)) (lines_text piece_text state_after_piece after more) (tail_text end);
       behind = split (fault_in after.1) refl;
     }
   where
     after : StreamState
-    after = piece_behind s piece
+    after = state_after_piece s piece
 
     run : IsStreamed s.1 piece [] s.0 (piece_text s piece) after
     run = is_streamed s.1 [] s.0 s.1 piece lawful none (record { whole = refl; each = tt })
@@ -240,42 +240,42 @@ taken_piece piece lines later s text end refused more text_is end_is refused_is 
     four a b c d = simp append_assoc
 
     split : (o : Option FrameFault) → fault_in after.1 ≡ o
-        → GoesOn (fault_in (after.1 ++ run.unread)) (AreTold lines) (records_behind s.0 run.more) (after.1 ++ run.unread)
-        (fault_text (fault_in after.1) ++ (lines_text piece_text piece_behind after more ++ tail_text end)) end refused
+        → GoesOn (fault_in (after.1 ++ run.unread)) (AreTold lines) (stock_after_messages s.0 run.more) (after.1 ++ run.unread)
+        (fault_text (fault_in after.1) ++ (lines_text piece_text state_after_piece after more ++ tail_text end)) end refused
     split (Some fault) is =
-        let none_more : more ≡ [] = more_is ∙ ap (λ o. cond (is_some o) [] (lines_read piece_behind is_over after lines)) is in
-        let refuses : end ≡ Refused fault = end_is ∙ ap (λ l. end_of (lines_behind piece_behind after l).1) none_more ∙ ap (λ o. ended o (length after.1)) is in
-        subst (λ o. GoesOn o (AreTold lines) (records_behind s.0 run.more) (after.1 ++ run.unread) (fault_text (fault_in after.1) ++ (lines_text piece_text piece_behind after more ++ tail_text end)) end refused)
+        let none_more : more ≡ [] = more_is ∙ ap (λ o. cond (is_some o) [] (lines_read state_after_piece is_over after lines)) is in
+        let refuses : end ≡ Refused fault = end_is ∙ ap (λ l. end_of (state_after_lines state_after_piece after l).1) none_more ∙ ap (λ o. end_by o (length after.1)) is in
+        subst (λ o. GoesOn o (AreTold lines) (stock_after_messages s.0 run.more) (after.1 ++ run.unread) (fault_text (fault_in after.1) ++ (lines_text piece_text state_after_piece after more ++ tail_text end)) end refused)
         (sym (run.fault ∙ is)) (
-          ap (λ o. fault_text o ++ (lines_text piece_text piece_behind after more ++ tail_text end)) is
-              ∙ ap (λ l. refusal_text fault ++ (lines_text piece_text piece_behind after l ++ tail_text end)) none_more
-              ∙ ap (λ e. refusal_text fault ++ tail_text e) refuses
-              ∙ append-nil (refusal_text fault),
+          ap (λ o. fault_text o ++ (lines_text piece_text state_after_piece after more ++ tail_text end)) is
+              ∙ ap (λ l. stream_refusal_text fault ++ (lines_text piece_text state_after_piece after l ++ tail_text end)) none_more
+              ∙ ap (λ e. stream_refusal_text fault ++ tail_text e) refuses
+              ∙ append-nil (stream_refusal_text fault),
           refuses,
           refused_is ∙ ap (are_refused (λ _. false)) none_more,
         )
     split None is =
-        let all : more ≡ lines_read piece_behind is_over after lines = reads_on after lines more is more_is in
+        let all : more ≡ lines_read state_after_piece is_over after lines = reads_on after lines more is more_is in
         let nothing_left : after.1 ++ run.unread ≡ after.1 = ap (λ u. after.1 ++ u) (run.all_read is) ∙ append-nil after.1 in
-        let text_here : fault_text (fault_in after.1) ++ (lines_text piece_text piece_behind after more ++ tail_text end)
-        ≡ lines_text piece_text piece_behind after (lines_read piece_behind is_over after lines) ++ tail_text end =
-        ap (λ o. fault_text o ++ (lines_text piece_text piece_behind after more ++ tail_text end)) is ∙ ap (λ l. lines_text piece_text piece_behind after l ++ tail_text end) all in
-        let told = later after _ end refused text_here (end_is ∙ ap (λ l. end_of (lines_behind piece_behind after l).1) all) (refused_is ∙ ap (are_refused (λ _. false)) all) is (stays_ready s piece none) in
-        subst (λ o. GoesOn o (AreTold lines) (records_behind s.0 run.more) (after.1 ++ run.unread) (fault_text (fault_in after.1) ++ (lines_text piece_text piece_behind after more ++ tail_text end)) end refused)
+        let text_here : fault_text (fault_in after.1) ++ (lines_text piece_text state_after_piece after more ++ tail_text end)
+        ≡ lines_text piece_text state_after_piece after (lines_read state_after_piece is_over after lines) ++ tail_text end =
+        ap (λ o. fault_text o ++ (lines_text piece_text state_after_piece after more ++ tail_text end)) is ∙ ap (λ l. lines_text piece_text state_after_piece after l ++ tail_text end) all in
+        let told = later after _ end refused text_here (end_is ∙ ap (λ l. end_of (state_after_lines state_after_piece after l).1) all) (refused_is ∙ ap (are_refused (λ _. false)) all) is (stays_ready s piece none) in
+        subst (λ o. GoesOn o (AreTold lines) (stock_after_messages s.0 run.more) (after.1 ++ run.unread) (fault_text (fault_in after.1) ++ (lines_text piece_text state_after_piece after more ++ tail_text end)) end refused)
         (sym (run.fault ∙ is))
-        (subst (λ r. AreTold lines r (after.1 ++ run.unread) (fault_text (fault_in after.1) ++ (lines_text piece_text piece_behind after more ++ tail_text end)) end refused) run.records
-        (subst (λ h. AreTold lines after.0 h (fault_text (fault_in after.1) ++ (lines_text piece_text piece_behind after more ++ tail_text end)) end refused) (sym nothing_left) told))
+        (subst (λ r. AreTold lines r (after.1 ++ run.unread) (fault_text (fault_in after.1) ++ (lines_text piece_text state_after_piece after more ++ tail_text end)) end refused) run.records
+        (subst (λ h. AreTold lines after.0 h (fault_text (fault_in after.1) ++ (lines_text piece_text state_after_piece after more ++ tail_text end)) end refused) (sym nothing_left) told))
 
 -- a line, by what it says
-told_line : (y : Saying) (lines : List (List ℕ)) → Told lines → (s : StreamState) (text : List ℕ) (end : StreamEnd) (refused : Bool) (more : List (List ℕ))
-    → text ≡ (saying_text piece_text s y ++ lines_text piece_text piece_behind (behind_saying piece_behind s y) more) ++ tail_text end
-    → end ≡ end_of (lines_behind piece_behind (behind_saying piece_behind s y) more).1
-    → refused ≡ (is_refused (λ _. false) y || are_refused (λ _. false) more)
-    → more ≡ cond (is_over (behind_saying piece_behind s y)) [] (lines_read piece_behind is_over (behind_saying piece_behind s y) lines)
+told_line : (y : Saying) (lines : List (List ℕ)) → Told lines → (s : StreamState) (text : List ℕ) (end : InputEnd) (refused : Bool) (more : List (List ℕ))
+    → text ≡ (saying_text piece_text s y ++ lines_text piece_text state_after_piece (state_after_saying state_after_piece s y) more) ++ tail_text end
+    → end ≡ end_of (state_after_lines state_after_piece (state_after_saying state_after_piece s y) more).1
+    → refused ≡ (is_saying_refused (λ _. false) y || are_refused (λ _. false) more)
+    → more ≡ cond (is_over (state_after_saying state_after_piece s y)) [] (lines_read state_after_piece is_over (state_after_saying state_after_piece s y) lines)
     → fault_in s.1 ≡ None → BeginsWithNoMessage s.1 → IsTold y (AreTold lines) s.0 s.1 text end refused
 told_line nothing lines later s text end refused more text_is end_is refused_is more_is lawful none =
     let all = reads_on s lines more lawful more_is in
-    later s text end refused (text_is ∙ ap (λ l. lines_text piece_text piece_behind s l ++ tail_text end) all) (end_is ∙ ap (λ l. end_of (lines_behind piece_behind s l).1) all) (refused_is ∙ ap (are_refused (λ _. false)) all) lawful none
+    later s text end refused (text_is ∙ ap (λ l. lines_text piece_text state_after_piece s l ++ tail_text end) all) (end_is ∙ ap (λ l. end_of (state_after_lines state_after_piece s l).1) all) (refused_is ∙ ap (are_refused (λ _. false)) all) lawful none
 told_line too_long lines later s text end refused more text_is end_is refused_is more_is lawful none =
     passed_over (codes "refused: length\n") lines later s text end refused more text_is end_is refused_is (reads_on s lines more lawful more_is) lawful none
 told_line no_hex lines later s text end refused more text_is end_is refused_is more_is lawful none =
@@ -291,21 +291,21 @@ are_told [] s text end refused text_is end_is refused_is lawful none = (
 )
 are_told (line ∷ lines) s text end refused text_is end_is refused_is lawful none =
     let y = saying_of line in
-    let after = behind_saying piece_behind s y in
-    let more = cond (is_over after) [] (lines_read piece_behind is_over after lines) in
+    let after = state_after_saying state_after_piece s y in
+    let more = cond (is_over after) [] (lines_read state_after_piece is_over after lines) in
     told_line y lines (are_told lines) s text end refused more text_is end_is refused_is refl lawful none
 
 pub stream_written : (read : Option (List ℕ)) (outcome : StreamOutcome) (stock : Stock) (held : List ℕ) (state : StreamState) (old mid new : Option (List ℕ))
     → (stock ≡ first_stock) × (held ≡ [])
-    → IfSome read (λ input. Appends old mid (lines_text piece_text piece_behind (stock, held) (lines_read piece_behind is_over (stock, held) (lines_of input))))
-    → IfSome read (λ input. state ≡ lines_behind piece_behind (stock, held) (lines_read piece_behind is_over (stock, held) (lines_of input)))
-    → IfSome read (λ input. outcome.has_refused ≡ are_refused (λ _. false) (lines_read piece_behind is_over (stock, held) (lines_of input)))
+    → IfSome read (λ input. Appends old mid (lines_text piece_text state_after_piece (stock, held) (lines_read state_after_piece is_over (stock, held) (lines_of input))))
+    → IfSome read (λ input. state ≡ state_after_lines state_after_piece (stock, held) (lines_read state_after_piece is_over (stock, held) (lines_of input)))
+    → IfSome read (λ input. outcome.has_refused ≡ are_refused (λ _. false) (lines_read state_after_piece is_over (stock, held) (lines_of input)))
     → outcome.end ≡ end_of state.1 → Appends mid new (tail_text outcome.end)
     → IfSome read (λ input. IsWritten input outcome old new)
 stream_written None outcome stock held state old mid new first written state_is refused_is end_is tail = tt
 stream_written (Some input) outcome stock held state old mid new first written state_is refused_is end_is tail =
     let s : StreamState = (stock, held) in
-    let text = lines_text piece_text piece_behind s (lines_read piece_behind is_over s (lines_of input)) ++ tail_text outcome.end in
+    let text = lines_text piece_text state_after_piece s (lines_read state_after_piece is_over s (lines_of input)) ++ tail_text outcome.end in
     let lawful = ap fault_in first.1 ∙ fault_short [] (omega arith) in
     let told = are_told (lines_of input) s text outcome.end outcome.has_refused refl (end_is ∙ ap (λ x. end_of x.1) state_is) refused_is lawful (subst BeginsWithNoMessage (sym first.1) nothing_waits) in
     record {
@@ -316,22 +316,22 @@ stream_written (Some input) outcome stock held state old mid new first written s
 
 pub stream_answered : (read : Option (List ℕ)) (outcome : StreamOutcome) (stock : Stock) (held : List ℕ) (state : StreamState) (old mid new : Option (List ℕ))
     → (stock ≡ first_stock) × (held ≡ [])
-    → IfSome read (λ input. Appends old mid (lines_text piece_text piece_behind (stock, held) (lines_read piece_behind is_over (stock, held) (lines_of input))))
-    → IfSome read (λ input. state ≡ lines_behind piece_behind (stock, held) (lines_read piece_behind is_over (stock, held) (lines_of input)))
-    → IfSome read (λ input. outcome.has_refused ≡ are_refused (λ _. false) (lines_read piece_behind is_over (stock, held) (lines_of input)))
+    → IfSome read (λ input. Appends old mid (lines_text piece_text state_after_piece (stock, held) (lines_read state_after_piece is_over (stock, held) (lines_of input))))
+    → IfSome read (λ input. state ≡ state_after_lines state_after_piece (stock, held) (lines_read state_after_piece is_over (stock, held) (lines_of input)))
+    → IfSome read (λ input. outcome.has_refused ≡ are_refused (λ _. false) (lines_read state_after_piece is_over (stock, held) (lines_of input)))
     → outcome.end ≡ end_of state.1 → Appends mid new (tail_text outcome.end)
     → IfSome read (λ input. IsAnswered input outcome old new)
 stream_answered None outcome stock held state old mid new first written state_is refused_is end_is tail = tt
 stream_answered (Some input) outcome stock held state old mid new first written state_is refused_is end_is tail =
     let is : (stock, held) ≡ start = ap (λ r. (r, held)) first.0 ∙ ap (λ h. (first_stock, h)) first.1 in
     answered_whole input outcome state old mid new
-    (subst (λ (s : StreamState). Appends old mid (lines_text piece_text piece_behind s (lines_read piece_behind is_over s (lines_of input)))) is written)
-    (subst (λ (s : StreamState). state ≡ lines_behind piece_behind s (lines_read piece_behind is_over s (lines_of input))) is state_is)
-    (subst (λ (s : StreamState). outcome.has_refused ≡ are_refused (λ _. false) (lines_read piece_behind is_over s (lines_of input))) is refused_is)
+    (subst (λ (s : StreamState). Appends old mid (lines_text piece_text state_after_piece s (lines_read state_after_piece is_over s (lines_of input)))) is written)
+    (subst (λ (s : StreamState). state ≡ state_after_lines state_after_piece s (lines_read state_after_piece is_over s (lines_of input))) is state_is)
+    (subst (λ (s : StreamState). outcome.has_refused ≡ are_refused (λ _. false) (lines_read state_after_piece is_over s (lines_of input))) is refused_is)
     end_is tail
 
 -- where nothing was refused and the stream is whole, it is messages to its end
-whole_rest : (rest : List ℕ) (o : Option FrameFault) → is_whole_end (ended o (length rest)) ≡ true → rest ≡ []
+whole_rest : (rest : List ℕ) (o : Option FrameFault) → is_whole_end (end_by o (length rest)) ≡ true → rest ≡ []
 whole_rest rest (Some fault) whole = absurd (true≢false (sym whole))
 whole_rest [] None whole = refl
 whole_rest (x ∷ xs) None whole = split (eqb (length (x ∷ xs)) 0) refl whole
@@ -345,7 +345,7 @@ whole_parts true b is = absurd (true≢false is)
 whole_parts false true is = (refl, refl)
 whole_parts false false is = absurd (true≢false is)
 
-whole_end : (end : StreamEnd) → is_whole_end end ≡ true → end ≡ Whole
+whole_end : (end : InputEnd) → is_whole_end end ≡ true → end ≡ Whole
 whole_end Whole whole = refl
 whole_end (Cut left) whole = absurd (true≢false (sym whole))
 whole_end (Refused fault) whole = absurd (true≢false (sym whole))

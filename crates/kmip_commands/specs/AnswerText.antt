@@ -3,12 +3,12 @@
 use Rattle.std.specs.Prelude.{ℕ, pos, List, [], ◌∷◌, ◌++◌, replicate}
 use Rattle.hex.specs.Hex.{encode_lower}
 use Rattle.kmip_store.specs.Stock.{Stock, empty_stock}
-use Rattle.kmip_server.specs.Serving.{served, stock_after}
+use Rattle.kmip_server.specs.Serving.{reply_bytes, stock_after}
 use Rattle.kmip_commands.specs.LineText.{input_text}
 
 -- what is written for a message: the server's reply in hexadecimal, and a line feed
 abbrev pub reply_text : Stock → List ℕ → List ℕ
-reply_text stock message = encode_lower (served stock message (pos 0)) ++ 10 ∷ []
+reply_text stock message = encode_lower (reply_bytes stock message (pos 0)) ++ 10 ∷ []
 
 -- the records at first: none, room for 10,000, and the stream of a seed of 32 zeros
 abbrev pub first_stock : Stock

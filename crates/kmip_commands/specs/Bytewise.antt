@@ -1,14 +1,14 @@
 -- `answer --stream` byte by byte, for its proof: no public contract names it.
 use Rattle.std.specs.Prelude.{ℕ, ◌==◌, Bool, true, false, if◌then◌else◌, List, [], ◌∷◌, ◌++◌, length, Option, Some, None, is_some}
-use Rattle.kmip_frames.specs.Framing.{fault_in, needed}
+use Rattle.kmip_frames.specs.Framing.{fault_in, size_needed}
 use Rattle.kmip_frames.specs.Streams.{BeginsWithNoMessage}
 use Rattle.kmip_frames.specs.declared.fault.FrameFault.{FrameFault}
 use Rattle.kmip_store.specs.Stock.{Stock}
 use Rattle.kmip_server.specs.Serving.{stock_after}
 use Rattle.kmip_commands.specs.AnswerText.{reply_text}
-use Rattle.kmip_commands.specs.StreamText.{refusal_text, cut_text}
-use Rattle.kmip_commands.specs.declared.streaming.StreamEnd.{StreamEnd}
-use Rattle.kmip_commands.specs.declared.streaming.StreamEnd.TheVariants.{Whole, Cut, Refused}
+use Rattle.kmip_commands.specs.StreamText.{stream_refusal_text, cut_text}
+use Rattle.kmip_commands.specs.declared.streaming.InputEnd.{InputEnd}
+use Rattle.kmip_commands.specs.declared.streaming.InputEnd.TheVariants.{Whole, Cut, Refused}
 
 -- the records, and the bytes that the framer holds
 abbrev pub StreamState : Type 0
@@ -24,7 +24,7 @@ IsReady s = BeginsWithNoMessage s.1
 
 -- what is written where a byte made these bytes, by their fault and whether they are as many as are needed
 abbrev pub made_text : Option FrameFault → Bool → Stock → List ℕ → List ℕ
-made_text (Some fault) whole stock held = refusal_text fault
+made_text (Some fault) whole stock held = stream_refusal_text fault
 made_text None true stock held = reply_text stock held
 made_text None false stock held = []
 
@@ -38,24 +38,24 @@ made None false stock held = (stock, held)
 abbrev pub byte_text : StreamState → ℕ → List ℕ
 byte_text s b =
     if is_over s then []
-    else made_text (fault_in (s.1 ++ b ∷ [])) (length (s.1 ++ b ∷ []) == needed (s.1 ++ b ∷ [])) s.0 (s.1 ++ b ∷ [])
+    else made_text (fault_in (s.1 ++ b ∷ [])) (length (s.1 ++ b ∷ []) == size_needed (s.1 ++ b ∷ [])) s.0 (s.1 ++ b ∷ [])
 
-abbrev pub byte_behind : StreamState → ℕ → StreamState
-byte_behind s b =
+abbrev pub state_after_byte : StreamState → ℕ → StreamState
+state_after_byte s b =
     if is_over s then s
-    else made (fault_in (s.1 ++ b ∷ [])) (length (s.1 ++ b ∷ []) == needed (s.1 ++ b ∷ [])) s.0 (s.1 ++ b ∷ [])
+    else made (fault_in (s.1 ++ b ∷ [])) (length (s.1 ++ b ∷ []) == size_needed (s.1 ++ b ∷ [])) s.0 (s.1 ++ b ∷ [])
 
 -- what is written for the bytes of a piece, and the state behind them
 abbrev pub piece_text : StreamState → List ℕ → List ℕ
 piece_text s [] = []
-piece_text s (b ∷ bytes) = byte_text s b ++ piece_text (byte_behind s b) bytes
+piece_text s (b ∷ bytes) = byte_text s b ++ piece_text (state_after_byte s b) bytes
 
-abbrev pub piece_behind : StreamState → List ℕ → StreamState
-piece_behind s [] = s
-piece_behind s (b ∷ bytes) = piece_behind (byte_behind s b) bytes
+abbrev pub state_after_piece : StreamState → List ℕ → StreamState
+state_after_piece s [] = s
+state_after_piece s (b ∷ bytes) = state_after_piece (state_after_byte s b) bytes
 
 -- what is written once the lines have ended: a fault was written when it came
-abbrev pub tail_text : StreamEnd → List ℕ
+abbrev pub tail_text : InputEnd → List ℕ
 tail_text Whole = []
 tail_text (Cut left) = cut_text left
 tail_text (Refused fault) = []

@@ -3,12 +3,12 @@ use Rattle.std.proofs.Common.{◌≡◌, ℕ, ◌+◌, ◌≤◌, Bool, true, fa
 use Rattle.std.proofs.lemmas.Bool.{cases_lt}
 use Rattle.std.proofs.lemmas.List.{length-append, take_at, take-append-le, take-append-drop}
 use Rattle.kmip_frames.specs.declared.fault.FrameFault.{FrameFault}
-use Rattle.kmip_frames.specs.Framing.{fault_in, needed}
+use Rattle.kmip_frames.specs.Framing.{fault_in, size_needed}
 use Rattle.kmip_frames.specs.Streams.{IsMessage, BeginsWithNoMessage}
 use Rattle.kmip_frames.proofs.Sizes.{fault_short, fault_more}
 use Rattle.kmip_frames.proofs.Messages.{message_size, fault_no_message}
 use Rattle.kmip_store.specs.Stock.{Stock}
-use Rattle.kmip_commands.specs.Bytewise.{StreamState, is_over, IsReady, made_text, made, byte_text, byte_behind, piece_text, piece_behind}
+use Rattle.kmip_commands.specs.Bytewise.{StreamState, is_over, IsReady, made_text, made, byte_text, state_after_byte, piece_text, state_after_piece}
 
 -- what has no fault has none at its front
 pub no_fault_front : (s more : List ℕ) → fault_in (s ++ more) ≡ None → fault_in s ≡ None
@@ -16,21 +16,21 @@ no_fault_front s more is = elim (cases_lt (length s) 8) [ inl short ↦ fault_sh
 
 -- a byte joins bytes that are no fault
 pub byte_made : (stock : Stock) (held : List ℕ) (b : ℕ) (o : Option FrameFault) (whole : Bool) → fault_in held ≡ None → fault_in (held ++ b ∷ []) ≡ o
-    → eqb (length (held ++ b ∷ [])) (needed (held ++ b ∷ [])) ≡ whole
-    → (byte_text (stock, held) b ≡ made_text o whole stock (held ++ b ∷ [])) × (byte_behind (stock, held) b ≡ made o whole stock (held ++ b ∷ []))
+    → eqb (length (held ++ b ∷ [])) (size_needed (held ++ b ∷ [])) ≡ whole
+    → (byte_text (stock, held) b ≡ made_text o whole stock (held ++ b ∷ [])) × (state_after_byte (stock, held) b ≡ made o whole stock (held ++ b ∷ []))
 byte_made stock held b o whole lawful is size = rw (lawful, is, size) (refl, refl)
 
 -- a byte joins a fault
-pub byte_over : (s : StreamState) (b : ℕ) → is_over s ≡ true → (byte_text s b ≡ []) × (byte_behind s b ≡ s)
+pub byte_over : (s : StreamState) (b : ℕ) → is_over s ≡ true → (byte_text s b ≡ []) × (state_after_byte s b ≡ s)
 byte_over s b over = rw over (refl, refl)
 
 -- behind a fault nothing is written, and nothing changes
-pub stays_over : (s : StreamState) (bytes : List ℕ) → is_over s ≡ true → (piece_text s bytes ≡ []) × (piece_behind s bytes ≡ s)
+pub stays_over : (s : StreamState) (bytes : List ℕ) → is_over s ≡ true → (piece_text s bytes ≡ []) × (state_after_piece s bytes ≡ s)
 stays_over s [] over = (refl, refl)
 stays_over s (b ∷ bytes) over =
     let one = byte_over s b over in
     let more = stays_over s bytes over in
-    (ap (λ t. t ++ piece_text (byte_behind s b) bytes) one.0 ∙ ap (λ s'. piece_text s' bytes) one.1 ∙ more.0, ap (λ s'. piece_behind s' bytes) one.1 ∙ more.1)
+    (ap (λ t. t ++ piece_text (state_after_byte s b) bytes) one.0 ∙ ap (λ s'. piece_text s' bytes) one.1 ∙ more.0, ap (λ s'. state_after_piece s' bytes) one.1 ∙ more.1)
 
 pub nothing_waits : BeginsWithNoMessage []
 nothing_waits m more is message =
@@ -49,16 +49,16 @@ longer_waits held b none not m (c ∷ more) is message =
 
 -- no message waits behind a byte, where none did before it
 ready_byte : (stock : Stock) (held : List ℕ) (b : ℕ) (o : Option FrameFault) (whole : Bool) → fault_in held ≡ None → fault_in (held ++ b ∷ []) ≡ o
-    → eqb (length (held ++ b ∷ [])) (needed (held ++ b ∷ [])) ≡ whole → BeginsWithNoMessage held → IsReady (made o whole stock (held ++ b ∷ []))
+    → eqb (length (held ++ b ∷ [])) (size_needed (held ++ b ∷ [])) ≡ whole → BeginsWithNoMessage held → IsReady (made o whole stock (held ++ b ∷ []))
 ready_byte stock held b (Some fault) whole lawful is size none = fault_no_message (held ++ b ∷ []) fault is
 ready_byte stock held b None true lawful is size none = nothing_waits
 ready_byte stock held b None false lawful is size none =
     longer_waits held b none (λ message. true≢false (sym (eq-eqb _ _ (message_size (held ++ b ∷ []) message)) ∙ size))
 
-pub stays_ready : (s : StreamState) (bytes : List ℕ) → IsReady s → IsReady (piece_behind s bytes)
+pub stays_ready : (s : StreamState) (bytes : List ℕ) → IsReady s → IsReady (state_after_piece s bytes)
 stays_ready s [] ready = ready
-stays_ready s (b ∷ bytes) ready = stays_ready (byte_behind s b) bytes (split (fault_in s.1) refl)
+stays_ready s (b ∷ bytes) ready = stays_ready (state_after_byte s b) bytes (split (fault_in s.1) refl)
   where
-    split : (o : Option FrameFault) → fault_in s.1 ≡ o → IsReady (byte_behind s b)
+    split : (o : Option FrameFault) → fault_in s.1 ≡ o → IsReady (state_after_byte s b)
     split (Some fault) is = subst IsReady (sym (byte_over s b (ap is_some is)).1) ready
     split None is = subst IsReady (sym (byte_made s.0 s.1 b _ _ is refl refl).1) (ready_byte s.0 s.1 b _ _ is refl refl ready)

@@ -55,30 +55,30 @@ field_text None = []
 field_text (Some word) = codes " " ++ word
 
 -- the place of the key at fault, where there is one
-abbrev pub place_text : Option ℕ → List ℕ
-place_text None = []
-place_text (Some place) = codes " at key " ++ decimal place
+abbrev pub key_place_text : Option ℕ → List ℕ
+key_place_text None = []
+key_place_text (Some place) = codes " at key " ++ decimal place
 
 -- the number, the name, the field and the place of a fault
-unfoldable pub refusal_text : PlanFault → List ℕ
-refusal_text fault =
+unfoldable pub plan_refusal_text : PlanFault → List ℕ
+plan_refusal_text fault =
     codes "plan refused: "
     ++ decimal (plan_fault_number fault)
     ++ codes " "
     ++ plan_fault_name fault
     ++ field_text (plan_fault_field fault)
-    ++ place_text (plan_fault_place fault)
+    ++ key_place_text (plan_fault_place fault)
     ++ codes "\n"
 
 -- what is written for what was read of a plan
 abbrev pub check_text : Result (List Key) PlanFault → List ℕ
 check_text (Ok keys) = keys_text keys
-check_text (Err fault) = refusal_text fault
+check_text (Err fault) = plan_refusal_text fault
 
 -- no plan was read
-abbrev pub is_refused : Result (List Key) PlanFault → Bool
-is_refused (Ok keys) = false
-is_refused (Err fault) = true
+abbrev pub is_plan_refused : Result (List Key) PlanFault → Bool
+is_plan_refused (Ok keys) = false
+is_plan_refused (Err fault) = true
 
 -- want of memory is no refusal
 abbrev pub is_memory : PlanFault → Bool

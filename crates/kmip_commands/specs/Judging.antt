@@ -27,23 +27,23 @@ saying_of line =
     else saying_decoded (decode_of line)
 
 -- what is judged, as a contract sees it
-abbrev pub judged : Judged → Saying
-judged Empty = nothing
-judged Long = too_long
-judged NotHex = no_hex
-judged (Message bytes) = message bytes.items
+abbrev pub judge : Judged → Saying
+judge Empty = nothing
+judge Long = too_long
+judge NotHex = no_hex
+judge (Message bytes) = message bytes.items
 
 -- whether a line is refused, by a command that refuses some messages
-abbrev pub is_refused : (List ℕ → Bool) → Saying → Bool
-is_refused refuses nothing = false
-is_refused refuses too_long = true
-is_refused refuses no_hex = true
-is_refused refuses (message bytes) = refuses bytes
+abbrev pub is_saying_refused : (List ℕ → Bool) → Saying → Bool
+is_saying_refused refuses nothing = false
+is_saying_refused refuses too_long = true
+is_saying_refused refuses no_hex = true
+is_saying_refused refuses (message bytes) = refuses bytes
 
 -- whether one of the lines is refused
 abbrev pub are_refused : (List ℕ → Bool) → List (List ℕ) → Bool
 are_refused refuses [] = false
-are_refused refuses (line ∷ lines) = is_refused refuses (saying_of line) || are_refused refuses lines
+are_refused refuses (line ∷ lines) = is_saying_refused refuses (saying_of line) || are_refused refuses lines
 
 -- whether a line of the input is refused
 abbrev pub has_refused : (List ℕ → Bool) → List ℕ → Bool

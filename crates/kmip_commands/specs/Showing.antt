@@ -32,22 +32,22 @@ unfoldable pub extra_text : ℕ → List ℕ
 extra_text size = codes "refused: extra at " ++ decimal size ++ codes "\n"
 
 -- the offset of a fault; want of memory has none, and is no refusal
-abbrev pub place_text : Option ℕ → List ℕ
-place_text (Some at) = codes " at " ++ decimal at
-place_text None = []
+abbrev pub offset_text : Option ℕ → List ℕ
+offset_text (Some at) = codes " at " ++ decimal at
+offset_text None = []
 
 -- the number, the name and the place of a fault
 abbrev pub fault_text : TtlvFault → List ℕ
-fault_text fault = codes "refused: " ++ decimal (fault_number fault) ++ codes " " ++ fault_name fault ++ place_text (fault_offset fault) ++ codes "\n"
+fault_text fault = codes "refused: " ++ decimal (fault_number fault) ++ codes " " ++ fault_name fault ++ offset_text (fault_offset fault) ++ codes "\n"
 
 -- what is written for what was read of so many bytes
-abbrev pub read_text : Form → ℕ → Result (Node × ℕ) TtlvFault → List ℕ
-read_text form len (Ok x) = if x.1 == len then item_text form x.0 else extra_text x.1
-read_text form len (Err fault) = fault_text fault
+abbrev pub text_of_read : Form → ℕ → Result (Node × ℕ) TtlvFault → List ℕ
+text_of_read form len (Ok x) = if x.1 == len then item_text form x.0 else extra_text x.1
+text_of_read form len (Err fault) = fault_text fault
 
 -- what is written for a message
 unfoldable pub show_text : Form → List ℕ → List ℕ
-show_text form bytes = read_text form (length bytes) (item_at 16 0 bytes)
+show_text form bytes = text_of_read form (length bytes) (item_at 16 0 bytes)
 
 -- what `show` writes for its whole input: no message changes what is written for the next
 abbrev pub shown_input : Form → List ℕ → List ℕ

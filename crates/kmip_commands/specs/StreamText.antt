@@ -13,8 +13,8 @@ use Rattle.kmip_server.specs.Serving.{stock_after}
 use Rattle.kmip_commands.specs.AnswerText.{first_stock, reply_text}
 use Rattle.kmip_commands.specs.Judging.{Saying, nothing, too_long, no_hex, message, saying_of, has_refused}
 use Rattle.kmip_commands.specs.Lines.{lines_of}
-use Rattle.kmip_commands.specs.declared.streaming.StreamEnd.{StreamEnd}
-use Rattle.kmip_commands.specs.declared.streaming.StreamEnd.TheVariants.{Whole, Cut, Refused}
+use Rattle.kmip_commands.specs.declared.streaming.InputEnd.{InputEnd}
+use Rattle.kmip_commands.specs.declared.streaming.InputEnd.TheVariants.{Whole, Cut, Refused}
 use Rattle.kmip_commands.specs.declared.streaming.StreamOutcome.{StreamOutcome}
 
 -- the bytes that a line adds to the stream: none where it is empty or refused
@@ -38,36 +38,36 @@ replies_text stock [] = []
 replies_text stock (m ∷ messages) = reply_text stock m ++ replies_text (stock_after stock m) messages
 
 -- how a stream ends, by the fault of what is left of it and its size
-abbrev pub ended : Option FrameFault → ℕ → StreamEnd
-ended (Some fault) left = Refused fault
-ended None left = if left == 0 then Whole else Cut left
+abbrev pub end_by : Option FrameFault → ℕ → InputEnd
+end_by (Some fault) left = Refused fault
+end_by None left = if left == 0 then Whole else Cut left
 
 -- how a stream ends of which this rest is left
-abbrev pub end_of : List ℕ → StreamEnd
-end_of rest = ended (fault_in rest) (length rest)
+abbrev pub end_of : List ℕ → InputEnd
+end_of rest = end_by (fault_in rest) (length rest)
 
 -- the number and the name of the fault of a head
-unfoldable pub refusal_text : FrameFault → List ℕ
-refusal_text fault = codes "stream refused: " ++ decimal (frame_fault_number fault) ++ codes " " ++ frame_fault_name fault ++ codes "\n"
+unfoldable pub stream_refusal_text : FrameFault → List ℕ
+stream_refusal_text fault = codes "stream refused: " ++ decimal (frame_fault_number fault) ++ codes " " ++ frame_fault_name fault ++ codes "\n"
 
 -- how many bytes are left
 unfoldable pub cut_text : ℕ → List ℕ
 cut_text left = codes "stream cut: " ++ decimal left ++ codes "\n"
 
 -- what is written at the end
-abbrev pub end_text : StreamEnd → List ℕ
+abbrev pub end_text : InputEnd → List ℕ
 end_text Whole = []
 end_text (Cut left) = cut_text left
-end_text (Refused fault) = refusal_text fault
+end_text (Refused fault) = stream_refusal_text fault
 
 -- the lines behind a fault are not looked at
-abbrev pub is_refusal : StreamEnd → Bool
+abbrev pub is_refusal : InputEnd → Bool
 is_refusal Whole = false
 is_refusal (Cut left) = false
 is_refusal (Refused fault) = true
 
 -- no line was refused, and the stream neither refused nor cut
-abbrev pub is_whole_end : StreamEnd → Bool
+abbrev pub is_whole_end : InputEnd → Bool
 is_whole_end Whole = true
 is_whole_end (Cut left) = false
 is_whole_end (Refused fault) = false
@@ -76,17 +76,17 @@ abbrev pub is_whole : StreamOutcome → Bool
 is_whole outcome = not outcome.has_refused && is_whole_end outcome.end
 
 -- the records behind messages in turn
-abbrev pub records_behind : Stock → List (List ℕ) → Stock
-records_behind stock [] = stock
-records_behind stock (m ∷ messages) = records_behind (stock_after stock m) messages
+abbrev pub stock_after_messages : Stock → List (List ℕ) → Stock
+stock_after_messages stock [] = stock
+stock_after_messages stock (m ∷ messages) = stock_after_messages (stock_after stock m) messages
 
 -- what is said of lines, where the records are these and so much is held of a message: what is written, how the stream ends,
 -- and whether a line is refused
 abbrev pub Telling : Type 1
-Telling = Stock → List ℕ → List ℕ → StreamEnd → Bool → Type 0
+Telling = Stock → List ℕ → List ℕ → InputEnd → Bool → Type 0
 
 -- a refused line says why, and the stream goes on behind it
-pub record IsPassedOver (why : List ℕ) (later : Telling) (stock : Stock) (held text : List ℕ) (end : StreamEnd) (refused : Bool) : Type 0 where
+pub record IsPassedOver (why : List ℕ) (later : Telling) (stock : Stock) (held text : List ℕ) (end : InputEnd) (refused : Bool) : Type 0 where
   pub more : List ℕ
   pub others : Bool
   pub text_is : text ≡ why ++ more
@@ -95,17 +95,17 @@ pub record IsPassedOver (why : List ℕ) (later : Telling) (stock : Stock) (held
 
 -- what comes behind a piece: no line is looked at behind a fault
 abbrev pub GoesOn : Option FrameFault → Telling → Telling
-GoesOn (Some fault) later stock held text end refused = (text ≡ refusal_text fault) × (end ≡ Refused fault) × (refused ≡ false)
+GoesOn (Some fault) later stock held text end refused = (text ≡ stream_refusal_text fault) × (end ≡ Refused fault) × (refused ≡ false)
 GoesOn None later stock held text end refused = later stock held text end refused
 
 -- a piece is answered by the replies to the messages that are whole with it
-pub record IsTaken (piece : List ℕ) (later : Telling) (stock : Stock) (held text : List ℕ) (end : StreamEnd) (refused : Bool) : Type 0 where
+pub record IsTaken (piece : List ℕ) (later : Telling) (stock : Stock) (held text : List ℕ) (end : InputEnd) (refused : Bool) : Type 0 where
   pub messages : List (List ℕ)
   pub rest : List ℕ
   pub more : List ℕ
   pub stream : Stream (held ++ piece) messages rest
   pub text_is : text ≡ replies_text stock messages ++ more
-  pub behind : GoesOn (fault_in rest) later (records_behind stock messages) rest more end refused
+  pub behind : GoesOn (fault_in rest) later (stock_after_messages stock messages) rest more end refused
 
 abbrev pub IsTold : Saying → Telling → Telling
 IsTold nothing later = later

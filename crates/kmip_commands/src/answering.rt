@@ -74,7 +74,7 @@ pub(crate) fn reply_to<W: Write>(
 ) -> Result<(), CommandFault>
     ensures text { OnOk result (Appends (W.contents writer.old) (W.contents writer.new)
         (reply_text server.old message.now)) }
-    ensures behind { OnOk result (server.new ≡ stock_after server.old message.now) }
+    ensures after { OnOk result (server.new ≡ stock_after server.old message.now) }
 {
     let reply = server.handle(alloc, message, NOW)?;
     write_hex(alloc, reply.as_slice(), writer)

@@ -6,7 +6,7 @@ ghost use Rattle.kmip_plan.specs.Faults.{plan_fault_field, plan_fault_place};
 ghost use Rattle.kmip_plan.specs.Reading.{plan_read};
 ghost use Rattle.kmip_plan.specs.Words.{algorithm_word};
 ghost use Rattle.kmip_commands.specs.declared.exit_status.ExitStatus.TheVariants.{Done};
-ghost use Rattle.kmip_commands.specs.Checking.{check_text, is_refused, is_memory, keys_text, key_text, step_text, steps_text, mask_text, refusal_text, or_nothing, field_text, place_text};
+ghost use Rattle.kmip_commands.specs.Checking.{check_text, is_plan_refused, is_memory, keys_text, key_text, step_text, steps_text, mask_text, plan_refusal_text, or_nothing, field_text, key_place_text};
 
 use crate::exit_status::ExitStatus;
 use crate::fault::CommandFault;
@@ -20,7 +20,7 @@ use std::io::Write;
 /// Runs `check`, and prints a line for want of memory. At `Done` the text is a plan, and its keys were
 /// printed.
 pub fn run_check<W: Write>(alloc: Global, plan: &str, writer: &mut W) -> ExitStatus
-    ensures { result ≡ Done → (is_refused (plan_read plan.now) ≡ false)
+    ensures { result ≡ Done → (is_plan_refused (plan_read plan.now) ≡ false)
         × Appends (W.contents writer.old) (W.contents writer.new) (check_text (plan_read plan.now)) }
 {
     let ended = check(alloc, plan, writer);
@@ -36,7 +36,7 @@ pub fn run_check<W: Write>(alloc: Global, plan: &str, writer: &mut W) -> ExitSta
 pub fn check<W: Write>(alloc: Global, plan: &str, writer: &mut W) -> Result<bool, CommandFault>
     ensures text { OnOk result (Appends (W.contents writer.old) (W.contents writer.new)
         (check_text (plan_read plan.now))) }
-    ensures refused { IfOk result (λ r. r ≡ is_refused (plan_read plan.now)) }
+    ensures refused { IfOk result (λ r. r ≡ is_plan_refused (plan_read plan.now)) }
 {
     match read_plan(alloc, plan) {
         Ok(plan) => {
@@ -136,7 +136,7 @@ fn print_refusal<W: Write>(
 ) -> Result<(), CommandFault>
     ensures known { OnOk result (is_memory fault.now ≡ false) }
     ensures text { OnOk result (Appends (W.contents writer.old) (W.contents writer.new)
-        (refusal_text fault.now)) }
+        (plan_refusal_text fault.now)) }
 {
     if let PlanFault::NoMemory = fault {
         return Err(CommandFault::NoMemory);
@@ -147,7 +147,7 @@ fn print_refusal<W: Write>(
 
 /// The number, the name, the field and the place of a fault, as a line.
 fn refusal_text(alloc: Global, fault: &PlanFault) -> Result<String, CommandFault>
-    ensures { IfOk result (λ text. string_bytes text ≡ refusal_text fault.now) }
+    ensures { IfOk result (λ text. string_bytes text ≡ plan_refusal_text fault.now) }
 {
     let number = fault.number();
     let name = fault.name();
@@ -171,7 +171,7 @@ fn field_text(alloc: Global, fault: &PlanFault) -> Result<String, CommandFault>
 
 /// The place of the key at fault, where there is one.
 fn place_text(alloc: Global, fault: &PlanFault) -> Result<String, CommandFault>
-    ensures { IfOk result (λ text. string_bytes text ≡ place_text (plan_fault_place fault.now)) }
+    ensures { IfOk result (λ text. string_bytes text ≡ key_place_text (plan_fault_place fault.now)) }
 {
     match fault.place() {
         Some(place) => {

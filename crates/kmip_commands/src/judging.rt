@@ -1,6 +1,6 @@
 //! What a line of the input of `answer` says.
 ghost use Rattle.std.specs.Prelude.{◌≡◌, IfOk};
-ghost use Rattle.kmip_commands.specs.Judging.{judged, saying_of};
+ghost use Rattle.kmip_commands.specs.Judging.{judge, saying_of};
 
 use crate::fault::CommandFault;
 use crate::lines::MOST_DIGITS;
@@ -26,7 +26,7 @@ pub enum Judged {
 ///
 /// `NoMemory` alone.
 pub fn judge(alloc: Global, line: &[u8]) -> Result<Judged, CommandFault>
-    ensures { IfOk result (λ j. judged j ≡ saying_of line.now) }
+    ensures { IfOk result (λ j. judge j ≡ saying_of line.now) }
 {
     if line.is_empty() {
         return Ok(Judged::Empty);

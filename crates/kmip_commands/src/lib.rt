@@ -21,4 +21,4 @@ pub use checking::{check, run_check};
 pub use exit_status::ExitStatus;
 pub use fault::CommandFault;
 pub use showing::{Form, run_show, show_lines};
-pub use streaming::{StreamEnd, StreamOutcome, answer_stream, run_answer_stream};
+pub use streaming::{InputEnd, StreamOutcome, answer_stream, run_answer_stream};

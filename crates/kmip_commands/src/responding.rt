@@ -2,8 +2,8 @@
 ghost use Rattle.std.specs.Prelude.{◌≡◌, ℕ, List, Bool, IfOk, OnOk, IfSome};
 ghost use Rattle.std.specs.Io.KnownBytes.{Keeps, Appends};
 ghost use Rattle.kmip_commands.specs.ExitStatus.{status_of};
-ghost use Rattle.kmip_commands.specs.Judging.{are_refused, is_refused, saying_of};
-ghost use Rattle.kmip_commands.specs.LineText.{saying_text, behind_saying, lines_text, lines_behind, lines_read};
+ghost use Rattle.kmip_commands.specs.Judging.{are_refused, is_saying_refused, saying_of};
+ghost use Rattle.kmip_commands.specs.LineText.{saying_text, state_after_saying, lines_text, state_after_lines, lines_read};
 ghost use Rattle.kmip_commands.specs.Lines.{lines_of};
 
 use crate::exit_status::ExitStatus;
@@ -51,7 +51,7 @@ pub(crate) trait Respond {
         requires { IsReady (state self.old) }
         ensures text { OnOk result (Appends (W.contents writer.old) (W.contents writer.new)
             (text (state self.old) message.now)) }
-        ensures behind { OnOk result (state self.new ≡ behind (state self.old) message.now) }
+        ensures after { OnOk result (state self.new ≡ behind (state self.old) message.now) }
         ensures refused { IfOk result (λ r. r ≡ refuses message.now) };
 
     /// Whether the command is over: it looks at no further line.
@@ -97,8 +97,8 @@ pub(crate) fn respond_to_lines<C: Respond, R: BufRead, W: Write>(
     ensures text { OnOk result (IfSome (R.remaining reader.old) (λ input. Appends (W.contents writer.old) (W.contents writer.new)
         (lines_text C.text C.behind (C.state command.old)
         (lines_read C.behind C.over (C.state command.old) (lines_of input))))) }
-    ensures behind { OnOk result (IfSome (R.remaining reader.old) (λ input. C.state command.new
-        ≡ lines_behind C.behind (C.state command.old) (lines_read C.behind C.over (C.state command.old) (lines_of input)))) }
+    ensures after { OnOk result (IfSome (R.remaining reader.old) (λ input. C.state command.new
+        ≡ state_after_lines C.behind (C.state command.old) (lines_read C.behind C.over (C.state command.old) (lines_of input)))) }
     ensures refused { IfOk result (λ r. IfSome (R.remaining reader.old) (λ input. r
         ≡ are_refused C.refuses (lines_read C.behind C.over (C.state command.old) (lines_of input)))) }
 {
@@ -130,9 +130,9 @@ fn respond_to_line<C: Respond, W: Write>(
     requires { C.IsReady (C.state command.old) }
     ensures text { OnOk result (Appends (W.contents writer.old) (W.contents writer.new)
         (saying_text C.text (C.state command.old) (saying_of line.now))) }
-    ensures behind { OnOk result (C.state command.new
-        ≡ behind_saying C.behind (C.state command.old) (saying_of line.now)) }
-    ensures refused { IfOk result (λ r. r ≡ is_refused C.refuses (saying_of line.now)) }
+    ensures after { OnOk result (C.state command.new
+        ≡ state_after_saying C.behind (C.state command.old) (saying_of line.now)) }
+    ensures refused { IfOk result (λ r. r ≡ is_saying_refused C.refuses (saying_of line.now)) }
 {
     match judge(alloc, line)? {
         Judged::Empty => Ok(false),

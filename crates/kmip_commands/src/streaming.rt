@@ -6,9 +6,9 @@ ghost use Rattle.kmip_frames.specs.Framing.{fault_in};
 ghost use Rattle.kmip_frames.specs.Streams.{BeginsWithNoMessage};
 ghost use Rattle.kmip_commands.specs.declared.exit_status.ExitStatus.TheVariants.{Done};
 ghost use Rattle.kmip_commands.specs.AnswerText.{first_stock};
-ghost use Rattle.kmip_commands.specs.Bytewise.{StreamState, is_over, IsReady, piece_text, piece_behind, tail_text};
+ghost use Rattle.kmip_commands.specs.Bytewise.{StreamState, is_over, IsReady, piece_text, state_after_piece, tail_text};
 ghost use Rattle.kmip_commands.specs.BytewiseLaws.{stays_ready};
-ghost use Rattle.kmip_commands.specs.StreamText.{end_of, refusal_text, cut_text, is_whole, IsWritten, IsAnswered, IsAllAnswered};
+ghost use Rattle.kmip_commands.specs.StreamText.{end_of, stream_refusal_text, cut_text, is_whole, IsWritten, IsAnswered, IsAllAnswered};
 
 use crate::answering::{new_server, reply_to};
 use crate::exit_status::ExitStatus;
@@ -23,7 +23,7 @@ use std::io::{BufRead, Write};
 
 /// How a stream of messages ended.
 #[derive(Clone, Copy, Debug, PartialEq, Eq)]
-pub enum StreamEnd {
+pub enum InputEnd {
     /// Behind a whole message, or before the first.
     Whole,
     /// Inside a message, of which so many bytes came: 1 to 8,191.
@@ -35,7 +35,7 @@ pub enum StreamEnd {
 /// What became of the lines of a stream.
 #[derive(Clone, Copy, Debug, PartialEq, Eq)]
 pub struct StreamOutcome {
-    pub end: StreamEnd,
+    pub end: InputEnd,
     /// Whether a line was refused, up to the one that ended the stream.
     pub has_refused: bool,
 }
@@ -45,7 +45,7 @@ impl StreamOutcome {
     pub fn is_whole(self) -> bool
         ensures { result ≡ is_whole self }
     {
-        !self.has_refused && matches!(self.end, StreamEnd::Whole)
+        !self.has_refused && matches!(self.end, InputEnd::Whole)
     }
 }
 
@@ -121,15 +121,15 @@ impl Streamer {
     }
 
     /// How the stream ends here.
-    fn end(&self) -> StreamEnd
+    fn end(&self) -> InputEnd
         ensures { result ≡ end_of self.now.framer }
     {
         if let Some(fault) = self.framer.fault() {
-            return StreamEnd::Refused(fault);
+            return InputEnd::Refused(fault);
         }
         match self.framer.pending() {
-            0 => StreamEnd::Whole,
-            left => StreamEnd::Cut(left),
+            0 => InputEnd::Whole,
+            left => InputEnd::Cut(left),
         }
     }
 
@@ -145,8 +145,8 @@ impl Streamer {
         requires lawful { fault_in self.old.framer ≡ None }
         ensures text { IfOk result (λ count. Appends (W.contents writer.old) (W.contents writer.new)
             (piece_text (self.old.server, self.old.framer) (take count piece.now))) }
-        ensures behind { IfOk result (λ count. (self.new.server, self.new.framer)
-            ≡ piece_behind (self.old.server, self.old.framer) (take count piece.now)) }
+        ensures after { IfOk result (λ count. (self.new.server, self.new.framer)
+            ≡ state_after_piece (self.old.server, self.old.framer) (take count piece.now)) }
         ensures within { IfOk result (λ count. count ≤ length piece.now) }
         ensures some { IfOk result (λ count. 0 < length piece.now → 0 < count) }
     {
@@ -175,7 +175,7 @@ impl Respond for Streamer {
 
     ghost text = { piece_text };
 
-    ghost behind = { piece_behind };
+    ghost behind = { state_after_piece };
 
     ghost refuses = { λ _. false };
 
@@ -206,14 +206,14 @@ impl Respond for Streamer {
 }
 
 /// Prints the fault of a head, by its number and name.
-#[tactic(auto, unfolding(crate::specs::StreamText::refusal_text))]
+#[tactic(auto, unfolding(crate::specs::StreamText::stream_refusal_text))]
 fn write_refusal<W: Write>(
     alloc: Global,
     fault: FrameFault,
     writer: &mut W,
 ) -> Result<(), CommandFault>
     ensures { OnOk result (Appends (W.contents writer.old) (W.contents writer.new)
-        (refusal_text fault)) }
+        (stream_refusal_text fault)) }
 {
     let number = fault.number();
     let name = fault.name();
@@ -223,12 +223,12 @@ fn write_refusal<W: Write>(
 
 /// Prints how many bytes are left of a stream that is cut. The fault of one that is refused was
 /// printed when it came.
-fn write_end<W: Write>(alloc: Global, end: StreamEnd, writer: &mut W) -> Result<(), CommandFault>
+fn write_end<W: Write>(alloc: Global, end: InputEnd, writer: &mut W) -> Result<(), CommandFault>
     ensures { OnOk result (Appends (W.contents writer.old) (W.contents writer.new) (tail_text end)) }
 {
     match end {
-        StreamEnd::Whole | StreamEnd::Refused(_) => Ok(()),
-        StreamEnd::Cut(left) => write_cut(alloc, left, writer),
+        InputEnd::Whole | InputEnd::Refused(_) => Ok(()),
+        InputEnd::Cut(left) => write_cut(alloc, left, writer),
     }
 }
 

@@ -3,7 +3,7 @@
 use crate::readers::PieceReader;
 use crate::texts::text_of;
 use kmip_commands::{
-    CommandFault, ExitStatus, StreamEnd, StreamOutcome, answer_stream, run_answer_stream,
+    CommandFault, ExitStatus, InputEnd, StreamOutcome, answer_stream, run_answer_stream,
 };
 use kmip_frames::FrameFault;
 use kmip_vectors::{CREATE_K1, CREATE_K1_REPLY, INVALID_MESSAGE_REPLY, LOCATE_K1, LOCATE_K1_NONE};
@@ -17,7 +17,7 @@ struct Row {
     name: &'static str,
     input: &'static [&'static str],
     output: &'static [&'static str],
-    end: StreamEnd,
+    end: InputEnd,
     has_refused: bool,
 }
 
@@ -26,77 +26,77 @@ const ROWS: [Row; 11] = [
         name: "messages, each on a line",
         input: &[LOCATE_K1, CREATE_K1],
         output: &[LOCATE_K1_NONE, CREATE_K1_REPLY],
-        end: StreamEnd::Whole,
+        end: InputEnd::Whole,
         has_refused: false,
     },
     Row {
         name: "a reply in the place of a request",
         input: &[LOCATE_K1_NONE],
         output: &[INVALID_MESSAGE_REPLY],
-        end: StreamEnd::Whole,
+        end: InputEnd::Whole,
         has_refused: false,
     },
     Row {
         name: "no head behind a message",
         input: &[LOCATE_K1, "0000000000000000", LOCATE_K1],
         output: &[LOCATE_K1_NONE, "stream refused: 1 BadHead"],
-        end: StreamEnd::Refused(FrameFault::BadHead),
+        end: InputEnd::Refused(FrameFault::BadHead),
         has_refused: false,
     },
     Row {
         name: "a length that is no multiple of eight",
         input: &["4200780100000004"],
         output: &["stream refused: 2 BadLength"],
-        end: StreamEnd::Refused(FrameFault::BadLength),
+        end: InputEnd::Refused(FrameFault::BadLength),
         has_refused: false,
     },
     Row {
         name: "a message that is too long",
         input: &["4200780100002000"],
         output: &["stream refused: 3 TooLong"],
-        end: StreamEnd::Refused(FrameFault::TooLong),
+        end: InputEnd::Refused(FrameFault::TooLong),
         has_refused: false,
     },
     Row {
         name: "the front of a head",
         input: &["42007801"],
         output: &["stream cut: 4"],
-        end: StreamEnd::Cut(4),
+        end: InputEnd::Cut(4),
         has_refused: false,
     },
     Row {
         name: "a byte that can begin no head",
         input: &["00"],
         output: &["stream cut: 1"],
-        end: StreamEnd::Cut(1),
+        end: InputEnd::Cut(1),
         has_refused: false,
     },
     Row {
         name: "a message and the front of a message",
         input: &[LOCATE_K1, "", "42007801000000b042007701"],
         output: &[LOCATE_K1_NONE, "stream cut: 12"],
-        end: StreamEnd::Cut(12),
+        end: InputEnd::Cut(12),
         has_refused: false,
     },
     Row {
         name: "no line",
         input: &[],
         output: &[],
-        end: StreamEnd::Whole,
+        end: InputEnd::Whole,
         has_refused: false,
     },
     Row {
         name: "refused lines among the pieces of a message",
         input: &["42007801", "zz", "0000000442", "4", "0077"],
         output: &["refused: hex", "stream refused: 2 BadLength"],
-        end: StreamEnd::Refused(FrameFault::BadLength),
+        end: InputEnd::Refused(FrameFault::BadLength),
         has_refused: true,
     },
     Row {
         name: "a line that would be refused behind a fault",
         input: &["0000000000000000", "zz"],
         output: &["stream refused: 1 BadHead"],
-        end: StreamEnd::Refused(FrameFault::BadHead),
+        end: InputEnd::Refused(FrameFault::BadHead),
         has_refused: false,
     },
 ];
@@ -113,7 +113,7 @@ fn assert_answers(
     let mut writer = Vec::new(alloc);
     let outcome = answer_stream(alloc, &mut reader, &mut writer)?;
     let whole = StreamOutcome {
-        end: StreamEnd::Whole,
+        end: InputEnd::Whole,
         has_refused,
     };
     assert_eq!(rt; outcome, whole);
@@ -137,7 +137,7 @@ fn answers_streams(rt: HostRuntime) -> Result<(), Fail> {
         let mut reader = input.as_bytes();
         let mut writer = Vec::new(rt.alloc());
         let status = run_answer_stream(rt.alloc(), &mut reader, &mut writer);
-        let is_done = row.end == StreamEnd::Whole && !row.has_refused;
+        let is_done = row.end == InputEnd::Whole && !row.has_refused;
         assert_eq!(rt; status == ExitStatus::Done, is_done, "{name}");
         assert_eq!(rt; from_utf8(writer.as_slice()), Ok(output.as_str()), "{name}");
     }

@@ -5,20 +5,20 @@ use Rattle.std.proofs.lemmas.List.{length-append, length-take, length-drop, leng
 use Rattle.std.proofs.Math.Seq.{take-append-add}
 use Rattle.kmip_frames.specs.declared.fault.FrameFault.{FrameFault}
 use Rattle.kmip_frames.specs.Streams.{IsMessage, BeginsWithNoMessage}
-use Rattle.kmip_frames.specs.Framing.{fault_in, needed, taken, held_after, answer_after, fed, IsHeldAfter, IsHeld}
+use Rattle.kmip_frames.specs.Framing.{fault_in, size_needed, count_taken, held_after, answer_after, feed, IsHeldAfter, IsHeld}
 use Rattle.kmip_frames.specs.Calls.{further, IsFedAsTwo}
 use Rattle.kmip_frames.proofs.Sizes.{fault_more, fault_size, needed_more, needed_fault, needed_least, needed_most}
 use Rattle.kmip_frames.proofs.Messages.{message_whole, message_size, no_message}
 
 -- no more is held than the present message takes
 pub record IsWithin (held : List ℕ) : Type 0 where
-  pub within : length held ≤ needed held
+  pub within : length held ≤ size_needed held
 
 -- of a piece either all was taken, or so much that the head is whole
 pub record Suffices (held piece : List ℕ) (count : ℕ) : Type 0 where
   pub enough : (8 ≤ length (held ++ take count piece)) ⊎ (length piece ≤ count)
 
-pub is_within : (items held : List ℕ) → items ≡ held → length items ≤ needed items → IsWithin held
+pub is_within : (items held : List ℕ) → items ≡ held → length items ≤ size_needed items → IsWithin held
 is_within items held is within = record { within = rw is at within }
 
 pub pending_most : (held : List ℕ) (count : ℕ) → count ≡ length held → IsWithin held → count ≤ 8192
@@ -45,41 +45,41 @@ same_fault held piece count s = elim s.enough [
   | inr all ↦ ap (λ t. fault_in (held ++ t)) (take_all count piece all)
 ]
 
-pub same_needed : (held piece : List ℕ) (count : ℕ) → Suffices held piece count → needed (held ++ take count piece) ≡ needed (held ++ piece)
+pub same_needed : (held piece : List ℕ) (count : ℕ) → Suffices held piece count → size_needed (held ++ take count piece) ≡ size_needed (held ++ piece)
 same_needed held piece count s = elim s.enough [
-  | inl long ↦ sym (needed_more (held ++ take count piece) (drop count piece) long) ∙ ap needed (rejoined held piece count)
-  | inr all ↦ ap (λ t. needed (held ++ t)) (take_all count piece all)
+  | inl long ↦ sym (needed_more (held ++ take count piece) (drop count piece) long) ∙ ap size_needed (rejoined held piece count)
+  | inr all ↦ ap (λ t. size_needed (held ++ t)) (take_all count piece all)
 ]
 
-pub taken_suffices : (held piece : List ℕ) → Suffices held piece (taken held piece)
-taken_suffices held piece = up_to held piece (needed (held ++ piece)) (taken held piece) (needed_least (held ++ piece)) refl
+pub taken_suffices : (held piece : List ℕ) → Suffices held piece (count_taken held piece)
+taken_suffices held piece = up_to held piece (size_needed (held ++ piece)) (count_taken held piece) (needed_least (held ++ piece)) refl
 
 -- a piece takes nothing of the room away
-pub within_more : (held piece : List ℕ) → IsWithin held → length held ≤ needed (held ++ piece)
+pub within_more : (held piece : List ℕ) → IsWithin held → length held ≤ size_needed (held ++ piece)
 within_more held piece w = elim (cases_lt (length held) 8) [
   | inl short ↦ omega (arith, needed_least (held ++ piece))
   | inr long ↦ omega (arith, needed_more held piece long, w.within)
 ]
 
-length_taken : (held piece : List ℕ) → length (held_after held piece) ≡ length held + taken held piece
-length_taken held piece = length_after held piece (taken held piece) (omega arith)
+length_taken : (held piece : List ℕ) → length (held_after held piece) ≡ length held + count_taken held piece
+length_taken held piece = length_after held piece (count_taken held piece) (omega arith)
 
 pub after_within : (held piece : List ℕ) → IsWithin held → IsWithin (held_after held piece)
 after_within held piece w = record {
-  within = omega (arith, length_taken held piece, same_needed held piece (taken held piece) (taken_suffices held piece), within_more held piece w);
+  within = omega (arith, length_taken held piece, same_needed held piece (count_taken held piece) (taken_suffices held piece), within_more held piece w);
 }
 
 -- ---- the steps of `feed`: up to the end of the head, and then of the message
 
 pub record AreSteps (held piece : List ℕ) (of_head of_body : ℕ) : Type 0 where
-  pub count : of_head + of_body ≡ taken held piece
+  pub count : of_head + of_body ≡ count_taken held piece
   pub held_is : (held ++ take of_head piece) ++ take of_body (drop of_head piece) ≡ held_after held piece
 
 pub two_steps : (held piece : List ℕ) (of_head of_body : ℕ) → of_head ≡ min (length piece) (8 - length held)
-    → of_body ≡ min (length (drop of_head piece)) (needed (held ++ take of_head piece) - length (held ++ take of_head piece)) → AreSteps held piece of_head of_body
+    → of_body ≡ min (length (drop of_head piece)) (size_needed (held ++ take of_head piece) - length (held ++ take of_head piece)) → AreSteps held piece of_head of_body
 two_steps held piece of_head of_body one two =
-    let size : needed (held ++ take of_head piece) ≡ needed (held ++ piece) = same_needed held piece of_head (up_to held piece 8 of_head (omega arith) one) in
-    let sum : of_head + of_body ≡ taken held piece =
+    let size : size_needed (held ++ take of_head piece) ≡ size_needed (held ++ piece) = same_needed held piece of_head (up_to held piece 8 of_head (omega arith) one) in
+    let sum : of_head + of_body ≡ count_taken held piece =
     omega (arith, size, needed_least (held ++ piece), length-drop of_head piece, length_after held piece of_head (omega arith)) in
     record {
       count = sum;
@@ -92,19 +92,19 @@ pub one_step : (held piece : List ℕ) (of_head : ℕ) (fault : FrameFault) → 
 one_step held piece of_head fault one is =
     let s = up_to held piece 8 of_head (omega arith) one in
     let all : fault_in (held ++ piece) ≡ Some fault = sym (same_fault held piece of_head s) ∙ is in
-    let size : needed (held ++ piece) ≡ 8 = needed_fault (held ++ piece) fault all in
+    let size : size_needed (held ++ piece) ≡ 8 = needed_fault (held ++ piece) fault all in
     (all, ap (λ n. held ++ take n piece) (one ∙ ap (λ n. min (length piece) (n - length held)) (sym size)))
 
 -- ---- what follows for a caller
 
-pub after_whole : (held piece : List ℕ) → IsWithin held → fault_in (held ++ piece) ≡ None → taken held piece < length piece → IsMessage (held_after held piece)
+pub after_whole : (held piece : List ℕ) → IsWithin held → fault_in (held ++ piece) ≡ None → count_taken held piece < length piece → IsMessage (held_after held piece)
 after_whole held piece w lawful less =
     let s = taken_suffices held piece in
-    message_whole (held_after held piece) (same_fault held piece (taken held piece) s ∙ lawful)
-    (omega (arith, length_taken held piece, same_needed held piece (taken held piece) s, within_more held piece w))
+    message_whole (held_after held piece) (same_fault held piece (count_taken held piece) s ∙ lawful)
+    (omega (arith, length_taken held piece, same_needed held piece (count_taken held piece) s, within_more held piece w))
 
-pub takes_some : (held piece : List ℕ) → IsWithin held → fault_in held ≡ None → BeginsWithNoMessage held → 0 < length piece → 0 < taken held piece
-takes_some held piece w lawful none some = elim (cases_lt (length held) (needed (held ++ piece))) [
+pub takes_some : (held piece : List ℕ) → IsWithin held → fault_in held ≡ None → BeginsWithNoMessage held → 0 < length piece → 0 < count_taken held piece
+takes_some held piece w lawful none some = elim (cases_lt (length held) (size_needed (held ++ piece))) [
   | inl less ↦ omega arith
   | inr full ↦ (
       let long : 8 ≤ length held = omega (arith, needed_least (held ++ piece)) in
@@ -115,11 +115,11 @@ pub is_held : (held : List ℕ) (o : Option FrameFault) → IsWithin held → fa
 is_held held None w is = elim (cases_lt (length held) 8) [
   | inl short ↦ inl short
   | inr long ↦ (
-      let more : List ℕ = replicate (needed held - length held) 0 in
+      let more : List ℕ = replicate (size_needed held - length held) 0 in
       inr (
         more,
         message_whole (held ++ more) (fault_more held more long ∙ is)
-            (omega (arith, length-append held more, length-replicate {A = ℕ} (needed held - length held) 0, needed_more held more long, w.within)),
+            (omega (arith, length-append held more, length-replicate {A = ℕ} (size_needed held - length held) 0, needed_more held more long, w.within)),
       ))
 ]
 is_held held (Some fault) w is = omega (arith, needed_fault held fault is, fault_size held fault is, w.within)
@@ -127,7 +127,7 @@ is_held held (Some fault) w is = omega (arith, needed_fault held fault is, fault
 pub pending_held : (held : List ℕ) → IsWithin held → IsHeld held
 pending_held held w = is_held held (fault_in held) w refl
 
-front_within : (held more : List ℕ) → IsMessage (held ++ more) → length held ≤ needed held
+front_within : (held more : List ℕ) → IsMessage (held ++ more) → length held ≤ size_needed held
 front_within held more message = elim (cases_lt (length held) 8) [
   | inl short ↦ omega (arith, needed_least held)
   | inr long ↦ omega (arith, message_size (held ++ more) message, needed_more held more long, length-append held more)
@@ -155,19 +155,19 @@ sum_taken : (held first second size all count : ℕ) → count ≡ min first (si
 sum_taken held first second size all count is room same = elim same [ inl one ↦ omega arith | inr whole ↦ omega arith ]
 
 taken_twice : (held first second : List ℕ) → IsWithin held
-    → taken held (first ++ second) ≡ taken held first + taken (held_after held first) (drop (taken held first) first ++ second)
+    → count_taken held (first ++ second) ≡ count_taken held first + count_taken (held_after held first) (drop (count_taken held first) first ++ second)
 taken_twice held first second w =
-    let count = taken held first in
-    let all = needed (held ++ (first ++ second)) in
+    let count = count_taken held first in
+    let all = size_needed (held ++ (first ++ second)) in
     let s = taken_suffices held first in
-    let size : needed (held_after held first ++ (drop count first ++ second)) ≡ all = ap needed (left_joined held first second count) in
+    let size : size_needed (held_after held first ++ (drop count first ++ second)) ≡ all = ap size_needed (left_joined held first second count) in
     let room : length held + count ≤ all =
     omega (arith, size, length_taken held first, within_more (held_after held first) (drop count first ++ second) (after_within held first w)) in
-    let same : (needed (held ++ first) ≡ all) ⊎ (length first ≤ count) = elim s.enough [
+    let same : (size_needed (held ++ first) ≡ all) ⊎ (length first ≤ count) = elim s.enough [
       | inl long ↦ inl (sym (same_needed held first count s) ∙ sym (needed_more (held_after held first) (drop count first ++ second) long) ∙ size)
       | inr whole ↦ inr whole
     ] in
-    let sums = sum_taken (length held) (length first) (length second) (needed (held ++ first)) all count refl room same in
+    let sums = sum_taken (length held) (length first) (length second) (size_needed (held ++ first)) all count refl room same in
     omega (arith, sums, size, length_taken held first, length-append first second, length-append (drop count first) second, length-drop count first)
 
 further_is : (o : Option FrameFault) (before count : ℕ) → answer_after None o (before + count) ≡ further before (answer_after None o count)
@@ -180,29 +180,29 @@ answered None (Some fault) n count is = absurd cc
 answered (Some fault) now n count is = absurd cc
 
 two_lawful : (held first second : List ℕ) → IsWithin held → fault_in held ≡ None → fault_in (held ++ first) ≡ None
-    → IsFedAsTwo held first second (taken held first)
+    → IsFedAsTwo held first second (count_taken held first)
 two_lawful held first second w before now =
-    let count = taken held first in
+    let count = count_taken held first in
     let one = held_after held first in
     let left = drop count first ++ second in
-    let more = taken one left in
+    let more = count_taken one left in
     let o = fault_in (held ++ (first ++ second)) in
     let joined = left_joined held first second count in
     let twice = taken_twice held first second w in
     let lawful : fault_in one ≡ None = same_fault held first count (taken_suffices held first) ∙ now in
-    let whole : fed held (first ++ second) ≡ answer_after None o (count + more) =
-    ap (λ x. answer_after x o (taken held (first ++ second))) before ∙ ap (answer_after None o) twice in
-    let later : fed one left ≡ answer_after None o more =
+    let whole : feed held (first ++ second) ≡ answer_after None o (count + more) =
+    ap (λ x. answer_after x o (count_taken held (first ++ second))) before ∙ ap (answer_after None o) twice in
+    let later : feed one left ≡ answer_after None o more =
     ap (λ x. answer_after x (fault_in (one ++ left)) more) lawful ∙ ap (λ x. answer_after None (fault_in x) more) joined in
-    let size : length held + taken held (first ++ second) ≡ length one + more = omega (arith, twice, length_taken held first) in (
+    let size : length held + count_taken held (first ++ second) ≡ length one + more = omega (arith, twice, length_taken held first) in (
       whole ∙ further_is o count more ∙ ap (further count) (sym later),
-      sym (take-append-add held (first ++ second) (taken held (first ++ second)))
+      sym (take-append-add held (first ++ second) (count_taken held (first ++ second)))
           ∙ ap (λ n. take n (held ++ (first ++ second))) size
           ∙ ap (take (length one + more)) (sym joined)
           ∙ take-append-add one left more,
     )
 
-pub two_pieces : (held first second : List ℕ) (count : ℕ) → IsHeld held → fed held first ≡ Ok count → IsFedAsTwo held first second count
+pub two_pieces : (held first second : List ℕ) (count : ℕ) → IsHeld held → feed held first ≡ Ok count → IsFedAsTwo held first second count
 two_pieces held first second count h is =
-    let a = answered (fault_in held) (fault_in (held ++ first)) (taken held first) count is in
+    let a = answered (fault_in held) (fault_in (held ++ first)) (count_taken held first) count is in
     subst (λ (n : ℕ). IsFedAsTwo held first second n) a.2 (two_lawful held first second (held_within held (fault_in held) h) a.0 a.1)

@@ -6,8 +6,8 @@ use Rattle.std.proofs.lemmas.List.{length-append, take-append-le}
 use Rattle.byteorder.specs.Endian.{big_number}
 use Rattle.kmip_frames.specs.declared.fault.FrameFault.{FrameFault}
 use Rattle.kmip_frames.specs.declared.fault.FrameFault.TheVariants as faults
-use Rattle.kmip_frames.specs.Heads.{is_message_tag, said, head_fault}
-use Rattle.kmip_frames.specs.Framing.{fault_in, needed}
+use Rattle.kmip_frames.specs.Heads.{is_message_tag, length_in, head_fault}
+use Rattle.kmip_frames.specs.Framing.{fault_in, size_needed}
 
 -- a test that did not fail
 passed : {A : Type 0} (b : Bool) (f : A) (r : Option A) → cond b (Some f) r ≡ None → (b ≡ false) × (r ≡ None)
@@ -15,15 +15,15 @@ passed true f r is = absurd cc
 passed false f r is = (refl, is)
 
 -- a lawful head says at most 8,192 bytes
-lawful_small : (head : List ℕ) → head_fault head ≡ None → 8 + said head ≤ 8192
+lawful_small : (head : List ℕ) → head_fault head ≡ None → 8 + length_in head ≤ 8192
 unfolding head_fault
 lawful_small head is =
-    let long : Option FrameFault = cond (ltb 8192 (8 + said head)) (Some faults.TooLong) None in
-    let whole : Option FrameFault = cond (not (eqb (said head % 8) 0)) (Some faults.BadLength) long in
+    let long : Option FrameFault = cond (ltb 8192 (8 + length_in head)) (Some faults.TooLong) None in
+    let whole : Option FrameFault = cond (not (eqb (length_in head % 8) 0)) (Some faults.BadLength) long in
     let one = passed (not (is_message_tag (big_number 3 head) && eqb (slice_index head 3) 1)) faults.BadHead whole is in
-    let two = passed (not (eqb (said head % 8) 0)) faults.BadLength long one.1 in
-    let three = passed (ltb 8192 (8 + said head)) faults.TooLong None two.1 in
-    ltb-false 8192 (8 + said head) three.0
+    let two = passed (not (eqb (length_in head % 8) 0)) faults.BadLength long one.1 in
+    let three = passed (ltb 8192 (8 + length_in head)) faults.TooLong None two.1 in
+    ltb-false 8192 (8 + length_in head) three.0
 
 pub fault_short : (s : List ℕ) → length s < 8 → fault_in s ≡ None
 unfolding fault_in
@@ -33,20 +33,20 @@ pub fault_long : (s : List ℕ) → 8 ≤ length s → fault_in s ≡ head_fault
 unfolding fault_in
 fault_long s long = rw (le-ltb (length s) 8 long) refl
 
-pub needed_short : (s : List ℕ) → length s < 8 → needed s ≡ 8
-unfolding needed
+pub needed_short : (s : List ℕ) → length s < 8 → size_needed s ≡ 8
+unfolding size_needed
 needed_short s short = rw (lt-ltb (length s) 8 short) refl
 
-pub needed_lawful : (s : List ℕ) → 8 ≤ length s → head_fault (take 8 s) ≡ None → needed s ≡ 8 + said (take 8 s)
-unfolding needed
+pub needed_lawful : (s : List ℕ) → 8 ≤ length s → head_fault (take 8 s) ≡ None → size_needed s ≡ 8 + length_in (take 8 s)
+unfolding size_needed
 needed_lawful s long lawful = rw (le-ltb (length s) 8 long, lawful) refl
 
 -- a fault is that of a whole head
 pub fault_size : (s : List ℕ) (fault : FrameFault) → fault_in s ≡ Some fault → 8 ≤ length s
 fault_size s fault is = elim (cases_lt (length s) 8) [ inl short ↦ (let none = fault_short s short in absurd cc) | inr long ↦ long ]
 
-pub needed_fault : (s : List ℕ) (fault : FrameFault) → fault_in s ≡ Some fault → needed s ≡ 8
-unfolding needed
+pub needed_fault : (s : List ℕ) (fault : FrameFault) → fault_in s ≡ Some fault → size_needed s ≡ 8
+unfolding size_needed
 needed_fault s fault is =
     let long = fault_size s fault is in
     let bad : head_fault (take 8 s) ≡ Some fault = sym (fault_long s long) ∙ is in
@@ -64,31 +64,31 @@ fault_more s more long =
     fault_long (s ++ more) (longer s more long) ∙ ap head_fault (take_head s more long) ∙ sym (fault_long s long)
 
 -- the size that a whole head says
-needed_long : (s : List ℕ) → 8 ≤ length s → needed s ≡ cond (is_some (head_fault (take 8 s))) 8 (8 + said (take 8 s))
-unfolding needed
+needed_long : (s : List ℕ) → 8 ≤ length s → size_needed s ≡ cond (is_some (head_fault (take 8 s))) 8 (8 + length_in (take 8 s))
+unfolding size_needed
 needed_long s long = rw (le-ltb (length s) 8 long) refl
 
 size_said : List ℕ → ℕ
-size_said head = cond (is_some (head_fault head)) 8 (8 + said head)
+size_said head = cond (is_some (head_fault head)) 8 (8 + length_in head)
 
-pub needed_more : (s more : List ℕ) → 8 ≤ length s → needed (s ++ more) ≡ needed s
+pub needed_more : (s more : List ℕ) → 8 ≤ length s → size_needed (s ++ more) ≡ size_needed s
 unfolding size_said
 needed_more s more long =
     needed_long (s ++ more) (longer s more long) ∙ ap size_said (take_head s more long) ∙ sym (needed_long s long)
 
 -- the bounds of a size
-size_bounds : (head : List ℕ) (o : Option FrameFault) → head_fault head ≡ o → (8 ≤ cond (is_some o) 8 (8 + said head)) × (cond (is_some o) 8 (8 + said head) ≤ 8192)
+size_bounds : (head : List ℕ) (o : Option FrameFault) → head_fault head ≡ o → (8 ≤ cond (is_some o) 8 (8 + length_in head)) × (cond (is_some o) 8 (8 + length_in head) ≤ 8192)
 size_bounds head None is = let small = lawful_small head is in (omega arith, small)
 size_bounds head (Some fault) is = (omega arith, omega arith)
 
-pub needed_bounds : (s : List ℕ) → (8 ≤ needed s) × (needed s ≤ 8192)
+pub needed_bounds : (s : List ℕ) → (8 ≤ size_needed s) × (size_needed s ≤ 8192)
 needed_bounds s = elim (cases_lt (length s) 8) [
   | inl short ↦ rw (needed_short s short) (omega arith, omega arith)
   | inr long ↦ rw (needed_long s long) (size_bounds (take 8 s) (head_fault (take 8 s)) refl)
 ]
 
-pub needed_least : (s : List ℕ) → 8 ≤ needed s
+pub needed_least : (s : List ℕ) → 8 ≤ size_needed s
 needed_least s = (needed_bounds s).0
 
-pub needed_most : (s : List ℕ) → needed s ≤ 8192
+pub needed_most : (s : List ℕ) → size_needed s ≤ 8192
 needed_most s = (needed_bounds s).1

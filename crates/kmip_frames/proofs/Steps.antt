@@ -3,7 +3,7 @@ use Rattle.std.proofs.Common.{◌≡◌, ℕ, ◌+◌, ◌-◌, ◌<◌, ◌≤�
 use Rattle.std.proofs.lemmas.List.{take_rest, append-nil}
 use Rattle.kmip_frames.specs.declared.fault.FrameFault.{FrameFault}
 use Rattle.kmip_frames.specs.Streams.{IsMessage, BeginsWithNoMessage}
-use Rattle.kmip_frames.specs.Framing.{fault_in, needed, taken, held_after, answer_after, fed}
+use Rattle.kmip_frames.specs.Framing.{fault_in, size_needed, count_taken, held_after, answer_after, feed}
 use Rattle.kmip_frames.proofs.Sizes.{fault_size, needed_fault, needed_more}
 use Rattle.kmip_frames.proofs.Messages.{message_whole, lacks_no_message}
 use Rattle.kmip_frames.proofs.Feeding.{IsWithin, is_within, up_to, same_fault, one_step, two_steps, after_whole, after_within, takes_some}
@@ -35,7 +35,7 @@ tested_some held inside slice o b view shown asked is some =
 pub failed_same : (held piece : List ℕ) (fault : FrameFault) → fault_in held ≡ Some fault → held ≡ held_after held piece
 failed_same held piece fault is =
     let long = fault_size held fault is in
-    let none : taken held piece ≡ 0 = omega (arith, long, needed_more held piece long, needed_fault held fault is) in
+    let none : count_taken held piece ≡ 0 = omega (arith, long, needed_more held piece long, needed_fault held fault is) in
     sym (ap (λ n. held ++ take n piece) none ∙ append-nil held)
 
 -- the first step: this was held, so much of the piece taken, and then this was held
@@ -45,7 +45,7 @@ pub record IsHeadFed (held piece middle : List ℕ) (of_head : ℕ) : Type 0 whe
   pub count : of_head ≡ min (length piece) (8 - length held)
   pub middle_is : middle ≡ held ++ take of_head piece
 
-pub head_fed : (held inside piece middle : List ℕ) (of_head : ℕ) → inside ≡ held → length inside ≤ needed inside → fault_in held ≡ None
+pub head_fed : (held inside piece middle : List ℕ) (of_head : ℕ) → inside ≡ held → length inside ≤ size_needed inside → fault_in held ≡ None
     → of_head ≡ min (length piece) (8 - length inside) → middle ≡ inside ++ take of_head piece → IsHeadFed held piece middle of_head
 head_fed held inside piece middle of_head view within before count items = record {
   within = is_within inside held view within;
@@ -58,8 +58,8 @@ head_fed held inside piece middle of_head view within before count items = recor
 pub record IsRefused (held piece middle : List ℕ) (fault : FrameFault) : Type 0 where
   pub fault_is : fault_in (held ++ piece) ≡ Some fault
   pub held_is : middle ≡ held_after held piece
-  pub answer : Err fault ≡ fed held piece
-  pub within : length middle ≤ needed middle
+  pub answer : Err fault ≡ feed held piece
+  pub within : length middle ≤ size_needed middle
 
 pub refused : (held piece middle slice : List ℕ) (of_head : ℕ) (o : Option FrameFault) (fault : FrameFault) → IsHeadFed held piece middle of_head
     → slice ≡ middle → o ≡ fault_in slice → o ≡ Some fault → IsRefused held piece middle fault
@@ -70,7 +70,7 @@ refused held piece middle slice of_head o fault f shown asked is =
     record {
       fault_is = step.0;
       held_is = held_is;
-      answer = sym (ap (λ x. answer_after x (fault_in (held ++ piece)) (taken held piece)) f.before ∙ ap (λ x. answer_after None x (taken held piece)) step.0);
+      answer = sym (ap (λ x. answer_after x (fault_in (held ++ piece)) (count_taken held piece)) f.before ∙ ap (λ x. answer_after None x (count_taken held piece)) step.0);
       within = rw held_is (after_within held piece f.within).within;
     }
 
@@ -79,11 +79,11 @@ pub record IsFed (held piece new : List ℕ) (count : ℕ) : Type 0 where
   pub within : IsWithin held
   pub before : fault_in held ≡ None
   pub lawful : fault_in (held ++ piece) ≡ None
-  pub count_is : count ≡ taken held piece
+  pub count_is : count ≡ count_taken held piece
   pub held_is : new ≡ held_after held piece
 
 pub body_fed : (held piece middle shown again new : List ℕ) (of_head size of_body : ℕ) (o : Option FrameFault) → IsHeadFed held piece middle of_head
-    → shown ≡ middle → o ≡ fault_in shown → ((fault : FrameFault) → o ≡ Some fault → ⊥) → again ≡ middle → size ≡ needed again
+    → shown ≡ middle → o ≡ fault_in shown → ((fault : FrameFault) → o ≡ Some fault → ⊥) → again ≡ middle → size ≡ size_needed again
     → of_body ≡ min (length (take (length piece - of_head) (drop of_head piece))) (size - length middle)
     → new ≡ middle ++ take of_body (take (length piece - of_head) (drop of_head piece)) → IsFed held piece new (of_head + of_body)
 body_fed held piece middle shown again new of_head size of_body o f is asked none same sized count items =
@@ -91,8 +91,8 @@ body_fed held piece middle shown again new of_head size of_body o f is asked non
     let s = up_to held piece 8 of_head (omega arith) f.count in
     let steps = two_steps held piece of_head of_body f.count
     (count ∙ ap (λ t. min (length t) (size - length middle)) all
-    ∙ ap (λ n. min (length (drop of_head piece)) (n - length middle)) (sized ∙ ap needed same)
-    ∙ ap (λ t. min (length (drop of_head piece)) (needed t - length t)) f.middle_is) in
+    ∙ ap (λ n. min (length (drop of_head piece)) (n - length middle)) (sized ∙ ap size_needed same)
+    ∙ ap (λ t. min (length (drop of_head piece)) (size_needed t - length t)) f.middle_is) in
     record {
       within = f.within;
       before = f.before;
@@ -101,16 +101,16 @@ body_fed held piece middle shown again new of_head size of_body o f is asked non
       held_is = items ∙ ap (λ t. middle ++ take of_body t) all ∙ ap (λ t. t ++ take of_body (drop of_head piece)) f.middle_is ∙ steps.held_is;
     }
 
-pub fed_answer : (held piece new : List ℕ) (count : ℕ) → IsFed held piece new count → Ok count ≡ fed held piece
+pub fed_answer : (held piece new : List ℕ) (count : ℕ) → IsFed held piece new count → Ok count ≡ feed held piece
 fed_answer held piece new count f = sym
-    (ap (λ x. answer_after x (fault_in (held ++ piece)) (taken held piece)) f.before
-    ∙ ap (λ x. answer_after None x (taken held piece)) f.lawful
+    (ap (λ x. answer_after x (fault_in (held ++ piece)) (count_taken held piece)) f.before
+    ∙ ap (λ x. answer_after None x (count_taken held piece)) f.lawful
     ∙ ap (answer_after None None) (sym f.count_is))
 
 pub fed_taken : (held piece new : List ℕ) (count : ℕ) → IsFed held piece new count → (count ≤ length piece) × (new ≡ held ++ take count piece)
 fed_taken held piece new count f = rw f.count_is (omega arith, f.held_is)
 
-pub fed_within : (held piece new : List ℕ) (count : ℕ) → IsFed held piece new count → length new ≤ needed new
+pub fed_within : (held piece new : List ℕ) (count : ℕ) → IsFed held piece new count → length new ≤ size_needed new
 fed_within held piece new count f = rw f.held_is (after_within held piece f.within).within
 
 pub fed_whole : (held piece new : List ℕ) (count : ℕ) → IsFed held piece new count → count < length piece → IsMessage new
@@ -121,13 +121,13 @@ fed_some held piece new count f none some = rw f.count_is (takes_some held piece
 
 -- ---- whether a message waits, as `next` tests it
 
-pub waits_none : (held inside slice : List ℕ) (len size : ℕ) → inside ≡ held → slice ≡ inside → len ≡ length inside → size ≡ needed slice → len < size
+pub waits_none : (held inside slice : List ℕ) (len size : ℕ) → inside ≡ held → slice ≡ inside → len ≡ length inside → size ≡ size_needed slice → len < size
     → BeginsWithNoMessage held
 waits_none held inside slice len size view shown counted sized less =
-    lacks_no_message held (omega (arith, counted ∙ ap length view, sized ∙ ap needed (shown ∙ view)))
+    lacks_no_message held (omega (arith, counted ∙ ap length view, sized ∙ ap size_needed (shown ∙ view)))
 
-pub waits_whole : (held inside slice : List ℕ) (len size : ℕ) → inside ≡ held → length inside ≤ needed inside → slice ≡ inside → len ≡ length inside
-    → size ≡ needed slice → size ≤ len → fault_in held ≡ None → IsMessage held
+pub waits_whole : (held inside slice : List ℕ) (len size : ℕ) → inside ≡ held → length inside ≤ size_needed inside → slice ≡ inside → len ≡ length inside
+    → size ≡ size_needed slice → size ≤ len → fault_in held ≡ None → IsMessage held
 waits_whole held inside slice len size view within shown counted sized full lawful =
     let w = is_within inside held view within in
-    message_whole held lawful (omega (arith, w.within, counted ∙ ap length view, sized ∙ ap needed (shown ∙ view)))
+    message_whole held lawful (omega (arith, w.within, counted ∙ ap length view, sized ∙ ap size_needed (shown ∙ view)))

@@ -3,7 +3,7 @@
 use Rattle.std.specs.Prelude.{◌≡◌, ℕ, ◌+◌, List, [], ◌∷◌, ◌++◌, drop, Result, Ok, Err}
 use Rattle.kmip_frames.specs.declared.fault.FrameFault.{FrameFault}
 use Rattle.kmip_frames.specs.Streams.{IsMessage}
-use Rattle.kmip_frames.specs.Framing.{fed, held_after}
+use Rattle.kmip_frames.specs.Framing.{feed, held_after}
 
 -- a call that was not refused: `feed` took these bytes of a piece, or `next` handed this message over
 pub data Call : Type 0 where
@@ -35,5 +35,5 @@ further before (Err fault) = Err fault
 -- To feed two pieces joined is to feed the first, of which so much is taken, and then what is left of it with the second.
 abbrev pub IsFedAsTwo : List ℕ → List ℕ → List ℕ → ℕ → Type 0
 IsFedAsTwo held first second count =
-    (fed held (first ++ second) ≡ further count (fed (held_after held first) (drop count first ++ second)))
+    (feed held (first ++ second) ≡ further count (feed (held_after held first) (drop count first ++ second)))
     × (held_after held (first ++ second) ≡ held_after (held_after held first) (drop count first ++ second))

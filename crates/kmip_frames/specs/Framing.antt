@@ -4,7 +4,7 @@ use Rattle.std.specs.Prelude.{◌≡◌, ℕ, ◌+◌, ◌-◌, ◌<◌, min, na
 use Rattle.kmip_frames.specs.declared.head.TheConstants.{HEAD_SIZE}
 use Rattle.kmip_frames.specs.declared.fault.FrameFault.{FrameFault}
 use Rattle.kmip_frames.specs.declared.fault.FrameFault.TheVariants.{BadHead, BadLength, TooLong, Failed, NoMemory}
-use Rattle.kmip_frames.specs.Heads.{said, head_fault}
+use Rattle.kmip_frames.specs.Heads.{length_in, head_fault}
 use Rattle.kmip_frames.specs.Streams.{IsMessage, BeginsWithNoMessage}
 
 -- the fault of the head that the bytes begin with; none while it is not whole
@@ -12,15 +12,15 @@ unfoldable pub fault_in : List ℕ → Option FrameFault
 fault_in bytes = if nat_lt (length bytes) HEAD_SIZE then None else head_fault (take HEAD_SIZE bytes)
 
 -- how many bytes the message at the front takes, as far as they say it: those of its head, until that is whole and lawful
-unfoldable pub needed : List ℕ → ℕ
-needed bytes =
+unfoldable pub size_needed : List ℕ → ℕ
+size_needed bytes =
     if nat_lt (length bytes) HEAD_SIZE then HEAD_SIZE
     else if is_some (head_fault (take HEAD_SIZE bytes)) then HEAD_SIZE
-    else HEAD_SIZE + said (take HEAD_SIZE bytes)
+    else HEAD_SIZE + length_in (take HEAD_SIZE bytes)
 
 -- how many bytes the present head, or once it is whole the message, still lacks
-abbrev pub lacking : List ℕ → ℕ
-lacking held = needed held - length held
+abbrev pub wants : List ℕ → ℕ
+wants held = size_needed held - length held
 
 -- what may be held: after a fault the eight bytes of the head, until then less than a head, a front of one message or a whole one
 abbrev pub IsHeldAfter : Option FrameFault → List ℕ → Type 0
@@ -32,12 +32,12 @@ IsHeld held = IsHeldAfter (fault_in held) held
 
 -- How many bytes of a piece are taken: all, or as many as the present message lacks. Its head may become whole by the piece,
 -- so the size is that which both together say.
-abbrev pub taken : List ℕ → List ℕ → ℕ
-taken held piece = min (length piece) (needed (held ++ piece) - length held)
+abbrev pub count_taken : List ℕ → List ℕ → ℕ
+count_taken held piece = min (length piece) (size_needed (held ++ piece) - length held)
 
 -- what is held once they are taken
 abbrev pub held_after : List ℕ → List ℕ → List ℕ
-held_after held piece = held ++ take (taken held piece) piece
+held_after held piece = held ++ take (count_taken held piece) piece
 
 abbrev pub answer_after : Option FrameFault → Option FrameFault → ℕ → Result ℕ FrameFault
 answer_after (Some before) now count = Err Failed
@@ -45,8 +45,8 @@ answer_after None (Some fault) count = Err fault
 answer_after None None count = Ok count
 
 -- what `feed` answers: a fault that came before, or that of a head which is whole now, else how many bytes were taken
-abbrev pub fed : List ℕ → List ℕ → Result ℕ FrameFault
-fed held piece = answer_after (fault_in held) (fault_in (held ++ piece)) (taken held piece)
+abbrev pub feed : List ℕ → List ℕ → Result ℕ FrameFault
+feed held piece = answer_after (fault_in held) (fault_in (held ++ piece)) (count_taken held piece)
 
 -- what `next` answers, and what is held before it and after
 abbrev pub Hands : {M : Type 0} → (M → List ℕ) → Result (Option M) FrameFault → List ℕ → List ℕ → Type 0

@@ -13,13 +13,13 @@ abbrev pub is_message_tag : ℕ → Bool
 is_message_tag tag = tag == TAG_REQUEST_MESSAGE || tag == TAG_RESPONSE_MESSAGE
 
 -- how many bytes follow, as the head says
-unfoldable pub said : List ℕ → ℕ
-said head = big_number 4 (drop 4 head)
+unfoldable pub length_in : List ℕ → ℕ
+length_in head = big_number 4 (drop 4 head)
 
 -- why eight bytes are no head of a message, by the first check that fails; none where they are one
 unfoldable pub head_fault : List ℕ → Option FrameFault
 head_fault head =
     if not (is_message_tag (big_number 3 head) && slice_index head 3 == byte_of_type Structure) then Some BadHead
-    else if not (said head % 8 == 0) then Some BadLength
-    else if nat_lt MAX_SIZE (HEAD_SIZE + said head) then Some TooLong
+    else if not (length_in head % 8 == 0) then Some BadLength
+    else if nat_lt MAX_SIZE (HEAD_SIZE + length_in head) then Some TooLong
     else None

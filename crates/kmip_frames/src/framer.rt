@@ -1,6 +1,6 @@
 //! The framer.
 ghost use Rattle.std.specs.Prelude.{◌≡◌, ◌≤◌, ◌<◌, ◌-◌, ◌++◌, min, [], length, take, vec_capacity, None, Some, Err, IfOk, IfErr, IsSome};
-ghost use Rattle.kmip_frames.specs.Framing.{fault_in, lacking, held_after, fed, IsHeld, Hands};
+ghost use Rattle.kmip_frames.specs.Framing.{fault_in, wants, held_after, feed, IsHeld, Hands};
 ghost use Rattle.kmip_frames.specs.Streams.{IsMessage, BeginsWithNoMessage};
 
 use crate::fault::FrameFault;
@@ -20,13 +20,13 @@ pub struct Framer {
 
 impl Model for Framer {
     ghost use Rattle.std.specs.Prelude.{ℕ, List, length, ◌≤◌, vec_capacity};
-    ghost use Rattle.kmip_frames.specs.Framing.{needed};
+    ghost use Rattle.kmip_frames.specs.Framing.{size_needed};
 
     ghost Value = { List ℕ };
 
     ghost view = { λ f. f.held.items };
 
-    ghost invariant = { λ f. (8192 ≤ vec_capacity f.held) × (length f.held.items ≤ needed f.held.items) };
+    ghost invariant = { λ f. (8192 ≤ vec_capacity f.held) × (length f.held.items ≤ size_needed f.held.items) };
 }
 
 impl Framer {
@@ -51,7 +51,7 @@ impl Framer {
     /// are no head of a message: these are then held. `Failed` where that came before: nothing is
     /// changed.
     pub fn feed(&mut self, piece: &[u8]) -> Result<usize, FrameFault>
-        ensures answer { result ≡ fed self.old piece.now }
+        ensures answer { result ≡ feed self.old piece.now }
         ensures held { self.new ≡ held_after self.old piece.now }
         ensures failed { IsSome (fault_in self.old) → (result ≡ Err FrameFault.Failed) × (self.new ≡ self.old) }
         ensures refused { fault_in self.old ≡ None → IfErr result (λ fault. fault_in (self.old ++ piece.now) ≡ Some fault) }
@@ -101,7 +101,7 @@ impl Framer {
     /// How many bytes the present head, or once it is whole the message, still lacks: 0 while a
     /// message waits and after a fault of `feed`.
     pub fn wants(&self) -> usize
-        ensures value { result ≡ lacking self.now }
+        ensures value { result ≡ wants self.now }
         ensures waiting { IsMessage self.now → result ≡ 0 }
         ensures failed { IsSome (fault_in self.now) → result ≡ 0 }
     {

@@ -1,7 +1,7 @@
 //! The head of a message.
 ghost use Rattle.std.specs.Prelude.{◌≡◌, ◌≤◌, ◌<◌, ◌^◌, length};
-ghost use Rattle.kmip_frames.specs.Heads.{head_fault, is_message_tag, said};
-ghost use Rattle.kmip_frames.specs.Framing.{fault_in, needed};
+ghost use Rattle.kmip_frames.specs.Heads.{head_fault, is_message_tag, length_in};
+ghost use Rattle.kmip_frames.specs.Framing.{fault_in, size_needed};
 
 use crate::fault::FrameFault;
 use byteorder::{BigEndian, ByteOrder};
@@ -30,9 +30,9 @@ pub(crate) fn fault_of(bytes: &[u8]) -> Option<FrameFault>
 
 /// How many bytes the message at the front takes, as far as the bytes say it: those of its head,
 /// until that is whole and a message's.
-#[tactic(auto, unfolding(crate::specs::Framing::needed))]
+#[tactic(auto, unfolding(crate::specs::Framing::size_needed))]
 pub(crate) fn size_needed(bytes: &[u8]) -> usize
-    ensures { result ≡ needed bytes.now }
+    ensures { result ≡ size_needed bytes.now }
 {
     if bytes.len() < HEAD_SIZE {
         return HEAD_SIZE;
@@ -72,10 +72,10 @@ fn has_message_tag(tag: u32) -> bool
 }
 
 /// How many bytes follow the head.
-#[tactic(auto, unfolding(crate::specs::Heads::said))]
+#[tactic(auto, unfolding(crate::specs::Heads::length_in))]
 fn length_in(head: &[u8]) -> usize
     requires { 8 ≤ length head.now }
-    ensures value { result ≡ said head.now }
+    ensures value { result ≡ length_in head.now }
     ensures small { result < 2 ^ 32 }
 {
     BigEndian::read_u32(&head[4..]) as usize

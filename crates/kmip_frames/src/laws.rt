@@ -2,7 +2,7 @@
 ghost use Rattle.std.specs.Prelude.{◌≡◌, ℕ, List, [], ◌++◌, Ok, Some};
 ghost use Rattle.kmip_frames.specs.declared.fault.FrameFault.{FrameFault};
 ghost use Rattle.kmip_frames.specs.Streams.{Stream, BeginsWithNoMessage};
-ghost use Rattle.kmip_frames.specs.Framing.{fault_in, fed, IsHeld};
+ghost use Rattle.kmip_frames.specs.Framing.{fault_in, feed, IsHeld};
 ghost use Rattle.kmip_frames.specs.Calls.{Call, Runs, all_taken, all_handed, IsFedAsTwo};
 
 /// Bytes are messages and a rest in one way only; and a rest whose head is no message's stays one,
@@ -21,5 +21,5 @@ pub fn framer_laws()
     // So it does not matter how the stream was cut.
     ensures same { (calls others : List Call) (held other unread beyond : List ℕ) → Runs [] calls held → Runs [] others other → all_taken calls ++ unread ≡ all_taken others ++ beyond → BeginsWithNoMessage (held ++ unread) → BeginsWithNoMessage (other ++ beyond) → (all_handed calls ≡ all_handed others) × (held ++ unread ≡ other ++ beyond) }
     // To feed two pieces joined is to feed the first, and then what was left of it with the second.
-    ensures pieces { (held first second : List ℕ) (count : ℕ) → IsHeld held → fed held first ≡ Ok count → IsFedAsTwo held first second count }
+    ensures pieces { (held first second : List ℕ) (count : ℕ) → IsHeld held → feed held first ≡ Ok count → IsFedAsTwo held first second count }
 {}

@@ -4,7 +4,7 @@ use Rattle.std.specs.Prelude.{ℕ, ℤ, pos, Bool, true, false, not, ◌&&◌, �
 use Rattle.std.specs.List.{list_all}
 use Rattle.std.specs.Ordering.{int_eq}
 use Rattle.std.specs.Option.{option_map_or}
-use Rattle.kmip_messages.specs.declared.standard.TheConstants.{REVOCATION_UNSPECIFIED, REVOCATION_PRIVILEGE_WITHDRAWN, OPERATION_CREATE, OPERATION_LOCATE, OPERATION_GET_ATTRIBUTES, OPERATION_ACTIVATE, OPERATION_REVOKE, OPERATION_DESTROY, ALGORITHM_AES, ALGORITHM_HMAC_SHA256, USAGE_MAX, NAME_MAX, ID_MAX}
+use Rattle.kmip_messages.specs.declared.standard.TheConstants.{REVOCATION_UNSPECIFIED, REVOCATION_KEY_COMPROMISE, REVOCATION_CA_COMPROMISE, REVOCATION_PRIVILEGE_WITHDRAWN, OPERATION_CREATE, OPERATION_LOCATE, OPERATION_GET_ATTRIBUTES, OPERATION_ACTIVATE, OPERATION_REVOKE, OPERATION_DESTROY, ALGORITHM_AES, ALGORITHM_HMAC_SHA256, USAGE_MAX, NAME_MAX, ID_MAX}
 use Rattle.kmip_messages.specs.declared.request.KeyAttrs.{KeyAttrs}
 use Rattle.kmip_messages.specs.declared.request.Ask.{Ask}
 use Rattle.kmip_messages.specs.declared.request.Ask.TheVariants.{Create, Locate, GetAttributes, Activate, Revoke, Destroy}
@@ -43,6 +43,10 @@ is_usage u = int_lt (pos 0) u && not (int_lt USAGE_MAX u)
 -- a Revocation Reason Code
 abbrev pub is_revocation_code : ℕ → Bool
 is_revocation_code c = nat_le REVOCATION_UNSPECIFIED c && nat_le c REVOCATION_PRIVILEGE_WITHDRAWN
+
+-- a Revocation Reason Code that says that others may know the key
+abbrev pub is_compromise : ℕ → Bool
+is_compromise code = code == REVOCATION_KEY_COMPROMISE || code == REVOCATION_CA_COMPROMISE
 
 -- one of the six operations
 abbrev pub is_operation : ℕ → Bool

@@ -23,7 +23,7 @@ mod texts;
 
 pub use fault::{MessageFault, Refusal};
 pub use fitting::{reply_fits, request_fits};
-pub use ranges::{attrs_fit, is_identifier, is_name};
+pub use ranges::{attrs_fit, is_compromise, is_identifier, is_name};
 pub use reply::{Outcome, Reply};
 pub use reply_reading::read_reply;
 pub use reply_writing::write_reply;

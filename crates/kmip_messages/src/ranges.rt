@@ -11,6 +11,7 @@ ghost use Rattle.kmip_messages.specs.Ranges.{
   is_length,
   is_usage,
   is_revocation_code,
+  is_compromise,
   is_operation,
   attrs_fit,
 };
@@ -19,7 +20,8 @@ use crate::request::KeyAttrs;
 use crate::standard::{
     ALGORITHM_AES, ALGORITHM_HMAC_SHA256, ID_MAX, NAME_MAX, OPERATION_ACTIVATE, OPERATION_CREATE,
     OPERATION_DESTROY, OPERATION_GET_ATTRIBUTES, OPERATION_LOCATE, OPERATION_REVOKE,
-    REVOCATION_PRIVILEGE_WITHDRAWN, REVOCATION_UNSPECIFIED, USAGE_MAX,
+    REVOCATION_CA_COMPROMISE, REVOCATION_KEY_COMPROMISE, REVOCATION_PRIVILEGE_WITHDRAWN,
+    REVOCATION_UNSPECIFIED, USAGE_MAX,
 };
 
 /// Whether a key may be made with these attributes: each is in its range. Takes no memory.
@@ -96,6 +98,16 @@ pub fn is_revocation_code(code: u32) -> bool
     ensures { result ≡ is_revocation_code code }
 {
     REVOCATION_UNSPECIFIED <= code && code <= REVOCATION_PRIVILEGE_WITHDRAWN
+}
+
+/// Whether a Revocation Reason Code says that others may know the key: the compromise of the key, or
+/// of its authority.
+///
+/// Source: KMIP 2.1, Enumerations, Revocation Reason Code.
+pub fn is_compromise(code: u32) -> bool
+    ensures { result ≡ is_compromise code }
+{
+    code == REVOCATION_KEY_COMPROMISE || code == REVOCATION_CA_COMPROMISE
 }
 
 /// Whether the number is one of the six operations of the profile.

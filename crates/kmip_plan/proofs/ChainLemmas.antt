@@ -8,7 +8,7 @@ use Rattle.kmip_messages.specs.declared.step.Step.{Step}
 use Rattle.kmip_messages.specs.declared.step.Step.TheVariants as done
 use Rattle.kmip_plan.specs.declared.target.Target.{Target}
 use Rattle.kmip_plan.specs.declared.target.Target.TheVariants.{Created, Active, Revoked, Destroyed, Discarded}
-use Rattle.kmip_plan.specs.Chains.{step_at, state_at, moved_by, place_at, place_of, step_place}
+use Rattle.kmip_plan.specs.Chains.{step_at, state_after, moved_by, place_of, place_reached, step_place}
 
 abbrev none : (A : Type 0) → Option A
 none A = None
@@ -54,11 +54,11 @@ step_placed Discarded (suc (suc zero)) step is = as_step Discarded 2 done.Destro
 step_placed Discarded (suc (suc (suc i))) step is = not_some step is
 
 -- a state that is passed at a place has that place
-as_state : (target : Target) (place : ℕ) (known state : KeyState) → place_at target (state_number known) ≡ Some place → some KeyState known ≡ some KeyState state
-    → place_at target (state_number state) ≡ Some place
-as_state target place known state placed is = subst (λ s. place_at target (state_number s) ≡ Some place) (same_some known state is) placed
+as_state : (target : Target) (place : ℕ) (known state : KeyState) → place_of target (state_number known) ≡ Some place → some KeyState known ≡ some KeyState state
+    → place_of target (state_number state) ≡ Some place
+as_state target place known state placed is = subst (λ s. place_of target (state_number s) ≡ Some place) (same_some known state is) placed
 
-pub state_placed : (target : Target) (place : ℕ) (state : KeyState) → state_at target place ≡ Some state → place_at target (state_number state) ≡ Some place
+pub state_placed : (target : Target) (place : ℕ) (state : KeyState) → state_after target place ≡ Some state → place_of target (state_number state) ≡ Some place
 state_placed Created zero state is = not_some state is
 state_placed Created (suc zero) state is = as_state Created 1 passed.PreActive state refl is
 state_placed Created (suc (suc i)) state is = not_some state is
@@ -83,10 +83,10 @@ state_placed Discarded (suc (suc zero)) state is = as_state Discarded 2 passed.D
 state_placed Discarded (suc (suc (suc i))) state is = not_some state is
 
 -- and the other way round
-at_place : (target : Target) (known place : ℕ) (state : KeyState) → state_at target known ≡ Some state → some ℕ known ≡ some ℕ place → state_at target place ≡ Some state
-at_place target known place state stands is = subst (λ p. state_at target p ≡ Some state) (same_some known place is) stands
+at_place : (target : Target) (known place : ℕ) (state : KeyState) → state_after target known ≡ Some state → some ℕ known ≡ some ℕ place → state_after target place ≡ Some state
+at_place target known place state stands is = subst (λ p. state_after target p ≡ Some state) (same_some known place is) stands
 
-pub placed_state : (target : Target) (place : ℕ) (state : KeyState) → place_at target (state_number state) ≡ Some place → state_at target place ≡ Some state
+pub placed_state : (target : Target) (place : ℕ) (state : KeyState) → place_of target (state_number state) ≡ Some place → state_after target place ≡ Some state
 placed_state Created place passed.PreActive is = at_place Created 1 place passed.PreActive refl is
 placed_state Created place passed.Active is = not_some place is
 placed_state Created place passed.Deactivated is = not_some place is
@@ -120,7 +120,7 @@ placed_state Discarded place passed.DestroyedCompromised is = not_some place is
 
 -- each step leads on by a row of the lifecycle
 abbrev LeadsOn : Target → ℕ → Step → Type 0
-LeadsOn target place step = (state : KeyState) × (state_at target (suc place) ≡ Some state) × (moved_by (state_at target place) step ≡ Some state)
+LeadsOn target place step = (state : KeyState) × (state_after target (suc place) ≡ Some state) × (moved_by (state_after target place) step ≡ Some state)
 
 on_step : (target : Target) (place : ℕ) (known step : Step) → LeadsOn target place known → some Step known ≡ some Step step → LeadsOn target place step
 on_step target place known step leads is = subst (LeadsOn target place) (same_some known step is) leads
@@ -145,7 +145,7 @@ leads_on Discarded (suc zero) step is = on_step Discarded 1 done.Destroy step (p
 leads_on Discarded (suc (suc i)) step is = not_some step is
 
 -- a step whose place is not behind that of a state is no row from this state
-pub no_row : (target : Target) (step : Step) (state : KeyState) → 1 ≤ step_place target step → step_place target step ≤ place_of target state → after state step ≡ None
+pub no_row : (target : Target) (step : Step) (state : KeyState) → 1 ≤ step_place target step → step_place target step ≤ place_reached target state → after state step ≡ None
 no_row Created done.Activate passed.PreActive some within = absurd (omega (arith, some, within))
 no_row Active done.Activate passed.PreActive some within = absurd (omega (arith, some, within))
 no_row Revoked done.Activate passed.PreActive some within = absurd (omega (arith, some, within))

@@ -16,7 +16,7 @@ use Rattle.kmip_plan.specs.declared.target.Target.{Target}
 use Rattle.kmip_plan.specs.Chains.{is_revoked}
 use Rattle.kmip_plan.specs.Fields.{name_of, algorithm_of, length_of, usage_of, target_of, reason_in, reason_of}
 use Rattle.kmip_plan.specs.Plans.{IsKey, AreKeys, HaveNewNames, IsPlan, key_fits, IsLawful}
-use Rattle.kmip_plan.specs.Reading.{has_name, all_there, suite_of, key_in, keys_in, plan_in, plan_read, Gives}
+use Rattle.kmip_plan.specs.Reading.{has_key_named, all_there, suite_of, key_in, keys_in, plan_in, plan_read, GivesPlan}
 use Rattle.kmip_plan.specs.Tables.{text_at, integer_at, array_at, fields_of, is_top_field, is_key_field, has_only, count}
 use Rattle.kmip_plan.specs.Words.{reason_of_word}
 use Rattle.kmip_plan.proofs.ChainLemmas.{same_some, not_some}
@@ -85,7 +85,7 @@ suite-law place ms = reads-as (suite_of place ms) _ (IsSuite ms)
 -- the key of a table, with a name that no key before it has
 pub record IsNewKey (keys : List Key) (ms : Members) (key : Key) : Type 0 where
   pub is : IsKey ms key
-  pub new : has_name key.attrs.name keys ≡ false
+  pub new : has_key_named key.attrs.name keys ≡ false
 
 opposite : (b : Bool) → not b ≡ true → b ≡ false
 opposite false e = refl
@@ -93,7 +93,7 @@ opposite true e = absurd cc
 
 new_key : (keys : List Key) (ms : Members) (name : List ℕ) (suite : ℕ × ℤ) (usage : ℤ) (target : Target) (reason : ℕ)
     → has_only is_key_field ms ≡ true → name_of ms ≡ Some name → IsSuite ms suite → usage_of ms ≡ Some usage → target_of ms ≡ Some target
-    → reason_of target ms ≡ Some reason → not (has_name name keys) ≡ true
+    → reason_of target ms ≡ Some reason → not (has_key_named name keys) ≡ true
     → IsNewKey keys ms (record { attrs = record { name = name; algorithm = suite.0; length = suite.1; usage = usage }; target = target; reason = reason })
 new_key keys ms name suite usage target reason only called suits used goes because new =
     let (stands, fits) = found_so is_name (text_at (codes "name") ms) name called in
@@ -110,7 +110,7 @@ new_key keys ms name suite usage target reason only called suits used goes becau
         target = target_found ms target goes;
         reason = because;
       };
-      new = opposite (has_name name keys) new;
+      new = opposite (has_key_named name keys) new;
     }
 
 key-law : (keys : List Key) (ms : Members) → Reads (key_in keys ms) (IsNewKey keys ms)
@@ -164,7 +164,7 @@ key-law keys ms =
     reads-bind _ _ _ _ (reads-need (faults.BadUsage place) (usage_of ms)) (λ usage.
     reads-bind _ _ _ _ (reads-need (faults.BadTarget place) (target_of ms)) (λ target.
     reads-bind _ _ _ _ (reads-need (faults.BadReason place) (reason_of target ms)) (λ reason.
-    reads-bind _ _ _ _ (reads-guard (faults.SameName place) (not (has_name name keys))) (λ new.
+    reads-bind _ _ _ _ (reads-guard (faults.SameName place) (not (has_key_named name keys))) (λ new.
     reads-ok (record { attrs = record { name = name; algorithm = suite.0; length = suite.1; usage = usage }; target = target; reason = reason }))))))))))
 
 -- ---- the keys
@@ -276,13 +276,13 @@ plan_found text keys e = (text-law text).sound keys e
 pub plan_only : (text : List ℕ) (ms : Members) (keys : List Key) → parse_document text ≡ Some ms → IsPlan ms keys → plan_read text ≡ Ok keys
 plan_only text ms keys is plan = (text-law text).complete keys (ms, is, plan)
 
-pub is_found : (text : List ℕ) (r : Result (List Key) PlanFault) → Gives (λ keys. keys) r (plan_read text) → IfOk r (λ keys. IsPlanText text keys)
+pub is_found : (text : List ℕ) (r : Result (List Key) PlanFault) → GivesPlan (λ keys. keys) r (plan_read text) → IfOk r (λ keys. IsPlanText text keys)
 is_found text (Ok keys) e = plan_found text keys e
 is_found text (Err fault) e = tt
 
-pub is_only : (text : List ℕ) (r : Result (List Key) PlanFault) (ms : Members) (keys : List Key) → Gives (λ ks. ks) r (plan_read text)
-    → parse_document text ≡ Some ms → IsPlan ms keys → Gives (λ ks. ks) r (Ok keys)
-is_only text r ms keys e is plan = subst (λ read. Gives (λ ks. ks) r read) (plan_only text ms keys is plan) e
+pub is_only : (text : List ℕ) (r : Result (List Key) PlanFault) (ms : Members) (keys : List Key) → GivesPlan (λ ks. ks) r (plan_read text)
+    → parse_document text ≡ Some ms → IsPlan ms keys → GivesPlan (λ ks. ks) r (Ok keys)
+is_only text r ms keys e is plan = subst (λ read. GivesPlan (λ ks. ks) r read) (plan_only text ms keys is plan) e
 
 -- ---- what holds of the keys
 

@@ -47,20 +47,20 @@ place_from_one xs (suc place) = slice_get xs place
 abbrev pub step_at : Target → ℕ → Option Step
 step_at target place = place_from_one (chain target) place
 
-abbrev pub state_at : Target → ℕ → Option KeyState
-state_at target steps = place_from_one (states target) steps
+abbrev pub state_after : Target → ℕ → Option KeyState
+state_after target steps = place_from_one (states target) steps
 
 -- after how many steps the state has this number
-abbrev pub place_at : Target → ℕ → Option ℕ
-place_at target number = option_map (λ index. index + 1) (position (λ state. state_number state == number) (states target))
+abbrev pub place_of : Target → ℕ → Option ℕ
+place_of target number = option_map (λ index. index + 1) (position (λ state. state_number state == number) (states target))
 
 -- the same of a state: its place on the way to the target, and 0 where the way does not lead through it
 abbrev pub or_zero : Option ℕ → ℕ
 or_zero None = 0
 or_zero (Some place) = place
 
-abbrev pub place_of : Target → KeyState → ℕ
-place_of target state = or_zero (place_at target (state_number state))
+abbrev pub place_reached : Target → KeyState → ℕ
+place_reached target state = or_zero (place_of target (state_number state))
 
 -- the place of a step from 1, and 0 where the chain does not have it
 abbrev pub step_place : Target → Step → ℕ

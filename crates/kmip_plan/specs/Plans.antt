@@ -8,7 +8,7 @@ use Rattle.kmip_plan.specs.declared.key.Key.{Key}
 use Rattle.kmip_plan.specs.declared.target.Target.{Target}
 use Rattle.kmip_plan.specs.Chains.{is_revoked}
 use Rattle.kmip_plan.specs.Fields.{are_once, mask_of, reason_of}
-use Rattle.kmip_plan.specs.Reading.{has_name}
+use Rattle.kmip_plan.specs.Reading.{has_key_named}
 use Rattle.kmip_plan.specs.Tables.{text_at, integer_at, array_at, fields_of, is_top_field, is_key_field, has_only, all_words}
 use Rattle.kmip_plan.specs.Words.{target_word, algorithm_word, is_usage_word}
 
@@ -49,7 +49,7 @@ AreKeys (item d ds) (key ∷ keys) = IsKey (fields_of d) key × AreKeys ds keys
 -- each key has a name that no key before it has
 abbrev pub HaveNewNames : List Key → List Key → Type 0
 HaveNewNames before [] = Unit {0}
-HaveNewNames before (key ∷ keys) = (has_name key.attrs.name before ≡ false) × HaveNewNames (before ++ key ∷ []) keys
+HaveNewNames before (key ∷ keys) = (has_key_named key.attrs.name before ≡ false) × HaveNewNames (before ++ key ∷ []) keys
 
 -- a table is a plan of these keys
 pub record IsPlan (ms : Members) (keys : List Key) : Type 0 where

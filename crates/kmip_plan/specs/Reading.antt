@@ -28,8 +28,8 @@ none_other place None = Ok tt
 none_other place (Some word) = Err (Unknown word place)
 
 -- a key has the name
-abbrev pub has_name : List ℕ → List Key → Bool
-has_name name keys = list_any (λ k. is_text name k.attrs.name) keys
+abbrev pub has_key_named : List ℕ → List Key → Bool
+has_key_named name keys = list_any (λ k. is_text name k.attrs.name) keys
 
 -- each field that a key must have is there
 unfoldable pub all_there : ℕ → Members → Result (Unit {0}) PlanFault
@@ -59,7 +59,7 @@ key_in keys ms =
       usage ← need (BadUsage place) (usage_of ms)
       target ← need (BadTarget place) (target_of ms)
       reason ← need (BadReason place) (reason_of target ms)
-      new ← guard (SameName place) (not (has_name name keys))
+      new ← guard (SameName place) (not (has_key_named name keys))
       Ok (record { attrs = record { name = name; algorithm = suite.0; length = suite.1; usage = usage }; target = target; reason = reason })
 
 -- the keys before, and those of the items
@@ -80,10 +80,10 @@ unfoldable pub plan_read : List ℕ → Result (List Key) PlanFault
 plan_read text = need Toml (parse_document text) >>= plan_in
 
 -- what a call answered, seen by view, is what reading gives, unless memory ran out
-abbrev pub Fails : {Y : Type 0} → PlanFault → Result Y PlanFault → Type 0
-Fails NoMemory read = Unit {0}
-Fails fault read = read ≡ Err fault
+abbrev pub FailsPlan : {Y : Type 0} → PlanFault → Result Y PlanFault → Type 0
+FailsPlan NoMemory read = Unit {0}
+FailsPlan fault read = read ≡ Err fault
 
-abbrev pub Gives : {X Y : Type 0} → (X → Y) → Result X PlanFault → Result Y PlanFault → Type 0
-Gives view (Ok x) read = read ≡ Ok (view x)
-Gives view (Err e) read = Fails e read
+abbrev pub GivesPlan : {X Y : Type 0} → (X → Y) → Result X PlanFault → Result Y PlanFault → Type 0
+GivesPlan view (Ok x) read = read ≡ Ok (view x)
+GivesPlan view (Err e) read = FailsPlan e read

@@ -2,7 +2,7 @@
 ghost use Rattle.std.specs.Prelude.{◌≡◌, ◌≤◌, ◌==◌, length};
 ghost use Rattle.std.specs.List.{position};
 ghost use Rattle.kmip_messages.specs.States.{state_number};
-ghost use Rattle.kmip_plan.specs.Chains.{chain, states, step_at, state_at, place_at, is_revoked};
+ghost use Rattle.kmip_plan.specs.Chains.{chain, states, step_at, state_after, place_of, is_revoked};
 
 use crate::key::Key;
 use crate::target::Target;
@@ -29,7 +29,7 @@ pub fn chain(key: &Key, place: usize) -> Option<Step>
 
 /// The state of the key after so many steps; none after no step. Takes no memory.
 pub fn state_after(key: &Key, steps: usize) -> Option<KeyState>
-    ensures { result ≡ state_at key.now.target steps }
+    ensures { result ≡ state_after key.now.target steps }
 {
     if steps == 0 {
         return None;
@@ -40,7 +40,7 @@ pub fn state_after(key: &Key, steps: usize) -> Option<KeyState>
 /// After how many steps the key is in the state of this number, where its way leads through that state.
 /// Takes no memory.
 pub fn place_of(key: &Key, state: u32) -> Option<usize>
-    ensures { result ≡ place_at key.now.target state }
+    ensures { result ≡ place_of key.now.target state }
 {
     match index_of(states_to(key.target), state) {
         Some(index) => Some(index + 1),

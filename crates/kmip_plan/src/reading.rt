@@ -6,7 +6,7 @@ ghost use Rattle.toml.specs.View.{view, array_view, table_view};
 ghost use Rattle.kmip_plan.specs.Faults.{field_word};
 ghost use Rattle.kmip_plan.specs.declared.key.Key.{Key};
 ghost use Rattle.kmip_plan.specs.Plans.{IsPlan};
-ghost use Rattle.kmip_plan.specs.Reading.{need, none_other, has_name, all_there, suite_of, key_in, keys_in, plan_in, plan_read, Gives};
+ghost use Rattle.kmip_plan.specs.Reading.{need, none_other, has_key_named, all_there, suite_of, key_in, keys_in, plan_in, plan_read, GivesPlan};
 ghost use Rattle.kmip_plan.specs.Tables.{fields_of};
 
 use crate::counts::count;
@@ -30,15 +30,15 @@ const KEYS_MAX: usize = 1000;
 /// The first fault in the order of the checks; want of memory otherwise.
 pub fn read_plan(alloc: Global, text: &str) -> Result<Plan, PlanFault>
     ensures found { IfOk result (λ plan. (ms : Members) × (parse_document text.now ≡ Some ms) × IsPlan ms plan) }
-    ensures only { (ms : Members) (keys : List Key) → parse_document text.now ≡ Some ms → IsPlan ms keys → Gives (λ plan. plan) result (Ok keys) }
-    ensures exact { Gives (λ plan. plan) result (plan_read text.now) }
+    ensures only { (ms : Members) (keys : List Key) → parse_document text.now ≡ Some ms → IsPlan ms keys → GivesPlan (λ plan. plan) result (Ok keys) }
+    ensures exact { GivesPlan (λ plan. plan) result (plan_read text.now) }
 {
     whole_plan(alloc, text)
 }
 
 /// The same, by the order of the checks.
 fn whole_plan(alloc: Global, text: &str) -> Result<Plan, PlanFault>
-    ensures { Gives (λ plan. plan) result (plan_read text.now) }
+    ensures { GivesPlan (λ plan. plan) result (plan_read text.now) }
 {
     let keys = plan_of(alloc, text)?;
     Ok(Plan::new(keys))
@@ -47,7 +47,7 @@ fn whole_plan(alloc: Global, text: &str) -> Result<Plan, PlanFault>
 /// The keys of a text.
 #[tactic(auto, unfolding(crate::specs::Reading::plan_read))]
 fn plan_of(alloc: Global, text: &str) -> Result<Vec<Key>, PlanFault>
-    ensures { Gives (λ keys. keys.items) result (plan_read text.now) }
+    ensures { GivesPlan (λ keys. keys.items) result (plan_read text.now) }
 {
     match toml::table_from_str(alloc, text) {
         Ok(table) => {
@@ -62,7 +62,7 @@ fn plan_of(alloc: Global, text: &str) -> Result<Vec<Key>, PlanFault>
 /// The keys of a table, in their order.
 #[tactic(auto, unfolding(crate::specs::Reading::plan_in))]
 fn keys_of(alloc: Global, table: &Table) -> Result<Vec<Key>, PlanFault>
-    ensures { Gives (λ keys. keys.items) result (plan_in (table_view table.now)) }
+    ensures { GivesPlan (λ keys. keys.items) result (plan_in (table_view table.now)) }
 {
     check_other(alloc, other_top_field(table), 0)?;
     let Some(array) = array_at(table, "key") else {
@@ -81,7 +81,7 @@ fn keys_of(alloc: Global, table: &Table) -> Result<Vec<Key>, PlanFault>
 
 /// The keys of an array.
 fn keys_in(alloc: Global, array: &Array) -> Result<Vec<Key>, PlanFault>
-    ensures { Gives (λ keys. keys.items) result (keys_in [] (array_view array.now)) }
+    ensures { GivesPlan (λ keys. keys.items) result (keys_in [] (array_view array.now)) }
 {
     let mut keys = Vec::new(alloc);
     for value in array {
@@ -94,7 +94,7 @@ fn keys_in(alloc: Global, array: &Array) -> Result<Vec<Key>, PlanFault>
 /// The key of an element; one that is no table is read as an empty table.
 #[tactic(auto, unfolding(crate::specs::Reading::key_in, crate::specs::Reading::all_there))]
 fn key_of(alloc: Global, keys: &[Key], value: &Value) -> Result<Key, PlanFault>
-    ensures { Gives (λ key. key) result (key_in keys.now (fields_of (view value.now))) }
+    ensures { GivesPlan (λ key. key) result (key_in keys.now (fields_of (view value.now))) }
 {
     match value {
         Value::Table(table) => key_in(alloc, keys, table),
@@ -105,7 +105,7 @@ fn key_of(alloc: Global, keys: &[Key], value: &Value) -> Result<Key, PlanFault>
 /// The key of a table, after the keys before it.
 #[tactic(auto, unfolding(crate::specs::Reading::key_in))]
 fn key_in(alloc: Global, keys: &[Key], table: &Table) -> Result<Key, PlanFault>
-    ensures { Gives (λ key. key) result (key_in keys.now (table_view table.now)) }
+    ensures { GivesPlan (λ key. key) result (key_in keys.now (table_view table.now)) }
 {
     let place = keys.len() + 1;
     check_fields(table, place)?;
@@ -134,7 +134,7 @@ fn key_in(alloc: Global, keys: &[Key], table: &Table) -> Result<Key, PlanFault>
 /// The algorithm, and how many bits its key has.
 #[tactic(auto, unfolding(crate::specs::Reading::suite_of))]
 fn suite_of(table: &Table, place: usize) -> Result<(u32, i32), PlanFault>
-    ensures { Gives (λ suite. suite) result (suite_of place (table_view table.now)) }
+    ensures { GivesPlan (λ suite. suite) result (suite_of place (table_view table.now)) }
 {
     let algorithm = algorithm_of(table).ok_or(PlanFault::BadLength(place))?;
     let length = length_of(algorithm, table).ok_or(PlanFault::BadLength(place))?;
@@ -144,7 +144,7 @@ fn suite_of(table: &Table, place: usize) -> Result<(u32, i32), PlanFault>
 /// Each field that a key must have is there.
 #[tactic(auto, unfolding(crate::specs::Reading::all_there))]
 fn check_fields(table: &Table, place: usize) -> Result<(), PlanFault>
-    ensures { Gives (λ u. u) result (all_there place (table_view table.now)) }
+    ensures { GivesPlan (λ u. u) result (all_there place (table_view table.now)) }
 {
     require(table, Field::Name, place)?;
     require(table, Field::Algorithm, place)?;
@@ -156,7 +156,7 @@ fn check_fields(table: &Table, place: usize) -> Result<(), PlanFault>
 
 /// The field is there.
 fn require<'a>(table: &'a Table, field: Field, place: usize) -> Result<&'a Value, PlanFault>
-    ensures { Gives (λ value. view value.now) result (need (PlanFault.Missing field place) (get_member (field_word field) (table_view table.now))) }
+    ensures { GivesPlan (λ value. view value.now) result (need (PlanFault.Missing field place) (get_member (field_word field) (table_view table.now))) }
 {
     match value_at(table, field.word()) {
         Some(value) => Ok(value),
@@ -166,7 +166,7 @@ fn require<'a>(table: &'a Table, field: Field, place: usize) -> Result<&'a Value
 
 /// There is no other field.
 fn check_other(alloc: Global, other: Option<&str>, place: usize) -> Result<(), PlanFault>
-    ensures { Gives (λ u. u) result (none_other place (option_map (λ word. word.now) other.entry)) }
+    ensures { GivesPlan (λ u. u) result (none_other place (option_map (λ word. word.now) other.entry)) }
 {
     match other {
         Some(word) => {
@@ -179,7 +179,7 @@ fn check_other(alloc: Global, other: Option<&str>, place: usize) -> Result<(), P
 
 /// Whether a key has the name.
 fn has_name(keys: &[Key], name: &str) -> bool
-    ensures { result ≡ has_name name.now keys.now }
+    ensures { result ≡ has_key_named name.now keys.now }
 {
     keys.iter().any(|key| name == key.attrs.name.as_str())
 }

@@ -10,8 +10,8 @@ use Rattle.std.proofs.lemmas.Slice.Eq.{bytes_eq-Decides}
 use Rattle.kmip_messages.specs.Objects.{object_named, object_with, restated, all_restated}
 use Rattle.kmip_messages.specs.declared.state.KeyState.{KeyState}
 use Rattle.kmip_store.specs.declared.row.Row.{Row}
-use Rattle.kmip_store.specs.Stock.{AreNumbered, has_name, object_of, objects_of}
-use Rattle.kmip_store.specs.Stepping.{entered, row_moved, rows_moved, row_with}
+use Rattle.kmip_store.specs.Stock.{AreNumbered, has_row_named, object_of, objects_of}
+use Rattle.kmip_store.specs.Stepping.{enter, row_in_state, rows_in_state, row_with}
 
 -- the first image that passes a test is that of the first element whose image does
 pub find-map : {A B : Type 0} (test : B → Bool) (f : A → B) (xs : List A) → find test (map f xs) ≡ option_map f (find (λ x. test (f x)) xs)
@@ -38,13 +38,13 @@ none_from None is = refl
 none_from (Some a) is = cc
 
 -- an object has the name where a row has it
-pub some_named : (name : List ℕ) (rows : List Row) → is_some (object_named name (objects_of rows)) ≡ has_name name rows
+pub some_named : (name : List ℕ) (rows : List Row) → is_some (object_named name (objects_of rows)) ≡ has_row_named name rows
 some_named name rows =
     ap is_some (find-map (λ o. pointwise nat_eq name o.attrs.name) object_of rows)
     ∙ is_some-map object_of (find (λ r. pointwise nat_eq name r.attrs.name) rows)
     ∙ is_some-find (λ r. pointwise nat_eq name r.attrs.name) rows
 
-pub none_named : (name : List ℕ) (rows : List Row) → has_name name rows ≡ false → object_named name (objects_of rows) ≡ None
+pub none_named : (name : List ℕ) (rows : List Row) → has_row_named name rows ≡ false → object_named name (objects_of rows) ≡ None
 none_named name rows free = none_from (object_named name (objects_of rows)) (some_named name rows ∙ free)
 
 -- the object with an identifier is what the row with it shows
@@ -65,14 +65,14 @@ unnumbered place n (r ∷ rows) numbered within small =
 
 -- what a row shows in another state
 restated_if : (b : Bool) (state : KeyState) (r : Row)
-    → object_of (cond b (entered state r) r) ≡ cond b (record { uid = r.uid; attrs = r.attrs; state = state }) (object_of r)
+    → object_of (cond b (enter state r) r) ≡ cond b (record { uid = r.uid; attrs = r.attrs; state = state }) (object_of r)
 restated_if true state r = refl
 restated_if false state r = refl
 
-pub object_moved : (uid : List ℕ) (state : KeyState) (r : Row) → object_of (row_moved uid state r) ≡ restated uid state (object_of r)
+pub object_moved : (uid : List ℕ) (state : KeyState) (r : Row) → object_of (row_in_state uid state r) ≡ restated uid state (object_of r)
 object_moved uid state r = restated_if (pointwise nat_eq uid r.uid) state r
 
 pub objects_moved : (uid : List ℕ) (state : KeyState) (rows : List Row)
-    → objects_of (rows_moved uid state rows) ≡ all_restated uid state (objects_of rows)
+    → objects_of (rows_in_state uid state rows) ≡ all_restated uid state (objects_of rows)
 objects_moved uid state [] = refl
 objects_moved uid state (r ∷ rows) = rw (object_moved uid state r, objects_moved uid state rows) refl

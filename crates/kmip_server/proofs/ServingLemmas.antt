@@ -21,7 +21,7 @@ use Rattle.kmip_messages.specs.Written.{reply_item}
 use Rattle.kmip_messages.proofs.WrittenLemmas.{size-reply, id_bound, name_length, text_bound, uid_length}
 use Rattle.kmip_store.specs.declared.fault.StoreFault.{StoreFault}
 use Rattle.kmip_store.specs.declared.fault.StoreFault.TheVariants.{NotFound, SameName, WrongState, Full, NoMemory}
-use Rattle.kmip_store.specs.Stock.{Stock, MayRefuse, added, created}
+use Rattle.kmip_store.specs.Stock.{Stock, MayRefuse, stock_with, create}
 use Rattle.kmip_server.specs.Reasons.{message_reason}
 use Rattle.kmip_server.specs.Serving.{attributes_of}
 
@@ -53,7 +53,7 @@ pub refusal_read : (refusal : Refusal) (read : Result Request Refusal) → Refus
 refusal_read refusal read h some = refusal_is refusal.fault refusal read h some
 
 refused : (attrs : KeyAttrs) (s : Stock) (fault : StoreFault) → MayRefuse {A = List ℕ} attrs.name s (Err fault) → fault ≢ NoMemory
-    → created attrs s ≡ Err fault
+    → create attrs s ≡ Err fault
 refused attrs s NotFound h other = absurd h
 refused attrs s SameName h other = rw h refl
 refused attrs s WrongState h other = absurd h
@@ -62,11 +62,11 @@ refused attrs s NoMemory h other = absurd (other refl)
 
 -- a Create that is refused, and not for want of memory, is refused by its definition
 pub created_refused : (attrs : KeyAttrs) (s : Stock) (fault : StoreFault) → MayRefuse {A = List ℕ} attrs.name s (Err fault) → fault ≢ NoMemory
-    → created attrs s ≡ Err fault
+    → create attrs s ≡ Err fault
 created_refused attrs s fault h other = refused attrs s fault h other
 
 -- and one that is made, is made by it
-pub created_made : (attrs : KeyAttrs) (s : Stock) (uid : List ℕ) → MayRefuse attrs.name s (Ok uid) → created attrs s ≡ Ok (added attrs s)
+pub created_made : (attrs : KeyAttrs) (s : Stock) (uid : List ℕ) → MayRefuse attrs.name s (Ok uid) → create attrs s ≡ Ok (stock_with attrs s)
 created_made attrs s uid h = rw (h.0, lt-ltb (length s.rows) s.room h.1) refl
 
 both : {a b : Bool} → a ≡ true → b ≡ true → (a && b) ≡ true

@@ -16,9 +16,10 @@ use Rattle.kmip_messages.specs.declared.step.Step.{Step}
 use Rattle.kmip_messages.specs.declared.step.Step.TheVariants as steps
 use Rattle.kmip_messages.proofs.WrittenLemmas.{decimal_identifier}
 use Rattle.kmip_store.specs.declared.row.Row.{Row}
-use Rattle.kmip_store.specs.Stepping.{moved_to, row_with, stepped_from}
-use Rattle.kmip_store.specs.Stock.{IsKept, Stock, added, has_name, object_of, objects_of}
-use Rattle.kmip_server.specs.Serving.{answered, changed, is_compromise, told}
+use Rattle.kmip_store.specs.Stepping.{enter_state, row_with, take_step_from}
+use Rattle.kmip_store.specs.Stock.{IsKept, Stock, stock_with, has_row_named, object_of, objects_of}
+use Rattle.kmip_server.specs.Serving.{answer, outcome_of_change, attributes_outcome}
+use Rattle.kmip_messages.specs.Ranges.{is_compromise}
 use Rattle.kmip_server.specs.ServerStep as rules_of
 use Rattle.kmip_server.specs.ServerStep.{ServerStep, step_asked, success_of}
 use Rattle.kmip_server.proofs.ObjectLemmas.{none_named, object_of_row, objects_moved, some_named, unnumbered}
@@ -36,8 +37,8 @@ the_object : (uid : List ℕ) (rows : List Row) (row : Row) → row_with uid row
     → object_with uid (objects_of rows) ≡ Some (object_of row)
 the_object uid rows row found = object_of_row uid rows ∙ ap (option_map object_of) found
 
-added_step : (s : Stock) (attrs : KeyAttrs) → IsKept s.rows s.room → has_name attrs.name s.rows ≡ false
-    → nat_lt (length s.rows) s.room ≡ true → IsStep s (Create attrs) (Created (decimal (length s.rows + 1)), added attrs s)
+added_step : (s : Stock) (attrs : KeyAttrs) → IsKept s.rows s.room → has_row_named attrs.name s.rows ≡ false
+    → nat_lt (length s.rows) s.room ≡ true → IsStep s (Create attrs) (Created (decimal (length s.rows + 1)), stock_with attrs s)
 added_step s attrs kept free roomy =
     let small : length s.rows + 1 ≤ 10000 = omega (arith, kept.small, ltb-true _ _ roomy) in
     let room : length (objects_of s.rows) < s.room = omega (arith, length-map s.rows object_of, ltb-true _ _ roomy) in
@@ -47,8 +48,8 @@ added_step s attrs kept free roomy =
     (sym (map-append object_of s.rows _))
     (rules_of.created (none_named attrs.name s.rows free) room apart (decimal_identifier (length s.rows + 1) small))
 
-create_step : (s : Stock) (attrs : KeyAttrs) → IsKept s.rows s.room → IsStep s (Create attrs) (answered s (Create attrs))
-create_step s attrs kept = elim (cases_Bool (has_name attrs.name s.rows)) [
+create_step : (s : Stock) (attrs : KeyAttrs) → IsKept s.rows s.room → IsStep s (Create attrs) (answer s (Create attrs))
+create_step s attrs kept = elim (cases_Bool (has_row_named attrs.name s.rows)) [
   | inl taken ↦ rw taken (rules_of.name_taken (some_named attrs.name s.rows ∙ taken))
   | inr free ↦ elim (cases_Bool (nat_lt (length s.rows) s.room)) [
     | inl roomy ↦ rw (free, roomy) (added_step s attrs kept free roomy)
@@ -59,13 +60,13 @@ create_step s attrs kept = elim (cases_Bool (has_name attrs.name s.rows)) [
 ]
 
 told_step : (s : Stock) (uid : List ℕ) (found : Option Row) → row_with uid s.rows ≡ found
-    → IsStep s (GetAttributes uid) (told uid found, s)
+    → IsStep s (GetAttributes uid) (attributes_outcome uid found, s)
 told_step s uid None is = rules_of.unknown (no_object uid s.rows is)
 told_step s uid (Some row) is = rules_of.told (the_object uid s.rows row is)
 
 moved_step : (s : Stock) (ask : Ask) (step : Step) (uid : List ℕ) (row : Row) (next : Option KeyState)
     → step_asked ask ≡ Some (step, uid) → row_with uid s.rows ≡ Some row → after row.state step ≡ next
-    → IsStep s ask (changed (success_of step uid) s (moved_to uid s next))
+    → IsStep s ask (outcome_of_change (success_of step uid) s (enter_state uid s next))
 moved_step s ask step uid row None asked found is = rules_of.wrong_state asked (the_object uid s.rows row found) is
 moved_step s ask step uid row (Some state) asked found is =
     subst (λ objects. ServerStep s.room (objects_of s.rows) ask (success_of step uid) objects)
@@ -73,11 +74,11 @@ moved_step s ask step uid row (Some state) asked found is =
     (rules_of.done asked (the_object uid s.rows row found) is)
 
 stepped_step : (s : Stock) (ask : Ask) (step : Step) (uid : List ℕ) (found : Option Row) → step_asked ask ≡ Some (step, uid)
-    → row_with uid s.rows ≡ found → IsStep s ask (changed (success_of step uid) s (stepped_from step uid s found))
+    → row_with uid s.rows ≡ found → IsStep s ask (outcome_of_change (success_of step uid) s (take_step_from step uid s found))
 stepped_step s ask step uid None asked is = rules_of.not_found asked (no_object uid s.rows is)
 stepped_step s ask step uid (Some row) asked is = moved_step s ask step uid row (after row.state step) asked is refl
 
-revoke_step : (s : Stock) (uid : List ℕ) (code : ℕ) → IsStep s (Revoke uid code) (answered s (Revoke uid code))
+revoke_step : (s : Stock) (uid : List ℕ) (code : ℕ) → IsStep s (Revoke uid code) (answer s (Revoke uid code))
 revoke_step s uid code = elim (cases_Bool (is_compromise code)) [
   | inl known ↦ rw known (rules_of.compromised known)
   | inr plain ↦
@@ -85,7 +86,7 @@ revoke_step s uid code = elim (cases_Bool (is_compromise code)) [
       rw plain (stepped_step s (Revoke uid code) steps.Revoke uid (row_with uid s.rows) asked refl)
 ]
 
-pub serving_step : (s : Stock) (ask : Ask) → IsKept s.rows s.room → IsStep s ask (answered s ask)
+pub serving_step : (s : Stock) (ask : Ask) → IsKept s.rows s.room → IsStep s ask (answer s ask)
 serving_step s (Create attrs) kept = create_step s attrs kept
 serving_step s (Locate mask given) kept = rules_of.searched
 serving_step s (GetAttributes uid) kept = told_step s uid (row_with uid s.rows) refl

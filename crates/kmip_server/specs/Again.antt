@@ -6,7 +6,7 @@ use Rattle.kmip_messages.specs.declared.reply.Outcome.TheVariants.{Failed}
 use Rattle.kmip_messages.specs.declared.request.Ask.{Ask}
 use Rattle.kmip_messages.specs.declared.request.Ask.TheVariants.{Create, Activate, Revoke, Destroy}
 use Rattle.kmip_store.specs.Stock.{Stock}
-use Rattle.kmip_server.specs.Serving.{answered}
+use Rattle.kmip_server.specs.Serving.{answer}
 
 -- operations that change the records
 abbrev pub changes : Ask → Bool
@@ -21,6 +21,6 @@ has_failed (Failed reason) = true
 has_failed outcome = false
 
 -- the records behind some questions in turn
-abbrev pub behind_all : List Ask → Stock → Stock
-behind_all [] s = s
-behind_all (ask ∷ asks) s = behind_all asks (answered s ask).1
+abbrev pub stock_after_asks : List Ask → Stock → Stock
+stock_after_asks [] s = s
+stock_after_asks (ask ∷ asks) s = stock_after_asks asks (answer s ask).1

@@ -4,7 +4,7 @@
 use Rattle.std.specs.Prelude.{◌≡◌, ℕ, ◌<◌, ◌≤◌, ℤ, List, [], ◌∷◌, ◌++◌, length, Option, Some, None, IsTrue, IsSome, if◌then◌else◌}
 use Rattle.kmip_messages.specs.Lifecycle.{after}
 use Rattle.kmip_messages.specs.Objects.{Object, object_named, object_with, all_restated}
-use Rattle.kmip_messages.specs.Ranges.{is_identifier}
+use Rattle.kmip_messages.specs.Ranges.{is_compromise, is_identifier}
 use Rattle.kmip_messages.specs.declared.reply.Outcome.{Outcome}
 use Rattle.kmip_messages.specs.declared.reply.Outcome.TheVariants.{Created, Located, Attributes, Activated, Revoked, Destroyed, Failed}
 use Rattle.kmip_messages.specs.declared.request.Ask.{Ask}
@@ -22,8 +22,8 @@ use Rattle.kmip_messages.specs.declared.state.KeyState.{KeyState}
 use Rattle.kmip_messages.specs.declared.state.KeyState.TheVariants.{PreActive}
 use Rattle.kmip_messages.specs.declared.step.Step.{Step}
 use Rattle.kmip_messages.specs.declared.step.Step.TheVariants as steps
-use Rattle.kmip_store.specs.Locating.{located}
-use Rattle.kmip_server.specs.Serving.{attributes_of, is_compromise}
+use Rattle.kmip_store.specs.Locating.{locate}
+use Rattle.kmip_server.specs.Serving.{attributes_of}
 
 -- the step that a question asks of an object, and the object's identifier; a compromise is none
 abbrev pub step_asked : Ask → Option (Step × List ℕ)
@@ -47,7 +47,7 @@ pub data ServerStep (room : ℕ) (objects : List Object) : Ask → Outcome → L
   created : {attrs : KeyAttrs} {uid : List ℕ} → object_named attrs.name objects ≡ None → length objects < room
       → object_with uid objects ≡ None → IsTrue (is_identifier uid)
       → ServerStep room objects (Create attrs) (Created uid) (objects ++ record { uid = uid; attrs = attrs; state = PreActive } ∷ [])
-  searched : {mask : Option ℤ} {given : Attrs} → ServerStep room objects (Locate mask given) (Located (located mask given objects)) objects
+  searched : {mask : Option ℤ} {given : Attrs} → ServerStep room objects (Locate mask given) (Located (locate mask given objects)) objects
   told : {uid : List ℕ} {o : Object} → object_with uid objects ≡ Some o
       → ServerStep room objects (GetAttributes uid) (Attributes uid (attributes_of o)) objects
   unknown : {uid : List ℕ} → object_with uid objects ≡ None

@@ -5,6 +5,7 @@ use Rattle.std.specs.Fmt.{decimal}
 use Rattle.kmip_ttlv.specs.Spelling.{canon}
 use Rattle.kmip_messages.specs.Objects.{Object}
 use Rattle.kmip_messages.specs.Operations.{operation_of}
+use Rattle.kmip_messages.specs.Ranges.{is_compromise}
 use Rattle.kmip_messages.specs.States.{state_number}
 use Rattle.kmip_messages.specs.Whole.{request_read}
 use Rattle.kmip_messages.specs.Written.{reply_item}
@@ -16,19 +17,14 @@ use Rattle.kmip_messages.specs.declared.request.Ask.{Ask}
 use Rattle.kmip_messages.specs.declared.request.Ask.TheVariants.{Create, Locate, GetAttributes, Activate, Revoke, Destroy}
 use Rattle.kmip_messages.specs.declared.request.Attrs.{Attrs}
 use Rattle.kmip_messages.specs.declared.request.Request.{Request}
-use Rattle.kmip_messages.specs.declared.standard.TheConstants.{
-  OBJECT_TYPE_SYMMETRIC_KEY,
-  REASON_FEATURE_NOT_SUPPORTED,
-  REVOCATION_KEY_COMPROMISE,
-  REVOCATION_CA_COMPROMISE,
-}
+use Rattle.kmip_messages.specs.declared.standard.TheConstants.{OBJECT_TYPE_SYMMETRIC_KEY, REASON_FEATURE_NOT_SUPPORTED}
 use Rattle.kmip_messages.specs.declared.step.Step.TheVariants as steps
 use Rattle.kmip_store.specs.declared.fault.StoreFault.{StoreFault}
 use Rattle.kmip_store.specs.declared.fault.StoreFault.TheVariants.{NotFound}
 use Rattle.kmip_store.specs.declared.row.Row.{Row}
-use Rattle.kmip_store.specs.Stock.{Stock, created, object_of, objects_of}
-use Rattle.kmip_store.specs.Stepping.{row_with, stepped}
-use Rattle.kmip_store.specs.Locating.{located}
+use Rattle.kmip_store.specs.Stock.{Stock, create, object_of, objects_of}
+use Rattle.kmip_store.specs.Stepping.{row_with, take_step}
+use Rattle.kmip_store.specs.Locating.{locate}
 use Rattle.kmip_server.specs.Reasons.{message_reason, store_reason}
 
 -- the attributes that Get Attributes tells of an object
@@ -42,28 +38,24 @@ attributes_of o = record {
   state = Some (state_number o.state);
 }
 
-abbrev pub told : List ℕ → Option Row → Outcome
-told uid None = Failed (store_reason NotFound)
-told uid (Some row) = Attributes uid (attributes_of (object_of row))
-
--- the key may be known to others, which this server does not deal with
-abbrev pub is_compromise : ℕ → Bool
-is_compromise code = code == REVOCATION_KEY_COMPROMISE || code == REVOCATION_CA_COMPROMISE
+abbrev pub attributes_outcome : List ℕ → Option Row → Outcome
+attributes_outcome uid None = Failed (store_reason NotFound)
+attributes_outcome uid (Some row) = Attributes uid (attributes_of (object_of row))
 
 -- the outcome of a change, and the records behind it: as they were where it is refused
-abbrev pub changed : Outcome → Stock → Result Stock StoreFault → Outcome × Stock
-changed success s (Ok new) = (success, new)
-changed success s (Err fault) = (Failed (store_reason fault), s)
+abbrev pub outcome_of_change : Outcome → Stock → Result Stock StoreFault → Outcome × Stock
+outcome_of_change success s (Ok new) = (success, new)
+outcome_of_change success s (Err fault) = (Failed (store_reason fault), s)
 
 -- the outcome of an operation, and the records behind it
-abbrev pub answered : Stock → Ask → Outcome × Stock
-answered s (Create attrs) = changed (Created (decimal (length s.rows + 1))) s (created attrs s)
-answered s (Locate mask given) = (Located (located mask given (objects_of s.rows)), s)
-answered s (GetAttributes uid) = (told uid (row_with uid s.rows), s)
-answered s (Activate uid) = changed (Activated uid) s (stepped steps.Activate uid s)
-answered s (Revoke uid code) =
-    if is_compromise code then (Failed (Some REASON_FEATURE_NOT_SUPPORTED), s) else changed (Revoked uid) s (stepped steps.Revoke uid s)
-answered s (Destroy uid) = changed (Destroyed uid) s (stepped steps.Destroy uid s)
+abbrev pub answer : Stock → Ask → Outcome × Stock
+answer s (Create attrs) = outcome_of_change (Created (decimal (length s.rows + 1))) s (create attrs s)
+answer s (Locate mask given) = (Located (locate mask given (objects_of s.rows)), s)
+answer s (GetAttributes uid) = (attributes_outcome uid (row_with uid s.rows), s)
+answer s (Activate uid) = outcome_of_change (Activated uid) s (take_step steps.Activate uid s)
+answer s (Revoke uid code) =
+    if is_compromise code then (Failed (Some REASON_FEATURE_NOT_SUPPORTED), s) else outcome_of_change (Revoked uid) s (take_step steps.Revoke uid s)
+answer s (Destroy uid) = outcome_of_change (Destroyed uid) s (take_step steps.Destroy uid s)
 
 -- the reply to a message that is no request: the reason of its first fault, and what could be read of it
 abbrev pub refusal_reply : Refusal → Reply
@@ -71,18 +63,18 @@ refusal_reply refusal = record { operation = refusal.operation; id = refusal.id;
 
 -- the reply to a request, or to a message that is none
 abbrev pub reply_to : Stock → Result Request Refusal → Reply
-reply_to s (Ok request) = record { operation = Some (operation_of request.ask); id = request.id; outcome = (answered s request.ask).0 }
+reply_to s (Ok request) = record { operation = Some (operation_of request.ask); id = request.id; outcome = (answer s request.ask).0 }
 reply_to s (Err refusal) = refusal_reply refusal
 
 -- the records behind it
-abbrev pub stock_behind : Stock → Result Request Refusal → Stock
-stock_behind s (Ok request) = (answered s request.ask).1
-stock_behind s (Err refusal) = s
+abbrev pub stock_after_read : Stock → Result Request Refusal → Stock
+stock_after_read s (Ok request) = (answer s request.ask).1
+stock_after_read s (Err refusal) = s
 
 -- the bytes of the reply to the bytes of a message, at a time in seconds since the start of 1970
-unfoldable pub served : Stock → List ℕ → ℤ → List ℕ
-served s message now = canon (reply_item (reply_to s (request_read message)) now)
+unfoldable pub reply_bytes : Stock → List ℕ → ℤ → List ℕ
+reply_bytes s message now = canon (reply_item (reply_to s (request_read message)) now)
 
 -- the records behind a message
 unfoldable pub stock_after : Stock → List ℕ → Stock
-stock_after s message = stock_behind s (request_read message)
+stock_after s message = stock_after_read s (request_read message)

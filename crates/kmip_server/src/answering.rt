@@ -9,16 +9,15 @@ ghost use Rattle.kmip_messages.specs.Ranges.{is_batch_id, is_identifier, attrs_f
 ghost use Rattle.kmip_messages.specs.declared.request.Ask.TheVariants as asks;
 ghost use Rattle.kmip_server.specs.Answering.{written_with};
 ghost use Rattle.kmip_server.specs.Reasons.{message_reason};
-ghost use Rattle.kmip_server.specs.Serving.{answered, attributes_of, is_compromise, refusal_reply, reply_to};
+ghost use Rattle.kmip_server.specs.Serving.{answer, attributes_of, refusal_reply, reply_to};
 ghost use Rattle.kmip_store.specs.Stepping.{Becomes};
-ghost use Rattle.kmip_store.specs.Stock.{created, object_of};
+ghost use Rattle.kmip_store.specs.Stock.{create, object_of};
 
 use crate::reasons::{message_reason, store_reason};
-use kmip_messages::standard::{
-    OBJECT_TYPE_SYMMETRIC_KEY, REASON_FEATURE_NOT_SUPPORTED, REVOCATION_CA_COMPROMISE,
-    REVOCATION_KEY_COMPROMISE,
+use kmip_messages::standard::{OBJECT_TYPE_SYMMETRIC_KEY, REASON_FEATURE_NOT_SUPPORTED};
+use kmip_messages::{
+    Ask, Attrs, KeyAttrs, Outcome, Refusal, Reply, Request, Texts, is_compromise, write_reply,
 };
-use kmip_messages::{Ask, Attrs, KeyAttrs, Outcome, Refusal, Reply, Request, Texts, write_reply};
 use kmip_store::{Records, Row, StoreFault};
 use kmip_ttlv::{Bytes, NoMemory, Text};
 use std::alloc::Global;
@@ -32,7 +31,7 @@ pub(crate) fn answer<S: Records>(
 ) -> Result<Vec<u8>, NoMemory>
     requires { IsTrue (request_fits request) }
     ensures reply { IfOk result (λ v. v.items ≡ canon (reply_item (reply_to (S.stock store.old) (Ok request)) now)) }
-    ensures behind { OnOk result (S.stock store.new ≡ (answered (S.stock store.old) request.ask).1) }
+    ensures after { OnOk result (S.stock store.new ≡ (answer (S.stock store.old) request.ask).1) }
     ensures same { OnErr result (S.stock store.new ≡ S.stock store.old) }
 {
     let Request { id, ask } = request;
@@ -101,8 +100,8 @@ fn create<S: Records>(
     requires attrs { IsTrue (attrs_fit attrs.now) }
     requires id { IsTrue (option_map_or is_batch_id reply.id true) }
     requires operation { reply.operation ≡ Some OPERATION_CREATE }
-    ensures reply { IfOk result (λ v. v.items ≡ written_with reply (answered (S.stock store.old) (asks.Create attrs.now)).0 now) }
-    ensures behind { OnOk result (S.stock store.new ≡ (answered (S.stock store.old) (asks.Create attrs.now)).1) }
+    ensures reply { IfOk result (λ v. v.items ≡ written_with reply (answer (S.stock store.old) (asks.Create attrs.now)).0 now) }
+    ensures after { OnOk result (S.stock store.new ≡ (answer (S.stock store.old) (asks.Create attrs.now)).1) }
     ensures same { OnErr result (S.stock store.new ≡ S.stock store.old) }
 {
     let uid = (store.count() + 1).to_string(alloc)?;
@@ -121,7 +120,7 @@ fn make<S: Records>(
     attrs: &KeyAttrs,
 ) -> Result<Result<(), StoreFault>, NoMemory>
     requires { IsTrue (attrs_fit attrs.now) }
-    ensures made { IfOk result (λ made. Becomes made (S.stock store.old) (S.stock store.new) (created attrs.now (S.stock store.old))) }
+    ensures made { IfOk result (λ made. Becomes made (S.stock store.old) (S.stock store.new) (create attrs.now (S.stock store.old))) }
     ensures same { OnErr result (S.stock store.new ≡ S.stock store.old) }
 {
     match store.create(alloc, attrs) {
@@ -147,7 +146,7 @@ fn locate<S: Records>(
     requires name { IsSome filter.now.name }
     requires id { IsTrue (option_map_or is_batch_id reply.id true) }
     requires operation { reply.operation ≡ Some OPERATION_LOCATE }
-    ensures { IfOk result (λ v. v.items ≡ written_with reply (answered (S.stock store.now) (asks.Locate mask filter.now)).0 now) }
+    ensures { IfOk result (λ v. v.items ≡ written_with reply (answer (S.stock store.now) (asks.Locate mask filter.now)).0 now) }
 {
     let Ok(found) = store.locate(alloc, mask, filter) else {
         return Err(NoMemory);
@@ -181,7 +180,7 @@ fn get_attributes<S: Records>(
     requires uid { IsTrue (is_identifier uid.now) }
     requires id { IsTrue (option_map_or is_batch_id reply.id true) }
     requires operation { reply.operation ≡ Some OPERATION_GET_ATTRIBUTES }
-    ensures { IfOk result (λ v. v.items ≡ written_with reply (answered (S.stock store.now) (asks.GetAttributes uid.now)).0 now) }
+    ensures { IfOk result (λ v. v.items ≡ written_with reply (answer (S.stock store.now) (asks.GetAttributes uid.now)).0 now) }
 {
     let Some(row) = store.find(uid) else {
         return refuse(alloc, reply, store_reason(StoreFault::NotFound), now);
@@ -217,8 +216,8 @@ fn activate<S: Records>(
     requires uid { IsTrue (is_identifier uid.now) }
     requires id { IsTrue (option_map_or is_batch_id reply.id true) }
     requires operation { reply.operation ≡ Some OPERATION_ACTIVATE }
-    ensures reply { IfOk result (λ v. v.items ≡ written_with reply (answered (S.stock store.old) (asks.Activate uid.now)).0 now) }
-    ensures behind { OnOk result (S.stock store.new ≡ (answered (S.stock store.old) (asks.Activate uid.now)).1) }
+    ensures reply { IfOk result (λ v. v.items ≡ written_with reply (answer (S.stock store.old) (asks.Activate uid.now)).0 now) }
+    ensures after { OnOk result (S.stock store.new ≡ (answer (S.stock store.old) (asks.Activate uid.now)).1) }
     ensures same { OnErr result (S.stock store.new ≡ S.stock store.old) }
 {
     reply.outcome = Outcome::Activated(Text::copied(alloc, uid)?);
@@ -241,8 +240,8 @@ fn revoke<S: Records>(
     requires uid { IsTrue (is_identifier uid.now) }
     requires id { IsTrue (option_map_or is_batch_id reply.id true) }
     requires operation { reply.operation ≡ Some OPERATION_REVOKE }
-    ensures reply { IfOk result (λ v. v.items ≡ written_with reply (answered (S.stock store.old) (asks.Revoke uid.now code)).0 now) }
-    ensures behind { OnOk result (S.stock store.new ≡ (answered (S.stock store.old) (asks.Revoke uid.now code)).1) }
+    ensures reply { IfOk result (λ v. v.items ≡ written_with reply (answer (S.stock store.old) (asks.Revoke uid.now code)).0 now) }
+    ensures after { OnOk result (S.stock store.new ≡ (answer (S.stock store.old) (asks.Revoke uid.now code)).1) }
     ensures same { OnErr result (S.stock store.new ≡ S.stock store.old) }
 {
     if is_compromise(code) {
@@ -256,13 +255,6 @@ fn revoke<S: Records>(
     }
 }
 
-/// Whether a revocation code says that others may know the key.
-fn is_compromise(code: u32) -> bool
-    ensures { result ≡ is_compromise code }
-{
-    code == REVOCATION_KEY_COMPROMISE || code == REVOCATION_CA_COMPROMISE
-}
-
 /// Makes the object Destroyed.
 fn destroy<S: Records>(
     store: &mut S,
@@ -274,8 +266,8 @@ fn destroy<S: Records>(
     requires uid { IsTrue (is_identifier uid.now) }
     requires id { IsTrue (option_map_or is_batch_id reply.id true) }
     requires operation { reply.operation ≡ Some OPERATION_DESTROY }
-    ensures reply { IfOk result (λ v. v.items ≡ written_with reply (answered (S.stock store.old) (asks.Destroy uid.now)).0 now) }
-    ensures behind { OnOk result (S.stock store.new ≡ (answered (S.stock store.old) (asks.Destroy uid.now)).1) }
+    ensures reply { IfOk result (λ v. v.items ≡ written_with reply (answer (S.stock store.old) (asks.Destroy uid.now)).0 now) }
+    ensures after { OnOk result (S.stock store.new ≡ (answer (S.stock store.old) (asks.Destroy uid.now)).1) }
     ensures same { OnErr result (S.stock store.new ≡ S.stock store.old) }
 {
     reply.outcome = Outcome::Destroyed(Text::copied(alloc, uid)?);

@@ -1,6 +1,6 @@
 //! A server over the records of one store.
 ghost use Rattle.std.specs.Prelude.{◌≡◌, OnErr, OnOk, IfOk};
-ghost use Rattle.kmip_server.specs.Serving.{served, stock_after};
+ghost use Rattle.kmip_server.specs.Serving.{reply_bytes, stock_after};
 
 use crate::answering::{answer, refuse_message};
 use kmip_messages::read_request;
@@ -44,10 +44,10 @@ impl<S: Records> Server<S> {
     ///
     /// # Errors
     /// Where there is no memory; the records are then as they were.
-    #[tactic(auto, unfolding(crate::specs::Serving::served, crate::specs::Serving::stock_after))]
+    #[tactic(auto, unfolding(crate::specs::Serving::reply_bytes, crate::specs::Serving::stock_after))]
     pub fn handle(&mut self, alloc: Global, message: &[u8], now: i64) -> Result<Vec<u8>, NoMemory>
-        ensures reply { IfOk result (λ r. r.items ≡ served self.old message.now now) }
-        ensures behind { OnOk result (self.new ≡ stock_after self.old message.now) }
+        ensures reply { IfOk result (λ r. r.items ≡ reply_bytes self.old message.now now) }
+        ensures after { OnOk result (self.new ≡ stock_after self.old message.now) }
         ensures same { OnErr result (self.new ≡ self.old) }
     {
         match read_request(alloc, message) {

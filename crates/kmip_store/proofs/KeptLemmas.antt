@@ -13,8 +13,8 @@ use Rattle.kmip_messages.specs.declared.request.KeyAttrs.{KeyAttrs}
 use Rattle.kmip_messages.proofs.WrittenLemmas.{decimal_identifier}
 use Rattle.kmip_messages.specs.declared.state.KeyState.{KeyState}
 use Rattle.kmip_store.specs.declared.row.Row.{Row}
-use Rattle.kmip_store.specs.Stock.{has_name, new_row, AreNumbered, HaveOwnNames, IsKept}
-use Rattle.kmip_store.specs.Stepping.{entered, row_moved, rows_moved}
+use Rattle.kmip_store.specs.Stock.{has_row_named, new_row, AreNumbered, HaveOwnNames, IsKept}
+use Rattle.kmip_store.specs.Stepping.{enter, row_in_state, rows_in_state}
 
 -- two texts that are apart one way are apart the other way
 apart_back : (a b : List ℕ) → pointwise nat_eq a b ≡ false → pointwise nat_eq b a ≡ false
@@ -30,21 +30,21 @@ numbered_more place (r ∷ rows) row numbered is =
     let more : place + length (r ∷ rows) + 1 ≡ (place + 1) + length rows + 1 = omega arith in
     (numbered.0, numbered_more (place + 1) rows row numbered.1 (is ∙ ap decimal more))
 
-other_name : (name : List ℕ) (rows : List Row) (row : Row) → has_name name rows ≡ false → pointwise nat_eq name row.attrs.name ≡ false
-    → has_name name (rows ++ row ∷ []) ≡ false
+other_name : (name : List ℕ) (rows : List Row) (row : Row) → has_row_named name rows ≡ false → pointwise nat_eq name row.attrs.name ≡ false
+    → has_row_named name (rows ++ row ∷ []) ≡ false
 other_name name [] row free apart = or_from _ _ apart refl
 other_name name (r ∷ rows) row free apart =
-    let parts = or_parts _ (has_name name rows) free in
+    let parts = or_parts _ (has_row_named name rows) free in
     or_from _ _ parts.0 (other_name name rows row parts.1 apart)
 
-named_more : (rows : List Row) (row : Row) → HaveOwnNames rows → has_name row.attrs.name rows ≡ false → HaveOwnNames (rows ++ row ∷ [])
+named_more : (rows : List Row) (row : Row) → HaveOwnNames rows → has_row_named row.attrs.name rows ≡ false → HaveOwnNames (rows ++ row ∷ [])
 named_more [] row named free = (refl, tt)
 named_more (r ∷ rows) row named free =
-    let parts = or_parts _ (has_name row.attrs.name rows) free in
+    let parts = or_parts _ (has_row_named row.attrs.name rows) free in
     (other_name r.attrs.name rows row named.0 (apart_back row.attrs.name r.attrs.name parts.0), named_more rows row named.1 parts.1)
 
 pub kept_more : (rows : List Row) (room : ℕ) (attrs : KeyAttrs) (row : Row) (material : List ℕ) → IsKept rows room → length rows < room
-    → has_name attrs.name rows ≡ false → attrs_fit attrs ≡ true → row ≡ new_row (length rows) attrs material
+    → has_row_named attrs.name rows ≡ false → attrs_fit attrs ≡ true → row ≡ new_row (length rows) attrs material
     → IsKept (rows ++ row ∷ []) room
 kept_more rows room attrs row material kept free new fits is = record {
   within = omega (arith, kept.within, free, length-append rows (row ∷ []));
@@ -52,7 +52,7 @@ kept_more rows room attrs row material kept free new fits is = record {
   numbered =
       let last : length rows + 1 ≡ 0 + length rows + 1 = omega arith in
       numbered_more 0 rows row kept.numbered (ap (λ r. r.uid) is ∙ ap decimal last);
-  named = named_more rows row kept.named (ap (λ r. has_name r.attrs.name rows) is ∙ new);
+  named = named_more rows row kept.named (ap (λ r. has_row_named r.attrs.name rows) is ∙ new);
   fit =
       rw (
         list_all-append (λ r. attrs_fit r.attrs) rows (row ∷ []),
@@ -90,44 +90,44 @@ kept_fits test rows room (Some r) kept is =
 
 -- another state changes neither the identifier nor the attributes
 same_columns : (b : Bool) (state : KeyState) (r : Row)
-    → ((cond b (entered state r) r).uid ≡ r.uid) × ((cond b (entered state r) r).attrs ≡ r.attrs)
+    → ((cond b (enter state r) r).uid ≡ r.uid) × ((cond b (enter state r) r).attrs ≡ r.attrs)
 same_columns true state r = (refl, refl)
 same_columns false state r = (refl, refl)
 
-pub moved_uid : (uid : List ℕ) (state : KeyState) (r : Row) → (row_moved uid state r).uid ≡ r.uid
+pub moved_uid : (uid : List ℕ) (state : KeyState) (r : Row) → (row_in_state uid state r).uid ≡ r.uid
 moved_uid uid state r = (same_columns (pointwise nat_eq uid r.uid) state r).0
 
-moved_attrs : (uid : List ℕ) (state : KeyState) (r : Row) → (row_moved uid state r).attrs ≡ r.attrs
+moved_attrs : (uid : List ℕ) (state : KeyState) (r : Row) → (row_in_state uid state r).attrs ≡ r.attrs
 moved_attrs uid state r = (same_columns (pointwise nat_eq uid r.uid) state r).1
 
 numbered_moved : (uid : List ℕ) (state : KeyState) (place : ℕ) (rows : List Row) → AreNumbered place rows
-    → AreNumbered place (rows_moved uid state rows)
+    → AreNumbered place (rows_in_state uid state rows)
 numbered_moved uid state place [] numbered = tt
 numbered_moved uid state place (r ∷ rows) numbered =
     (moved_uid uid state r ∙ numbered.0, numbered_moved uid state (place + 1) rows numbered.1)
 
 pub has_name_moved : (uid : List ℕ) (state : KeyState) (name : List ℕ) (rows : List Row)
-    → has_name name (rows_moved uid state rows) ≡ has_name name rows
+    → has_row_named name (rows_in_state uid state rows) ≡ has_row_named name rows
 has_name_moved uid state name [] = refl
 has_name_moved uid state name (r ∷ rows) = rw (moved_attrs uid state r, has_name_moved uid state name rows) refl
 
-named_moved : (uid : List ℕ) (state : KeyState) (rows : List Row) → HaveOwnNames rows → HaveOwnNames (rows_moved uid state rows)
+named_moved : (uid : List ℕ) (state : KeyState) (rows : List Row) → HaveOwnNames rows → HaveOwnNames (rows_in_state uid state rows)
 named_moved uid state [] named = tt
 named_moved uid state (r ∷ rows) named = (
-  ap (λ a. has_name a.name (rows_moved uid state rows)) (moved_attrs uid state r)
+  ap (λ a. has_row_named a.name (rows_in_state uid state rows)) (moved_attrs uid state r)
       ∙ has_name_moved uid state r.attrs.name rows
       ∙ named.0,
   named_moved uid state rows named.1,
 )
 
 fit_moved : (uid : List ℕ) (state : KeyState) (rows : List Row)
-    → list_all (λ r. attrs_fit r.attrs) (rows_moved uid state rows) ≡ list_all (λ r. attrs_fit r.attrs) rows
+    → list_all (λ r. attrs_fit r.attrs) (rows_in_state uid state rows) ≡ list_all (λ r. attrs_fit r.attrs) rows
 fit_moved uid state [] = refl
 fit_moved uid state (r ∷ rows) = rw (moved_attrs uid state r, fit_moved uid state rows) refl
 
-pub kept_moved : (uid : List ℕ) (state : KeyState) (rows : List Row) (room : ℕ) → IsKept rows room → IsKept (rows_moved uid state rows) room
+pub kept_moved : (uid : List ℕ) (state : KeyState) (rows : List Row) (room : ℕ) → IsKept rows room → IsKept (rows_in_state uid state rows) room
 kept_moved uid state rows room kept = record {
-  within = omega (arith, kept.within, length-map rows (row_moved uid state));
+  within = omega (arith, kept.within, length-map rows (row_in_state uid state));
   small = kept.small;
   numbered = numbered_moved uid state 0 rows kept.numbered;
   named = named_moved uid state rows kept.named;

@@ -8,8 +8,8 @@ use Rattle.std.proofs.lemmas.Slice.Eq.{bytes_eq-Decides}
 use Rattle.kmip_messages.specs.Objects.{Object}
 use Rattle.kmip_messages.specs.declared.request.Attrs.{Attrs}
 use Rattle.kmip_store.specs.declared.row.Row.{Row}
-use Rattle.kmip_store.specs.Stock.{object_of, objects_of, has_name, HaveOwnNames}
-use Rattle.kmip_store.specs.Locating.{is_searched, has_given, is_wanted, located}
+use Rattle.kmip_store.specs.Stock.{object_of, objects_of, has_row_named, HaveOwnNames}
+use Rattle.kmip_store.specs.Locating.{is_searched, has_given, is_wanted, locate}
 
 -- the test of a row by what a Locate gives
 abbrev pub wants : Option ℤ → Attrs → Row → Bool
@@ -21,21 +21,21 @@ unwanted : (mask : Option ℤ) (given : Attrs) (name : List ℕ) (o : Object) �
 unwanted mask given name o is other = and_right (is_searched mask o.state) (has_given given o) (rw (is, other) refl)
 
 none_named : (mask : Option ℤ) (given : Attrs) (name : List ℕ) (rows : List Row) → given.name ≡ Some name
-    → has_name name rows ≡ false → located mask given (objects_of rows) ≡ []
+    → has_row_named name rows ≡ false → locate mask given (objects_of rows) ≡ []
 none_named mask given name [] is free = refl
 none_named mask given name (r ∷ rows) is free =
-    let parts = or_parts _ (has_name name rows) free in
+    let parts = or_parts _ (has_row_named name rows) free in
     rw (unwanted mask given name (object_of r) is parts.0) (none_named mask given name rows is parts.1)
 
 -- the rows that are wanted are the first of them alone
 first_located : (mask : Option ℤ) (given : Attrs) (name : List ℕ) (rows : List Row) → given.name ≡ Some name → HaveOwnNames rows
-    → located mask given (objects_of rows) ≡ option_to_list (option_map (λ r. r.uid) (find (wants mask given) rows))
+    → locate mask given (objects_of rows) ≡ option_to_list (option_map (λ r. r.uid) (find (wants mask given) rows))
 first_located mask given name [] is named = refl
 first_located mask given name (r ∷ rows) is named = elim (cases_Bool (is_wanted mask given (object_of r))) [
   | inl wanted ↦
       elim (cases_Bool (pointwise nat_eq name r.attrs.name)) [
         | inl same ↦
-            let free : has_name name rows ≡ false = ap (λ n. has_name n rows) ((bytes_eq-Decides name r.attrs.name).0 same) ∙ named.0 in
+            let free : has_row_named name rows ≡ false = ap (λ n. has_row_named n rows) ((bytes_eq-Decides name r.attrs.name).0 same) ∙ named.0 in
             rw wanted (ap (λ uids. r.uid ∷ uids) (none_named mask given name rows is free))
         | inr other ↦ absurd (both_ways _ (unwanted mask given name (object_of r) is other) wanted)
       ]
@@ -49,7 +49,7 @@ name_of (Some own) some = (own, refl)
 
 pub located_is : (mask : Option ℤ) (given : Attrs) (rows : List Row) (found : Option Row) → IsSome given.name → HaveOwnNames rows
     → found ≡ find (wants mask given) rows
-    → located mask given (objects_of rows) ≡ option_to_list (option_map (λ r. r.uid) found)
+    → locate mask given (objects_of rows) ≡ option_to_list (option_map (λ r. r.uid) found)
 located_is mask given rows found some named is =
     let name = name_of given.name some in
     first_located mask given name.0 rows name.1 named ∙ ap (λ o. option_to_list (option_map (λ r. r.uid) o)) (sym is)

@@ -14,7 +14,7 @@ use Rattle.kmip_messages.specs.declared.state.KeyState.{KeyState}
 use Rattle.kmip_messages.specs.declared.step.Step.{Step}
 use Rattle.kmip_store.specs.declared.row.Row.{Row}
 use Rattle.kmip_store.specs.Stock.{Stock, AreNumbered}
-use Rattle.kmip_store.specs.Stepping.{row_with, entered, row_moved, rows_moved, moved_to, stepped_from, stepped}
+use Rattle.kmip_store.specs.Stepping.{row_with, enter, row_in_state, rows_in_state, enter_state, take_step_from, take_step}
 
 -- the test of a row by its identifier
 abbrev pub has_uid : List ℕ → Row → Bool
@@ -29,12 +29,12 @@ apart uid own place start is own_is small start_small other =
     let equal = decimal_injective (place + 1) (start + 1) (omega arith) (omega arith) (sym is ∙ (bytes_eq-Decides uid own).0 same ∙ own_is) in
     other (omega (arith, equal)))
 
-moved_other : (uid : List ℕ) (state : KeyState) (r : Row) → pointwise nat_eq uid r.uid ≡ false → row_moved uid state r ≡ r
-moved_other uid state r other = cond-false (pointwise nat_eq uid r.uid) (entered state r) r other
+moved_other : (uid : List ℕ) (state : KeyState) (r : Row) → pointwise nat_eq uid r.uid ≡ false → row_in_state uid state r ≡ r
+moved_other uid state r other = cond-false (pointwise nat_eq uid r.uid) (enter state r) r other
 
 -- no row behind a place has that place's identifier
 moved_behind : (uid : List ℕ) (state : KeyState) (place start : ℕ) (rows : List Row) → uid ≡ decimal (place + 1) → place < start
-    → start + length rows ≤ 10000 → AreNumbered start rows → rows_moved uid state rows ≡ rows
+    → start + length rows ≤ 10000 → AreNumbered start rows → rows_in_state uid state rows ≡ rows
 moved_behind uid state place start [] is behind small numbered = refl
 moved_behind uid state place start (r ∷ rows) is behind small numbered =
     let other = apart uid r.uid place start is numbered.0 (omega (arith, small)) (omega (arith, small)) (λ e. omega (arith, e, behind)) in
@@ -57,15 +57,15 @@ numbered_at start (suc i) (r ∷ rows) row numbered at =
 -- the one row that has an identifier
 moved_at : (uid : List ℕ) (state : KeyState) (start i : ℕ) (rows : List Row) (row : Row) → uid ≡ decimal (start + i + 1)
     → start + length rows ≤ 10000 → AreNumbered start rows → slice_get rows i ≡ Some row
-    → rows_moved uid state rows ≡ set rows i (entered state row)
+    → rows_in_state uid state rows ≡ set rows i (enter state row)
 moved_at uid state start i [] row is small numbered at = absurd (none-some row at)
 moved_at uid state start zero (r ∷ rows) row is small numbered at =
     let here : start + 0 + 1 ≡ start + 1 = omega arith in
     let same : pointwise nat_eq uid r.uid ≡ true = (bytes_eq-Decides uid r.uid).1 (is ∙ ap decimal here ∙ sym numbered.0) in
     rw (
-      cond-true (pointwise nat_eq uid r.uid) (entered state r) r same,
+      cond-true (pointwise nat_eq uid r.uid) (enter state r) r same,
       moved_behind uid state start (start + 1) rows (is ∙ ap decimal here) (omega arith) (omega (arith, small)) numbered.1,
-    ) (ap (λ x. entered state x ∷ rows) (same_Some r row at))
+    ) (ap (λ x. enter state x ∷ rows) (same_Some r row at))
 moved_at uid state start (suc i) (r ∷ rows) row is small numbered at =
     let next : start + suc i + 1 ≡ start + 1 + i + 1 = omega arith in
     let here : start + suc i + 1 ≡ start + (i + 1) + 1 = omega arith in
@@ -92,8 +92,8 @@ no_row test rows is = elim (cases_Bool (ltb (position_or_len test rows) (length 
 
 -- the row that has an identifier in another state
 pub moved_is : (rows new : List Row) (uid : List ℕ) (state : KeyState) (place : ℕ) (row : Row) → AreNumbered 0 rows → length rows ≤ 10000
-    → position (has_uid uid) rows ≡ Some place → row ≡ get_or rows place row → new ≡ set rows place (entered state row)
-    → new ≡ rows_moved uid state rows
+    → position (has_uid uid) rows ≡ Some place → row ≡ get_or rows place row → new ≡ set rows place (enter state row)
+    → new ≡ rows_in_state uid state rows
 moved_is rows new uid state place row numbered small at is becomes =
     let found = position-Some (has_uid uid) rows place row at in
     let own : uid ≡ row.uid = (bytes_eq-Decides uid row.uid).0 (ap (has_uid uid) is ∙ found.1) in
@@ -101,5 +101,5 @@ moved_is rows new uid state place row numbered small at is becomes =
     becomes ∙ sym (moved_at uid state 0 place rows row (own ∙ numbered_at 0 place rows row numbered here) (omega (arith, small)) numbered here)
 
 pub step_found : (step : Step) (uid : List ℕ) (s : Stock) (row : Row) (next : Option KeyState) → row_with uid s.rows ≡ Some row
-    → next ≡ after row.state step → stepped step uid s ≡ moved_to uid s next
-step_found step uid s row next found is = ap (stepped_from step uid s) found ∙ ap (moved_to uid s) (sym is)
+    → next ≡ after row.state step → take_step step uid s ≡ enter_state uid s next
+step_found step uid s row next found is = ap (take_step_from step uid s) found ∙ ap (enter_state uid s) (sym is)

@@ -12,9 +12,9 @@ use Rattle.kmip_store.specs.declared.calling.Answer.TheVariants as answers
 use Rattle.kmip_store.specs.declared.calling.Call.{Call}
 use Rattle.kmip_store.specs.declared.calling.Call.TheVariants.{Create, Locate, Find, Activate, Revoke, Destroy, Count, At}
 use Rattle.kmip_store.specs.declared.fault.StoreFault.{StoreFault}
-use Rattle.kmip_store.specs.Stock.{Stock, created, objects_of}
-use Rattle.kmip_store.specs.Stepping.{row_with, stepped}
-use Rattle.kmip_store.specs.Locating.{located}
+use Rattle.kmip_store.specs.Stock.{Stock, create, objects_of}
+use Rattle.kmip_store.specs.Stepping.{row_with, take_step}
+use Rattle.kmip_store.specs.Locating.{locate}
 
 -- the call may be made: the attributes of a Create are in their ranges, and a Locate gives a name
 abbrev pub may_call : Call → Bool
@@ -34,33 +34,33 @@ stock_of before (Err fault) = before
 
 -- what a call answers
 abbrev pub answer_to : Call → Stock → Answer
-answer_to (Create attrs) s = answer_of (answers.Created (decimal (length s.rows + 1))) (created attrs s)
-answer_to (Locate mask filter) s = answers.Located (slice_get (located mask filter (objects_of s.rows)) 0)
+answer_to (Create attrs) s = answer_of (answers.Created (decimal (length s.rows + 1))) (create attrs s)
+answer_to (Locate mask filter) s = answers.Located (slice_get (locate mask filter (objects_of s.rows)) 0)
 answer_to (Find uid) s = answers.Found (row_with uid s.rows)
-answer_to (Activate uid) s = answer_of answers.Moved (stepped steps.Activate uid s)
-answer_to (Revoke uid) s = answer_of answers.Moved (stepped steps.Revoke uid s)
-answer_to (Destroy uid) s = answer_of answers.Moved (stepped steps.Destroy uid s)
+answer_to (Activate uid) s = answer_of answers.Moved (take_step steps.Activate uid s)
+answer_to (Revoke uid) s = answer_of answers.Moved (take_step steps.Revoke uid s)
+answer_to (Destroy uid) s = answer_of answers.Moved (take_step steps.Destroy uid s)
 answer_to Count s = answers.Counted (length s.rows)
 answer_to (At place) s = answers.Found (slice_get s.rows place)
 
 -- the records behind a call
-abbrev pub stock_after : Call → Stock → Stock
-stock_after (Create attrs) s = stock_of s (created attrs s)
-stock_after (Activate uid) s = stock_of s (stepped steps.Activate uid s)
-stock_after (Revoke uid) s = stock_of s (stepped steps.Revoke uid s)
-stock_after (Destroy uid) s = stock_of s (stepped steps.Destroy uid s)
-stock_after call s = s
+abbrev pub stock_after_call : Call → Stock → Stock
+stock_after_call (Create attrs) s = stock_of s (create attrs s)
+stock_after_call (Activate uid) s = stock_of s (take_step steps.Activate uid s)
+stock_after_call (Revoke uid) s = stock_of s (take_step steps.Revoke uid s)
+stock_after_call (Destroy uid) s = stock_of s (take_step steps.Destroy uid s)
+stock_after_call call s = s
 
 -- what the calls answer, one after the other
 abbrev pub answers_to : List Call → Stock → List Answer
 answers_to [] s = []
-answers_to (call ∷ calls) s = answer_to call s ∷ answers_to calls (stock_after call s)
+answers_to (call ∷ calls) s = answer_to call s ∷ answers_to calls (stock_after_call call s)
 
 -- the records behind the calls
-abbrev pub stock_behind : List Call → Stock → Stock
-stock_behind [] s = s
-stock_behind (call ∷ calls) s = stock_behind calls (stock_after call s)
+abbrev pub stock_after_calls : List Call → Stock → Stock
+stock_after_calls [] s = s
+stock_after_calls (call ∷ calls) s = stock_after_calls calls (stock_after_call call s)
 
 -- the records are those behind some of the calls, from the first on
-abbrev pub IsBehindSome : List Call → Stock → Stock → Type 0
-IsBehindSome calls old new = (done : ℕ) × (new ≡ stock_behind (take done calls) old)
+abbrev pub IsAfterSome : List Call → Stock → Stock → Type 0
+IsAfterSome calls old new = (done : ℕ) × (new ≡ stock_after_calls (take done calls) old)

@@ -37,5 +37,5 @@ abbrev pub is_wanted : Option ℤ → Attrs → Object → Bool
 is_wanted mask given o = is_searched mask o.state && has_given given o
 
 -- the identifiers of the objects that a Locate finds
-abbrev pub located : Option ℤ → Attrs → List Object → List (List ℕ)
-located mask given objects = map (λ o. o.uid) (filter (is_wanted mask given) objects)
+abbrev pub locate : Option ℤ → Attrs → List Object → List (List ℕ)
+locate mask given objects = map (λ o. o.uid) (filter (is_wanted mask given) objects)

@@ -22,29 +22,29 @@ material_in Destroyed material = []
 material_in state material = material
 
 -- the row in this state
-abbrev pub entered : KeyState → Row → Row
-entered state r = record r { state = state; material = material_in state r.material }
+abbrev pub enter : KeyState → Row → Row
+enter state r = record r { state = state; material = material_in state r.material }
 
 -- the row in this state, where it has the identifier
-abbrev pub row_moved : List ℕ → KeyState → Row → Row
-row_moved uid state r = if pointwise nat_eq uid r.uid then entered state r else r
+abbrev pub row_in_state : List ℕ → KeyState → Row → Row
+row_in_state uid state r = if pointwise nat_eq uid r.uid then enter state r else r
 
 -- the rows, with the one that has the identifier in this state
-abbrev pub rows_moved : List ℕ → KeyState → List Row → List Row
-rows_moved uid state rows = map (row_moved uid state) rows
+abbrev pub rows_in_state : List ℕ → KeyState → List Row → List Row
+rows_in_state uid state rows = map (row_in_state uid state) rows
 
 -- the records once the object with the identifier is in the state that a step led to, if there was such a step
-abbrev pub moved_to : List ℕ → Stock → Option KeyState → Result Stock StoreFault
-moved_to uid s None = Err WrongState
-moved_to uid s (Some state) = Ok (record s { rows = rows_moved uid state s.rows })
+abbrev pub enter_state : List ℕ → Stock → Option KeyState → Result Stock StoreFault
+enter_state uid s None = Err WrongState
+enter_state uid s (Some state) = Ok (record s { rows = rows_in_state uid state s.rows })
 
-abbrev pub stepped_from : Step → List ℕ → Stock → Option Row → Result Stock StoreFault
-stepped_from step uid s None = Err NotFound
-stepped_from step uid s (Some row) = moved_to uid s (after row.state step)
+abbrev pub take_step_from : Step → List ℕ → Stock → Option Row → Result Stock StoreFault
+take_step_from step uid s None = Err NotFound
+take_step_from step uid s (Some row) = enter_state uid s (after row.state step)
 
 -- the records after a step of the object with the identifier, or why there is no such step
-abbrev pub stepped : Step → List ℕ → Stock → Result Stock StoreFault
-stepped step uid s = stepped_from step uid s (row_with uid s.rows)
+abbrev pub take_step : Step → List ℕ → Stock → Result Stock StoreFault
+take_step step uid s = take_step_from step uid s (row_with uid s.rows)
 
 -- a call did what it says of the records before it, and left them as they were where it was refused
 abbrev pub Becomes : {A : Type 0} → Result A StoreFault → Stock → Stock → Result Stock StoreFault → Type 0

@@ -33,8 +33,8 @@ abbrev pub objects_of : List Row → List Object
 objects_of rows = map object_of rows
 
 -- a row has the name
-abbrev pub has_name : List ℕ → List Row → Bool
-has_name name rows = list_any (λ r. pointwise nat_eq name r.attrs.name) rows
+abbrev pub has_row_named : List ℕ → List Row → Bool
+has_row_named name rows = list_any (λ r. pointwise nat_eq name r.attrs.name) rows
 
 -- the bytes of a key of so many bits
 abbrev pub material_size : ℤ → ℕ
@@ -42,31 +42,31 @@ material_size (pos bits) = bits / 8
 material_size (negsuc n) = 0
 
 -- the next bytes of the stream, and the stream behind them
-abbrev pub drawn : ℕ → ChaCha → List ℕ × ChaCha
-drawn size stream = fill_via_u32 (next_word 10) size stream
+abbrev pub draw : ℕ → ChaCha → List ℕ × ChaCha
+draw size stream = fill_via_u32 (next_word 10) size stream
 
 -- the row of a new object at a place from 0
 abbrev pub new_row : ℕ → KeyAttrs → List ℕ → Row
 new_row place attrs material = record { uid = decimal (place + 1); attrs = attrs; state = PreActive; material = material }
 
 -- the records with one object more, what was drawn for it being its material
-abbrev pub added_drawn : KeyAttrs → Stock → List ℕ × ChaCha → Stock
-added_drawn attrs s next = record { rows = s.rows ++ new_row (length s.rows) attrs next.0 ∷ []; room = s.room; stream = next.1 }
+abbrev pub stock_with_drawn : KeyAttrs → Stock → List ℕ × ChaCha → Stock
+stock_with_drawn attrs s next = record { rows = s.rows ++ new_row (length s.rows) attrs next.0 ∷ []; room = s.room; stream = next.1 }
 
-abbrev pub added : KeyAttrs → Stock → Stock
-added attrs s = added_drawn attrs s (drawn (material_size attrs.length) s.stream)
+abbrev pub stock_with : KeyAttrs → Stock → Stock
+stock_with attrs s = stock_with_drawn attrs s (draw (material_size attrs.length) s.stream)
 
 -- the records with one object more, or why there is none: its name is used, or the room is
-abbrev pub created : KeyAttrs → Stock → Result Stock StoreFault
-created attrs s =
-    if has_name attrs.name s.rows then Err SameName else (if nat_lt (length s.rows) s.room then Ok (added attrs s) else Err Full)
+abbrev pub create : KeyAttrs → Stock → Result Stock StoreFault
+create attrs s =
+    if has_row_named attrs.name s.rows then Err SameName else (if nat_lt (length s.rows) s.room then Ok (stock_with attrs s) else Err Full)
 
 -- when a Create is refused, and why: first for its name, then for want of room, then of memory
 abbrev pub MayRefuse : {A : Type 0} → List ℕ → Stock → Result A StoreFault → Type 0
-MayRefuse name s (Ok a) = (has_name name s.rows ≡ false) × (length s.rows < s.room)
-MayRefuse name s (Err SameName) = has_name name s.rows ≡ true
-MayRefuse name s (Err Full) = (has_name name s.rows ≡ false) × (s.room ≤ length s.rows)
-MayRefuse name s (Err NoMemory) = (has_name name s.rows ≡ false) × (length s.rows < s.room)
+MayRefuse name s (Ok a) = (has_row_named name s.rows ≡ false) × (length s.rows < s.room)
+MayRefuse name s (Err SameName) = has_row_named name s.rows ≡ true
+MayRefuse name s (Err Full) = (has_row_named name s.rows ≡ false) × (s.room ≤ length s.rows)
+MayRefuse name s (Err NoMemory) = (has_row_named name s.rows ≡ false) × (length s.rows < s.room)
 MayRefuse name s (Err NotFound) = ⊥
 MayRefuse name s (Err WrongState) = ⊥
 
@@ -78,7 +78,7 @@ AreNumbered place (r ∷ rows) = (r.uid ≡ decimal (place + 1)) × AreNumbered 
 -- no two rows have one name
 abbrev pub HaveOwnNames : List Row → Type 0
 HaveOwnNames [] = Unit {0}
-HaveOwnNames (r ∷ rows) = (has_name r.attrs.name rows ≡ false) × HaveOwnNames rows
+HaveOwnNames (r ∷ rows) = (has_row_named r.attrs.name rows ≡ false) × HaveOwnNames rows
 
 -- what holds of the records at all times
 pub record IsKept (rows : List Row) (room : ℕ) : Type 0 where

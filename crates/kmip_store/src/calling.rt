@@ -8,10 +8,10 @@ ghost use Rattle.kmip_messages.specs.Ranges.{attrs_fit};
 ghost use Rattle.kmip_store.specs.Calling.{
   may_call,
   answer_to,
-  stock_after,
+  stock_after_call,
   answers_to,
-  stock_behind,
-  IsBehindSome,
+  stock_after_calls,
+  IsAfterSome,
 };
 ghost use Rattle.kmip_store.specs.declared.calling.Answer.TheVariants as answers;
 ghost use Rattle.kmip_store.specs.declared.calling.Call.TheVariants as calls;
@@ -65,8 +65,8 @@ pub fn call_all<S: Records>(
 ) -> Result<Vec<Answer>, NoMemory>
     requires { IsTrue (list_all may_call calls.now) }
     ensures answers { IfOk result (λ answers. answers.items ≡ answers_to calls.now (S.stock store.old)) }
-    ensures stock { OnOk result (S.stock store.new ≡ stock_behind calls.now (S.stock store.old)) }
-    ensures broken_off { OnErr result (IsBehindSome calls.now (S.stock store.old) (S.stock store.new)) }
+    ensures stock { OnOk result (S.stock store.new ≡ stock_after_calls calls.now (S.stock store.old)) }
+    ensures broken_off { OnErr result (IsAfterSome calls.now (S.stock store.old) (S.stock store.new)) }
 {
     let mut answers = Vec::new(alloc);
     for call in calls {
@@ -91,8 +91,8 @@ pub fn call_both<A: Records, B: Records>(
 ) -> Result<(Vec<Answer>, Vec<Answer>), NoMemory>
     requires { IsTrue (list_all may_call calls.now) }
     ensures each { IfOk result (λ both. (both.0.items ≡ answers_to calls.now (A.stock first.old)) × (both.1.items ≡ answers_to calls.now (B.stock second.old))) }
-    ensures behind { OnOk result ((A.stock first.new ≡ stock_behind calls.now (A.stock first.old)) × (B.stock second.new ≡ stock_behind calls.now (B.stock second.old))) }
-    ensures broken_off { OnErr result (IsBehindSome calls.now (A.stock first.old) (A.stock first.new) × IsBehindSome calls.now (B.stock second.old) (B.stock second.new)) }
+    ensures after { OnOk result ((A.stock first.new ≡ stock_after_calls calls.now (A.stock first.old)) × (B.stock second.new ≡ stock_after_calls calls.now (B.stock second.old))) }
+    ensures broken_off { OnErr result (IsAfterSome calls.now (A.stock first.old) (A.stock first.new) × IsAfterSome calls.now (B.stock second.old) (B.stock second.new)) }
     ensures answers { IfOk result (λ both. A.stock first.old ≡ B.stock second.old → both.0.items ≡ both.1.items) }
     ensures stock { OnOk result (A.stock first.old ≡ B.stock second.old → A.stock first.new ≡ B.stock second.new) }
 {
@@ -105,7 +105,7 @@ pub fn call_both<A: Records, B: Records>(
 fn call_one<S: Records>(alloc: Global, store: &mut S, call: &Call) -> Result<Answer, NoMemory>
     requires { IsTrue (may_call call.now) }
     ensures answer { IfOk result (λ answer. answer ≡ answer_to call.now (S.stock store.old)) }
-    ensures stock { OnOk result (S.stock store.new ≡ stock_after call.now (S.stock store.old)) }
+    ensures stock { OnOk result (S.stock store.new ≡ stock_after_call call.now (S.stock store.old)) }
     ensures same { OnErr result (S.stock store.new ≡ S.stock store.old) }
 {
     match call {
@@ -123,7 +123,7 @@ fn call_one<S: Records>(alloc: Global, store: &mut S, call: &Call) -> Result<Ans
 fn create<S: Records>(alloc: Global, store: &mut S, attrs: &KeyAttrs) -> Result<Answer, NoMemory>
     requires { IsTrue (attrs_fit attrs.now) }
     ensures answer { IfOk result (λ answer. answer ≡ answer_to (calls.Create attrs.now) (S.stock store.old)) }
-    ensures stock { OnOk result (S.stock store.new ≡ stock_after (calls.Create attrs.now) (S.stock store.old)) }
+    ensures stock { OnOk result (S.stock store.new ≡ stock_after_call (calls.Create attrs.now) (S.stock store.old)) }
     ensures same { OnErr result (S.stock store.new ≡ S.stock store.old) }
 {
     match store.create(alloc, attrs) {
@@ -154,7 +154,7 @@ fn locate<S: Records>(
 
 fn activate<S: Records>(store: &mut S, uid: &str) -> Answer
     ensures answer { result ≡ answer_to (calls.Activate uid.now) (S.stock store.old) }
-    ensures stock { S.stock store.new ≡ stock_after (calls.Activate uid.now) (S.stock store.old) }
+    ensures stock { S.stock store.new ≡ stock_after_call (calls.Activate uid.now) (S.stock store.old) }
 {
     match store.activate(uid) {
         Ok(()) => Answer::Moved,
@@ -164,7 +164,7 @@ fn activate<S: Records>(store: &mut S, uid: &str) -> Answer
 
 fn revoke<S: Records>(store: &mut S, uid: &str) -> Answer
     ensures answer { result ≡ answer_to (calls.Revoke uid.now) (S.stock store.old) }
-    ensures stock { S.stock store.new ≡ stock_after (calls.Revoke uid.now) (S.stock store.old) }
+    ensures stock { S.stock store.new ≡ stock_after_call (calls.Revoke uid.now) (S.stock store.old) }
 {
     match store.revoke(uid) {
         Ok(()) => Answer::Moved,
@@ -174,7 +174,7 @@ fn revoke<S: Records>(store: &mut S, uid: &str) -> Answer
 
 fn destroy<S: Records>(store: &mut S, uid: &str) -> Answer
     ensures answer { result ≡ answer_to (calls.Destroy uid.now) (S.stock store.old) }
-    ensures stock { S.stock store.new ≡ stock_after (calls.Destroy uid.now) (S.stock store.old) }
+    ensures stock { S.stock store.new ≡ stock_after_call (calls.Destroy uid.now) (S.stock store.old) }
 {
     match store.destroy(uid) {
         Ok(()) => Answer::Moved,

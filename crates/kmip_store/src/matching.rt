@@ -6,7 +6,7 @@ ghost use Rattle.std.specs.Option.{option_copied, option_map_or};
 ghost use Rattle.std.specs.Ordering.{int_eq};
 ghost use Rattle.kmip_store.specs.Locating.{storage_bit, is_searched, has_given, is_wanted};
 ghost use Rattle.kmip_store.specs.Stepping.{row_with};
-ghost use Rattle.kmip_store.specs.Stock.{has_name, object_of};
+ghost use Rattle.kmip_store.specs.Stock.{has_row_named, object_of};
 
 use crate::row::Row;
 use kmip_messages::standard::{OBJECT_TYPE_SYMMETRIC_KEY, STORAGE_DESTROYED, STORAGE_ON_LINE};
@@ -14,7 +14,7 @@ use kmip_messages::{Attrs, KeyState};
 
 /// Whether a row has the name.
 pub(crate) fn has_name(rows: &[Row], name: &str) -> bool
-    ensures { result ≡ has_name name.now rows.now }
+    ensures { result ≡ has_row_named name.now rows.now }
 {
     rows.iter().any(|row| name == row.attrs.name.as_str())
 }

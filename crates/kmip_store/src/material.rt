@@ -1,6 +1,6 @@
 //! Key material: bytes of the store's stream.
 ghost use Rattle.std.specs.Prelude.{◌≡◌, length, IfOk};
-ghost use Rattle.kmip_store.specs.Stock.{material_size, drawn};
+ghost use Rattle.kmip_store.specs.Stock.{material_size, draw};
 
 use crate::row::Row;
 use kmip_ttlv::Bytes;
@@ -28,8 +28,8 @@ fn material_size(bits: i32) -> usize
 
 /// The row with the next bytes of the stream as its material, as many as it has. Takes no memory.
 pub(crate) fn draw(stream: &mut ChaCha20Rng, row: Row) -> Row
-    ensures row { result ≡ record row { material = (drawn (length row.material) stream.old).0 } }
-    ensures stream { stream.new ≡ (drawn (length row.material) stream.old).1 }
+    ensures row { result ≡ record row { material = (draw (length row.material) stream.old).0 } }
+    ensures stream { stream.new ≡ (draw (length row.material) stream.old).1 }
 {
     let mut material = row.material.into_vec();
     utils::fill_bytes_via_u32(stream, material.as_mut_slice());

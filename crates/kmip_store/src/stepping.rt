@@ -4,7 +4,7 @@ ghost use Rattle.std.specs.Cmp.Lexicographic.{pointwise};
 ghost use Rattle.std.specs.List.{position};
 ghost use Rattle.rand_chacha.specs.ChaCha.{ChaCha};
 ghost use Rattle.kmip_store.specs.Stock.{IsKept, AreNumbered};
-ghost use Rattle.kmip_store.specs.Stepping.{Becomes, stepped, entered};
+ghost use Rattle.kmip_store.specs.Stepping.{Becomes, take_step, enter};
 
 use crate::fault::StoreFault;
 use crate::row::Row;
@@ -20,7 +20,7 @@ use std::alloc::Global;
 /// the row's state; the rows are then as they were.
 pub(crate) fn step(rows: &mut Vec<Row>, uid: &str, step: Step) -> Result<(), StoreFault>
     requires { AreNumbered 0 rows.old.items × (length rows.old.items ≤ 10000) }
-    ensures step { (room : ℕ) (stream : ChaCha) → Becomes result (record { rows = rows.old.items; room = room; stream = stream }) (record { rows = rows.new.items; room = room; stream = stream }) (stepped step uid.now (record { rows = rows.old.items; room = room; stream = stream })) }
+    ensures step { (room : ℕ) (stream : ChaCha) → Becomes result (record { rows = rows.old.items; room = room; stream = stream }) (record { rows = rows.new.items; room = room; stream = stream }) (take_step step uid.now (record { rows = rows.old.items; room = room; stream = stream })) }
     ensures kept { (room : ℕ) → IsKept rows.old.items room → IsKept rows.new.items room }
 {
     let Some(place) = place_of(rows.as_slice(), uid) else {
@@ -43,7 +43,7 @@ fn place_of(rows: &[Row], uid: &str) -> Option<usize>
 
 /// Puts the row into the state. Takes no memory.
 fn enter(alloc: Global, row: &mut Row, state: KeyState)
-    ensures { row.new ≡ entered state row.old }
+    ensures { row.new ≡ enter state row.old }
 {
     row.state = state;
     if state == KeyState::Destroyed {

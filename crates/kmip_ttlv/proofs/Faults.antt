@@ -15,7 +15,7 @@ use Rattle.kmip_ttlv.specs.Fitting.{depths}
 use Rattle.kmip_ttlv.specs.Spelling.{SpelledAll}
 use Rattle.kmip_ttlv.specs.Sizes.{padded}
 use Rattle.kmip_ttlv.specs.Heads.{head_at}
-use Rattle.kmip_ttlv.specs.Reading.{◌>>=◌, Reader, boolean_at, text_at, all_at, value_at, item_at}
+use Rattle.kmip_ttlv.specs.Reading.{◌>>=◌, Reader, boolean_value_at, text_value_at, all_at, value_at, item_at}
 use Rattle.kmip_ttlv.specs.Breaks.{LeafBreaks, Breaks}
 use Rattle.kmip_ttlv.proofs.SoFar.{one_at}
 use Rattle.kmip_ttlv.proofs.Steps.{value_next, text_wrong}
@@ -108,8 +108,8 @@ all_break levels reader takes (suc most) at (b ∷ bs) e fits long is =
           (only_first (all_at reader most (at + first.1) rest) (λ others. first.0 ∷ others) e next.2))
     ]
 
-boolean_breaks : (at n : ℕ) (e : TtlvFault) → boolean_at at n ≡ Err e → (2 ≤ n) × (e ≡ faults.BadBoolean at)
-unfolding boolean_at
+boolean_breaks : (at n : ℕ) (e : TtlvFault) → boolean_value_at at n ≡ Err e → (2 ≤ n) × (e ≡ faults.BadBoolean at)
+unfolding boolean_value_at
 boolean_breaks at zero e is = absurd cc
 boolean_breaks at (suc zero) e is = absurd cc
 boolean_breaks at (suc (suc n)) e is = (omega arith, sym (fault_is {A = Bool} (faults.BadBoolean at) e is))
@@ -119,8 +119,8 @@ text_checked true text fault e is wrong = absurd cc
 text_checked false text fault e is wrong =
     (λ utf8. false≢true (sym is ∙ is_utf8-from_IsUtf8 text utf8), sym (fault_is {A = List ℕ} fault e wrong))
 
-text_breaks : (at : ℕ) (text : List ℕ) (e : TtlvFault) → text_at at text ≡ Err e → (IsUtf8 text → ⊥) × (e ≡ faults.BadText at)
-unfolding text_at
+text_breaks : (at : ℕ) (text : List ℕ) (e : TtlvFault) → text_value_at at text ≡ Err e → (IsUtf8 text → ⊥) × (e ≡ faults.BadText at)
+unfolding text_value_at
 text_breaks at text e is = text_checked (is_utf8 text) text (faults.BadText at) e refl is
 
 -- what is wrong with a value
@@ -135,9 +135,9 @@ value_breaks levels reader takes at types.Structure value e fits is =
     let all = all_at reader (length value) (at + 8) value in
     inr (refl, all_break levels reader takes (length value) (at + 8) value e fits (omega arith) (only_first all (λ ns. structure (nodes_of ns)) e is))
 value_breaks levels reader takes at types.Boolean value e fits is =
-    inl (boolean_breaks at (big_number 8 value) e (only_first (boolean_at at (big_number 8 value)) (λ t. boolean t) e is))
+    inl (boolean_breaks at (big_number 8 value) e (only_first (boolean_value_at at (big_number 8 value)) (λ t. boolean t) e is))
 value_breaks levels reader takes at types.TextString value e fits is =
-    inl (text_breaks at value e (only_first (text_at at value) (λ t. text_string t) e is))
+    inl (text_breaks at value e (only_first (text_value_at at value) (λ t. text_string t) e is))
 value_breaks levels reader takes at type value e fits is = absurd cc
 
 pub item_breaks : (levels at : ℕ) (bytes : List ℕ) (e : TtlvFault) → IsBytes bytes → item_at levels at bytes ≡ Err e → Breaks levels at bytes e
@@ -206,8 +206,8 @@ structure_fails : (reader : Reader) (at : ℕ) (value : List ℕ) (e : TtlvFault
 unfolding value_at
 structure_fails reader at value e wrong = rw wrong refl
 
-two_wrong : (at n : ℕ) → 2 ≤ n → boolean_at at n ≡ Err (faults.BadBoolean at)
-unfolding boolean_at
+two_wrong : (at n : ℕ) → 2 ≤ n → boolean_value_at at n ≡ Err (faults.BadBoolean at)
+unfolding boolean_value_at
 two_wrong at zero h = absurd (omega arith)
 two_wrong at (suc zero) h = absurd (omega arith)
 two_wrong at (suc (suc n)) h = refl

@@ -29,7 +29,7 @@ use Rattle.kmip_ttlv.specs.Node.{
 use Rattle.kmip_ttlv.specs.Types.{is_allowed}
 use Rattle.kmip_ttlv.specs.Fitting.{content_depth}
 use Rattle.kmip_ttlv.specs.Spelling.{type_of, value_bytes, SpelledValue}
-use Rattle.kmip_ttlv.specs.Reading.{◌>>=◌, Reader, boolean_at, text_at, value_at}
+use Rattle.kmip_ttlv.specs.Reading.{◌>>=◌, Reader, boolean_value_at, text_value_at, value_at}
 use Rattle.kmip_ttlv.proofs.Numbers.{IsBytes, back_4, back_8, below_4, below_8, again_4, again_8}
 use Rattle.kmip_ttlv.proofs.Steps.{text_right}
 
@@ -74,8 +74,8 @@ again_signed_8 z fits = ap (cast_signed w64) (again_8 (cast_unsigned w64 z) (Fit
 
 -- ---- truths and texts
 
-boolean_takes : (at n : ℕ) (b : Bool) → boolean_at at n ≡ Ok b → n ≡ from_bool b
-unfolding boolean_at
+boolean_takes : (at n : ℕ) (b : Bool) → boolean_value_at at n ≡ Ok b → n ≡ from_bool b
+unfolding boolean_value_at
 boolean_takes at zero b e = ap from_bool (ok_is false b e)
 boolean_takes at (suc zero) b e = ap from_bool (ok_is true b e)
 boolean_takes at (suc (suc n)) b e = absurd cc
@@ -84,8 +84,8 @@ small : (b : Bool) → from_bool b < 2 ^ 64
 small false = omega arith
 small true = omega arith
 
-boolean_again : (at : ℕ) (b : Bool) → boolean_at at (from_bool b) ≡ Ok b
-unfolding boolean_at
+boolean_again : (at : ℕ) (b : Bool) → boolean_value_at at (from_bool b) ≡ Ok b
+unfolding boolean_value_at
 boolean_again at false = refl
 boolean_again at true = refl
 
@@ -94,8 +94,8 @@ text_checked true fault value text is e =
     let same : value ≡ text = ok_is value text e in (same, subst IsUtf8 same (IsUtf8-from_is_utf8 value is))
 text_checked false fault value text is e = absurd cc
 
-text_takes : (at : ℕ) (value text : List ℕ) → text_at at value ≡ Ok text → (value ≡ text) × IsUtf8 text
-unfolding text_at
+text_takes : (at : ℕ) (value text : List ℕ) → text_value_at at value ≡ Ok text → (value ≡ text) × IsUtf8 text
+unfolding text_value_at
 text_takes at value text e = text_checked (is_utf8 value) (faults.BadText at) value text refl e
 
 -- ---- what is read is spelled so
@@ -121,12 +121,12 @@ leaf_takes reader at types.Enumeration value content bytes allowed leaf e =
     leaf_is types.Enumeration value (enumeration (big_number 4 value)) content
     (record { type_is = refl; spelled = (below_4 value bytes, sym (back_4 value (eqb-true _ _ allowed) bytes)); flat = refl }) e
 leaf_takes reader at types.Boolean value content bytes allowed leaf e =
-    let b = bind_ok (boolean_at at (big_number 8 value)) (λ truth. Ok (boolean truth)) content e in
+    let b = bind_ok (boolean_value_at at (big_number 8 value)) (λ truth. Ok (boolean truth)) content e in
     let number : big_number 8 value ≡ from_bool b.0 = boolean_takes at (big_number 8 value) b.0 b.1 in
     leaf_is types.Boolean value (boolean b.0) content
     (record { type_is = refl; spelled = (tt, sym (back_8 value (eqb-true _ _ allowed) bytes) ∙ ap (big_bytes 8) number); flat = refl }) b.2
 leaf_takes reader at types.TextString value content bytes allowed leaf e =
-    let b = bind_ok (text_at at value) (λ text. Ok (text_string text)) content e in
+    let b = bind_ok (text_value_at at value) (λ text. Ok (text_string text)) content e in
     let text = text_takes at value b.0 b.1 in
     leaf_is types.TextString value (text_string b.0) content
     (record { type_is = refl; spelled = (text.1, text.0); flat = refl }) b.2

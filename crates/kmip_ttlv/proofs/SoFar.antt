@@ -5,7 +5,7 @@ use Rattle.std.proofs.lemmas.Bool.{true≢false, eqb-true}
 use Rattle.kmip_ttlv.specs.declared.fault.TtlvFault.{TtlvFault}
 use Rattle.kmip_ttlv.specs.declared.fault.TtlvFault.TheVariants as faults
 use Rattle.kmip_ttlv.specs.Node.{Node}
-use Rattle.kmip_ttlv.specs.Reading.{◌>>=◌, Fails, Reader, all_at}
+use Rattle.kmip_ttlv.specs.Reading.{◌>>=◌, FailsContent, Reader, all_at}
 
 -- what was read before, and what is still read
 abbrev pub with_front : List Node → Result (List Node) TtlvFault → Result (List Node) TtlvFault
@@ -65,7 +65,7 @@ stops reader at bytes front place rest e so_far full fails =
     sym so_far.read ∙ ap (with_front front) here
 
 pub one_fails : (reader : Reader) (at : ℕ) (bytes : List ℕ) (front : List Node) (place : ℕ) (rest : List ℕ) (e : TtlvFault)
-    → AreReadSoFar reader at bytes front place rest → 0 < length rest → Fails e (reader place rest) → Fails e (all_at reader (length bytes) at bytes)
+    → AreReadSoFar reader at bytes front place rest → 0 < length rest → FailsContent e (reader place rest) → FailsContent e (all_at reader (length bytes) at bytes)
 one_fails reader at bytes front place rest faults.NoMemory so_far full fails = tt
 one_fails reader at bytes front place rest e so_far full fails = stops reader at bytes front place rest e so_far full fails
 

@@ -10,14 +10,14 @@ use Rattle.kmip_ttlv.specs.declared.item_type.ItemType.{ItemType}
 use Rattle.kmip_ttlv.specs.Node.{node, Content}
 use Rattle.kmip_ttlv.specs.Sizes.{padded}
 use Rattle.kmip_ttlv.specs.Heads.{head_at}
-use Rattle.kmip_ttlv.specs.Reading.{◌>>=◌, Fails, text_at, value_at, item_at}
+use Rattle.kmip_ttlv.specs.Reading.{◌>>=◌, FailsContent, text_value_at, value_at, item_at}
 
-pub text_right : (at : ℕ) (bytes : List ℕ) → IsUtf8 bytes → text_at at bytes ≡ Ok bytes
-unfolding text_at
+pub text_right : (at : ℕ) (bytes : List ℕ) → IsUtf8 bytes → text_value_at at bytes ≡ Ok bytes
+unfolding text_value_at
 text_right at bytes utf8 = rw (is_utf8-from_IsUtf8 bytes utf8) refl
 
-pub text_wrong : (at : ℕ) (bytes : List ℕ) → (IsUtf8 bytes → ⊥) → text_at at bytes ≡ Err (faults.BadText at)
-unfolding text_at
+pub text_wrong : (at : ℕ) (bytes : List ℕ) → (IsUtf8 bytes → ⊥) → text_value_at at bytes ≡ Err (faults.BadText at)
+unfolding text_value_at
 text_wrong at bytes wrong = rw (false_from_ne_true (is_utf8 bytes) (λ t. wrong (IsUtf8-from_is_utf8 bytes t))) refl
 
 -- the content of an item with a right head, at one level less
@@ -42,8 +42,8 @@ value_stops : (left at : ℕ) (bytes : List ℕ) (tag : ℕ) (type : ItemType) (
 value_stops left at bytes tag type len e some head value = value_next left at bytes tag type len some head ∙ rw value refl
 
 pub value_fails : (left at : ℕ) (bytes : List ℕ) (tag : ℕ) (type : ItemType) (len cut : ℕ) (e : TtlvFault) → 0 < left
-    → head_at (left == 16) at bytes ≡ Ok (tag, type, len) → cut ≡ len → Fails e (value_at (item_at (left - 1)) at type (take cut (drop 8 bytes)))
-    → Fails e (item_at left at bytes)
+    → head_at (left == 16) at bytes ≡ Ok (tag, type, len) → cut ≡ len → FailsContent e (value_at (item_at (left - 1)) at type (take cut (drop 8 bytes)))
+    → FailsContent e (item_at left at bytes)
 value_fails left at bytes tag type len cut faults.NoMemory some head is_cut fails = tt
 value_fails left at bytes tag type len cut e some head is_cut fails =
     value_stops left at bytes tag type len e some head (ap (λ (k : ℕ). value_at (item_at (left - 1)) at type (take k (drop 8 bytes))) (sym is_cut) ∙ fails)

@@ -61,13 +61,13 @@ all_at reader (suc most) at (b ∷ bs) = do
   others ← all_at reader most (at + first.1) (drop first.1 (b ∷ bs))
   Ok (first.0 ∷ others)
 
-unfoldable pub boolean_at : ℕ → ℕ → Result Bool TtlvFault
-boolean_at at zero = Ok false
-boolean_at at (suc zero) = Ok true
-boolean_at at (suc (suc n)) = Err (BadBoolean at)
+unfoldable pub boolean_value_at : ℕ → ℕ → Result Bool TtlvFault
+boolean_value_at at zero = Ok false
+boolean_value_at at (suc zero) = Ok true
+boolean_value_at at (suc (suc n)) = Err (BadBoolean at)
 
-unfoldable pub text_at : ℕ → List ℕ → Result (List ℕ) TtlvFault
-text_at at text = if is_utf8 text then Ok text else Err (BadText at)
+unfoldable pub text_value_at : ℕ → List ℕ → Result (List ℕ) TtlvFault
+text_value_at at text = if is_utf8 text then Ok text else Err (BadText at)
 
 -- the content that a value of this type is, of the item at this offset
 unfoldable pub value_at : Reader → ℕ → ItemType → List ℕ → Result Content TtlvFault
@@ -79,10 +79,10 @@ value_at reader at LongInteger value = Ok (long_integer (cast_signed w64 (big_nu
 value_at reader at BigInteger value = Ok (big_integer value)
 value_at reader at Enumeration value = Ok (enumeration (big_number 4 value))
 value_at reader at Boolean value = do
-  truth ← boolean_at at (big_number 8 value)
+  truth ← boolean_value_at at (big_number 8 value)
   Ok (boolean truth)
 value_at reader at TextString value = do
-  text ← text_at at value
+  text ← text_value_at at value
   Ok (text_string text)
 value_at reader at ByteString value = Ok (byte_string value)
 value_at reader at DateTime value = Ok (date_time (cast_signed w64 (big_number 8 value)))
@@ -101,19 +101,19 @@ item_at (suc left) at bytes = do
 -- ---- what the code answers
 
 -- the code's fault is the fault of reading, but for want of memory
-abbrev pub Fails : {Y : Type 0} → TtlvFault → Result Y TtlvFault → Type 0
-Fails NoMemory read = Unit {0}
-Fails e read = read ≡ Err e
+abbrev pub FailsContent : {Y : Type 0} → TtlvFault → Result Y TtlvFault → Type 0
+FailsContent NoMemory read = Unit {0}
+FailsContent e read = read ≡ Err e
 
 -- What the code answered, seen by a view, is what reading gives, unless memory ran out.
-abbrev pub Gives : {X Y : Type 0} → (X → Y) → Result X TtlvFault → Result Y TtlvFault → Type 0
-Gives seen (Ok x) read = read ≡ Ok (seen x)
-Gives seen (Err e) read = Fails e read
+abbrev pub GivesContent : {X Y : Type 0} → (X → Y) → Result X TtlvFault → Result Y TtlvFault → Type 0
+GivesContent seen (Ok x) read = read ≡ Ok (seen x)
+GivesContent seen (Err e) read = FailsContent e read
 
 -- the same for an item and its size
 abbrev pub ReadsAs : Result (Item × ℕ) TtlvFault → Result (Node × ℕ) TtlvFault → Type 0
 ReadsAs (Ok x) read = read ≡ Ok (view x.0, x.1)
-ReadsAs (Err e) read = Fails e read
+ReadsAs (Err e) read = FailsContent e read
 
 -- the code answered this item and this size, unless memory ran out
 abbrev pub IsRead : Result (Item × ℕ) TtlvFault → Node → ℕ → Type 0

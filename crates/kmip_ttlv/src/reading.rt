@@ -9,7 +9,7 @@ ghost use Rattle.kmip_ttlv.specs.Types.{is_allowed};
 ghost use Rattle.kmip_ttlv.specs.Spelling.{padding, canon, Spells};
 ghost use Rattle.kmip_ttlv.specs.Sizes.{Fits, IsWritable};
 ghost use Rattle.kmip_ttlv.specs.Heads.{overrun, head_at};
-ghost use Rattle.kmip_ttlv.specs.Reading.{Gives, ReadsAs, IsRead, IsRefused, boolean_at, text_at, value_at, all_at, item_at};
+ghost use Rattle.kmip_ttlv.specs.Reading.{GivesContent, ReadsAs, IsRead, IsRefused, boolean_value_at, text_value_at, value_at, all_at, item_at};
 ghost use Rattle.kmip_ttlv.specs.Breaks.{Breaks};
 
 use crate::bytes::Bytes;
@@ -78,7 +78,7 @@ fn value_of(
     requires levels { left < 16 }
     requires offsets { at + 8 + length bytes.now < 2 ^ 64 }
     requires allowed { IsTrue (is_allowed item_type (length bytes.now)) }
-    ensures { Gives content result (value_at (item_at left) at item_type bytes.now) }
+    ensures { GivesContent content result (value_at (item_at left) at item_type bytes.now) }
 {
     match item_type {
         ItemType::Structure => {
@@ -115,7 +115,7 @@ fn value_of(
 fn all_of(alloc: Global, left: usize, at: usize, bytes: &[u8]) -> Result<Vec<Item>, TtlvFault>
     requires levels { left < 16 }
     requires offsets { at + length bytes.now < 2 ^ 64 }
-    ensures { Gives (λ v. views v.items) result (all_at (item_at left) (length bytes.now) at bytes.now) }
+    ensures { GivesContent (λ v. views v.items) result (all_at (item_at left) (length bytes.now) at bytes.now) }
 {
     let mut items = Vec::new(alloc);
     let mut place = at;
@@ -173,10 +173,10 @@ fn overrun_of(outermost: bool, at: usize) -> TtlvFault
 }
 
 /// The Boolean of eight bytes, of the item at offset `at`.
-#[tactic(auto, unfolding(crate::specs::Reading::boolean_at))]
+#[tactic(auto, unfolding(crate::specs::Reading::boolean_value_at))]
 fn boolean_of(at: usize, bytes: &[u8]) -> Result<bool, TtlvFault>
     requires { 8 ≤ length bytes.now }
-    ensures { result ≡ boolean_at at (big_number 8 bytes.now) }
+    ensures { result ≡ boolean_value_at at (big_number 8 bytes.now) }
 {
     match BigEndian::read_u64(bytes) {
         0 => Ok(false),
@@ -188,7 +188,7 @@ fn boolean_of(at: usize, bytes: &[u8]) -> Result<bool, TtlvFault>
 /// The text of the bytes, of the item at offset `at`.
 #[tactic(auto, using(crate::proofs::Steps::text_right, crate::proofs::Steps::text_wrong))]
 fn text_of(alloc: Global, at: usize, bytes: &[u8]) -> Result<Text, TtlvFault>
-    ensures { Gives (λ t. t) result (text_at at bytes.now) }
+    ensures { GivesContent (λ t. t) result (text_value_at at bytes.now) }
 {
     match std::str::from_utf8(bytes) {
         Ok(text) => {

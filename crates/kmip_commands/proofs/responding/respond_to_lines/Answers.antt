@@ -21,8 +21,8 @@ returns-in_default-clause-text g c =
     let ended = subst (λ next. IfSome (g.R.Read.remaining c.loop.reader) (λ input. TakesLine input read.line.items (g.R.Read.remaining read.reader) next)) c.in_default.is c.in_ok-has_more.ensures.line in
     answered-text g.C.Respond.text g.C.Respond.behind g.C.Respond.refuses g.C.Respond.over _ _ _ _ _ _ (Responding-end _ _ _ g.C.Respond.over _ _ _ _ _ _ _ _ _ _ c.loop.invariant.1 ended c.read_line.ensures.unwritten c.flush.ensures)
 
-pub returns-in_default-clause-behind : goal.returns-in_default-clause-behind
-returns-in_default-clause-behind g c =
+pub returns-in_default-clause-after : goal.returns-in_default-clause-after
+returns-in_default-clause-after g c =
     let read = c.read_line.new in
     let ended = subst (λ next. IfSome (g.R.Read.remaining c.loop.reader) (λ input. TakesLine input read.line.items (g.R.Read.remaining read.reader) next)) c.in_default.is c.in_ok-has_more.ensures.line in
     answered-behind g.C.Respond.text g.C.Respond.behind g.C.Respond.refuses g.C.Respond.over _ _ _ _ _ _ (Responding-end _ _ _ g.C.Respond.over _ _ _ _ _ _ _ _ _ _ c.loop.invariant.1 ended c.read_line.ensures.unwritten c.flush.ensures)
@@ -40,8 +40,8 @@ returns-then-is_over-clause-text g c =
     let responded = c.in_ok-is_refused.ensures in
     answered-text g.C.Respond.text g.C.Respond.behind g.C.Respond.refuses g.C.Respond.over _ _ _ _ _ _ (Responding-over _ _ _ g.C.Respond.over _ _ _ _ _ _ _ _ _ _ _ _ _ read.line.items _ c.loop.invariant.1 taken c.as_slice.ensures.value c.read_line.ensures.unwritten responded.text c.in_ok-flush-2.ensures responded.behind (ap (λ b. c.loop.has_refused || b) responded.refused) (sym c.is_over.ensures ∙ c.if-is_over.true))
 
-pub returns-then-is_over-clause-behind : goal.returns-then-is_over-clause-behind
-returns-then-is_over-clause-behind g c =
+pub returns-then-is_over-clause-after : goal.returns-then-is_over-clause-after
+returns-then-is_over-clause-after g c =
     let read = c.read_line.new in
     let taken = subst (λ next. IfSome (g.R.Read.remaining c.loop.reader) (λ input. TakesLine input read.line.items (g.R.Read.remaining read.reader) next)) c.in-Line.is c.in_ok-has_more.ensures.line in
     let responded = c.in_ok-is_refused.ensures in

@@ -2,7 +2,7 @@
 use Rattle.std.proofs.Common.{set, ap, sym, ◌∙◌, subst, Ok, refl}
 use Rattle.std.specs.List.{position}
 use Rattle.kmip_store.specs.Stock.{Stock, IsKept}
-use Rattle.kmip_store.specs.Stepping.{moved_to, stepped_from}
+use Rattle.kmip_store.specs.Stepping.{enter_state, take_step_from}
 use Rattle.kmip_store.proofs.KeptLemmas.{kept_moved}
 use Rattle.kmip_store.proofs.SteppingLemmas.{has_uid, found_row, no_row, moved_is, step_found}
 use Rattle.kmip_store.proofs.stepping.step.Goals as goal
@@ -13,7 +13,7 @@ returns-in_default-clause-step c = λ room stream.
     let uid = c.args.uid.now in
     let has = has_uid uid in
     let nowhere = ap (position has) (sym c.as_slice.ensures.value) ∙ sym c.place_of.ensures ∙ c.in_default.is in
-    (ap (stepped_from c.args.step uid (record { rows = rows; room = room; stream = stream })) (no_row has rows nowhere), refl)
+    (ap (take_step_from c.args.step uid (record { rows = rows; room = room; stream = stream })) (no_row has rows nowhere), refl)
 
 pub returns-in_default-after-clause-step : goal.returns-in_default-after-clause-step
 returns-in_default-after-clause-step c = λ room stream.
@@ -24,7 +24,7 @@ returns-in_default-after-clause-step c = λ room stream.
     let here = ap (position has) (sym c.as_slice.ensures.value) ∙ sym c.place_of.ensures ∙ c.in-Some.is in
     let found = found_row has rows c.in-Some.place row here c.index.ensures in
     let s : Stock = record { rows = rows; room = room; stream = stream } in
-    (step_found c.args.step uid s row c.after.result found c.after.ensures ∙ ap (moved_to uid s) c.in_default-after.is, refl)
+    (step_found c.args.step uid s row c.after.result found c.after.ensures ∙ ap (enter_state uid s) c.in_default-after.is, refl)
 
 pub returns-clause-step : goal.returns-clause-step
 returns-clause-step c = λ room stream.
@@ -39,7 +39,7 @@ returns-clause-step c = λ room stream.
     let state = c.in-Some-after.state in
     let moved = moved_is rows (set rows place c.enter.new.row) uid state place c.index_mut.result.now c.requires.0 c.requires.1 here c.index_mut.ensures.value (ap (set rows place) c.enter.ensures) in
     step_found c.args.step uid s row c.after.result found c.after.ensures
-    ∙ ap (moved_to uid s) c.in-Some-after.is
+    ∙ ap (enter_state uid s) c.in-Some-after.is
     ∙ ap (λ rs. Ok (record { rows = rs; room = room; stream = stream })) (sym moved)
 
 pub returns-clause-kept : goal.returns-clause-kept

@@ -8,8 +8,8 @@ pub returns-in-Err-clause-text : goal.returns-in-Err-clause-text
 returns-in-Err-clause-text g c =
     (advance_refused c.args.self.now.server _ _ _ _ _ _ c.requires.lawful (c.in-Err.ensures.refused c.requires.lawful) c.feed.ensures.held c.in_ok-write_refusal-in-Err.ensures).text
 
-pub returns-in-Err-clause-behind : goal.returns-in-Err-clause-behind
-returns-in-Err-clause-behind g c =
+pub returns-in-Err-clause-after : goal.returns-in-Err-clause-after
+returns-in-Err-clause-after g c =
     (advance_refused c.args.self.now.server _ _ _ _ _ _ c.requires.lawful (c.in-Err.ensures.refused c.requires.lawful) c.feed.ensures.held c.in_ok-write_refusal-in-Err.ensures).behind
 
 pub returns-in_default-next-clause-text : goal.returns-in_default-next-clause-text
@@ -17,8 +17,8 @@ returns-in_default-next-clause-text g c =
     let hands = subst (λ next. Hands (λ m. m.items) (Ok next) c.feed.new.self c.next.new.self) c.in_default-next.is c.in-Ok-next.ensures in
     (advance_quiet c.args.self.now.server _ _ _ _ (g.W.Write.contents c.args.writer.now) c.in-Ok.ensures.taken.1 hands).text
 
-pub returns-in_default-next-clause-behind : goal.returns-in_default-next-clause-behind
-returns-in_default-next-clause-behind g c =
+pub returns-in_default-next-clause-after : goal.returns-in_default-next-clause-after
+returns-in_default-next-clause-after g c =
     let hands = subst (λ next. Hands (λ m. m.items) (Ok next) c.feed.new.self c.next.new.self) c.in_default-next.is c.in-Ok-next.ensures in
     (advance_quiet c.args.self.now.server c.args.self.now.framer _ _ (take c.in-Ok.count c.args.piece.now) (g.W.Write.contents c.args.writer.now) c.in-Ok.ensures.taken.1 hands).behind
 
@@ -26,10 +26,10 @@ pub returns-clause-text : goal.returns-clause-text
 returns-clause-text g c =
     let hands = subst (λ next. Hands (λ m. m.items) (Ok next) c.feed.new.self c.next.new.self) c.in-Some.is c.in-Ok-next.ensures in
     let same = c.as_slice.ensures.value ∙ hands.1 in
-    (advance_answered c.args.self.now.server _ _ _ _ _ _ _ _ c.requires.begins c.in-Ok.ensures.taken.1 (hands.0, same, hands.2) c.in_ok-reply_to.ensures.text c.in_ok-reply_to.ensures.behind).text
+    (advance_answered c.args.self.now.server _ _ _ _ _ _ _ _ c.requires.begins c.in-Ok.ensures.taken.1 (hands.0, same, hands.2) c.in_ok-reply_to.ensures.text c.in_ok-reply_to.ensures.after).text
 
-pub returns-clause-behind : goal.returns-clause-behind
-returns-clause-behind g c =
+pub returns-clause-after : goal.returns-clause-after
+returns-clause-after g c =
     let hands = subst (λ next. Hands (λ m. m.items) (Ok next) c.feed.new.self c.next.new.self) c.in-Some.is c.in-Ok-next.ensures in
     let same = c.as_slice.ensures.value ∙ hands.1 in
-    (advance_answered c.args.self.now.server _ _ _ _ _ _ _ _ c.requires.begins c.in-Ok.ensures.taken.1 (hands.0, same, hands.2) c.in_ok-reply_to.ensures.text c.in_ok-reply_to.ensures.behind).behind
+    (advance_answered c.args.self.now.server _ _ _ _ _ _ _ _ c.requires.begins c.in-Ok.ensures.taken.1 (hands.0, same, hands.2) c.in_ok-reply_to.ensures.text c.in_ok-reply_to.ensures.after).behind

@@ -3,13 +3,13 @@ use Rattle.kmip_ttlv.specs.Spelling.{canon}
 use Rattle.kmip_messages.specs.Whole.{request_read}
 use Rattle.kmip_messages.specs.Written.{reply_item}
 use Rattle.kmip_server.specs.Reasons.{message_reason}
-use Rattle.kmip_server.specs.Serving.{served, stock_after, stock_behind, reply_to, refusal_reply}
+use Rattle.kmip_server.specs.Serving.{reply_bytes, stock_after, stock_after_read, reply_to, refusal_reply}
 use Rattle.kmip_server.proofs.ServingLemmas.{if_ok, on_ok, refusal_read}
 use Rattle.kmip_server.proofs.server.Server.handle.Goals as goal
 
 -- src/server.rt:47:5
 pub returns-in-Err-clause-reply : goal.returns-in-Err-clause-reply
-unfolding served
+unfolding reply_bytes
 returns-in-Err-clause-reply g c =
     let refusal = c.in-Err.refusal in
     let known : IfOk c.refuse_message.result (λ v. v.items ≡ canon (reply_item (refusal_reply refusal) c.args.now)) = search (rules, c.refuse_message.ensures.reply) in
@@ -17,9 +17,9 @@ returns-in-Err-clause-reply g c =
     p ∙ ap (λ read. canon (reply_item (reply_to c.args.self.now read) c.args.now)) (sym (refusal_read refusal (request_read c.args.message.now) c.in-Err.ensures.exact some)))
 
 -- src/server.rt:47:5
-pub returns-in-Err-clause-behind : goal.returns-in-Err-clause-behind
+pub returns-in-Err-clause-after : goal.returns-in-Err-clause-after
 unfolding stock_after
-returns-in-Err-clause-behind g c =
+returns-in-Err-clause-after g c =
     let s = c.args.self.now in
     on_ok c.refuse_message.result _ _ c.refuse_message.ensures.told (λ some.
-    ap (λ read. stock_behind s read) (sym (refusal_read c.in-Err.refusal (request_read c.args.message.now) c.in-Err.ensures.exact some)))
+    ap (λ read. stock_after_read s read) (sym (refusal_read c.in-Err.refusal (request_read c.args.message.now) c.in-Err.ensures.exact some)))
