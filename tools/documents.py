@@ -6,11 +6,13 @@ from sources import CRATES, roots_of
 
 DEFINITIONS = pathlib.Path('docs/DEFINITIONS.md')
 PROVED = pathlib.Path('docs/PROVED.md')
+DOCUMENTS = sorted(pathlib.Path().glob('*.md')) + sorted(pathlib.Path('docs').glob('*.md'))
+NAME = re.compile(r'`((?:\w+::)*[A-Za-z]+(?:_\w+|[a-z0-9][A-Z]\w*))`')
 
 
 def check(repository):
     """Prints what does not fit, and returns the exit status: 1 where there is something."""
-    faults = check_definitions(repository) + check_proved(repository) + check_links()
+    faults = check_definitions(repository) + check_proved(repository) + check_links() + check_names()
     print(f'{faults} names to look at' if faults else 'nothing to look at')
     return 1 if faults else 0
 
@@ -89,7 +91,7 @@ def check_rows(repository, sections):
 def check_links():
     """The links and the paths of the documents that lead nowhere."""
     faults = 0
-    for document in sorted(pathlib.Path().glob('*.md')) + sorted(pathlib.Path('docs').glob('*.md')):
+    for document in DOCUMENTS:
         text = document.read_text()
         for link in re.findall(r'\]\(([^)\s]+)\)', text):
             path, _, heading = link.partition('#')
@@ -103,6 +105,19 @@ def check_links():
             if not pathlib.Path(path).exists() and '/out/' not in path and 'NAME' not in path:
                 faults += 1
                 print(f'leads nowhere: {path} in {document}')
+    return faults
+
+
+def check_names():
+    """The names of several words in the documents that stand nowhere in the code."""
+    sources = [path for path in CRATES.rglob('*') if path.suffix in ('.rt', '.antt', '.edit') and 'out' not in path.parts]
+    text = ' '.join(path.read_text() for path in sources)
+    known, faults = set(re.findall(r'\w+', text)) | {path.stem for path in sources}, 0
+    for document in DOCUMENTS:
+        for name in sorted(set(NAME.findall(document.read_text()))):
+            if not known.issuperset(name.split('::')) and not (CRATES / name.split('::')[0]).is_dir():
+                faults += 1
+                print(f'stands nowhere in the code: {name} in {document}')
     return faults
 
 
