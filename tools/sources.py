@@ -64,7 +64,7 @@ class SpecFile:
                 if current is None:
                     comment = []
                 continue
-            head = re.match(r'(?:(?:abbrev|unfoldable) )?(?:pub )?(?:(data|record) )?([^\s:(]+)(?: :| \(.*|$)', line)
+            head = re.match(r'(?:(?:abbrev|unfoldable) )?(?:pub )?(?:(data|record) )?([^\s:({]+)(?: [:({]|$)', line)
             if re.match(r'(?:(?:abbrev|unfoldable) )?mutual\s*$', line):
                 current, is_group = self.add(number, comment), True
             elif line.startswith(' '):
@@ -91,7 +91,7 @@ class SpecFile:
             if not current.comment:
                 current.comment = [line.strip()[2:].strip()]
             return
-        inside = re.match(r'  (?:pub )?(?:data |record )?([^\s:(]+)(?: :| \(|\s*$)', line)
+        inside = re.match(r'  (?:pub )?(?:data |record )?([^\s:({]+)(?: [:({]|\s*$)', line)
         if is_group and not line.startswith('   ') and inside:
             is_head = re.match(r'  (?:pub )?(?:(?:data|record) \S+|[^\s:]+ : )', line)
             if is_head and inside.group(1) not in current.names:
