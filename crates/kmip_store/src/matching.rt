@@ -13,7 +13,7 @@ use kmip_messages::standard::{OBJECT_TYPE_SYMMETRIC_KEY, STORAGE_DESTROYED, STOR
 use kmip_messages::{Attrs, KeyState};
 
 /// Whether a row has the name.
-pub(crate) fn has_name(rows: &[Row], name: &str) -> bool
+pub(crate) fn has_row_named(rows: &[Row], name: &str) -> bool
     ensures { result ≡ has_row_named name.now rows.now }
 {
     rows.iter().any(|row| name == row.attrs.name.as_str())

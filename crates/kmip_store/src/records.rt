@@ -1,11 +1,10 @@
 //! What a server keeps its objects in.
-ghost use Rattle.std.specs.Prelude.{◌≡◌, ◌+◌, ◌≤◌, length, true, IsTrue, IsSome, IfOk, IfSome, OnErr, Err, option_to_list};
-ghost use Rattle.std.specs.Fmt.{decimal};
+ghost use Rattle.std.specs.Prelude.{◌≡◌, length, true, IsTrue, IsSome, IfOk, IfSome, OnErr, Err, option_to_list};
 ghost use Rattle.std.specs.List.{slice_get};
 ghost use Rattle.std.specs.Option.{option_copied};
 ghost use Rattle.kmip_messages.specs.Ranges.{attrs_fit, is_identifier};
 ghost use Rattle.kmip_messages.specs.declared.step.Step.TheVariants as steps;
-ghost use Rattle.kmip_store.specs.Stock.{Stock, IsKept, stock_with, MayRefuse, objects_of};
+ghost use Rattle.kmip_store.specs.Stock.{Stock, IsKept, identifier_at, stock_with, MayRefuse, objects_of};
 ghost use Rattle.kmip_store.specs.Stepping.{Becomes, row_with, take_step};
 ghost use Rattle.kmip_store.specs.Locating.{locate};
 
@@ -27,7 +26,7 @@ pub trait Records {
     /// the records are then as they were.
     fn create(&mut self, alloc: Global, attrs: &KeyAttrs) -> Result<Text, StoreFault>
         requires { IsTrue (attrs_fit attrs.now) }
-        ensures ok { IfOk result (λ uid. (uid ≡ decimal (length (stock self.old).rows + 1)) × (stock self.new ≡ stock_with attrs.now (stock self.old))) }
+        ensures ok { IfOk result (λ uid. (uid ≡ identifier_at (length (stock self.old).rows)) × (stock self.new ≡ stock_with attrs.now (stock self.old))) }
         ensures fault { MayRefuse attrs.now.name (stock self.old) result }
         ensures err { OnErr result (stock self.new ≡ stock self.old) };
 
