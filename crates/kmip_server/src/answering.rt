@@ -18,7 +18,7 @@ use kmip_messages::standard::{OBJECT_TYPE_SYMMETRIC_KEY, REASON_FEATURE_NOT_SUPP
 use kmip_messages::{
     Ask, Attrs, KeyAttrs, Outcome, Refusal, Reply, Request, Texts, is_compromise, write_reply,
 };
-use kmip_store::{Records, Row, StoreFault};
+use kmip_store::{Records, Row, StoreFault, identifier_at};
 use kmip_ttlv::{Bytes, NoMemory, Text};
 use std::alloc::Global;
 
@@ -104,8 +104,8 @@ fn create<S: Records>(
     ensures after { OnOk result (S.stock store.new ≡ (answer (S.stock store.old) (asks.Create attrs.now)).1) }
     ensures same { OnErr result (S.stock store.new ≡ S.stock store.old) }
 {
-    let uid = (store.count() + 1).to_string(alloc)?;
-    reply.outcome = Outcome::Created(Text::from_string(uid));
+    let uid = identifier_at(alloc, store.count())?;
+    reply.outcome = Outcome::Created(uid);
     let written = write_reply(alloc, &reply, now)?;
     match make(store, alloc, attrs)? {
         Ok(()) => Ok(written),
