@@ -30,8 +30,11 @@ pub fn serving_keeps_the_records()
 /// An operation that took effect is refused whenever it is asked again, and leaves the records as
 /// they are.
 pub fn again_changes_nothing()
-    ensures { (s : Stock) (ask : Ask) (between : List Ask) → IsTrue (changes ask) → has_failed (answer s ask).0 ≡ false
-        → (has_failed (answer (stock_after_asks between (answer s ask).1) ask).0 ≡ true) × ((answer (stock_after_asks between (answer s ask).1) ask).1 ≡ stock_after_asks between (answer s ask).1) }
+    ensures { (s : Stock) (ask : Ask) (between : List Ask) → IsTrue (changes ask)
+        → has_failed (answer s ask).0 ≡ false
+        → (has_failed (answer (stock_after_asks between (answer s ask).1) ask).0 ≡ true)
+        × ((answer (stock_after_asks between (answer s ask).1) ask).1
+        ≡ stock_after_asks between (answer s ask).1) }
 {}
 
 /// The objects of records that are kept have names and identifiers of their own, each in its range.

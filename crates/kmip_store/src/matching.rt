@@ -79,7 +79,8 @@ fn has_given(filter: &Attrs, row: &Row) -> bool
 
 /// Whether the row has the name that is given.
 fn is_named(filter: &Attrs, row: &Row) -> bool
-    ensures { result ≡ option_map_or (λ name. pointwise nat_eq name row.now.attrs.name) filter.now.name true }
+    ensures { result ≡ option_map_or
+        (λ name. pointwise nat_eq name row.now.attrs.name) filter.now.name true }
 {
     match &filter.name {
         Some(name) => name.as_str() == row.attrs.name.as_str(),

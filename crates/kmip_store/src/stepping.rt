@@ -20,7 +20,10 @@ use std::alloc::Global;
 /// the row's state; the rows are then as they were.
 pub(crate) fn step(rows: &mut Vec<Row>, uid: &str, step: Step) -> Result<(), StoreFault>
     requires { AreNumbered 0 rows.old.items × (length rows.old.items ≤ most_room) }
-    ensures step { (room : ℕ) (stream : ChaCha) → Becomes result (record { rows = rows.old.items; room = room; stream = stream }) (record { rows = rows.new.items; room = room; stream = stream }) (take_step step uid.now (record { rows = rows.old.items; room = room; stream = stream })) }
+    ensures step { (room : ℕ) (stream : ChaCha)
+        → Becomes result (record { rows = rows.old.items; room = room; stream = stream })
+        (record { rows = rows.new.items; room = room; stream = stream })
+        (take_step step uid.now (record { rows = rows.old.items; room = room; stream = stream })) }
     ensures kept { (room : ℕ) → IsKept rows.old.items room → IsKept rows.new.items room }
 {
     let Some(place) = place_of(rows.as_slice(), uid) else {
