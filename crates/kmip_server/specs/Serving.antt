@@ -1,7 +1,6 @@
 -- What the server answers a message, and what its records are behind it.
 -- Source: KMIP 2.1, Operations. Which reason answers which refusal is own, and that a compromise is refused.
-use Rattle.std.specs.Prelude.{ℕ, ◌+◌, ◌==◌, ◌||◌, ℤ, Bool, List, length, Option, Some, None, Result, Ok, Err, if◌then◌else◌}
-use Rattle.std.specs.Fmt.{decimal}
+use Rattle.std.specs.Prelude.{ℕ, ℤ, List, length, Option, Some, None, Result, Ok, Err, if◌then◌else◌}
 use Rattle.kmip_ttlv.specs.Spelling.{canon}
 use Rattle.kmip_messages.specs.Objects.{Object}
 use Rattle.kmip_messages.specs.Operations.{operation_of}
@@ -22,7 +21,7 @@ use Rattle.kmip_messages.specs.declared.step.Step.TheVariants as steps
 use Rattle.kmip_store.specs.declared.fault.StoreFault.{StoreFault}
 use Rattle.kmip_store.specs.declared.fault.StoreFault.TheVariants.{NotFound}
 use Rattle.kmip_store.specs.declared.row.Row.{Row}
-use Rattle.kmip_store.specs.Stock.{Stock, create, object_of, objects_of}
+use Rattle.kmip_store.specs.Stock.{Stock, create, identifier_at, object_of, objects_of}
 use Rattle.kmip_store.specs.Stepping.{row_with, take_step}
 use Rattle.kmip_store.specs.Locating.{locate}
 use Rattle.kmip_server.specs.Reasons.{message_reason, store_reason}
@@ -49,7 +48,7 @@ outcome_of_change success s (Err fault) = (Failed (store_reason fault), s)
 
 -- the outcome of an operation, and the records behind it
 abbrev pub answer : Stock → Ask → Outcome × Stock
-answer s (Create attrs) = outcome_of_change (Created (decimal (length s.rows + 1))) s (create attrs s)
+answer s (Create attrs) = outcome_of_change (Created (identifier_at (length s.rows))) s (create attrs s)
 answer s (Locate mask given) = (Located (locate mask given (objects_of s.rows)), s)
 answer s (GetAttributes uid) = (attributes_outcome uid (row_with uid s.rows), s)
 answer s (Activate uid) = outcome_of_change (Activated uid) s (take_step steps.Activate uid s)

@@ -18,7 +18,7 @@ use kmip_messages::standard::{OBJECT_TYPE_SYMMETRIC_KEY, REASON_FEATURE_NOT_SUPP
 use kmip_messages::{
     Ask, Attrs, KeyAttrs, Outcome, Refusal, Reply, Request, Texts, is_compromise, write_reply,
 };
-use kmip_store::{Records, Row, StoreFault};
+use kmip_store::{Records, Row, StoreFault, identifier_at};
 use kmip_ttlv::{Bytes, NoMemory, Text};
 use std::alloc::Global;
 
@@ -30,7 +30,8 @@ pub(crate) fn answer<S: Records>(
     now: i64,
 ) -> Result<Vec<u8>, NoMemory>
     requires { IsTrue (request_fits request) }
-    ensures reply { IfOk result (λ v. v.items ≡ canon (reply_item (reply_to (S.stock store.old) (Ok request)) now)) }
+    ensures reply { IfOk result (λ v. v.items
+        ≡ canon (reply_item (reply_to (S.stock store.old) (Ok request)) now)) }
     ensures after { OnOk result (S.stock store.new ≡ (answer (S.stock store.old) request.ask).1) }
     ensures same { OnErr result (S.stock store.new ≡ S.stock store.old) }
 {
@@ -100,12 +101,14 @@ fn create<S: Records>(
     requires attrs { IsTrue (attrs_fit attrs.now) }
     requires id { IsTrue (option_map_or is_batch_id reply.id true) }
     requires operation { reply.operation ≡ Some OPERATION_CREATE }
-    ensures reply { IfOk result (λ v. v.items ≡ written_with reply (answer (S.stock store.old) (asks.Create attrs.now)).0 now) }
-    ensures after { OnOk result (S.stock store.new ≡ (answer (S.stock store.old) (asks.Create attrs.now)).1) }
+    ensures reply { IfOk result (λ v. v.items
+        ≡ written_with reply (answer (S.stock store.old) (asks.Create attrs.now)).0 now) }
+    ensures after { OnOk result (S.stock store.new
+        ≡ (answer (S.stock store.old) (asks.Create attrs.now)).1) }
     ensures same { OnErr result (S.stock store.new ≡ S.stock store.old) }
 {
-    let uid = (store.count() + 1).to_string(alloc)?;
-    reply.outcome = Outcome::Created(Text::from_string(uid));
+    let uid = identifier_at(alloc, store.count())?;
+    reply.outcome = Outcome::Created(uid);
     let written = write_reply(alloc, &reply, now)?;
     match make(store, alloc, attrs)? {
         Ok(()) => Ok(written),
@@ -120,7 +123,8 @@ fn make<S: Records>(
     attrs: &KeyAttrs,
 ) -> Result<Result<(), StoreFault>, NoMemory>
     requires { IsTrue (attrs_fit attrs.now) }
-    ensures made { IfOk result (λ made. Becomes made (S.stock store.old) (S.stock store.new) (create attrs.now (S.stock store.old))) }
+    ensures made { IfOk result (λ made. Becomes made (S.stock store.old) (S.stock store.new)
+        (create attrs.now (S.stock store.old))) }
     ensures same { OnErr result (S.stock store.new ≡ S.stock store.old) }
 {
     match store.create(alloc, attrs) {
@@ -146,7 +150,8 @@ fn locate<S: Records>(
     requires name { IsSome filter.now.name }
     requires id { IsTrue (option_map_or is_batch_id reply.id true) }
     requires operation { reply.operation ≡ Some OPERATION_LOCATE }
-    ensures { IfOk result (λ v. v.items ≡ written_with reply (answer (S.stock store.now) (asks.Locate mask filter.now)).0 now) }
+    ensures { IfOk result (λ v. v.items ≡ written_with reply
+        (answer (S.stock store.now) (asks.Locate mask filter.now)).0 now) }
 {
     let Ok(found) = store.locate(alloc, mask, filter) else {
         return Err(NoMemory);
@@ -180,7 +185,8 @@ fn get_attributes<S: Records>(
     requires uid { IsTrue (is_identifier uid.now) }
     requires id { IsTrue (option_map_or is_batch_id reply.id true) }
     requires operation { reply.operation ≡ Some OPERATION_GET_ATTRIBUTES }
-    ensures { IfOk result (λ v. v.items ≡ written_with reply (answer (S.stock store.now) (asks.GetAttributes uid.now)).0 now) }
+    ensures { IfOk result (λ v. v.items ≡ written_with reply
+        (answer (S.stock store.now) (asks.GetAttributes uid.now)).0 now) }
 {
     let Some(row) = store.find(uid) else {
         return refuse(alloc, reply, store_reason(StoreFault::NotFound), now);
@@ -216,8 +222,10 @@ fn activate<S: Records>(
     requires uid { IsTrue (is_identifier uid.now) }
     requires id { IsTrue (option_map_or is_batch_id reply.id true) }
     requires operation { reply.operation ≡ Some OPERATION_ACTIVATE }
-    ensures reply { IfOk result (λ v. v.items ≡ written_with reply (answer (S.stock store.old) (asks.Activate uid.now)).0 now) }
-    ensures after { OnOk result (S.stock store.new ≡ (answer (S.stock store.old) (asks.Activate uid.now)).1) }
+    ensures reply { IfOk result (λ v. v.items
+        ≡ written_with reply (answer (S.stock store.old) (asks.Activate uid.now)).0 now) }
+    ensures after { OnOk result (S.stock store.new
+        ≡ (answer (S.stock store.old) (asks.Activate uid.now)).1) }
     ensures same { OnErr result (S.stock store.new ≡ S.stock store.old) }
 {
     reply.outcome = Outcome::Activated(Text::copied(alloc, uid)?);
@@ -240,8 +248,10 @@ fn revoke<S: Records>(
     requires uid { IsTrue (is_identifier uid.now) }
     requires id { IsTrue (option_map_or is_batch_id reply.id true) }
     requires operation { reply.operation ≡ Some OPERATION_REVOKE }
-    ensures reply { IfOk result (λ v. v.items ≡ written_with reply (answer (S.stock store.old) (asks.Revoke uid.now code)).0 now) }
-    ensures after { OnOk result (S.stock store.new ≡ (answer (S.stock store.old) (asks.Revoke uid.now code)).1) }
+    ensures reply { IfOk result (λ v. v.items
+        ≡ written_with reply (answer (S.stock store.old) (asks.Revoke uid.now code)).0 now) }
+    ensures after { OnOk result (S.stock store.new
+        ≡ (answer (S.stock store.old) (asks.Revoke uid.now code)).1) }
     ensures same { OnErr result (S.stock store.new ≡ S.stock store.old) }
 {
     if is_compromise(code) {
@@ -266,8 +276,10 @@ fn destroy<S: Records>(
     requires uid { IsTrue (is_identifier uid.now) }
     requires id { IsTrue (option_map_or is_batch_id reply.id true) }
     requires operation { reply.operation ≡ Some OPERATION_DESTROY }
-    ensures reply { IfOk result (λ v. v.items ≡ written_with reply (answer (S.stock store.old) (asks.Destroy uid.now)).0 now) }
-    ensures after { OnOk result (S.stock store.new ≡ (answer (S.stock store.old) (asks.Destroy uid.now)).1) }
+    ensures reply { IfOk result (λ v. v.items
+        ≡ written_with reply (answer (S.stock store.old) (asks.Destroy uid.now)).0 now) }
+    ensures after { OnOk result (S.stock store.new
+        ≡ (answer (S.stock store.old) (asks.Destroy uid.now)).1) }
     ensures same { OnErr result (S.stock store.new ≡ S.stock store.old) }
 {
     reply.outcome = Outcome::Destroyed(Text::copied(alloc, uid)?);

@@ -1,6 +1,8 @@
 //! A server over the records of one store.
 ghost use Rattle.std.specs.Prelude.{◌≡◌, OnErr, OnOk, IfOk};
 ghost use Rattle.kmip_server.specs.Serving.{reply_bytes, stock_after};
+ghost use Rattle.kmip_server.specs.Shown.{HasLawfulObjects};
+ghost use Rattle.kmip_store.specs.Stock.{IsKept};
 
 use crate::answering::{answer, refuse_message};
 use kmip_messages::read_request;
@@ -27,15 +29,21 @@ impl<S: Records> Model for Server<S> {
 impl<S: Records> Server<S> {
     /// A server over the records that the store has.
     pub fn new(store: S) -> Self
-        ensures { result ≡ S.stock store }
+        ensures records { result ≡ S.stock store }
+        ensures kept { IsKept result.rows result.room }
+        ensures objects { HasLawfulObjects result }
     {
+        let _count = store.count();
         Server { store }
     }
 
     /// The records.
     pub fn records(&self) -> &S
-        ensures { S.stock result.now ≡ self.now }
+        ensures records { S.stock result.now ≡ self.now }
+        ensures kept { IsKept self.now.rows self.now.room }
+        ensures objects { HasLawfulObjects self.now }
     {
+        let _count = self.store.count();
         &self.store
     }
 
@@ -44,8 +52,30 @@ impl<S: Records> Server<S> {
     ///
     /// # Errors
     /// Where there is no memory; the records are then as they were.
-    #[tactic(auto, unfolding(crate::specs::Serving::reply_bytes, crate::specs::Serving::stock_after))]
     pub fn handle(&mut self, alloc: Global, message: &[u8], now: i64) -> Result<Vec<u8>, NoMemory>
+        ensures reply { IfOk result (λ r. r.items ≡ reply_bytes self.old message.now now) }
+        ensures after { OnOk result (self.new ≡ stock_after self.old message.now) }
+        ensures same { OnErr result (self.new ≡ self.old) }
+        ensures room { self.new.room ≡ self.old.room }
+        ensures kept_before { IsKept self.old.rows self.old.room }
+        ensures kept { IsKept self.new.rows self.new.room }
+        ensures objects_before { HasLawfulObjects self.old }
+        ensures objects { HasLawfulObjects self.new }
+    {
+        let _before = self.store.count();
+        let reply = self.handle_message(alloc, message, now);
+        let _after = self.store.count();
+        reply
+    }
+
+    /// The same, of the reply and the records alone.
+    #[tactic(auto, unfolding(crate::specs::Serving::reply_bytes, crate::specs::Serving::stock_after))]
+    fn handle_message(
+        &mut self,
+        alloc: Global,
+        message: &[u8],
+        now: i64,
+    ) -> Result<Vec<u8>, NoMemory>
         ensures reply { IfOk result (λ r. r.items ≡ reply_bytes self.old message.now now) }
         ensures after { OnOk result (self.new ≡ stock_after self.old message.now) }
         ensures same { OnErr result (self.new ≡ self.old) }

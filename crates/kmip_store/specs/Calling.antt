@@ -1,8 +1,7 @@
 -- What a list of calls answers, and what the records hold behind it: both follow from the records before it, whatever keeps
 -- them.
 -- Source: own: what the law of two stores says.
-use Rattle.std.specs.Prelude.{◌≡◌, ℕ, ◌+◌, Bool, true, List, [], ◌∷◌, length, take, Result, Ok, Err}
-use Rattle.std.specs.Fmt.{decimal}
+use Rattle.std.specs.Prelude.{◌≡◌, ℕ, Bool, true, List, [], ◌∷◌, length, take, Result, Ok, Err}
 use Rattle.std.specs.List.{slice_get}
 use Rattle.std.specs.Option.{is_some}
 use Rattle.kmip_messages.specs.Ranges.{attrs_fit}
@@ -12,7 +11,7 @@ use Rattle.kmip_store.specs.declared.calling.Answer.TheVariants as answers
 use Rattle.kmip_store.specs.declared.calling.Call.{Call}
 use Rattle.kmip_store.specs.declared.calling.Call.TheVariants.{Create, Locate, Find, Activate, Revoke, Destroy, Count, At}
 use Rattle.kmip_store.specs.declared.fault.StoreFault.{StoreFault}
-use Rattle.kmip_store.specs.Stock.{Stock, create, objects_of}
+use Rattle.kmip_store.specs.Stock.{Stock, create, identifier_at, objects_of}
 use Rattle.kmip_store.specs.Stepping.{row_with, take_step}
 use Rattle.kmip_store.specs.Locating.{locate}
 
@@ -34,7 +33,7 @@ stock_of before (Err fault) = before
 
 -- what a call answers
 abbrev pub answer_to : Call → Stock → Answer
-answer_to (Create attrs) s = answer_of (answers.Created (decimal (length s.rows + 1))) (create attrs s)
+answer_to (Create attrs) s = answer_of (answers.Created (identifier_at (length s.rows))) (create attrs s)
 answer_to (Locate mask filter) s = answers.Located (slice_get (locate mask filter (objects_of s.rows)) 0)
 answer_to (Find uid) s = answers.Found (row_with uid s.rows)
 answer_to (Activate uid) s = answer_of answers.Moved (take_step steps.Activate uid s)
