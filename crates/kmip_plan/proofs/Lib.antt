@@ -1,5 +1,7 @@
 pub mod TableLemmas
 pub mod ChainLemmas
+pub mod PlaceLemmas
+pub mod NameLemmas
 pub mod WordLemmas
 pub mod FieldLemmas
 pub mod PlanLemmas

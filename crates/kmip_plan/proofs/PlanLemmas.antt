@@ -1,9 +1,9 @@
 -- A plan is read from a table just where the table is that plan.
-use Rattle.std.proofs.Common.{◌≡◌, ℕ, zero, suc, ℤ, ◌+◌, ◌≤◌, Bool, true, false, not, ◌&&◌, ◌||◌, ◌==◌, nat_le, List, [], ◌∷◌, ◌++◌, length, codes, Option, Some, None, Result, Ok, Err, IfOk, IfSome, Bor, if◌then◌else◌, subst, refl, sym, ap, ◌∙◌, append_assoc, arith}
-use Rattle.std.proofs.lemmas.Bool.{and_parts, leb-true, le-leb}
+use Rattle.std.proofs.Common.{◌≡◌, ℕ, ℤ, ◌+◌, ◌≤◌, Bool, true, false, not, ◌&&◌, ◌||◌, ◌==◌, nat_le, List, [], ◌∷◌, ◌++◌, length, codes, Option, Some, None, Result, Ok, Err, IfOk, if◌then◌else◌, subst, refl, sym, ap, ◌∙◌, append_assoc, arith}
+use Rattle.std.proofs.lemmas.Bool.{leb-true, le-leb}
 use Rattle.std.proofs.lemmas.List.{append-nil}
-use Rattle.std.specs.List.{list_all, slice_get}
-use Rattle.std.specs.Option.{option_and_then, option_copied}
+use Rattle.std.specs.List.{list_all}
+use Rattle.std.specs.Option.{option_and_then}
 use Rattle.kmip_messages.specs.Ranges.{is_name, is_length}
 use Rattle.kmip_messages.proofs.Laws.{Reads, reads-ok, reads-bind, reads-as}
 use Rattle.toml.specs.Data.{Data, Items, no_items, item, Members, get_member, as_str, as_integer, as_array}
@@ -15,6 +15,7 @@ use Rattle.kmip_plan.specs.declared.key.Key.{Key}
 use Rattle.kmip_plan.specs.declared.target.Target.{Target}
 use Rattle.kmip_plan.specs.Chains.{is_revoked}
 use Rattle.kmip_plan.specs.Fields.{name_of, algorithm_of, length_of, usage_of, target_of, reason_in, reason_of}
+use Rattle.kmip_plan.specs.Limits.{most_keys}
 use Rattle.kmip_plan.specs.Plans.{IsKey, AreKeys, HaveNewNames, IsPlan, key_fits, IsLawful}
 use Rattle.kmip_plan.specs.Reading.{has_key_named, all_there, suite_of, key_in, keys_in, plan_in, plan_read, GivesPlan}
 use Rattle.kmip_plan.specs.Tables.{text_at, integer_at, array_at, fields_of, is_top_field, is_key_field, has_only, count}
@@ -233,7 +234,7 @@ plan-law ms = reads-as (plan_in ms) _ (IsPlan ms)
       stands = p.2.1;
       each = p.2.2.2.2.each;
       some = subst (λ n. 1 ≤ n) many (leb-true 1 (count p.2.0) p.2.2.1);
-      few = subst (λ n. n ≤ 1000) many (leb-true (count p.2.0) 1000 p.2.2.2.1);
+      few = subst (λ n. n ≤ most_keys) many (leb-true (count p.2.0) most_keys p.2.2.2.1);
       distinct = p.2.2.2.2.new;
     }))
     (λ a p.
@@ -248,7 +249,7 @@ plan-law ms = reads-as (plan_in ms) _ (IsPlan ms)
           le-leb 1 (count p.items) (subst (λ n. 1 ≤ n) many p.some),
           (
             tt,
-            le-leb (count p.items) 1000 (subst (λ n. n ≤ 1000) many p.few),
+            le-leb (count p.items) most_keys (subst (λ n. n ≤ most_keys) many p.few),
             record { keys = a; behind = refl; each = p.each; new = p.distinct },
           ),
         ),
@@ -257,7 +258,7 @@ plan-law ms = reads-as (plan_in ms) _ (IsPlan ms)
     (reads-bind _ _ _ _ (reads-only 0 is_top_field ms) (λ known.
     reads-bind _ _ _ _ (reads-need faults.NoKeys (array_at (codes "key") ms)) (λ items.
     reads-bind _ _ _ _ (reads-guard faults.NoKeys (nat_le 1 (count items))) (λ some.
-    reads-bind _ _ _ _ (reads-guard faults.TooMany (nat_le (count items) 1000)) (λ few.
+    reads-bind _ _ _ _ (reads-guard faults.TooMany (nat_le (count items) most_keys)) (λ few.
     keys-law [] items)))))
 
 -- ---- the text
@@ -315,11 +316,3 @@ pub plan_lawful : (text : List ℕ) (keys : List Key) → plan_read text ≡ Ok 
 plan_lawful text keys e =
     let plan = (plan_found text keys e).2 in
     record { some = plan.some; few = plan.few; distinct = plan.distinct; fit = keys_lawful plan.items keys plan.each }
-
-pub key_at : (keys : List Key) (place : ℕ) (r : Option (Bor Key)) → option_copied r ≡ slice_get keys place → list_all key_fits keys ≡ true
-    → IfSome r (λ k. key_fits k.now ≡ true)
-key_at [] place None e fit = tt
-key_at [] place (Some k) e fit = absurd cc
-key_at (key ∷ keys) zero None e fit = tt
-key_at (key ∷ keys) zero (Some k) e fit = ap key_fits (same_some k.now key e) ∙ (and_parts (key_fits key) (list_all key_fits keys) fit).0
-key_at (key ∷ keys) (suc place) r e fit = key_at keys place r e (and_parts (key_fits key) (list_all key_fits keys) fit).1

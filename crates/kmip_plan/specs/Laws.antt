@@ -1,12 +1,18 @@
--- What holds of the five chains.
--- Source: own: what the laws of the chains say.
-use Rattle.std.specs.Prelude.{◌≡◌, ◌≤◌, ℕ, suc, List, Some, None}
+-- What holds of the five chains, and of the keys of every plan.
+-- Source: own: what the laws of the chains and of the keys say.
+use Rattle.std.specs.Prelude.{◌≡◌, ◌≢◌, ◌≤◌, ◌<◌, ◌+◌, ℕ, suc, true, false, List, [], ◌∷◌, ◌++◌, length, take, Some, None, MatchOption}
+use Rattle.std.specs.List.{slice_get}
 use Rattle.kmip_messages.specs.Lifecycle.{after}
+use Rattle.kmip_messages.specs.Ranges.{is_compromise}
 use Rattle.kmip_messages.specs.States.{state_number}
 use Rattle.kmip_messages.specs.declared.state.KeyState.{KeyState}
+use Rattle.kmip_messages.specs.declared.state.KeyState.TheVariants.{PreActive}
 use Rattle.kmip_messages.specs.declared.step.Step.{Step}
+use Rattle.kmip_messages.specs.declared.step.Step.TheVariants.{Create, Revoke}
+use Rattle.kmip_plan.specs.declared.key.Key.{Key}
 use Rattle.kmip_plan.specs.declared.target.Target.{Target}
-use Rattle.kmip_plan.specs.Chains.{step_at, state_after, moved_by, place_of}
+use Rattle.kmip_plan.specs.Chains.{chain, states, step_at, state_after, moved_by, place_of, place_reached, step_place, is_revoked, key_bound, bound}
+use Rattle.kmip_plan.specs.Plans.{IsLawful, EachFits, key_fits, key_named, IsPlanned}
 use Rattle.kmip_plan.specs.Words.{target_word, target_of_word}
 
 -- a step stands at one place, and so does a state
@@ -40,3 +46,113 @@ abbrev pub TargetsAndWords : Type 0
 TargetsAndWords =
     (target : Target) (word : List ℕ)
     → ((target_of_word word ≡ Some target) → (word ≡ target_word target)) × ((word ≡ target_word target) → (target_of_word word ≡ Some target))
+
+-- the place of a step and the step at a place lead to one another
+abbrev pub PlacesAndSteps : Type 0
+PlacesAndSteps =
+    (target : Target) (place : ℕ) (step : Step) → 1 ≤ place
+    → ((step_at target place ≡ Some step) → (step_place target step ≡ place))
+    × ((step_place target step ≡ place) → (step_at target place ≡ Some step))
+
+-- a chain has a step at each place from 1 to its length, and at no other
+abbrev pub StepsStandFromOne : Type 0
+StepsStandFromOne =
+    (target : Target) (place : ℕ)
+    → (1 ≤ place → place ≤ length (chain target) → (step : Step) × (step_at target place ≡ Some step))
+    × ((step : Step) → step_at target place ≡ Some step → (1 ≤ place) × (place ≤ length (chain target)))
+
+-- no step has a place behind the end of the chain
+abbrev pub StepsAreWithin : Type 0
+StepsAreWithin = (target : Target) (step : Step) → step_place target step ≤ length (chain target)
+
+-- as long as the chain has more than so many steps, the next one has the next place
+abbrev pub NextStepsStand : Type 0
+NextStepsStand =
+    (target : Target) (done : ℕ) → done < length (chain target)
+    → (step : Step) × (step_at target (done + 1) ≡ Some step) × (step_place target step ≡ done + 1)
+
+-- the first step is Create, and no other is
+abbrev pub CreateIsFirst : Type 0
+CreateIsFirst =
+    (target : Target) (place : ℕ)
+    → ((step_at target place ≡ Some Create) → (place ≡ 1)) × ((place ≡ 1) → (step_at target place ≡ Some Create))
+
+-- a chain with a Revoke is that of a target that is revoked
+abbrev pub RevokesAreOfTheRevoked : Type 0
+RevokesAreOfTheRevoked = (target : Target) (place : ℕ) → step_at target place ≡ Some Revoke → is_revoked target ≡ true
+
+-- there are as many states on the way as steps
+abbrev pub StatesAreAsMany : Type 0
+StatesAreAsMany = (target : Target) → length (states target) ≡ length (chain target)
+
+-- there is a state after each number of steps from 1 to the length of the chain, and after no other
+abbrev pub StatesStandFromOne : Type 0
+StatesStandFromOne =
+    (target : Target) (steps : ℕ)
+    → (1 ≤ steps → steps ≤ length (chain target) → (state : KeyState) × (state_after target steps ≡ Some state))
+    × ((state : KeyState) → state_after target steps ≡ Some state → (1 ≤ steps) × (steps ≤ length (chain target)))
+
+-- the place of a state, by its number, is one of the chain
+abbrev pub PlacesAreWithin : Type 0
+PlacesAreWithin =
+    (target : Target) (number place : ℕ) → place_of target number ≡ Some place → (1 ≤ place) × (place ≤ length (chain target))
+
+-- no state is further than the end of the chain
+abbrev pub ReachedIsWithin : Type 0
+ReachedIsWithin = (target : Target) (state : KeyState) → place_reached target state ≤ length (chain target)
+
+-- a key that is just made has come one step
+abbrev pub PreActiveIsFirst : Type 0
+PreActiveIsFirst = (target : Target) → place_reached target PreActive ≡ 1
+
+-- A step after Create that is due, all steps before it having been done, is either no row of the lifecycle, or is the next
+-- step and leads to the next place.
+abbrev pub DueStepsAdvance : Type 0
+DueStepsAdvance =
+    (target : Target) (old : KeyState) (step : Step)
+    → 1 < step_place target step → step_place target step ≤ place_reached target old + 1 → 1 ≤ place_reached target old
+    → MatchOption (after old step) (Unit {0}) (λ new.
+    (step_place target step ≡ place_reached target old + 1) × (place_reached target new ≡ place_reached target old + 1))
+
+-- the next step of the chain is a row of the lifecycle
+abbrev pub NextStepsAreRows : Type 0
+NextStepsAreRows =
+    (target : Target) (old : KeyState) (step : Step)
+    → 1 < step_place target step → step_place target step ≡ place_reached target old + 1 → 1 ≤ place_reached target old
+    → after old step ≢ None
+
+-- a step that is due, where the lifecycle has it, is the one behind the steps that were done
+abbrev pub DueStepsJoinTheDone : Type 0
+DueStepsJoinTheDone =
+    (target : Target) (old new : KeyState) (step : Step)
+    → 1 < step_place target step → step_place target step ≤ place_reached target old + 1 → 1 ≤ place_reached target old
+    → after old step ≡ Some new
+    → take (place_reached target new) (chain target) ≡ take (place_reached target old) (chain target) ++ step ∷ []
+
+-- what stands at a place of a lawful plan is found by its name
+abbrev pub KeysAreFound : Type 0
+KeysAreFound = (keys : List Key) (place : ℕ) (key : Key) → IsLawful keys → slice_get keys place ≡ Some key → IsPlanned keys key
+
+-- what is found has the name, and stands at a place
+abbrev pub FoundKeysStand : Type 0
+FoundKeysStand =
+    (keys : List Key) (name : List ℕ) (key : Key) → key_named name keys ≡ Some key
+    → (key.attrs.name ≡ name) × ((place : ℕ) × (slice_get keys place ≡ Some key))
+
+-- the keys of a lawful plan at two places have two names
+abbrev pub NamesAreDistinct : Type 0
+NamesAreDistinct =
+    (keys : List Key) (i j : ℕ) (key other : Key) → IsLawful keys → slice_get keys i ≡ Some key → slice_get keys j ≡ Some other
+    → key.attrs.name ≡ other.attrs.name → i ≡ j
+
+-- each key of a lawful plan has its values in range
+abbrev pub KeysFit : Type 0
+KeysFit = (keys : List Key) → IsLawful keys → EachFits keys
+
+-- a key is never revoked because others may know it
+abbrev pub ReasonsAreNoCompromise : Type 0
+ReasonsAreNoCompromise = (key : Key) → key_fits key ≡ true → is_compromise key.reason ≡ false
+
+-- what a run takes at most is what its keys take, one after the other
+abbrev pub BoundsAddUp : Type 0
+BoundsAddUp = (bound [] ≡ 0) × ((key : Key) (keys : List Key) → bound (key ∷ keys) ≡ key_bound key + bound keys)

@@ -1,6 +1,7 @@
 pub mod Words
 pub mod Chains
 pub mod Faults
+pub mod Limits
 pub mod Tables
 pub mod Fields
 pub mod Reading

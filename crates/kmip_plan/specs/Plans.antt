@@ -1,16 +1,17 @@
 -- What a plan is, without a word of the order in which it is read.
 -- Source: TOML 1.1, Table and Array of Tables; the fields and their values are own.
-use Rattle.std.specs.Prelude.{◌≡◌, ◌≤◌, ℕ, ℤ, pos, Bool, true, false, ◌&&◌, ◌||◌, ◌==◌, List, [], ◌∷◌, ◌++◌, length, codes, Some, if◌then◌else◌}
-use Rattle.std.specs.List.{list_all}
+use Rattle.std.specs.Prelude.{◌≡◌, ◌≤◌, ℕ, ℤ, pos, Bool, true, false, ◌&&◌, ◌||◌, ◌==◌, List, [], ◌∷◌, ◌++◌, length, codes, Option, Some, if◌then◌else◌}
+use Rattle.std.specs.List.{find, list_all, slice_get}
 use Rattle.kmip_messages.specs.Ranges.{is_name, is_length, is_usage, attrs_fit}
 use Rattle.toml.specs.Data.{Items, no_items, item, Members}
 use Rattle.kmip_plan.specs.declared.key.Key.{Key}
 use Rattle.kmip_plan.specs.declared.target.Target.{Target}
 use Rattle.kmip_plan.specs.Chains.{is_revoked}
 use Rattle.kmip_plan.specs.Fields.{are_once, mask_of, reason_of}
+use Rattle.kmip_plan.specs.Limits.{most_keys}
 use Rattle.kmip_plan.specs.Reading.{has_key_named}
 use Rattle.kmip_plan.specs.Tables.{text_at, integer_at, array_at, fields_of, is_top_field, is_key_field, has_only, all_words}
-use Rattle.kmip_plan.specs.Words.{target_word, algorithm_word, is_usage_word}
+use Rattle.kmip_plan.specs.Words.{is_text, target_word, algorithm_word, is_usage_word}
 
 -- the array has each usage word of a mask once, no other words, and at least one
 pub record IsUsage (ms : Members) (mask : ℤ) : Type 0 where
@@ -58,7 +59,7 @@ pub record IsPlan (ms : Members) (keys : List Key) : Type 0 where
   pub stands : array_at (codes "key") ms ≡ Some items
   pub each : AreKeys items keys
   pub some : 1 ≤ length keys
-  pub few : length keys ≤ 1000
+  pub few : length keys ≤ most_keys
   pub distinct : HaveNewNames [] keys
 
 -- the reason of a Revoke that is no compromise, and 0 where the chain has no Revoke
@@ -72,6 +73,18 @@ key_fits key = attrs_fit key.attrs && reason_fits key.target key.reason
 -- what holds of the keys of every plan
 pub record IsLawful (keys : List Key) : Type 0 where
   pub some : 1 ≤ length keys
-  pub few : length keys ≤ 1000
+  pub few : length keys ≤ most_keys
   pub distinct : HaveNewNames [] keys
   pub fit : list_all key_fits keys ≡ true
+
+-- the key at each place has its values in range
+abbrev pub EachFits : List Key → Type 0
+EachFits keys = (place : ℕ) (key : Key) → slice_get keys place ≡ Some key → key_fits key ≡ true
+
+-- the key with the name
+abbrev pub key_named : List ℕ → List Key → Option Key
+key_named name keys = find (λ k. is_text name k.attrs.name) keys
+
+-- the key is the one that these keys have under its name
+abbrev pub IsPlanned : List Key → Key → Type 0
+IsPlanned keys key = key_named key.attrs.name keys ≡ Some key

@@ -10,6 +10,7 @@ use Rattle.kmip_plan.specs.declared.fault.PlanFault.{PlanFault}
 use Rattle.kmip_plan.specs.declared.fault.PlanFault.TheVariants.{Toml, NoKeys, TooMany, Missing, Unknown, BadName, BadLength, BadUsage, BadTarget, BadReason, SameName, NoMemory}
 use Rattle.kmip_plan.specs.declared.key.Key.{Key}
 use Rattle.kmip_plan.specs.Fields.{name_of, algorithm_of, length_of, usage_of, target_of, reason_of}
+use Rattle.kmip_plan.specs.Limits.{most_keys}
 use Rattle.kmip_plan.specs.Tables.{array_at, fields_of, is_top_field, is_key_field, first_other, count}
 use Rattle.kmip_plan.specs.Words.{is_text}
 
@@ -72,7 +73,7 @@ plan_in ms = do
   known ← none_other 0 (first_other is_top_field ms)
   items ← need NoKeys (array_at (codes "key") ms)
   some ← guard NoKeys (nat_le 1 (count items))
-  few ← guard TooMany (nat_le (count items) 1000)
+  few ← guard TooMany (nat_le (count items) most_keys)
   keys_in [] items
 
 -- the plan that a text is

@@ -2,7 +2,7 @@
 ghost use Rattle.std.specs.Prelude.{◌≡◌, ◌≤◌, ◌==◌, length};
 ghost use Rattle.std.specs.List.{position};
 ghost use Rattle.kmip_messages.specs.States.{state_number};
-ghost use Rattle.kmip_plan.specs.Chains.{chain, states, step_at, state_after, place_of, is_revoked};
+ghost use Rattle.kmip_plan.specs.Chains.{chain, states, step_at, state_after, place_of, step_place, is_revoked};
 
 use crate::key::Key;
 use crate::target::Target;
@@ -37,8 +37,8 @@ pub fn state_after(key: &Key, steps: usize) -> Option<KeyState>
     states_to(key.target).get(steps - 1).copied()
 }
 
-/// After how many steps the key is in the state of this number, where its way leads through that state.
-/// Takes no memory.
+/// After how many steps the key is in the state of this number, where its way leads through that
+/// state. Takes no memory.
 pub fn place_of(key: &Key, state: u32) -> Option<usize>
     ensures { result ≡ place_of key.now.target state }
 {
@@ -53,6 +53,23 @@ fn index_of(states: &[KeyState], number: u32) -> Option<usize>
     ensures { result ≡ position (λ state. state_number state == number) states.now }
 {
     states.iter().position(|state| state.number() == number)
+}
+
+/// The place of the step in the key's chain, from 1; 0 where the chain does not have it. Takes no
+/// memory.
+pub fn step_place(key: &Key, step: Step) -> usize
+    ensures place { result ≡ step_place key.now.target step }
+    ensures stands { 1 ≤ result → step_at key.now.target result ≡ Some step }
+    ensures within { result ≤ length (chain key.now.target) }
+{
+    match (step, key.target) {
+        (Step::Create, _) => 1,
+        (Step::Activate, Target::Active | Target::Revoked | Target::Destroyed) => 2,
+        (Step::Revoke, Target::Revoked | Target::Destroyed) => 3,
+        (Step::Destroy, Target::Destroyed) => 4,
+        (Step::Destroy, Target::Discarded) => 2,
+        _ => 0,
+    }
 }
 
 /// Whether a Revoke leads to the target.

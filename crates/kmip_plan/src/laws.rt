@@ -1,4 +1,5 @@
-//! What holds of the five chains, each as the contract of a function that does nothing.
+//! What holds of the five chains and of the keys of every plan, each as the contract of a function
+//! that does nothing.
 ghost use Rattle.kmip_plan.specs.Laws.{
   StepsAreDistinct,
   StatesAreDistinct,
@@ -6,6 +7,26 @@ ghost use Rattle.kmip_plan.specs.Laws.{
   DoneStepsAreNoRows,
   PlacesAndStates,
   TargetsAndWords,
+  PlacesAndSteps,
+  StepsStandFromOne,
+  StepsAreWithin,
+  NextStepsStand,
+  CreateIsFirst,
+  RevokesAreOfTheRevoked,
+  StatesAreAsMany,
+  StatesStandFromOne,
+  PlacesAreWithin,
+  ReachedIsWithin,
+  PreActiveIsFirst,
+  DueStepsAdvance,
+  NextStepsAreRows,
+  DueStepsJoinTheDone,
+  KeysAreFound,
+  FoundKeysStand,
+  NamesAreDistinct,
+  KeysFit,
+  ReasonsAreNoCompromise,
+  BoundsAddUp,
 };
 
 /// No step stands in a chain twice.
@@ -36,4 +57,51 @@ pub fn places_and_states()
 /// Each target has one word.
 pub fn targets_and_words()
     ensures { TargetsAndWords }
+{}
+
+/// Where the steps of a chain stand: one at each place from 1 to its length, Create at the first
+/// and nowhere else, and a Revoke only where the target is revoked.
+pub fn steps_have_places()
+    ensures places { PlacesAndSteps }
+    ensures from_one { StepsStandFromOne }
+    ensures within { StepsAreWithin }
+    ensures next { NextStepsStand }
+    ensures create { CreateIsFirst }
+    ensures revoke { RevokesAreOfTheRevoked }
+{}
+
+/// How far a key in a state has come: there is a state after each of its steps, and Pre-Active is
+/// the first.
+pub fn states_have_places()
+    ensures as_many { StatesAreAsMany }
+    ensures from_one { StatesStandFromOne }
+    ensures within { PlacesAreWithin }
+    ensures reached { ReachedIsWithin }
+    ensures first { PreActiveIsFirst }
+{}
+
+/// A step that is due leads a key to the next place of its chain, or the lifecycle does not have
+/// it; and the lifecycle has the next step.
+pub fn due_steps_advance()
+    ensures advance { DueStepsAdvance }
+    ensures row { NextStepsAreRows }
+    ensures join { DueStepsJoinTheDone }
+{}
+
+/// A plan's key is found by its name, which no other key of the plan has.
+pub fn keys_have_names()
+    ensures found { KeysAreFound }
+    ensures stand { FoundKeysStand }
+    ensures distinct { NamesAreDistinct }
+{}
+
+/// A plan's keys have their values in range, and no key is revoked as compromised.
+pub fn keys_fit()
+    ensures fit { KeysFit }
+    ensures reasons { ReasonsAreNoCompromise }
+{}
+
+/// The bound of a plan is the sum of those of its keys.
+pub fn bounds_add_up()
+    ensures { BoundsAddUp }
 {}

@@ -6,14 +6,14 @@ mod counts;
 mod fault;
 mod fields;
 mod key;
-mod laws;
+pub mod laws;
 mod plan;
 mod reading;
 mod tables;
 mod target;
 mod words;
 
-pub use chains::{chain, chain_length, place_of, state_after};
+pub use chains::{chain, chain_length, place_of, state_after, step_place};
 pub use fault::{Field, PlanFault};
 pub use key::Key;
 pub use kmip_messages::Step;

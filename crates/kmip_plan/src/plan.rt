@@ -1,9 +1,10 @@
 //! The keys of a plan.
-ghost use Rattle.std.specs.Prelude.{◌≡◌, ◌≤◌, length, IfSome, IsTrue};
+ghost use Rattle.std.specs.Prelude.{◌≡◌, ◌≤◌, ◌*◌, length, IfSome, IsTrue};
 ghost use Rattle.std.specs.List.{slice_get};
 ghost use Rattle.std.specs.Option.{option_copied};
 ghost use Rattle.kmip_plan.specs.Chains.{bound};
-ghost use Rattle.kmip_plan.specs.Plans.{IsLawful, key_fits};
+ghost use Rattle.kmip_plan.specs.Limits.{most_keys};
+ghost use Rattle.kmip_plan.specs.Plans.{IsLawful, EachFits, key_fits, key_named};
 
 use crate::chains::chain_length;
 use crate::key::Key;
@@ -53,6 +54,25 @@ impl Plan {
     {
         key_at(self.keys.as_slice(), place)
     }
+
+    /// The keys in their order, each with its name, its attributes and its reason in range. Takes
+    /// no memory.
+    pub fn keys(&self) -> &[Key]
+        ensures value { result.now ≡ self.now }
+        ensures lawful { IsLawful self.now }
+        ensures fits { EachFits result.now }
+    {
+        self.keys.as_slice()
+    }
+
+    /// The key with the name. Takes no memory.
+    pub fn key_named(&self, name: &str) -> Option<&Key>
+        ensures key { option_copied result ≡ key_named name.now self.now }
+        ensures lawful { IsLawful self.now }
+        ensures fits { IfSome result (λ key. IsTrue (key_fits key.now)) }
+    {
+        named(self.keys.as_slice(), name)
+    }
 }
 
 fn key_at(keys: &[Key], place: usize) -> Option<&Key>
@@ -61,18 +81,24 @@ fn key_at(keys: &[Key], place: usize) -> Option<&Key>
     keys.get(place)
 }
 
+fn named<'a>(keys: &'a [Key], name: &str) -> Option<&'a Key>
+    ensures { option_copied result ≡ key_named name.now keys.now }
+{
+    keys.iter().find(|key| name == key.attrs.name.as_str())
+}
+
 /// The sum over the keys of the steps of each, and two more. Takes no memory.
 pub fn bound(plan: &Plan) -> usize
     ensures bound { result ≡ bound plan.now }
-    ensures small { result ≤ 6000 }
+    ensures small { result ≤ 6 * most_keys }
 {
     bound_of(plan.keys.as_slice())
 }
 
 fn bound_of(keys: &[Key]) -> usize
-    requires { length keys.now ≤ 1000 }
+    requires { length keys.now ≤ most_keys }
     ensures bound { result ≡ bound keys.now }
-    ensures small { result ≤ 6000 }
+    ensures small { result ≤ 6 * most_keys }
 {
     let mut total = 0;
     for key in keys {

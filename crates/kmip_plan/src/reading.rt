@@ -29,8 +29,11 @@ const KEYS_MAX: usize = 1000;
 /// # Errors
 /// The first fault in the order of the checks; want of memory otherwise.
 pub fn read_plan(alloc: Global, text: &str) -> Result<Plan, PlanFault>
-    ensures found { IfOk result (λ plan. (ms : Members) × (parse_document text.now ≡ Some ms) × IsPlan ms plan) }
-    ensures only { (ms : Members) (keys : List Key) → parse_document text.now ≡ Some ms → IsPlan ms keys → GivesPlan (λ plan. plan) result (Ok keys) }
+    ensures found { IfOk result (λ plan.
+        (ms : Members) × (parse_document text.now ≡ Some ms) × IsPlan ms plan) }
+    ensures only { (ms : Members) (keys : List Key)
+        → parse_document text.now ≡ Some ms → IsPlan ms keys
+        → GivesPlan (λ plan. plan) result (Ok keys) }
     ensures exact { GivesPlan (λ plan. plan) result (plan_read text.now) }
 {
     whole_plan(alloc, text)
@@ -156,7 +159,8 @@ fn check_fields(table: &Table, place: usize) -> Result<(), PlanFault>
 
 /// The field is there.
 fn require<'a>(table: &'a Table, field: Field, place: usize) -> Result<&'a Value, PlanFault>
-    ensures { GivesPlan (λ value. view value.now) result (need (PlanFault.Missing field place) (get_member (field_word field) (table_view table.now))) }
+    ensures { GivesPlan (λ value. view value.now) result
+        (need (PlanFault.Missing field place) (get_member (field_word field) (table_view table.now))) }
 {
     match value_at(table, field.word()) {
         Some(value) => Ok(value),
@@ -166,7 +170,8 @@ fn require<'a>(table: &'a Table, field: Field, place: usize) -> Result<&'a Value
 
 /// There is no other field.
 fn check_other(alloc: Global, other: Option<&str>, place: usize) -> Result<(), PlanFault>
-    ensures { GivesPlan (λ u. u) result (none_other place (option_map (λ word. word.now) other.entry)) }
+    ensures { GivesPlan (λ u. u) result
+        (none_other place (option_map (λ word. word.now) other.entry)) }
 {
     match other {
         Some(word) => {

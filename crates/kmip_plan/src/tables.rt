@@ -12,7 +12,8 @@ use toml::{Table, Value};
 
 /// The value at a key.
 pub(crate) fn value_at<'a>(table: &'a Table, key: &str) -> Option<&'a Value>
-    ensures { option_map (λ value. view value.now) result ≡ get_member key.now (table_view table.now) }
+    ensures { option_map (λ value. view value.now) result
+        ≡ get_member key.now (table_view table.now) }
 {
     table.get(key)
 }
@@ -39,7 +40,8 @@ pub(crate) fn integer_at(table: &Table, key: &str) -> Option<i64>
 
 /// The array at a key; a value of another type is none.
 pub(crate) fn array_at<'a>(table: &'a Table, key: &str) -> Option<&'a Array>
-    ensures { option_map (λ array. array_view array.now) result ≡ array_at key.now (table_view table.now) }
+    ensures { option_map (λ array. array_view array.now) result
+        ≡ array_at key.now (table_view table.now) }
 {
     match value_at(table, key) {
         Some(value) => value.as_array(),
@@ -49,7 +51,8 @@ pub(crate) fn array_at<'a>(table: &'a Table, key: &str) -> Option<&'a Array>
 
 /// The first key beside the array of keys.
 pub(crate) fn other_top_field(table: &Table) -> Option<&str>
-    ensures { option_map (λ word. word.now) result ≡ first_other is_top_field (table_view table.now) }
+    ensures { option_map (λ word. word.now) result
+        ≡ first_other is_top_field (table_view table.now) }
 {
     match other_top(table) {
         Some(word) => Some(word.as_str()),
@@ -59,7 +62,8 @@ pub(crate) fn other_top_field(table: &Table) -> Option<&str>
 
 /// The first key of the table that no key of a plan has.
 pub(crate) fn other_key_field(table: &Table) -> Option<&str>
-    ensures { option_map (λ word. word.now) result ≡ first_other is_key_field (table_view table.now) }
+    ensures { option_map (λ word. word.now) result
+        ≡ first_other is_key_field (table_view table.now) }
 {
     match other_key(table) {
         Some(word) => Some(word.as_str()),
@@ -68,13 +72,15 @@ pub(crate) fn other_key_field(table: &Table) -> Option<&str>
 }
 
 fn other_top(table: &Table) -> Option<&String>
-    ensures { option_copied result ≡ find (λ word. not (is_top_field (string_bytes word))) (keys_of table.now.entries) }
+    ensures { option_copied result
+        ≡ find (λ word. not (is_top_field (string_bytes word))) (keys_of table.now.entries) }
 {
     table.keys().find(|word| !is_top_field(word.as_str()))
 }
 
 fn other_key(table: &Table) -> Option<&String>
-    ensures { option_copied result ≡ find (λ word. not (is_key_field (string_bytes word))) (keys_of table.now.entries) }
+    ensures { option_copied result
+        ≡ find (λ word. not (is_key_field (string_bytes word))) (keys_of table.now.entries) }
 {
     table.keys().find(|word| !is_key_field(word.as_str()))
 }

@@ -25,7 +25,7 @@ pub use fault::{NoMemory, TtlvFault};
 pub use fitting::fits;
 pub use item::{Item, Value};
 pub use item_type::ItemType;
-pub use limits::{MAX_DEPTH, MAX_SIZE};
+pub use limits::{HEAD_SIZE, MAX_DEPTH, MAX_SIZE};
 pub use reading::read;
 pub use showing::show;
 pub use tag::Tag;

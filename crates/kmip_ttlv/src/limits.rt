@@ -8,8 +8,9 @@ pub const MAX_DEPTH: usize = 16;
 /// The most bytes that an item may take, with its head and its padding.
 pub const MAX_SIZE: usize = 8192;
 
-/// The bytes of a tag, a type and a length.
-pub(crate) const HEAD_SIZE: usize = 8;
+/// The bytes of an item's head: a tag of three, a type of one and a length of four (KMIP 2.1, TTLV
+/// Encoding).
+pub const HEAD_SIZE: usize = 8;
 
 /// How many bytes of padding follow a value of this length: the fewest that make it a multiple of
 /// eight (KMIP 2.1, TTLV Encoding, Value).

@@ -1,0 +1,7 @@
+-- How many keys a plan may have.
+-- Source: own (limit).
+use Rattle.std.specs.Prelude.{ℕ}
+
+-- the most keys of a plan
+abbrev pub most_keys : ℕ
+most_keys = 1000
