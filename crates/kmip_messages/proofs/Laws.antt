@@ -4,7 +4,7 @@ use Rattle.std.proofs.lemmas.Bool.{eqb-true, eq-eqb}
 use Rattle.std.specs.List.{list_any}
 use Rattle.std.specs.Option.{option_map, option_map_or}
 use Rattle.kmip_ttlv.specs.Node.{Node, node, Content, structure, integer, enumeration, text_string, byte_string, tag_of, content_of, list_of, as_structure, as_integer, as_enumeration, as_text_string, as_byte_string}
-use Rattle.kmip_ttlv.proofs.Views.{nodes_of-list_of, list_of-nodes_of}
+use Rattle.kmip_ttlv.proofs.ForCallers.{nodes_of-list_of, list_of-nodes_of}
 use Rattle.kmip_messages.specs.declared.fault.MessageFault.{MessageFault}
 use Rattle.kmip_messages.specs.declared.fault.MessageFault.TheVariants.{Missing, Twice, WrongType, OutOfRange, NotMessage, BatchCount}
 use Rattle.kmip_messages.specs.declared.standard.TheConstants.{TAG_UNIQUE_BATCH_ITEM_ID, TAG_UNIQUE_IDENTIFIER}

@@ -3,10 +3,9 @@ use Rattle.std.proofs.Common.{◌≡◌, ℕ, List, Some, None, Result, Ok, Err,
 use Rattle.std.specs.Prelude.{IfOk}
 use Rattle.std.specs.Result.{result_ok}
 use Rattle.kmip_ttlv.specs.Node.{Node}
-use Rattle.kmip_ttlv.specs.Fitting.{IsInRange}
+use Rattle.kmip_ttlv.specs.Fitting.{IsBytes, IsInRange}
 use Rattle.kmip_ttlv.specs.Spelling.{canon, Spells}
-use Rattle.kmip_ttlv.proofs.Numbers.{IsBytes}
-use Rattle.kmip_ttlv.proofs.Laws.{canon_spells}
+use Rattle.kmip_ttlv.proofs.ForCallers.{canon_spells}
 use Rattle.kmip_messages.specs.declared.fault.Refusal.{Refusal}
 use Rattle.kmip_messages.specs.declared.request.Request.{Request}
 use Rattle.kmip_messages.specs.Ranges.{request_fits}

@@ -3,7 +3,7 @@ use Rattle.std.proofs.Common.{◌≡◌, ℕ, ◌+◌, ◌≤◌, ℤ, pos, true
 use Rattle.kmip_ttlv.specs.Node.{Node, node, enumeration, integer, byte_string, nodes_of}
 use Rattle.kmip_ttlv.specs.Fitting.{HasWholeGroups, HaveWholeGroups, depth, depths}
 use Rattle.kmip_ttlv.specs.Sizes.{size, sizes, IsWritable}
-use Rattle.kmip_ttlv.proofs.Lengths.{writable_of}
+use Rattle.kmip_ttlv.proofs.ForCallers.{writable_of}
 use Rattle.std.proofs.lemmas.Bool.{and_parts, leb-true, le-leb, cases_lt}
 use Rattle.std.proofs.lemmas.Bool.Decides.{leb_tells}
 use Rattle.kmip_messages.specs.declared.request.Attrs.{Attrs}
