@@ -11,7 +11,7 @@ use Rattle.kmip_ttlv.proofs.ForCallers.{item_spelled, spelling_again}
 use Rattle.kmip_messages.specs.declared.fault.MessageFault.{MessageFault}
 use Rattle.kmip_messages.specs.declared.fault.MessageFault.TheVariants.{NotMessage}
 use Rattle.kmip_messages.specs.Whole.{whole, item_in}
-use Rattle.kmip_messages.proofs.Laws.{Reads}
+use Rattle.kmip_messages.proofs.ForCallers.{Reads}
 
 -- an item that is all of the bytes, or not
 abbrev whole_of : Bool → Node → Result Node MessageFault

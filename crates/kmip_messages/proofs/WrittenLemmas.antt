@@ -238,7 +238,7 @@ request_batch_parts r =
 pub request_writable : (r : Request) → IsTrue (request_fits r) → IsWritable (request_item r)
 request_writable r fits =
     let batch = request_batch_parts r in
-    let parts = and_parts _ _ fits in
+    let parts = and_parts (option_map_or is_batch_id r.id true) (ask_fits r.ask) fits in
     writable_of (request_item r) (((tt, (tt, tt)), (tt, tt)), batch.groups) (omega (arith, batch.deep))
     (omega (arith, batch.long, id_bound r.id parts.0, ask_bound r.ask parts.1))
 
