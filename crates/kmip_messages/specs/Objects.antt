@@ -27,13 +27,15 @@ restated uid state o = if pointwise nat_eq uid o.uid then record o { state = sta
 abbrev pub all_restated : List ℕ → KeyState → List Object → List Object
 all_restated uid state objects = map (restated uid state) objects
 
--- no two of a list have one name or identifier
+-- no two of a list have the same of what f gives
 abbrev pub DistinctBy : {T : Type 0} → (T → List ℕ) → List T → Type 0
 DistinctBy f [] = Unit {0}
 DistinctBy f (x ∷ xs) = (find (λ y. pointwise nat_eq (f x) (f y)) xs ≡ None) × DistinctBy f xs
 
+-- no two objects have one name
 abbrev pub DistinctNames : List Object → Type 0
 DistinctNames objects = DistinctBy (λ o. o.attrs.name) objects
 
+-- no two objects have one identifier
 abbrev pub DistinctUids : List Object → Type 0
 DistinctUids objects = DistinctBy (λ o. o.uid) objects

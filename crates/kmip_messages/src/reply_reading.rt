@@ -1,11 +1,13 @@
 //! Replies from bytes.
-ghost use Rattle.std.specs.Prelude.{◌≡◌, ℤ, Ok, IsTrue, IfOk};
+ghost use Rattle.std.specs.Prelude.{◌≡◌, ℤ, [], ◌∷◌, false, Ok, IsTrue, IfOk, IfErr};
 ghost use Rattle.kmip_ttlv.specs.Fitting.{IsInRange};
 ghost use Rattle.kmip_ttlv.specs.Node.{Node, content_of};
 ghost use Rattle.kmip_ttlv.specs.Spelling.{canon, Spells};
 ghost use Rattle.kmip_ttlv.specs.View.{view, views};
 ghost use Rattle.kmip_messages.specs.declared.reply.Reply.{Reply};
-ghost use Rattle.kmip_messages.specs.Fits.{reply_fits};
+ghost use Rattle.kmip_messages.specs.Faults.{is_no_memory};
+ghost use Rattle.kmip_messages.specs.Fits.{HasValuesInRange, reply_fits};
+ghost use Rattle.kmip_messages.specs.Items.{replies_in};
 ghost use Rattle.kmip_messages.specs.Replies.{IsReply};
 ghost use Rattle.kmip_messages.specs.Siblings.{contents};
 ghost use Rattle.kmip_messages.specs.Reading.{Gives};
@@ -65,6 +67,10 @@ pub fn read_reply(alloc: Global, bytes: &[u8]) -> Result<Reply, MessageFault>
     ensures back { (r : Reply) (now : ℤ) → IsTrue (reply_fits r) → IsInRange (reply_item r now) → bytes.now ≡ canon (reply_item r now) → Gives (λ x. x) result (Ok r) }
     // Which fault it is.
     ensures exact { Gives (λ r. r) result (reply_read bytes.now) }
+    ensures fits { IfOk result HasValuesInRange }
+    // What the bytes say, as a list.
+    ensures says { IfOk result (λ r. replies_in bytes.now ≡ r ∷ []) }
+    ensures refused { IfErr result (λ e. is_no_memory e ≡ false → replies_in bytes.now ≡ []) }
 {
     whole_reply(alloc, bytes)
 }

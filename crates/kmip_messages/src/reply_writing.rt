@@ -2,6 +2,7 @@
 ghost use Rattle.std.specs.Prelude.{◌≡◌, ◌++◌, ◌∷◌, [], map, IsTrue, IfOk, OnOk};
 ghost use Rattle.kmip_ttlv.specs.Spelling.{canon};
 ghost use Rattle.kmip_messages.specs.Fits.{reply_fits};
+ghost use Rattle.kmip_messages.specs.Items.{replies_in};
 ghost use Rattle.kmip_ttlv.specs.Node.{node, enumeration};
 ghost use Rattle.kmip_ttlv.specs.View.{view, views};
 ghost use Rattle.kmip_messages.specs.Written.{
@@ -31,7 +32,8 @@ use std::alloc::Global;
 /// Where there is no memory for them.
 pub fn write_reply(alloc: Global, reply: &Reply, now: i64) -> Result<Vec<u8>, NoMemory>
     requires { IsTrue (reply_fits reply.now) }
-    ensures { IfOk result (λ v. v.items ≡ canon (reply_item reply.now now)) }
+    ensures bytes { IfOk result (λ v. v.items ≡ canon (reply_item reply.now now)) }
+    ensures says { IfOk result (λ v. replies_in v.items ≡ reply.now ∷ []) }
 {
     let item = message_item(alloc, reply, now)?;
     let mut out = Vec::new(alloc);
