@@ -4,7 +4,7 @@ use Rattle.std.specs.Prelude.{ℕ, ◌+◌, ◌==◌, ◌%◌, nat_lt, Bool, not
 use Rattle.byteorder.specs.Endian.{big_number}
 use Rattle.kmip_ttlv.specs.Types.{byte_of_type}
 use Rattle.kmip_ttlv.specs.declared.item_type.ItemType.TheVariants.{Structure}
-use Rattle.kmip_frames.specs.declared.head.TheConstants.{TAG_REQUEST_MESSAGE, TAG_RESPONSE_MESSAGE}
+use Rattle.kmip_messages.specs.declared.standard.TheConstants.{TAG_REQUEST_MESSAGE, TAG_RESPONSE_MESSAGE}
 use Rattle.kmip_frames.specs.declared.fault.FrameFault.{FrameFault}
 use Rattle.kmip_frames.specs.declared.fault.FrameFault.TheVariants.{BadHead, BadLength, TooLong}
 

@@ -5,13 +5,8 @@ ghost use Rattle.kmip_frames.specs.Framing.{fault_in, size_needed};
 
 use crate::fault::FrameFault;
 use byteorder::{BigEndian, ByteOrder};
+use kmip_messages::standard::{TAG_REQUEST_MESSAGE, TAG_RESPONSE_MESSAGE};
 use kmip_ttlv::{HEAD_SIZE, ItemType, MAX_SIZE};
-
-/// The tag of a Request Message (KMIP 2.1, Tags).
-pub const TAG_REQUEST_MESSAGE: u32 = 0x420078;
-
-/// The tag of a Response Message (KMIP 2.1, Tags).
-pub const TAG_RESPONSE_MESSAGE: u32 = 0x42007B;
 
 /// The fault of the head that the bytes begin with: `None` where it is a message's, and also while
 /// it is not whole.

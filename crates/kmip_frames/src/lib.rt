@@ -12,4 +12,3 @@ pub mod laws;
 
 pub use fault::FrameFault;
 pub use framer::Framer;
-pub use head::{TAG_REQUEST_MESSAGE, TAG_RESPONSE_MESSAGE};

@@ -3,4 +3,5 @@ pub mod ObjectLemmas
 pub mod StepLaws
 pub mod ChangeLemmas
 pub mod AgainLaws
+pub mod MessageLemmas
 pub mod SearchLaws

@@ -9,7 +9,7 @@ use Rattle.std.proofs.lemmas.List.{length-map}
 use Rattle.std.proofs.lemmas.Slice.Eq.{bytes_eq-Decides}
 use Rattle.kmip_messages.specs.Objects.{DistinctNames, DistinctUids, object_named, object_with, restated, all_restated}
 use Rattle.kmip_messages.specs.Ranges.{attrs_fit, is_identifier}
-use Rattle.kmip_messages.proofs.WrittenLemmas.{decimal_identifier}
+use Rattle.kmip_messages.proofs.ForCallers.{decimal_identifier}
 use Rattle.kmip_messages.specs.declared.state.KeyState.{KeyState}
 use Rattle.kmip_store.specs.declared.row.Row.{Row}
 use Rattle.kmip_store.specs.Stock.{AreNumbered, HaveOwnNames, IsKept, Stock, has_row_named, identifier_at, object_of, objects_of}

@@ -27,7 +27,7 @@ abbrev pub IsServedBy : Result Request Refusal → Reply → Stock → Stock →
 IsServedBy (Ok request) reply old new = IsStepOf request reply old new
 IsServedBy (Err refusal) reply old new = IsRefusalOf refusal reply old new
 
--- The questions are served in turn, each once, with these replies; those behind a failure that stops them are left.
+-- The questions are served in turn, each once, with these replies; those after a failure that stops them are left.
 abbrev pub AreServed : Bool → List (Result Request Refusal) → List Reply → Stock → Stock → Type 0
 AreServed stops [] [] old new = new ≡ old
 AreServed stops [] (reply ∷ replies) old new = ⊥

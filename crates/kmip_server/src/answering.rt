@@ -1,5 +1,5 @@
 //! The reply to each operation, written before the records change.
-ghost use Rattle.std.specs.Prelude.{◌≡◌, true, OnErr, OnOk, IfOk, IsTrue, IsSome, Some, None, option_to_list};
+ghost use Rattle.std.specs.Prelude.{◌≡◌, [], ◌∷◌, true, OnErr, OnOk, IfOk, IsTrue, IsSome, Some, None, option_to_list};
 ghost use Rattle.std.specs.Option.{option_map_or};
 ghost use Rattle.kmip_ttlv.specs.Spelling.{canon};
 ghost use Rattle.kmip_messages.specs.Written.{reply_item};
@@ -7,7 +7,8 @@ ghost use Rattle.kmip_messages.specs.declared.reply.Outcome.TheVariants.{Failed}
 ghost use Rattle.kmip_messages.specs.declared.standard.TheConstants.{OPERATION_CREATE, OPERATION_LOCATE, OPERATION_GET_ATTRIBUTES, OPERATION_ACTIVATE, OPERATION_REVOKE, OPERATION_DESTROY};
 ghost use Rattle.kmip_messages.specs.Ranges.{is_batch_id, is_identifier, attrs_fit, request_fits};
 ghost use Rattle.kmip_messages.specs.declared.request.Ask.TheVariants as asks;
-ghost use Rattle.kmip_server.specs.Answering.{written_with};
+ghost use Rattle.kmip_messages.specs.Items.{replies_in};
+ghost use Rattle.kmip_server.specs.Answering.{with_outcome, written_with};
 ghost use Rattle.kmip_server.specs.Reasons.{message_reason};
 ghost use Rattle.kmip_server.specs.Serving.{answer, attributes_of, refusal_reply, reply_to};
 ghost use Rattle.kmip_store.specs.Stepping.{Becomes};
@@ -32,6 +33,8 @@ pub(crate) fn answer<S: Records>(
     requires { IsTrue (request_fits request) }
     ensures reply { IfOk result (λ v. v.items
         ≡ canon (reply_item (reply_to (S.stock store.old) (Ok request)) now)) }
+    ensures says { IfOk result (λ v. replies_in v.items
+        ≡ reply_to (S.stock store.old) (Ok request) ∷ []) }
     ensures after { OnOk result (S.stock store.new ≡ (answer (S.stock store.old) request.ask).1) }
     ensures same { OnErr result (S.stock store.new ≡ S.stock store.old) }
 {
@@ -51,6 +54,7 @@ pub(crate) fn answer<S: Records>(
 pub(crate) fn refuse_message(alloc: Global, refusal: Refusal, now: i64) -> Result<Vec<u8>, NoMemory>
     requires { IsTrue (option_map_or is_batch_id refusal.id true) }
     ensures reply { IfOk result (λ v. v.items ≡ canon (reply_item (refusal_reply refusal) now)) }
+    ensures says { IfOk result (λ v. replies_in v.items ≡ refusal_reply refusal ∷ []) }
     ensures told { IfOk result (λ _. IsSome (message_reason refusal.fault)) }
 {
     let Refusal {
@@ -81,6 +85,7 @@ fn refuse(
 ) -> Result<Vec<u8>, NoMemory>
     requires { IsTrue (option_map_or is_batch_id reply.id true) }
     ensures reply { IfOk result (λ v. v.items ≡ written_with reply (Failed reason) now) }
+    ensures says { IfOk result (λ v. replies_in v.items ≡ with_outcome reply (Failed reason) ∷ []) }
     ensures told { IfOk result (λ _. IsSome reason) }
 {
     if reason.is_none() {
@@ -103,6 +108,8 @@ fn create<S: Records>(
     requires operation { reply.operation ≡ Some OPERATION_CREATE }
     ensures reply { IfOk result (λ v. v.items
         ≡ written_with reply (answer (S.stock store.old) (asks.Create attrs.now)).0 now) }
+    ensures says { IfOk result (λ v. replies_in v.items
+        ≡ with_outcome reply (answer (S.stock store.old) (asks.Create attrs.now)).0 ∷ []) }
     ensures after { OnOk result (S.stock store.new
         ≡ (answer (S.stock store.old) (asks.Create attrs.now)).1) }
     ensures same { OnErr result (S.stock store.new ≡ S.stock store.old) }
@@ -150,8 +157,10 @@ fn locate<S: Records>(
     requires name { IsSome filter.now.name }
     requires id { IsTrue (option_map_or is_batch_id reply.id true) }
     requires operation { reply.operation ≡ Some OPERATION_LOCATE }
-    ensures { IfOk result (λ v. v.items ≡ written_with reply
+    ensures reply { IfOk result (λ v. v.items ≡ written_with reply
         (answer (S.stock store.now) (asks.Locate mask filter.now)).0 now) }
+    ensures says { IfOk result (λ v. replies_in v.items
+        ≡ with_outcome reply (answer (S.stock store.now) (asks.Locate mask filter.now)).0 ∷ []) }
 {
     let Ok(found) = store.locate(alloc, mask, filter) else {
         return Err(NoMemory);
@@ -185,8 +194,10 @@ fn get_attributes<S: Records>(
     requires uid { IsTrue (is_identifier uid.now) }
     requires id { IsTrue (option_map_or is_batch_id reply.id true) }
     requires operation { reply.operation ≡ Some OPERATION_GET_ATTRIBUTES }
-    ensures { IfOk result (λ v. v.items ≡ written_with reply
+    ensures reply { IfOk result (λ v. v.items ≡ written_with reply
         (answer (S.stock store.now) (asks.GetAttributes uid.now)).0 now) }
+    ensures says { IfOk result (λ v. replies_in v.items
+        ≡ with_outcome reply (answer (S.stock store.now) (asks.GetAttributes uid.now)).0 ∷ []) }
 {
     let Some(row) = store.find(uid) else {
         return refuse(alloc, reply, store_reason(StoreFault::NotFound), now);
@@ -224,6 +235,8 @@ fn activate<S: Records>(
     requires operation { reply.operation ≡ Some OPERATION_ACTIVATE }
     ensures reply { IfOk result (λ v. v.items
         ≡ written_with reply (answer (S.stock store.old) (asks.Activate uid.now)).0 now) }
+    ensures says { IfOk result (λ v. replies_in v.items
+        ≡ with_outcome reply (answer (S.stock store.old) (asks.Activate uid.now)).0 ∷ []) }
     ensures after { OnOk result (S.stock store.new
         ≡ (answer (S.stock store.old) (asks.Activate uid.now)).1) }
     ensures same { OnErr result (S.stock store.new ≡ S.stock store.old) }
@@ -250,6 +263,8 @@ fn revoke<S: Records>(
     requires operation { reply.operation ≡ Some OPERATION_REVOKE }
     ensures reply { IfOk result (λ v. v.items
         ≡ written_with reply (answer (S.stock store.old) (asks.Revoke uid.now code)).0 now) }
+    ensures says { IfOk result (λ v. replies_in v.items
+        ≡ with_outcome reply (answer (S.stock store.old) (asks.Revoke uid.now code)).0 ∷ []) }
     ensures after { OnOk result (S.stock store.new
         ≡ (answer (S.stock store.old) (asks.Revoke uid.now code)).1) }
     ensures same { OnErr result (S.stock store.new ≡ S.stock store.old) }
@@ -278,6 +293,8 @@ fn destroy<S: Records>(
     requires operation { reply.operation ≡ Some OPERATION_DESTROY }
     ensures reply { IfOk result (λ v. v.items
         ≡ written_with reply (answer (S.stock store.old) (asks.Destroy uid.now)).0 now) }
+    ensures says { IfOk result (λ v. replies_in v.items
+        ≡ with_outcome reply (answer (S.stock store.old) (asks.Destroy uid.now)).0 ∷ []) }
     ensures after { OnOk result (S.stock store.new
         ≡ (answer (S.stock store.old) (asks.Destroy uid.now)).1) }
     ensures same { OnErr result (S.stock store.new ≡ S.stock store.old) }

@@ -19,7 +19,7 @@ pub fn serving_is_a_step()
     the_next_identifier_is_free();
 }
 
-/// What holds of the records at all times holds behind each question.
+/// What holds of the records at all times holds after each question.
 pub fn serving_keeps_the_records()
     ensures { (s : Stock) (ask : Ask) → ask_fits ask ≡ true → IsKept s.rows s.room
         → IsKept (answer s ask).1.rows (answer s ask).1.room }

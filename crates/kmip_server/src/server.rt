@@ -1,10 +1,15 @@
 //! A server over the records of one store.
-ghost use Rattle.std.specs.Prelude.{◌≡◌, OnErr, OnOk, IfOk};
-ghost use Rattle.kmip_server.specs.Serving.{reply_bytes, stock_after};
+ghost use Rattle.std.specs.Prelude.{◌≡◌, [], ◌∷◌, OnErr, OnOk, IfOk};
+ghost use Rattle.kmip_messages.specs.Items.{parts_in, replies_in, stops_in};
+ghost use Rattle.kmip_messages.specs.Whole.{request_read};
+ghost use Rattle.kmip_server.specs.Messages.{AreServed};
+ghost use Rattle.kmip_server.specs.Serving.{reply_bytes, reply_to, stock_after};
 ghost use Rattle.kmip_server.specs.Shown.{HasLawfulObjects};
 ghost use Rattle.kmip_store.specs.Stock.{IsKept};
 
 use crate::answering::{answer, refuse_message};
+use crate::laws::serving_is_a_step;
+use kmip_messages::laws::question_laws;
 use kmip_messages::read_request;
 use kmip_store::Records;
 use kmip_ttlv::NoMemory;
@@ -61,7 +66,11 @@ impl<S: Records> Server<S> {
         ensures kept { IsKept self.new.rows self.new.room }
         ensures objects_before { HasLawfulObjects self.old }
         ensures objects { HasLawfulObjects self.new }
+        ensures served { IfOk result (λ r. AreServed (stops_in message.now) (parts_in message.now)
+            (replies_in r.items) self.old self.new) }
     {
+        question_laws();
+        serving_is_a_step();
         let _before = self.store.count();
         let reply = self.handle_message(alloc, message, now);
         let _after = self.store.count();
@@ -77,6 +86,8 @@ impl<S: Records> Server<S> {
         now: i64,
     ) -> Result<Vec<u8>, NoMemory>
         ensures reply { IfOk result (λ r. r.items ≡ reply_bytes self.old message.now now) }
+        ensures says { IfOk result (λ r. replies_in r.items
+            ≡ reply_to self.old (request_read message.now) ∷ []) }
         ensures after { OnOk result (self.new ≡ stock_after self.old message.now) }
         ensures same { OnErr result (self.new ≡ self.old) }
     {

@@ -11,7 +11,7 @@ use Rattle.std.proofs.lemmas.List.Folds.{list_all-append}
 use Rattle.std.proofs.lemmas.Slice.Eq.{bytes_eq-Decides}
 use Rattle.kmip_messages.specs.Ranges.{is_identifier, attrs_fit}
 use Rattle.kmip_messages.specs.declared.request.KeyAttrs.{KeyAttrs}
-use Rattle.kmip_messages.proofs.WrittenLemmas.{decimal_identifier}
+use Rattle.kmip_messages.proofs.ForCallers.{decimal_identifier}
 use Rattle.kmip_messages.specs.declared.state.KeyState.{KeyState}
 use Rattle.kmip_store.specs.declared.row.Row.{Row}
 use Rattle.kmip_store.specs.Stock.{Stock, has_row_named, identifier_at, new_row, AreNumbered, HaveOwnNames, IsKept}

@@ -41,7 +41,7 @@ abbrev pub material_size : ℤ → ℕ
 material_size (pos bits) = bits / 8
 material_size (negsuc n) = 0
 
--- the next bytes of the stream, and the stream behind them
+-- the next bytes of the stream, and the stream after them
 abbrev pub draw : ℕ → ChaCha → List ℕ × ChaCha
 draw size stream = fill_via_u32 (next_word 10) size stream
 

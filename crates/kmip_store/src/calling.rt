@@ -56,7 +56,7 @@ pub enum Answer {
 /// Makes the calls one after the other, and answers what each of them answered.
 ///
 /// # Errors
-/// Where there is no memory for a call or for its answer; the records are then those behind some of
+/// Where there is no memory for a call or for its answer; the records are then those after some of
 /// the calls, from the first on.
 pub fn call_all<S: Records>(
     alloc: Global,
@@ -81,10 +81,10 @@ pub fn call_all<S: Records>(
 
 /// Makes the same calls of two stores, and answers what each of them answered. Where both had the same
 /// records, as two stores of one seed and room have, the answers are the same, and so are the records
-/// behind them, however each keeps its rows.
+/// after them, however each keeps its rows.
 ///
 /// # Errors
-/// Where there is no memory for a call or for its answer; the records of each are then those behind
+/// Where there is no memory for a call or for its answer; the records of each are then those after
 /// some of the calls, from the first on.
 pub fn call_both<A: Records, B: Records>(
     alloc: Global,

@@ -1,5 +1,6 @@
-use Rattle.std.proofs.Common.{rules, ◌≡◌, IfOk, IsSome, sym, ap, ◌∙◌}
+use Rattle.std.proofs.Common.{rules, ◌≡◌, [], ◌∷◌, IfOk, IsSome, sym, ap, ◌∙◌}
 use Rattle.kmip_ttlv.specs.Spelling.{canon}
+use Rattle.kmip_messages.specs.Items.{replies_in}
 use Rattle.kmip_messages.specs.Whole.{request_read}
 use Rattle.kmip_messages.specs.Written.{reply_item}
 use Rattle.kmip_server.specs.Reasons.{message_reason}
@@ -23,3 +24,9 @@ returns-in-Err-clause-after g c =
     let s = c.args.self.now in
     on_ok c.refuse_message.result _ _ c.refuse_message.ensures.told (λ some.
     ap (λ read. stock_after_read s read) (sym (refusal_read c.in-Err.refusal (request_read c.args.message.now) c.in-Err.ensures.exact some)))
+
+pub returns-in-Err-clause-says : goal.returns-in-Err-clause-says
+returns-in-Err-clause-says g c =
+    let refusal = c.in-Err.refusal in
+    if_ok c.refuse_message.result (λ v. replies_in v.items ≡ refusal_reply refusal ∷ []) _ (IsSome (message_reason refusal.fault)) c.refuse_message.ensures.says c.refuse_message.ensures.told (λ some v p.
+    p ∙ ap (λ read. reply_to c.args.self.now read ∷ []) (sym (refusal_read refusal (request_read c.args.message.now) c.in-Err.ensures.exact some)))
