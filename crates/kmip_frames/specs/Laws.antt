@@ -19,17 +19,19 @@ FaultsStay =
     (bytes more : List ℕ) (fault : FrameFault) → fault_in bytes ≡ Some fault
     → (fault_in (bytes ++ more) ≡ Some fault) × BeginsWithNoMessage (bytes ++ more)
 
--- What was handed over are the stream's messages, once no whole message is at hand. `unread` is what no piece was taken of:
--- nothing at the end of the stream, or the bytes after a fault.
+-- What was handed over are the stream's messages, once no whole message is at hand. `unread` is what no piece was
+-- taken of: nothing at the end of the stream, or the bytes after a fault.
 abbrev pub CallsHandTheStream : Type 0
 CallsHandTheStream =
-    (calls : List Call) (held unread : List ℕ) → Runs [] calls held → BeginsWithNoMessage (held ++ unread)
+    (calls : List Call) (held unread : List ℕ) → Runs [] calls held
+    → BeginsWithNoMessage (held ++ unread)
     → Stream (all_taken calls ++ unread) (all_handed calls) (held ++ unread)
 
 -- so it does not matter how the stream was cut
 abbrev pub CallsAgree : Type 0
 CallsAgree =
-    (calls others : List Call) (held other unread beyond : List ℕ) → Runs [] calls held → Runs [] others other
+    (calls others : List Call) (held other unread beyond : List ℕ)
+    → Runs [] calls held → Runs [] others other
     → all_taken calls ++ unread ≡ all_taken others ++ beyond
     → BeginsWithNoMessage (held ++ unread) → BeginsWithNoMessage (other ++ beyond)
     → (all_handed calls ≡ all_handed others) × (held ++ unread ≡ other ++ beyond)
@@ -37,15 +39,19 @@ CallsAgree =
 -- to feed two pieces joined is to feed the first, and then what was left of it with the second
 abbrev pub PiecesJoin : Type 0
 PiecesJoin =
-    (held first second : List ℕ) (count : ℕ) → IsHeld held → feed held first ≡ Ok count → IsFedAsTwo held first second count
+    (held first second : List ℕ) (count : ℕ) → IsHeld held → feed held first ≡ Ok count
+    → IsFedAsTwo held first second count
 
 -- less than a head has no fault, and lacks the rest of the head
 abbrev pub ShortBytesLackAHead : Type 0
-ShortBytesLackAHead = (bytes : List ℕ) → length bytes < head_size → (fault_in bytes ≡ None) × (size_needed bytes ≡ head_size)
+ShortBytesLackAHead =
+    (bytes : List ℕ) → length bytes < head_size
+    → (fault_in bytes ≡ None) × (size_needed bytes ≡ head_size)
 
 -- what is needed is a head at least, and the longest message at most
 abbrev pub SizesAreBounded : Type 0
-SizesAreBounded = (bytes : List ℕ) → (head_size ≤ size_needed bytes) × (size_needed bytes ≤ most_bytes)
+SizesAreBounded =
+    (bytes : List ℕ) → (head_size ≤ size_needed bytes) × (size_needed bytes ≤ most_bytes)
 
 -- a fault is that of a whole head, and then no more than that is needed
 abbrev pub FaultsNeedNoMore : Type 0
