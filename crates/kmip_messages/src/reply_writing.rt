@@ -75,7 +75,8 @@ fn batch_item(alloc: Global, reply: &Reply) -> Result<Item, NoMemory>
 
 /// Puts the status at the end, and then the reason or the payload.
 fn push_outcome(alloc: Global, items: &mut Vec<Item>, outcome: &Outcome) -> Result<(), NoMemory>
-    ensures { OnOk result (views items.new.items ≡ views items.old.items ++ outcome_items outcome.now) }
+    ensures { OnOk result
+        (views items.new.items ≡ views items.old.items ++ outcome_items outcome.now) }
 {
     match outcome {
         Outcome::Created(uid) => {
@@ -111,7 +112,8 @@ fn push_outcome(alloc: Global, items: &mut Vec<Item>, outcome: &Outcome) -> Resu
 
 /// Puts the status Success and a payload of these items at the end.
 fn push_success(items: &mut Vec<Item>, payload: Vec<Item>) -> Result<(), NoMemory>
-    ensures { OnOk result (views items.new.items ≡ views items.old.items ++ success_items (views payload.items)) }
+    ensures { OnOk result
+        (views items.new.items ≡ views items.old.items ++ success_items (views payload.items)) }
 {
     push(
         items,
@@ -126,7 +128,8 @@ fn push_success(items: &mut Vec<Item>, payload: Vec<Item>) -> Result<(), NoMemor
 
 /// The payload of a Create.
 fn created_items(alloc: Global, uid: &Text) -> Result<Vec<Item>, NoMemory>
-    ensures { IfOk result (λ v. views v.items ≡ node TAG_OBJECT_TYPE (enumeration OBJECT_TYPE_SYMMETRIC_KEY) ∷ uid_item uid.now ∷ []) }
+    ensures { IfOk result (λ v. views v.items
+        ≡ node TAG_OBJECT_TYPE (enumeration OBJECT_TYPE_SYMMETRIC_KEY) ∷ uid_item uid.now ∷ []) }
 {
     let object_type = Item::enumeration(Tag::new(TAG_OBJECT_TYPE), OBJECT_TYPE_SYMMETRIC_KEY);
     let uid = uid_item(alloc, uid)?;
