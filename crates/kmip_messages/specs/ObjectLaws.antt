@@ -1,8 +1,9 @@
 -- What holds of objects that are found, that come, and that change their state.
 -- Source: own: what the laws of objects say.
-use Rattle.std.specs.Prelude.{◌≡◌, ◌≢◌, ℕ, List, [], ◌∷◌, ◌++◌, map, Option, Some, None}
-use Rattle.std.specs.List.{Contains}
-use Rattle.std.specs.Option.{option_map}
+use Rattle.std.specs.Prelude.{◌≡◌, ◌≢◌, ℕ, List, [], ◌∷◌, ◌++◌, map, nat_eq, Option, Some, None}
+use Rattle.std.specs.Cmp.Lexicographic.{pointwise}
+use Rattle.std.specs.List.{Contains, filter}
+use Rattle.std.specs.Option.{option_map, option_to_list}
 use Rattle.kmip_messages.specs.declared.state.KeyState.{KeyState}
 use Rattle.kmip_messages.specs.Objects.{
   Object,
@@ -25,6 +26,18 @@ abbrev pub IdentifiedIsOne : Type 0
 IdentifiedIsOne =
     (uid : List ℕ) (objects : List Object) (o : Object) → object_with uid objects ≡ Some o
     → (o.uid ≡ uid) × Contains objects o
+
+-- where none is found, each object has another name
+abbrev pub NoneIsNamed : Type 0
+NoneIsNamed =
+    (name : List ℕ) (objects : List Object) (o : Object) → object_named name objects ≡ None
+    → Contains objects o → o.attrs.name ≢ name
+
+-- and another identifier
+abbrev pub NoneIsIdentified : Type 0
+NoneIsIdentified =
+    (uid : List ℕ) (objects : List Object) (o : Object) → object_with uid objects ≡ None
+    → Contains objects o → o.uid ≢ uid
 
 -- where names are distinct, each object is the one of its name
 abbrev pub OneIsNamed : Type 0
@@ -49,6 +62,19 @@ abbrev pub IdentifiedIsNamed : Type 0
 IdentifiedIsNamed =
     (uid : List ℕ) (objects : List Object) (o : Object) → DistinctNames objects
     → object_with uid objects ≡ Some o → object_named o.attrs.name objects ≡ Some o
+
+-- where names are distinct, no other object has the name of the one that is found
+abbrev pub NamedIsAll : Type 0
+NamedIsAll =
+    (name : List ℕ) (objects : List Object) → DistinctNames objects
+    → filter (λ o. pointwise nat_eq name o.attrs.name) objects
+    ≡ option_to_list (object_named name objects)
+
+-- and where identifiers are, no other has its identifier
+abbrev pub IdentifiedIsAll : Type 0
+IdentifiedIsAll =
+    (uid : List ℕ) (objects : List Object) → DistinctUids objects
+    → filter (λ o. pointwise nat_eq uid o.uid) objects ≡ option_to_list (object_with uid objects)
 
 -- an object that is found by a name is found with more objects after it, and else one of those is
 abbrev pub NamedBeforeMore : Type 0
