@@ -74,8 +74,8 @@ pub fn answer_laws()
     ensures one_kind { RequestsAreNoReplies }
 {}
 
-/// An object that is found has what it was looked for by, and where none is found no object has it;
-/// where names and identifiers are distinct, each object is found by its own, and no other has them.
+/// An object that is found has what it was looked for by, and where none is found no object has it.
+/// Where names and identifiers are distinct, each object is found by its own, which no other has.
 pub fn found_laws()
     ensures named { NamedIsOne }
     ensures identified { IdentifiedIsOne }

@@ -33,6 +33,7 @@ use std::alloc::Global;
 pub fn write_reply(alloc: Global, reply: &Reply, now: i64) -> Result<Vec<u8>, NoMemory>
     requires { IsTrue (reply_fits reply.now) }
     ensures bytes { IfOk result (λ v. v.items ≡ canon (reply_item reply.now now)) }
+    // What the bytes say, as a list.
     ensures says { IfOk result (λ v. replies_in v.items ≡ reply.now ∷ []) }
 {
     let item = message_item(alloc, reply, now)?;

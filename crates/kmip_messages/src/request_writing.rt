@@ -37,6 +37,7 @@ use std::alloc::Global;
 pub fn write_request(alloc: Global, request: &Request) -> Result<Vec<u8>, NoMemory>
     requires { IsTrue (request_fits request.now) }
     ensures bytes { IfOk result (λ v. v.items ≡ canon (request_item request.now)) }
+    // What the bytes ask, as lists.
     ensures asks { IfOk result (λ v. requests_in v.items ≡ request.now ∷ []) }
     ensures parts { IfOk result (λ v. parts_in v.items ≡ Ok request.now ∷ []) }
 {
