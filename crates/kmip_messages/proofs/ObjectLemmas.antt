@@ -1,8 +1,8 @@
 -- Objects found by names and identifiers, where one comes and where one changes its state.
 use Rattle.std.proofs.Common.{◌≡◌, ◌≢◌, ℕ, Bool, true, false, nat_eq, List, [], ◌∷◌, ◌++◌, map, Option, Some, None, if◌then◌else◌, ◌⊎◌, refl, sym, ap, subst, ◌∙◌, inl, inr, arith}
 use Rattle.std.specs.Cmp.Lexicographic.{pointwise}
-use Rattle.std.specs.List.{find, Contains}
-use Rattle.std.specs.Option.{option_map, option_or}
+use Rattle.std.specs.List.{find, filter, Contains}
+use Rattle.std.specs.Option.{option_map, option_or, option_to_list}
 use Rattle.std.proofs.lemmas.Bool.{cases_Bool, false_from_ne_true, both_ways}
 use Rattle.std.proofs.lemmas.List.Elements.{Contains-append_left, Contains-append_right, Contains-append_cases, Contains-push, Contains-push_cases}
 use Rattle.std.proofs.lemmas.List.Folds.{find-append}
@@ -77,6 +77,24 @@ distinct_found f (y ∷ ys) x distinct has = elim (first_or_later y ys x has) [
       rw fails (distinct_found f ys x distinct.1 later)
 ]
 
+none_filtered : {T : Type 0} (f : T → List ℕ) (key : List ℕ) (xs : List T) → found_by f key xs ≡ None → filter (λ x. pointwise nat_eq key (f x)) xs ≡ []
+none_filtered f key [] none = refl
+none_filtered f key (y ∷ ys) none =
+    let parts = not_there f key y ys none in
+    let fails : pointwise nat_eq key (f y) ≡ false = parts.0 in
+    rw fails (none_filtered f key ys parts.1)
+
+-- where keys are distinct, no other has the key of the one that is found
+distinct_filtered : {T : Type 0} (f : T → List ℕ) (key : List ℕ) (xs : List T) → DistinctBy f xs
+    → filter (λ x. pointwise nat_eq key (f x)) xs ≡ option_to_list (found_by f key xs)
+distinct_filtered f key [] distinct = refl
+distinct_filtered f key (y ∷ ys) distinct = elim (cases_Bool (pointwise nat_eq key (f y))) [
+  | inl passes ↦
+      let none : found_by f key ys ≡ None = ap (λ k. found_by f k ys) ((bytes_eq-Decides key (f y)).0 passes) ∙ distinct.0 in
+      rw passes (ap (λ zs. y ∷ zs) (none_filtered f key ys none))
+  | inr fails ↦ rw fails (distinct_filtered f key ys distinct.1)
+]
+
 -- ---- more after them
 
 found_before : {T : Type 0} (f : T → List ℕ) (key : List ℕ) (xs more : List T) (x : T) → found_by f key xs ≡ Some x → found_by f key (xs ++ more) ≡ Some x
@@ -128,6 +146,24 @@ named_is_one name objects o is = found_has name_of name objects o is
 
 pub identified_is_one : (uid : List ℕ) (objects : List Object) (o : Object) → object_with uid objects ≡ Some o → (o.uid ≡ uid) × Contains objects o
 identified_is_one uid objects o is = found_has uid_of uid objects o is
+
+-- an object of which the test of its key fails
+other_key : (key own : List ℕ) → pointwise nat_eq key own ≡ false → own ≢ key
+other_key key own fails same = both_ways _ fails ((bytes_eq-Decides key own).1 (sym same))
+
+pub none_is_named : (name : List ℕ) (objects : List Object) (o : Object) → object_named name objects ≡ None → Contains objects o → o.attrs.name ≢ name
+none_is_named name objects o none has = other_key name o.attrs.name (another_key name_of name objects o none has)
+
+pub none_is_identified : (uid : List ℕ) (objects : List Object) (o : Object) → object_with uid objects ≡ None → Contains objects o → o.uid ≢ uid
+none_is_identified uid objects o none has = other_key uid o.uid (another_key uid_of uid objects o none has)
+
+pub named_is_all : (name : List ℕ) (objects : List Object) → DistinctNames objects
+    → filter (λ o. pointwise nat_eq name o.attrs.name) objects ≡ option_to_list (object_named name objects)
+named_is_all name objects distinct = distinct_filtered name_of name objects distinct
+
+pub identified_is_all : (uid : List ℕ) (objects : List Object) → DistinctUids objects
+    → filter (λ o. pointwise nat_eq uid o.uid) objects ≡ option_to_list (object_with uid objects)
+identified_is_all uid objects distinct = distinct_filtered uid_of uid objects distinct
 
 pub one_is_named : (objects : List Object) (o : Object) → DistinctNames objects → Contains objects o → object_named o.attrs.name objects ≡ Some o
 one_is_named objects o distinct has = distinct_found name_of objects o distinct has

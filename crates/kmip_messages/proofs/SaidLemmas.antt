@@ -1,12 +1,12 @@
 -- What bytes say, as lists, by what is read of them.
-use Rattle.std.proofs.Common.{◌≡◌, ◌↔◌, ℕ, ℤ, Bool, true, false, ◌&&◌, List, [], ◌∷◌, ◌++◌, Option, Some, None, Result, Ok, Err, IsTrue, refl, sym, ap, subst, ◌∙◌}
+use Rattle.std.proofs.Common.{◌≡◌, ◌↔◌, ℕ, ℤ, Bool, true, false, ◌&&◌, ◌==◌, List, [], ◌∷◌, ◌++◌, Option, Some, None, Result, Ok, Err, IsTrue, refl, sym, ap, subst, ◌∙◌}
 use Rattle.std.specs.Prelude.{IfOk, IfErr}
 use Rattle.std.specs.List.{All, list_all}
 use Rattle.std.specs.Option.{option_to_list}
 use Rattle.std.specs.Result.{result_ok}
 use Rattle.std.proofs.lemmas.Bool.{eq-eqb}
 use Rattle.std.proofs.lemmas.List.Elements.{All-nil, All-cons}
-use Rattle.kmip_ttlv.specs.Node.{Node}
+use Rattle.kmip_ttlv.specs.Node.{Node, tag_of}
 use Rattle.kmip_ttlv.specs.Fitting.{IsBytes, IsInRange}
 use Rattle.kmip_ttlv.specs.Spelling.{canon}
 use Rattle.kmip_messages.specs.declared.fault.MessageFault.{MessageFault}
@@ -16,16 +16,21 @@ use Rattle.kmip_messages.specs.declared.reply.Outcome.TheVariants.{Created, Loca
 use Rattle.kmip_messages.specs.declared.reply.Reply.{Reply}
 use Rattle.kmip_messages.specs.Faults.{is_no_memory}
 use Rattle.kmip_messages.specs.Fits.{is_own, outcome_fits, HasValuesInRange, reply_fits}
-use Rattle.kmip_messages.specs.Items.{replies_in}
+use Rattle.kmip_messages.specs.Items.{requests_in, replies_in}
 use Rattle.kmip_messages.specs.Ranges.{is_identifier}
 use Rattle.kmip_messages.specs.Reading.{Fails, Gives}
 use Rattle.kmip_messages.specs.Replies.{AreFound, IsOutcome, IsReply, SpellReply}
 use Rattle.kmip_messages.specs.ReplyReading.{reply_at}
+use Rattle.kmip_messages.specs.RequestReading.{refused, request_at}
+use Rattle.kmip_messages.specs.declared.request.Request.{Request}
+use Rattle.kmip_messages.specs.declared.standard.TheConstants.{TAG_REQUEST_MESSAGE, TAG_RESPONSE_MESSAGE}
 use Rattle.kmip_messages.specs.Siblings.{◌>>=◌}
-use Rattle.kmip_messages.specs.Whole.{item_in, reply_read}
+use Rattle.kmip_messages.specs.Whole.{item_in, request_read, reply_read}
 use Rattle.kmip_messages.specs.Written.{reply_item}
 use Rattle.kmip_messages.proofs.ReplyBytes.{reply_read-law, reply_read-again, written_spell}
 use Rattle.kmip_messages.proofs.ReplyLaws.{reply-law}
+use Rattle.kmip_messages.proofs.RequestLaws.{request-law}
+use Rattle.kmip_messages.proofs.AskedLemmas.{asked_is_read}
 
 -- ---- the replies and what is read
 
@@ -109,6 +114,27 @@ reply_is_spelled bytes r octets = (
 pub written_is_said : (r : Reply) (now : ℤ) → IsTrue (reply_fits r) → IsInRange (reply_item r now) → replies_in (canon (reply_item r now)) ≡ r ∷ []
 written_is_said r now fits in_range =
     read_is_said (canon (reply_item r now)) r (reply_read-again (canon (reply_item r now)) r (written_spell r now fits in_range))
+
+-- ---- one kind of message alone
+
+no_reply_read : (m : Result Node MessageFault) (r : Request) (reply : Reply) → (refused None None m >>= request_at) ≡ Ok r → (m >>= reply_at) ≡ Ok reply → ⊥
+no_reply_read (Ok n) r reply asked said =
+    let request = (request-law n).sound r asked in
+    let answer = (reply-law n).sound reply said in
+    let same : TAG_REQUEST_MESSAGE ≡ TAG_RESPONSE_MESSAGE =
+    ap tag_of (sym request.is_batch.is_message ∙ answer.is_batch.is_message) in
+    let apart : (TAG_REQUEST_MESSAGE == TAG_RESPONSE_MESSAGE) ≡ true = eq-eqb TAG_REQUEST_MESSAGE TAG_RESPONSE_MESSAGE same in
+    absurd cc
+no_reply_read (Err fault) r reply asked said = absurd cc
+
+no_replies : (bytes : List ℕ) (r : Request) → request_read bytes ≡ Ok r → (read : ReadReply) → reply_read bytes ≡ read → option_to_list (result_ok read) ≡ []
+unfolding request_read reply_read
+no_replies bytes r asked (Ok reply) said = absurd (no_reply_read (item_in bytes) r reply asked said)
+no_replies bytes r asked (Err fault) said = refl
+
+pub requests_are_no_replies : (bytes : List ℕ) (r : Request) (rest : List Request) → requests_in bytes ≡ r ∷ rest → replies_in bytes ≡ []
+requests_are_no_replies bytes r rest asked =
+    replies_read bytes ∙ no_replies bytes r (asked_is_read bytes r rest asked).0 (reply_read bytes) refl
 
 -- ---- what the code answers
 

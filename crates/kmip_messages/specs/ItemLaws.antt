@@ -92,3 +92,9 @@ abbrev pub WrittenIsSaid : Type 0
 WrittenIsSaid =
     (r : Reply) (now : ℤ) → IsTrue (reply_fits r) → IsInRange (reply_item r now)
     → replies_in (canon (reply_item r now)) ≡ r ∷ []
+
+-- bytes that ask a request are no reply
+abbrev pub RequestsAreNoReplies : Type 0
+RequestsAreNoReplies =
+    (bytes : List ℕ) (r : Request) (rest : List Request) → requests_in bytes ≡ r ∷ rest
+    → replies_in bytes ≡ []

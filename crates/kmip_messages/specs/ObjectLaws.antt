@@ -1,8 +1,9 @@
 -- What holds of objects that are found, that come, and that change their state.
 -- Source: own: what the laws of objects say.
-use Rattle.std.specs.Prelude.{◌≡◌, ◌≢◌, ℕ, List, [], ◌∷◌, ◌++◌, map, Option, Some, None}
-use Rattle.std.specs.List.{Contains}
-use Rattle.std.specs.Option.{option_map}
+use Rattle.std.specs.Prelude.{◌≡◌, ◌≢◌, ℕ, List, [], ◌∷◌, ◌++◌, map, nat_eq, Option, Some, None}
+use Rattle.std.specs.Cmp.Lexicographic.{pointwise}
+use Rattle.std.specs.List.{Contains, filter}
+use Rattle.std.specs.Option.{option_map, option_to_list}
 use Rattle.kmip_messages.specs.declared.state.KeyState.{KeyState}
 use Rattle.kmip_messages.specs.Objects.{
   Object,
@@ -25,6 +26,18 @@ abbrev pub IdentifiedIsOne : Type 0
 IdentifiedIsOne =
     (uid : List ℕ) (objects : List Object) (o : Object) → object_with uid objects ≡ Some o
     → (o.uid ≡ uid) × Contains objects o
+
+-- where none is found, each object has another name
+abbrev pub NoneIsNamed : Type 0
+NoneIsNamed =
+    (name : List ℕ) (objects : List Object) (o : Object) → object_named name objects ≡ None
+    → Contains objects o → o.attrs.name ≢ name
+
+-- and another identifier
+abbrev pub NoneIsIdentified : Type 0
+NoneIsIdentified =
+    (uid : List ℕ) (objects : List Object) (o : Object) → object_with uid objects ≡ None
+    → Contains objects o → o.uid ≢ uid
 
 -- where names are distinct, each object is the one of its name
 abbrev pub OneIsNamed : Type 0
@@ -50,23 +63,38 @@ IdentifiedIsNamed =
     (uid : List ℕ) (objects : List Object) (o : Object) → DistinctNames objects
     → object_with uid objects ≡ Some o → object_named o.attrs.name objects ≡ Some o
 
--- an object that is found by a name is found with more objects after it, and else one of those is
+-- where names are distinct, no other object has the name of the one that is found
+abbrev pub NamedIsAll : Type 0
+NamedIsAll =
+    (name : List ℕ) (objects : List Object) → DistinctNames objects
+    → filter (λ o. pointwise nat_eq name o.attrs.name) objects
+    ≡ option_to_list (object_named name objects)
+
+-- and where identifiers are, no other has its identifier
+abbrev pub IdentifiedIsAll : Type 0
+IdentifiedIsAll =
+    (uid : List ℕ) (objects : List Object) → DistinctUids objects
+    → filter (λ o. pointwise nat_eq uid o.uid) objects ≡ option_to_list (object_with uid objects)
+
+-- an object that is found by a name is found with more objects after it
 abbrev pub NamedBeforeMore : Type 0
 NamedBeforeMore =
     (name : List ℕ) (objects more : List Object) (o : Object) → object_named name objects ≡ Some o
     → object_named name (objects ++ more) ≡ Some o
 
+-- where none is found, it is one of those
 abbrev pub NamedAmongMore : Type 0
 NamedAmongMore =
     (name : List ℕ) (objects more : List Object) → object_named name objects ≡ None
     → object_named name (objects ++ more) ≡ object_named name more
 
--- the same by an identifier
+-- the same two by an identifier
 abbrev pub IdentifiedBeforeMore : Type 0
 IdentifiedBeforeMore =
     (uid : List ℕ) (objects more : List Object) (o : Object) → object_with uid objects ≡ Some o
     → object_with uid (objects ++ more) ≡ Some o
 
+-- and where none is found
 abbrev pub IdentifiedAmongMore : Type 0
 IdentifiedAmongMore =
     (uid : List ℕ) (objects more : List Object) → object_with uid objects ≡ None
@@ -78,12 +106,13 @@ OneMore Distinct same =
     (objects : List Object) (o : Object) → Distinct objects → same o objects ≡ None
     → Distinct (objects ++ o ∷ [])
 
--- of the object alone that has the identifier is the state another
+-- the object that has the identifier is in another state
 abbrev pub OwnIsRestated : Type 0
 OwnIsRestated =
     (uid : List ℕ) (state : KeyState) (o : Object) → o.uid ≡ uid
     → restated uid state o ≡ record o { state = state }
 
+-- any other is as it was
 abbrev pub OtherIsKept : Type 0
 OtherIsKept = (uid : List ℕ) (state : KeyState) (o : Object) → o.uid ≢ uid → restated uid state o ≡ o
 
@@ -93,24 +122,26 @@ RestatedKeeps =
     (uid : List ℕ) (state : KeyState) (o : Object)
     → ((restated uid state o).uid ≡ o.uid) × ((restated uid state o).attrs ≡ o.attrs)
 
--- so all names and all identifiers are kept
+-- so all names are kept
 abbrev pub NamesAreKept : Type 0
 NamesAreKept =
     (uid : List ℕ) (state : KeyState) (objects : List Object)
     → map (λ o. o.attrs.name) (all_restated uid state objects) ≡ map (λ o. o.attrs.name) objects
 
+-- and all identifiers
 abbrev pub UidsAreKept : Type 0
 UidsAreKept =
     (uid : List ℕ) (state : KeyState) (objects : List Object)
     → map (λ o. o.uid) (all_restated uid state objects) ≡ map (λ o. o.uid) objects
 
--- and what is found is what was found, restated
+-- what is found by a name is what was found, restated
 abbrev pub NamedIsRestated : Type 0
 NamedIsRestated =
     (name uid : List ℕ) (state : KeyState) (objects : List Object)
     → object_named name (all_restated uid state objects)
     ≡ option_map (restated uid state) (object_named name objects)
 
+-- the same by an identifier
 abbrev pub IdentifiedIsRestated : Type 0
 IdentifiedIsRestated =
     (own uid : List ℕ) (state : KeyState) (objects : List Object)

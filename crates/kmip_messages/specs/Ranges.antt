@@ -42,13 +42,15 @@ is_identifier s = nat_le 1 (length s) && nat_le (length s) most_name_bytes
 abbrev pub is_batch_id : List ℕ → Bool
 is_batch_id s = nat_le (length s) most_batch_id_bytes
 
--- the algorithms of the profile, and the lengths of their keys in bits
+-- the algorithms of the profile
 abbrev pub is_algorithm : ℕ → Bool
 is_algorithm a = a == ALGORITHM_AES || a == ALGORITHM_HMAC_SHA256
 
+-- the length of an AES key in bits
 abbrev pub is_aes_length : ℤ → Bool
 is_aes_length l = int_eq l (pos 128) || int_eq l (pos 192) || int_eq l (pos 256)
 
+-- the length of a key of an algorithm in bits
 abbrev pub is_length : ℕ → ℤ → Bool
 is_length a l = if a == ALGORITHM_AES then is_aes_length l else a == ALGORITHM_HMAC_SHA256 && int_eq l (pos 256)
 
@@ -82,5 +84,6 @@ ask_fits (Activate uid) = is_identifier uid
 ask_fits (Revoke uid code) = is_identifier uid && is_revocation_code code
 ask_fits (Destroy uid) = is_identifier uid
 
+-- a request whose values are in their ranges
 abbrev pub request_fits : Request → Bool
 request_fits r = option_map_or is_batch_id r.id true && ask_fits r.ask

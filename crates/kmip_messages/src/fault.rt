@@ -10,7 +10,7 @@ use thiserror::Error;
 /// The first thing that is wrong with a message.
 #[derive(Clone, Copy, Debug, PartialEq, Eq, Error)]
 pub enum MessageFault {
-    /// No item stands at the front of the bytes. Never with want of memory, which is `NoMemory` here.
+    /// No item stands at the front of the bytes. Never with want of memory, which is `NoMemory`.
     #[error("{0}")]
     Ttlv(TtlvFault),
     /// Bytes follow the item, or it is no message of this kind.

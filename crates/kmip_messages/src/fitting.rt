@@ -159,7 +159,8 @@ fn name_size(name: &Option<Text>) -> usize
     }
 }
 
-/// How many bytes a Unique Batch Item ID takes, where there is one, or more than a message may have.
+/// How many bytes a Unique Batch Item ID takes, where there is one, or more than a message may
+/// have.
 fn id_size(id: &Option<Bytes>) -> usize
     ensures size { IsCapped result (size_if_any text_size id.now) }
     ensures small { result ≤ 16400 }

@@ -18,15 +18,20 @@ ghost use Rattle.kmip_messages.specs.ItemLaws.{
   RepliesFit,
   ReplyIsSpelled,
   WrittenIsSaid,
+  RequestsAreNoReplies,
 };
 ghost use Rattle.kmip_messages.specs.Objects.{object_named, object_with, DistinctNames, DistinctUids};
 ghost use Rattle.kmip_messages.specs.ObjectLaws.{
   NamedIsOne,
   IdentifiedIsOne,
+  NoneIsNamed,
+  NoneIsIdentified,
   OneIsNamed,
   OneIsIdentified,
   NamedIsIdentified,
   IdentifiedIsNamed,
+  NamedIsAll,
+  IdentifiedIsAll,
   NamedBeforeMore,
   NamedAmongMore,
   IdentifiedBeforeMore,
@@ -66,17 +71,22 @@ pub fn answer_laws()
     ensures fits { RepliesFit }
     ensures spelled { ReplyIsSpelled }
     ensures written { WrittenIsSaid }
+    ensures one_kind { RequestsAreNoReplies }
 {}
 
-/// An object that is found has what it was looked for by; where names and identifiers are distinct,
-/// each object is found by its own.
+/// An object that is found has what it was looked for by, and where none is found no object has it.
+/// Where names and identifiers are distinct, each object is found by its own, which no other has.
 pub fn found_laws()
     ensures named { NamedIsOne }
     ensures identified { IdentifiedIsOne }
+    ensures none_named { NoneIsNamed }
+    ensures none_identified { NoneIsIdentified }
     ensures one_named { OneIsNamed }
     ensures one_identified { OneIsIdentified }
     ensures by_identifier { NamedIsIdentified }
     ensures by_name { IdentifiedIsNamed }
+    ensures all_named { NamedIsAll }
+    ensures all_identified { IdentifiedIsAll }
 {}
 
 /// Objects that come after others hide none of them; one with a name and an identifier of its own

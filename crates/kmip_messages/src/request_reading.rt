@@ -51,12 +51,14 @@ use std::alloc::Global;
 /// The request that all the bytes are.
 ///
 /// # Errors
-/// The first fault in the order of the checks, with the Operation and the Unique Batch Item ID where
-/// both are lawful; want of memory otherwise.
+/// The first fault in the order of the checks, with the Operation and the Unique Batch Item ID
+/// where both are lawful; want of memory otherwise.
 pub fn read_request(alloc: Global, bytes: &[u8]) -> Result<Request, Refusal>
     ensures found { IfOk result (λ r. (n : Node) × Spells n bytes.now × IsRequest r n) }
-    ensures only { (r : Request) (n : Node) → Spells n bytes.now → IsRequest r n → GivesRequest result (Ok r) }
-    ensures back { (r : Request) → IsTrue (request_fits r) → IsInRange (request_item r) → bytes.now ≡ canon (request_item r) → GivesRequest result (Ok r) }
+    ensures only { (r : Request) (n : Node) → Spells n bytes.now → IsRequest r n
+        → GivesRequest result (Ok r) }
+    ensures back { (r : Request) → IsTrue (request_fits r) → IsInRange (request_item r)
+        → bytes.now ≡ canon (request_item r) → GivesRequest result (Ok r) }
     ensures exact { GivesRequest result (request_read bytes.now) }
     ensures fits { IfOk result (λ r. IsTrue (request_fits r)) }
     ensures carries { IfErr result (λ e. IsTrue (option_map_or is_batch_id e.id true)) }

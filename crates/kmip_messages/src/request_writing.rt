@@ -37,6 +37,7 @@ use std::alloc::Global;
 pub fn write_request(alloc: Global, request: &Request) -> Result<Vec<u8>, NoMemory>
     requires { IsTrue (request_fits request.now) }
     ensures bytes { IfOk result (λ v. v.items ≡ canon (request_item request.now)) }
+    // What the bytes ask, as lists.
     ensures asks { IfOk result (λ v. requests_in v.items ≡ request.now ∷ []) }
     ensures parts { IfOk result (λ v. parts_in v.items ≡ Ok request.now ∷ []) }
 {
@@ -108,7 +109,8 @@ fn ask_items(alloc: Global, ask: &Ask) -> Result<Vec<Item>, NoMemory>
 
 /// The payload of a Create.
 fn create_items(alloc: Global, attrs: &KeyAttrs) -> Result<Vec<Item>, NoMemory>
-    ensures { IfOk result (λ v. views v.items ≡ node TAG_OBJECT_TYPE (enumeration OBJECT_TYPE_SYMMETRIC_KEY) ∷ key_attrs_item attrs.now ∷ []) }
+    ensures { IfOk result (λ v. views v.items
+        ≡ node TAG_OBJECT_TYPE (enumeration OBJECT_TYPE_SYMMETRIC_KEY) ∷ key_attrs_item attrs.now ∷ []) }
 {
     let object_type = Item::enumeration(Tag::new(TAG_OBJECT_TYPE), OBJECT_TYPE_SYMMETRIC_KEY);
     let attrs = key_attrs_item(alloc, attrs)?;

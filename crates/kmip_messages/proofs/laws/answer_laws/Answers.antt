@@ -1,5 +1,5 @@
 -- What is said, by the lemmas of it.
-use Rattle.kmip_messages.proofs.SaidLemmas.{said_is_read, read_is_said, no_reply_says_nothing, nothing_is_no_reply, replies_fit, reply_is_spelled, written_is_said}
+use Rattle.kmip_messages.proofs.SaidLemmas.{said_is_read, read_is_said, no_reply_says_nothing, nothing_is_no_reply, replies_fit, reply_is_spelled, written_is_said, requests_are_no_replies}
 use Rattle.kmip_messages.proofs.laws.answer_laws.Goals as goal
 
 pub returns-clause-said : goal.returns-clause-said
@@ -22,3 +22,6 @@ returns-clause-spelled c = reply_is_spelled
 
 pub returns-clause-written : goal.returns-clause-written
 returns-clause-written c = written_is_said
+
+pub returns-clause-one_kind : goal.returns-clause-one_kind
+returns-clause-one_kind c = requests_are_no_replies
