@@ -1,4 +1,4 @@
--- How long the parts of a message are.
+-- Private: how long the parts of a message are.
 -- Source: KMIP 2.1, TTLV Encoding.
 use Rattle.std.specs.Prelude.{◌≡◌, ℕ, ◌+◌, ◌<◌, ◌≤◌, List, length, map, Option, Some, None}
 use Rattle.kmip_ttlv.specs.Node.{nodes_of}

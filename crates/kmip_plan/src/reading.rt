@@ -21,7 +21,7 @@ use std::alloc::Global;
 use toml::value::Array;
 use toml::{Table, Value};
 
-/// The most keys that a plan may have.
+/// The most keys that a plan may have (own).
 const KEYS_MAX: usize = 1000;
 
 /// The plan that a text is: TOML with an array of tables `key` and nothing else.

@@ -1,5 +1,5 @@
 -- What is wrong with bytes at whose front no item stands: the first fault, and where.
--- Source: KMIP 2.1, TTLV Encoding.
+-- Source: KMIP 2.1, TTLV Encoding; 16 levels and 8,192 bytes are own.
 use Rattle.std.specs.Prelude.{◌≡◌, ℕ, zero, suc, ◌+◌, ◌<◌, ◌≤◌, ◌==◌, ◌⊎◌, List, ◌++◌, length, take, drop, Ok, Err, IsUtf8}
 use Rattle.byteorder.specs.Endian.{big_number}
 use Rattle.kmip_ttlv.specs.declared.fault.TtlvFault.{TtlvFault}

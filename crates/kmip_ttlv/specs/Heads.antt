@@ -1,5 +1,5 @@
 -- The checks of an item's head, in their order, and the first of them to fail.
--- Source: KMIP 2.1, TTLV Encoding.
+-- Source: KMIP 2.1, TTLV Encoding; 16 levels and 8,192 bytes are own.
 use Rattle.std.specs.Prelude.{ℕ, ◌+◌, Bool, true, false, not, ◌&&◌, nat_lt, if◌then◌else◌, List, length, drop, slice_index, Option, Some, None, Result, Ok, Err}
 use Rattle.byteorder.specs.Endian.{big_number}
 use Rattle.kmip_ttlv.specs.declared.fault.TtlvFault.{TtlvFault}

@@ -1,5 +1,5 @@
 -- Reading as a function: the item at the front of some bytes, or the first fault.
--- Source: KMIP 2.1, TTLV Encoding.
+-- Source: KMIP 2.1, TTLV Encoding; 16 levels and 8,192 bytes are own.
 use Rattle.std.specs.Prelude.{◌≡◌, ℕ, zero, suc, ◌+◌, ◌==◌, ◌⊎◌, Bool, true, false, List, [], ◌∷◌, length, take, drop, if◌then◌else◌, Result, Ok, Err}
 use Rattle.std.specs.Int.{w32, w64, cast_signed}
 use Rattle.std.specs.Str.{is_utf8}
@@ -105,7 +105,7 @@ abbrev pub FailsContent : {Y : Type 0} → TtlvFault → Result Y TtlvFault → 
 FailsContent NoMemory read = Unit {0}
 FailsContent e read = read ≡ Err e
 
--- What the code answered, seen by a view, is what reading gives, unless memory ran out.
+-- Private: what the code answered, seen by a view, is what reading gives, unless memory ran out.
 abbrev pub GivesContent : {X Y : Type 0} → (X → Y) → Result X TtlvFault → Result Y TtlvFault → Type 0
 GivesContent seen (Ok x) read = read ≡ Ok (seen x)
 GivesContent seen (Err e) read = FailsContent e read

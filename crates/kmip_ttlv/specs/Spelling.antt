@@ -1,5 +1,5 @@
 -- How an item is spelled in bytes: a tag, a type, a length, a value and padding.
--- Source: KMIP 2.1, TTLV Encoding.
+-- Source: KMIP 2.1, TTLV Encoding; 16 levels and 8,192 bytes are own.
 use Rattle.std.specs.Prelude.{◌≡◌, ℕ, ◌-◌, ◌%◌, ◌^◌, ◌<◌, ◌≤◌, List, [], ◌∷◌, ◌++◌, length, replicate}
 use Rattle.std.specs.Int.{w32, w64, cast_unsigned, from_bool}
 use Rattle.byteorder.specs.Endian.{big_bytes}
