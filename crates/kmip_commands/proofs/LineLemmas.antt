@@ -8,8 +8,7 @@ use Rattle.std.proofs.lemmas.List.Sums.{prefix_len_passes}
 use Rattle.std.proofs.lemmas.Bool.Decides.{nat_tests}
 use Rattle.std.specs.Io.KnownBytes.{Consumes, IsAtEnd}
 use Rattle.std.proofs.KnownBytes.{Consumes-nil, Consumes-trans}
-use Rattle.kmip_commands.specs.Lines.{lines_of, onto_first, IsWithinLine, kept_with, TakesPart, TakesFirst}
-use Rattle.kmip_commands.specs.declared.lines.TheConstants.{MOST_KEPT}
+use Rattle.kmip_commands.specs.Lines.{most_kept, lines_of, onto_first, IsWithinLine, kept_with, TakesPart, TakesFirst}
 
 -- what stands before the first line feed has none, and the line feed follows it
 pub to_feed : (bytes : List ℕ) (place : ℕ) → position (λ b. eqb b 10) bytes ≡ Some place
@@ -69,11 +68,11 @@ take_nothing (suc n) = refl
 
 -- nothing joins what is kept
 pub kept_nothing : (kept : List ℕ) → kept ≡ kept_with kept []
-kept_nothing kept = sym (ap (λ l. kept ++ l) (take_nothing (MOST_KEPT - length kept)) ∙ append-nil kept)
+kept_nothing kept = sym (ap (λ l. kept ++ l) (take_nothing (most_kept - length kept)) ∙ append-nil kept)
 
 -- what is kept of a line as far as it came is its front
-kept_joined : (kept kept' xs ys : List ℕ) → kept ≡ take MOST_KEPT xs → kept' ≡ kept_with kept ys → kept' ≡ take MOST_KEPT (xs ++ ys)
-kept_joined kept kept' xs ys p q = q ∙ ap (λ l. kept_with l ys) p ∙ take_joined MOST_KEPT xs ys
+kept_joined : (kept kept' xs ys : List ℕ) → kept ≡ take most_kept xs → kept' ≡ kept_with kept ys → kept' ≡ take most_kept (xs ++ ys)
+kept_joined kept kept' xs ys p q = q ∙ ap (λ l. kept_with l ys) p ∙ take_joined most_kept xs ys
 
 -- a reader that shows no bytes is at its end
 pub at_end : (known : Option (List ℕ)) (shown : List ℕ) → IfSome known (λ xs. length shown ≡ 0 → xs ≡ []) → length shown ≡ 0 → IsAtEnd known
@@ -85,11 +84,11 @@ pub record HasRead (old now : Option (List ℕ)) (kept : List ℕ) : Type 0 wher
   pub part : List ℕ
   pub within : IsWithinLine part
   pub consumed : Consumes old now part
-  pub is_kept : kept ≡ take MOST_KEPT part
+  pub is_kept : kept ≡ take most_kept part
 
 pub HasRead-none : (old : Option (List ℕ)) (kept : List ℕ) → kept ≡ [] → HasRead old old kept
 HasRead-none old kept none =
-    record { part = []; within = All-nil (λ x. x ≢ 10); consumed = Consumes-nil old; is_kept = none ∙ sym (take_nothing MOST_KEPT) }
+    record { part = []; within = All-nil (λ x. x ≢ 10); consumed = Consumes-nil old; is_kept = none ∙ sym (take_nothing most_kept) }
 
 -- a part without its line's end
 pub HasRead-more : (old now next : Option (List ℕ)) (kept kept' : List ℕ) → HasRead old now kept → TakesPart now next kept kept' [] → HasRead old next kept'
@@ -126,8 +125,8 @@ HasRead-end None now next kept kept' h same end is some = tt
 HasRead-end (Some input) None next kept kept' h same end is some = absurd h.consumed
 HasRead-end (Some input) (Some rest) None kept kept' h same end is some = absurd same
 HasRead-end (Some input) (Some rest) (Some after) kept kept' h same end is some =
-    let front : kept' ≡ take MOST_KEPT h.part = is ∙ h.is_kept in
-    let more : 0 < length h.part = omega (arith, ap length front, length-take MOST_KEPT h.part) in
+    let front : kept' ≡ take most_kept h.part = is ∙ h.is_kept in
+    let more : 0 < length h.part = omega (arith, ap length front, length-take most_kept h.part) in
     record {
       line = h.part;
       after = [];
@@ -143,8 +142,8 @@ HasRead-nothing None now next kept kept' h same end is none = tt
 HasRead-nothing (Some input) None next kept kept' h same end is none = absurd h.consumed
 HasRead-nothing (Some input) (Some rest) None kept kept' h same end is none = absurd same
 HasRead-nothing (Some input) (Some rest) (Some after) kept kept' h same end is none =
-    let front : kept' ≡ take MOST_KEPT h.part = is ∙ h.is_kept in
-    let few : length h.part ≡ 0 = omega (arith, ap length front, length-take MOST_KEPT h.part) in
+    let front : kept' ≡ take most_kept h.part = is ∙ h.is_kept in
+    let few : length h.part ≡ 0 = omega (arith, ap length front, length-take most_kept h.part) in
     (h.consumed ∙ ap (λ l. h.part ++ l) end ∙ append-nil h.part ∙ empty h.part few, ap Some (sym same ∙ end))
   where
     empty : (xs : List ℕ) → length xs ≡ 0 → xs ≡ []

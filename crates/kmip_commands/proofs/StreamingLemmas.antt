@@ -21,7 +21,7 @@ use Rattle.kmip_commands.specs.StreamText.{piece_of, pieces_of, stream_of, repli
 use Rattle.kmip_commands.specs.declared.streaming.InputEnd.{InputEnd}
 use Rattle.kmip_commands.specs.declared.streaming.InputEnd.TheVariants.{Whole, Cut, Refused}
 use Rattle.kmip_commands.specs.declared.streaming.StreamOutcome.{StreamOutcome}
-use Rattle.kmip_commands.proofs.AdvancingLemmas.{piece_text_joined, piece_behind_joined}
+use Rattle.kmip_commands.proofs.AdvancingLemmas.{piece_text_joined, piece_state_joined}
 use Rattle.kmip_commands.proofs.MessagesLemmas.{fault_text, IsStreamed, is_streamed}
 
 -- the line of a fault, from its parts
@@ -54,7 +54,7 @@ pub lines_moved : (s : StreamState) (lines : List (List ℕ)) → state_after_li
 lines_moved s [] = refl
 lines_moved s (line ∷ lines) =
     let piece = piece_of (saying_of line) in
-    ap (λ s'. state_after_lines state_after_piece s' lines) (saying_behind s (saying_of line)) ∙ lines_moved (state_after_piece s piece) lines ∙ sym (piece_behind_joined s piece (pieces_of lines))
+    ap (λ s'. state_after_lines state_after_piece s' lines) (saying_behind s (saying_of line)) ∙ lines_moved (state_after_piece s piece) lines ∙ sym (piece_state_joined s piece (pieces_of lines))
 
 none_first : (a b : Bool) → (a || b) ≡ false → (a ≡ false) × (b ≡ false)
 none_first true b none = absurd (true≢false none)
