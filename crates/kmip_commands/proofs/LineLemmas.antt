@@ -1,7 +1,7 @@
 -- Lines of bytes that a reader gave in parts.
-use Rattle.std.proofs.Common.{◌≡◌, ◌≢◌, ℕ, zero, suc, ◌+◌, ◌-◌, ◌<◌, Bool, true, false, not, eqb, ltb, cond, List, [], ◌∷◌, ◌++◌, Option, Some, None, IfSome, length, take, refl, sym, ap, subst, ◌∙◌, arith, append_assoc, append-nil, eq-eqb, ne_eqb, eqb-true, true≢false, length-take, length-take-le}
+use Rattle.std.proofs.Common.{◌≡◌, ◌≢◌, ℕ, zero, suc, ◌+◌, ◌-◌, ◌<◌, Bool, true, false, not, eqb, ltb, cond, List, [], ◌∷◌, ◌++◌, Option, Some, None, IfSome, length, take, refl, sym, ap, subst, ◌∙◌, arith, append_assoc, append-nil, eq-eqb, ne_eqb, eqb-true, true≢false, length-take, length-take-le, take_all, drop, length-drop}
 use Rattle.std.specs.List.{position, position_or_len}
-use Rattle.std.proofs.lemmas.List.{take_more, get_or-take}
+use Rattle.std.proofs.lemmas.List.{take_more, get_or-take, take-append-drop}
 use Rattle.std.proofs.lemmas.List.Elements.{All-nil, All-append, All-head, All-tail}
 use Rattle.std.proofs.lemmas.List.Quantifiers.{position-Some}
 use Rattle.std.proofs.lemmas.List.Sums.{prefix_len_passes}
@@ -50,6 +50,28 @@ lines_of-last (b ∷ c ∷ bs) within some =
     let rest = c ∷ bs in
     ap (λ t. cond t ([] ∷ lines_of rest) (onto_first b (lines_of rest))) (ne_eqb b 10 (All-head (λ x. x ≢ 10) b rest within))
     ∙ ap (onto_first b) (lines_of-last (c ∷ bs) (All-tail (λ x. x ≢ 10) b rest within) (omega arith))
+
+-- the first line of some bytes and what follows it, by the place of its line feed
+pub first_of_fed : (bytes : List ℕ) (place : ℕ) → position (λ b. eqb b 10) bytes ≡ Some place
+    → lines_of bytes ≡ take place bytes ∷ lines_of (take (length bytes - (place + 1)) (drop (place + 1) bytes))
+first_of_fed bytes place found =
+    let feed = to_feed bytes place found in
+    let rest = drop (place + 1) bytes in
+    let all : take (length bytes - (place + 1)) rest ≡ rest = take_all (length bytes - (place + 1)) rest (omega (arith, length-drop (place + 1) bytes)) in
+    let whole : bytes ≡ take place bytes ++ 10 ∷ rest =
+    sym (take-append-drop (place + 1) bytes) ∙ ap (λ l. l ++ rest) feed.2 ∙ append_assoc (take place bytes) (10 ∷ []) rest in
+    ap lines_of whole ∙ lines_of-line (take place bytes) rest feed.1 ∙ ap (λ l. take place bytes ∷ lines_of l) (sym all)
+
+pub first_of_last : (bytes : List ℕ) → position (λ b. eqb b 10) bytes ≡ None → 0 < length bytes
+    → lines_of bytes ≡ bytes ∷ lines_of (take (length bytes - length bytes) (drop (length bytes) bytes))
+first_of_last bytes none some =
+    let few : length (take (length bytes - length bytes) (drop (length bytes) bytes)) ≡ 0 =
+    omega (arith, length-take (length bytes - length bytes) (drop (length bytes) bytes)) in
+    lines_of-last bytes (without_feed bytes none) some ∙ ap (λ l. bytes ∷ lines_of l) (sym (no_bytes (take (length bytes - length bytes) (drop (length bytes) bytes)) few))
+  where
+    no_bytes : (xs : List ℕ) → length xs ≡ 0 → xs ≡ []
+    no_bytes [] few = refl
+    no_bytes (x ∷ xs) few = absurd (omega arith)
 
 -- what is kept of bytes that come in two parts
 pub take_joined : (n : ℕ) (xs ys : List ℕ) → take n xs ++ take (n - length (take n xs)) ys ≡ take n (xs ++ ys)

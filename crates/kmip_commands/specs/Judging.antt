@@ -47,3 +47,7 @@ are_refused refuses (line ∷ lines) = is_saying_refused refuses (saying_of line
 -- whether a line of the input is refused
 abbrev pub has_refused : (List ℕ → Bool) → List ℕ → Bool
 has_refused refuses input = are_refused refuses (lines_of input)
+
+-- whether a line of the input is no message; no message is refused
+abbrev pub has_refused_line : List ℕ → Bool
+has_refused_line input = has_refused (λ _. false) input
