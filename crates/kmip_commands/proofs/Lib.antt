@@ -1,5 +1,6 @@
 mod CheckingLemmas
 mod RespondingLemmas
+mod FinishingLemmas
 mod LineLemmas
 mod StreamingLemmas
 mod AdvancingLemmas

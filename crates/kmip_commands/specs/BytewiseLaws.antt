@@ -24,7 +24,7 @@ byte_made stock held b o whole lawful is size = rw (lawful, is, size) (refl, ref
 pub byte_over : (s : StreamState) (b : ℕ) → is_over s ≡ true → (byte_text s b ≡ []) × (state_after_byte s b ≡ s)
 byte_over s b over = rw over (refl, refl)
 
--- behind a fault nothing is written, and nothing changes
+-- after a fault nothing is written, and nothing changes
 pub stays_over : (s : StreamState) (bytes : List ℕ) → is_over s ≡ true → (piece_text s bytes ≡ []) × (state_after_piece s bytes ≡ s)
 stays_over s [] over = (refl, refl)
 stays_over s (b ∷ bytes) over =
@@ -47,7 +47,7 @@ longer_waits held b none not m (c ∷ more) is message =
     let front : m ≡ take (length m) held = sym (take_at m (c ∷ more) (length m) refl) ∙ sym (ap (take (length m)) is) ∙ take-append-le (length m) held (b ∷ []) within in
     none (take (length m) held) (drop (length m) held) (sym (take-append-drop (length m) held)) (subst IsMessage front message)
 
--- no message waits behind a byte, where none did before it
+-- no message waits after a byte, where none did before it
 ready_byte : (stock : Stock) (held : List ℕ) (b : ℕ) (o : Option FrameFault) (whole : Bool) → fault_in held ≡ None → fault_in (held ++ b ∷ []) ≡ o
     → eqb (length (held ++ b ∷ [])) (size_needed (held ++ b ∷ [])) ≡ whole → BeginsWithNoMessage held → IsReady (made o whole stock (held ++ b ∷ []))
 ready_byte stock held b (Some fault) whole lawful is size none = fault_no_message (held ++ b ∷ []) fault is

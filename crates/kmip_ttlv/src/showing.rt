@@ -6,6 +6,7 @@ ghost use Rattle.kmip_ttlv.specs.View.{view, views, content};
 ghost use Rattle.kmip_ttlv.specs.Showing.{
   shown_byte,
   quoted,
+  plain_text,
   shown_bytes,
   shown_value,
   line,
@@ -28,6 +29,20 @@ pub fn show(alloc: Global, item: &Item) -> Result<String, NoMemory>
 {
     let mut out = String::new(alloc);
     push_lines(alloc, "", item, &mut out)?;
+    Ok(out)
+}
+
+/// The text in plain characters, as it stands between the quotation marks of a shown Text String: a byte
+/// from 20 to 7E (hexadecimal) as it is, but for the quotation mark and the backslash, and each other
+/// byte as a backslash and its two digits.
+///
+/// # Errors
+/// Where there is no memory for it.
+pub fn plain_text(alloc: Global, text: &str) -> Result<String, NoMemory>
+    ensures { IfOk result (λ s. string_bytes s ≡ plain_text text.now) }
+{
+    let mut out = String::new(alloc);
+    push_plain(alloc, text, &mut out)?;
     Ok(out)
 }
 
@@ -120,10 +135,18 @@ fn push_quoted(alloc: Global, text: &str, out: &mut String) -> Result<(), NoMemo
     ensures { OnOk result (string_bytes out.new ≡ string_bytes out.old ++ 32 ∷ quoted text.now) }
 {
     out.push_str(" \"")?;
+    push_plain(alloc, text, out)?;
+    out.push_str("\"")?;
+    Ok(())
+}
+
+/// Appends the text in plain characters.
+fn push_plain(alloc: Global, text: &str, out: &mut String) -> Result<(), NoMemory>
+    ensures { OnOk result (string_bytes out.new ≡ string_bytes out.old ++ plain_text text.now) }
+{
     for byte in text.as_bytes() {
         push_byte(alloc, *byte, out)?;
     }
-    out.push_str("\"")?;
     Ok(())
 }
 
