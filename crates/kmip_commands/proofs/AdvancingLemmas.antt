@@ -5,11 +5,10 @@ use Rattle.std.proofs.KnownBytes.{Appends-nil, Appends-trans}
 use Rattle.std.proofs.Math.Nat.{min_comm}
 use Rattle.std.proofs.lemmas.Bool.{cases_lt}
 use Rattle.std.proofs.lemmas.List.{length-append, take_at, take_min, take-append-drop}
+use Rattle.kmip_frames.proofs.ForCallers.{fault_size, fault_more, size_needed_fault, size_needed_more, size_needed_least, message_lawful, message_size, message_whole, fault_stays}
 use Rattle.kmip_frames.specs.declared.fault.FrameFault.{FrameFault}
 use Rattle.kmip_frames.specs.Framing.{fault_in, size_needed, held_after}
 use Rattle.kmip_frames.specs.Streams.{IsMessage, BeginsWithNoMessage}
-use Rattle.kmip_frames.proofs.Sizes.{fault_size, fault_more, needed_fault, needed_more, needed_least}
-use Rattle.kmip_frames.proofs.Messages.{message_lawful, message_size, message_whole, fault_stays}
 use Rattle.kmip_store.specs.Stock.{Stock}
 use Rattle.kmip_server.specs.Serving.{stock_after}
 use Rattle.kmip_commands.specs.AnswerText.{reply_text}
@@ -78,7 +77,7 @@ answered stock held (x ∷ y ∷ xs) is some =
     partial : (h : List ℕ) (y : ℕ) (xs : List ℕ) → IsMessage (h ++ y ∷ xs) → ¬ (IsMessage h)
     partial h y xs whole front =
         let joined : length (h ++ y ∷ xs) ≡ length h + length (y ∷ xs) = length-append h (y ∷ xs) in
-        let same : length (h ++ y ∷ xs) ≡ length h = message_size (h ++ y ∷ xs) whole ∙ needed_more h (y ∷ xs) front.head ∙ sym (message_size h front) in
+        let same : length (h ++ y ∷ xs) ≡ length h = message_size (h ++ y ∷ xs) whole ∙ size_needed_more h (y ∷ xs) front.head ∙ sym (message_size h front) in
         absurd (omega (arith, joined, same))
 
 -- the bytes at which a fault is seen are eight
@@ -94,7 +93,7 @@ eight_bytes held x fault lawful is =
 -- and before them no message is whole
 few_bytes : (h xs : List ℕ) (fault : FrameFault) → fault_in h ≡ None → fault_in (h ++ xs) ≡ Some fault → length h ≡ size_needed h → ⊥
 few_bytes h xs fault now is whole = elim (cases_lt (length h) 8) [
-  | inl short ↦ omega (arith, whole, needed_least h)
+  | inl short ↦ omega (arith, whole, size_needed_least h)
   | inr long ↦ (let same = sym (fault_more h xs long) ∙ is in absurd cc)
 ]
 
@@ -136,7 +135,7 @@ held_of_fault held xs fault lawful is =
       | inr whole ↦ (let same = sym (fault_more held xs whole) ∙ is in absurd cc)
     ] in
     let front = take_all 8 held short in
-    ap (λ n. held ++ take (min (length xs) (n - length held)) xs) (needed_fault (held ++ xs) fault is)
+    ap (λ n. held ++ take (min (length xs) (n - length held)) xs) (size_needed_fault (held ++ xs) fault is)
     ∙ ap (λ n. held ++ take n xs) (min_comm (length xs) (8 - length held))
     ∙ ap (λ t. held ++ t) (take_min (8 - length held) xs)
     ∙ ap (λ h. h ++ take (8 - length h) xs) (sym front)

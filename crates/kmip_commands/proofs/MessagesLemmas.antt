@@ -1,11 +1,9 @@
 -- `answer --stream`: the messages that bytes make one by one are those of the stream.
 use Rattle.std.proofs.Common.{◌≡◌, ℕ, Bool, true, false, eqb, List, [], ◌∷◌, ◌++◌, length, Option, Some, None, is_some, refl, sym, ap, subst, ◌∙◌, arith, append_assoc, append-nil, eqb-true, eq-eqb, true≢false}
+use Rattle.kmip_frames.proofs.ForCallers.{fault_short, message_size, message_whole, fault_stays, IsSoFar, so_far_took, so_far_handed, so_far_ended}
 use Rattle.kmip_frames.specs.declared.fault.FrameFault.{FrameFault}
 use Rattle.kmip_frames.specs.Framing.{fault_in, size_needed}
 use Rattle.kmip_frames.specs.Streams.{BeginsWithNoMessage, Stream}
-use Rattle.kmip_frames.proofs.Sizes.{fault_short}
-use Rattle.kmip_frames.proofs.Messages.{message_size, message_whole, fault_stays}
-use Rattle.kmip_frames.proofs.SoFar.{IsSoFar, so_far_took, so_far_handed, so_far_ended}
 use Rattle.kmip_store.specs.Stock.{Stock}
 use Rattle.kmip_server.specs.Serving.{stock_after}
 use Rattle.kmip_commands.specs.AnswerText.{reply_text}

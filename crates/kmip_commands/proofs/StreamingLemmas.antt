@@ -3,12 +3,11 @@ use Rattle.std.proofs.Common.{◌≡◌, ℕ, Bool, true, false, not, ◌&&◌, 
 use Rattle.std.specs.Fmt.{decimal}
 use Rattle.std.specs.Io.KnownBytes.{Appends}
 use Rattle.std.proofs.KnownBytes.{Appends-nil, Appends-trans}
+use Rattle.kmip_frames.proofs.ForCallers.{fault_short, nothing_so_far}
 use Rattle.kmip_frames.specs.declared.fault.FrameFault.{FrameFault}
 use Rattle.kmip_frames.specs.Faults.{frame_fault_number, frame_fault_name}
 use Rattle.kmip_frames.specs.Framing.{fault_in}
 use Rattle.kmip_frames.specs.Streams.{BeginsWithNoMessage, Stream}
-use Rattle.kmip_frames.proofs.Sizes.{fault_short}
-use Rattle.kmip_frames.proofs.SoFar.{nothing_so_far}
 use Rattle.kmip_store.specs.Stock.{Stock}
 use Rattle.kmip_commands.specs.AnswerText.{first_stock}
 use Rattle.kmip_commands.specs.Bytewise.{StreamState, is_over, piece_text, state_after_piece, streams}

@@ -2,11 +2,10 @@
 use Rattle.std.proofs.Common.{◌≡◌, ℕ, ◌+◌, ◌≤◌, Bool, true, false, eqb, List, [], ◌∷◌, ◌++◌, length, take, drop, Option, Some, None, is_some, inl, inr, refl, sym, ap, subst, ◌∙◌, arith, append-nil, eq-eqb, true≢false}
 use Rattle.std.proofs.lemmas.Bool.{cases_lt}
 use Rattle.std.proofs.lemmas.List.{length-append, take_at, take-append-le, take-append-drop}
+use Rattle.kmip_frames.proofs.ForCallers.{fault_short, fault_more, message_size, fault_no_message}
 use Rattle.kmip_frames.specs.declared.fault.FrameFault.{FrameFault}
 use Rattle.kmip_frames.specs.Framing.{fault_in, size_needed}
 use Rattle.kmip_frames.specs.Streams.{IsMessage, BeginsWithNoMessage}
-use Rattle.kmip_frames.proofs.Sizes.{fault_short, fault_more}
-use Rattle.kmip_frames.proofs.Messages.{message_size, fault_no_message}
 use Rattle.kmip_store.specs.Stock.{Stock}
 use Rattle.kmip_commands.specs.Bytewise.{StreamState, is_over, IsReady, made_text, made, byte_text, state_after_byte, piece_text, state_after_piece}
 
