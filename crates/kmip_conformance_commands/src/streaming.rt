@@ -3,7 +3,8 @@
 use crate::readers::PieceReader;
 use crate::texts::text_of;
 use kmip_commands::{
-    CommandFault, ExitStatus, InputEnd, StreamOutcome, answer_stream, run_answer_stream,
+    CommandFault, ExitStatus, InputEnd, StreamOutcome, answer_stream, answer_stream_bytes,
+    run_answer_stream,
 };
 use kmip_frames::FrameFault;
 use kmip_vectors::{CREATE_K1, CREATE_K1_REPLY, INVALID_MESSAGE_REPLY, LOCATE_K1, LOCATE_K1_NONE};
@@ -138,8 +139,23 @@ fn answers_streams(rt: HostRuntime) -> Result<(), Fail> {
         let mut writer = Vec::new(rt.alloc());
         let status = run_answer_stream(rt.alloc(), &mut reader, &mut writer);
         let is_done = row.end == InputEnd::Whole && !row.has_refused;
-        assert_eq!(rt; status == ExitStatus::Done, is_done, "{name}");
+        let wanted = if is_done {
+            ExitStatus::Done
+        } else {
+            ExitStatus::Refused
+        };
+        assert_eq!(rt; status, wanted, "{name}");
         assert_eq!(rt; from_utf8(writer.as_slice()), Ok(output.as_str()), "{name}");
+
+        let mut written = Vec::new(rt.alloc());
+        let outcome = answer_stream_bytes(rt.alloc(), input.as_bytes(), &mut written)?;
+        assert_eq!(rt; outcome.end, row.end, "{name}");
+        assert_eq!(rt; outcome.has_refused, row.has_refused, "{name}");
+        assert_eq!(rt;
+            from_utf8(written.as_slice()),
+            Ok(output.as_str()),
+            "{name}"
+        );
     }
     Ok(())
 }
@@ -194,7 +210,7 @@ fn answers_messages_before_the_reader_fails(rt: HostRuntime) -> Result<(), Fail>
         let mut writer = Vec::new(rt.alloc());
         let mut reader = PieceReader::failing(bytes, piece_len);
         let status = run_answer_stream(rt.alloc(), &mut reader, &mut writer);
-        assert_eq!(rt; status, ExitStatus::Refused);
+        assert_eq!(rt; status, ExitStatus::Failed(CommandFault::Input));
         assert_eq!(rt; from_utf8(writer.as_slice()), Ok(output.as_str()));
     }
     Ok(())

@@ -1,6 +1,6 @@
 //! What the command `check` prints.
 
-use kmip_commands::check;
+use kmip_commands::{check, check_bytes};
 use std::str::from_utf8;
 use std::test::Fail;
 
@@ -11,7 +11,17 @@ struct Row {
     is_refused: bool,
 }
 
-const ROWS: [Row; 14] = [
+const ROWS: [Row; 16] = [
+    Row {
+        plan: "[[key]]\nname = \"k1\"\nalgorithm = \"AES\"\nlength = 256\nusage = [\"encrypt\"]\ntarget = \"active\"\n\"a\\nplan \\\"b\\u001b\\u00e9\\\\\" = 1\n",
+        text: "plan refused: 5 Unknown a\\0Aplan \\22b\\1B\\C3\\A9\\5C at key 1\n",
+        is_refused: true,
+    },
+    Row {
+        plan: "[[key]]\nname = \"k1\"\nalgorithm = \"AES\"\nlength = 256\nusage = [\"encrypt\"]\ntarget = \"active\"\n\"\" = 1\n",
+        text: "plan refused: 5 Unknown  at key 1\n",
+        is_refused: true,
+    },
     Row {
         plan: "",
         text: "plan refused: 2 NoKeys\n",
@@ -260,6 +270,11 @@ fn checks_plans(rt: HostRuntime) -> Result<(), Fail> {
         let is_refused = check(rt.alloc(), row.plan, &mut writer)?;
         assert_eq!(rt; is_refused, row.is_refused, "{}", row.plan);
         assert_eq!(rt; from_utf8(writer.as_slice()), Ok(row.text), "{}", row.plan);
+
+        let mut written = Vec::new(rt.alloc());
+        let is_refused = check_bytes(rt.alloc(), row.plan, &mut written)?;
+        assert_eq!(rt; is_refused, row.is_refused, "{}", row.plan);
+        assert_eq!(rt; from_utf8(written.as_slice()), Ok(row.text), "{}", row.plan);
     }
     Ok(())
 }

@@ -1,6 +1,6 @@
 //! What the command `show` prints.
 
-use kmip_commands::{Form, show_lines};
+use kmip_commands::{Form, show_bytes, show_lines};
 use std::str::from_utf8;
 use std::test::Fail;
 
@@ -144,6 +144,11 @@ fn shows_lines(rt: HostRuntime) -> Result<(), Fail> {
             let is_refused = show_lines(rt.alloc(), form, &mut reader, &mut writer)?;
             assert_eq!(rt; is_refused, row.is_refused, "{}", row.line);
             assert_eq!(rt; from_utf8(writer.as_slice()), Ok(wanted), "{}", row.line);
+
+            let mut written = Vec::new(rt.alloc());
+            let is_refused = show_bytes(rt.alloc(), form, row.line.as_bytes(), &mut written)?;
+            assert_eq!(rt; is_refused, row.is_refused, "{}", row.line);
+            assert_eq!(rt; from_utf8(written.as_slice()), Ok(wanted), "{}", row.line);
         }
     }
     Ok(())

@@ -2,7 +2,7 @@
 
 use crate::readers::PieceReader;
 use crate::texts::text_of;
-use kmip_commands::{CommandFault, ExitStatus, answer, run_answer};
+use kmip_commands::{CommandFault, ExitStatus, answer, answer_bytes, run_answer};
 use kmip_vectors::{
     ACTIVATE_1, CREATE_K1, CREATE_K1_REPLY, INVALID_MESSAGE_REPLY, LOCATE_K1, LOCATE_K1_FOUND,
     LOCATE_K1_NONE, NAME_USED_REPLY,
@@ -96,6 +96,15 @@ fn answers_lines(rt: HostRuntime) -> Result<(), Fail> {
         let is_refused = answer(rt.alloc(), &mut reader, &mut writer)?;
         assert_eq!(rt; is_refused, row.is_refused, "{name}");
         assert_eq!(rt; from_utf8(writer.as_slice()), Ok(output.as_str()), "{name}");
+
+        let mut written = Vec::new(rt.alloc());
+        let is_refused = answer_bytes(rt.alloc(), input.as_bytes(), &mut written)?;
+        assert_eq!(rt; is_refused, row.is_refused, "{name}");
+        assert_eq!(rt;
+            from_utf8(written.as_slice()),
+            Ok(output.as_str()),
+            "{name}"
+        );
     }
     Ok(())
 }
@@ -141,7 +150,7 @@ fn answers_lines_before_the_reader_fails(rt: HostRuntime) -> Result<(), Fail> {
         let mut writer = Vec::new(rt.alloc());
         let mut reader = PieceReader::failing(bytes, piece_len);
         let status = run_answer(rt.alloc(), &mut reader, &mut writer);
-        assert_eq!(rt; status, ExitStatus::Refused);
+        assert_eq!(rt; status, ExitStatus::Failed(CommandFault::Input));
         assert_eq!(rt; from_utf8(writer.as_slice()), Ok(output.as_str()));
     }
     Ok(())
@@ -154,7 +163,7 @@ fn ends_where_the_writer_fails(rt: HostRuntime) -> Result<(), Fail> {
     let mut reader = input.as_bytes();
     let mut writer = room.as_mut_slice();
     let status = run_answer(rt.alloc(), &mut reader, &mut writer);
-    assert_eq!(rt; status, ExitStatus::Refused);
+    assert_eq!(rt; status, ExitStatus::Failed(CommandFault::Output));
     let mut reader = input.as_bytes();
     let mut writer = room.as_mut_slice();
     let fault = answer(rt.alloc(), &mut reader, &mut writer);

@@ -1,9 +1,19 @@
-//! The words of the command line, and what they ask for.
+//! The words of the command line of `kmipctl`, and what they ask for.
+#![tactic(auto)]
+
+ghost use Rattle.std.specs.Prelude.{◌≡◌, if◌then◌else◌};
+ghost use Rattle.clap.specs.Words.{kind_of};
+ghost use Rattle.kmip_commands.specs.declared.showing.Form.TheVariants.{Text, Canonical};
+ghost use Rattle.kmip_command_line.specs.declared.Choice.TheVariants.{Answer, AnswerStream};
+ghost use Rattle.kmip_command_line.specs.Choices.{status_of};
 
 use clap::error::ErrorKind;
 use clap::{Arg, ArgAction, Command, Error};
-use kmip_commands::{ExitStatus, Form};
+use kmip_commands::{CommandFault, ExitStatus, Form};
 use std::alloc::{AllocError, Global};
+
+/// The number of this version.
+const VERSION: &str = "0.2.0";
 
 const ABOUT: &str = "\
 Messages of the Key Management Interoperability Protocol (KMIP) 2.1 in lines of hexadecimal digits:
@@ -71,7 +81,8 @@ unspecified, affiliation-changed, superseded, cessation-of-operation or privileg
 
 The whole plan is judged before anything is printed. One with a fault prints its first one alone, as
 `plan refused: 4 Missing length at key 1`: the fault's number, its name, the field where there is one,
-and the place of the key, where 0 is beside the keys. A file that cannot be read as text prints
+and the place of the key, where 0 is beside the keys. A field that plans do not have is printed in
+plain characters, any other byte of it as a backslash and two digits, as `show` prints texts. A file that cannot be read as text prints
 `cannot read PATH`, and one of more than 16,777,216 bytes `longer than 16777216 bytes: PATH`.";
 
 const PLAN: &str = "The file of the plan";
@@ -79,7 +90,7 @@ const PLAN: &str = "The file of the plan";
 const CANON: &str = "Print the item's one written form, the padding zero, in lower-case digits";
 
 /// What the command line asks for.
-#[derive(Debug, Drop)]
+#[derive(Debug, PartialEq, Eq, Drop)]
 pub enum Choice {
     /// Answer a message a line.
     Answer,
@@ -94,7 +105,7 @@ pub enum Choice {
 ///
 /// # Errors
 ///
-/// The text to print, and `status_of` how to end: help, a usage fault, or want of memory.
+/// The text to print, and `status_of` how to end: help, the version, a usage fault, or want of memory.
 pub fn chosen(alloc: Global, words: &[String]) -> Result<Choice, Error> {
     let matches = command(alloc)?.try_get_matches_from(words)?;
     match matches.subcommand() {
@@ -110,7 +121,9 @@ pub fn chosen(alloc: Global, words: &[String]) -> Result<Choice, Error> {
 }
 
 /// How to answer, by whether the lines are pieces of a stream.
-fn answer_of(is_stream: bool) -> Choice {
+fn answer_of(is_stream: bool) -> Choice
+    ensures { result ≡ (if is_stream then AnswerStream else Answer) }
+{
     if is_stream {
         Choice::AnswerStream
     } else {
@@ -119,7 +132,9 @@ fn answer_of(is_stream: bool) -> Choice {
 }
 
 /// The form that `show` prints, by whether it was asked for the canonical one.
-fn form_of(is_canonical: bool) -> Form {
+fn form_of(is_canonical: bool) -> Form
+    ensures { result ≡ (if is_canonical then Canonical else Text) }
+{
     if is_canonical {
         Form::Canonical
     } else {
@@ -127,15 +142,19 @@ fn form_of(is_canonical: bool) -> Form {
     }
 }
 
-/// How the program ends after it printed the text of `error`.
-pub fn status_of(error: &Error) -> ExitStatus {
+/// How the program ends after it printed the text of `error`: `Done` for help and the version, and
+/// `Usage` for a wrong command line. For want of memory it is `Failed`, and there is no text to print.
+pub fn status_of(error: &Error) -> ExitStatus
+    ensures { result ≡ status_of (kind_of error.now) }
+{
     match error.kind() {
         ErrorKind::DisplayHelp | ErrorKind::DisplayVersion => ExitStatus::Done,
-        ErrorKind::OutOfMemory => ExitStatus::Refused,
+        ErrorKind::OutOfMemory => ExitStatus::Failed(CommandFault::NoMemory),
         _ => ExitStatus::Usage,
     }
 }
 
+/// The commands, their options and their help.
 fn command<'a>(alloc: Global) -> Result<Command<'a>, AllocError> {
     let stream = Arg::new(alloc, "stream")
         .long("stream")
@@ -163,6 +182,7 @@ fn command<'a>(alloc: Global) -> Result<Command<'a>, AllocError> {
         .long_about(CHECK_LONG)
         .arg(plan)?;
     Command::new(alloc, "kmipctl")
+        .version(VERSION)
         .about(ABOUT)
         .after_help(AFTER_HELP)
         .subcommand(answer)?
