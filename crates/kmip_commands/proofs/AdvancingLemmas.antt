@@ -13,7 +13,7 @@ use Rattle.kmip_store.specs.Stock.{Stock}
 use Rattle.kmip_server.specs.Serving.{stock_after}
 use Rattle.kmip_commands.specs.AnswerText.{reply_text}
 use Rattle.kmip_commands.specs.Bytewise.{StreamState, is_over, byte_text, state_after_byte, piece_text, state_after_piece}
-use Rattle.kmip_commands.specs.BytewiseLaws.{no_fault_front, byte_made, stays_over, stays_ready}
+use Rattle.kmip_commands.proofs.BytewiseLaws.{no_fault_front, byte_made, stays_over, stays_ready}
 use Rattle.kmip_commands.proofs.LineLemmas.{take_joined}
 use Rattle.kmip_commands.specs.StreamText.{stream_refusal_text}
 

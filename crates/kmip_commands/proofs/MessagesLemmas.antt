@@ -8,7 +8,7 @@ use Rattle.kmip_store.specs.Stock.{Stock}
 use Rattle.kmip_server.specs.Serving.{stock_after}
 use Rattle.kmip_commands.specs.AnswerText.{reply_text}
 use Rattle.kmip_commands.specs.Bytewise.{StreamState, state_after_byte, piece_text, state_after_piece}
-use Rattle.kmip_commands.specs.BytewiseLaws.{byte_made, stays_over, nothing_waits, longer_waits}
+use Rattle.kmip_commands.proofs.BytewiseLaws.{byte_made, stays_over, nothing_waits, longer_waits}
 use Rattle.kmip_commands.specs.StreamText.{replies_text, stream_refusal_text, stock_after_messages}
 
 -- what is written where a head is no message's

@@ -11,7 +11,7 @@ use Rattle.kmip_frames.specs.Streams.{BeginsWithNoMessage, Stream}
 use Rattle.kmip_store.specs.Stock.{Stock}
 use Rattle.kmip_commands.specs.AnswerText.{first_stock}
 use Rattle.kmip_commands.specs.Bytewise.{StreamState, is_over, piece_text, state_after_piece, streams}
-use Rattle.kmip_commands.specs.BytewiseLaws.{stays_over, stays_ready, nothing_waits}
+use Rattle.kmip_commands.proofs.BytewiseLaws.{stays_over, stays_ready, nothing_waits}
 use Rattle.kmip_commands.proofs.RespondingLemmas.{read_on}
 use Rattle.kmip_commands.specs.Judging.{Saying, nothing, too_long, no_hex, message, saying_of, is_saying_refused, are_refused, has_refused_line}
 use Rattle.kmip_commands.specs.Lines.{lines_of}

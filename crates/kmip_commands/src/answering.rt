@@ -117,8 +117,6 @@ impl Respond for Answerer {
 
     ghost IsReady = { λ _. Unit {0} };
 
-    ghost stays_ready = { λ _ _ ready. ready };
-
     fn respond(
         &mut self,
         alloc: Global,
@@ -132,4 +130,6 @@ impl Respond for Answerer {
     fn is_over(&self) -> bool {
         false
     }
+
+    fn stays_ready() {}
 }

@@ -49,9 +49,9 @@ pub(crate) trait Respond {
     fn is_over(&self) -> bool
         ensures { result ≡ response.over (state self.now) };
 
-    /// A message leaves the command ready for the next.
-    ghost stays_ready: { (s : State) (message : List ℕ) → IsReady s
-        → IsReady (response.after s message) };
+    /// A message leaves the command ready for the next: a law, which does nothing.
+    fn stays_ready()
+        ensures { (s : State) (message : List ℕ) → IsReady s → IsReady (response.after s message) };
 }
 
 /// Responds to each line of the reader in order until the command is over, and says whether a line
@@ -75,6 +75,7 @@ pub(crate) fn respond_to_lines<C: Respond, R: BufRead, W: Write>(
         (R.remaining reader.old) (C.state command.old)
         (W.contents writer.old) (W.contents writer.new))) }
 {
+    C::stays_ready();
     let mut line = Vec::new(alloc);
     let mut text = Vec::new(alloc);
     let mut has_refused = false;
@@ -113,6 +114,7 @@ pub(crate) fn respond_to_bytes<C: Respond>(
     ensures broken { OnErr result (BreaksOffAt C.response (Some input.now) (C.state command.old)
         (Some output.old.items) (Some output.new.items)) }
 {
+    C::stays_ready();
     let mut rest = input;
     let mut text = Vec::new(alloc);
     let mut has_refused = false;

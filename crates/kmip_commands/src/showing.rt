@@ -103,8 +103,6 @@ impl Respond for Shower {
 
     ghost IsReady = { λ _. Unit {0} };
 
-    ghost stays_ready = { λ _ _ ready. ready };
-
     fn respond(
         &mut self,
         alloc: Global,
@@ -117,6 +115,8 @@ impl Respond for Shower {
     fn is_over(&self) -> bool {
         false
     }
+
+    fn stays_ready() {}
 }
 
 /// Appends the item that all the bytes are, or why they are none, and says whether they are none.

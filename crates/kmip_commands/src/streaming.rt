@@ -5,7 +5,6 @@ ghost use Rattle.kmip_frames.specs.Framing.{fault_in};
 ghost use Rattle.kmip_frames.specs.Streams.{BeginsWithNoMessage};
 ghost use Rattle.kmip_commands.specs.AnswerText.{first_stock};
 ghost use Rattle.kmip_commands.specs.Bytewise.{StreamState, IsReady, piece_text, state_after_piece, streams};
-ghost use Rattle.kmip_commands.specs.BytewiseLaws.{stays_ready};
 ghost use Rattle.kmip_commands.specs.Printing.{IfFailed, IfWhole, UnlessOutput, fault_line};
 ghost use Rattle.kmip_commands.specs.StreamText.{end_of, stream_refusal_text, cut_text, tail_text, is_whole, IsWritten, IsAnswered, IsStreamAnswered, IsBrokenOff};
 
@@ -213,8 +212,6 @@ impl Respond for Streamer {
 
     ghost IsReady = { IsReady };
 
-    ghost stays_ready = { stays_ready };
-
     fn respond(
         &mut self,
         alloc: Global,
@@ -233,6 +230,8 @@ impl Respond for Streamer {
     fn is_over(&self) -> bool {
         self.framer.fault().is_some()
     }
+
+    fn stays_ready() {}
 }
 
 /// Appends the fault of a head, by its number and name.

@@ -23,7 +23,7 @@ loop-preserved g c =
     let taken = subst (λ next. IfSome (g.R.Read.remaining c.loop.reader) (λ input. TakesLine input read.line.items (g.R.Read.remaining read.reader) next)) c.in-Line.is c.in_ok-has_more.ensures.line in
     let responded = c.in_ok-is_refused.ensures in
     let text = made_whole _ _ _ _ c.clear.ensures.items responded.text c.as_slice-in-loop.ensures.value in (
-      stays_ready_line r.after g.C.Respond.IsReady g.met.C.Respond.stays_ready _ _ _ c.loop.invariant.0 responded.after,
+      stays_ready_line r.after g.C.Respond.IsReady c.stays_ready.ensures _ _ _ c.loop.invariant.0 responded.after,
       Responding-goes_on r _ _ _ _ _ _ _ (Responding-line r false _ _ _ read.line.items _ _ _ _ _ _ _ _ _ _ c.loop.invariant.1 taken c.as_slice.ensures.value c.read_line.ensures.unwritten (subst (Appends _ _) text c.in_ok-send.ensures.text) responded.after (ap (λ b. c.loop.has_refused || b) responded.refused) (sym c.is_over-is_over.ensures ∙ c.if-is_over.false)),
     )
 
