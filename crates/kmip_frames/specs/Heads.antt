@@ -2,18 +2,12 @@
 -- Source: KMIP 2.1, Message Structure; TTLV Encoding. That a message takes at most 8,192 bytes is own.
 use Rattle.std.specs.Prelude.{ℕ, ◌+◌, ◌==◌, ◌%◌, nat_lt, Bool, not, ◌&&◌, ◌||◌, if◌then◌else◌, List, drop, slice_index, Option, Some, None}
 use Rattle.byteorder.specs.Endian.{big_number}
+use Rattle.kmip_ttlv.specs.Limits.{head_size, most_bytes}
 use Rattle.kmip_ttlv.specs.Types.{byte_of_type}
 use Rattle.kmip_ttlv.specs.declared.item_type.ItemType.TheVariants.{Structure}
 use Rattle.kmip_messages.specs.declared.standard.TheConstants.{TAG_REQUEST_MESSAGE, TAG_RESPONSE_MESSAGE}
 use Rattle.kmip_frames.specs.declared.fault.FrameFault.{FrameFault}
 use Rattle.kmip_frames.specs.declared.fault.FrameFault.TheVariants.{BadHead, BadLength, TooLong}
-
--- how many bytes a head has, and the most that a message takes with it (own)
-abbrev pub head_size : ℕ
-head_size = 8
-
-abbrev pub most_bytes : ℕ
-most_bytes = 8192
 
 -- a message has the tag
 abbrev pub is_message_tag : ℕ → Bool

@@ -2,7 +2,7 @@
 -- Source: own: what the laws say.
 use Rattle.std.specs.Prelude.{◌≡◌, ◌≤◌, ◌<◌, ℕ, List, [], ◌++◌, length, Ok, None, Some}
 use Rattle.kmip_frames.specs.declared.fault.FrameFault.{FrameFault}
-use Rattle.kmip_frames.specs.Heads.{head_size, most_bytes}
+use Rattle.kmip_ttlv.specs.Limits.{head_size, most_bytes}
 use Rattle.kmip_frames.specs.Streams.{IsMessage, BeginsWithNoMessage, Stream}
 use Rattle.kmip_frames.specs.Framing.{fault_in, size_needed, feed, IsHeld}
 use Rattle.kmip_frames.specs.Calls.{Call, Runs, all_taken, all_handed, IsFedAsTwo}

@@ -2,7 +2,8 @@
 -- Source: KMIP 2.1, Message Structure; TTLV Encoding.
 use Rattle.std.specs.Prelude.{◌≡◌, ℕ, ◌+◌, ◌≤◌, List, ◌++◌, length, take, None}
 use Rattle.std.specs.List.{flat_map, AllByRecursion}
-use Rattle.kmip_frames.specs.Heads.{head_size, length_in, head_fault}
+use Rattle.kmip_frames.specs.Heads.{length_in, head_fault}
+use Rattle.kmip_ttlv.specs.Limits.{head_size}
 
 -- a lawful head, and as many bytes as it says
 pub record IsMessage (bytes : List ℕ) : Type 0 where

@@ -1,7 +1,7 @@
 //! The framer.
 ghost use Rattle.std.specs.Prelude.{◌≡◌, ◌≤◌, ◌<◌, ◌-◌, ◌++◌, min, [], length, take, vec_capacity, None, Some, Err, IfOk, IfErr, IsSome};
 ghost use Rattle.kmip_frames.specs.Framing.{fault_in, wants, held_after, feed, IsHeld, Hands};
-ghost use Rattle.kmip_frames.specs.Heads.{most_bytes};
+ghost use Rattle.kmip_ttlv.specs.Limits.{most_bytes};
 ghost use Rattle.kmip_frames.specs.Streams.{IsMessage, BeginsWithNoMessage};
 
 use crate::fault::FrameFault;
@@ -22,7 +22,7 @@ pub struct Framer {
 impl Model for Framer {
     ghost use Rattle.std.specs.Prelude.{ℕ, List, length, ◌≤◌, vec_capacity};
     ghost use Rattle.kmip_frames.specs.Framing.{size_needed};
-    ghost use Rattle.kmip_frames.specs.Heads.{most_bytes};
+    ghost use Rattle.kmip_ttlv.specs.Limits.{most_bytes};
 
     ghost Value = { List ℕ };
 

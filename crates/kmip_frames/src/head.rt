@@ -1,6 +1,7 @@
 //! The head of a message.
 ghost use Rattle.std.specs.Prelude.{◌≡◌, ◌≤◌, ◌<◌, ◌^◌, length};
-ghost use Rattle.kmip_frames.specs.Heads.{head_size, head_fault, is_message_tag, length_in};
+ghost use Rattle.kmip_frames.specs.Heads.{head_fault, is_message_tag, length_in};
+ghost use Rattle.kmip_ttlv.specs.Limits.{head_size};
 ghost use Rattle.kmip_frames.specs.Framing.{fault_in, size_needed};
 
 use crate::fault::FrameFault;

@@ -1,4 +1,5 @@
 //! Bytes to items.
+ghost use Rattle.kmip_ttlv.specs.Limits.{head_size, most_levels};
 ghost use Rattle.std.specs.Prelude.{◌≡◌, ℕ, ◌+◌, ◌<◌, ◌≤◌, ◌^◌, ◌⊎◌, List, ◌++◌, length, take, IfOk, IfErr, IsTrue};
 ghost use Rattle.kmip_ttlv.specs.declared.fault.TtlvFault.{TtlvFault};
 ghost use Rattle.kmip_ttlv.specs.declared.fault.TtlvFault.TheVariants as faults;
@@ -37,10 +38,10 @@ pub fn read(alloc: Global, bytes: &[u8]) -> Result<(Item, usize), TtlvFault>
     // What is read has a written form.
     ensures writable { IfOk result (λ x. IsWritable (view x.0)) }
     // Which fault it is, and that there is no other.
-    ensures fault { IfErr result (λ e. (e ≡ faults.NoMemory) ⊎ Breaks 16 0 bytes.now e) }
-    ensures refused { (e : TtlvFault) → Breaks 16 0 bytes.now e → IsRefused result e }
+    ensures fault { IfErr result (λ e. (e ≡ faults.NoMemory) ⊎ Breaks most_levels 0 bytes.now e) }
+    ensures refused { (e : TtlvFault) → Breaks most_levels 0 bytes.now e → IsRefused result e }
     // All of this as one function of the bytes.
-    ensures exact { ReadsAs result (item_at 16 0 bytes.now) }
+    ensures exact { ReadsAs result (item_at most_levels 0 bytes.now) }
 {
     item_of(alloc, MAX_DEPTH, 0, bytes)
 }
@@ -50,7 +51,7 @@ pub fn read(alloc: Global, bytes: &[u8]) -> Result<(Item, usize), TtlvFault>
 #[cycle(reading)]
 #[tactic(auto, unfolding(crate::specs::Reading::item_at))]
 fn item_of(alloc: Global, left: usize, at: usize, bytes: &[u8]) -> Result<(Item, usize), TtlvFault>
-    requires levels { left ≤ 16 }
+    requires levels { left ≤ most_levels }
     requires offsets { at + length bytes.now < 2 ^ 64 }
     ensures exact { ReadsAs result (item_at left at bytes.now) }
     ensures size { IfOk result (λ x. (0 < x.1) × (x.1 ≤ length bytes.now)) }
@@ -75,8 +76,8 @@ fn value_of(
     item_type: ItemType,
     bytes: &[u8],
 ) -> Result<Value, TtlvFault>
-    requires levels { left < 16 }
-    requires offsets { at + 8 + length bytes.now < 2 ^ 64 }
+    requires levels { left < most_levels }
+    requires offsets { at + head_size + length bytes.now < 2 ^ 64 }
     requires allowed { IsTrue (is_allowed item_type (length bytes.now)) }
     ensures { GivesContent content result (value_at (item_at left) at item_type bytes.now) }
 {
@@ -113,7 +114,7 @@ fn value_of(
 /// The children that take up all of the bytes, which begin at offset `at`.
 #[cycle(reading)]
 fn all_of(alloc: Global, left: usize, at: usize, bytes: &[u8]) -> Result<Vec<Item>, TtlvFault>
-    requires levels { left < 16 }
+    requires levels { left < most_levels }
     requires offsets { at + length bytes.now < 2 ^ 64 }
     ensures { GivesContent (λ v. views v.items) result (all_at (item_at left) (length bytes.now) at bytes.now) }
 {
@@ -137,7 +138,7 @@ fn head_of(outermost: bool, at: usize, bytes: &[u8]) -> Result<(u32, ItemType, u
     ensures exact { result ≡ head_at outermost at bytes.now }
     ensures tag { IfOk result (λ h. h.0 < 2 ^ 24) }
     ensures allowed { IfOk result (λ h. IsTrue (is_allowed h.1 h.2)) }
-    ensures within { IfOk result (λ h. 8 + h.2 + padding h.2 ≤ length bytes.now) }
+    ensures within { IfOk result (λ h. head_size + h.2 + padding h.2 ≤ length bytes.now) }
 {
     if bytes.len() < HEAD_SIZE {
         return Err(overrun_of(outermost, at));
