@@ -57,7 +57,7 @@ for the item with its tag, its type and its value, and below a Structure's line 
 two spaces further to the right.
 
 A line that spells no item prints its first fault, as `refused: 1 Short at 0`, with the fault's number,
-its name and the offset of the item at fault; bytes behind the item print `refused: extra at 16`. Empty,
+its name and the offset of the item at fault; bytes after the item print `refused: extra at 16`. Empty,
 long and wrong lines are treated as by `answer`.";
 
 const CHECK: &str = "Judges a plan of keys, and prints a line for each key";
@@ -81,8 +81,8 @@ unspecified, affiliation-changed, superseded, cessation-of-operation or privileg
 
 The whole plan is judged before anything is printed. One with a fault prints its first one alone, as
 `plan refused: 4 Missing length at key 1`: the fault's number, its name, the field where there is one,
-and the place of the key, where 0 is beside the keys. A field that plans do not have is printed in
-plain characters, any other byte of it as a backslash and two digits, as `show` prints texts. A file that cannot be read as text prints
+and the place of the key, where 0 is beside the keys. Of a field that plans do not have, a byte that is
+no plain character is printed as a backslash and two digits. A file that cannot be read as text prints
 `cannot read PATH`, and one of more than 16,777,216 bytes `longer than 16777216 bytes: PATH`.";
 
 const PLAN: &str = "The file of the plan";

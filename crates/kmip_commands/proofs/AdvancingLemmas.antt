@@ -211,7 +211,7 @@ advanced_more first now next piece rest count old mid new h written state =
       ready = subst (λ s. BeginsWithNoMessage s.1) (sym state) (stays_ready now front h.ready);
     }
 
--- at the end of the piece, or behind a fault, all is written
+-- at the end of the piece, or after a fault, all is written
 pub advanced_all : (first now : StreamState) (piece rest : List ℕ) (old new : Option (List ℕ)) → HasAdvanced first now piece rest old new
     → (length rest ≡ 0) ⊎ (is_over now ≡ true) → Appends old new (piece_text first piece) × (now ≡ state_after_piece first piece)
 advanced_all first now piece rest old new h ended =

@@ -33,7 +33,7 @@ retold : (done bytes : List ℕ) (before : List (List ℕ)) (stock : Stock) (tex
 retold done bytes before stock text text' now now' p q is =
     subst (λ t. IsStreamed done bytes before stock t now') (sym p) (subst (λ s. IsStreamed done bytes before stock text s) (sym q) is)
 
--- the bytes of before and those behind them, cut at another place
+-- the bytes of before and those after them, cut at another place
 recut : (done bytes more : List ℕ) (before : List (List ℕ)) (stock : Stock) (text : List ℕ) (now : StreamState)
     → IsStreamed (done ++ bytes) more before stock text now → IsStreamed done (bytes ++ more) before stock text now
 recut done bytes more before stock text now is = record {

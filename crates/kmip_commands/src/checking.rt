@@ -196,7 +196,8 @@ fn field_text(alloc: Global, fault: &PlanFault) -> Result<String, NoMemory>
 
 /// The place of the key at fault, where there is one.
 fn key_place_text(alloc: Global, fault: &PlanFault) -> Result<String, NoMemory>
-    ensures { IfOk result (λ text. string_bytes text ≡ key_place_text (plan_fault_place fault.now)) }
+    ensures { IfOk result (λ text. string_bytes text
+        ≡ key_place_text (plan_fault_place fault.now)) }
 {
     match fault.place() {
         Some(place) => {

@@ -5,6 +5,7 @@ use crate::texts::text_of;
 use kmip_commands::{InputEnd, StreamOutcome, answer, answer_bytes, answer_stream};
 use kmip_vectors::{INVALID_MESSAGE_REPLY, LOCATE_K1, LOCATE_K1_NONE};
 use std::alloc::Global;
+use std::process::Abort;
 use std::str::from_utf8;
 use std::test::Fail;
 
@@ -22,7 +23,7 @@ fn longest(alloc: Global) -> Result<String, Fail> {
 fn answers_a_message_of_8192_bytes(rt: HostRuntime) -> Result<(), Fail> {
     let message = longest(rt.alloc())?;
     assert_eq!(rt; message.len(), 16_384);
-    let input = text_of(rt.alloc(), &[message.as_str(), message.as_str()])?;
+    let input = format!(in rt.alloc(); "{message}\n{message}\n")?;
     let output = text_of(rt.alloc(), &[LOCATE_K1_NONE, LOCATE_K1_NONE])?;
     for piece_len in [40_000, 16_385, 16_384, 1_000] {
         let mut reader = PieceReader::ending(input.as_bytes(), piece_len);
@@ -37,33 +38,35 @@ fn answers_a_message_of_8192_bytes(rt: HostRuntime) -> Result<(), Fail> {
     Ok(())
 }
 
-#[test]
-fn answers_a_stream_of_long_messages(rt: HostRuntime) -> Result<(), Fail> {
-    let message = longest(rt.alloc())?;
-    let (first, second) = message.as_str().split_at_checked(9_000).unwrap_or(("", ""));
+/// The lines are a stream of two messages, each of which is answered, whatever pieces the reader gives.
+fn assert_streams(rt: &impl Abort, alloc: Global, input: &str) -> Result<(), Fail> {
+    let output = text_of(alloc, &[LOCATE_K1_NONE, LOCATE_K1_NONE])?;
     let whole = StreamOutcome {
         end: InputEnd::Whole,
         has_refused: false,
     };
-    let output = text_of(rt.alloc(), &[LOCATE_K1_NONE, LOCATE_K1_NONE])?;
-    for lines in [
-        &[message.as_str(), message.as_str()].as_slice(),
-        &[first, second, "", first, second].as_slice(),
-    ] {
-        let input = text_of(rt.alloc(), lines)?;
-        for piece_len in [40_000, 1_000] {
-            let mut reader = PieceReader::ending(input.as_bytes(), piece_len);
-            let mut writer = Vec::new(rt.alloc());
-            let outcome = answer_stream(rt.alloc(), &mut reader, &mut writer);
-            assert_eq!(rt; outcome, Ok(whole));
-            assert_eq!(rt;
-                from_utf8(writer.as_slice()),
-                Ok(output.as_str()),
-                "{piece_len}"
-            );
-        }
+    for piece_len in [40_000, 1_000] {
+        let mut reader = PieceReader::ending(input.as_bytes(), piece_len);
+        let mut writer = Vec::new(alloc);
+        let outcome = answer_stream(alloc, &mut reader, &mut writer);
+        assert_eq!(rt; outcome, Ok(whole));
+        assert_eq!(rt;
+            from_utf8(writer.as_slice()),
+            Ok(output.as_str()),
+            "{piece_len}"
+        );
     }
     Ok(())
+}
+
+#[test]
+fn answers_a_stream_of_long_messages(rt: HostRuntime) -> Result<(), Fail> {
+    let message = longest(rt.alloc())?;
+    let (first, second) = message.as_str().split_at_checked(9_000).unwrap_or(("", ""));
+    let lines = format!(in rt.alloc(); "{message}\n{message}\n")?;
+    assert_streams(&rt, rt.alloc(), lines.as_str())?;
+    let pieces = format!(in rt.alloc(); "{first}\n{second}\n\n{first}\n{second}\n")?;
+    assert_streams(&rt, rt.alloc(), pieces.as_str())
 }
 
 #[test]
