@@ -21,6 +21,6 @@ answer_lines lines = lines_text reply_text stock_after first_stock lines
 abbrev pub answer_text : List ℕ → List ℕ
 answer_text input = input_text reply_text stock_after first_stock input
 
--- how `answer` responds
+-- Private: how `answer` responds
 abbrev pub answers : Response Stock
 answers = record { text = reply_text; after = stock_after; refuses = λ _. false; over = λ _. false }

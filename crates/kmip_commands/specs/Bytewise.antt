@@ -1,4 +1,5 @@
--- `answer --stream` byte by byte, for its proof: no public contract names it.
+-- Private: `answer --stream` byte by byte, for its proof; no public contract names it.
+-- Source: own: how the proof sees the code.
 use Rattle.std.specs.Prelude.{ℕ, ◌==◌, Bool, true, false, if◌then◌else◌, List, [], ◌∷◌, ◌++◌, length, Option, Some, None, is_some}
 use Rattle.kmip_frames.specs.Framing.{fault_in, size_needed}
 use Rattle.kmip_frames.specs.Streams.{BeginsWithNoMessage}

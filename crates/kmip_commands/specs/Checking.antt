@@ -81,7 +81,7 @@ abbrev pub is_plan_refused : Result (List Key) PlanFault → Bool
 is_plan_refused (Ok keys) = false
 is_plan_refused (Err fault) = true
 
--- want of memory is no refusal
+-- Private: want of memory is no refusal
 abbrev pub is_memory : PlanFault → Bool
 is_memory NoMemory = true
 is_memory fault = false

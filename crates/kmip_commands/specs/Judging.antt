@@ -25,7 +25,7 @@ saying_of line =
     else if nat_lt most_digits (length line) then too_long
     else saying_decoded (decode_of line)
 
--- what is judged, as a contract sees it
+-- Private: what is judged, as a contract sees it
 abbrev pub judge : Judged → Saying
 judge Empty = nothing
 judge Long = too_long

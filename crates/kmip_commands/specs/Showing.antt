@@ -5,6 +5,7 @@ use Rattle.std.specs.Fmt.{decimal}
 use Rattle.hex.specs.Hex.{encode_lower}
 use Rattle.kmip_ttlv.specs.declared.fault.TtlvFault.{TtlvFault}
 use Rattle.kmip_ttlv.specs.Faults.{fault_number, fault_name, fault_offset}
+use Rattle.kmip_ttlv.specs.Limits.{most_levels}
 use Rattle.kmip_ttlv.specs.Node.{Node}
 use Rattle.kmip_ttlv.specs.Reading.{item_at}
 use Rattle.kmip_ttlv.specs.Showing.{shown_text}
@@ -21,7 +22,7 @@ leaves_bytes len (Err fault) = true
 
 -- the bytes are not one item
 unfoldable pub is_no_item : List ℕ → Bool
-is_no_item bytes = leaves_bytes (length bytes) (item_at 16 0 bytes)
+is_no_item bytes = leaves_bytes (length bytes) (item_at most_levels 0 bytes)
 
 -- an item as lines of text, or its one written form in hexadecimal and a line feed
 abbrev pub item_text : Form → Node → List ℕ
@@ -48,9 +49,9 @@ text_of_read form len (Err fault) = fault_text fault
 
 -- what is written for a message
 unfoldable pub show_text : Form → List ℕ → List ℕ
-show_text form bytes = text_of_read form (length bytes) (item_at 16 0 bytes)
+show_text form bytes = text_of_read form (length bytes) (item_at most_levels 0 bytes)
 
--- how `show` responds: no message changes what is written for the next
+-- Private: how `show` responds: no message changes what is written for the next
 abbrev pub shows : Response Form
 shows = record { text = show_text; after = λ form message. form; refuses = is_no_item; over = λ _. false }
 

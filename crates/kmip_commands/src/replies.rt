@@ -34,7 +34,8 @@ pub fn push_text(bytes: &[u8], text: &mut Vec<u8>) -> Result<(), NoMemory>
 ///
 /// Where there is no memory for the text.
 pub fn push_hex(alloc: Global, bytes: &[u8], text: &mut Vec<u8>) -> Result<(), NoMemory>
-    ensures { OnOk result (text.new.items ≡ text.old.items ++ (encode_lower bytes.now ++ 10 ∷ [])) }
+    ensures { OnOk result (text.new.items ≡ text.old.items
+        ++ (encode_lower bytes.now ++ 10 ∷ [])) }
 {
     let mut digits = hex::encode(alloc, bytes)?;
     digits.push('\n')?;

@@ -51,7 +51,8 @@ pub(crate) trait Respond {
 
     /// A message leaves the command ready for the next: a law, which does nothing.
     fn stays_ready()
-        ensures { (s : State) (message : List ℕ) → IsReady s → IsReady (response.after s message) };
+        ensures { (s : State) (message : List ℕ) → IsReady s
+            → IsReady (response.after s message) };
 }
 
 /// Responds to each line of the reader in order until the command is over, and says whether a line

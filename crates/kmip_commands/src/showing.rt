@@ -79,7 +79,8 @@ pub fn show_bytes(
     input: &[u8],
     output: &mut Vec<u8>,
 ) -> Result<bool, NoMemory>
-    ensures text { OnOk result (output.new.items ≡ output.old.items ++ shown_input form input.now) }
+    ensures text { OnOk result (output.new.items ≡ output.old.items
+        ++ shown_input form input.now) }
     ensures refused { IfOk result (λ r. r ≡ has_no_item input.now) }
     ensures broken { OnErr result (WroteFront (shown_lines form) (lines_of input.now) []
         (Some output.old.items) (Some output.new.items)) }

@@ -85,7 +85,8 @@ fn refuse(
 ) -> Result<Vec<u8>, NoMemory>
     requires { IsTrue (option_map_or is_batch_id reply.id true) }
     ensures reply { IfOk result (λ v. v.items ≡ written_with reply (Failed reason) now) }
-    ensures says { IfOk result (λ v. replies_in v.items ≡ with_outcome reply (Failed reason) ∷ []) }
+    ensures says { IfOk result (λ v. replies_in v.items
+        ≡ with_outcome reply (Failed reason) ∷ []) }
     ensures told { IfOk result (λ _. IsSome reason) }
 {
     if reason.is_none() {
@@ -160,7 +161,8 @@ fn locate<S: Records>(
     ensures reply { IfOk result (λ v. v.items ≡ written_with reply
         (answer (S.stock store.now) (asks.Locate mask filter.now)).0 now) }
     ensures says { IfOk result (λ v. replies_in v.items
-        ≡ with_outcome reply (answer (S.stock store.now) (asks.Locate mask filter.now)).0 ∷ []) }
+        ≡ with_outcome reply (answer (S.stock store.now) (asks.Locate mask filter.now)).0
+        ∷ []) }
 {
     let Ok(found) = store.locate(alloc, mask, filter) else {
         return Err(NoMemory);

@@ -14,7 +14,8 @@ use kmip_store::laws::{changes_keep_the_records, the_next_identifier_is_free};
 /// What the server answers, and what it leaves, is a step of the server.
 pub fn serving_is_a_step()
     ensures { (s : Stock) (ask : Ask) → IsKept s.rows s.room
-        → ServerStep (room_in s) (objects_in s) ask (answer s ask).0 (objects_in (answer s ask).1) }
+        → ServerStep (room_in s) (objects_in s) ask (answer s ask).0
+        (objects_in (answer s ask).1) }
 {
     the_next_identifier_is_free();
 }

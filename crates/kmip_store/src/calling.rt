@@ -100,7 +100,8 @@ pub fn call_both<A: Records, B: Records>(
         × (B.stock second.new ≡ stock_after_calls calls.now (B.stock second.old))) }
     ensures broken_off { OnErr result (IsAfterSome calls.now (A.stock first.old)
         (A.stock first.new) × IsAfterSome calls.now (B.stock second.old) (B.stock second.new)) }
-    ensures answers { IfOk result (λ both. A.stock first.old ≡ B.stock second.old → both.0.items
+    ensures answers { IfOk result (λ both. A.stock first.old ≡ B.stock second.old
+        → both.0.items
         ≡ both.1.items) }
     ensures stock { OnOk result (A.stock first.old ≡ B.stock second.old → A.stock first.new
         ≡ B.stock second.new) }

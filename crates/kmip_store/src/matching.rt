@@ -32,7 +32,8 @@ pub(crate) fn first_wanted<'a>(
     mask: Option<i32>,
     filter: &Attrs,
 ) -> Option<&'a Row>
-    ensures { option_copied result ≡ find (λ r. is_wanted mask filter.now (object_of r)) rows.now }
+    ensures { option_copied result ≡ find (λ r. is_wanted mask filter.now
+        (object_of r)) rows.now }
 {
     rows.iter().find(|row| is_wanted(row, mask, filter))
 }

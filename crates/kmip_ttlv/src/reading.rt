@@ -30,15 +30,19 @@ use std::alloc::Global;
 /// The first fault, with the offset of the first byte of the item at fault; want of memory otherwise.
 pub fn read(alloc: Global, bytes: &[u8]) -> Result<(Item, usize), TtlvFault>
     // What is read is spelled so.
-    ensures found { IfOk result (λ x. (x.1 ≤ length bytes.now) × Spells (view x.0) (take x.1 bytes.now)) }
+    ensures found { IfOk result (λ x. (x.1 ≤ length bytes.now)
+        × Spells (view x.0) (take x.1 bytes.now)) }
     // What is spelled so is read, unless memory runs out.
-    ensures only { (n : Node) (count : ℕ) → count ≤ length bytes.now → Spells n (take count bytes.now) → IsRead result n count }
+    ensures only { (n : Node) (count : ℕ) → count ≤ length bytes.now
+        → Spells n (take count bytes.now) → IsRead result n count }
     // What was written is read again, whatever follows it.
-    ensures back { (n : Node) (rest : List ℕ) → Fits n → bytes.now ≡ canon n ++ rest → IsRead result n (length (canon n)) }
+    ensures back { (n : Node) (rest : List ℕ) → Fits n → bytes.now ≡ canon n ++ rest
+        → IsRead result n (length (canon n)) }
     // What is read has a written form.
     ensures writable { IfOk result (λ x. IsWritable (view x.0)) }
     // Which fault it is, and that there is no other.
-    ensures fault { IfErr result (λ e. (e ≡ faults.NoMemory) ⊎ Breaks most_levels 0 bytes.now e) }
+    ensures fault { IfErr result (λ e. (e ≡ faults.NoMemory)
+        ⊎ Breaks most_levels 0 bytes.now e) }
     ensures refused { (e : TtlvFault) → Breaks most_levels 0 bytes.now e → IsRefused result e }
     // All of this as one function of the bytes.
     ensures exact { ReadsAs result (item_at most_levels 0 bytes.now) }
@@ -116,7 +120,8 @@ fn value_of(
 fn all_of(alloc: Global, left: usize, at: usize, bytes: &[u8]) -> Result<Vec<Item>, TtlvFault>
     requires levels { left < most_levels }
     requires offsets { at + length bytes.now < 2 ^ 64 }
-    ensures { GivesContent (λ v. views v.items) result (all_at (item_at left) (length bytes.now) at bytes.now) }
+    ensures { GivesContent (λ v. views v.items) result
+        (all_at (item_at left) (length bytes.now) at bytes.now) }
 {
     let mut items = Vec::new(alloc);
     let mut place = at;

@@ -49,7 +49,8 @@ pub fn plain_text(alloc: Global, text: &str) -> Result<String, NoMemory>
 /// Appends the lines of the item, each behind this indentation.
 #[cycle(showing)]
 fn push_lines(alloc: Global, indent: &str, item: &Item, out: &mut String) -> Result<(), NoMemory>
-    ensures { OnOk result (string_bytes out.new ≡ string_bytes out.old ++ shown_lines indent.now (view item.now)) }
+    ensures { OnOk result (string_bytes out.new ≡ string_bytes out.old
+        ++ shown_lines indent.now (view item.now)) }
 {
     push_line(alloc, indent, item, out)?;
     if let Value::Structure(items) = &item.value {
@@ -63,7 +64,8 @@ fn push_lines(alloc: Global, indent: &str, item: &Item, out: &mut String) -> Res
 /// Appends the lines of the items, each behind this indentation.
 #[cycle(showing)]
 fn push_all(alloc: Global, indent: &str, items: &[Item], out: &mut String) -> Result<(), NoMemory>
-    ensures { OnOk result (string_bytes out.new ≡ string_bytes out.old ++ shown_all indent.now (nodes_of (views items.now))) }
+    ensures { OnOk result (string_bytes out.new ≡ string_bytes out.old
+        ++ shown_all indent.now (nodes_of (views items.now))) }
 {
     for item in items {
         push_lines(alloc, indent, item, out)?;
@@ -74,7 +76,8 @@ fn push_all(alloc: Global, indent: &str, items: &[Item], out: &mut String) -> Re
 /// Appends the item's own line.
 #[tactic(auto, unfolding(crate::specs::Showing::line))]
 fn push_line(alloc: Global, indent: &str, item: &Item, out: &mut String) -> Result<(), NoMemory>
-    ensures { OnOk result (string_bytes out.new ≡ string_bytes out.old ++ line indent.now item.now.tag (content item.now.value)) }
+    ensures { OnOk result (string_bytes out.new ≡ string_bytes out.old
+        ++ line indent.now item.now.tag (content item.now.value)) }
 {
     out.push_str(indent)?;
     push_hex(alloc, &item.tag.number().to_be_bytes()[1..], out)?;
@@ -87,7 +90,8 @@ fn push_line(alloc: Global, indent: &str, item: &Item, out: &mut String) -> Resu
 
 /// Appends a space and the value, and nothing for a Structure.
 fn push_value(alloc: Global, value: &Value, out: &mut String) -> Result<(), NoMemory>
-    ensures { OnOk result (string_bytes out.new ≡ string_bytes out.old ++ shown_value (content value.now)) }
+    ensures { OnOk result (string_bytes out.new ≡ string_bytes out.old
+        ++ shown_value (content value.now)) }
 {
     match value {
         Value::Structure(_) => {}
@@ -119,7 +123,8 @@ fn push_word(word: &str, out: &mut String) -> Result<(), NoMemory>
 
 /// Appends a space and the bytes in hexadecimal, a dash where there are none.
 fn push_bytes(alloc: Global, bytes: &[u8], out: &mut String) -> Result<(), NoMemory>
-    ensures { OnOk result (string_bytes out.new ≡ string_bytes out.old ++ 32 ∷ shown_bytes bytes.now) }
+    ensures { OnOk result (string_bytes out.new ≡ string_bytes out.old
+        ++ 32 ∷ shown_bytes bytes.now) }
 {
     if bytes.is_empty() {
         out.push_str(" -")?;
@@ -132,7 +137,8 @@ fn push_bytes(alloc: Global, bytes: &[u8], out: &mut String) -> Result<(), NoMem
 
 /// Appends a space and the text between quotation marks.
 fn push_quoted(alloc: Global, text: &str, out: &mut String) -> Result<(), NoMemory>
-    ensures { OnOk result (string_bytes out.new ≡ string_bytes out.old ++ 32 ∷ quoted text.now) }
+    ensures { OnOk result (string_bytes out.new ≡ string_bytes out.old
+        ++ 32 ∷ quoted text.now) }
 {
     out.push_str(" \"")?;
     push_plain(alloc, text, out)?;
@@ -166,7 +172,8 @@ fn push_byte(alloc: Global, byte: u8, out: &mut String) -> Result<(), NoMemory>
 
 /// Appends the bytes in hexadecimal, with upper-case letters.
 fn push_hex(alloc: Global, bytes: &[u8], out: &mut String) -> Result<(), NoMemory>
-    ensures { OnOk result (string_bytes out.new ≡ string_bytes out.old ++ encode_upper bytes.now) }
+    ensures { OnOk result (string_bytes out.new ≡ string_bytes out.old
+        ++ encode_upper bytes.now) }
 {
     let digits = hex::encode_upper(alloc, bytes)?;
     out.push_str(&digits)?;
