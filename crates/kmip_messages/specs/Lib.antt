@@ -2,6 +2,7 @@ pub mod States
 pub mod Faults
 pub mod Lifecycle
 pub mod Objects
+pub mod Searching
 pub mod Operations
 pub mod Ranges
 pub mod Siblings

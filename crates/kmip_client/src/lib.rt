@@ -1,0 +1,12 @@
+//! The decision core of a client: what is asked next about each key of a plan, and what is learnt
+//! from any bytes that come back. It knows no network.
+#![tactic(auto)]
+
+mod clash;
+mod fault;
+mod knowledge;
+mod learning;
+
+pub use clash::Clash;
+pub use fault::HearFault;
+pub use knowledge::{Knowledge, Phase, Verdict};
