@@ -1,11 +1,15 @@
 mod SiblingLemmas
 mod IdentifierLemmas
-pub mod WrittenLemmas
-pub mod Laws
-pub mod RequestLaws
-pub mod RequestRoundTrip
-pub mod WholeLaws
-pub mod RequestsRead
-pub mod ReplyLaws
-pub mod ReplyRoundTrip
-pub mod ReplyBytes
+mod WrittenLemmas
+pub mod ForCallers
+mod Readers
+mod RequestLaws
+mod RequestRoundTrip
+mod WholeLaws
+mod RequestsRead
+mod ReplyLaws
+mod ReplyRoundTrip
+mod ReplyBytes
+mod AskedLemmas
+mod SaidLemmas
+mod ObjectLemmas

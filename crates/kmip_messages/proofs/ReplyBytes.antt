@@ -1,22 +1,20 @@
 -- The reply that bytes spell.
-use Rattle.std.proofs.Common.{◌≡◌, ℕ, ℤ, List, Some, Result, Ok, Err, IsTrue, refl, sym, subst, ap, ◌∙◌}
+use Rattle.std.proofs.Common.{◌≡◌, ℕ, ℤ, List, Result, Ok, Err, IsTrue, refl, sym, subst, ap, ◌∙◌}
 use Rattle.std.specs.Prelude.{IfOk}
-use Rattle.std.specs.Result.{result_ok}
 use Rattle.kmip_ttlv.specs.Node.{Node}
-use Rattle.kmip_ttlv.specs.Fitting.{IsInRange}
+use Rattle.kmip_ttlv.specs.Fitting.{IsBytes, IsInRange}
 use Rattle.kmip_ttlv.specs.Spelling.{canon, Spells}
-use Rattle.kmip_ttlv.proofs.Numbers.{IsBytes}
-use Rattle.kmip_ttlv.proofs.Laws.{canon_spells}
+use Rattle.kmip_ttlv.proofs.ForCallers.{canon_spells}
 use Rattle.kmip_messages.specs.declared.fault.MessageFault.{MessageFault}
 use Rattle.kmip_messages.specs.declared.reply.Reply.{Reply}
 use Rattle.kmip_messages.specs.Fits.{reply_fits}
 use Rattle.kmip_messages.specs.Reading.{Gives}
-use Rattle.kmip_messages.specs.Whole.{reply_read, reply_in}
+use Rattle.kmip_messages.specs.Whole.{reply_read}
 use Rattle.kmip_messages.specs.ReplyReading.{reply_at}
 use Rattle.kmip_messages.specs.Siblings.{◌>>=◌}
 use Rattle.kmip_messages.specs.Written.{reply_item}
 use Rattle.kmip_messages.specs.Replies.{IsReply, SpellReply}
-use Rattle.kmip_messages.proofs.Laws.{Reads, reads-bind}
+use Rattle.kmip_messages.proofs.ForCallers.{Reads, reads-bind}
 use Rattle.kmip_messages.proofs.WholeLaws.{item_in-complete, item_in-law}
 use Rattle.kmip_messages.proofs.WrittenLemmas.{reply_fits_writable}
 use Rattle.kmip_messages.proofs.ReplyLaws.{reply-law}
@@ -58,37 +56,16 @@ pub is_back : (bytes : List ℕ) (answer : Result Reply MessageFault) (r : Reply
 is_back bytes answer r now fits gives small range is =
     is_only bytes answer r (reply_item r now) fits gives (written_spells r now bytes small range is) (written_is_reply r now small)
 
--- ---- the reply in the bytes
-
-was_ok : (read : Result Reply MessageFault) (r : Reply) → result_ok read ≡ Some r → read ≡ Ok r
-was_ok (Ok x) r e = cc
-was_ok (Err fault) r e = absurd cc
-
-pub reply_in-read : (bytes : List ℕ) (r : Reply) → reply_read bytes ≡ Ok r → reply_in bytes ≡ Some r
-unfolding reply_in
-reply_in-read bytes r e = ap result_ok e
-
-pub read-reply_in : (bytes : List ℕ) (r : Reply) → reply_in bytes ≡ Some r → reply_read bytes ≡ Ok r
-unfolding reply_in
-read-reply_in bytes r e = was_ok (reply_read bytes) r e
-
--- It is the one that the bytes spell.
-pub reply_in-spelled : (bytes : List ℕ) (r : Reply) → IsBytes bytes → reply_in bytes ≡ Some r → SpellReply bytes r
-reply_in-spelled bytes r fits e = (reply_read-law bytes fits).sound r (read-reply_in bytes r e)
-
-pub reply_in-again : (bytes : List ℕ) (r : Reply) → SpellReply bytes r → reply_in bytes ≡ Some r
-reply_in-again bytes r spell = reply_in-read bytes r (reply_read-again bytes r spell)
+abbrev read_as : Reply → Result Reply MessageFault
+read_as r = Ok r
 
 -- Bytes spell at most one reply.
 pub spell_one : (bytes : List ℕ) (r s : Reply) → SpellReply bytes r → SpellReply bytes s → r ≡ s
-spell_one bytes r s h k = same_some r s (sym (reply_in-again bytes r h) ∙ reply_in-again bytes s k)
+spell_one bytes r s h k = same_read r s (sym (reply_read-again bytes r h) ∙ reply_read-again bytes s k)
   where
-    same_some : (r s : Reply) → Some r ≡ Some s → r ≡ s
-    same_some r s e = cc
+    same_read : (r s : Reply) → read_as r ≡ read_as s → r ≡ s
+    same_read r s e = cc
 
--- What was written is in the bytes.
+-- What was written is spelled.
 pub written_spell : (r : Reply) (now : ℤ) → IsTrue (reply_fits r) → IsInRange (reply_item r now) → SpellReply (canon (reply_item r now)) r
 written_spell r now fits range = (reply_item r now, written_spells r now (canon (reply_item r now)) fits range refl, written_is_reply r now fits)
-
-pub written_reply_in : (r : Reply) (now : ℤ) → IsTrue (reply_fits r) → IsInRange (reply_item r now) → reply_in (canon (reply_item r now)) ≡ Some r
-written_reply_in r now fits range = reply_in-again (canon (reply_item r now)) r (written_spell r now fits range)

@@ -51,27 +51,8 @@ use Rattle.kmip_messages.specs.Parts.{identifier_at}
 use Rattle.kmip_messages.specs.ReplyReading.{reply_header_at, reply_batch_at, identifier_in, identifiers_in, name_in, any_name_at, attrs_at, attributes_at, located_in, located_at, payload_at, success_in, failed_at, is_status, outcome_at, reply_at}
 use Rattle.kmip_messages.specs.Written.{inside}
 use Rattle.kmip_messages.specs.Replies.{IsReplyHeader, IsReplyBatch, IsNameIfAny, AreAttrs, IsObject, IsSuccess, AreFound, IsLocated, IsOutcome, IsReply}
-use Rattle.kmip_messages.proofs.Laws.{
-  Reads,
-  reads-ok,
-  reads-bind,
-  reads-bind_known,
-  reads-as,
-  reads-if,
-  reads-guard,
-  reads-within,
-  reads-the,
-  reads-maybe,
-  reads-typed,
-  reads-sole,
-  reads-message,
-  reads-id,
-  reads-identifier,
-  structure_kind,
-  integer_kind,
-  enumeration_kind,
-  text_kind,
-}
+use Rattle.kmip_messages.proofs.ForCallers.{Reads, reads-ok, reads-bind, reads-bind_known, reads-as}
+use Rattle.kmip_messages.proofs.Readers.{reads-if, reads-guard, reads-within, reads-the, reads-maybe, reads-typed, reads-sole, reads-message, reads-id, reads-identifier, structure_kind, integer_kind, enumeration_kind, text_kind}
 
 abbrev ok : (E A : Type 0) → A → Result A E
 ok E A a = Ok a

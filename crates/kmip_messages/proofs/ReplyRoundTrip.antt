@@ -13,7 +13,7 @@ use Rattle.kmip_messages.specs.Fits.{is_own, outcome_fits, reply_fits}
 use Rattle.kmip_messages.specs.Siblings.{contents}
 use Rattle.kmip_messages.specs.Standing.{AtMostOnce}
 use Rattle.kmip_messages.specs.Written.{given, version_item, uid_item, name_item, attrs_item, success_items, outcome_items, reply_header_item, reply_batch_item, reply_item}
-use Rattle.kmip_messages.proofs.Laws.{contents-append, contents-given}
+use Rattle.kmip_messages.proofs.Readers.{contents-append, contents-given}
 use Rattle.kmip_messages.specs.Replies.{IsReplyBatch, IsNameIfAny, AreAttrs, IsSuccess, IsFailed, IsOutcome, IsReply}
 
 -- ---- attributes

@@ -17,7 +17,8 @@ use Rattle.kmip_messages.specs.Standing.{Once, IsIdentifier}
 use Rattle.kmip_messages.specs.RequestReading.{request_header_at, batch_at, name_at, key_attrs_at, filter_at, create_at, locate_at, revoke_at, ask_in, ask_at, request_at}
 use Rattle.kmip_messages.specs.Requests.{key_tags, filter_tags, IsHeader, IsBatch, IsName, IsKeyAttrs, IsFilter, IsCreate, IsLocate, IsRevoke, IsPayload, IsRequest}
 use Rattle.kmip_messages.specs.Written.{inside}
-use Rattle.kmip_messages.proofs.Laws.{Reads, reads-bind_known, reads-ok, reads-bind, reads-as, reads-if, reads-guard, reads-within, reads-refused, reads-the, reads-maybe, reads-sole, reads-only, reads-message, reads-id, reads-identifier, structure_kind, integer_kind, enumeration_kind, text_kind}
+use Rattle.kmip_messages.proofs.ForCallers.{Reads, reads-bind_known, reads-ok, reads-bind, reads-as}
+use Rattle.kmip_messages.proofs.Readers.{reads-if, reads-guard, reads-within, reads-refused, reads-the, reads-maybe, reads-sole, reads-only, reads-message, reads-id, reads-identifier, structure_kind, integer_kind, enumeration_kind, text_kind}
 
 -- two numbers that were tested
 same_number : (x y : ℤ) → int_eq x y ≡ true → x ≡ y

@@ -17,7 +17,7 @@ use Rattle.kmip_messages.specs.Siblings.{contents}
 use Rattle.kmip_messages.specs.Standing.{if_any, HaveTags, IsMarked, IsIdentifier}
 use Rattle.kmip_messages.specs.Requests.{filter_tags, IsKeyAttrs, IsFilter, IsLocate, IsPayload, IsAsk, IsRequest}
 use Rattle.kmip_messages.specs.Written.{inside, given, name_item, uid_item, reason_item, version_item, ask_items, request_header_item, request_batch_item, request_item}
-use Rattle.kmip_messages.proofs.Laws.{contents-append, contents-given}
+use Rattle.kmip_messages.proofs.Readers.{contents-append, contents-given}
 
 -- the items have these tags
 record AreTagged (tags : List ℕ) (ns : List Node) : Type 0 where

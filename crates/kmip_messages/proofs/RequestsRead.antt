@@ -1,21 +1,20 @@
 -- What reading bytes as a request answers, in the words of requests.
-use Rattle.std.proofs.Common.{◌≡◌, ℕ, List, Some, None, Result, Ok, Err, IsTrue, sym, ap, subst, ◌∙◌}
+use Rattle.std.proofs.Common.{◌≡◌, ℕ, List, None, Result, Ok, Err, IsTrue, sym, ap, subst, ◌∙◌}
 use Rattle.std.specs.Prelude.{IfOk}
-use Rattle.std.specs.Result.{result_ok}
 use Rattle.kmip_ttlv.specs.Node.{Node}
-use Rattle.kmip_ttlv.specs.Fitting.{IsInRange}
+use Rattle.kmip_ttlv.specs.Fitting.{IsBytes, IsInRange}
 use Rattle.kmip_ttlv.specs.Spelling.{canon, Spells}
-use Rattle.kmip_ttlv.proofs.Numbers.{IsBytes}
-use Rattle.kmip_ttlv.proofs.Laws.{canon_spells}
+use Rattle.kmip_ttlv.proofs.ForCallers.{canon_spells}
 use Rattle.kmip_messages.specs.declared.fault.Refusal.{Refusal}
 use Rattle.kmip_messages.specs.declared.request.Request.{Request}
 use Rattle.kmip_messages.specs.Ranges.{request_fits}
 use Rattle.kmip_messages.specs.Requests.{IsRequest}
-use Rattle.kmip_messages.specs.Whole.{request_read, request_in}
+use Rattle.kmip_messages.specs.Whole.{request_read}
 use Rattle.kmip_messages.specs.RequestReading.{GivesRequest, refused, request_at}
 use Rattle.kmip_messages.specs.Siblings.{◌>>=◌}
 use Rattle.kmip_messages.specs.Written.{request_item}
-use Rattle.kmip_messages.proofs.Laws.{Reads, reads-bind, reads-refused}
+use Rattle.kmip_messages.proofs.ForCallers.{Reads, reads-bind}
+use Rattle.kmip_messages.proofs.Readers.{reads-refused}
 use Rattle.kmip_messages.proofs.WholeLaws.{item_in-law, item_in-complete}
 use Rattle.kmip_messages.proofs.RequestLaws.{request-law}
 use Rattle.kmip_messages.proofs.RequestRoundTrip.{written_is}
@@ -37,19 +36,6 @@ pub request_read-complete : (bytes : List ℕ) (r : Request) (n : Node) → Spel
 unfolding request_read
 request_read-complete bytes r n spells is =
     ap (λ m. refused None None m >>= request_at) (item_in-complete bytes n spells) ∙ (request-law n).complete r is
-
-gave : (read : Result Request Refusal) (r : Request) → result_ok read ≡ Some r → read ≡ Ok r
-gave (Ok s) r e = cc
-gave (Err e) r is = absurd cc
-
--- The request in the bytes is the one that they spell.
-pub request_in-sound : (bytes : List ℕ) (r : Request) → IsBytes bytes → request_in bytes ≡ Some r → (n : Node) × Spells n bytes × IsRequest r n
-unfolding request_in
-request_in-sound bytes r octets is = (request_read-law bytes octets).sound r (gave (request_read bytes) r is)
-
-pub request_in-complete : (bytes : List ℕ) (r : Request) (n : Node) → Spells n bytes → IsRequest r n → request_in bytes ≡ Some r
-unfolding request_in
-request_in-complete bytes r n spells is = ap result_ok (request_read-complete bytes r n spells is)
 
 -- No item is two requests.
 pub request_only : (r s : Request) (n : Node) → IsRequest r n → IsRequest s n → r ≡ s
@@ -74,8 +60,3 @@ pub is_back : (bytes : List ℕ) (result : Result Request Refusal) (r : Request)
     → IsTrue (request_fits r) → IsInRange (request_item r) → bytes ≡ canon (request_item r) → GivesRequest result (Ok r)
 is_back bytes result r gives fits in_range is =
     is_only bytes result r (request_item r) gives (subst (Spells (request_item r)) (sym is) (written_spells r fits in_range)) (written_is r fits)
-
--- The request is in the bytes that it is written as.
-pub request_in-written : (r : Request) → IsTrue (request_fits r) → IsInRange (request_item r) → request_in (canon (request_item r)) ≡ Some r
-request_in-written r fits in_range =
-    request_in-complete (canon (request_item r)) r (request_item r) (written_spells r fits in_range) (written_is r fits)

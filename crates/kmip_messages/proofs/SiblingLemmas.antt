@@ -4,7 +4,7 @@ use Rattle.std.specs.List.{list_any}
 use Rattle.kmip_ttlv.specs.Node.{tag_of}
 use Rattle.kmip_ttlv.specs.View.{view, views}
 use Rattle.kmip_ttlv.specs.declared.item.Item.{Item}
-use Rattle.kmip_ttlv.proofs.Views.{views-drop}
+use Rattle.kmip_ttlv.proofs.ForCallers.{views-drop}
 use Rattle.kmip_messages.specs.declared.fault.MessageFault.TheVariants.{OutOfRange}
 use Rattle.kmip_messages.specs.Siblings.{only}
 

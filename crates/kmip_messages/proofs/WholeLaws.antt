@@ -4,14 +4,14 @@ use Rattle.std.proofs.lemmas.Bool.{eqb-true, eq-eqb}
 use Rattle.std.proofs.lemmas.List.{append-nil, take_all}
 use Rattle.kmip_ttlv.specs.declared.fault.TtlvFault.{TtlvFault}
 use Rattle.kmip_ttlv.specs.Node.{Node}
+use Rattle.kmip_ttlv.specs.Fitting.{IsBytes}
 use Rattle.kmip_ttlv.specs.Spelling.{Spells}
 use Rattle.kmip_ttlv.specs.Reading.{item_at}
-use Rattle.kmip_ttlv.proofs.Numbers.{IsBytes}
-use Rattle.kmip_ttlv.proofs.Laws.{item_spelled, spelling_again}
+use Rattle.kmip_ttlv.proofs.ForCallers.{item_spelled, spelling_again}
 use Rattle.kmip_messages.specs.declared.fault.MessageFault.{MessageFault}
 use Rattle.kmip_messages.specs.declared.fault.MessageFault.TheVariants.{NotMessage}
 use Rattle.kmip_messages.specs.Whole.{whole, item_in}
-use Rattle.kmip_messages.proofs.Laws.{Reads}
+use Rattle.kmip_messages.proofs.ForCallers.{Reads}
 
 -- an item that is all of the bytes, or not
 abbrev whole_of : Bool → Node → Result Node MessageFault

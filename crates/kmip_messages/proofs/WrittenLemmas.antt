@@ -3,7 +3,7 @@ use Rattle.std.proofs.Common.{◌≡◌, ℕ, ◌+◌, ◌≤◌, ℤ, pos, true
 use Rattle.kmip_ttlv.specs.Node.{Node, node, enumeration, integer, byte_string, nodes_of}
 use Rattle.kmip_ttlv.specs.Fitting.{HasWholeGroups, HaveWholeGroups, depth, depths}
 use Rattle.kmip_ttlv.specs.Sizes.{size, sizes, IsWritable}
-use Rattle.kmip_ttlv.proofs.Lengths.{writable_of}
+use Rattle.kmip_ttlv.proofs.ForCallers.{writable_of}
 use Rattle.std.proofs.lemmas.Bool.{and_parts, leb-true, le-leb, cases_lt}
 use Rattle.std.proofs.lemmas.Bool.Decides.{leb_tells}
 use Rattle.kmip_messages.specs.declared.request.Attrs.{Attrs}
@@ -238,7 +238,7 @@ request_batch_parts r =
 pub request_writable : (r : Request) → IsTrue (request_fits r) → IsWritable (request_item r)
 request_writable r fits =
     let batch = request_batch_parts r in
-    let parts = and_parts _ _ fits in
+    let parts = and_parts (option_map_or is_batch_id r.id true) (ask_fits r.ask) fits in
     writable_of (request_item r) (((tt, (tt, tt)), (tt, tt)), batch.groups) (omega (arith, batch.deep))
     (omega (arith, batch.long, id_bound r.id parts.0, ask_bound r.ask parts.1))
 

@@ -1,6 +1,6 @@
 -- The number and the name of each fault, and the fault of a message that is no item.
 -- Source: own: the standard does not number the faults of a reader.
-use Rattle.std.specs.Prelude.{ℕ, List, codes}
+use Rattle.std.specs.Prelude.{ℕ, Bool, true, false, List, codes}
 use Rattle.kmip_ttlv.specs.declared.fault.TtlvFault.{TtlvFault}
 use Rattle.kmip_ttlv.specs.declared.fault.TtlvFault.TheVariants as ttlv
 use Rattle.kmip_messages.specs.declared.fault.MessageFault.{MessageFault}
@@ -21,6 +21,11 @@ use Rattle.kmip_messages.specs.declared.fault.MessageFault.TheVariants.{
 abbrev pub message_fault_of : TtlvFault → MessageFault
 message_fault_of ttlv.NoMemory = NoMemory
 message_fault_of fault = Ttlv fault
+
+-- the fault is want of memory
+abbrev pub is_no_memory : MessageFault → Bool
+is_no_memory NoMemory = true
+is_no_memory fault = false
 
 abbrev pub message_fault_number : MessageFault → ℕ
 message_fault_number (Ttlv fault) = 1

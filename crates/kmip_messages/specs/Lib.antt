@@ -17,3 +17,6 @@ pub mod Replies
 pub mod Fits
 pub mod MessageSizes
 pub mod Whole
+pub mod Items
+pub mod ItemLaws
+pub mod ObjectLaws

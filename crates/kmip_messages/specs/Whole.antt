@@ -1,7 +1,6 @@
 -- Messages in bytes: all of the bytes spell one item, and the item is the message.
 -- Source: KMIP 2.1, Message Structure; the order of the checks is own.
-use Rattle.std.specs.Prelude.{ℕ, ◌==◌, List, length, Option, None, Result, Ok, Err, if◌then◌else◌}
-use Rattle.std.specs.Result.{result_ok}
+use Rattle.std.specs.Prelude.{ℕ, ◌==◌, List, length, None, Result, Ok, Err, if◌then◌else◌}
 use Rattle.kmip_ttlv.specs.declared.fault.TtlvFault.{TtlvFault}
 use Rattle.kmip_ttlv.specs.Node.{Node}
 use Rattle.kmip_ttlv.specs.Reading.{item_at}
@@ -29,16 +28,8 @@ request_read bytes = do
   n ← refused None None (item_in bytes)
   request_at n
 
--- the request in the bytes, if they are one
-unfoldable pub request_in : List ℕ → Option Request
-request_in bytes = result_ok (request_read bytes)
-
 -- the reply in the bytes, or its first fault
 unfoldable pub reply_read : List ℕ → Result Reply MessageFault
 reply_read bytes = do
   n ← item_in bytes
   reply_at n
-
--- the reply in the bytes, if they are one
-unfoldable pub reply_in : List ℕ → Option Reply
-reply_in bytes = result_ok (reply_read bytes)

@@ -31,7 +31,8 @@ pub(crate) fn push_id(
     items: &mut Vec<Item>,
     id: &Option<Bytes>,
 ) -> Result<(), NoMemory>
-    ensures { OnOk result (views items.new.items ≡ views items.old.items ++ given (λ s. node TAG_UNIQUE_BATCH_ITEM_ID (byte_string s)) id.now) }
+    ensures { OnOk result
+        (views items.new.items ≡ views items.old.items ++ given (λ s. node TAG_UNIQUE_BATCH_ITEM_ID (byte_string s)) id.now) }
 {
     match id {
         Some(id) => {
@@ -74,7 +75,8 @@ pub(crate) fn push_name(
     items: &mut Vec<Item>,
     name: &Option<Text>,
 ) -> Result<(), NoMemory>
-    ensures { OnOk result (views items.new.items ≡ views items.old.items ++ given name_item name.now) }
+    ensures { OnOk result
+        (views items.new.items ≡ views items.old.items ++ given name_item name.now) }
 {
     match name {
         Some(name) => {
@@ -106,7 +108,8 @@ pub(crate) fn push_enumeration(
     value: Option<u32>,
 ) -> Result<(), NoMemory>
     requires { tag < 2 ^ 24 }
-    ensures { OnOk result (views items.new.items ≡ views items.old.items ++ given (λ n. node tag (enumeration n)) value) }
+    ensures { OnOk result
+        (views items.new.items ≡ views items.old.items ++ given (λ n. node tag (enumeration n)) value) }
 {
     match value {
         Some(number) => {
@@ -124,7 +127,8 @@ pub(crate) fn push_integer(
     value: Option<i32>,
 ) -> Result<(), NoMemory>
     requires { tag < 2 ^ 24 }
-    ensures { OnOk result (views items.new.items ≡ views items.old.items ++ given (λ z. node tag (integer z)) value) }
+    ensures { OnOk result
+        (views items.new.items ≡ views items.old.items ++ given (λ z. node tag (integer z)) value) }
 {
     match value {
         Some(number) => {

@@ -1,6 +1,6 @@
 //! Why bytes are no message.
 ghost use Rattle.std.specs.Prelude.{◌≡◌, None};
-ghost use Rattle.kmip_messages.specs.Faults.{message_fault_of, message_fault_number, message_fault_name};
+ghost use Rattle.kmip_messages.specs.Faults.{is_no_memory, message_fault_of, message_fault_number, message_fault_name};
 ghost use Rattle.kmip_messages.specs.declared.fault.MessageFault.TheVariants as faults;
 
 use kmip_ttlv::{Bytes, NoMemory, Tag, TtlvFault};
@@ -10,7 +10,7 @@ use thiserror::Error;
 /// The first thing that is wrong with a message.
 #[derive(Clone, Copy, Debug, PartialEq, Eq, Error)]
 pub enum MessageFault {
-    /// No item stands at the front of the bytes. Never with want of memory, which is `NoMemory` here.
+    /// No item stands at the front of the bytes. Never with want of memory, which is `NoMemory`.
     #[error("{0}")]
     Ttlv(TtlvFault),
     /// Bytes follow the item, or it is no message of this kind.
@@ -42,6 +42,13 @@ pub enum MessageFault {
 }
 
 impl MessageFault {
+    /// Whether memory ran out, so that the fault says nothing of the bytes.
+    pub fn is_no_memory(self) -> bool
+        ensures { result ≡ is_no_memory self }
+    {
+        matches!(self, MessageFault::NoMemory)
+    }
+
     /// The fault's number, 1 to 10.
     pub fn number(self) -> u32
         ensures { result ≡ message_fault_number self }

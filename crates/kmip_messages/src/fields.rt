@@ -19,8 +19,10 @@ use kmip_ttlv::{Item, Tag};
 /// The item with this tag, where there is one; two or more are a fault.
 fn at_most_one(items: &[Item], tag: u32) -> Result<Option<&Item>, MessageFault>
     requires { tag < 2 ^ 24 }
-    ensures exact { Gives (λ o. option_map (λ i. content_of (view i.now)) o) result (at_most_one_of tag (contents tag (views items.now))) }
-    ensures fault { IfErr result (λ e. at_most_one_of tag (contents tag (views items.now)) ≡ Err e) }
+    ensures exact { Gives (λ o. option_map (λ i. content_of (view i.now)) o) result
+        (at_most_one_of tag (contents tag (views items.now))) }
+    ensures fault { IfErr result
+        (λ e. at_most_one_of tag (contents tag (views items.now)) ≡ Err e) }
 {
     let mut found = None;
     for item in items {
@@ -37,7 +39,8 @@ fn at_most_one(items: &[Item], tag: u32) -> Result<Option<&Item>, MessageFault>
 /// The item with this tag; none, and two or more, are a fault.
 pub fn one(items: &[Item], tag: u32) -> Result<&Item, MessageFault>
     requires { tag < 2 ^ 24 }
-    ensures { Gives (λ i. content_of (view i.now)) result (one_of tag (contents tag (views items.now))) }
+    ensures { Gives (λ i. content_of (view i.now)) result
+        (one_of tag (contents tag (views items.now))) }
 {
     match at_most_one(items, tag)? {
         Some(item) => Ok(item),
@@ -127,7 +130,8 @@ pub fn enumeration_if_any(items: &[Item], tag: u32) -> Result<Option<u32>, Messa
 #[tactic(auto, unfolding(crate::specs::Siblings::maybe))]
 pub fn structure_if_any(items: &[Item], tag: u32) -> Result<Option<&[Item]>, MessageFault>
     requires { tag < 2 ^ 24 }
-    ensures { Gives (λ o. option_map (λ s. views s.now) o) result (maybe as_structure tag (views items.now)) }
+    ensures { Gives (λ o. option_map (λ s. views s.now) o) result
+        (maybe as_structure tag (views items.now)) }
 {
     match at_most_one(items, tag)? {
         None => Ok(None),
@@ -142,7 +146,8 @@ pub fn structure_if_any(items: &[Item], tag: u32) -> Result<Option<&[Item]>, Mes
 #[tactic(auto, unfolding(crate::specs::Siblings::maybe))]
 pub fn bytes_if_any(items: &[Item], tag: u32) -> Result<Option<&[u8]>, MessageFault>
     requires { tag < 2 ^ 24 }
-    ensures { Gives (λ o. option_map (λ s. s.now) o) result (maybe as_byte_string tag (views items.now)) }
+    ensures { Gives (λ o. option_map (λ s. s.now) o) result
+        (maybe as_byte_string tag (views items.now)) }
 {
     match at_most_one(items, tag)? {
         None => Ok(None),

@@ -4,7 +4,7 @@ ghost use Rattle.std.specs.List.{list_all};
 ghost use Rattle.std.specs.Option.{option_map_or};
 ghost use Rattle.kmip_ttlv.specs.Node.{nodes_of};
 ghost use Rattle.kmip_ttlv.specs.Sizes.{size, sizes, padded};
-ghost use Rattle.kmip_messages.specs.Ranges.{is_name, is_identifier, is_batch_id, ask_fits, request_fits};
+ghost use Rattle.kmip_messages.specs.Ranges.{is_name, is_identifier, is_batch_id, ask_fits, request_fits, most_message_bytes};
 ghost use Rattle.kmip_messages.specs.Written.{uid_item, reply_item};
 ghost use Rattle.kmip_messages.specs.Fits.{is_own, outcome_fits, reply_fits};
 ghost use Rattle.kmip_messages.specs.MessageSizes.{
@@ -111,7 +111,7 @@ fn are_identifiers(uids: &[Text]) -> bool
 
 /// Whether the written reply has at most 8,192 bytes.
 fn is_short(reply: &Reply) -> bool
-    ensures { result ≡ nat_le (size (reply_item reply.now (pos 0))) 8192 }
+    ensures { result ≡ nat_le (size (reply_item reply.now (pos 0))) most_message_bytes }
 {
     let operation = number_size(&reply.operation);
     let id = id_size(&reply.id);
@@ -159,7 +159,8 @@ fn name_size(name: &Option<Text>) -> usize
     }
 }
 
-/// How many bytes a Unique Batch Item ID takes, where there is one, or more than a message may have.
+/// How many bytes a Unique Batch Item ID takes, where there is one, or more than a message may
+/// have.
 fn id_size(id: &Option<Bytes>) -> usize
     ensures size { IsCapped result (size_if_any text_size id.now) }
     ensures small { result ≤ 16400 }

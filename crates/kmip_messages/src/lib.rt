@@ -8,6 +8,7 @@ mod building;
 mod fault;
 mod fields;
 mod fitting;
+pub mod laws;
 mod parts;
 mod ranges;
 mod reply;

@@ -100,8 +100,8 @@ pub fn is_revocation_code(code: u32) -> bool
     REVOCATION_UNSPECIFIED <= code && code <= REVOCATION_PRIVILEGE_WITHDRAWN
 }
 
-/// Whether a Revocation Reason Code says that others may know the key: the compromise of the key, or
-/// of its authority.
+/// Whether a Revocation Reason Code says that others may know the key: the compromise of the key,
+/// or of its authority.
 ///
 /// Source: KMIP 2.1, Enumerations, Revocation Reason Code.
 pub fn is_compromise(code: u32) -> bool

@@ -1,11 +1,13 @@
 //! Replies from bytes.
-ghost use Rattle.std.specs.Prelude.{◌≡◌, ℤ, Ok, IsTrue, IfOk};
+ghost use Rattle.std.specs.Prelude.{◌≡◌, ℤ, [], ◌∷◌, false, Ok, IsTrue, IfOk, IfErr};
 ghost use Rattle.kmip_ttlv.specs.Fitting.{IsInRange};
 ghost use Rattle.kmip_ttlv.specs.Node.{Node, content_of};
 ghost use Rattle.kmip_ttlv.specs.Spelling.{canon, Spells};
 ghost use Rattle.kmip_ttlv.specs.View.{view, views};
 ghost use Rattle.kmip_messages.specs.declared.reply.Reply.{Reply};
-ghost use Rattle.kmip_messages.specs.Fits.{reply_fits};
+ghost use Rattle.kmip_messages.specs.Faults.{is_no_memory};
+ghost use Rattle.kmip_messages.specs.Fits.{HasValuesInRange, reply_fits};
+ghost use Rattle.kmip_messages.specs.Items.{replies_in};
 ghost use Rattle.kmip_messages.specs.Replies.{IsReply};
 ghost use Rattle.kmip_messages.specs.Siblings.{contents};
 ghost use Rattle.kmip_messages.specs.Reading.{Gives};
@@ -60,11 +62,17 @@ pub fn read_reply(alloc: Global, bytes: &[u8]) -> Result<Reply, MessageFault>
     // What is read is a reply that the bytes spell.
     ensures found { IfOk result (λ r. (n : Node) × Spells n bytes.now × IsReply r n) }
     // Such a reply is read, unless memory runs out.
-    ensures only { (r : Reply) (n : Node) → Spells n bytes.now → IsReply r n → Gives (λ x. x) result (Ok r) }
+    ensures only { (r : Reply) (n : Node) → Spells n bytes.now → IsReply r n
+        → Gives (λ x. x) result (Ok r) }
     // What was written is read again.
-    ensures back { (r : Reply) (now : ℤ) → IsTrue (reply_fits r) → IsInRange (reply_item r now) → bytes.now ≡ canon (reply_item r now) → Gives (λ x. x) result (Ok r) }
+    ensures back { (r : Reply) (now : ℤ) → IsTrue (reply_fits r) → IsInRange (reply_item r now)
+        → bytes.now ≡ canon (reply_item r now) → Gives (λ x. x) result (Ok r) }
     // Which fault it is.
     ensures exact { Gives (λ r. r) result (reply_read bytes.now) }
+    ensures fits { IfOk result HasValuesInRange }
+    // What the bytes say, as a list.
+    ensures says { IfOk result (λ r. replies_in bytes.now ≡ r ∷ []) }
+    ensures refused { IfErr result (λ e. is_no_memory e ≡ false → replies_in bytes.now ≡ []) }
 {
     whole_reply(alloc, bytes)
 }
@@ -193,7 +201,8 @@ fn located_of(alloc: Global, batch: &[Item]) -> Result<Outcome, MessageFault>
 
 /// The Unique Identifiers of a payload, of which there may be any number.
 fn identifiers_of(alloc: Global, payload: &[Item]) -> Result<Texts, MessageFault>
-    ensures { Gives (λ t. t) result (identifiers_in (contents TAG_UNIQUE_IDENTIFIER (views payload.now))) }
+    ensures { Gives (λ t. t) result
+        (identifiers_in (contents TAG_UNIQUE_IDENTIFIER (views payload.now))) }
 {
     let mut uids = Vec::new(alloc);
     for item in payload {

@@ -2,6 +2,7 @@
 ghost use Rattle.std.specs.Prelude.{◌≡◌, ◌++◌, ◌∷◌, [], map, IsTrue, IfOk, OnOk};
 ghost use Rattle.kmip_ttlv.specs.Spelling.{canon};
 ghost use Rattle.kmip_messages.specs.Fits.{reply_fits};
+ghost use Rattle.kmip_messages.specs.Items.{replies_in};
 ghost use Rattle.kmip_ttlv.specs.Node.{node, enumeration};
 ghost use Rattle.kmip_ttlv.specs.View.{view, views};
 ghost use Rattle.kmip_messages.specs.Written.{
@@ -31,7 +32,9 @@ use std::alloc::Global;
 /// Where there is no memory for them.
 pub fn write_reply(alloc: Global, reply: &Reply, now: i64) -> Result<Vec<u8>, NoMemory>
     requires { IsTrue (reply_fits reply.now) }
-    ensures { IfOk result (λ v. v.items ≡ canon (reply_item reply.now now)) }
+    ensures bytes { IfOk result (λ v. v.items ≡ canon (reply_item reply.now now)) }
+    // What the bytes say, as a list.
+    ensures says { IfOk result (λ v. replies_in v.items ≡ reply.now ∷ []) }
 {
     let item = message_item(alloc, reply, now)?;
     let mut out = Vec::new(alloc);
@@ -73,7 +76,8 @@ fn batch_item(alloc: Global, reply: &Reply) -> Result<Item, NoMemory>
 
 /// Puts the status at the end, and then the reason or the payload.
 fn push_outcome(alloc: Global, items: &mut Vec<Item>, outcome: &Outcome) -> Result<(), NoMemory>
-    ensures { OnOk result (views items.new.items ≡ views items.old.items ++ outcome_items outcome.now) }
+    ensures { OnOk result
+        (views items.new.items ≡ views items.old.items ++ outcome_items outcome.now) }
 {
     match outcome {
         Outcome::Created(uid) => {
@@ -109,7 +113,8 @@ fn push_outcome(alloc: Global, items: &mut Vec<Item>, outcome: &Outcome) -> Resu
 
 /// Puts the status Success and a payload of these items at the end.
 fn push_success(items: &mut Vec<Item>, payload: Vec<Item>) -> Result<(), NoMemory>
-    ensures { OnOk result (views items.new.items ≡ views items.old.items ++ success_items (views payload.items)) }
+    ensures { OnOk result
+        (views items.new.items ≡ views items.old.items ++ success_items (views payload.items)) }
 {
     push(
         items,
@@ -124,7 +129,8 @@ fn push_success(items: &mut Vec<Item>, payload: Vec<Item>) -> Result<(), NoMemor
 
 /// The payload of a Create.
 fn created_items(alloc: Global, uid: &Text) -> Result<Vec<Item>, NoMemory>
-    ensures { IfOk result (λ v. views v.items ≡ node TAG_OBJECT_TYPE (enumeration OBJECT_TYPE_SYMMETRIC_KEY) ∷ uid_item uid.now ∷ []) }
+    ensures { IfOk result (λ v. views v.items
+        ≡ node TAG_OBJECT_TYPE (enumeration OBJECT_TYPE_SYMMETRIC_KEY) ∷ uid_item uid.now ∷ []) }
 {
     let object_type = Item::enumeration(Tag::new(TAG_OBJECT_TYPE), OBJECT_TYPE_SYMMETRIC_KEY);
     let uid = uid_item(alloc, uid)?;

@@ -6,6 +6,8 @@ ghost use Rattle.kmip_ttlv.specs.Node.{Node};
 ghost use Rattle.kmip_ttlv.specs.View.{view, views};
 ghost use Rattle.kmip_ttlv.specs.Fitting.{IsInRange};
 ghost use Rattle.kmip_ttlv.specs.Spelling.{canon, Spells};
+ghost use Rattle.kmip_messages.specs.Faults.{is_no_memory};
+ghost use Rattle.kmip_messages.specs.Items.{AsksAlone, AsksNothing};
 ghost use Rattle.kmip_messages.specs.Ranges.{is_name, is_batch_id, attrs_fit, ask_fits, request_fits};
 ghost use Rattle.kmip_messages.specs.Reading.{Gives};
 ghost use Rattle.kmip_messages.specs.Whole.{request_read};
@@ -49,15 +51,20 @@ use std::alloc::Global;
 /// The request that all the bytes are.
 ///
 /// # Errors
-/// The first fault in the order of the checks, with the Operation and the Unique Batch Item ID where
-/// both are lawful; want of memory otherwise.
+/// The first fault in the order of the checks, with the Operation and the Unique Batch Item ID
+/// where both are lawful; want of memory otherwise.
 pub fn read_request(alloc: Global, bytes: &[u8]) -> Result<Request, Refusal>
     ensures found { IfOk result (λ r. (n : Node) × Spells n bytes.now × IsRequest r n) }
-    ensures only { (r : Request) (n : Node) → Spells n bytes.now → IsRequest r n → GivesRequest result (Ok r) }
-    ensures back { (r : Request) → IsTrue (request_fits r) → IsInRange (request_item r) → bytes.now ≡ canon (request_item r) → GivesRequest result (Ok r) }
+    ensures only { (r : Request) (n : Node) → Spells n bytes.now → IsRequest r n
+        → GivesRequest result (Ok r) }
+    ensures back { (r : Request) → IsTrue (request_fits r) → IsInRange (request_item r)
+        → bytes.now ≡ canon (request_item r) → GivesRequest result (Ok r) }
     ensures exact { GivesRequest result (request_read bytes.now) }
     ensures fits { IfOk result (λ r. IsTrue (request_fits r)) }
     ensures carries { IfErr result (λ e. IsTrue (option_map_or is_batch_id e.id true)) }
+    // What the bytes ask, as lists.
+    ensures asks { IfOk result (AsksAlone bytes.now) }
+    ensures refused { IfErr result (λ e. is_no_memory e.fault ≡ false → AsksNothing bytes.now e) }
 {
     whole_request(alloc, bytes)
 }

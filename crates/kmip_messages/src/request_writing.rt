@@ -1,8 +1,9 @@
 //! Requests to bytes.
-ghost use Rattle.std.specs.Prelude.{◌≡◌, ◌∷◌, [], IsTrue, IfOk};
+ghost use Rattle.std.specs.Prelude.{◌≡◌, ◌∷◌, [], Ok, IsTrue, IfOk};
 ghost use Rattle.kmip_ttlv.specs.Node.{node, enumeration};
 ghost use Rattle.kmip_ttlv.specs.View.{view, views};
 ghost use Rattle.kmip_ttlv.specs.Spelling.{canon};
+ghost use Rattle.kmip_messages.specs.Items.{parts_in, requests_in};
 ghost use Rattle.kmip_messages.specs.Ranges.{request_fits};
 ghost use Rattle.kmip_messages.specs.declared.request.Ask.TheVariants.{Locate};
 ghost use Rattle.kmip_messages.specs.Written.{
@@ -35,7 +36,10 @@ use std::alloc::Global;
 /// Where there is no memory for them.
 pub fn write_request(alloc: Global, request: &Request) -> Result<Vec<u8>, NoMemory>
     requires { IsTrue (request_fits request.now) }
-    ensures { IfOk result (λ v. v.items ≡ canon (request_item request.now)) }
+    ensures bytes { IfOk result (λ v. v.items ≡ canon (request_item request.now)) }
+    // What the bytes ask, as lists.
+    ensures asks { IfOk result (λ v. requests_in v.items ≡ request.now ∷ []) }
+    ensures parts { IfOk result (λ v. parts_in v.items ≡ Ok request.now ∷ []) }
 {
     let item = message_item(alloc, request)?;
     let mut out = Vec::new(alloc);
@@ -105,7 +109,8 @@ fn ask_items(alloc: Global, ask: &Ask) -> Result<Vec<Item>, NoMemory>
 
 /// The payload of a Create.
 fn create_items(alloc: Global, attrs: &KeyAttrs) -> Result<Vec<Item>, NoMemory>
-    ensures { IfOk result (λ v. views v.items ≡ node TAG_OBJECT_TYPE (enumeration OBJECT_TYPE_SYMMETRIC_KEY) ∷ key_attrs_item attrs.now ∷ []) }
+    ensures { IfOk result (λ v. views v.items
+        ≡ node TAG_OBJECT_TYPE (enumeration OBJECT_TYPE_SYMMETRIC_KEY) ∷ key_attrs_item attrs.now ∷ []) }
 {
     let object_type = Item::enumeration(Tag::new(TAG_OBJECT_TYPE), OBJECT_TYPE_SYMMETRIC_KEY);
     let attrs = key_attrs_item(alloc, attrs)?;

@@ -11,7 +11,7 @@ use Rattle.kmip_ttlv.specs.declared.fault.TtlvFault.TheVariants as faults
 use Rattle.kmip_ttlv.specs.declared.item_type.ItemType.{ItemType}
 use Rattle.kmip_ttlv.specs.declared.item_type.ItemType.TheVariants as types
 use Rattle.kmip_ttlv.specs.Node.{Node, node, structure, boolean, text_string, Nodes, no_more, more, nodes_of}
-use Rattle.kmip_ttlv.specs.Fitting.{depths}
+use Rattle.kmip_ttlv.specs.Fitting.{IsBytes, depths}
 use Rattle.kmip_ttlv.specs.Spelling.{SpelledAll}
 use Rattle.kmip_ttlv.specs.Sizes.{padded}
 use Rattle.kmip_ttlv.specs.Heads.{head_at}
@@ -19,7 +19,7 @@ use Rattle.kmip_ttlv.specs.Reading.{◌>>=◌, Reader, boolean_value_at, text_va
 use Rattle.kmip_ttlv.specs.Breaks.{LeafBreaks, Breaks}
 use Rattle.kmip_ttlv.proofs.SoFar.{one_at}
 use Rattle.kmip_ttlv.proofs.Steps.{value_next, text_wrong}
-use Rattle.kmip_ttlv.proofs.Numbers.{IsBytes, IsBytes-drop, IsBytes-take, below_4}
+use Rattle.kmip_ttlv.proofs.Numbers.{IsBytes-drop, IsBytes-take, below_4}
 use Rattle.kmip_ttlv.proofs.Heads.{head_takes}
 use Rattle.kmip_ttlv.proofs.Takes.{IsTaken, Takes, item_takes}
 use Rattle.kmip_ttlv.proofs.Again.{item_again, spelled_some}

@@ -13,7 +13,8 @@ use Rattle.kmip_ttlv.specs.Spelling.{padding, head, item_bytes}
 use Rattle.kmip_ttlv.specs.Sizes.{padded}
 use Rattle.kmip_ttlv.specs.Heads.{overrun, typed_head_at, head_at}
 use Rattle.kmip_ttlv.proofs.Lengths.{length-item_bytes}
-use Rattle.kmip_ttlv.proofs.Numbers.{IsBytes, below_3, head-tag, head-type, head-len, drop-head, head_back}
+use Rattle.kmip_ttlv.specs.Fitting.{IsBytes}
+use Rattle.kmip_ttlv.proofs.Numbers.{below_3, head-tag, head-type, head-len, drop-head, head_back}
 
 -- the bytes begin with a head that passes each check
 pub record HasHead (outermost : Bool) (bytes : List ℕ) (tag : ℕ) (type : ItemType) (len : ℕ) : Type 0 where

@@ -1,4 +1,4 @@
--- The laws of reading and writing whole items, for the crates above too.
+-- The laws of reading and writing whole items.
 use Rattle.std.proofs.Common.{◌≡◌, ℕ, ◌≤◌, List, ◌++◌, length, take, drop, Result, Ok, Err, ◌⊎◌, inl, inr, refl, sym, ap, ◌∙◌, take-append-drop, arith}
 use Rattle.std.specs.Prelude.{IfOk, IfErr}
 use Rattle.std.proofs.lemmas.List.{length-append, length-take}
@@ -25,13 +25,12 @@ use Rattle.kmip_ttlv.specs.Node.{
   more,
 }
 use Rattle.kmip_ttlv.specs.View.{view}
-use Rattle.kmip_ttlv.specs.Fitting.{IsInRange}
+use Rattle.kmip_ttlv.specs.Fitting.{IsBytes, IsInRange}
 use Rattle.kmip_ttlv.specs.Spelling.{type_of, canon, Spelled, SpelledValue, SpelledAll, Spells}
 use Rattle.kmip_ttlv.specs.Sizes.{padded, size, content_size, sizes, Fits, IsWritable}
 use Rattle.kmip_ttlv.specs.Reading.{ReadsAs, IsRead, IsRefused, item_at}
 use Rattle.kmip_ttlv.specs.Breaks.{Breaks}
 use Rattle.kmip_ttlv.proofs.Lengths.{length-item_bytes, fits_of, sizes_whole, groups_in_range}
-use Rattle.kmip_ttlv.proofs.Numbers.{IsBytes}
 use Rattle.kmip_ttlv.proofs.Takes.{item_takes}
 use Rattle.kmip_ttlv.proofs.Again.{item_again, canon_spelled, spelled_range}
 use Rattle.kmip_ttlv.proofs.Faults.{item_breaks, breaks_item}

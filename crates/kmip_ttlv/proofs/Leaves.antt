@@ -27,10 +27,10 @@ use Rattle.kmip_ttlv.specs.Node.{
   date_time_extended,
 }
 use Rattle.kmip_ttlv.specs.Types.{is_allowed}
-use Rattle.kmip_ttlv.specs.Fitting.{content_depth}
+use Rattle.kmip_ttlv.specs.Fitting.{IsBytes, content_depth}
 use Rattle.kmip_ttlv.specs.Spelling.{type_of, value_bytes, SpelledValue}
 use Rattle.kmip_ttlv.specs.Reading.{◌>>=◌, Reader, boolean_value_at, text_value_at, value_at}
-use Rattle.kmip_ttlv.proofs.Numbers.{IsBytes, back_4, back_8, below_4, below_8, again_4, again_8}
+use Rattle.kmip_ttlv.proofs.Numbers.{back_4, back_8, below_4, below_8, again_4, again_8}
 use Rattle.kmip_ttlv.proofs.Steps.{text_right}
 
 abbrev done : {A : Type 0} → A → Result A TtlvFault

@@ -12,3 +12,4 @@ pub mod Again
 pub mod Faults
 pub mod Laws
 pub mod Shown
+pub mod ForCallers

@@ -1,10 +1,11 @@
 -- The items of a Structure, written one after the other.
-use Rattle.std.proofs.Common.{◌≡◌, ℕ, ◌≤◌, List, ◌++◌, length, take, Option, Some, None, sym, ap, ◌∙◌, append_assoc, arith}
+use Rattle.std.proofs.Common.{◌≡◌, ℕ, ◌≤◌, ◌<◌, ◌^◌, List, ◌++◌, length, take, Option, Some, None, Result, Ok, Err, sym, ap, subst, ◌∙◌, append_assoc, arith}
+use Rattle.std.specs.Prelude.{OnOk}
 use Rattle.std.specs.Option.{unwrap_or}
 use Rattle.std.proofs.lemmas.List.{append-nil, length-take, take-take, take-replicate}
 use Rattle.kmip_ttlv.specs.declared.item_type.ItemType.TheVariants.{Structure}
 use Rattle.kmip_ttlv.specs.Node.{Node, node, structure, Nodes, no_more, more}
-use Rattle.kmip_ttlv.specs.Fitting.{HaveWholeGroups, depths}
+use Rattle.kmip_ttlv.specs.Fitting.{IsInRange, AreInRange, HaveWholeGroups, depths}
 use Rattle.kmip_ttlv.specs.Spelling.{head, zeros, padding, canon, canons}
 use Rattle.kmip_ttlv.specs.Sizes.{IsWritable, sizes, AreSizesWithin}
 use Rattle.kmip_ttlv.proofs.Lengths.{canon-structure, writable_of, size_writable}
@@ -28,6 +29,18 @@ size_known : (found : Option ℕ) (tag : ℕ) (whole : Nodes) → IsWritable (no
 size_known (Some found) tag whole fits within = within.2
 size_known None tag whole fits within =
     absurd (within fits.0 (omega (arith, fits.1)) (omega (arith, size_writable (node tag (structure whole)) fits)))
+
+-- so they are in range
+pub all_in_range : (found : Option ℕ) (tag : ℕ) (whole : Nodes) → IsWritable (node tag (structure whole)) → AreSizesWithin found whole 16 8192 → AreInRange whole
+all_in_range (Some found) tag whole fits within = within.0
+all_in_range None tag whole fits within =
+    absurd (within fits.0 (omega (arith, fits.1)) (omega (arith, size_writable (node tag (structure whole)) fits)))
+
+-- and the Structure of them is
+pub structure_in_range : {A E : Type 0} (answer : Result A E) (n : Node) (tag : ℕ) (ns : Nodes) → n ≡ node tag (structure ns) → tag < 2 ^ 24
+    → OnOk answer (AreInRange ns) → OnOk answer (IsInRange n)
+structure_in_range (Ok a) n tag ns is tag_fits within = subst IsInRange (sym is) (tag_fits, within)
+structure_in_range (Err e) n tag ns is tag_fits within = tt
 
 pub head_written : (before out : List ℕ) (tag : ℕ) (found : Option ℕ) (whole : Nodes) → IsWritable (node tag (structure whole)) → AreSizesWithin found whole 16 8192
     → out ≡ before ++ head tag Structure (unwrap_or found 0) → take (length before) out ≡ before → AreWritten before tag out whole whole

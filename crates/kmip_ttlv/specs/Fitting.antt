@@ -1,6 +1,6 @@
--- The ranges of values, and how deep an item is.
+-- The ranges of bytes and values, and how deep an item is.
 -- Source: KMIP 2.1, TTLV Encoding, Type and Value.
-use Rattle.std.specs.Prelude.{◌≡◌, ℕ, ◌+◌, ◌%◌, ◌^◌, ◌<◌, max, length, FitsSigned, IsUtf8}
+use Rattle.std.specs.Prelude.{◌≡◌, ℕ, ◌+◌, ◌%◌, ◌^◌, ◌<◌, max, List, length, get_or, FitsSigned, IsUtf8}
 use Rattle.std.specs.Int.{w32, w64}
 use Rattle.kmip_ttlv.specs.Node.{
   Node,
@@ -21,6 +21,10 @@ use Rattle.kmip_ttlv.specs.Node.{
   no_more,
   more,
 }
+
+-- each of the numbers is a byte
+abbrev pub IsBytes : List ℕ → Type 0
+IsBytes bytes = (i : ℕ) → get_or bytes i 0 < 256
 
 -- A tag has three bytes, and a value is in the range of its type. A Big Integer is made of groups of
 -- eight bytes, of which there is at least one.

@@ -3,6 +3,7 @@ ghost use Rattle.std.specs.Prelude.{◌≡◌, ◌+◌, ◌<◌, ◌^◌, ◌++�
 ghost use Rattle.kmip_ttlv.specs.Node.{node, structure, nodes_of};
 ghost use Rattle.kmip_ttlv.specs.View.{view, views};
 ghost use Rattle.kmip_ttlv.specs.Spelling.{head, item_bytes, zeros, padding, canon, canons};
+ghost use Rattle.kmip_ttlv.specs.Fitting.{IsInRange, AreInRange};
 ghost use Rattle.kmip_ttlv.specs.Sizes.{IsWritable};
 
 use crate::fault::NoMemory;
@@ -21,6 +22,8 @@ pub fn write(item: &Item, out: &mut Vec<u8>) -> Result<(), NoMemory>
     requires { IsWritable (view item.now) }
     ensures ok { OnOk result (out.new.items ≡ out.old.items ++ canon (view item.now)) }
     ensures err { OnErr result (out.new.items ≡ out.old.items) }
+    // The types of the code keep the ranges.
+    ensures in_range { OnOk result (IsInRange (view item.now)) }
 {
     let before = out.len();
     match append(item, out) {
@@ -38,8 +41,11 @@ fn append(item: &Item, out: &mut Vec<u8>) -> Result<(), NoMemory>
     requires { IsWritable (view item.now) }
     ensures ok { OnOk result (out.new.items ≡ out.old.items ++ canon (view item.now)) }
     ensures kept { take (length out.old.items) out.new.items ≡ out.old.items }
+    ensures in_range { OnOk result (IsInRange (view item.now)) }
 {
     let tag = item.tag;
+    // A tag is below 2^24.
+    let _number = tag.number();
     match &item.value {
         Value::Structure(items) => append_structure(tag, items.as_slice(), out),
         Value::Integer(number) => append_leaf(tag, ItemType::Integer, &number.to_be_bytes(), out),
@@ -76,6 +82,7 @@ fn append_structure(tag: Tag, items: &[Item], out: &mut Vec<u8>) -> Result<(), N
     requires { IsWritable (node tag (structure (nodes_of (views items.now)))) }
     ensures ok { OnOk result (out.new.items ≡ out.old.items ++ canon (node tag (structure (nodes_of (views items.now))))) }
     ensures kept { take (length out.old.items) out.new.items ≡ out.old.items }
+    ensures in_range { OnOk result (AreInRange (nodes_of (views items.now))) }
 {
     let size = all_within(items, MAX_DEPTH, MAX_SIZE).unwrap_or(0);
     append_head(tag, ItemType::Structure, size, out)?;

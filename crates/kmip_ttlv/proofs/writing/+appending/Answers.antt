@@ -7,8 +7,8 @@ use Rattle.kmip_ttlv.specs.declared.item_type.ItemType.TheVariants.{Structure}
 use Rattle.kmip_ttlv.specs.Spelling.{head}
 use Rattle.kmip_ttlv.specs.Node.{Nodes, nodes_of}
 use Rattle.kmip_ttlv.specs.View.{view, views}
-use Rattle.kmip_ttlv.proofs.Views.{nodes-drop, nodes-drop_all}
-use Rattle.kmip_ttlv.proofs.Written.{AreWritten, still_kept, head_written, child_fits, child_written, all_written}
+use Rattle.kmip_ttlv.proofs.Views.{view-Structure, nodes-drop, nodes-drop_all}
+use Rattle.kmip_ttlv.proofs.Written.{AreWritten, still_kept, all_in_range, structure_in_range, head_written, child_fits, child_written, all_written}
 use Rattle.kmip_ttlv.proofs.writing.+appending.Goals as goal
 
 pub append_structure-loop-item-init : goal.append_structure-loop-item-init
@@ -51,3 +51,13 @@ append_structure-returns-clause-ok t c =
     let so_far = subst (λ (rest : Nodes). AreWritten c.args.out.now.items c.args.tag c.loop-item.out.items rest whole)
     (nodes-drop_all xs c.loop-item.item-index c.loop-item-test.false) c.loop-item.invariant in
     all_written c.args.out.now.items c.args.tag c.loop-item.out.items whole so_far
+
+pub append_structure-returns-clause-in_range : goal.append_structure-returns-clause-in_range
+append_structure-returns-clause-in_range t c =
+    all_in_range c.all_within.result c.args.tag (nodes_of (views c.args.items.now)) c.requires c.all_within.ensures
+
+pub append-returns-in-Structure-clause-in_range : goal.append-returns-in-Structure-clause-in_range
+append-returns-in-Structure-clause-in_range t c =
+    structure_in_range c.append_structure.result (view c.args.item.now) c.args.item.now.tag (nodes_of (views c.as_slice.result.now))
+    (view-Structure c.args.item.now c.in-Structure.items c.as_slice.result.now c.in-Structure.is c.as_slice.ensures.value)
+    (omega arith) c.append_structure.ensures.in_range

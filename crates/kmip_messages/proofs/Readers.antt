@@ -4,80 +4,21 @@ use Rattle.std.proofs.lemmas.Bool.{eqb-true, eq-eqb}
 use Rattle.std.specs.List.{list_any}
 use Rattle.std.specs.Option.{option_map, option_map_or}
 use Rattle.kmip_ttlv.specs.Node.{Node, node, Content, structure, integer, enumeration, text_string, byte_string, tag_of, content_of, list_of, as_structure, as_integer, as_enumeration, as_text_string, as_byte_string}
-use Rattle.kmip_ttlv.proofs.Views.{nodes_of-list_of, list_of-nodes_of}
+use Rattle.kmip_ttlv.proofs.ForCallers.{nodes_of-list_of, list_of-nodes_of}
+use Rattle.kmip_messages.proofs.ForCallers.{Reads, err, same_ok, not_ok, reads-ok, reads-bind, reads-as}
 use Rattle.kmip_messages.specs.declared.fault.MessageFault.{MessageFault}
 use Rattle.kmip_messages.specs.declared.fault.MessageFault.TheVariants.{Missing, Twice, WrongType, OutOfRange, NotMessage, BatchCount}
 use Rattle.kmip_messages.specs.declared.standard.TheConstants.{TAG_UNIQUE_BATCH_ITEM_ID, TAG_UNIQUE_IDENTIFIER}
 use Rattle.kmip_messages.specs.Ranges.{is_identifier, is_batch_id}
-use Rattle.kmip_messages.specs.Siblings.{
-  contents,
-  at_most_one_of,
-  one_of,
-  ◌>>=◌,
-  typed,
-  typed_if_any,
-  guard,
-  within,
-  sole,
-  the,
-  maybe,
-  only,
-}
+use Rattle.kmip_messages.specs.Siblings.{contents, at_most_one_of, one_of, typed, typed_if_any, guard, within, sole, the, maybe, only}
 use Rattle.kmip_messages.specs.Standing.{Once, if_any, AtMostOnce, HaveTags, IsMarked, IsIdentifier}
 use Rattle.kmip_messages.specs.Parts.{message_in, message_at, id_in, id_at, identifier_at}
 use Rattle.kmip_messages.specs.RequestReading.{refused}
 use Rattle.kmip_messages.specs.Written.{inside, given}
 
--- what is read has the property, and what has the property is read
-pub record Reads {E A : Type 0} (r : Result A E) (P : A → Type 0) : Type 0 where
-  pub sound : (a : A) → r ≡ Ok a → P a
-  pub complete : (a : A) → P a → r ≡ Ok a
-
-abbrev ok : (E A : Type 0) → A → Result A E
-ok E A a = Ok a
-
-abbrev err : (E A : Type 0) → E → Result A E
-err E A e = Err e
-
-same_ok : {E A : Type 0} (x y : A) → ok E A x ≡ ok E A y → x ≡ y
-same_ok x y e = cc
-
-not_ok : {E A X : Type 0} (e : E) (a : A) → err E A e ≡ ok E A a → X
-not_ok e a is = absurd cc
-
--- a value
-pub reads-ok : {E A : Type 0} (x : A) → Reads (ok E A x) (λ a. x ≡ a)
-reads-ok x = record { sound = λ a e. same_ok x a e; complete = λ a e. ap Ok e }
-
 -- a fault
 pub reads-err : {E A : Type 0} (e : E) → Reads (err E A e) (λ a. ⊥)
 reads-err e = record { sound = λ a is. not_ok e a is; complete = λ a never. absurd never }
-
--- a step after a step, which may rest on what the first one gave
-pub reads-bind_known : {E A B : Type 0} (r : Result A E) (f : A → Result B E) (P : A → Type 0) (Q : A → B → Type 0)
-    → Reads r P → ((a : A) → P a → Reads (f a) (Q a)) → Reads (r >>= f) (λ b. (a : A) × P a × Q a b)
-reads-bind_known (Ok x) f P Q h k = record {
-  sound = λ b e. (x, h.sound x refl, (k x (h.sound x refl)).sound b e);
-  complete = λ b p.
-      let same : x ≡ p.0 = same_ok x p.0 (h.complete p.0 p.1) in
-      (k x (h.sound x refl)).complete b (subst (λ a. Q a b) (sym same) p.2);
-}
-reads-bind_known (Err e) f P Q h k = record {
-  sound = λ b is. not_ok e b is;
-  complete = λ b p. not_ok e p.0 (h.complete p.0 p.1);
-}
-
--- a step after a step
-pub reads-bind : {E A B : Type 0} (r : Result A E) (f : A → Result B E) (P : A → Type 0) (Q : A → B → Type 0)
-    → Reads r P → ((a : A) → Reads (f a) (Q a)) → Reads (r >>= f) (λ b. (a : A) × P a × Q a b)
-reads-bind r f P Q h k = reads-bind_known r f P Q h (λ a p. k a)
-
--- the same in other words
-pub reads-as : {E A : Type 0} (r : Result A E) (P Q : A → Type 0) → ((a : A) → P a → Q a) → ((a : A) → Q a → P a) → Reads r P → Reads r Q
-reads-as r P Q there back h = record {
-  sound = λ a e. there a (h.sound a e);
-  complete = λ a q. h.complete a (back a q);
-}
 
 -- a choice
 pub reads-if : {E A : Type 0} (c : Bool) (r s : Result A E) (P : A → Type 0) → (c ≡ true → Reads r P) → (c ≡ false → Reads s P)
