@@ -1,3 +1,4 @@
 pub mod Faults
 pub mod Knowledge
 pub mod Learning
+pub mod Shapes
