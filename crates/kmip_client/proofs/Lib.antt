@@ -1,1 +1,2 @@
 pub mod LearningLemmas
+pub mod ClientLemmas

@@ -3,10 +3,12 @@
 #![tactic(auto)]
 
 mod clash;
+mod client;
 mod fault;
 mod knowledge;
 mod learning;
 
 pub use clash::Clash;
+pub use client::Client;
 pub use fault::HearFault;
 pub use knowledge::{Knowledge, Phase, Verdict};
