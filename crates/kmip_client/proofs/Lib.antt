@@ -1,2 +1,3 @@
 pub mod LearningLemmas
 pub mod ClientLemmas
+pub mod QuestionLemmas

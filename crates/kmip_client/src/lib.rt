@@ -7,8 +7,10 @@ mod client;
 mod fault;
 mod knowledge;
 mod learning;
+mod question;
 
 pub use clash::Clash;
 pub use client::Client;
 pub use fault::HearFault;
+pub use question::Question;
 pub use knowledge::{Knowledge, Phase, Verdict};
