@@ -1,3 +1,4 @@
 pub mod LearningLemmas
 pub mod ClientLemmas
 pub mod QuestionLemmas
+pub mod TurnLemmas

@@ -1,6 +1,7 @@
 //! A client of one plan.
-ghost use Rattle.std.specs.Prelude.{◌≡◌, ◌<◌, length, map, IfOk, option_map};
-ghost use Rattle.kmip_plan.specs.Plans.{IsLawful};
+ghost use Rattle.std.specs.Prelude.{◌≡◌, ◌≤◌, ◌<◌, length, map, drop, Some, IfOk, IfSome, OnOk, OnErr, option_map};
+ghost use Rattle.std.specs.List.{AllZip};
+ghost use Rattle.kmip_plan.specs.Plans.{IsLawful, EachFits};
 ghost use Rattle.kmip_client.specs.Clients.{
   fresh,
   done_at,
@@ -9,10 +10,19 @@ ghost use Rattle.kmip_client.specs.Clients.{
   lost_working,
   changed_at,
   lost_at,
+  working_from,
+  next_working,
+  next_question,
+  question_at,
+  asked,
+  WorksAt,
+  IsAbout,
 };
+ghost use Rattle.kmip_client.specs.Shapes.{IsShaped};
 ghost use Rattle.kmip_client.specs.Knowledge.{fresh_knowledge};
 
 use crate::knowledge::{Knowledge, Verdict};
+use crate::question::{Question, question_about};
 use kmip_plan::{Key, Plan};
 use kmip_ttlv::{NoMemory, Text};
 use std::alloc::Global;
@@ -62,6 +72,27 @@ impl<'p> Client<'p> {
         self.plan
     }
 
+    /// The next question: about the first key that is worked on after the one asked last, in the
+    /// order of the plan, which begins again at its end. None where no key is worked on.
+    ///
+    /// # Errors
+    /// Where there is no memory for it; the client is then as it was.
+    pub fn ask(&mut self, alloc: Global) -> Result<Option<Question>, NoMemory>
+        ensures question { IfOk result (λ question. question ≡ next_question self.old) }
+        ensures about { IfOk result (λ question. IfSome question (λ q.
+            IsAbout self.old.keys self.old.knowns q)) }
+        ensures turn { OnOk result (self.new ≡ asked self.old) }
+        ensures same { OnErr result (self.new ≡ self.old) }
+    {
+        let keys = self.plan.keys();
+        let Some(place) = next_working(keys, self.knowns.as_slice(), self.next) else {
+            return Ok(None);
+        };
+        let question = question_at(alloc, keys, self.knowns.as_slice(), place)?;
+        self.next = place + 1;
+        Ok(Some(question))
+    }
+
     /// How many steps of the key at a place from 0 are known to have taken effect. Takes no memory.
     pub fn done(&self, key: usize) -> usize
         requires { key < length self.now.keys }
@@ -101,6 +132,52 @@ impl<'p> Client<'p> {
     {
         lose(self.plan.keys(), &mut self.knowns, key);
     }
+}
+
+/// The place of the first key that is worked on from a place on, else from the front.
+fn next_working(keys: &[Key], knowns: &[Knowledge], next: usize) -> Option<usize>
+    requires as_many { length knowns.now ≡ length keys.now }
+    requires within { next ≤ length keys.now }
+    ensures place { result ≡ next_working (record { keys = keys.now; knowns = knowns.now; next = next }) }
+    ensures works { IfSome result (λ place. WorksAt keys.now knowns.now place) }
+{
+    match working_from(keys, knowns, next) {
+        Some(place) => Some(place),
+        None => working_from(keys, knowns, 0),
+    }
+}
+
+/// The place of the first key that is worked on from a place on.
+fn working_from(keys: &[Key], knowns: &[Knowledge], from: usize) -> Option<usize>
+    requires as_many { length knowns.now ≡ length keys.now }
+    requires within { from ≤ length keys.now }
+    ensures place { result ≡ working_from from (drop from keys.now) (drop from knowns.now) }
+    ensures works { IfSome result (λ place. WorksAt keys.now knowns.now place) }
+{
+    for place in from..keys.len() {
+        if knowns[place].is_working(&keys[place]) {
+            return Some(place);
+        }
+    }
+    None
+}
+
+/// The question about the key at a place, which is worked on.
+fn question_at(
+    alloc: Global,
+    keys: &[Key],
+    knowns: &[Knowledge],
+    place: usize,
+) -> Result<Question, NoMemory>
+    requires shaped { AllZip IsShaped keys.now knowns.now }
+    requires fits { EachFits keys.now }
+    requires works { WorksAt keys.now knowns.now place }
+    ensures question { IfOk result (λ q. question_at keys.now knowns.now place ≡ Some q) }
+    ensures about { IfOk result (λ q. IsAbout keys.now knowns.now q) }
+{
+    let key = &keys[place];
+    let known = &knowns[place];
+    question_about(alloc, place, key, known)
 }
 
 /// Nothing, for each of the keys.
