@@ -2,3 +2,4 @@ pub mod LearningLemmas
 pub mod ClientLemmas
 pub mod QuestionLemmas
 pub mod TurnLemmas
+pub mod SubjectLemmas

@@ -4,3 +4,4 @@ pub mod Learning
 pub mod Shapes
 pub mod Questions
 pub mod Clients
+pub mod Hearing

@@ -5,12 +5,15 @@
 mod clash;
 mod client;
 mod fault;
+mod hearing;
 mod knowledge;
 mod learning;
 mod question;
+mod subject;
 
 pub use clash::Clash;
 pub use client::Client;
 pub use fault::HearFault;
+pub use hearing::{Heard, News};
 pub use question::Question;
 pub use knowledge::{Knowledge, Phase, Verdict};
