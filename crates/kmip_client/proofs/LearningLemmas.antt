@@ -43,22 +43,25 @@ lost_suits None done = refl
 lost_suits (Some uid) done = some_is uid
 
 pub lost_goes_on : (key : Key) (known : Knowledge) → IsShaped key known → GoesOn key known (lost known)
-lost_goes_on key known shaped =
-    (record { few = shaped.few; suits = lost_suits known.identifier known.done; has_identifier = shaped.has_identifier; in_range = shaped.in_range; unsettled = shaped.unsettled },
-    record { identifier_kept = λ uid is. is; done_kept = omega arith })
+lost_goes_on key known shaped = (
+  record { few = shaped.few; suits = lost_suits known.identifier known.done; has_identifier = shaped.has_identifier; in_range = shaped.in_range; unsettled = shaped.unsettled },
+  record { identifier_kept = λ uid is. is; done_kept = omega arith },
+)
 
 pub conflict_goes_on : (key : Key) (clash : Clash) (known : Knowledge) → IsShaped key known → known.done < chain_length key → GoesOn key known (in_conflict clash known)
-conflict_goes_on key clash known shaped more =
-    (record { few = shaped.few; suits = shaped.suits; has_identifier = shaped.has_identifier; in_range = shaped.in_range; unsettled = λ some. more },
-    record { identifier_kept = λ uid is. is; done_kept = omega arith })
+conflict_goes_on key clash known shaped more = (
+  record { few = shaped.few; suits = shaped.suits; has_identifier = shaped.has_identifier; in_range = shaped.in_range; unsettled = λ some. more },
+  record { identifier_kept = λ uid is. is; done_kept = omega arith },
+)
 
 -- a key that stands at a place of its chain
 gone_to : (key : Key) (place : ℕ) (known : Knowledge) → IsShaped key known → known.clash ≡ None → known.identifier ≢ None
     → 1 ≤ place → place ≤ chain_length key → known.done ≤ place
     → GoesOn key known (record known { done = place; phase = phases.Go })
-gone_to key place known shaped none has from within more =
-    (record { few = within; suits = (has, from); has_identifier = λ some. has; in_range = shaped.in_range; unsettled = λ some. absurd (some none) },
-    record { identifier_kept = λ uid is. is; done_kept = more })
+gone_to key place known shaped none has from within more = (
+  record { few = within; suits = (has, from); has_identifier = λ some. has; in_range = shaped.in_range; unsettled = λ some. absurd (some none) },
+  record { identifier_kept = λ uid is. is; done_kept = more },
+)
 
 entered_goes_on : (key : Key) (place : ℕ) (known : Knowledge) → IsShaped key known → known.clash ≡ None → known.identifier ≢ None
     → 1 ≤ place → place ≤ chain_length key → GoesOn key known (entered place known)
@@ -125,17 +128,19 @@ keeps_own known uid same own is = sym (own_is known.identifier uid (not_none kno
 made_goes_on : (key : Key) (uid : List ℕ) (known : Knowledge) → IsShaped key known → known.clash ≡ None → IsTrue (is_identifier uid)
     → known.done < chain_length key → is_other known.identifier uid ≡ false → known.done < 1
     → GoesOn key known (record known { identifier = Some uid; done = 1; phase = phases.Go })
-made_goes_on key uid known shaped none fits more same first =
-    (record { few = omega arith; suits = (some_is uid, omega arith); has_identifier = λ some. some_is uid; in_range = fits; unsettled = λ some. absurd (some none) },
-    record { identifier_kept = keeps_own known uid same; done_kept = omega arith })
+made_goes_on key uid known shaped none fits more same first = (
+  record { few = omega arith; suits = (some_is uid, omega arith); has_identifier = λ some. some_is uid; in_range = fits; unsettled = λ some. absurd (some none) },
+  record { identifier_kept = keeps_own known uid same; done_kept = omega arith },
+)
 
 renamed_goes_on : (key : Key) (uid : List ℕ) (known : Knowledge) → IsShaped key known → IsTrue (is_identifier uid)
     → is_other known.identifier uid ≡ false → 1 ≤ known.done
     → GoesOn key known (record known { identifier = Some uid })
 renamed_goes_on key uid known shaped fits same from =
-    let own = own_is known.identifier uid (shaped.has_identifier from) same in
-    (record { few = shaped.few; suits = subst (λ o. PhaseSuits known.phase o known.done) own shaped.suits; has_identifier = λ some. some_is uid; in_range = fits; unsettled = shaped.unsettled },
-    record { identifier_kept = keeps_own known uid same; done_kept = omega arith })
+    let own = own_is known.identifier uid (shaped.has_identifier from) same in (
+      record { few = shaped.few; suits = subst (λ o. PhaseSuits known.phase o known.done) own shaped.suits; has_identifier = λ some. some_is uid; in_range = fits; unsettled = shaped.unsettled },
+      record { identifier_kept = keeps_own known uid same; done_kept = omega arith },
+    )
 
 created_goes_on : (key : Key) (uid : List ℕ) (known new : Knowledge) → IsShaped key known → known.clash ≡ None → IsTrue (is_identifier uid)
     → known.done < chain_length key → created_learnt uid known ≡ Ok new → GoesOn key known new
@@ -154,18 +159,20 @@ none_goes_on : (key : Key) (known : Knowledge) → IsShaped key known → GoesOn
 none_goes_on key known shaped =
     elim (cases_Bool (is_some known.identifier)) [
       | inl some ↦ rw some (shaped, kept_itself known)
-      | inr nothing ↦ rw nothing
-          (record { few = shaped.few; suits = none_of known.identifier nothing; has_identifier = shaped.has_identifier; in_range = shaped.in_range; unsettled = shaped.unsettled },
-          record { identifier_kept = λ uid is. is; done_kept = omega arith })
+      | inr nothing ↦ rw nothing (
+        record { few = shaped.few; suits = none_of known.identifier nothing; has_identifier = shaped.has_identifier; in_range = shaped.in_range; unsettled = shaped.unsettled },
+        record { identifier_kept = λ uid is. is; done_kept = omega arith },
+      )
     ]
 
 one_goes_on : (key : Key) (uid : List ℕ) (known : Knowledge) → IsShaped key known → IsTrue (is_identifier uid) → GoesOn key known (one_learnt uid known)
 one_goes_on key uid known shaped fits =
     elim (cases_Bool (is_some known.identifier)) [
       | inl some ↦ rw some (shaped, kept_itself known)
-      | inr nothing ↦ rw nothing
-          (record { few = shaped.few; suits = some_is uid; has_identifier = λ some. some_is uid; in_range = fits; unsettled = shaped.unsettled },
-          record { identifier_kept = λ own is. absurd (not_none known.identifier own is (none_of known.identifier nothing)); done_kept = omega arith })
+      | inr nothing ↦ rw nothing (
+        record { few = shaped.few; suits = some_is uid; has_identifier = λ some. some_is uid; in_range = fits; unsettled = shaped.unsettled },
+        record { identifier_kept = λ own is. absurd (not_none known.identifier own is (none_of known.identifier nothing)); done_kept = omega arith },
+      )
     ]
 
 located_goes_on : (key : Key) (uids : List (List ℕ)) (known new : Knowledge) → IsShaped key known → IsTrue (list_all is_identifier uids)

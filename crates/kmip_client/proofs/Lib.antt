@@ -3,3 +3,4 @@ pub mod ClientLemmas
 pub mod QuestionLemmas
 pub mod TurnLemmas
 pub mod SubjectLemmas
+pub mod HeardLemmas

@@ -1,5 +1,6 @@
 //! A client of one plan.
-ghost use Rattle.std.specs.Prelude.{◌≡◌, ◌≤◌, ◌<◌, length, map, drop, Some, IfOk, IfSome, OnOk, OnErr, option_map};
+ghost use Rattle.std.specs.Prelude.{◌≡◌, ◌≤◌, ◌<◌, length, map, drop, Some, Ok, Err, IfOk, IfErr, IfSome, IsTrue, OnOk, OnErr, option_map};
+ghost use Rattle.kmip_messages.specs.Fits.{outcome_fits};
 ghost use Rattle.std.specs.List.{AllZip};
 ghost use Rattle.kmip_plan.specs.Plans.{IsLawful, EachFits};
 ghost use Rattle.kmip_client.specs.Clients.{
@@ -18,12 +19,17 @@ ghost use Rattle.kmip_client.specs.Clients.{
   WorksAt,
   IsAbout,
 };
-ghost use Rattle.kmip_client.specs.Shapes.{IsShaped};
+ghost use Rattle.kmip_client.specs.Hearing.{unheard, heard_in, hear, Refuses};
+ghost use Rattle.kmip_client.specs.Shapes.{IsShaped, IsKept};
 ghost use Rattle.kmip_client.specs.Knowledge.{fresh_knowledge};
 
+use crate::fault::HearFault;
+use crate::hearing::{Heard, hear_about};
 use crate::knowledge::{Knowledge, Verdict};
 use crate::question::{Question, question_about};
-use kmip_plan::{Key, Plan};
+use crate::subject::subject_of;
+use kmip_messages::{MessageFault, Reply, read_reply};
+use kmip_plan::{Key, Plan, laws};
 use kmip_ttlv::{NoMemory, Text};
 use std::alloc::Global;
 use std::marker::Model;
@@ -93,6 +99,42 @@ impl<'p> Client<'p> {
         Ok(Some(question))
     }
 
+    /// Learns from any bytes that have come, about the key that the reply's id names, whatever was
+    /// asked last.
+    ///
+    /// # Errors
+    /// The first fault in the order of `HearFault`; `NoMemory` where it comes before any other. The
+    /// client is then as it was.
+    pub fn hear(&mut self, alloc: Global, bytes: &[u8]) -> Result<Heard, HearFault>
+        ensures heard { IfOk result (λ heard.
+            hear self.old bytes.now ≡ Ok (heard, self.new.knowns)) }
+        ensures stays { self.new ≡ record self.old { knowns = self.new.knowns } }
+        ensures fault { IfErr result (λ fault. Refuses fault (hear self.old bytes.now)) }
+        ensures same { OnErr result (self.new ≡ self.old) }
+        ensures kept { AllZip IsKept self.old.knowns self.new.knowns }
+    {
+        match read_reply(alloc, bytes) {
+            Ok(reply) => self.hear_reply(reply),
+            Err(fault) => Err(unreadable(fault)),
+        }
+    }
+
+    fn hear_reply(&mut self, reply: Reply) -> Result<Heard, HearFault>
+        requires { IsTrue (outcome_fits reply.operation reply.outcome) }
+        ensures heard { IfOk result (λ heard.
+            heard_in self.old.keys reply self.old.knowns ≡ Ok (heard, self.new.knowns)) }
+        ensures stays { self.new ≡ record self.old { knowns = self.new.knowns } }
+        ensures fault { IfErr result (λ e. heard_in self.old.keys reply self.old.knowns ≡ Err e) }
+        ensures same { OnErr result (self.new ≡ self.old) }
+        ensures kept { AllZip IsKept self.old.knowns self.new.knowns }
+    {
+        laws::steps_have_places();
+        laws::states_have_places();
+        let keys = self.plan.keys();
+        let subject = subject_of(keys, self.next.saturating_sub(1), &reply.id);
+        hear_about(keys, &mut self.knowns, subject, reply)
+    }
+
     /// How many steps of the key at a place from 0 are known to have taken effect. Takes no memory.
     pub fn done(&self, key: usize) -> usize
         requires { key < length self.now.keys }
@@ -131,6 +173,16 @@ impl<'p> Client<'p> {
         ensures { self.new ≡ lost_at self.old key }
     {
         lose(self.plan.keys(), &mut self.knowns, key);
+    }
+}
+
+/// What it is to hear bytes that are no reply.
+fn unreadable(fault: MessageFault) -> HearFault
+    ensures { result ≡ unheard fault }
+{
+    match fault {
+        MessageFault::NoMemory => HearFault::NoMemory,
+        other => HearFault::Unreadable(other),
     }
 }
 
