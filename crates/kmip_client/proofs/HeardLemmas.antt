@@ -1,5 +1,5 @@
 -- What was heard is about one key of the plan, whose name stands in the reply's id.
-use Rattle.std.proofs.Common.{◌≡◌, ◌≢◌, ℕ, zero, suc, ◌+◌, ◌≤◌, ◌<◌, Bool, true, false, not, ◌&&◌, nat_lt, cond, List, [], ◌∷◌, length, Option, Some, None, Result, Ok, Err, IsTrue, slice_set, subst, refl, sym, ap, ◌∙◌, ◌⊎◌, inl, inr, arith, IfOk, OnErr, if◌then◌else◌}
+use Rattle.std.proofs.Common.{◌≡◌, ℕ, zero, suc, ◌+◌, ◌≤◌, ◌<◌, Bool, true, false, not, nat_lt, List, [], ◌∷◌, Option, Some, None, Result, Ok, Err, slice_set, subst, refl, sym, ap, ◌∙◌, ◌⊎◌, inl, inr, arith, IfOk, OnErr, if◌then◌else◌}
 use Rattle.std.proofs.lemmas.Bool.{cases_Bool, and_parts, ltb-true}
 use Rattle.std.proofs.lemmas.Iterator.Adapters.{position_from-zero}
 use Rattle.std.specs.List.{AllZip, slice_get, position_from, find}
@@ -19,7 +19,7 @@ use Rattle.kmip_client.specs.declared.hearing.News.{News}
 use Rattle.kmip_client.specs.declared.hearing.News.TheVariants as news
 use Rattle.kmip_client.specs.declared.knowledge.Knowledge.{Knowledge}
 use Rattle.kmip_client.specs.declared.subject.Subject.{Subject}
-use Rattle.kmip_client.specs.Hearing.{is_asked_of, place_named, subject_at, subject_in, subject_of, is_other_operation, has_failed, news_of, with_news, taught, with_heard, heard_by, heard_about, heard_in}
+use Rattle.kmip_client.specs.Hearing.{is_asked_of, place_named, subject_at, subject_of, is_other_operation, has_failed, news_of, with_news, taught, with_heard, heard_by, heard_about, heard_in}
 use Rattle.kmip_client.specs.Knowledge.{chain_length, is_working}
 use Rattle.kmip_client.specs.Learning.{learn}
 use Rattle.kmip_client.specs.Shapes.{IsShaped, AreShaped, IsKept}
@@ -228,7 +228,7 @@ heard_kept keys reply knowns heard nexts steps_in places_in fits each is =
 
 -- ---- after a call that may have been refused
 
-heard_view : (keys ks : List Key) (reply : Reply) (s : Option Subject) (knowns : List Knowledge) (heard : Heard) (nexts : List Knowledge) → ks ≡ keys
+pub heard_view : (keys ks : List Key) (reply : Reply) (s : Option Subject) (knowns : List Knowledge) (heard : Heard) (nexts : List Knowledge) → ks ≡ keys
     → s ≡ subject_of ks reply.id → heard_about ks reply s knowns ≡ ok (heard, nexts) → heard_in keys reply knowns ≡ ok (heard, nexts)
 heard_view keys ks reply s knowns heard nexts same about is =
     subst (λ k. heard_in k reply knowns ≡ ok (heard, nexts)) same (subst (λ x. heard_about ks reply x knowns ≡ ok (heard, nexts)) about is)

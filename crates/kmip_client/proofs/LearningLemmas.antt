@@ -1,9 +1,9 @@
 -- What is learnt keeps the shape of what is known, and takes nothing back.
-use Rattle.std.proofs.Common.{◌≡◌, ◌≢◌, ℕ, zero, suc, ◌+◌, ◌≤◌, ◌<◌, Bool, true, false, not, ◌&&◌, nat_eq, nat_lt, List, [], ◌∷◌, length, Option, Some, None, Result, Ok, Err, IfSome, IsTrue, cond, subst, refl, sym, ap, ◌∙◌, inl, inr, arith, if◌then◌else◌}
+use Rattle.std.proofs.Common.{◌≡◌, ◌≢◌, ℕ, ◌≤◌, ◌<◌, Bool, true, false, not, nat_eq, nat_lt, List, [], ◌∷◌, length, Option, Some, None, Result, Ok, Err, IfSome, IsTrue, subst, refl, sym, ap, ◌∙◌, inl, inr, arith}
 use Rattle.std.proofs.lemmas.Bool.{and_parts, cases_Bool, ltb-true, ltb-false}
 use Rattle.std.proofs.lemmas.Slice.Eq.{bytes_eq-Decides}
 use Rattle.std.specs.Cmp.Lexicographic.{pointwise}
-use Rattle.std.specs.Option.{is_some, option_map_or}
+use Rattle.std.specs.Option.{is_some}
 use Rattle.std.specs.List.{list_all}
 use Rattle.kmip_messages.specs.Fits.{is_own, outcome_fits}
 use Rattle.kmip_messages.specs.Ranges.{is_identifier}
@@ -22,7 +22,6 @@ use Rattle.kmip_client.specs.declared.clash.Clash.TheVariants as clashes
 use Rattle.kmip_client.specs.declared.fault.HearFault.{HearFault}
 use Rattle.kmip_client.specs.declared.fault.HearFault.TheVariants.{OtherIdentifier, OtherName}
 use Rattle.kmip_client.specs.declared.knowledge.Knowledge.{Knowledge}
-use Rattle.kmip_client.specs.declared.knowledge.Phase.{Phase}
 use Rattle.kmip_client.specs.declared.knowledge.Phase.TheVariants as phases
 use Rattle.kmip_client.specs.Knowledge.{chain_length, lost, lost_phase}
 use Rattle.kmip_client.specs.Learning.{is_known, is_other, raised, entered, in_conflict, is_planned, is_named, place_learnt, state_learnt, attributes_learnt, created_learnt, none_learnt, one_learnt, located_learnt, step_learnt, learn}
@@ -35,10 +34,10 @@ GoesOn key old new = IsShaped key new × IsKept old new
 pub kept_itself : (known : Knowledge) → IsKept known known
 kept_itself known = record { identifier_kept = λ uid is. is; done_kept = omega arith }
 
-some_is : (uid : List ℕ) → Some uid ≢ None
+pub some_is : (uid : List ℕ) → Some uid ≢ None
 some_is uid e = absurd cc
 
-lost_suits : (uid : Option (List ℕ)) (done : ℕ) → PhaseSuits (lost_phase uid) uid done
+pub lost_suits : (uid : Option (List ℕ)) (done : ℕ) → PhaseSuits (lost_phase uid) uid done
 lost_suits None done = refl
 lost_suits (Some uid) done = some_is uid
 
@@ -101,12 +100,12 @@ known_is (Some own) uid same = ap Some (same_text own uid same)
 pub not_none : (own : Option (List ℕ)) (uid : List ℕ) → own ≡ Some uid → own ≢ None
 not_none own uid is none = absurd cc
 
-none_of : (own : Option (List ℕ)) → is_some own ≡ false → own ≡ None
+pub none_of : (own : Option (List ℕ)) → is_some own ≡ false → own ≡ None
 none_of None h = refl
 none_of (Some uid) h = absurd cc
 
 -- a value that was learnt
-abbrev ok : Knowledge → Result Knowledge HearFault
+abbrev pub ok : Knowledge → Result Knowledge HearFault
 ok x = Ok x
 
 pub same_ok : (x y : Knowledge) → ok x ≡ ok y → x ≡ y
@@ -115,7 +114,7 @@ same_ok x y is = cc
 onward : (key : Key) (known x new : Knowledge) → ok x ≡ Ok new → GoesOn key known x → GoesOn key known new
 onward key known x new is goes = subst (λ n. GoesOn key known n) (same_ok x new is) goes
 
-refused : {X : Type 0} (fault : HearFault) (new : Knowledge) → Err fault ≡ Ok new → X
+pub refused : {X : Type 0} (fault : HearFault) (new : Knowledge) → Err fault ≡ Ok new → X
 refused fault new is = absurd cc
 
 -- ---- each outcome

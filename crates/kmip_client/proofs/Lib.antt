@@ -4,3 +4,4 @@ pub mod QuestionLemmas
 pub mod TurnLemmas
 pub mod SubjectLemmas
 pub mod HeardLemmas
+pub mod HeldLemmas

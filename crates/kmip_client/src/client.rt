@@ -1,5 +1,5 @@
 //! A client of one plan.
-ghost use Rattle.std.specs.Prelude.{◌≡◌, ◌≤◌, ◌<◌, length, map, drop, Some, Ok, Err, IfOk, IfErr, IfSome, IsTrue, OnOk, OnErr, option_map};
+ghost use Rattle.std.specs.Prelude.{◌≡◌, List, ◌≤◌, ◌<◌, length, map, drop, Some, Ok, Err, IfOk, IfErr, IfSome, IsTrue, OnOk, OnErr, option_map};
 ghost use Rattle.kmip_messages.specs.Fits.{outcome_fits};
 ghost use Rattle.std.specs.List.{AllZip};
 ghost use Rattle.kmip_plan.specs.Plans.{IsLawful, EachFits};
@@ -20,7 +20,11 @@ ghost use Rattle.kmip_client.specs.Clients.{
   IsAbout,
 };
 ghost use Rattle.kmip_client.specs.Hearing.{unheard, heard_in, hear, Refuses};
+ghost use Rattle.kmip_client.specs.Held.{Held};
+ghost use Rattle.kmip_client.specs.Justified.{JustifiedMessage};
 ghost use Rattle.kmip_client.specs.Shapes.{IsShaped, IsKept};
+ghost use Rattle.kmip_client.specs.Truth.{TrueReply, TrueMessage};
+ghost use Rattle.kmip_messages.specs.Objects.{Object};
 ghost use Rattle.kmip_client.specs.Knowledge.{fresh_knowledge};
 
 use crate::fault::HearFault;
@@ -60,7 +64,9 @@ impl<'p> Client<'p> {
     /// # Errors
     /// Where there is no memory for it.
     pub fn fresh(alloc: Global, plan: &'p Plan) -> Result<Client<'p>, NoMemory>
-        ensures { IfOk result (λ client. client ≡ fresh plan.now) }
+        ensures fresh { IfOk result (λ client. client ≡ fresh plan.now) }
+        ensures held { (objects : List Object)
+            → IfOk result (λ client. Held objects client.keys client.knowns) }
     {
         let knowns = nothing_known(alloc, plan.keys())?;
         Ok(Client {
@@ -87,6 +93,9 @@ impl<'p> Client<'p> {
         ensures question { IfOk result (λ question. question ≡ next_question self.old) }
         ensures about { IfOk result (λ question. IfSome question (λ q.
             IsAbout self.old.keys self.old.knowns q)) }
+        ensures justified { (objects : List Object) → Held objects self.old.keys self.old.knowns
+            → IfOk result (λ question. IfSome question (λ q.
+            JustifiedMessage self.old.keys objects q.bytes)) }
         ensures turn { OnOk result (self.new ≡ asked self.old) }
         ensures same { OnErr result (self.new ≡ self.old) }
     {
@@ -112,6 +121,9 @@ impl<'p> Client<'p> {
         ensures fault { IfErr result (λ fault. Refuses fault (hear self.old bytes.now)) }
         ensures same { OnErr result (self.new ≡ self.old) }
         ensures kept { AllZip IsKept self.old.knowns self.new.knowns }
+        ensures held { (objects : List Object) → Held objects self.old.keys self.old.knowns
+            → TrueMessage self.old.keys objects bytes.now
+            → Held objects self.new.keys self.new.knowns }
     {
         match read_reply(alloc, bytes) {
             Ok(reply) => self.hear_reply(reply),
@@ -127,6 +139,8 @@ impl<'p> Client<'p> {
         ensures fault { IfErr result (λ e. heard_in self.old.keys reply self.old.knowns ≡ Err e) }
         ensures same { OnErr result (self.new ≡ self.old) }
         ensures kept { AllZip IsKept self.old.knowns self.new.knowns }
+        ensures held { (objects : List Object) → Held objects self.old.keys self.old.knowns
+            → TrueReply self.old.keys objects reply → Held objects self.new.keys self.new.knowns }
     {
         laws::steps_have_places();
         laws::states_have_places();
@@ -170,7 +184,9 @@ impl<'p> Client<'p> {
     /// that is worked on is looked at again. Takes no memory.
     pub fn lost(&mut self, key: usize)
         requires { key < length self.old.keys }
-        ensures { self.new ≡ lost_at self.old key }
+        ensures lost { self.new ≡ lost_at self.old key }
+        ensures held { (objects : List Object) → Held objects self.old.keys self.old.knowns
+            → Held objects self.new.keys self.new.knowns }
     {
         lose(self.plan.keys(), &mut self.knowns, key);
     }
@@ -224,9 +240,14 @@ fn question_at(
     requires shaped { AllZip IsShaped keys.now knowns.now }
     requires fits { EachFits keys.now }
     requires works { WorksAt keys.now knowns.now place }
+    requires lawful { IsLawful keys.now }
+    ensures justified { (objects : List Object) → Held objects keys.now knowns.now
+        → IfOk result (λ q. JustifiedMessage keys.now objects q.bytes) }
     ensures question { IfOk result (λ q. question_at keys.now knowns.now place ≡ Some q) }
     ensures about { IfOk result (λ q. IsAbout keys.now knowns.now q) }
 {
+    laws::steps_have_places();
+    laws::keys_have_names();
     let key = &keys[place];
     let known = &knowns[place];
     question_about(alloc, place, key, known)
