@@ -1,0 +1,6 @@
+-- The number of an operation is a byte.
+use Rattle.kmip_client.proofs.QuestionLemmas.{operation_small}
+use Rattle.kmip_client.proofs.question.request_about.Goals as goal
+
+pub id_of-requires : goal.id_of-requires
+id_of-requires c = rw c.operation.ensures (operation_small c.in_ok-ask.ask)

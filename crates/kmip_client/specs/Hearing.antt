@@ -1,0 +1,152 @@
+-- What is learnt from bytes: by the reply's id, whatever was asked last.
+-- Source: KMIP 2.1, Message Structure (Unique Batch Item ID) and Operations; the id and the order of the checks are own.
+use Rattle.std.specs.Prelude.{◌≡◌, ℕ, Bool, true, false, not, ◌&&◌, ◌||◌, ◌==◌, nat_le, nat_lt, List, [], ◌∷◌, Option, Some, None, Result, Ok, Err, slice_get, slice_set, if◌then◌else◌}
+use Rattle.std.specs.List.{position}
+use Rattle.std.specs.Option.{is_some, option_map_or, option_and_then}
+use Rattle.kmip_messages.specs.Faults.{is_no_memory}
+use Rattle.kmip_messages.specs.Items.{replies_in}
+use Rattle.kmip_messages.specs.Whole.{reply_read}
+use Rattle.kmip_messages.specs.declared.fault.MessageFault.{MessageFault}
+use Rattle.kmip_messages.specs.declared.reply.Outcome.{Outcome}
+use Rattle.kmip_messages.specs.declared.reply.Outcome.TheVariants.{Failed}
+use Rattle.kmip_messages.specs.declared.reply.Reply.{Reply}
+use Rattle.kmip_messages.specs.declared.step.Step.{Step}
+use Rattle.kmip_messages.specs.declared.step.Step.TheVariants.{Create, Activate, Revoke, Destroy}
+use Rattle.kmip_messages.specs.declared.standard.TheConstants.{
+  OPERATION_CREATE,
+  OPERATION_LOCATE,
+  OPERATION_GET_ATTRIBUTES,
+  OPERATION_ACTIVATE,
+  OPERATION_REVOKE,
+  OPERATION_DESTROY,
+}
+use Rattle.kmip_plan.specs.Chains.{step_place}
+use Rattle.kmip_plan.specs.Words.{is_text}
+use Rattle.kmip_plan.specs.declared.key.Key.{Key}
+use Rattle.kmip_client.specs.declared.fault.HearFault.{HearFault}
+use Rattle.kmip_client.specs.declared.fault.HearFault.TheVariants as faults
+use Rattle.kmip_client.specs.declared.hearing.Heard.{Heard}
+use Rattle.kmip_client.specs.declared.hearing.News.{News}
+use Rattle.kmip_client.specs.declared.hearing.News.TheVariants as news
+use Rattle.kmip_client.specs.declared.knowledge.Knowledge.{Knowledge}
+use Rattle.kmip_client.specs.declared.subject.Subject.{Subject}
+use Rattle.kmip_client.specs.Clients.{ClientState}
+use Rattle.kmip_client.specs.Knowledge.{is_working}
+use Rattle.kmip_client.specs.Learning.{learn}
+
+-- ---- whom a reply is about
+
+-- the step that an operation is
+abbrev pub step_of : ℕ → Option Step
+step_of operation =
+    if operation == OPERATION_CREATE then Some Create
+    else if operation == OPERATION_ACTIVATE then Some Activate
+    else if operation == OPERATION_REVOKE then Some Revoke
+    else if operation == OPERATION_DESTROY then Some Destroy
+    else None
+
+-- an operation that is asked about the key: a look, or a step of its chain
+abbrev pub is_asked_of : Key → ℕ → Bool
+is_asked_of key operation =
+    operation == OPERATION_LOCATE
+    || operation == OPERATION_GET_ATTRIBUTES
+    || option_map_or (λ step. nat_le 1 (step_place key.target step)) (step_of operation) false
+
+-- the place of the key with the name
+abbrev pub place_named : List ℕ → List Key → Option ℕ
+place_named name keys = position (λ key. is_text name key.attrs.name) keys
+
+-- the key at the place has the name
+abbrev pub is_named_at : List ℕ → List Key → ℕ → Bool
+is_named_at name keys place = option_map_or (λ key. is_text name key.attrs.name) (slice_get keys place) false
+
+-- an operation that is asked about a planned key
+abbrev pub subject_at : List Key → ℕ → ℕ → Option Subject
+subject_at keys operation place =
+    if option_map_or (λ key. is_asked_of key operation) (slice_get keys place) false
+    then Some (record { key = place; operation = operation })
+    else None
+
+-- whom an id names: an operation in one byte, and the name of a key
+abbrev pub subject_in : List Key → List ℕ → Option Subject
+subject_in keys [] = None
+subject_in keys (operation ∷ name) = option_and_then (λ place. subject_at keys operation place) (place_named name keys)
+
+abbrev pub subject_of : List Key → Option (List ℕ) → Option Subject
+subject_of keys id = option_and_then (subject_in keys) id
+
+-- the reply names another operation than its id
+abbrev pub is_other_operation : Option ℕ → ℕ → Bool
+is_other_operation told operation = option_map_or (λ o. not (o == operation)) told false
+
+-- ---- what it teaches
+
+abbrev pub has_failed : Outcome → Bool
+has_failed (Failed reason) = true
+has_failed outcome = false
+
+-- the identifier or the count is new
+abbrev pub has_grown : Bool → ℕ → Knowledge → Bool
+has_grown had_identifier done new = (not had_identifier && is_some new.identifier) || nat_lt done new.done
+
+abbrev pub news_of : Bool → Bool → ℕ → Knowledge → News
+news_of failed had_identifier done new =
+    if failed then news.Refused
+    else if is_some new.clash then news.Clash
+    else if has_grown had_identifier done new then news.Grew
+    else news.Same
+
+abbrev pub with_news : Bool → Knowledge → Result Knowledge HearFault → Result (News × Knowledge) HearFault
+with_news failed old (Ok new) = Ok (news_of failed (is_some old.identifier) old.done new, new)
+with_news failed old (Err fault) = Err fault
+
+-- a key that is not worked on learns nothing more
+abbrev pub taught : Key → Outcome → Knowledge → Result (News × Knowledge) HearFault
+taught key outcome known =
+    if is_working key known then with_news (has_failed outcome) known (learn key outcome known) else Ok (news.Same, known)
+
+-- what was heard about the key at a place, and what is known of all after it
+abbrev pub with_heard : Subject → List Knowledge → Result (News × Knowledge) HearFault → Result (Heard × List Knowledge) HearFault
+with_heard subject knowns (Ok taught) =
+    Ok (record { key = subject.key; operation = subject.operation; news = taught.0 }, slice_set knowns subject.key taught.1)
+with_heard subject knowns (Err fault) = Err fault
+
+abbrev pub heard_by : Subject → Outcome → List Knowledge → Option Key → Option Knowledge → Result (Heard × List Knowledge) HearFault
+heard_by subject outcome knowns (Some key) (Some known) = with_heard subject knowns (taught key outcome known)
+heard_by subject outcome knowns key known = Err faults.StrangerId
+
+abbrev pub heard_at : List Key → Subject → Outcome → List Knowledge → Result (Heard × List Knowledge) HearFault
+heard_at keys subject outcome knowns = heard_by subject outcome knowns (slice_get keys subject.key) (slice_get knowns subject.key)
+
+-- the checks in their order
+abbrev pub heard_about : List Key → Reply → Option Subject → List Knowledge → Result (Heard × List Knowledge) HearFault
+heard_about keys reply None knowns = Err faults.StrangerId
+heard_about keys reply (Some subject) knowns =
+    if is_other_operation reply.operation subject.operation then Err faults.WrongOperation else heard_at keys subject reply.outcome knowns
+
+abbrev pub heard_in : List Key → Reply → List Knowledge → Result (Heard × List Knowledge) HearFault
+heard_in keys reply knowns = heard_about keys reply (subject_of keys reply.id) knowns
+
+-- ---- bytes
+
+-- bytes that say nothing are refused by the fault of reading them
+abbrev pub unreadable : Result Reply MessageFault → HearFault
+unreadable (Err fault) = faults.Unreadable fault
+unreadable (Ok reply) = faults.StrangerId
+
+-- the same of a call that may run out of memory
+abbrev pub unheard : MessageFault → HearFault
+unheard fault = if is_no_memory fault then faults.NoMemory else faults.Unreadable fault
+
+abbrev pub first_heard : List Key → HearFault → List Reply → List Knowledge → Result (Heard × List Knowledge) HearFault
+first_heard keys fault [] knowns = Err fault
+first_heard keys fault (reply ∷ replies) knowns = heard_in keys reply knowns
+
+-- what a client hears in some bytes, and what it knows after it; or why it learns nothing
+abbrev pub hear : ClientState → List ℕ → Result (Heard × List Knowledge) HearFault
+hear c bytes = first_heard c.keys (unreadable (reply_read bytes)) (replies_in bytes) c.knowns
+
+-- a refusal is the one that hearing gives, unless memory ran out
+abbrev pub Refuses : HearFault → Result (Heard × List Knowledge) HearFault → Type 0
+Refuses faults.NoMemory heard = Unit {0}
+Refuses fault heard = heard ≡ Err fault

@@ -1,0 +1,11 @@
+pub mod Faults
+pub mod Knowledge
+pub mod Learning
+pub mod Shapes
+pub mod Questions
+pub mod Clients
+pub mod Hearing
+pub mod Places
+pub mod Justified
+pub mod Truth
+pub mod Held

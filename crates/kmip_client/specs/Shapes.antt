@@ -1,0 +1,38 @@
+-- What holds of the knowledge of a client at all times, whatever it hears.
+-- Source: own.
+use Rattle.std.specs.Prelude.{◌≡◌, ◌≢◌, ◌≤◌, ◌<◌, ℕ, List, length, Option, Some, None, IfSome, IsTrue}
+use Rattle.std.specs.List.{AllZip}
+use Rattle.kmip_messages.specs.Ranges.{is_identifier}
+use Rattle.kmip_plan.specs.Plans.{IsLawful}
+use Rattle.kmip_plan.specs.declared.key.Key.{Key}
+use Rattle.kmip_client.specs.declared.knowledge.Knowledge.{Knowledge}
+use Rattle.kmip_client.specs.declared.knowledge.Phase.{Phase}
+use Rattle.kmip_client.specs.declared.knowledge.Phase.TheVariants.{Look, Make, Check, Go}
+use Rattle.kmip_client.specs.Knowledge.{chain_length}
+
+-- what has to be known in a phase
+abbrev pub PhaseSuits : Phase → Option (List ℕ) → ℕ → Type 0
+PhaseSuits Look uid done = uid ≡ None
+PhaseSuits Make uid done = uid ≡ None
+PhaseSuits Check uid done = uid ≢ None
+PhaseSuits Go uid done = (uid ≢ None) × (1 ≤ done)
+
+-- the knowledge of one key: no more steps than the chain has, none without an identifier, a phase that suits, and a clash
+-- only where the key is not finished
+pub record IsShaped (key : Key) (known : Knowledge) : Type 0 where
+  pub few : known.done ≤ chain_length key
+  pub suits : PhaseSuits known.phase known.identifier known.done
+  pub has_identifier : 1 ≤ known.done → known.identifier ≢ None
+  pub in_range : IfSome known.identifier (λ uid. IsTrue (is_identifier uid))
+  pub unsettled : known.clash ≢ None → known.done < chain_length key
+
+-- the identifier and the count are never taken back
+pub record IsKept (old new : Knowledge) : Type 0 where
+  pub identifier_kept : (uid : List ℕ) → old.identifier ≡ Some uid → new.identifier ≡ Some uid
+  pub done_kept : old.done ≤ new.done
+
+-- the keys of a plan, what is known of each, and the place at which the next key is looked for
+pub record AreShaped (keys : List Key) (knowns : List Knowledge) (next : ℕ) : Type 0 where
+  pub lawful : IsLawful keys
+  pub each : AllZip IsShaped keys knowns
+  pub turn : next ≤ length keys

@@ -1,0 +1,297 @@
+//! A client of one plan.
+ghost use Rattle.std.specs.Prelude.{◌≡◌, List, ◌≤◌, ◌<◌, length, map, drop, Some, Ok, Err, IfOk, IfErr, IfSome, IsTrue, OnOk, OnErr, option_map};
+ghost use Rattle.kmip_messages.specs.Fits.{outcome_fits};
+ghost use Rattle.std.specs.List.{AllZip};
+ghost use Rattle.kmip_plan.specs.Plans.{IsLawful, EachFits};
+ghost use Rattle.kmip_client.specs.Clients.{
+  fresh,
+  done_at,
+  identifier_at,
+  verdict_at,
+  lost_working,
+  changed_at,
+  lost_at,
+  working_from,
+  next_working,
+  next_question,
+  question_at,
+  asked,
+  WorksAt,
+  IsAbout,
+};
+ghost use Rattle.kmip_client.specs.Hearing.{unheard, heard_in, hear, Refuses};
+ghost use Rattle.kmip_client.specs.Held.{Held};
+ghost use Rattle.kmip_client.specs.Justified.{JustifiedMessage};
+ghost use Rattle.kmip_client.specs.Shapes.{IsShaped, IsKept};
+ghost use Rattle.kmip_client.specs.Truth.{TrueReply, TrueMessage};
+ghost use Rattle.kmip_messages.specs.Objects.{Object};
+ghost use Rattle.kmip_client.specs.Knowledge.{fresh_knowledge};
+
+use crate::fault::HearFault;
+use crate::hearing::{Heard, hear_about};
+use crate::knowledge::{Knowledge, Verdict};
+use crate::question::{Question, question_about};
+use crate::subject::subject_of;
+use kmip_messages::{MessageFault, Reply, read_reply};
+use kmip_plan::{Key, Plan, laws};
+use kmip_ttlv::{NoMemory, Text};
+use std::alloc::Global;
+use std::marker::Model;
+
+/// What is known of each key of a plan, and whose turn it is. A contract sees the keys, what is
+/// known of each, and the place at which the next key is looked for.
+#[derive(Debug, Drop)]
+pub struct Client<'p> {
+    plan: &'p Plan,
+    knowns: Vec<Knowledge>,
+    next: usize,
+}
+
+impl<'p> Model for Client<'p> {
+    ghost use Rattle.kmip_client.specs.Clients.{ClientState};
+    ghost use Rattle.kmip_client.specs.Shapes.{AreShaped};
+
+    ghost Value = { ClientState };
+
+    ghost view = { λ c. record { keys = c.plan.now; knowns = c.knowns.items; next = c.next } };
+
+    ghost invariant = { λ c. AreShaped c.plan.now c.knowns.items c.next };
+}
+
+impl<'p> Client<'p> {
+    /// A client that knows nothing yet of the plan's keys.
+    ///
+    /// # Errors
+    /// Where there is no memory for it.
+    pub fn fresh(alloc: Global, plan: &'p Plan) -> Result<Client<'p>, NoMemory>
+        ensures fresh { IfOk result (λ client. client ≡ fresh plan.now) }
+        ensures held { (objects : List Object)
+            → IfOk result (λ client. Held objects client.keys client.knowns) }
+    {
+        let knowns = nothing_known(alloc, plan.keys())?;
+        Ok(Client {
+            plan,
+            knowns,
+            next: 0,
+        })
+    }
+
+    /// The plan. Takes no memory.
+    pub fn plan(&self) -> &Plan
+        ensures value { result.now ≡ self.now.keys }
+        ensures lawful { IsLawful self.now.keys }
+    {
+        self.plan
+    }
+
+    /// The next question: about the first key that is worked on after the one asked last, in the
+    /// order of the plan, which begins again at its end. None where no key is worked on.
+    ///
+    /// # Errors
+    /// Where there is no memory for it; the client is then as it was.
+    pub fn ask(&mut self, alloc: Global) -> Result<Option<Question>, NoMemory>
+        ensures question { IfOk result (λ question. question ≡ next_question self.old) }
+        ensures about { IfOk result (λ question. IfSome question (λ q.
+            IsAbout self.old.keys self.old.knowns q)) }
+        ensures justified { (objects : List Object) → Held objects self.old.keys self.old.knowns
+            → IfOk result (λ question. IfSome question (λ q.
+            JustifiedMessage self.old.keys objects q.bytes)) }
+        ensures turn { OnOk result (self.new ≡ asked self.old) }
+        ensures same { OnErr result (self.new ≡ self.old) }
+    {
+        let keys = self.plan.keys();
+        let Some(place) = next_working(keys, self.knowns.as_slice(), self.next) else {
+            return Ok(None);
+        };
+        let question = question_at(alloc, keys, self.knowns.as_slice(), place)?;
+        self.next = place + 1;
+        Ok(Some(question))
+    }
+
+    /// Learns from any bytes that have come, about the key that the reply's id names, whatever was
+    /// asked last.
+    ///
+    /// # Errors
+    /// The first fault in the order of `HearFault`; `NoMemory` where it comes before any other. The
+    /// client is then as it was.
+    pub fn hear(&mut self, alloc: Global, bytes: &[u8]) -> Result<Heard, HearFault>
+        ensures heard { IfOk result (λ heard.
+            hear self.old bytes.now ≡ Ok (heard, self.new.knowns)) }
+        ensures stays { self.new ≡ record self.old { knowns = self.new.knowns } }
+        ensures fault { IfErr result (λ fault. Refuses fault (hear self.old bytes.now)) }
+        ensures same { OnErr result (self.new ≡ self.old) }
+        ensures kept { AllZip IsKept self.old.knowns self.new.knowns }
+        ensures held { (objects : List Object) → Held objects self.old.keys self.old.knowns
+            → TrueMessage self.old.keys objects bytes.now
+            → Held objects self.new.keys self.new.knowns }
+    {
+        match read_reply(alloc, bytes) {
+            Ok(reply) => self.hear_reply(reply),
+            Err(fault) => Err(unreadable(fault)),
+        }
+    }
+
+    fn hear_reply(&mut self, reply: Reply) -> Result<Heard, HearFault>
+        requires { IsTrue (outcome_fits reply.operation reply.outcome) }
+        ensures heard { IfOk result (λ heard.
+            heard_in self.old.keys reply self.old.knowns ≡ Ok (heard, self.new.knowns)) }
+        ensures stays { self.new ≡ record self.old { knowns = self.new.knowns } }
+        ensures fault { IfErr result (λ e. heard_in self.old.keys reply self.old.knowns ≡ Err e) }
+        ensures same { OnErr result (self.new ≡ self.old) }
+        ensures kept { AllZip IsKept self.old.knowns self.new.knowns }
+        ensures held { (objects : List Object) → Held objects self.old.keys self.old.knowns
+            → TrueReply self.old.keys objects reply → Held objects self.new.keys self.new.knowns }
+    {
+        laws::steps_have_places();
+        laws::states_have_places();
+        let keys = self.plan.keys();
+        let subject = subject_of(keys, self.next.saturating_sub(1), &reply.id);
+        hear_about(keys, &mut self.knowns, subject, reply)
+    }
+
+    /// How many steps of the key at a place from 0 are known to have taken effect. Takes no memory.
+    pub fn done(&self, key: usize) -> usize
+        requires { key < length self.now.keys }
+        ensures { result ≡ done_at self.now.knowns key }
+    {
+        match self.knowns.get(key) {
+            Some(known) => known.done,
+            None => 0,
+        }
+    }
+
+    /// The identifier of the object of the key at a place from 0, where it is known. Takes no
+    /// memory.
+    pub fn identifier(&self, key: usize) -> Option<&Text>
+        requires { key < length self.now.keys }
+        ensures { option_map (λ uid. uid.now) result ≡ identifier_at self.now.knowns key }
+    {
+        match self.knowns.get(key) {
+            Some(known) => known.identifier.as_ref(),
+            None => None,
+        }
+    }
+
+    /// How it stands with the key at a place from 0. Takes no memory.
+    pub fn verdict(&self, key: usize) -> Verdict
+        requires { key < length self.now.keys }
+        ensures { result ≡ verdict_at self.now.keys self.now.knowns key }
+    {
+        verdict_of(self.plan.keys(), self.knowns.as_slice(), key)
+    }
+
+    /// A question about the key at a place from 0 has no answer, or one that did not help: a key
+    /// that is worked on is looked at again. Takes no memory.
+    pub fn lost(&mut self, key: usize)
+        requires { key < length self.old.keys }
+        ensures lost { self.new ≡ lost_at self.old key }
+        ensures held { (objects : List Object) → Held objects self.old.keys self.old.knowns
+            → Held objects self.new.keys self.new.knowns }
+    {
+        lose(self.plan.keys(), &mut self.knowns, key);
+    }
+}
+
+/// What it is to hear bytes that are no reply.
+fn unreadable(fault: MessageFault) -> HearFault
+    ensures { result ≡ unheard fault }
+{
+    match fault {
+        MessageFault::NoMemory => HearFault::NoMemory,
+        other => HearFault::Unreadable(other),
+    }
+}
+
+/// The place of the first key that is worked on from a place on, else from the front.
+fn next_working(keys: &[Key], knowns: &[Knowledge], next: usize) -> Option<usize>
+    requires as_many { length knowns.now ≡ length keys.now }
+    requires within { next ≤ length keys.now }
+    ensures place { result ≡ next_working (record { keys = keys.now; knowns = knowns.now; next = next }) }
+    ensures works { IfSome result (λ place. WorksAt keys.now knowns.now place) }
+{
+    match working_from(keys, knowns, next) {
+        Some(place) => Some(place),
+        None => working_from(keys, knowns, 0),
+    }
+}
+
+/// The place of the first key that is worked on from a place on.
+fn working_from(keys: &[Key], knowns: &[Knowledge], from: usize) -> Option<usize>
+    requires as_many { length knowns.now ≡ length keys.now }
+    requires within { from ≤ length keys.now }
+    ensures place { result ≡ working_from from (drop from keys.now) (drop from knowns.now) }
+    ensures works { IfSome result (λ place. WorksAt keys.now knowns.now place) }
+{
+    for place in from..keys.len() {
+        if knowns[place].is_working(&keys[place]) {
+            return Some(place);
+        }
+    }
+    None
+}
+
+/// The question about the key at a place, which is worked on.
+fn question_at(
+    alloc: Global,
+    keys: &[Key],
+    knowns: &[Knowledge],
+    place: usize,
+) -> Result<Question, NoMemory>
+    requires shaped { AllZip IsShaped keys.now knowns.now }
+    requires fits { EachFits keys.now }
+    requires works { WorksAt keys.now knowns.now place }
+    requires lawful { IsLawful keys.now }
+    ensures justified { (objects : List Object) → Held objects keys.now knowns.now
+        → IfOk result (λ q. JustifiedMessage keys.now objects q.bytes) }
+    ensures question { IfOk result (λ q. question_at keys.now knowns.now place ≡ Some q) }
+    ensures about { IfOk result (λ q. IsAbout keys.now knowns.now q) }
+{
+    laws::steps_have_places();
+    laws::keys_have_names();
+    let key = &keys[place];
+    let known = &knowns[place];
+    question_about(alloc, place, key, known)
+}
+
+/// Nothing, for each of the keys.
+fn nothing_known(alloc: Global, keys: &[Key]) -> Result<Vec<Knowledge>, NoMemory>
+    ensures { IfOk result (λ knowns. knowns.items ≡ map (λ key. fresh_knowledge) keys.now) }
+{
+    let mut knowns = Vec::with_capacity(alloc, keys.len())?;
+    for _key in keys {
+        knowns.push(Knowledge::fresh())?;
+    }
+    Ok(knowns)
+}
+
+fn verdict_of(keys: &[Key], knowns: &[Knowledge], place: usize) -> Verdict
+    ensures { result ≡ verdict_at keys.now knowns.now place }
+{
+    let Some(key) = keys.get(place) else {
+        return Verdict::Working;
+    };
+    let Some(known) = knowns.get(place) else {
+        return Verdict::Working;
+    };
+    known.verdict(key)
+}
+
+/// The key at the place, where it is worked on, is looked at again.
+fn lose(keys: &[Key], knowns: &mut Vec<Knowledge>, place: usize)
+    ensures { knowns.new.items ≡ changed_at lost_working keys.now knowns.old.items place }
+{
+    let Some(key) = keys.get(place) else {
+        return;
+    };
+    if place < knowns.len() {
+        lose_working(key, &mut knowns[place]);
+    }
+}
+
+fn lose_working(key: &Key, known: &mut Knowledge)
+    ensures { known.new ≡ lost_working key.now known.old }
+{
+    if known.is_working(key) {
+        known.lose();
+    }
+}

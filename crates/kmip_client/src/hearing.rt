@@ -1,0 +1,163 @@
+//! What a reply teaches a client.
+ghost use Rattle.std.specs.Prelude.{◌≡◌, Ok, Err, IfOk, IfErr, OnErr, Some, is_some, option_map};
+ghost use Rattle.kmip_client.specs.Learning.{learn};
+ghost use Rattle.kmip_client.specs.Hearing.{
+  is_other_operation,
+  has_failed,
+  has_grown,
+  news_of,
+  with_news,
+  taught,
+  heard_at,
+  heard_about,
+};
+
+use crate::fault::HearFault;
+use crate::knowledge::Knowledge;
+use crate::learning::learn;
+use crate::subject::Subject;
+use kmip_messages::{Outcome, Reply};
+use kmip_plan::Key;
+
+/// What a reply was, that a client has learnt from.
+#[derive(Clone, Copy, Debug, PartialEq, Eq)]
+pub struct Heard {
+    /// The place of the key that it is about, from 0.
+    pub key: usize,
+    /// The number of the operation that it answers.
+    pub operation: u32,
+    pub news: News,
+}
+
+/// What has come of a reply.
+#[derive(Clone, Copy, Debug, PartialEq, Eq)]
+pub enum News {
+    /// An identifier is known that was not, or more steps.
+    Grew,
+    /// Neither the identifier nor the count of steps is new.
+    Same,
+    /// The server has not done it.
+    Refused,
+    /// The key is in conflict now.
+    Clash,
+}
+
+/// Learns from a reply about a key.
+///
+/// # Errors
+/// Each but `Unreadable` and `NoMemory`; nothing is learnt then.
+pub(crate) fn hear_about(
+    keys: &[Key],
+    knowns: &mut Vec<Knowledge>,
+    subject: Option<Subject>,
+    reply: Reply,
+) -> Result<Heard, HearFault>
+    ensures ok { IfOk result (λ heard.
+        heard_about keys.now reply subject knowns.old.items ≡ Ok (heard, knowns.new.items)) }
+    ensures err { IfErr result (λ e. heard_about keys.now reply subject knowns.old.items ≡ Err e) }
+    ensures same { OnErr result (knowns.new.items ≡ knowns.old.items) }
+{
+    let Some(subject) = subject else {
+        return Err(HearFault::StrangerId);
+    };
+    if is_other_operation(reply.operation, subject.operation) {
+        return Err(HearFault::WrongOperation);
+    }
+    hear_at(keys, knowns, subject, reply.outcome)
+}
+
+/// Learns from an outcome about the key at a place.
+fn hear_at(
+    keys: &[Key],
+    knowns: &mut Vec<Knowledge>,
+    subject: Subject,
+    outcome: Outcome,
+) -> Result<Heard, HearFault>
+    ensures ok { IfOk result (λ heard.
+        heard_at keys.now subject outcome knowns.old.items ≡ Ok (heard, knowns.new.items)) }
+    ensures err { IfErr result (λ e. heard_at keys.now subject outcome knowns.old.items ≡ Err e) }
+    ensures same { OnErr result (knowns.new.items ≡ knowns.old.items) }
+{
+    let Some(key) = keys.get(subject.key) else {
+        return Err(HearFault::StrangerId);
+    };
+    if subject.key >= knowns.len() {
+        return Err(HearFault::StrangerId);
+    }
+    match teach(key, outcome, &mut knowns[subject.key]) {
+        Ok(news) => Ok(Heard {
+            key: subject.key,
+            operation: subject.operation,
+            news,
+        }),
+        Err(fault) => Err(fault),
+    }
+}
+
+/// Learns from an outcome about the key, where that is worked on.
+fn teach(key: &Key, outcome: Outcome, known: &mut Knowledge) -> Result<News, HearFault>
+    ensures ok { IfOk result (λ news. taught key.now outcome known.old ≡ Ok (news, known.new)) }
+    ensures err { IfErr result (λ e. taught key.now outcome known.old ≡ Err e) }
+    ensures same { OnErr result (known.new ≡ known.old) }
+{
+    if known.is_working(key) {
+        teach_working(key, outcome, known)
+    } else {
+        Ok(News::Same)
+    }
+}
+
+/// Learns from an outcome about a key that is worked on.
+fn teach_working(key: &Key, outcome: Outcome, known: &mut Knowledge) -> Result<News, HearFault>
+    ensures ok { IfOk result (λ news.
+        with_news (has_failed outcome) known.old (learn key.now outcome known.old)
+        ≡ Ok (news, known.new)) }
+    ensures err { IfErr result (λ e. learn key.now outcome known.old ≡ Err e) }
+    ensures same { OnErr result (known.new ≡ known.old) }
+{
+    let failed = has_failed(&outcome);
+    let had_identifier = known.identifier.is_some();
+    let done = known.done;
+    match learn(key, outcome, known) {
+        Ok(()) => Ok(news_of(failed, had_identifier, done, known)),
+        Err(fault) => Err(fault),
+    }
+}
+
+/// What is new.
+fn news_of(failed: bool, had_identifier: bool, done: usize, new: &Knowledge) -> News
+    ensures { result ≡ news_of failed had_identifier done new.now }
+{
+    if failed {
+        News::Refused
+    } else if new.clash.is_some() {
+        News::Clash
+    } else if has_grown(had_identifier, done, new) {
+        News::Grew
+    } else {
+        News::Same
+    }
+}
+
+/// Whether the identifier or the count is new.
+fn has_grown(had_identifier: bool, done: usize, new: &Knowledge) -> bool
+    ensures { result ≡ has_grown had_identifier done new.now }
+{
+    (!had_identifier && new.identifier.is_some()) || done < new.done
+}
+
+fn has_failed(outcome: &Outcome) -> bool
+    ensures { result ≡ has_failed outcome.now }
+{
+    matches!(outcome, Outcome::Failed(_))
+}
+
+/// Whether the reply names another operation than its id.
+fn is_other_operation(told: Option<u32>, operation: u32) -> bool
+    ensures { result ≡ is_other_operation told operation }
+{
+    match told {
+        Some(told) => told != operation,
+        None => false,
+    }
+}

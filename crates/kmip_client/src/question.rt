@@ -1,0 +1,145 @@
+//! What is asked about a key.
+ghost use Rattle.std.specs.Prelude.{◌≡◌, ◌<◌, [], IfOk, IsTrue, option_map};
+ghost use Rattle.std.specs.Option.{unwrap_or};
+ghost use Rattle.kmip_messages.specs.Items.{AsksAlone};
+ghost use Rattle.kmip_messages.specs.Searching.{by_name};
+ghost use Rattle.kmip_plan.specs.Plans.{key_fits};
+ghost use Rattle.kmip_client.specs.Questions.{
+  next_ask,
+  step_ask,
+  ask_about,
+  id_of,
+  request_about,
+  question_about,
+};
+ghost use Rattle.kmip_client.specs.Shapes.{IsShaped};
+
+use crate::knowledge::{Knowledge, Phase};
+use kmip_messages::standard::{STORAGE_DESTROYED, STORAGE_ON_LINE};
+use kmip_messages::{Ask, Attrs, Request, write_request};
+use kmip_plan::{Key, Step, chain, laws};
+use kmip_ttlv::{Bytes, NoMemory, Text};
+use std::alloc::Global;
+
+/// The Storage Status Mask of a Locate that finds an object whatever has become of it.
+const EVERY_STATE: i32 = (STORAGE_ON_LINE + STORAGE_DESTROYED) as i32;
+
+/// A question that is to be sent.
+#[derive(Debug, Drop)]
+pub struct Question {
+    /// The place of the key that it is about, from 0.
+    pub key: usize,
+    /// The number of the operation that it asks.
+    pub operation: u32,
+    /// The request, as it is sent.
+    pub bytes: Bytes,
+}
+
+/// The question about the key at a place.
+///
+/// # Errors
+/// Where there is no memory for it.
+pub(crate) fn question_about(
+    alloc: Global,
+    place: usize,
+    key: &Key,
+    known: &Knowledge,
+) -> Result<Question, NoMemory>
+    requires shaped { IsShaped key.now known.now }
+    requires fits { IsTrue (key_fits key.now) }
+    ensures question { IfOk result (λ q. q ≡ question_about place key.now known.now) }
+    ensures asks { IfOk result (λ q. AsksAlone q.bytes (request_about key.now known.now)) }
+{
+    laws::steps_have_places();
+    let request = request_about(alloc, key, known)?;
+    let operation = request.ask.operation();
+    let bytes = write_request(alloc, &request)?;
+    Ok(Question {
+        key: place,
+        operation,
+        bytes: Bytes::from_vec(bytes),
+    })
+}
+
+/// The request, with its id.
+fn request_about(alloc: Global, key: &Key, known: &Knowledge) -> Result<Request, NoMemory>
+    requires { IsShaped key.now known.now }
+    ensures { IfOk result (λ request. request ≡ request_about key.now known.now) }
+{
+    let ask = ask_about(alloc, key, known)?;
+    let id = id_of(alloc, ask.operation(), key)?;
+    Ok(Request { id: Some(id), ask })
+}
+
+/// The id of a question: its operation in one byte, and the key's name.
+fn id_of(alloc: Global, operation: u32, key: &Key) -> Result<Bytes, NoMemory>
+    requires { operation < 256 }
+    ensures { IfOk result (λ id. id ≡ id_of operation key.now) }
+{
+    let mut id = vec![in alloc; operation as u8]?;
+    id.extend_from_slice(key.attrs.name.as_str().as_bytes())?;
+    Ok(Bytes::from_vec(id))
+}
+
+/// What the key's phase asks.
+fn ask_about(alloc: Global, key: &Key, known: &Knowledge) -> Result<Ask, NoMemory>
+    requires { IsShaped key.now known.now }
+    ensures { IfOk result (λ ask. ask ≡ ask_about key.now known.now) }
+{
+    let uid = uid_of(known);
+    match known.phase {
+        Phase::Look => Ok(Ask::Locate {
+            mask: Some(EVERY_STATE),
+            filter: by_name(alloc, key.attrs.name.as_str())?,
+        }),
+        Phase::Make => Ok(Ask::Create(key.attrs.copied(alloc)?)),
+        Phase::Check => Ok(Ask::GetAttributes(Text::copied(alloc, uid)?)),
+        Phase::Go => next_ask(alloc, key, uid, chain(key, known.done + 1)),
+    }
+}
+
+/// The identifier that is known; empty where none is.
+fn uid_of(known: &Knowledge) -> &str
+    ensures { result.now ≡ unwrap_or known.now.identifier [] }
+{
+    match &known.identifier {
+        Some(uid) => uid.as_str(),
+        None => "",
+    }
+}
+
+/// The attributes that give the name alone.
+fn by_name(alloc: Global, name: &str) -> Result<Attrs, NoMemory>
+    ensures { IfOk result (λ attrs. attrs ≡ by_name name.now) }
+{
+    Ok(Attrs {
+        object_type: None,
+        name: Some(Text::copied(alloc, name)?),
+        algorithm: None,
+        length: None,
+        usage: None,
+        state: None,
+    })
+}
+
+/// The next step on the object with the identifier; where there is none, a look at its attributes.
+fn next_ask(alloc: Global, key: &Key, uid: &str, step: Option<Step>) -> Result<Ask, NoMemory>
+    ensures { IfOk result (λ ask. ask ≡ next_ask key.now uid.now step) }
+{
+    match step {
+        Some(step) => step_ask(alloc, key, uid, step),
+        None => Ok(Ask::GetAttributes(Text::copied(alloc, uid)?)),
+    }
+}
+
+/// A step of the key on the object with the identifier.
+fn step_ask(alloc: Global, key: &Key, uid: &str, step: Step) -> Result<Ask, NoMemory>
+    ensures { IfOk result (λ ask. ask ≡ step_ask key.now uid.now step) }
+{
+    match step {
+        Step::Create => Ok(Ask::Create(key.attrs.copied(alloc)?)),
+        Step::Activate => Ok(Ask::Activate(Text::copied(alloc, uid)?)),
+        Step::Revoke => Ok(Ask::Revoke(Text::copied(alloc, uid)?, key.reason)),
+        Step::Destroy => Ok(Ask::Destroy(Text::copied(alloc, uid)?)),
+    }
+}

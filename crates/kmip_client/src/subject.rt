@@ -1,0 +1,112 @@
+//! Whom a reply is about.
+ghost use Rattle.std.specs.Prelude.{◌≡◌, [], ◌∷◌, option_map};
+ghost use Rattle.kmip_plan.specs.Plans.{IsLawful};
+ghost use Rattle.kmip_plan.specs.Words.{is_text};
+ghost use Rattle.kmip_client.specs.Hearing.{step_of, is_asked_of, is_named_at, place_named, subject_at, subject_in, subject_of};
+
+use kmip_messages::standard::{
+    OPERATION_ACTIVATE, OPERATION_CREATE, OPERATION_DESTROY, OPERATION_GET_ATTRIBUTES,
+    OPERATION_LOCATE, OPERATION_REVOKE,
+};
+use kmip_plan::{Key, Step, laws, step_place};
+use kmip_ttlv::Bytes;
+
+/// The key and the operation that an id names.
+#[derive(Clone, Copy, Debug)]
+pub(crate) struct Subject {
+    /// The place of the key, from 0.
+    pub key: usize,
+    pub operation: u32,
+}
+
+/// Whom an id names: an operation that is asked about a key in one byte, and the key's name. The
+/// likely place is looked at first.
+pub(crate) fn subject_of(keys: &[Key], likely: usize, id: &Option<Bytes>) -> Option<Subject>
+    requires { IsLawful keys.now }
+    ensures { result ≡ subject_of keys.now id.now }
+{
+    let Some(id) = id else {
+        return None;
+    };
+    subject_in(keys, likely, id.as_slice())
+}
+
+fn subject_in(keys: &[Key], likely: usize, id: &[u8]) -> Option<Subject>
+    requires { IsLawful keys.now }
+    ensures { result ≡ subject_in keys.now id.now }
+{
+    let (operation, name) = id.split_first()?;
+    let place = place_named(keys, likely, name)?;
+    subject_at(keys, u32::from(*operation), place)
+}
+
+fn subject_at(keys: &[Key], operation: u32, place: usize) -> Option<Subject>
+    ensures { result ≡ subject_at keys.now operation place }
+{
+    match keys.get(place) {
+        Some(key) if is_asked_of(key, operation) => Some(Subject {
+            key: place,
+            operation,
+        }),
+        _ => None,
+    }
+}
+
+/// Whether the operation is asked about the key: a look, or a step of its chain.
+fn is_asked_of(key: &Key, operation: u32) -> bool
+    ensures { result ≡ is_asked_of key.now operation }
+{
+    if operation == OPERATION_LOCATE || operation == OPERATION_GET_ATTRIBUTES {
+        return true;
+    }
+    match step_of(operation) {
+        Some(step) => step_place(key, step) >= 1,
+        None => false,
+    }
+}
+
+/// The step that an operation is.
+fn step_of(operation: u32) -> Option<Step>
+    ensures { result ≡ step_of operation }
+{
+    if operation == OPERATION_CREATE {
+        Some(Step::Create)
+    } else if operation == OPERATION_ACTIVATE {
+        Some(Step::Activate)
+    } else if operation == OPERATION_REVOKE {
+        Some(Step::Revoke)
+    } else if operation == OPERATION_DESTROY {
+        Some(Step::Destroy)
+    } else {
+        None
+    }
+}
+
+/// The place of the key with the name. Names are distinct, so the likely place is the only one
+/// where the name stands there.
+fn place_named(keys: &[Key], likely: usize, name: &[u8]) -> Option<usize>
+    requires { IsLawful keys.now }
+    ensures { result ≡ place_named name.now keys.now }
+{
+    laws::keys_have_names();
+    if is_named_at(keys, likely, name) {
+        return Some(likely);
+    }
+    keys.iter().position(|key| is_named(key, name))
+}
+
+/// Whether the key at a place has the name.
+fn is_named_at(keys: &[Key], place: usize, name: &[u8]) -> bool
+    ensures { result ≡ is_named_at name.now keys.now place }
+{
+    match keys.get(place) {
+        Some(key) => is_named(key, name),
+        None => false,
+    }
+}
+
+fn is_named(key: &Key, name: &[u8]) -> bool
+    ensures { result ≡ is_text name.now key.now.attrs.name }
+{
+    name == key.attrs.name.as_str().as_bytes()
+}
