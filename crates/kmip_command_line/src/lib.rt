@@ -1,4 +1,4 @@
-//! The words of the command line of `kmipctl`, and what they ask for.
+//! The words of the command line of `kmipctl`, what they ask for, and the program that does it.
 #![tactic(auto)]
 
 ghost use Rattle.std.specs.Prelude.{◌≡◌, if◌then◌else◌};
@@ -7,9 +7,12 @@ ghost use Rattle.kmip_commands.specs.declared.showing.Form.TheVariants.{Text, Ca
 ghost use Rattle.kmip_command_line.specs.declared.Choice.TheVariants.{Answer, AnswerStream};
 ghost use Rattle.kmip_command_line.specs.Choices.{status_of};
 
+mod running;
+
 use clap::error::ErrorKind;
 use clap::{Arg, ArgAction, Command, Error};
 use kmip_commands::{CommandFault, ExitStatus, Form};
+pub use running::run;
 use std::alloc::{AllocError, Global};
 
 /// The number of this version.

@@ -1,0 +1,8 @@
+//! `kmipctl` once more, for its stored run: `check` of a plan that is lawful.
+#![tactic(auto)]
+
+use std::process::ExitCode;
+
+fn main(rt: HostRuntime) -> ExitCode {
+    kmip_command_line::run(&rt)
+}
