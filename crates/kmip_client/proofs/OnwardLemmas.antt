@@ -1,6 +1,6 @@
 -- Objects that go onward.
-use Rattle.std.proofs.Common.{◌≡◌, ℕ, zero, suc, ◌+◌, ◌≤◌, List, [], ◌∷◌, Some, subst, refl, sym, arith}
-use Rattle.std.specs.List.{AllZip, slice_get}
+use Rattle.std.proofs.Common.{◌≡◌, ℕ, zero, suc, List, [], ◌∷◌, Some, subst, refl, sym, arith}
+use Rattle.std.specs.List.{slice_get}
 use Rattle.kmip_messages.specs.Objects.{Object}
 use Rattle.kmip_messages.specs.declared.reply.Outcome.{Outcome}
 use Rattle.kmip_messages.specs.declared.reply.Outcome.TheVariants.{Created, Located, Attributes, Activated, Revoked, Destroyed, Failed}
@@ -15,9 +15,9 @@ use Rattle.kmip_plan.specs.Laws.{KeysAreFound, FoundKeysStand}
 use Rattle.kmip_plan.specs.Plans.{IsLawful, IsPlanned, key_named}
 use Rattle.kmip_plan.specs.declared.key.Key.{Key}
 use Rattle.kmip_client.specs.declared.knowledge.Knowledge.{Knowledge}
-use Rattle.kmip_client.specs.Held.{TrueOf, IsHeld, Held}
+use Rattle.kmip_client.specs.Held.{IsHeld, Held}
 use Rattle.kmip_client.specs.Justified.{StepIsDue, MayAsk, Justified}
-use Rattle.kmip_client.specs.Places.{uid_of, position, GoesOnward, Onward}
+use Rattle.kmip_client.specs.Places.{GoesOnward, Onward}
 use Rattle.kmip_client.specs.Truth.{IsShown, StepIsDone, TrueOutcome, TrueReply}
 
 pub stays_itself : (key : Key) (objects : List Object) → GoesOnward key objects objects

@@ -210,10 +210,8 @@ fn unreadable(fault: MessageFault) -> HearFault
 fn next_working(keys: &[Key], knowns: &[Knowledge], next: usize) -> Option<usize>
     requires as_many { length knowns.now ≡ length keys.now }
     requires within { next ≤ length keys.now }
-    ensures place {
-        let c : ClientState = record { keys = keys.now; knowns = knowns.now; next = next } in
-        result ≡ next_working c
-    }
+    ensures place { let c : ClientState = record { keys = keys.now; knowns = knowns.now; next = next } in
+        result ≡ next_working c }
     ensures none { result ≡ None → AreSettled keys.now knowns.now }
     ensures works { IfSome result (λ place. WorksAt keys.now knowns.now place) }
 {
