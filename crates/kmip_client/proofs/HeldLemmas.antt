@@ -231,13 +231,18 @@ may_phase objects key phases.Go identifier done law so had suits more =
     rw next.1 (may_step objects key (unwrap_or identifier []) done next.0 (uid_known objects key identifier so suits.0) suits.1 had next.2)
 
 -- what a client that holds the truth asks about a key that it works on may be asked
+pub held_may_ask : (objects : List Object) (key : Key) (known : Knowledge) → NextStepsStand → IsHeld objects key known → is_working key known ≡ true
+    → MayAsk objects key (phase_ask key known.phase (unwrap_or known.identifier []) known.done)
+held_may_ask objects key known law held works =
+    may_phase objects key known.phase known.identifier known.done law held.holds.uid_true held.holds.done_true held.suits (working_parts key known works).0
+
 pub question_justified : (keys : List Key) (objects : List Object) (key : Key) (known : Knowledge) → NextStepsStand → IsPlanned keys key
     → IsHeld objects key known → is_working key known ≡ true → Justified keys objects (request_about key known)
 question_justified keys objects key known law planned held works = record {
   key = key;
   is_planned = planned;
   id_is = refl;
-  may = may_phase objects key known.phase known.identifier known.done law held.holds.uid_true held.holds.done_true held.suits (working_parts key known works).0;
+  may = held_may_ask objects key known law held works;
 }
 
 only_one : {A : Type 0} (P : A → Type 0) (x d : A) (k : ℕ) → P x → k < 1 → P (get_or (x ∷ []) k d)

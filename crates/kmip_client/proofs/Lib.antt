@@ -5,3 +5,4 @@ pub mod TurnLemmas
 pub mod SubjectLemmas
 pub mod HeardLemmas
 pub mod HeldLemmas
+pub mod OnwardLemmas

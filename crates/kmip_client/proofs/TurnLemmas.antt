@@ -1,12 +1,13 @@
 -- Whose turn it is.
-use Rattle.std.proofs.Common.{◌≡◌, ℕ, zero, suc, ◌+◌, ◌≤◌, ◌<◌, Bool, true, cond, List, [], ◌∷◌, length, drop, get_or, Some, None, Result, Ok, Err, IfOk, subst, refl, sym, ap, ◌∙◌, arith, add-one, drop-cons, length-drop}
+use Rattle.std.proofs.Common.{◌≡◌, ℕ, zero, suc, ◌+◌, ◌≤◌, ◌<◌, Bool, true, cond, List, [], ◌∷◌, length, drop, get_or, Some, None, Result, Ok, Err, IfOk, subst, refl, sym, ap, ◌∙◌, inl, inr, arith, add-one, drop-cons, length-drop}
+use Rattle.std.proofs.lemmas.Bool.{cases_Bool}
 use Rattle.std.proofs.lemmas.Option.{slice_get_read}
 use Rattle.std.specs.List.{slice_get}
 use Rattle.kmip_messages.specs.Items.{AsksAlone}
 use Rattle.kmip_plan.specs.declared.key.Key.{Key}
 use Rattle.kmip_client.specs.declared.knowledge.Knowledge.{Knowledge}
 use Rattle.kmip_client.specs.declared.question.Question.{Question}
-use Rattle.kmip_client.specs.Clients.{working_from, question_at, WorksAt, IsAbout}
+use Rattle.kmip_client.specs.Clients.{working_from, question_at, WorksAt, IsAbout, AreSettled}
 use Rattle.kmip_client.specs.Knowledge.{is_working}
 use Rattle.kmip_client.specs.Questions.{question_about, request_about}
 
@@ -84,3 +85,18 @@ about_it keys knowns place key known q at_work here there is asks = record {
 pub if_ok_both : {A E : Type 0} (P Q R : A → Type 0) (r : Result A E) → ((x : A) → P x → Q x → R x) → IfOk r P → IfOk r Q → IfOk r R
 if_ok_both P Q R (Ok x) to p q = to x p q
 if_ok_both P Q R (Err e) to p q = tt
+
+-- ---- where no key has the turn
+
+not_some : {X : Type 0} (place : ℕ) → Some place ≡ None → X
+not_some place is = absurd cc
+
+pub none_works : (place : ℕ) (keys : List Key) (knowns : List Knowledge) → length knowns ≡ length keys → working_from place keys knowns ≡ None → AreSettled keys knowns
+none_works place [] [] many none = tt
+none_works place [] (known ∷ knowns) many none = absurd (omega arith)
+none_works place (key ∷ keys) [] many none = absurd (omega arith)
+none_works place (key ∷ keys) (known ∷ knowns) many none =
+    elim (cases_Bool (is_working key known)) [
+      | inl works ↦ not_some place (rw works at none)
+      | inr settled ↦ (settled, none_works (place + 1) keys knowns (omega arith) (rw settled at none))
+    ]

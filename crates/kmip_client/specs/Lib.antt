@@ -9,3 +9,4 @@ pub mod Places
 pub mod Justified
 pub mod Truth
 pub mod Held
+pub mod Laws

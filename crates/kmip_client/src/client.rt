@@ -1,9 +1,10 @@
 //! A client of one plan.
-ghost use Rattle.std.specs.Prelude.{◌≡◌, List, ◌≤◌, ◌<◌, length, map, drop, Some, Ok, Err, IfOk, IfErr, IfSome, IsTrue, OnOk, OnErr, option_map};
+ghost use Rattle.std.specs.Prelude.{◌≡◌, List, ◌≤◌, ◌<◌, length, map, drop, Some, None, Ok, Err, IfOk, IfErr, IfSome, IsTrue, OnOk, OnErr, option_map};
 ghost use Rattle.kmip_messages.specs.Fits.{outcome_fits};
 ghost use Rattle.std.specs.List.{AllZip};
 ghost use Rattle.kmip_plan.specs.Plans.{IsLawful, EachFits};
 ghost use Rattle.kmip_client.specs.Clients.{
+  ClientState,
   fresh,
   done_at,
   identifier_at,
@@ -18,6 +19,7 @@ ghost use Rattle.kmip_client.specs.Clients.{
   asked,
   WorksAt,
   IsAbout,
+  AreSettled,
 };
 ghost use Rattle.kmip_client.specs.Hearing.{unheard, heard_in, hear, Refuses};
 ghost use Rattle.kmip_client.specs.Held.{Held};
@@ -93,6 +95,8 @@ impl<'p> Client<'p> {
         ensures question { IfOk result (λ question. question ≡ next_question self.old) }
         ensures about { IfOk result (λ question. IfSome question (λ q.
             IsAbout self.old.keys self.old.knowns q)) }
+        ensures none { IfOk result (λ question. question ≡ None
+            → AreSettled self.old.keys self.old.knowns) }
         ensures justified { (objects : List Object) → Held objects self.old.keys self.old.knowns
             → IfOk result (λ question. IfSome question (λ q.
             JustifiedMessage self.old.keys objects q.bytes)) }
@@ -206,7 +210,9 @@ fn unreadable(fault: MessageFault) -> HearFault
 fn next_working(keys: &[Key], knowns: &[Knowledge], next: usize) -> Option<usize>
     requires as_many { length knowns.now ≡ length keys.now }
     requires within { next ≤ length keys.now }
-    ensures place { result ≡ next_working (record { keys = keys.now; knowns = knowns.now; next = next }) }
+    ensures place { let c : ClientState = record { keys = keys.now; knowns = knowns.now; next = next } in
+        result ≡ next_working c }
+    ensures none { result ≡ None → AreSettled keys.now knowns.now }
     ensures works { IfSome result (λ place. WorksAt keys.now knowns.now place) }
 {
     match working_from(keys, knowns, next) {

@@ -7,6 +7,7 @@ mod client;
 mod fault;
 mod hearing;
 mod knowledge;
+pub mod laws;
 mod learning;
 mod question;
 mod subject;

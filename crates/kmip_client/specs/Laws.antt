@@ -1,0 +1,42 @@
+-- What holds of objects that go onward, and of what a client asks.
+-- Source: own: what the laws say.
+use Rattle.std.specs.Prelude.{◌≡◌, true, List}
+use Rattle.kmip_messages.specs.Objects.{Object}
+use Rattle.kmip_messages.specs.declared.reply.Reply.{Reply}
+use Rattle.kmip_messages.specs.declared.request.Request.{Request}
+use Rattle.kmip_plan.specs.Plans.{IsLawful}
+use Rattle.kmip_plan.specs.declared.key.Key.{Key}
+use Rattle.kmip_client.specs.declared.knowledge.Knowledge.{Knowledge}
+use Rattle.kmip_client.specs.Held.{IsHeld, Held}
+use Rattle.kmip_client.specs.Justified.{MayAsk, Justified}
+use Rattle.kmip_client.specs.Knowledge.{is_working}
+use Rattle.kmip_client.specs.Places.{Onward}
+use Rattle.kmip_client.specs.Questions.{ask_about}
+use Rattle.kmip_client.specs.Truth.{TrueReply}
+
+-- objects go onward to themselves, and onward twice is onward
+abbrev pub OnwardToItself : Type 0
+OnwardToItself = (keys : List Key) (objects : List Object) → Onward keys objects objects
+
+abbrev pub OnwardTwice : Type 0
+OnwardTwice = (keys : List Key) (old between new : List Object) → Onward keys old between → Onward keys between new → Onward keys old new
+
+-- what may be asked may be asked still
+abbrev pub JustifiedForGood : Type 0
+JustifiedForGood = (keys : List Key) (old new : List Object) (request : Request) → Onward keys old new → Justified keys old request → Justified keys new request
+
+-- what a reply says is true still
+abbrev pub TrueForGood : Type 0
+TrueForGood = (keys : List Key) (old new : List Object) (reply : Reply) → Onward keys old new → TrueReply keys old reply → TrueReply keys new reply
+
+-- what is known is true still
+abbrev pub HeldForGood : Type 0
+HeldForGood =
+    (keys : List Key) (knowns : List Knowledge) (old new : List Object) → IsLawful keys → Onward keys old new → Held old keys knowns
+    → Held new keys knowns
+
+-- what is asked about a key of which the truth is known may be asked
+abbrev pub AsksWhatItMay : Type 0
+AsksWhatItMay =
+    (objects : List Object) (key : Key) (known : Knowledge) → IsHeld objects key known → is_working key known ≡ true
+    → MayAsk objects key (ask_about key known)

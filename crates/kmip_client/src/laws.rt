@@ -1,0 +1,35 @@
+//! What holds of objects that go onward and of what a client asks, each as the contract of a
+//! function that does nothing.
+ghost use Rattle.kmip_client.specs.Laws.{
+  OnwardToItself,
+  OnwardTwice,
+  JustifiedForGood,
+  TrueForGood,
+  HeldForGood,
+  AsksWhatItMay,
+};
+
+use kmip_plan::laws::{keys_have_names, steps_have_places};
+
+/// Objects go onward to themselves, and onward twice is onward.
+pub fn onward_is_an_order()
+    ensures itself { OnwardToItself }
+    ensures twice { OnwardTwice }
+{}
+
+/// As objects go onward, what may be asked may be asked still, what a reply says is true still, and
+/// so is what is known.
+pub fn truth_is_for_good()
+    ensures asked { JustifiedForGood }
+    ensures told { TrueForGood }
+    ensures known { HeldForGood }
+{
+    keys_have_names();
+}
+
+/// A client that knows the truth of a key asks only what may be asked of it.
+pub fn what_is_asked_may_be()
+    ensures { AsksWhatItMay }
+{
+    steps_have_places();
+}
