@@ -1,14 +1,17 @@
-# make         builds the program (a clean clone is proved first, which takes minutes)
-# make demo    answers the example requests, and prints only the replies
-# make test    the gate: every proof from nothing, the wrong bodies, the tests and the program
-# make bench   compares the program with a baseline in plain Rust (needs rustc)
-# make refuse  refuses each growth of memory of the program in turn (needs cc)
-# make hostile gives the program lines of ten megabytes, under limits of memory
+# make            builds the program (a clean clone is proved first, which takes minutes)
+# make demo       answers the example requests, and prints only the replies
+# make test       the gate: every proof from nothing, the wrong bodies, the tests and the program
+# make bench      compares the program with a baseline in plain Rust (needs rustc)
+# make refuse     refuses each growth of memory of the program in turn (needs cc)
+# make hostile    gives the program lines of ten megabytes, under limits of memory
+# make reading    lists the public functions; with FUNCTION=crate::name, what its contract rests on (needs python3)
+# make documents  compares the documents with the code (needs python3)
+# make help       prints these lines
 
 program := crates/kmipctl/out/kmipctl
 sources := crates.txt $(shell find crates -name out -prune -o \( -name '*.rt' -o -name '*.antt' \) -print)
 
-.PHONY: all demo test bench refuse hostile
+.PHONY: all demo test bench refuse hostile reading documents help
 
 all: $(program)
 
@@ -31,3 +34,12 @@ refuse: $(program)
 
 hostile: $(program)
 	@bench/hostile.sh $(program)
+
+reading:
+	@python3 tools/reading.py $(FUNCTION)
+
+documents:
+	@python3 tools/reading.py --check
+
+help:
+	@sed -n 's/^# make/make/p' Makefile

@@ -4,11 +4,11 @@
 #
 #     bench/refuse.sh PROGRAM
 #
-# The input is examples/answer-life.hex, and `answer` is run without and with `--stream`. For N = 1, 2, .. the shim of bench/refuse.c refuses the
-# N-th growth alone, until a run meets no refusal. Where a growth was refused, the program has to
-# print some whole lines of the undisturbed output, from its first line on, and then the line
-# `no memory`, and to end with exit status 1. Where none was refused, it has to print the undisturbed
-# output and to end with exit status 0.
+# The input is examples/answer-life.hex, and `answer` is run without and with `--stream`. For N = 1,
+# 2, .. the shim of bench/refuse.c refuses the N-th growth alone, until a run meets no refusal. Where
+# a growth was refused, the program has to print some whole lines of the undisturbed output, from its
+# first line on, and then the line `no memory`, and to end with exit status 1. Where none was refused,
+# it has to print the undisturbed output and to end with exit status 0.
 #
 # Then the same is done with all growths refused from the N-th on, and there every run has to end
 # with `no memory`. The exit status is 1 at the first N where one of these rules does not hold.

@@ -5,18 +5,17 @@ use Rattle.std.proofs.KnownBytes.{Appends-nil, Appends-trans}
 use Rattle.std.proofs.Math.Nat.{min_comm}
 use Rattle.std.proofs.lemmas.Bool.{cases_lt}
 use Rattle.std.proofs.lemmas.List.{length-append, take_at, take_min, take-append-drop}
+use Rattle.kmip_frames.proofs.ForCallers.{fault_size, fault_more, size_needed_fault, size_needed_more, size_needed_least, message_lawful, message_size, message_whole, fault_stays}
 use Rattle.kmip_frames.specs.declared.fault.FrameFault.{FrameFault}
 use Rattle.kmip_frames.specs.Framing.{fault_in, size_needed, held_after}
 use Rattle.kmip_frames.specs.Streams.{IsMessage, BeginsWithNoMessage}
-use Rattle.kmip_frames.proofs.Sizes.{fault_size, fault_more, needed_fault, needed_more, needed_least}
-use Rattle.kmip_frames.proofs.Messages.{message_lawful, message_size, message_whole, fault_stays}
 use Rattle.kmip_store.specs.Stock.{Stock}
 use Rattle.kmip_server.specs.Serving.{stock_after}
 use Rattle.kmip_commands.specs.AnswerText.{reply_text}
 use Rattle.kmip_commands.specs.Bytewise.{StreamState, is_over, byte_text, state_after_byte, piece_text, state_after_piece}
-use Rattle.kmip_commands.specs.BytewiseLaws.{no_fault_front, byte_made, stays_over, stays_ready}
+use Rattle.kmip_commands.proofs.BytewiseLaws.{no_fault_front, byte_made, stays_over, stays_ready}
 use Rattle.kmip_commands.proofs.LineLemmas.{take_joined}
-use Rattle.kmip_commands.specs.StreamText.{end_by, stream_refusal_text}
+use Rattle.kmip_commands.specs.StreamText.{stream_refusal_text}
 
 -- ---- bytes, and bytes after them
 
@@ -26,9 +25,9 @@ piece_text_joined s (x ∷ xs) ys =
     ap (λ t. byte_text s x ++ t) (piece_text_joined (state_after_byte s x) xs ys)
     ∙ sym (append_assoc (byte_text s x) (piece_text (state_after_byte s x) xs) (piece_text (state_after_piece (state_after_byte s x) xs) ys))
 
-pub piece_behind_joined : (s : StreamState) (xs ys : List ℕ) → state_after_piece s (xs ++ ys) ≡ state_after_piece (state_after_piece s xs) ys
-piece_behind_joined s [] ys = refl
-piece_behind_joined s (x ∷ xs) ys = piece_behind_joined (state_after_byte s x) xs ys
+pub piece_state_joined : (s : StreamState) (xs ys : List ℕ) → state_after_piece s (xs ++ ys) ≡ state_after_piece (state_after_piece s xs) ys
+piece_state_joined s [] ys = refl
+piece_state_joined s (x ∷ xs) ys = piece_state_joined (state_after_byte s x) xs ys
 
 -- ---- what the framer takes
 
@@ -78,7 +77,7 @@ answered stock held (x ∷ y ∷ xs) is some =
     partial : (h : List ℕ) (y : ℕ) (xs : List ℕ) → IsMessage (h ++ y ∷ xs) → ¬ (IsMessage h)
     partial h y xs whole front =
         let joined : length (h ++ y ∷ xs) ≡ length h + length (y ∷ xs) = length-append h (y ∷ xs) in
-        let same : length (h ++ y ∷ xs) ≡ length h = message_size (h ++ y ∷ xs) whole ∙ needed_more h (y ∷ xs) front.head ∙ sym (message_size h front) in
+        let same : length (h ++ y ∷ xs) ≡ length h = message_size (h ++ y ∷ xs) whole ∙ size_needed_more h (y ∷ xs) front.head ∙ sym (message_size h front) in
         absurd (omega (arith, joined, same))
 
 -- the bytes at which a fault is seen are eight
@@ -94,7 +93,7 @@ eight_bytes held x fault lawful is =
 -- and before them no message is whole
 few_bytes : (h xs : List ℕ) (fault : FrameFault) → fault_in h ≡ None → fault_in (h ++ xs) ≡ Some fault → length h ≡ size_needed h → ⊥
 few_bytes h xs fault now is whole = elim (cases_lt (length h) 8) [
-  | inl short ↦ omega (arith, whole, needed_least h)
+  | inl short ↦ omega (arith, whole, size_needed_least h)
   | inr long ↦ (let same = sym (fault_more h xs long) ∙ is in absurd cc)
 ]
 
@@ -136,7 +135,7 @@ held_of_fault held xs fault lawful is =
       | inr whole ↦ (let same = sym (fault_more held xs whole) ∙ is in absurd cc)
     ] in
     let front = take_all 8 held short in
-    ap (λ n. held ++ take (min (length xs) (n - length held)) xs) (needed_fault (held ++ xs) fault is)
+    ap (λ n. held ++ take (min (length xs) (n - length held)) xs) (size_needed_fault (held ++ xs) fault is)
     ∙ ap (λ n. held ++ take n xs) (min_comm (length xs) (8 - length held))
     ∙ ap (λ t. held ++ t) (take_min (8 - length held) xs)
     ∙ ap (λ h. h ++ take (8 - length h) xs) (sym front)
@@ -147,12 +146,12 @@ held_of_fault held xs fault lawful is =
 -- what was written, and the state now, are those of the bytes that were taken
 pub record Advances (s now : StreamState) (bytes : List ℕ) (old new : Option (List ℕ)) : Type 0 where
   pub text : Appends old new (piece_text s bytes)
-  pub behind : now ≡ state_after_piece s bytes
+  pub after : now ≡ state_after_piece s bytes
 
 advances : (s now after : StreamState) (bytes text : List ℕ) (old new : Option (List ℕ)) → (piece_text s bytes ≡ text) × (state_after_piece s bytes ≡ after)
     → Appends old new text → now ≡ after → Advances s now bytes old new
 advances s now after bytes text old new is written state =
-    record { text = subst (Appends old new) (sym is.0) written; behind = state ∙ sym is.1 }
+    record { text = subst (Appends old new) (sym is.0) written; after = state ∙ sym is.1 }
 
 pub advance_refused : (stock : Stock) (held held' piece : List ℕ) (fault : FrameFault) (old new : Option (List ℕ)) → fault_in held ≡ None
     → fault_in (held ++ piece) ≡ Some fault → held' ≡ held_after held piece → Appends old new (stream_refusal_text fault)
@@ -171,13 +170,13 @@ advance_quiet stock held held' now bytes old is hands =
 pub advance_answered : (stock stock' : Stock) (held held' now bytes reply : List ℕ) (old new : Option (List ℕ)) → BeginsWithNoMessage held → held' ≡ held ++ bytes
     → IsMessage held' × (reply ≡ held') × (now ≡ []) → Appends old new (reply_text stock reply) → stock' ≡ stock_after stock reply
     → Advances (stock, held) (stock', now) bytes old new
-advance_answered stock stock' held held' now bytes reply old new none is hands written behind =
+advance_answered stock stock' held held' now bytes reply old new none is hands written moved =
     let whole : IsMessage (held ++ bytes) = subst IsMessage is hands.0 in
     let same : reply ≡ held ++ bytes = hands.1 ∙ is in
     advances (stock, held) (stock', now) (stock_after stock (held ++ bytes), []) bytes (reply_text stock (held ++ bytes)) old new
     (answered stock held bytes whole (some bytes whole))
     (subst (λ m. Appends old new (reply_text stock m)) same written)
-    (ap (λ s. (s, now)) (behind ∙ ap (stock_after stock) same) ∙ ap (λ h. (stock_after stock (held ++ bytes), h)) hands.2)
+    (ap (λ s. (s, now)) (moved ∙ ap (stock_after stock) same) ∙ ap (λ h. (stock_after stock (held ++ bytes), h)) hands.2)
   where
     some : (bytes : List ℕ) → IsMessage (held ++ bytes) → 0 < length bytes
     some [] whole = absurd (none held [] (sym (append-nil held)) (subst IsMessage (append-nil held) whole))
@@ -208,18 +207,18 @@ advanced_more first now next piece rest count old mid new h written state =
       written = Appends-trans old mid new h.done (piece_text now front) h.written written;
       texts = h.texts ∙ ap (λ r. h.done ++ piece_text now r) cut ∙ ap (λ t. h.done ++ t) (piece_text_joined now front back)
           ∙ ap (λ s. h.done ++ (piece_text now front ++ piece_text s back)) (sym state) ∙ sym (append_assoc h.done (piece_text now front) (piece_text next back));
-      states = h.states ∙ ap (state_after_piece now) cut ∙ piece_behind_joined now front back ∙ ap (λ s. state_after_piece s back) (sym state);
+      states = h.states ∙ ap (state_after_piece now) cut ∙ piece_state_joined now front back ∙ ap (λ s. state_after_piece s back) (sym state);
       ready = subst (λ s. BeginsWithNoMessage s.1) (sym state) (stays_ready now front h.ready);
     }
 
--- at the end of the piece, or behind a fault, all is written
+-- at the end of the piece, or after a fault, all is written
 pub advanced_all : (first now : StreamState) (piece rest : List ℕ) (old new : Option (List ℕ)) → HasAdvanced first now piece rest old new
     → (length rest ≡ 0) ⊎ (is_over now ≡ true) → Appends old new (piece_text first piece) × (now ≡ state_after_piece first piece)
-advanced_all first now piece rest old new h end_by =
-    let over = both rest end_by in
+advanced_all first now piece rest old new h ended =
+    let over = both rest ended in
     (subst (Appends old new) (sym (h.texts ∙ ap (λ t. h.done ++ t) over.0 ∙ append-nil h.done)) h.written, sym (h.states ∙ over.1))
   where
     both : (rest : List ℕ) → (length rest ≡ 0) ⊎ (is_over now ≡ true) → (piece_text now rest ≡ []) × (state_after_piece now rest ≡ now)
-    both [] end_by = (refl, refl)
+    both [] ended = (refl, refl)
     both (x ∷ xs) (inl none) = absurd (omega arith)
     both (x ∷ xs) (inr over) = stays_over now (x ∷ xs) over

@@ -20,7 +20,7 @@ next f [] i x e = absurd cc
 next f (y ∷ xs) zero x e = let same : y ≡ x = cc in ap (λ z. f z ++ flat_map f xs) same
 next f (y ∷ xs) (suc i) x e = next f xs i x e
 
--- behind the last item nothing is left
+-- after the last item nothing is left
 past : {X : Type 0} (f : X → List ℕ) (xs : List X) (i : ℕ) → slice_get xs i ≡ None
     → flat_map f (drop i xs) ≡ flat_map f (drop (suc i) xs)
 past f [] zero e = refl

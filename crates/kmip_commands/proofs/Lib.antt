@@ -1,5 +1,7 @@
+pub mod BytewiseLaws
 mod CheckingLemmas
 mod RespondingLemmas
+mod FinishingLemmas
 mod LineLemmas
 mod StreamingLemmas
 mod AdvancingLemmas

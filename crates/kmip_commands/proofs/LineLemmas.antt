@@ -1,15 +1,14 @@
 -- Lines of bytes that a reader gave in parts.
-use Rattle.std.proofs.Common.{◌≡◌, ◌≢◌, ℕ, zero, suc, ◌+◌, ◌-◌, ◌<◌, Bool, true, false, not, eqb, ltb, cond, List, [], ◌∷◌, ◌++◌, Option, Some, None, IfSome, length, take, refl, sym, ap, subst, ◌∙◌, arith, append_assoc, append-nil, eq-eqb, ne_eqb, eqb-true, true≢false, length-take, length-take-le}
+use Rattle.std.proofs.Common.{◌≡◌, ◌≢◌, ℕ, zero, suc, ◌+◌, ◌-◌, ◌<◌, Bool, true, false, not, eqb, ltb, cond, List, [], ◌∷◌, ◌++◌, Option, Some, None, IfSome, length, take, refl, sym, ap, subst, ◌∙◌, arith, append_assoc, append-nil, eq-eqb, ne_eqb, eqb-true, true≢false, length-take, length-take-le, take_all, drop, length-drop}
 use Rattle.std.specs.List.{position, position_or_len}
-use Rattle.std.proofs.lemmas.List.{take_more, get_or-take}
+use Rattle.std.proofs.lemmas.List.{take_more, get_or-take, take-append-drop}
 use Rattle.std.proofs.lemmas.List.Elements.{All-nil, All-append, All-head, All-tail}
 use Rattle.std.proofs.lemmas.List.Quantifiers.{position-Some}
 use Rattle.std.proofs.lemmas.List.Sums.{prefix_len_passes}
 use Rattle.std.proofs.lemmas.Bool.Decides.{nat_tests}
 use Rattle.std.specs.Io.KnownBytes.{Consumes, IsAtEnd}
 use Rattle.std.proofs.KnownBytes.{Consumes-nil, Consumes-trans}
-use Rattle.kmip_commands.specs.Lines.{lines_of, onto_first, IsWithinLine, kept_with, TakesPart, TakesFirst}
-use Rattle.kmip_commands.specs.declared.lines.TheConstants.{MOST_KEPT}
+use Rattle.kmip_commands.specs.Lines.{most_kept, lines_of, onto_first, IsWithinLine, kept_with, TakesPart, TakesFirst}
 
 -- what stands before the first line feed has none, and the line feed follows it
 pub to_feed : (bytes : List ℕ) (place : ℕ) → position (λ b. eqb b 10) bytes ≡ Some place
@@ -52,6 +51,28 @@ lines_of-last (b ∷ c ∷ bs) within some =
     ap (λ t. cond t ([] ∷ lines_of rest) (onto_first b (lines_of rest))) (ne_eqb b 10 (All-head (λ x. x ≢ 10) b rest within))
     ∙ ap (onto_first b) (lines_of-last (c ∷ bs) (All-tail (λ x. x ≢ 10) b rest within) (omega arith))
 
+-- the first line of some bytes and what follows it, by the place of its line feed
+pub first_of_fed : (bytes : List ℕ) (place : ℕ) → position (λ b. eqb b 10) bytes ≡ Some place
+    → lines_of bytes ≡ take place bytes ∷ lines_of (take (length bytes - (place + 1)) (drop (place + 1) bytes))
+first_of_fed bytes place found =
+    let feed = to_feed bytes place found in
+    let rest = drop (place + 1) bytes in
+    let all : take (length bytes - (place + 1)) rest ≡ rest = take_all (length bytes - (place + 1)) rest (omega (arith, length-drop (place + 1) bytes)) in
+    let whole : bytes ≡ take place bytes ++ 10 ∷ rest =
+    sym (take-append-drop (place + 1) bytes) ∙ ap (λ l. l ++ rest) feed.2 ∙ append_assoc (take place bytes) (10 ∷ []) rest in
+    ap lines_of whole ∙ lines_of-line (take place bytes) rest feed.1 ∙ ap (λ l. take place bytes ∷ lines_of l) (sym all)
+
+pub first_of_last : (bytes : List ℕ) → position (λ b. eqb b 10) bytes ≡ None → 0 < length bytes
+    → lines_of bytes ≡ bytes ∷ lines_of (take (length bytes - length bytes) (drop (length bytes) bytes))
+first_of_last bytes none some =
+    let few : length (take (length bytes - length bytes) (drop (length bytes) bytes)) ≡ 0 =
+    omega (arith, length-take (length bytes - length bytes) (drop (length bytes) bytes)) in
+    lines_of-last bytes (without_feed bytes none) some ∙ ap (λ l. bytes ∷ lines_of l) (sym (no_bytes (take (length bytes - length bytes) (drop (length bytes) bytes)) few))
+  where
+    no_bytes : (xs : List ℕ) → length xs ≡ 0 → xs ≡ []
+    no_bytes [] few = refl
+    no_bytes (x ∷ xs) few = absurd (omega arith)
+
 -- what is kept of bytes that come in two parts
 pub take_joined : (n : ℕ) (xs ys : List ℕ) → take n xs ++ take (n - length (take n xs)) ys ≡ take n (xs ++ ys)
 take_joined zero xs ys = refl
@@ -69,11 +90,11 @@ take_nothing (suc n) = refl
 
 -- nothing joins what is kept
 pub kept_nothing : (kept : List ℕ) → kept ≡ kept_with kept []
-kept_nothing kept = sym (ap (λ l. kept ++ l) (take_nothing (MOST_KEPT - length kept)) ∙ append-nil kept)
+kept_nothing kept = sym (ap (λ l. kept ++ l) (take_nothing (most_kept - length kept)) ∙ append-nil kept)
 
 -- what is kept of a line as far as it came is its front
-kept_joined : (kept kept' xs ys : List ℕ) → kept ≡ take MOST_KEPT xs → kept' ≡ kept_with kept ys → kept' ≡ take MOST_KEPT (xs ++ ys)
-kept_joined kept kept' xs ys p q = q ∙ ap (λ l. kept_with l ys) p ∙ take_joined MOST_KEPT xs ys
+kept_joined : (kept kept' xs ys : List ℕ) → kept ≡ take most_kept xs → kept' ≡ kept_with kept ys → kept' ≡ take most_kept (xs ++ ys)
+kept_joined kept kept' xs ys p q = q ∙ ap (λ l. kept_with l ys) p ∙ take_joined most_kept xs ys
 
 -- a reader that shows no bytes is at its end
 pub at_end : (known : Option (List ℕ)) (shown : List ℕ) → IfSome known (λ xs. length shown ≡ 0 → xs ≡ []) → length shown ≡ 0 → IsAtEnd known
@@ -85,11 +106,11 @@ pub record HasRead (old now : Option (List ℕ)) (kept : List ℕ) : Type 0 wher
   pub part : List ℕ
   pub within : IsWithinLine part
   pub consumed : Consumes old now part
-  pub is_kept : kept ≡ take MOST_KEPT part
+  pub is_kept : kept ≡ take most_kept part
 
 pub HasRead-none : (old : Option (List ℕ)) (kept : List ℕ) → kept ≡ [] → HasRead old old kept
 HasRead-none old kept none =
-    record { part = []; within = All-nil (λ x. x ≢ 10); consumed = Consumes-nil old; is_kept = none ∙ sym (take_nothing MOST_KEPT) }
+    record { part = []; within = All-nil (λ x. x ≢ 10); consumed = Consumes-nil old; is_kept = none ∙ sym (take_nothing most_kept) }
 
 -- a part without its line's end
 pub HasRead-more : (old now next : Option (List ℕ)) (kept kept' : List ℕ) → HasRead old now kept → TakesPart now next kept kept' [] → HasRead old next kept'
@@ -126,8 +147,8 @@ HasRead-end None now next kept kept' h same end is some = tt
 HasRead-end (Some input) None next kept kept' h same end is some = absurd h.consumed
 HasRead-end (Some input) (Some rest) None kept kept' h same end is some = absurd same
 HasRead-end (Some input) (Some rest) (Some after) kept kept' h same end is some =
-    let front : kept' ≡ take MOST_KEPT h.part = is ∙ h.is_kept in
-    let more : 0 < length h.part = omega (arith, ap length front, length-take MOST_KEPT h.part) in
+    let front : kept' ≡ take most_kept h.part = is ∙ h.is_kept in
+    let more : 0 < length h.part = omega (arith, ap length front, length-take most_kept h.part) in
     record {
       line = h.part;
       after = [];
@@ -143,8 +164,8 @@ HasRead-nothing None now next kept kept' h same end is none = tt
 HasRead-nothing (Some input) None next kept kept' h same end is none = absurd h.consumed
 HasRead-nothing (Some input) (Some rest) None kept kept' h same end is none = absurd same
 HasRead-nothing (Some input) (Some rest) (Some after) kept kept' h same end is none =
-    let front : kept' ≡ take MOST_KEPT h.part = is ∙ h.is_kept in
-    let few : length h.part ≡ 0 = omega (arith, ap length front, length-take MOST_KEPT h.part) in
+    let front : kept' ≡ take most_kept h.part = is ∙ h.is_kept in
+    let few : length h.part ≡ 0 = omega (arith, ap length front, length-take most_kept h.part) in
     (h.consumed ∙ ap (λ l. h.part ++ l) end ∙ append-nil h.part ∙ empty h.part few, ap Some (sym same ∙ end))
   where
     empty : (xs : List ℕ) → length xs ≡ 0 → xs ≡ []

@@ -1,16 +1,14 @@
 -- `answer --stream`: the messages that bytes make one by one are those of the stream.
 use Rattle.std.proofs.Common.{◌≡◌, ℕ, Bool, true, false, eqb, List, [], ◌∷◌, ◌++◌, length, Option, Some, None, is_some, refl, sym, ap, subst, ◌∙◌, arith, append_assoc, append-nil, eqb-true, eq-eqb, true≢false}
+use Rattle.kmip_frames.proofs.ForCallers.{fault_short, message_size, message_whole, fault_stays, IsSoFar, so_far_took, so_far_handed, so_far_ended}
 use Rattle.kmip_frames.specs.declared.fault.FrameFault.{FrameFault}
 use Rattle.kmip_frames.specs.Framing.{fault_in, size_needed}
 use Rattle.kmip_frames.specs.Streams.{BeginsWithNoMessage, Stream}
-use Rattle.kmip_frames.proofs.Sizes.{fault_short}
-use Rattle.kmip_frames.proofs.Messages.{message_size, message_whole, fault_stays}
-use Rattle.kmip_frames.proofs.SoFar.{IsSoFar, so_far_took, so_far_handed, so_far_ended}
 use Rattle.kmip_store.specs.Stock.{Stock}
 use Rattle.kmip_server.specs.Serving.{stock_after}
 use Rattle.kmip_commands.specs.AnswerText.{reply_text}
 use Rattle.kmip_commands.specs.Bytewise.{StreamState, state_after_byte, piece_text, state_after_piece}
-use Rattle.kmip_commands.specs.BytewiseLaws.{byte_made, stays_over, nothing_waits, longer_waits}
+use Rattle.kmip_commands.proofs.BytewiseLaws.{byte_made, stays_over, nothing_waits, longer_waits}
 use Rattle.kmip_commands.specs.StreamText.{replies_text, stream_refusal_text, stock_after_messages}
 
 -- what is written where a head is no message's
@@ -35,7 +33,7 @@ retold : (done bytes : List ℕ) (before : List (List ℕ)) (stock : Stock) (tex
 retold done bytes before stock text text' now now' p q is =
     subst (λ t. IsStreamed done bytes before stock t now') (sym p) (subst (λ s. IsStreamed done bytes before stock text s) (sym q) is)
 
--- the bytes of before and those behind them, cut at another place
+-- the bytes of before and those after them, cut at another place
 recut : (done bytes more : List ℕ) (before : List (List ℕ)) (stock : Stock) (text : List ℕ) (now : StreamState)
     → IsStreamed (done ++ bytes) more before stock text now → IsStreamed done (bytes ++ more) before stock text now
 recut done bytes more before stock text now is = record {

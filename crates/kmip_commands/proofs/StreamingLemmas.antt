@@ -2,26 +2,26 @@
 use Rattle.std.proofs.Common.{◌≡◌, ℕ, Bool, true, false, not, ◌&&◌, ◌||◌, cond, eqb, List, [], ◌∷◌, ◌++◌, length, codes, Option, Some, None, IfSome, is_some, refl, sym, ap, subst, ◌∙◌, arith, append_assoc, append-nil, eqb-true, true≢false}
 use Rattle.std.specs.Fmt.{decimal}
 use Rattle.std.specs.Io.KnownBytes.{Appends}
-use Rattle.std.proofs.KnownBytes.{Appends-trans}
+use Rattle.std.proofs.KnownBytes.{Appends-nil, Appends-trans}
+use Rattle.kmip_frames.proofs.ForCallers.{fault_short, nothing_so_far}
 use Rattle.kmip_frames.specs.declared.fault.FrameFault.{FrameFault}
 use Rattle.kmip_frames.specs.Faults.{frame_fault_number, frame_fault_name}
 use Rattle.kmip_frames.specs.Framing.{fault_in}
 use Rattle.kmip_frames.specs.Streams.{BeginsWithNoMessage, Stream}
-use Rattle.kmip_frames.proofs.Sizes.{fault_short}
-use Rattle.kmip_frames.proofs.SoFar.{nothing_so_far}
 use Rattle.kmip_store.specs.Stock.{Stock}
 use Rattle.kmip_commands.specs.AnswerText.{first_stock}
-use Rattle.kmip_commands.specs.Bytewise.{StreamState, is_over, piece_text, state_after_piece, tail_text}
-use Rattle.kmip_commands.specs.BytewiseLaws.{stays_over, stays_ready, nothing_waits}
+use Rattle.kmip_commands.specs.Bytewise.{StreamState, is_over, piece_text, state_after_piece, streams}
+use Rattle.kmip_commands.proofs.BytewiseLaws.{stays_over, stays_ready, nothing_waits}
 use Rattle.kmip_commands.proofs.RespondingLemmas.{read_on}
-use Rattle.kmip_commands.specs.Judging.{Saying, nothing, too_long, no_hex, message, saying_of, is_saying_refused, are_refused, has_refused}
+use Rattle.kmip_commands.specs.Judging.{Saying, nothing, too_long, no_hex, message, saying_of, is_saying_refused, are_refused, has_refused_line}
 use Rattle.kmip_commands.specs.Lines.{lines_of}
-use Rattle.kmip_commands.specs.LineText.{saying_text, state_after_saying, lines_text, state_after_lines, lines_read}
-use Rattle.kmip_commands.specs.StreamText.{piece_of, pieces_of, stream_of, replies_text, end_by, end_of, stream_refusal_text, end_text, is_refusal, is_whole_end, is_whole, stock_after_messages, GoesOn, IsPassedOver, IsTaken, IsTold, AreTold, IsWritten, IsAnswered, IsAllAnswered}
+use Rattle.kmip_commands.specs.LineText.{saying_text, state_after_saying, lines_text, state_after_lines, lines_read, input_read, Responds, RespondsTo, BreaksOffAt}
+use Rattle.kmip_commands.specs.Printing.{WroteFront}
+use Rattle.kmip_commands.specs.StreamText.{piece_of, pieces_of, stream_of, replies_text, end_by, end_of, stream_refusal_text, end_text, tail_text, is_refusal, is_whole_end, is_whole, stock_after_messages, GoesOn, IsPassedOver, IsTaken, IsTold, AreTold, IsWritten, IsAnswered, IsAllAnswered, IsStreamAnswered, IsBrokenOff}
 use Rattle.kmip_commands.specs.declared.streaming.InputEnd.{InputEnd}
 use Rattle.kmip_commands.specs.declared.streaming.InputEnd.TheVariants.{Whole, Cut, Refused}
 use Rattle.kmip_commands.specs.declared.streaming.StreamOutcome.{StreamOutcome}
-use Rattle.kmip_commands.proofs.AdvancingLemmas.{piece_text_joined, piece_behind_joined}
+use Rattle.kmip_commands.proofs.AdvancingLemmas.{piece_text_joined, piece_state_joined}
 use Rattle.kmip_commands.proofs.MessagesLemmas.{fault_text, IsStreamed, is_streamed}
 
 -- the line of a fault, from its parts
@@ -38,11 +38,11 @@ refusal_line fault number name p q =
 
 -- ---- the lines of the input
 
-saying_behind : (s : StreamState) (y : Saying) → state_after_saying state_after_piece s y ≡ state_after_piece s (piece_of y)
-saying_behind s nothing = refl
-saying_behind s too_long = refl
-saying_behind s no_hex = refl
-saying_behind s (message bytes) = refl
+saying_moved : (s : StreamState) (y : Saying) → state_after_saying state_after_piece s y ≡ state_after_piece s (piece_of y)
+saying_moved s nothing = refl
+saying_moved s too_long = refl
+saying_moved s no_hex = refl
+saying_moved s (message bytes) = refl
 
 saying_written : (s : StreamState) (y : Saying) → is_saying_refused (λ _. false) y ≡ false → saying_text piece_text s y ≡ piece_text s (piece_of y)
 saying_written s nothing none = refl
@@ -54,7 +54,7 @@ pub lines_moved : (s : StreamState) (lines : List (List ℕ)) → state_after_li
 lines_moved s [] = refl
 lines_moved s (line ∷ lines) =
     let piece = piece_of (saying_of line) in
-    ap (λ s'. state_after_lines state_after_piece s' lines) (saying_behind s (saying_of line)) ∙ lines_moved (state_after_piece s piece) lines ∙ sym (piece_behind_joined s piece (pieces_of lines))
+    ap (λ s'. state_after_lines state_after_piece s' lines) (saying_moved s (saying_of line)) ∙ lines_moved (state_after_piece s piece) lines ∙ sym (piece_state_joined s piece (pieces_of lines))
 
 none_first : (a b : Bool) → (a || b) ≡ false → (a ≡ false) × (b ≡ false)
 none_first true b none = absurd (true≢false none)
@@ -66,7 +66,7 @@ lines_written s (line ∷ lines) none =
     let y = saying_of line in
     let both = none_first _ _ none in
     ap (λ t. t ++ lines_text piece_text state_after_piece (state_after_saying state_after_piece s y) lines) (saying_written s y both.0)
-    ∙ ap (λ s'. piece_text s (piece_of y) ++ lines_text piece_text state_after_piece s' lines) (saying_behind s y)
+    ∙ ap (λ s'. piece_text s (piece_of y) ++ lines_text piece_text state_after_piece s' lines) (saying_moved s y)
     ∙ ap (λ t. piece_text s (piece_of y) ++ t) (lines_written (state_after_piece s (piece_of y)) lines both.1)
     ∙ sym (piece_text_joined s (piece_of y) (pieces_of lines))
 
@@ -94,7 +94,7 @@ not_over : (o : Option FrameFault) (left : ℕ) → is_refusal (end_by o left) �
 not_over (Some fault) left none = absurd (true≢false none)
 not_over None left none = refl
 
--- behind a fault no line changes anything
+-- after a fault no line changes anything
 over_moved : (s : StreamState) (lines : List (List ℕ)) → is_over s ≡ true → state_after_lines state_after_piece s lines ≡ s
 over_moved s lines over = lines_moved s lines ∙ (stays_over s (pieces_of lines) over).1
 
@@ -110,10 +110,10 @@ reads_all s (line ∷ lines) not = split (is_over after) refl (reads_all after l
     split : (b : Bool) → is_over after ≡ b → (is_over (state_after_lines state_after_piece after (lines_read state_after_piece is_over after lines)) ≡ false → lines_read state_after_piece is_over after lines ≡ lines)
         → lines_read state_after_piece is_over s (line ∷ lines) ≡ line ∷ lines
     split true is later =
-        let read = read_on state_after_piece is_over s after line line lines true refl refl is in
+        let read = read_on streams s after line line lines true refl refl is in
         absurd (true≢false (sym is ∙ sym (ap (λ l. is_over (state_after_lines state_after_piece s l)) read) ∙ not))
     split false is later =
-        let read = read_on state_after_piece is_over s after line line lines false refl refl is in
+        let read = read_on streams s after line line lines false refl refl is in
         read ∙ ap (λ l. line ∷ l) (later (sym (ap (λ l. is_over (state_after_lines state_after_piece s l)) read) ∙ not))
 
 -- where no line is refused, the lines that are not read would change nothing
@@ -126,8 +126,8 @@ read_moved s (line ∷ lines) = split (is_over after) refl (read_moved after lin
 
     split : (b : Bool) → is_over after ≡ b → state_after_lines state_after_piece after (lines_read state_after_piece is_over after lines) ≡ state_after_lines state_after_piece after lines
         → state_after_lines state_after_piece s (lines_read state_after_piece is_over s (line ∷ lines)) ≡ state_after_lines state_after_piece s (line ∷ lines)
-    split true is later = ap (state_after_lines state_after_piece s) (read_on state_after_piece is_over s after line line lines true refl refl is) ∙ sym (over_moved after lines is)
-    split false is later = ap (state_after_lines state_after_piece s) (read_on state_after_piece is_over s after line line lines false refl refl is) ∙ later
+    split true is later = ap (state_after_lines state_after_piece s) (read_on streams s after line line lines true refl refl is) ∙ sym (over_moved after lines is)
+    split false is later = ap (state_after_lines state_after_piece s) (read_on streams s after line line lines false refl refl is) ∙ later
 
 read_written : (s : StreamState) (lines : List (List ℕ)) → are_refused (λ _. false) lines ≡ false
     → lines_text piece_text state_after_piece s (lines_read state_after_piece is_over s lines) ≡ lines_text piece_text state_after_piece s lines
@@ -144,10 +144,10 @@ read_written s (line ∷ lines) none = split (is_over after) refl (read_written 
         → lines_text piece_text state_after_piece after (lines_read state_after_piece is_over after lines) ≡ lines_text piece_text state_after_piece after lines
         → lines_text piece_text state_after_piece s (lines_read state_after_piece is_over s (line ∷ lines)) ≡ lines_text piece_text state_after_piece s (line ∷ lines)
     split true is later =
-        ap (lines_text piece_text state_after_piece s) (read_on state_after_piece is_over s after line line lines true refl refl is)
+        ap (lines_text piece_text state_after_piece s) (read_on streams s after line line lines true refl refl is)
         ∙ ap (λ t. here ++ t) (sym (lines_written after lines (none_first _ _ none).1 ∙ (stays_over after (pieces_of lines) is).0))
     split false is later =
-        ap (lines_text piece_text state_after_piece s) (read_on state_after_piece is_over s after line line lines false refl refl is) ∙ ap (λ t. here ++ t) later
+        ap (lines_text piece_text state_after_piece s) (read_on streams s after line line lines false refl refl is) ∙ ap (λ t. here ++ t) later
 
 -- the first state, and the lines that are read from it
 abbrev start : StreamState
@@ -209,10 +209,10 @@ passed_over why lines later s text end refused more text_is end_is refused_is mo
   others = are_refused (λ _. false) more;
   text_is = text_is ∙ append_assoc why (lines_text piece_text state_after_piece s more) (tail_text end);
   is_refused = refused_is;
-  behind = later s _ end _ (ap (λ l. lines_text piece_text state_after_piece s l ++ tail_text end) more_is) (end_is ∙ ap (λ l. end_of (state_after_lines state_after_piece s l).1) more_is) (ap (are_refused (λ _. false)) more_is) lawful none;
+  goes_on = later s _ end _ (ap (λ l. lines_text piece_text state_after_piece s l ++ tail_text end) more_is) (end_is ∙ ap (λ l. end_of (state_after_lines state_after_piece s l).1) more_is) (ap (are_refused (λ _. false)) more_is) lawful none;
 }
 
--- a piece, and the lines behind it
+-- a piece, and the lines after it
 taken_piece : (piece : List ℕ) (lines : List (List ℕ)) → Told lines → (s : StreamState) (text : List ℕ) (end : InputEnd) (refused : Bool) (more : List (List ℕ))
     → text ≡ (piece_text s piece ++ lines_text piece_text state_after_piece (state_after_piece s piece) more) ++ tail_text end
     → end ≡ end_of (state_after_lines state_after_piece (state_after_piece s piece) more).1 → refused ≡ are_refused (λ _. false) more
@@ -227,7 +227,7 @@ taken_piece piece lines later s text end refused more text_is end_is refused_is 
       text_is =
           text_is ∙ ap (λ t. (t ++ lines_text piece_text state_after_piece after more) ++ tail_text end) run.texts
           ∙ four (replies_text s.0 run.more) (fault_text (fault_in after.1)) (lines_text piece_text state_after_piece after more) (tail_text end);
-      behind = split (fault_in after.1) refl;
+      goes_on = split (fault_in after.1) refl;
     }
   where
     after : StreamState
@@ -295,40 +295,144 @@ are_told (line ∷ lines) s text end refused text_is end_is refused_is lawful no
     let more = cond (is_over after) [] (lines_read state_after_piece is_over after lines) in
     told_line y lines (are_told lines) s text end refused more text_is end_is refused_is refl lawful none
 
+-- the lines that are read are a front of all lines, and read again they are the same
+read_front : (s : StreamState) (lines : List (List ℕ)) → (rest : List (List ℕ)) × (lines_read state_after_piece is_over s lines ++ rest ≡ lines)
+read_front s [] = ([], refl)
+read_front s (line ∷ lines) = split (is_over after) refl (read_front after lines)
+  where
+    after : StreamState
+    after = state_after_saying state_after_piece s (saying_of line)
+
+    split : (b : Bool) → is_over after ≡ b → (rest : List (List ℕ)) × (lines_read state_after_piece is_over after lines ++ rest ≡ lines)
+        → (rest : List (List ℕ)) × (lines_read state_after_piece is_over s (line ∷ lines) ++ rest ≡ line ∷ lines)
+    split true is later = (lines, ap (λ l. l ++ lines) (read_on streams s after line line lines true refl refl is))
+    split false is later = (later.0, ap (λ l. l ++ later.0) (read_on streams s after line line lines false refl refl is) ∙ ap (λ l. line ∷ l) later.1)
+
+read_again : (s : StreamState) (lines front rest : List (List ℕ)) → lines_read state_after_piece is_over s lines ≡ front ++ rest
+    → lines_read state_after_piece is_over s front ≡ front
+read_again s lines [] rest is = refl
+read_again s [] (line ∷ front) rest is = absurd cc
+read_again s (first ∷ lines) (line ∷ front) rest is = split (is_over after) refl (read_again after lines front rest)
+  where
+    after : StreamState
+    after = state_after_saying state_after_piece s (saying_of line)
+
+    same : first ≡ line
+    same = cc
+
+    others : cond (is_over after) [] (lines_read state_after_piece is_over after lines) ≡ front ++ rest
+    others = let tail : cond (is_over (state_after_saying state_after_piece s (saying_of first))) [] (lines_read state_after_piece is_over (state_after_saying state_after_piece s (saying_of first)) lines) ≡ front ++ rest = cc in
+        subst (λ l. cond (is_over (state_after_saying state_after_piece s (saying_of l))) [] (lines_read state_after_piece is_over (state_after_saying state_after_piece s (saying_of l)) lines) ≡ front ++ rest) same tail
+
+    none_left : (front rest : List (List ℕ)) → [] ≡ front ++ rest → front ≡ []
+    none_left [] rest is = refl
+    none_left (x ∷ front) rest is = absurd cc
+
+    split : (b : Bool) → is_over after ≡ b → (lines_read state_after_piece is_over after lines ≡ front ++ rest → lines_read state_after_piece is_over after front ≡ front)
+        → lines_read state_after_piece is_over s (line ∷ front) ≡ line ∷ front
+    split true is later =
+        let none : front ≡ [] = none_left front rest (sym (ap (λ b. cond b [] (lines_read state_after_piece is_over after lines)) is) ∙ others) in
+        read_on streams s after line line front true refl refl is ∙ ap (λ l. line ∷ l) (sym none)
+    split false is later =
+        read_on streams s after line line front false refl refl is
+        ∙ ap (λ l. line ∷ l) (later (sym (ap (λ b. cond b [] (lines_read state_after_piece is_over after lines)) is) ∙ others))
+
+-- what is said of lines all of which are read
+told_all : (lines : List (List ℕ)) (text : List ℕ) (end : InputEnd) (refused : Bool)
+    → text ≡ lines_text piece_text state_after_piece start (lines_read state_after_piece is_over start lines) ++ tail_text end
+    → end ≡ end_of (state_after_lines state_after_piece start (lines_read state_after_piece is_over start lines)).1
+    → refused ≡ are_refused (λ _. false) (lines_read state_after_piece is_over start lines) → AreTold lines first_stock [] text end refused
+told_all lines text end refused text_is end_is refused_is =
+    are_told lines start text end refused text_is end_is refused_is (fault_short [] (omega arith)) nothing_waits
+
+-- from the first state on
+from_start : (stock : Stock) (held : List ℕ) → (stock ≡ first_stock) × (held ≡ []) → (P : StreamState → Type 0) → P (stock, held) → P start
+from_start stock held first P p = subst P (ap (λ r. (r, held)) first.0 ∙ ap (λ h. (first_stock, h)) first.1) p
+
 pub stream_written : (read : Option (List ℕ)) (outcome : StreamOutcome) (stock : Stock) (held : List ℕ) (state : StreamState) (old mid new : Option (List ℕ))
-    → (stock ≡ first_stock) × (held ≡ [])
-    → IfSome read (λ input. Appends old mid (lines_text piece_text state_after_piece (stock, held) (lines_read state_after_piece is_over (stock, held) (lines_of input))))
-    → IfSome read (λ input. state ≡ state_after_lines state_after_piece (stock, held) (lines_read state_after_piece is_over (stock, held) (lines_of input)))
-    → IfSome read (λ input. outcome.has_refused ≡ are_refused (λ _. false) (lines_read state_after_piece is_over (stock, held) (lines_of input)))
+    → (stock ≡ first_stock) × (held ≡ []) → RespondsTo streams read (stock, held) state old mid outcome.has_refused
     → outcome.end ≡ end_of state.1 → Appends mid new (tail_text outcome.end)
     → IfSome read (λ input. IsWritten input outcome old new)
-stream_written None outcome stock held state old mid new first written state_is refused_is end_is tail = tt
-stream_written (Some input) outcome stock held state old mid new first written state_is refused_is end_is tail =
-    let s : StreamState = (stock, held) in
-    let text = lines_text piece_text state_after_piece s (lines_read state_after_piece is_over s (lines_of input)) ++ tail_text outcome.end in
-    let lawful = ap fault_in first.1 ∙ fault_short [] (omega arith) in
-    let told = are_told (lines_of input) s text outcome.end outcome.has_refused refl (end_is ∙ ap (λ x. end_of x.1) state_is) refused_is lawful (subst BeginsWithNoMessage (sym first.1) nothing_waits) in
+stream_written None outcome stock held state old mid new first is end_is tail = tt
+stream_written (Some input) outcome stock held state old mid new first is end_is tail =
+    let all = from_start stock held first (λ s. Responds streams (input_read streams s input) s state old mid outcome.has_refused) is in
+    let text = lines_text piece_text state_after_piece start (input_read streams start input) ++ tail_text outcome.end in
     record {
       text = text;
-      written = Appends-trans old mid new _ (tail_text outcome.end) written tail;
-      told = subst (λ h. AreTold (lines_of input) first_stock h text outcome.end outcome.has_refused) first.1 (subst (λ r. AreTold (lines_of input) r held text outcome.end outcome.has_refused) first.0 told);
+      written = Appends-trans old mid new _ (tail_text outcome.end) all.text_is tail;
+      told = told_all (lines_of input) text outcome.end outcome.has_refused refl (end_is ∙ ap (λ s. end_of s.1) all.state_is) all.refused_is;
     }
 
 pub stream_answered : (read : Option (List ℕ)) (outcome : StreamOutcome) (stock : Stock) (held : List ℕ) (state : StreamState) (old mid new : Option (List ℕ))
-    → (stock ≡ first_stock) × (held ≡ [])
-    → IfSome read (λ input. Appends old mid (lines_text piece_text state_after_piece (stock, held) (lines_read state_after_piece is_over (stock, held) (lines_of input))))
-    → IfSome read (λ input. state ≡ state_after_lines state_after_piece (stock, held) (lines_read state_after_piece is_over (stock, held) (lines_of input)))
-    → IfSome read (λ input. outcome.has_refused ≡ are_refused (λ _. false) (lines_read state_after_piece is_over (stock, held) (lines_of input)))
+    → (stock ≡ first_stock) × (held ≡ []) → RespondsTo streams read (stock, held) state old mid outcome.has_refused
     → outcome.end ≡ end_of state.1 → Appends mid new (tail_text outcome.end)
     → IfSome read (λ input. IsAnswered input outcome old new)
-stream_answered None outcome stock held state old mid new first written state_is refused_is end_is tail = tt
-stream_answered (Some input) outcome stock held state old mid new first written state_is refused_is end_is tail =
-    let is : (stock, held) ≡ start = ap (λ r. (r, held)) first.0 ∙ ap (λ h. (first_stock, h)) first.1 in
-    answered_whole input outcome state old mid new
-    (subst (λ (s : StreamState). Appends old mid (lines_text piece_text state_after_piece s (lines_read state_after_piece is_over s (lines_of input)))) is written)
-    (subst (λ (s : StreamState). state ≡ state_after_lines state_after_piece s (lines_read state_after_piece is_over s (lines_of input))) is state_is)
-    (subst (λ (s : StreamState). outcome.has_refused ≡ are_refused (λ _. false) (lines_read state_after_piece is_over s (lines_of input))) is refused_is)
-    end_is tail
+stream_answered None outcome stock held state old mid new first is end_is tail = tt
+stream_answered (Some input) outcome stock held state old mid new first is end_is tail =
+    let all = from_start stock held first (λ s. Responds streams (input_read streams s input) s state old mid outcome.has_refused) is in
+    answered_whole input outcome state old mid new all.text_is all.state_is all.refused_is end_is tail
+
+-- ---- a stream that broke off
+
+broken_off : (input tail : List ℕ) (old new : Option (List ℕ))
+    → WroteFront (lines_text piece_text state_after_piece start) (input_read streams start input) tail old new → IsBrokenOff input tail old new
+broken_off input tail old new w =
+    let all = read_front start (lines_of input) in
+    let again = read_again start (lines_of input) w.front w.rest w.whole in
+    let end = end_of (state_after_lines state_after_piece start (lines_read state_after_piece is_over start w.front)).1 in
+    record {
+      front = w.front;
+      rest = w.rest ++ all.0;
+      lines = sym all.1 ∙ ap (λ l. l ++ all.0) w.whole ∙ append_assoc w.front w.rest all.0;
+      text = lines_text piece_text state_after_piece start w.front;
+      end = end;
+      refused = are_refused (λ _. false) (lines_read state_after_piece is_over start w.front);
+      told = told_all w.front (lines_text piece_text state_after_piece start w.front ++ tail_text end) end (are_refused (λ _. false) (lines_read state_after_piece is_over start w.front))
+          (ap (λ l. lines_text piece_text state_after_piece start l ++ tail_text end) (sym again)) refl refl;
+      written = w.written;
+    }
+
+-- no line was read
+pub broken_first : (read old : Option (List ℕ)) → IfSome read (λ input. IsBrokenOff input [] old old)
+broken_first None old = tt
+broken_first (Some input) old =
+    broken_off input [] old old (record { front = []; rest = input_read streams start input; whole = refl; written = Appends-nil old })
+
+-- among the lines
+pub broken_among : (read : Option (List ℕ)) (stock : Stock) (held : List ℕ) (old new : Option (List ℕ)) → (stock ≡ first_stock) × (held ≡ [])
+    → BreaksOffAt streams read (stock, held) old new → IfSome read (λ input. IsBrokenOff input [] old new)
+broken_among None stock held old new first is = tt
+broken_among (Some input) stock held old new first is =
+    broken_off input [] old new (from_start stock held first (λ s. WroteFront (lines_text piece_text state_after_piece s) (input_read streams s input) [] old new) is)
+
+-- after the lines
+pub broken_last : (read : Option (List ℕ)) (stock : Stock) (held : List ℕ) (state : StreamState) (old new : Option (List ℕ)) (refused : Bool)
+    → (stock ≡ first_stock) × (held ≡ []) → RespondsTo streams read (stock, held) state old new refused → IfSome read (λ input. IsBrokenOff input [] old new)
+broken_last None stock held state old new refused first is = tt
+broken_last (Some input) stock held state old new refused first is =
+    let all = from_start stock held first (λ s. Responds streams (input_read streams s input) s state old new refused) is in
+    let text = lines_text piece_text state_after_piece start (input_read streams start input) in
+    broken_off input [] old new (record {
+      front = input_read streams start input;
+      rest = [];
+      whole = sym (append-nil (input_read streams start input));
+      written = subst (Appends old new) (sym (append-nil text)) all.text_is;
+    })
+
+-- and then the line of a fault
+pub broken_line : (read old mid new : Option (List ℕ)) (line : List ℕ) → IfSome read (λ input. IsBrokenOff input [] old mid) → Appends mid new line
+    → IfSome read (λ input. IsBrokenOff input line old new)
+broken_line None old mid new line is more = tt
+broken_line (Some input) old mid new line is more = record {
+  front = is.front;
+  rest = is.rest;
+  lines = is.lines;
+  text = is.text;
+  end = is.end;
+  refused = is.refused;
+  told = is.told;
+  written = subst (λ t. Appends old new (t ++ line)) (append-nil is.text) (Appends-trans old mid new (is.text ++ []) line is.written more);
+}
 
 -- where nothing was refused and the stream is whole, it is messages to its end
 whole_rest : (rest : List ℕ) (o : Option FrameFault) → is_whole_end (end_by o (length rest)) ≡ true → rest ≡ []
@@ -355,7 +459,7 @@ all_answered input outcome old new whole is =
     let parts = whole_parts outcome.has_refused (is_whole_end outcome.end) whole in
     let end = whole_end outcome.end parts.1 in
     let none = whole_rest is.rest (fault_in is.rest) (ap is_whole_end (sym is.end) ∙ parts.1) in
-    let lines : has_refused (λ _. false) input ≡ false = sym (is.lines (ap is_refusal end)) ∙ parts.0 in
+    let lines : has_refused_line input ≡ false = sym (is.lines (ap is_refusal end)) ∙ parts.0 in
     record {
       messages = is.messages;
       stream = subst (Stream (stream_of input) is.messages) none is.stream;
@@ -363,7 +467,8 @@ all_answered input outcome old new whole is =
       text = subst (Appends old new) (ap (λ e. replies_text first_stock is.messages ++ end_text e) end ∙ append-nil (replies_text first_stock is.messages)) (is.text lines);
     }
 
-pub any_answered : (read : Option (List ℕ)) (outcome : StreamOutcome) (old new : Option (List ℕ)) → not (is_whole outcome) ≡ false
-    → IfSome read (λ input. IsAnswered input outcome old new) → IfSome read (λ input. IsAllAnswered input old new)
-any_answered None outcome old new whole is = tt
-any_answered (Some input) outcome old new whole is = all_answered input outcome old new whole is
+pub any_answered : (read : Option (List ℕ)) (outcome : StreamOutcome) (old new : Option (List ℕ)) (refused : Bool) → refused ≡ not (is_whole outcome)
+    → IfSome read (λ input. IsWritten input outcome old new) → IfSome read (λ input. IsAnswered input outcome old new) → IsStreamAnswered read old new refused
+any_answered None outcome old new refused is lines stream = tt
+any_answered (Some input) outcome old new refused is lines stream =
+    record { outcome = outcome; refused_is = is; lines = lines; stream = stream; whole = λ none. all_answered input outcome old new (sym is ∙ none) stream }

@@ -1,10 +1,10 @@
 -- What `answer` writes for its whole input.
 -- Source: own: what the program prints.
-use Rattle.std.specs.Prelude.{ℕ, pos, List, [], ◌∷◌, ◌++◌, replicate}
+use Rattle.std.specs.Prelude.{ℕ, pos, false, List, [], ◌∷◌, ◌++◌, replicate}
 use Rattle.hex.specs.Hex.{encode_lower}
 use Rattle.kmip_store.specs.Stock.{Stock, empty_stock}
 use Rattle.kmip_server.specs.Serving.{reply_bytes, stock_after}
-use Rattle.kmip_commands.specs.LineText.{input_text}
+use Rattle.kmip_commands.specs.LineText.{Response, lines_text, input_text}
 
 -- what is written for a message: the server's reply in hexadecimal, and a line feed
 abbrev pub reply_text : Stock → List ℕ → List ℕ
@@ -14,6 +14,13 @@ reply_text stock message = encode_lower (reply_bytes stock message (pos 0)) ++ 1
 abbrev pub first_stock : Stock
 first_stock = empty_stock (replicate 32 0) 10000
 
--- the replies of one server, each to a message as the messages before it left the records
+-- the replies of one server to lines, each to a message as the messages before it left the records
+abbrev pub answer_lines : List (List ℕ) → List ℕ
+answer_lines lines = lines_text reply_text stock_after first_stock lines
+
 abbrev pub answer_text : List ℕ → List ℕ
 answer_text input = input_text reply_text stock_after first_stock input
+
+-- Private: how `answer` responds
+abbrev pub answers : Response Stock
+answers = record { text = reply_text; after = stock_after; refuses = λ _. false; over = λ _. false }

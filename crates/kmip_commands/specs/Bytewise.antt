@@ -1,4 +1,5 @@
--- `answer --stream` byte by byte, for its proof: no public contract names it.
+-- Private: `answer --stream` byte by byte, for its proof; no public contract names it.
+-- Source: own: how the proof sees the code.
 use Rattle.std.specs.Prelude.{ℕ, ◌==◌, Bool, true, false, if◌then◌else◌, List, [], ◌∷◌, ◌++◌, length, Option, Some, None, is_some}
 use Rattle.kmip_frames.specs.Framing.{fault_in, size_needed}
 use Rattle.kmip_frames.specs.Streams.{BeginsWithNoMessage}
@@ -6,9 +7,8 @@ use Rattle.kmip_frames.specs.declared.fault.FrameFault.{FrameFault}
 use Rattle.kmip_store.specs.Stock.{Stock}
 use Rattle.kmip_server.specs.Serving.{stock_after}
 use Rattle.kmip_commands.specs.AnswerText.{reply_text}
-use Rattle.kmip_commands.specs.StreamText.{stream_refusal_text, cut_text}
-use Rattle.kmip_commands.specs.declared.streaming.InputEnd.{InputEnd}
-use Rattle.kmip_commands.specs.declared.streaming.InputEnd.TheVariants.{Whole, Cut, Refused}
+use Rattle.kmip_commands.specs.LineText.{Response}
+use Rattle.kmip_commands.specs.StreamText.{stream_refusal_text}
 
 -- the records, and the bytes that the framer holds
 abbrev pub StreamState : Type 0
@@ -34,7 +34,7 @@ made (Some fault) whole stock held = (stock, held)
 made None true stock held = (stock_after stock held, [])
 made None false stock held = (stock, held)
 
--- what is written for a byte, and the state behind it
+-- what is written for a byte, and the state after it
 abbrev pub byte_text : StreamState → ℕ → List ℕ
 byte_text s b =
     if is_over s then []
@@ -45,7 +45,7 @@ state_after_byte s b =
     if is_over s then s
     else made (fault_in (s.1 ++ b ∷ [])) (length (s.1 ++ b ∷ []) == size_needed (s.1 ++ b ∷ [])) s.0 (s.1 ++ b ∷ [])
 
--- what is written for the bytes of a piece, and the state behind them
+-- what is written for the bytes of a piece, and the state after them
 abbrev pub piece_text : StreamState → List ℕ → List ℕ
 piece_text s [] = []
 piece_text s (b ∷ bytes) = byte_text s b ++ piece_text (state_after_byte s b) bytes
@@ -54,8 +54,6 @@ abbrev pub state_after_piece : StreamState → List ℕ → StreamState
 state_after_piece s [] = s
 state_after_piece s (b ∷ bytes) = state_after_piece (state_after_byte s b) bytes
 
--- what is written once the lines have ended: a fault was written when it came
-abbrev pub tail_text : InputEnd → List ℕ
-tail_text Whole = []
-tail_text (Cut left) = cut_text left
-tail_text (Refused fault) = []
+-- how `answer --stream` responds to a piece
+abbrev pub streams : Response StreamState
+streams = record { text = piece_text; after = state_after_piece; refuses = λ _. false; over = is_over }

@@ -5,6 +5,7 @@ use Rattle.std.specs.Fmt.{decimal, signed_decimal}
 use Rattle.std.specs.Int.{w32, cast_unsigned, to_be_bytes}
 use Rattle.std.specs.List.{flat_map}
 use Rattle.hex.specs.Hex.{encode_lower}
+use Rattle.kmip_ttlv.specs.Showing.{plain_text}
 use Rattle.kmip_messages.specs.Lifecycle.{step_word}
 use Rattle.kmip_messages.specs.declared.step.Step.{Step}
 use Rattle.kmip_plan.specs.Chains.{chain}
@@ -49,10 +50,10 @@ key_text key =
 abbrev pub keys_text : List Key → List ℕ
 keys_text keys = flat_map key_text keys
 
--- a space and the field at fault, where there is one
+-- a space and the field at fault in plain characters, where there is one: a plan's own words forge no line
 abbrev pub field_text : Option (List ℕ) → List ℕ
 field_text None = []
-field_text (Some word) = codes " " ++ word
+field_text (Some word) = codes " " ++ plain_text word
 
 -- the place of the key at fault, where there is one
 abbrev pub key_place_text : Option ℕ → List ℕ
@@ -80,7 +81,7 @@ abbrev pub is_plan_refused : Result (List Key) PlanFault → Bool
 is_plan_refused (Ok keys) = false
 is_plan_refused (Err fault) = true
 
--- want of memory is no refusal
+-- Private: want of memory is no refusal
 abbrev pub is_memory : PlanFault → Bool
 is_memory NoMemory = true
 is_memory fault = false

@@ -5,8 +5,7 @@ use Rattle.hex.specs.declared.error.FromHexError.{FromHexError}
 use Rattle.hex.specs.Hex.{decode_of}
 use Rattle.kmip_commands.specs.declared.judging.Judged.{Judged}
 use Rattle.kmip_commands.specs.declared.judging.Judged.TheVariants.{Empty, Long, NotHex, Message}
-use Rattle.kmip_commands.specs.declared.lines.TheConstants.{MOST_DIGITS}
-use Rattle.kmip_commands.specs.Lines.{lines_of}
+use Rattle.kmip_commands.specs.Lines.{lines_of, most_digits}
 
 -- what a line says: nothing, too much to be looked at, no hexadecimal, or a message
 pub data Saying : Type 0 where
@@ -23,10 +22,10 @@ saying_decoded (Err fault) = no_hex
 abbrev pub saying_of : List ℕ → Saying
 saying_of line =
     if length line == 0 then nothing
-    else if nat_lt MOST_DIGITS (length line) then too_long
+    else if nat_lt most_digits (length line) then too_long
     else saying_decoded (decode_of line)
 
--- what is judged, as a contract sees it
+-- Private: what is judged, as a contract sees it
 abbrev pub judge : Judged → Saying
 judge Empty = nothing
 judge Long = too_long
@@ -48,3 +47,7 @@ are_refused refuses (line ∷ lines) = is_saying_refused refuses (saying_of line
 -- whether a line of the input is refused
 abbrev pub has_refused : (List ℕ → Bool) → List ℕ → Bool
 has_refused refuses input = are_refused refuses (lines_of input)
+
+-- whether a line of the input is no message; no message is refused
+abbrev pub has_refused_line : List ℕ → Bool
+has_refused_line input = has_refused (λ _. false) input

@@ -1,10 +1,9 @@
 pub mod AnswerText
 pub mod Bytewise
-pub mod BytewiseLaws
 pub mod Checking
-pub mod ExitStatus
 pub mod Judging
 pub mod LineText
 pub mod Lines
+pub mod Printing
 pub mod Showing
 pub mod StreamText

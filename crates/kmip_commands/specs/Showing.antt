@@ -1,33 +1,35 @@
 -- What `show` writes for a message, and which messages it refuses.
 -- Source: own: what the program prints.
-use Rattle.std.specs.Prelude.{ℕ, ◌==◌, Bool, true, not, List, [], ◌∷◌, ◌++◌, length, codes, if◌then◌else◌, Option, Some, None, Result, Ok, Err}
+use Rattle.std.specs.Prelude.{ℕ, ◌==◌, Bool, true, false, not, List, [], ◌∷◌, ◌++◌, length, codes, if◌then◌else◌, Option, Some, None, Result, Ok, Err}
 use Rattle.std.specs.Fmt.{decimal}
 use Rattle.hex.specs.Hex.{encode_lower}
 use Rattle.kmip_ttlv.specs.declared.fault.TtlvFault.{TtlvFault}
 use Rattle.kmip_ttlv.specs.Faults.{fault_number, fault_name, fault_offset}
+use Rattle.kmip_ttlv.specs.Limits.{most_levels}
 use Rattle.kmip_ttlv.specs.Node.{Node}
 use Rattle.kmip_ttlv.specs.Reading.{item_at}
 use Rattle.kmip_ttlv.specs.Showing.{shown_text}
 use Rattle.kmip_ttlv.specs.Spelling.{canon}
 use Rattle.kmip_commands.specs.declared.showing.Form.{Form}
 use Rattle.kmip_commands.specs.declared.showing.Form.TheVariants.{Text, Canonical}
-use Rattle.kmip_commands.specs.LineText.{input_text}
+use Rattle.kmip_commands.specs.Judging.{has_refused}
+use Rattle.kmip_commands.specs.LineText.{Response, lines_text, input_text}
 
--- no item was read, or bytes stand behind it
+-- no item was read, or bytes stand after it
 abbrev pub leaves_bytes : ℕ → Result (Node × ℕ) TtlvFault → Bool
 leaves_bytes len (Ok x) = not (x.1 == len)
 leaves_bytes len (Err fault) = true
 
 -- the bytes are not one item
 unfoldable pub is_no_item : List ℕ → Bool
-is_no_item bytes = leaves_bytes (length bytes) (item_at 16 0 bytes)
+is_no_item bytes = leaves_bytes (length bytes) (item_at most_levels 0 bytes)
 
 -- an item as lines of text, or its one written form in hexadecimal and a line feed
 abbrev pub item_text : Form → Node → List ℕ
 item_text Text item = shown_text item
 item_text Canonical item = encode_lower (canon item) ++ 10 ∷ []
 
--- that bytes stand behind an item of this size
+-- that bytes stand after an item of this size
 unfoldable pub extra_text : ℕ → List ℕ
 extra_text size = codes "refused: extra at " ++ decimal size ++ codes "\n"
 
@@ -47,8 +49,19 @@ text_of_read form len (Err fault) = fault_text fault
 
 -- what is written for a message
 unfoldable pub show_text : Form → List ℕ → List ℕ
-show_text form bytes = text_of_read form (length bytes) (item_at 16 0 bytes)
+show_text form bytes = text_of_read form (length bytes) (item_at most_levels 0 bytes)
 
--- what `show` writes for its whole input: no message changes what is written for the next
+-- Private: how `show` responds: no message changes what is written for the next
+abbrev pub shows : Response Form
+shows = record { text = show_text; after = λ form message. form; refuses = is_no_item; over = λ _. false }
+
+-- what `show` writes for lines, and for its whole input
+abbrev pub shown_lines : Form → List (List ℕ) → List ℕ
+shown_lines form lines = lines_text show_text (λ form message. form) form lines
+
 abbrev pub shown_input : Form → List ℕ → List ℕ
 shown_input form input = input_text show_text (λ form message. form) form input
+
+-- whether a line of the input is no message, or no item
+abbrev pub has_no_item : List ℕ → Bool
+has_no_item input = has_refused is_no_item input

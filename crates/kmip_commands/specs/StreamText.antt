@@ -1,6 +1,6 @@
 -- What `answer --stream` writes, whose lines are pieces of one stream of messages, and how it ends.
 -- Source: own: what the program prints.
-use Rattle.std.specs.Prelude.{◌≡◌, ◌==◌, ℕ, Bool, true, false, not, ◌&&◌, if◌then◌else◌, List, [], ◌∷◌, ◌++◌, length, codes, Option, Some, None}
+use Rattle.std.specs.Prelude.{◌≡◌, ◌==◌, ℕ, Bool, true, false, not, ◌&&◌, if◌then◌else◌, List, [], ◌∷◌, ◌++◌, length, codes, Option, Some, None, IfSome}
 use Rattle.std.specs.Fmt.{decimal}
 use Rattle.std.specs.Io.KnownBytes.{Appends}
 use Rattle.std.specs.List.{flat_map}
@@ -11,7 +11,7 @@ use Rattle.kmip_frames.specs.declared.fault.FrameFault.{FrameFault}
 use Rattle.kmip_store.specs.Stock.{Stock}
 use Rattle.kmip_server.specs.Serving.{stock_after}
 use Rattle.kmip_commands.specs.AnswerText.{first_stock, reply_text}
-use Rattle.kmip_commands.specs.Judging.{Saying, nothing, too_long, no_hex, message, saying_of, has_refused}
+use Rattle.kmip_commands.specs.Judging.{Saying, nothing, too_long, no_hex, message, saying_of, has_refused_line}
 use Rattle.kmip_commands.specs.Lines.{lines_of}
 use Rattle.kmip_commands.specs.declared.streaming.InputEnd.{InputEnd}
 use Rattle.kmip_commands.specs.declared.streaming.InputEnd.TheVariants.{Whole, Cut, Refused}
@@ -60,7 +60,13 @@ end_text Whole = []
 end_text (Cut left) = cut_text left
 end_text (Refused fault) = stream_refusal_text fault
 
--- the lines behind a fault are not looked at
+-- what is written once the lines have ended: a fault was written when it came
+abbrev pub tail_text : InputEnd → List ℕ
+tail_text Whole = []
+tail_text (Cut left) = cut_text left
+tail_text (Refused fault) = []
+
+-- the lines after a fault are not looked at
 abbrev pub is_refusal : InputEnd → Bool
 is_refusal Whole = false
 is_refusal (Cut left) = false
@@ -75,7 +81,7 @@ is_whole_end (Refused fault) = false
 abbrev pub is_whole : StreamOutcome → Bool
 is_whole outcome = not outcome.has_refused && is_whole_end outcome.end
 
--- the records behind messages in turn
+-- the records after messages in turn
 abbrev pub stock_after_messages : Stock → List (List ℕ) → Stock
 stock_after_messages stock [] = stock
 stock_after_messages stock (m ∷ messages) = stock_after_messages (stock_after stock m) messages
@@ -85,15 +91,15 @@ stock_after_messages stock (m ∷ messages) = stock_after_messages (stock_after 
 abbrev pub Telling : Type 1
 Telling = Stock → List ℕ → List ℕ → InputEnd → Bool → Type 0
 
--- a refused line says why, and the stream goes on behind it
+-- a refused line says why, and the stream goes on after it
 pub record IsPassedOver (why : List ℕ) (later : Telling) (stock : Stock) (held text : List ℕ) (end : InputEnd) (refused : Bool) : Type 0 where
   pub more : List ℕ
   pub others : Bool
   pub text_is : text ≡ why ++ more
   pub is_refused : refused ≡ true
-  pub behind : later stock held more end others
+  pub goes_on : later stock held more end others
 
--- what comes behind a piece: no line is looked at behind a fault
+-- what comes after a piece: no line is looked at after a fault
 abbrev pub GoesOn : Option FrameFault → Telling → Telling
 GoesOn (Some fault) later stock held text end refused = (text ≡ stream_refusal_text fault) × (end ≡ Refused fault) × (refused ≡ false)
 GoesOn None later stock held text end refused = later stock held text end refused
@@ -105,7 +111,7 @@ pub record IsTaken (piece : List ℕ) (later : Telling) (stock : Stock) (held te
   pub more : List ℕ
   pub stream : Stream (held ++ piece) messages rest
   pub text_is : text ≡ replies_text stock messages ++ more
-  pub behind : GoesOn (fault_in rest) later (stock_after_messages stock messages) rest more end refused
+  pub goes_on : GoesOn (fault_in rest) later (stock_after_messages stock messages) rest more end refused
 
 abbrev pub IsTold : Saying → Telling → Telling
 IsTold nothing later = later
@@ -113,7 +119,7 @@ IsTold too_long later = IsPassedOver (codes "refused: length\n") later
 IsTold no_hex later = IsPassedOver (codes "refused: hex\n") later
 IsTold (message piece) later = IsTaken piece later
 
--- the lines one after the other, and behind the last the end of the stream
+-- the lines one after the other, and after the last the end of the stream
 abbrev pub AreTold : List (List ℕ) → Telling
 AreTold [] stock held text end refused = (text ≡ end_text end) × (end ≡ end_of held) × (refused ≡ false)
 AreTold (line ∷ lines) stock held text end refused = IsTold (saying_of line) (AreTold lines) stock held text end refused
@@ -131,12 +137,36 @@ pub record IsAnswered (input : List ℕ) (outcome : StreamOutcome) (old new : Op
   pub rest : List ℕ
   pub stream : Stream (stream_of input) messages rest
   pub end : outcome.end ≡ end_of rest
-  pub lines : is_refusal outcome.end ≡ false → outcome.has_refused ≡ has_refused (λ _. false) input
-  pub text : has_refused (λ _. false) input ≡ false → Appends old new (replies_text first_stock messages ++ end_text outcome.end)
+  pub lines : is_refusal outcome.end ≡ false → outcome.has_refused ≡ has_refused_line input
+  pub text : has_refused_line input ≡ false → Appends old new (replies_text first_stock messages ++ end_text outcome.end)
 
 -- No line is refused, the stream is messages to its end, and the replies to them are all that was written.
 pub record IsAllAnswered (input : List ℕ) (old new : Option (List ℕ)) : Type 0 where
   pub messages : List (List ℕ)
   pub stream : Stream (stream_of input) messages []
-  pub lines : has_refused (λ _. false) input ≡ false
+  pub lines : has_refused_line input ≡ false
   pub text : Appends old new (replies_text first_stock messages)
+
+-- The stream was answered, and `refused` says whether a line was refused, or the stream refused or cut.
+pub record IsStreamAnsweredAs (input : List ℕ) (old new : Option (List ℕ)) (refused : Bool) : Type 0 where
+  pub outcome : StreamOutcome
+  pub refused_is : refused ≡ not (is_whole outcome)
+  pub lines : IsWritten input outcome old new
+  pub stream : IsAnswered input outcome old new
+  pub whole : refused ≡ false → IsAllAnswered input old new
+
+-- the same of what was read
+abbrev pub IsStreamAnswered : Option (List ℕ) → Option (List ℕ) → Option (List ℕ) → Bool → Type 0
+IsStreamAnswered read old new refused = IfSome read (λ input. IsStreamAnsweredAs input old new refused)
+
+-- It broke off after some of the lines: what was written is what is written for these alone, but for the line of a cut at
+-- their end, and then `tail`.
+pub record IsBrokenOff (input tail : List ℕ) (old new : Option (List ℕ)) : Type 0 where
+  pub front : List (List ℕ)
+  pub rest : List (List ℕ)
+  pub lines : lines_of input ≡ front ++ rest
+  pub text : List ℕ
+  pub end : InputEnd
+  pub refused : Bool
+  pub told : AreTold front first_stock [] (text ++ tail_text end) end refused
+  pub written : Appends old new (text ++ tail)

@@ -1,18 +1,20 @@
 //! The command `answer`: each line of its input is a message in hexadecimal, and each reply of one
 //! server a line of its output.
-ghost use Rattle.std.specs.Prelude.{◌≡◌, false, IfOk, OnOk, IfSome};
-ghost use Rattle.std.specs.Io.KnownBytes.{Appends};
+ghost use Rattle.std.specs.Prelude.{◌≡◌, ◌++◌, [], Some, IfOk, OnOk, IfErr, OnErr};
 ghost use Rattle.kmip_store.specs.Stock.{Stock};
 ghost use Rattle.kmip_server.specs.Serving.{stock_after};
-ghost use Rattle.kmip_commands.specs.declared.exit_status.ExitStatus.TheVariants.{Done};
-ghost use Rattle.kmip_commands.specs.AnswerText.{answer_text, first_stock, reply_text};
-ghost use Rattle.kmip_commands.specs.Judging.{has_refused};
+ghost use Rattle.kmip_commands.specs.AnswerText.{answer_lines, answer_text, answers, first_stock, reply_text};
+ghost use Rattle.kmip_commands.specs.Judging.{has_refused_line};
+ghost use Rattle.kmip_commands.specs.Lines.{lines_of};
+ghost use Rattle.kmip_commands.specs.Printing.{BreaksOff, IfFailed, IfWhole, Prints, Tells, WroteFront, fault_line, nothing_more};
 
 use crate::exit_status::ExitStatus;
 use crate::fault::CommandFault;
-use crate::replies::write_hex;
-use crate::responding::{Respond, finished, respond_to_lines};
+use crate::finishing::finished;
+use crate::replies::push_hex;
+use crate::responding::{Respond, respond_to_bytes, respond_to_lines};
 use kmip_server::{ListStore, Server};
+use kmip_ttlv::NoMemory;
 use std::alloc::Global;
 use std::io::{BufRead, Write};
 
@@ -25,11 +27,13 @@ const ROOM: usize = 10_000;
 /// The time of each reply.
 const NOW: i64 = 0;
 
-/// Runs `answer`, and prints a line for a fault of the reader and for want of memory. At `Done` every
-/// line was answered, and none was refused.
+/// Runs `answer`, and prints a line for a fault of the reader and for want of memory.
 pub fn run_answer<R: BufRead, W: Write>(alloc: Global, reader: &mut R, writer: &mut W) -> ExitStatus
-    ensures { result ≡ Done → IfSome (R.remaining reader.old) (λ input. (has_refused (λ _. false) input ≡ false)
-        × Appends (W.contents writer.old) (W.contents writer.new) (answer_text input)) }
+    ensures text { IfWhole result (λ _. Prints answer_text (R.remaining reader.old)
+        (W.contents writer.old) (W.contents writer.new)) }
+    ensures refused { IfWhole result (Tells has_refused_line (R.remaining reader.old)) }
+    ensures broken { IfFailed result (BreaksOff answer_lines fault_line (R.remaining reader.old)
+        (W.contents writer.old) (W.contents writer.new)) }
 {
     let ended = answer(alloc, reader, writer);
     finished(ended, writer)
@@ -41,20 +45,38 @@ pub fn run_answer<R: BufRead, W: Write>(alloc: Global, reader: &mut R, writer: &
 ///
 /// # Errors
 ///
-/// `Input` where the reader fails, `Output` where the writer does, and `NoMemory`.
+/// `Input` where the reader fails, `Output` where the writer does, and `NoMemory`. Unless the writer
+/// failed, the answers to some first lines are written, each whole.
 pub fn answer<R: BufRead, W: Write>(
     alloc: Global,
     reader: &mut R,
     writer: &mut W,
 ) -> Result<bool, CommandFault>
-    ensures text { OnOk result (IfSome (R.remaining reader.old)
-        (λ input. Appends (W.contents writer.old) (W.contents writer.new) (answer_text input))) }
-    ensures refused { IfOk result (λ r. IfSome (R.remaining reader.old)
-        (λ input. r ≡ has_refused (λ _. false) input)) }
+    ensures text { OnOk result (Prints answer_text (R.remaining reader.old)
+        (W.contents writer.old) (W.contents writer.new)) }
+    ensures refused { IfOk result (Tells has_refused_line (R.remaining reader.old)) }
+    ensures broken { IfErr result (BreaksOff answer_lines nothing_more (R.remaining reader.old)
+        (W.contents writer.old) (W.contents writer.new)) }
 {
     let server = new_server(alloc);
     let mut answerer = Answerer { server };
     respond_to_lines(alloc, &mut answerer, reader, writer)
+}
+
+/// Does the same in memory: appends the answers to the lines of `input` to `output`.
+///
+/// # Errors
+///
+/// Where there is no memory; then the answers to some first lines were appended, each whole.
+pub fn answer_bytes(alloc: Global, input: &[u8], output: &mut Vec<u8>) -> Result<bool, NoMemory>
+    ensures text { OnOk result (output.new.items ≡ output.old.items ++ answer_text input.now) }
+    ensures refused { IfOk result (λ r. r ≡ has_refused_line input.now) }
+    ensures broken { OnErr result (WroteFront answer_lines (lines_of input.now) []
+        (Some output.old.items) (Some output.new.items)) }
+{
+    let server = new_server(alloc);
+    let mut answerer = Answerer { server };
+    respond_to_bytes(alloc, &mut answerer, input, output)
 }
 
 /// The server that answers: without rows at first.
@@ -65,19 +87,19 @@ pub(crate) fn new_server(alloc: Global) -> Server<ListStore>
     Server::new(store)
 }
 
-/// Writes the server's reply to a message.
-pub(crate) fn reply_to<W: Write>(
+/// Appends the server's reply to a message.
+pub(crate) fn push_reply(
     alloc: Global,
     server: &mut Server<ListStore>,
     message: &[u8],
-    writer: &mut W,
-) -> Result<(), CommandFault>
-    ensures text { OnOk result (Appends (W.contents writer.old) (W.contents writer.new)
-        (reply_text server.old message.now)) }
+    text: &mut Vec<u8>,
+) -> Result<(), NoMemory>
+    ensures text { OnOk result (text.new.items
+        ≡ text.old.items ++ reply_text server.old message.now) }
     ensures after { OnOk result (server.new ≡ stock_after server.old message.now) }
 {
     let reply = server.handle(alloc, message, NOW)?;
-    write_hex(alloc, reply.as_slice(), writer)
+    push_hex(alloc, reply.as_slice(), text)
 }
 
 /// Answers a message by a server's reply.
@@ -91,29 +113,23 @@ impl Respond for Answerer {
 
     ghost state = { λ a. a.server };
 
-    ghost text = { reply_text };
-
-    ghost behind = { stock_after };
-
-    ghost refuses = { λ _. false };
-
-    ghost over = { λ _. false };
+    ghost response = { answers };
 
     ghost IsReady = { λ _. Unit {0} };
 
-    ghost stays_ready = { λ _ _ ready. ready };
-
-    fn respond<W: Write>(
+    fn respond(
         &mut self,
         alloc: Global,
         message: &[u8],
-        writer: &mut W,
-    ) -> Result<bool, CommandFault> {
-        reply_to(alloc, &mut self.server, message, writer)?;
+        text: &mut Vec<u8>,
+    ) -> Result<bool, NoMemory> {
+        push_reply(alloc, &mut self.server, message, text)?;
         Ok(false)
     }
 
     fn is_over(&self) -> bool {
         false
     }
+
+    fn stays_ready() {}
 }

@@ -1,81 +1,110 @@
 //! The command `check`: a plan is judged, and each of its keys is a line of the output.
-ghost use Rattle.std.specs.Prelude.{◌≡◌, ◌++◌, false, IfOk, OnOk, string_bytes};
-ghost use Rattle.std.specs.Io.KnownBytes.{Appends};
+ghost use Rattle.std.specs.Prelude.{◌≡◌, ◌++◌, false, IfOk, OnOk, IfErr, OnErr, string_bytes};
+ghost use Rattle.std.specs.Io.KnownBytes.{Appends, Keeps};
 ghost use Rattle.kmip_plan.specs.Chains.{chain};
 ghost use Rattle.kmip_plan.specs.Faults.{plan_fault_field, plan_fault_place};
 ghost use Rattle.kmip_plan.specs.Reading.{plan_read};
 ghost use Rattle.kmip_plan.specs.Words.{algorithm_word};
-ghost use Rattle.kmip_commands.specs.declared.exit_status.ExitStatus.TheVariants.{Done};
+ghost use Rattle.kmip_commands.specs.Printing.{IfFailed, IfWhole, UnlessOutput, fault_line};
 ghost use Rattle.kmip_commands.specs.Checking.{check_text, is_plan_refused, is_memory, keys_text, key_text, step_text, steps_text, mask_text, plan_refusal_text, or_nothing, field_text, key_place_text};
 
 use crate::exit_status::ExitStatus;
 use crate::fault::CommandFault;
-use crate::lines::flush;
-use crate::replies::write_text;
-use crate::responding::finished;
+use crate::finishing::finished;
+use crate::replies::{push_text, send};
 use kmip_plan::{Key, Plan, PlanFault, Step, algorithm_word, chain, chain_length, read_plan};
+use kmip_ttlv::{NoMemory, plain_text};
 use std::alloc::Global;
 use std::io::Write;
 
-/// Runs `check`, and prints a line for want of memory. At `Done` the text is a plan, and its keys were
-/// printed.
+/// Runs `check`, and prints a line for want of memory.
 pub fn run_check<W: Write>(alloc: Global, plan: &str, writer: &mut W) -> ExitStatus
-    ensures { result ≡ Done → (is_plan_refused (plan_read plan.now) ≡ false)
-        × Appends (W.contents writer.old) (W.contents writer.new) (check_text (plan_read plan.now)) }
+    ensures text { IfWhole result (λ _. Appends (W.contents writer.old) (W.contents writer.new)
+        (check_text (plan_read plan.now))) }
+    ensures refused { IfWhole result (λ r. r ≡ is_plan_refused (plan_read plan.now)) }
+    ensures broken { IfFailed result (λ fault. UnlessOutput fault
+        (Appends (W.contents writer.old) (W.contents writer.new) (fault_line fault))) }
 {
     let ended = check(alloc, plan, writer);
     finished(ended, writer)
 }
 
 /// Judges the text of a plan on the writer, and says whether it was refused: a line for each key, or
-/// one for the first fault. Nothing is printed before the whole plan is judged.
+/// one for the first fault. Nothing is written before all of it is made.
 ///
 /// # Errors
 ///
-/// `Output` where the writer fails, and `NoMemory`.
+/// `Output` where the writer fails, and `NoMemory`, where nothing was written.
 pub fn check<W: Write>(alloc: Global, plan: &str, writer: &mut W) -> Result<bool, CommandFault>
     ensures text { OnOk result (Appends (W.contents writer.old) (W.contents writer.new)
         (check_text (plan_read plan.now))) }
     ensures refused { IfOk result (λ r. r ≡ is_plan_refused (plan_read plan.now)) }
+    ensures broken { IfErr result (λ fault. UnlessOutput fault
+        (W.contents writer.new ≡ W.contents writer.old)) }
+{
+    let mut text = Vec::new(alloc);
+    let is_refused = push_judgement(alloc, plan, &mut text)?;
+    send(text.as_slice(), false, writer)?;
+    Ok(is_refused)
+}
+
+/// Does the same in memory: appends what is printed for the plan to `output`.
+///
+/// # Errors
+///
+/// Where there is no memory; then nothing was appended.
+pub fn check_bytes(alloc: Global, plan: &str, output: &mut Vec<u8>) -> Result<bool, NoMemory>
+    ensures text { OnOk result (output.new.items
+        ≡ output.old.items ++ check_text (plan_read plan.now)) }
+    ensures refused { IfOk result (λ r. r ≡ is_plan_refused (plan_read plan.now)) }
+    ensures broken { OnErr result (output.new.items ≡ output.old.items) }
+{
+    let mut text = Vec::new(alloc);
+    let is_refused = push_judgement(alloc, plan, &mut text)?;
+    push_text(text.as_slice(), output)?;
+    Ok(is_refused)
+}
+
+/// Appends what is printed for a plan, and says whether it is refused.
+fn push_judgement(alloc: Global, plan: &str, text: &mut Vec<u8>) -> Result<bool, NoMemory>
+    ensures text { OnOk result (text.new.items
+        ≡ text.old.items ++ check_text (plan_read plan.now)) }
+    ensures refused { IfOk result (λ r. r ≡ is_plan_refused (plan_read plan.now)) }
 {
     match read_plan(alloc, plan) {
         Ok(plan) => {
-            print_keys(alloc, &plan, writer)?;
-            flush(writer)?;
+            push_keys(alloc, &plan, text)?;
             Ok(false)
         }
         Err(fault) => {
-            print_refusal(alloc, &fault, writer)?;
-            flush(writer)?;
+            push_refusal(alloc, &fault, text)?;
             Ok(true)
         }
     }
 }
 
-/// Prints a line for each key of the plan.
-fn print_keys<W: Write>(alloc: Global, plan: &Plan, writer: &mut W) -> Result<(), CommandFault>
-    ensures { OnOk result (Appends (W.contents writer.old) (W.contents writer.new)
-        (keys_text plan.now)) }
+/// Appends a line for each key of the plan.
+fn push_keys(alloc: Global, plan: &Plan, text: &mut Vec<u8>) -> Result<(), NoMemory>
+    ensures { OnOk result (text.new.items ≡ text.old.items ++ keys_text plan.now) }
 {
     for index in 0..plan.count() {
         if let Some(key) = plan.key(index) {
-            print_key(alloc, key, writer)?;
+            push_key(alloc, key, text)?;
         }
     }
     Ok(())
 }
 
-/// Prints the line of a key.
-fn print_key<W: Write>(alloc: Global, key: &Key, writer: &mut W) -> Result<(), CommandFault>
-    ensures { OnOk result (Appends (W.contents writer.old) (W.contents writer.new)
-        (key_text key.now)) }
+/// Appends the line of a key.
+fn push_key(alloc: Global, key: &Key, text: &mut Vec<u8>) -> Result<(), NoMemory>
+    ensures { OnOk result (text.new.items ≡ text.old.items ++ key_text key.now) }
 {
-    let text = key_text(alloc, key)?;
-    write_text(text.as_bytes(), writer)
+    let line = key_text(alloc, key)?;
+    push_text(line.as_bytes(), text)
 }
 
 /// The line of a key: its name, what it is made with, its target, and the steps to it.
-fn key_text(alloc: Global, key: &Key) -> Result<String, CommandFault>
+fn key_text(alloc: Global, key: &Key) -> Result<String, NoMemory>
     ensures { IfOk result (λ text. string_bytes text ≡ key_text key.now) }
 {
     let name = key.attrs.name.as_str();
@@ -99,7 +128,7 @@ fn algorithm_text(algorithm: u32) -> &'static str
 }
 
 /// The eight hexadecimal digits of the key's usage mask.
-fn mask_text(alloc: Global, key: &Key) -> Result<String, CommandFault>
+fn mask_text(alloc: Global, key: &Key) -> Result<String, NoMemory>
     ensures { IfOk result (λ text. string_bytes text ≡ mask_text key.now.attrs.usage) }
 {
     let text = hex::encode(alloc, &key.attrs.usage.to_be_bytes())?;
@@ -107,7 +136,7 @@ fn mask_text(alloc: Global, key: &Key) -> Result<String, CommandFault>
 }
 
 /// The words of the key's steps, a space before each.
-fn steps_text(alloc: Global, key: &Key) -> Result<String, CommandFault>
+fn steps_text(alloc: Global, key: &Key) -> Result<String, NoMemory>
     ensures { IfOk result (λ text. string_bytes text ≡ steps_text (chain key.now.target)) }
 {
     let mut text = String::new(alloc);
@@ -120,7 +149,7 @@ fn steps_text(alloc: Global, key: &Key) -> Result<String, CommandFault>
 }
 
 /// Appends a space and the step's word.
-fn push_step(text: &mut String, step: Step) -> Result<(), CommandFault>
+fn push_step(text: &mut String, step: Step) -> Result<(), NoMemory>
     ensures { OnOk result (string_bytes text.new ≡ string_bytes text.old ++ step_text step) }
 {
     text.push(' ')?;
@@ -128,50 +157,47 @@ fn push_step(text: &mut String, step: Step) -> Result<(), CommandFault>
     Ok(())
 }
 
-/// Prints why a text is no plan; want of memory is a fault of the command.
-fn print_refusal<W: Write>(
-    alloc: Global,
-    fault: &PlanFault,
-    writer: &mut W,
-) -> Result<(), CommandFault>
+/// Appends why a text is no plan; want of memory is no reason.
+fn push_refusal(alloc: Global, fault: &PlanFault, text: &mut Vec<u8>) -> Result<(), NoMemory>
     ensures known { OnOk result (is_memory fault.now ≡ false) }
-    ensures text { OnOk result (Appends (W.contents writer.old) (W.contents writer.new)
-        (plan_refusal_text fault.now)) }
+    ensures text { OnOk result (text.new.items ≡ text.old.items ++ plan_refusal_text fault.now) }
 {
     if let PlanFault::NoMemory = fault {
-        return Err(CommandFault::NoMemory);
+        return Err(NoMemory);
     }
-    let text = refusal_text(alloc, fault)?;
-    write_text(text.as_bytes(), writer)
+    let line = plan_refusal_text(alloc, fault)?;
+    push_text(line.as_bytes(), text)
 }
 
 /// The number, the name, the field and the place of a fault, as a line.
-fn refusal_text(alloc: Global, fault: &PlanFault) -> Result<String, CommandFault>
+fn plan_refusal_text(alloc: Global, fault: &PlanFault) -> Result<String, NoMemory>
     ensures { IfOk result (λ text. string_bytes text ≡ plan_refusal_text fault.now) }
 {
     let number = fault.number();
     let name = fault.name();
     let field = field_text(alloc, fault)?;
-    let place = place_text(alloc, fault)?;
+    let place = key_place_text(alloc, fault)?;
     let text = format!(in alloc; "plan refused: {number} {name}{field}{place}\n")?;
     Ok(text)
 }
 
-/// A space and the field at fault, where there is one.
-fn field_text(alloc: Global, fault: &PlanFault) -> Result<String, CommandFault>
+/// A space and the field at fault in plain characters, where there is one.
+fn field_text(alloc: Global, fault: &PlanFault) -> Result<String, NoMemory>
     ensures { IfOk result (λ text. string_bytes text ≡ field_text (plan_fault_field fault.now)) }
 {
     let mut text = String::new(alloc);
     if let Some(field) = fault.field() {
         text.push(' ')?;
-        text.push_str(field)?;
+        let word = plain_text(alloc, field)?;
+        text.push_str(word.as_str())?;
     }
     Ok(text)
 }
 
 /// The place of the key at fault, where there is one.
-fn place_text(alloc: Global, fault: &PlanFault) -> Result<String, CommandFault>
-    ensures { IfOk result (λ text. string_bytes text ≡ key_place_text (plan_fault_place fault.now)) }
+fn key_place_text(alloc: Global, fault: &PlanFault) -> Result<String, NoMemory>
+    ensures { IfOk result (λ text. string_bytes text
+        ≡ key_place_text (plan_fault_place fault.now)) }
 {
     match fault.place() {
         Some(place) => {

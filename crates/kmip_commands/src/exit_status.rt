@@ -1,14 +1,18 @@
 //! How the program ends.
 ghost use Rattle.std.specs.Prelude.{◌≡◌};
-ghost use Rattle.kmip_commands.specs.ExitStatus.{code_of};
+ghost use Rattle.kmip_commands.specs.Printing.{code_of};
+
+use crate::fault::CommandFault;
 
 /// What the exit status of the program says.
 #[derive(Clone, Copy, Debug, PartialEq, Eq)]
 pub enum ExitStatus {
     /// All was done, and nothing was refused.
     Done,
-    /// Something was refused, or reading, writing or memory failed.
+    /// All was done, and something was refused.
     Refused,
+    /// Reading, writing or memory failed before all was done.
+    Failed(CommandFault),
     /// The command line is none that the program knows.
     Usage,
 }
@@ -21,6 +25,7 @@ impl ExitStatus {
         match self {
             ExitStatus::Done => 0,
             ExitStatus::Refused => 1,
+            ExitStatus::Failed(_) => 1,
             ExitStatus::Usage => 2,
         }
     }

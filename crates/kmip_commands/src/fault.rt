@@ -1,5 +1,6 @@
 //! Why a command ends before its input does.
 ghost use Rattle.std.specs.Prelude.{◌≡◌};
+ghost use Rattle.kmip_commands.specs.Printing.{command_fault_text};
 ghost use Rattle.kmip_commands.specs.declared.fault.CommandFault.TheVariants as faults;
 
 use kmip_ttlv::NoMemory;
@@ -18,6 +19,19 @@ pub enum CommandFault {
     /// There was no memory for a growth.
     #[error("no memory")]
     NoMemory,
+}
+
+impl CommandFault {
+    /// What is printed of the fault.
+    pub fn text(self) -> &'static str
+        ensures { result.now ≡ command_fault_text self }
+    {
+        match self {
+            CommandFault::Input => "cannot read input",
+            CommandFault::Output => "cannot write output",
+            CommandFault::NoMemory => "no memory",
+        }
+    }
 }
 
 impl From<NoMemory> for CommandFault {

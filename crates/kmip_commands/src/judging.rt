@@ -1,10 +1,10 @@
-//! What a line of the input of `answer` says.
+//! What a line of the input says.
 ghost use Rattle.std.specs.Prelude.{◌≡◌, IfOk};
 ghost use Rattle.kmip_commands.specs.Judging.{judge, saying_of};
 
-use crate::fault::CommandFault;
 use crate::lines::MOST_DIGITS;
 use hex::FromHexError;
+use kmip_ttlv::NoMemory;
 use std::alloc::Global;
 
 /// What a line says.
@@ -24,8 +24,8 @@ pub enum Judged {
 ///
 /// # Errors
 ///
-/// `NoMemory` alone.
-pub fn judge(alloc: Global, line: &[u8]) -> Result<Judged, CommandFault>
+/// Where there is no memory for the message.
+pub fn judge(alloc: Global, line: &[u8]) -> Result<Judged, NoMemory>
     ensures { IfOk result (λ j. judge j ≡ saying_of line.now) }
 {
     if line.is_empty() {
@@ -38,7 +38,7 @@ pub fn judge(alloc: Global, line: &[u8]) -> Result<Judged, CommandFault>
         Ok(message) => Ok(Judged::Message(message)),
         Err(fault) => {
             if fault == FromHexError::OutOfMemory {
-                return Err(CommandFault::NoMemory);
+                return Err(NoMemory);
             }
             Ok(Judged::NotHex)
         }

@@ -2,13 +2,15 @@
 //!
 //! `answer`, `answer_stream`, `show_lines` and `check` do the work of their commands and return a fault
 //! as a value; `run_answer`, `run_answer_stream`, `run_show` and `run_check` also print the fault and
-//! say how the program ends.
+//! say how the program ends. `answer_bytes`, `answer_stream_bytes`, `show_bytes` and `check_bytes` do
+//! the same work in memory, where nothing but memory can fail.
 #![tactic(auto)]
 
 mod answering;
 mod checking;
 mod exit_status;
 mod fault;
+mod finishing;
 mod judging;
 mod lines;
 mod replies;
@@ -16,9 +18,11 @@ mod responding;
 mod showing;
 mod streaming;
 
-pub use answering::{answer, run_answer};
-pub use checking::{check, run_check};
+pub use answering::{answer, answer_bytes, run_answer};
+pub use checking::{check, check_bytes, run_check};
 pub use exit_status::ExitStatus;
 pub use fault::CommandFault;
-pub use showing::{Form, run_show, show_lines};
-pub use streaming::{InputEnd, StreamOutcome, answer_stream, run_answer_stream};
+pub use showing::{Form, run_show, show_bytes, show_lines};
+pub use streaming::{
+    InputEnd, StreamOutcome, answer_stream, answer_stream_bytes, run_answer_stream,
+};

@@ -1,10 +1,11 @@
 //! The lines of a reader, each kept only as far as it is looked at.
-ghost use Rattle.std.specs.Prelude.{◌≡◌, ◌==◌, IfOk, OnOk, IfSome};
+ghost use Rattle.std.specs.Prelude.{◌≡◌, ◌==◌, ◌<◌, ◌∷◌, length, IfOk, OnOk, IfSome};
 ghost use Rattle.std.specs.List.{position};
 ghost use Rattle.std.specs.Io.KnownBytes.{Keeps};
-ghost use Rattle.kmip_commands.specs.Lines.{TakesLine, TakesPiece, kept_with};
+ghost use Rattle.kmip_commands.specs.Lines.{TakesLine, TakesPiece, kept_with, lines_of};
 
 use crate::fault::CommandFault;
+use crate::replies::flush;
 use std::io::{BufRead, ErrorKind, Write};
 
 /// A line of more bytes is too long, whatever they are.
@@ -18,7 +19,7 @@ const LINE_FEED: u8 = b'\n';
 /// What `read_line` found.
 #[derive(Clone, Copy, Debug, PartialEq, Eq)]
 pub enum NextLine {
-    /// A line. The flag says whether the reader has bytes behind it that it gives without a wait.
+    /// A line. The flag says whether the reader has bytes after it that it gives without a wait.
     Line { has_more: bool },
     /// The end of the input.
     End,
@@ -111,13 +112,14 @@ fn keep(line: &mut Vec<u8>, piece: &[u8]) -> Result<(), CommandFault>
     Ok(())
 }
 
-/// Sends on what the writer still holds back.
-///
-/// # Errors
-///
-/// `Output` where the writer fails.
-pub fn flush<W: Write>(writer: &mut W) -> Result<(), CommandFault>
-    ensures { Keeps (W.contents writer.old) (W.contents writer.new) }
+/// The first line of some bytes, without its line feed, and what is left after it.
+pub fn first_line(bytes: &[u8]) -> (&[u8], &[u8])
+    requires { 0 < length bytes.now }
+    ensures lines { lines_of bytes.now ≡ result.0.now ∷ lines_of result.1.now }
+    ensures less { length result.1.now < length bytes.now }
 {
-    writer.flush().map_err(|_error| CommandFault::Output)
+    match line_feed_in(bytes) {
+        Some(place) => (&bytes[..place], &bytes[place + 1..]),
+        None => (bytes, &bytes[bytes.len()..]),
+    }
 }

@@ -1,9 +1,11 @@
-//! What the commands print for a line.
-ghost use Rattle.std.specs.Prelude.{OnOk, ◌∷◌, ◌++◌, []};
-ghost use Rattle.std.specs.Io.KnownBytes.{Appends};
+//! Texts: made in memory first, and then written.
+ghost use Rattle.std.specs.Prelude.{◌≡◌, OnOk, OnErr, IfErr, ◌∷◌, ◌++◌, []};
+ghost use Rattle.std.specs.Io.KnownBytes.{Appends, Keeps};
 ghost use Rattle.hex.specs.Hex.{encode_lower};
+ghost use Rattle.kmip_commands.specs.declared.fault.CommandFault.TheVariants.{Output};
 
 use crate::fault::CommandFault;
+use kmip_ttlv::NoMemory;
 use std::alloc::Global;
 use std::io::Write;
 
@@ -13,18 +15,31 @@ pub const REFUSED_LENGTH: &[u8] = b"refused: length\n";
 /// What is printed for a line that is no hexadecimal.
 pub const REFUSED_HEX: &[u8] = b"refused: hex\n";
 
-/// Writes bytes in lower-case hexadecimal, and a line feed, by one write.
+/// Appends bytes to a text, which want of memory leaves as it was.
 ///
 /// # Errors
 ///
-/// `NoMemory`, and `Output` where the writer fails.
-pub fn write_hex<W: Write>(alloc: Global, bytes: &[u8], writer: &mut W) -> Result<(), CommandFault>
-    ensures { OnOk result (Appends (W.contents writer.old) (W.contents writer.new)
-        (encode_lower bytes.now ++ 10 ∷ [])) }
+/// Where there is no memory for the text.
+pub fn push_text(bytes: &[u8], text: &mut Vec<u8>) -> Result<(), NoMemory>
+    ensures ok { OnOk result (text.new.items ≡ text.old.items ++ bytes.now) }
+    ensures err { OnErr result (text.new.items ≡ text.old.items) }
 {
-    let mut text = hex::encode(alloc, bytes)?;
-    text.push('\n')?;
-    write_text(text.as_bytes(), writer)
+    text.extend_from_slice(bytes)?;
+    Ok(())
+}
+
+/// Appends bytes in lower-case hexadecimal, and a line feed.
+///
+/// # Errors
+///
+/// Where there is no memory for the text.
+pub fn push_hex(alloc: Global, bytes: &[u8], text: &mut Vec<u8>) -> Result<(), NoMemory>
+    ensures { OnOk result (text.new.items ≡ text.old.items
+        ++ (encode_lower bytes.now ++ 10 ∷ [])) }
+{
+    let mut digits = hex::encode(alloc, bytes)?;
+    digits.push('\n')?;
+    push_text(digits.as_bytes(), text)
 }
 
 /// Writes a text by one write.
@@ -33,9 +48,35 @@ pub fn write_hex<W: Write>(alloc: Global, bytes: &[u8], writer: &mut W) -> Resul
 ///
 /// `Output` where the writer fails.
 pub fn write_text<W: Write>(text: &[u8], writer: &mut W) -> Result<(), CommandFault>
-    ensures { OnOk result (Appends (W.contents writer.old) (W.contents writer.new) text.now) }
+    ensures text { OnOk result (Appends (W.contents writer.old) (W.contents writer.new) text.now) }
+    ensures fault { IfErr result (λ f. f ≡ Output) }
 {
     writer
         .write_all(text)
         .map_err(|_error| CommandFault::Output)
+}
+
+/// Writes a text by one write, and sends it on unless it may wait for the next.
+///
+/// # Errors
+///
+/// `Output` where the writer fails.
+pub fn send<W: Write>(text: &[u8], may_wait: bool, writer: &mut W) -> Result<(), CommandFault>
+    ensures text { OnOk result (Appends (W.contents writer.old) (W.contents writer.new) text.now) }
+    ensures fault { IfErr result (λ f. f ≡ Output) }
+{
+    write_text(text, writer)?;
+    if may_wait { Ok(()) } else { flush(writer) }
+}
+
+/// Sends on what the writer still holds back.
+///
+/// # Errors
+///
+/// `Output` where the writer fails.
+pub fn flush<W: Write>(writer: &mut W) -> Result<(), CommandFault>
+    ensures unwritten { Keeps (W.contents writer.old) (W.contents writer.new) }
+    ensures fault { IfErr result (λ f. f ≡ Output) }
+{
+    writer.flush().map_err(|_error| CommandFault::Output)
 }

@@ -1,20 +1,18 @@
-//! The loop over the lines of a command's input.
-ghost use Rattle.std.specs.Prelude.{◌≡◌, ℕ, List, Bool, IfOk, OnOk, IfSome};
-ghost use Rattle.std.specs.Io.KnownBytes.{Keeps, Appends};
-ghost use Rattle.kmip_commands.specs.ExitStatus.{status_of};
-ghost use Rattle.kmip_commands.specs.Judging.{are_refused, is_saying_refused, saying_of};
-ghost use Rattle.kmip_commands.specs.LineText.{saying_text, state_after_saying, lines_text, state_after_lines, lines_read};
-ghost use Rattle.kmip_commands.specs.Lines.{lines_of};
+//! The loops over the lines of a command's input: of a reader, and of bytes in memory.
+ghost use Rattle.std.specs.Prelude.{◌≡◌, ◌++◌, ℕ, List, Some, IfOk, OnOk, IfErr, OnErr};
+ghost use Rattle.kmip_commands.specs.Judging.{is_saying_refused, saying_of};
+ghost use Rattle.kmip_commands.specs.LineText.{Response, saying_text, state_after_saying, RespondsTo, BreaksOffAt};
+ghost use Rattle.kmip_commands.specs.Printing.{UnlessOutput};
 
-use crate::exit_status::ExitStatus;
 use crate::fault::CommandFault;
 use crate::judging::{Judged, judge};
-use crate::lines::{NextLine, flush, read_line};
-use crate::replies::{REFUSED_HEX, REFUSED_LENGTH, write_text};
+use crate::lines::{NextLine, first_line, read_line};
+use crate::replies::{REFUSED_HEX, REFUSED_LENGTH, flush, push_text, send};
+use kmip_ttlv::NoMemory;
 use std::alloc::Global;
 use std::io::{BufRead, Write};
 
-/// What a command prints for a message of its input.
+/// How a command responds to a message of its input.
 pub(crate) trait Respond {
     /// What the responses depend on.
     ghost State: { Type 0 };
@@ -22,67 +20,44 @@ pub(crate) trait Respond {
     /// The state that the command is in.
     ghost state: { Self → State };
 
-    /// What is written for a message.
-    ghost text: { State → List ℕ → List ℕ };
-
-    /// The state behind a message.
-    ghost behind: { State → List ℕ → State };
-
-    /// Whether a message is refused.
-    ghost refuses: { List ℕ → Bool };
-
-    /// Whether the command is over in a state: no line is looked at any more.
-    ghost over: { State → Bool };
+    /// What is written for a message, the state after it, whether it is refused, and in which states
+    /// the command is over: no line is looked at any more.
+    ghost response: { Response State };
 
     /// What holds of the state between two messages.
     ghost IsReady: { State → Type 0 };
 
-    /// Writes what is printed for the message, and says whether the message is refused.
+    /// Appends what is printed for the message, and says whether the message is refused.
     ///
     /// # Errors
     ///
-    /// `Output` where the writer fails, and `NoMemory`.
-    fn respond<W: Write>(
+    /// Where there is no memory; then the text may have grown by anything.
+    fn respond(
         &mut self,
         alloc: Global,
         message: &[u8],
-        writer: &mut W,
-    ) -> Result<bool, CommandFault>
+        text: &mut Vec<u8>,
+    ) -> Result<bool, NoMemory>
         requires { IsReady (state self.old) }
-        ensures text { OnOk result (Appends (W.contents writer.old) (W.contents writer.new)
-            (text (state self.old) message.now)) }
-        ensures after { OnOk result (state self.new ≡ behind (state self.old) message.now) }
-        ensures refused { IfOk result (λ r. r ≡ refuses message.now) };
+        ensures text { OnOk result (text.new.items
+            ≡ text.old.items ++ response.text (state self.old) message.now) }
+        ensures after { OnOk result (state self.new
+            ≡ response.after (state self.old) message.now) }
+        ensures refused { IfOk result (λ r. r ≡ response.refuses message.now) };
 
     /// Whether the command is over: it looks at no further line.
     fn is_over(&self) -> bool
-        ensures { result ≡ over (state self.now) };
+        ensures { result ≡ response.over (state self.now) };
 
-    /// A message leaves the command ready for the next.
-    ghost stays_ready: { (s : State) (message : List ℕ) → IsReady s → IsReady (behind s message) };
-}
-
-/// How the program ends after a command, whose fault is printed where there is one to print.
-pub(crate) fn finished<W: Write>(ended: Result<bool, CommandFault>, writer: &mut W) -> ExitStatus
-    ensures status { result ≡ status_of ended }
-    ensures unwritten { OnOk ended (Keeps (W.contents writer.old) (W.contents writer.new)) }
-{
-    match ended {
-        Ok(false) => ExitStatus::Done,
-        Ok(true) => ExitStatus::Refused,
-        Err(fault) => {
-            if fault != CommandFault::Output {
-                let _ = writeln!(writer, "{fault}");
-                let _ = writer.flush();
-            }
-            ExitStatus::Refused
-        }
-    }
+    /// A message leaves the command ready for the next: a law, which does nothing.
+    fn stays_ready()
+        ensures { (s : State) (message : List ℕ) → IsReady s
+            → IsReady (response.after s message) };
 }
 
 /// Responds to each line of the reader in order until the command is over, and says whether a line
-/// was refused. A refused line prints why, and does not end the command. Nothing but the lines' texts
-/// is written.
+/// was refused. A refused line prints why, and does not end the command. The text of a line is made
+/// whole before it is written, and nothing else is written.
 ///
 /// # Errors
 ///
@@ -94,63 +69,95 @@ pub(crate) fn respond_to_lines<C: Respond, R: BufRead, W: Write>(
     writer: &mut W,
 ) -> Result<bool, CommandFault>
     requires { C.IsReady (C.state command.old) }
-    ensures text { OnOk result (IfSome (R.remaining reader.old) (λ input. Appends (W.contents writer.old) (W.contents writer.new)
-        (lines_text C.text C.behind (C.state command.old)
-        (lines_read C.behind C.over (C.state command.old) (lines_of input))))) }
-    ensures after { OnOk result (IfSome (R.remaining reader.old) (λ input. C.state command.new
-        ≡ state_after_lines C.behind (C.state command.old) (lines_read C.behind C.over (C.state command.old) (lines_of input)))) }
-    ensures refused { IfOk result (λ r. IfSome (R.remaining reader.old) (λ input. r
-        ≡ are_refused C.refuses (lines_read C.behind C.over (C.state command.old) (lines_of input)))) }
+    ensures whole { IfOk result (RespondsTo C.response (R.remaining reader.old)
+        (C.state command.old) (C.state command.new)
+        (W.contents writer.old) (W.contents writer.new)) }
+    ensures broken { IfErr result (λ fault. UnlessOutput fault (BreaksOffAt C.response
+        (R.remaining reader.old) (C.state command.old)
+        (W.contents writer.old) (W.contents writer.new))) }
 {
+    C::stays_ready();
     let mut line = Vec::new(alloc);
+    let mut text = Vec::new(alloc);
     let mut has_refused = false;
     for _ in 0..u64::MAX {
         let NextLine::Line { has_more } = read_line(reader, writer, &mut line)? else {
             flush(writer)?;
             return Ok(has_refused);
         };
-        let is_refused = respond_to_line(alloc, command, line.as_slice(), writer)?;
+        text.clear();
+        let is_refused = line_text(alloc, command, line.as_slice(), &mut text)?;
         has_refused |= is_refused;
-        if command.is_over() {
-            flush(writer)?;
+        let is_over = command.is_over();
+        send(text.as_slice(), has_more && !is_over, writer)?;
+        if is_over {
             return Ok(has_refused);
         }
-        flush_unless(has_more, writer)?;
     }
     Err(CommandFault::Input)
 }
 
-/// Writes what is printed for a line, and says whether the line is refused.
-fn respond_to_line<C: Respond, W: Write>(
+/// Does the same with the lines of bytes in memory: appends their texts to `output`.
+///
+/// # Errors
+///
+/// Where there is no memory; then `output` has grown by the texts of some first lines, each whole.
+pub(crate) fn respond_to_bytes<C: Respond>(
+    alloc: Global,
+    command: &mut C,
+    input: &[u8],
+    output: &mut Vec<u8>,
+) -> Result<bool, NoMemory>
+    requires { C.IsReady (C.state command.old) }
+    ensures whole { IfOk result (RespondsTo C.response (Some input.now)
+        (C.state command.old) (C.state command.new)
+        (Some output.old.items) (Some output.new.items)) }
+    ensures broken { OnErr result (BreaksOffAt C.response (Some input.now) (C.state command.old)
+        (Some output.old.items) (Some output.new.items)) }
+{
+    C::stays_ready();
+    let mut rest = input;
+    let mut text = Vec::new(alloc);
+    let mut has_refused = false;
+    while !rest.is_empty() {
+        let (line, after) = first_line(rest);
+        rest = after;
+        text.clear();
+        let is_refused = line_text(alloc, command, line, &mut text)?;
+        has_refused |= is_refused;
+        push_text(text.as_slice(), output)?;
+        if command.is_over() {
+            return Ok(has_refused);
+        }
+    }
+    Ok(has_refused)
+}
+
+/// Appends what is printed for a line, and says whether the line is refused.
+fn line_text<C: Respond>(
     alloc: Global,
     command: &mut C,
     line: &[u8],
-    writer: &mut W,
-) -> Result<bool, CommandFault>
+    text: &mut Vec<u8>,
+) -> Result<bool, NoMemory>
     requires { C.IsReady (C.state command.old) }
-    ensures text { OnOk result (Appends (W.contents writer.old) (W.contents writer.new)
-        (saying_text C.text (C.state command.old) (saying_of line.now))) }
+    ensures text { OnOk result (text.new.items ≡ text.old.items
+        ++ saying_text C.response.text (C.state command.old) (saying_of line.now)) }
     ensures after { OnOk result (C.state command.new
-        ≡ state_after_saying C.behind (C.state command.old) (saying_of line.now)) }
-    ensures refused { IfOk result (λ r. r ≡ is_saying_refused C.refuses (saying_of line.now)) }
+        ≡ state_after_saying C.response.after (C.state command.old) (saying_of line.now)) }
+    ensures refused { IfOk result (λ r. r
+        ≡ is_saying_refused C.response.refuses (saying_of line.now)) }
 {
     match judge(alloc, line)? {
         Judged::Empty => Ok(false),
         Judged::Long => {
-            write_text(REFUSED_LENGTH, writer)?;
+            push_text(REFUSED_LENGTH, text)?;
             Ok(true)
         }
         Judged::NotHex => {
-            write_text(REFUSED_HEX, writer)?;
+            push_text(REFUSED_HEX, text)?;
             Ok(true)
         }
-        Judged::Message(message) => command.respond(alloc, message.as_slice(), writer),
+        Judged::Message(message) => command.respond(alloc, message.as_slice(), text),
     }
-}
-
-/// Sends on what the writer holds back, where the reader may wait for more input.
-fn flush_unless<W: Write>(has_more: bool, writer: &mut W) -> Result<(), CommandFault>
-    ensures { Keeps (W.contents writer.old) (W.contents writer.new) }
-{
-    if has_more { Ok(()) } else { flush(writer) }
 }

@@ -1,20 +1,20 @@
-//! The command `show`: each line of its input is an item in hexadecimal, which is printed as text, or
+//! The command `show`: each line of its input is an item in hexadecimal, which is printed as text or
 //! in its one written form.
-ghost use Rattle.std.specs.Prelude.{◌≡◌, false, IfOk, IfSome, OnOk, IsSome};
-ghost use Rattle.std.specs.Io.KnownBytes.{Appends};
+ghost use Rattle.std.specs.Prelude.{◌≡◌, ◌++◌, [], Some, IfOk, OnOk, IfErr, OnErr, IsSome};
 ghost use Rattle.kmip_ttlv.specs.Faults.{fault_offset};
 ghost use Rattle.kmip_ttlv.specs.Sizes.{IsWritable};
 ghost use Rattle.kmip_ttlv.specs.View.{view};
-ghost use Rattle.kmip_commands.specs.declared.exit_status.ExitStatus.TheVariants.{Done};
+ghost use Rattle.kmip_commands.specs.Lines.{lines_of};
+ghost use Rattle.kmip_commands.specs.Printing.{BreaksOff, IfFailed, IfWhole, Prints, Tells, WroteFront, fault_line, nothing_more};
 ghost use Rattle.kmip_commands.specs.declared.showing.Form.{Form};
-ghost use Rattle.kmip_commands.specs.Judging.{has_refused};
-ghost use Rattle.kmip_commands.specs.Showing.{is_no_item, show_text, shown_input, item_text, extra_text, fault_text};
+ghost use Rattle.kmip_commands.specs.Showing.{is_no_item, has_no_item, show_text, shown_input, shown_lines, shows, item_text, extra_text, fault_text};
 
 use crate::exit_status::ExitStatus;
 use crate::fault::CommandFault;
-use crate::replies::{write_hex, write_text};
-use crate::responding::{Respond, finished, respond_to_lines};
-use kmip_ttlv::{Item, TtlvFault, read, show, write};
+use crate::finishing::finished;
+use crate::replies::{push_hex, push_text};
+use crate::responding::{Respond, respond_to_bytes, respond_to_lines};
+use kmip_ttlv::{Item, NoMemory, TtlvFault, read, show, write};
 use std::alloc::Global;
 use std::io::{BufRead, Write};
 
@@ -27,16 +27,18 @@ pub enum Form {
     Canonical,
 }
 
-/// Runs `show`, and prints a line for a fault of the reader and for want of memory. At `Done` every
-/// line was shown, and none was refused.
+/// Runs `show`, and prints a line for a fault of the reader and for want of memory.
 pub fn run_show<R: BufRead, W: Write>(
     alloc: Global,
     form: Form,
     reader: &mut R,
     writer: &mut W,
 ) -> ExitStatus
-    ensures { result ≡ Done → IfSome (R.remaining reader.old) (λ input. (has_refused is_no_item input ≡ false)
-        × Appends (W.contents writer.old) (W.contents writer.new) (shown_input form input)) }
+    ensures text { IfWhole result (λ _. Prints (shown_input form) (R.remaining reader.old)
+        (W.contents writer.old) (W.contents writer.new)) }
+    ensures refused { IfWhole result (Tells has_no_item (R.remaining reader.old)) }
+    ensures broken { IfFailed result (BreaksOff (shown_lines form) fault_line
+        (R.remaining reader.old) (W.contents writer.old) (W.contents writer.new)) }
 {
     let ended = show_lines(alloc, form, reader, writer);
     finished(ended, writer)
@@ -47,20 +49,44 @@ pub fn run_show<R: BufRead, W: Write>(
 ///
 /// # Errors
 ///
-/// `Input` where the reader fails, `Output` where the writer does, and `NoMemory`.
+/// `Input` where the reader fails, `Output` where the writer does, and `NoMemory`. Unless the writer
+/// failed, what is printed for some first lines is written, for each the whole.
 pub fn show_lines<R: BufRead, W: Write>(
     alloc: Global,
     form: Form,
     reader: &mut R,
     writer: &mut W,
 ) -> Result<bool, CommandFault>
-    ensures text { OnOk result (IfSome (R.remaining reader.old)
-        (λ input. Appends (W.contents writer.old) (W.contents writer.new) (shown_input form input))) }
-    ensures refused { IfOk result (λ r. IfSome (R.remaining reader.old)
-        (λ input. r ≡ has_refused is_no_item input)) }
+    ensures text { OnOk result (Prints (shown_input form) (R.remaining reader.old)
+        (W.contents writer.old) (W.contents writer.new)) }
+    ensures refused { IfOk result (Tells has_no_item (R.remaining reader.old)) }
+    ensures broken { IfErr result (BreaksOff (shown_lines form) nothing_more
+        (R.remaining reader.old) (W.contents writer.old) (W.contents writer.new)) }
 {
     let mut shower = Shower { form };
     respond_to_lines(alloc, &mut shower, reader, writer)
+}
+
+/// Does the same in memory: appends what is printed for the lines of `input` to `output`.
+///
+/// # Errors
+///
+/// Where there is no memory; then what is printed for some first lines was appended, for each the
+/// whole.
+pub fn show_bytes(
+    alloc: Global,
+    form: Form,
+    input: &[u8],
+    output: &mut Vec<u8>,
+) -> Result<bool, NoMemory>
+    ensures text { OnOk result (output.new.items ≡ output.old.items
+        ++ shown_input form input.now) }
+    ensures refused { IfOk result (λ r. r ≡ has_no_item input.now) }
+    ensures broken { OnErr result (WroteFront (shown_lines form) (lines_of input.now) []
+        (Some output.old.items) (Some output.new.items)) }
+{
+    let mut shower = Shower { form };
+    respond_to_bytes(alloc, &mut shower, input, output)
 }
 
 /// Shows the item that all the bytes of a message are.
@@ -74,111 +100,91 @@ impl Respond for Shower {
 
     ghost state = { λ s. s.form };
 
-    ghost text = { show_text };
-
-    ghost behind = { λ form _. form };
-
-    ghost refuses = { is_no_item };
-
-    ghost over = { λ _. false };
+    ghost response = { shows };
 
     ghost IsReady = { λ _. Unit {0} };
 
-    ghost stays_ready = { λ _ _ ready. ready };
-
-    fn respond<W: Write>(
+    fn respond(
         &mut self,
         alloc: Global,
         message: &[u8],
-        writer: &mut W,
-    ) -> Result<bool, CommandFault> {
-        show_message(alloc, self.form, message, writer)
+        text: &mut Vec<u8>,
+    ) -> Result<bool, NoMemory> {
+        show_message(alloc, self.form, message, text)
     }
 
     fn is_over(&self) -> bool {
         false
     }
+
+    fn stays_ready() {}
 }
 
-/// Prints the item that all the bytes are, or why they are none, and says whether they are none.
+/// Appends the item that all the bytes are, or why they are none, and says whether they are none.
 #[tactic(auto, unfolding(crate::specs::Showing::is_no_item, crate::specs::Showing::show_text))]
-fn show_message<W: Write>(
+fn show_message(
     alloc: Global,
     form: Form,
     message: &[u8],
-    writer: &mut W,
-) -> Result<bool, CommandFault>
-    ensures text { OnOk result (Appends (W.contents writer.old) (W.contents writer.new)
-        (show_text form message.now)) }
+    text: &mut Vec<u8>,
+) -> Result<bool, NoMemory>
+    ensures text { OnOk result (text.new.items ≡ text.old.items ++ show_text form message.now) }
     ensures refused { IfOk result (λ r. r ≡ is_no_item message.now) }
 {
     match read(alloc, message) {
         Ok((item, size)) => {
             if size == message.len() {
-                print_item(alloc, form, &item, writer)?;
+                push_item(alloc, form, &item, text)?;
                 Ok(false)
             } else {
-                print_extra(alloc, size, writer)?;
+                push_extra(alloc, size, text)?;
                 Ok(true)
             }
         }
         Err(fault) => {
-            print_fault(alloc, fault, writer)?;
+            push_fault(alloc, fault, text)?;
             Ok(true)
         }
     }
 }
 
-/// Prints an item that was read.
-fn print_item<W: Write>(
-    alloc: Global,
-    form: Form,
-    item: &Item,
-    writer: &mut W,
-) -> Result<(), CommandFault>
+/// Appends an item that was read.
+fn push_item(alloc: Global, form: Form, item: &Item, text: &mut Vec<u8>) -> Result<(), NoMemory>
     requires { IsWritable (view item.now) }
-    ensures { OnOk result (Appends (W.contents writer.old) (W.contents writer.new)
-        (item_text form (view item.now))) }
+    ensures { OnOk result (text.new.items ≡ text.old.items ++ item_text form (view item.now)) }
 {
     match form {
         Form::Text => {
-            let text = show(alloc, item)?;
-            write_text(text.as_str().as_bytes(), writer)
+            let shown = show(alloc, item)?;
+            push_text(shown.as_str().as_bytes(), text)
         }
         Form::Canonical => {
             let mut bytes = Vec::new(alloc);
             write(item, &mut bytes)?;
-            write_hex(alloc, bytes.as_slice(), writer)
+            push_hex(alloc, bytes.as_slice(), text)
         }
     }
 }
 
-/// Prints that bytes stand behind the item, from this offset on.
+/// Appends that bytes stand after the item, from this offset on.
 #[tactic(auto, unfolding(crate::specs::Showing::extra_text))]
-fn print_extra<W: Write>(alloc: Global, offset: usize, writer: &mut W) -> Result<(), CommandFault>
-    ensures { OnOk result (Appends (W.contents writer.old) (W.contents writer.new)
-        (extra_text offset)) }
+fn push_extra(alloc: Global, offset: usize, text: &mut Vec<u8>) -> Result<(), NoMemory>
+    ensures { OnOk result (text.new.items ≡ text.old.items ++ extra_text offset) }
 {
-    let text = format!(in alloc; "refused: extra at {offset}\n")?;
-    write_text(text.as_str().as_bytes(), writer)
+    let line = format!(in alloc; "refused: extra at {offset}\n")?;
+    push_text(line.as_str().as_bytes(), text)
 }
 
-/// Prints why there is no item, by the fault's number, name and offset; want of memory is a fault of
-/// the command.
-fn print_fault<W: Write>(
-    alloc: Global,
-    fault: TtlvFault,
-    writer: &mut W,
-) -> Result<(), CommandFault>
+/// Appends why there is no item, by the fault's number, name and offset; want of memory is none.
+fn push_fault(alloc: Global, fault: TtlvFault, text: &mut Vec<u8>) -> Result<(), NoMemory>
     ensures offset { OnOk result (IsSome (fault_offset fault)) }
-    ensures text { OnOk result (Appends (W.contents writer.old) (W.contents writer.new)
-        (fault_text fault)) }
+    ensures text { OnOk result (text.new.items ≡ text.old.items ++ fault_text fault) }
 {
     let Some(offset) = fault.offset() else {
-        return Err(CommandFault::NoMemory);
+        return Err(NoMemory);
     };
     let number = fault.number();
     let name = fault.name();
-    let text = format!(in alloc; "refused: {number} {name} at {offset}\n")?;
-    write_text(text.as_str().as_bytes(), writer)
+    let line = format!(in alloc; "refused: {number} {name} at {offset}\n")?;
+    push_text(line.as_str().as_bytes(), text)
 }

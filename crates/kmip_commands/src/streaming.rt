@@ -1,30 +1,29 @@
 //! The command `answer --stream`: the lines of its input are pieces of one stream of messages, and
 //! each reply of one server is a line of its output.
-ghost use Rattle.std.specs.Prelude.{◌≡◌, ◌≤◌, ◌<◌, [], false, length, take, None, IfOk, OnOk, IfSome};
-ghost use Rattle.std.specs.Io.KnownBytes.{Appends};
+ghost use Rattle.std.specs.Prelude.{◌≡◌, ◌≤◌, ◌<◌, ◌++◌, [], length, take, None, Some, IfOk, OnOk, IfErr, OnErr, IfSome};
 ghost use Rattle.kmip_frames.specs.Framing.{fault_in};
 ghost use Rattle.kmip_frames.specs.Streams.{BeginsWithNoMessage};
-ghost use Rattle.kmip_commands.specs.declared.exit_status.ExitStatus.TheVariants.{Done};
 ghost use Rattle.kmip_commands.specs.AnswerText.{first_stock};
-ghost use Rattle.kmip_commands.specs.Bytewise.{StreamState, is_over, IsReady, piece_text, state_after_piece, tail_text};
-ghost use Rattle.kmip_commands.specs.BytewiseLaws.{stays_ready};
-ghost use Rattle.kmip_commands.specs.StreamText.{end_of, stream_refusal_text, cut_text, is_whole, IsWritten, IsAnswered, IsAllAnswered};
+ghost use Rattle.kmip_commands.specs.Bytewise.{StreamState, IsReady, piece_text, state_after_piece, streams};
+ghost use Rattle.kmip_commands.specs.Printing.{IfFailed, IfWhole, UnlessOutput, fault_line};
+ghost use Rattle.kmip_commands.specs.StreamText.{end_of, stream_refusal_text, cut_text, tail_text, is_whole, IsWritten, IsAnswered, IsStreamAnswered, IsBrokenOff};
 
-use crate::answering::{new_server, reply_to};
+use crate::answering::{new_server, push_reply};
 use crate::exit_status::ExitStatus;
 use crate::fault::CommandFault;
-use crate::lines::flush;
-use crate::replies::write_text;
-use crate::responding::{Respond, finished, respond_to_lines};
+use crate::finishing::finished;
+use crate::replies::{push_text, send};
+use crate::responding::{Respond, respond_to_bytes, respond_to_lines};
 use kmip_frames::{FrameFault, Framer};
 use kmip_server::{ListStore, Server};
+use kmip_ttlv::NoMemory;
 use std::alloc::Global;
 use std::io::{BufRead, Write};
 
 /// How a stream of messages ended.
 #[derive(Clone, Copy, Debug, PartialEq, Eq)]
 pub enum InputEnd {
-    /// Behind a whole message, or before the first.
+    /// After a whole message, or before the first.
     Whole,
     /// Inside a message, of which so many bytes came: 1 to 8,191.
     Cut(usize),
@@ -49,15 +48,17 @@ impl StreamOutcome {
     }
 }
 
-/// Runs `answer --stream`, and prints a line for a fault of the reader and for want of memory. At
-/// `Done` every line was taken, and the stream was messages to its end, of which each was answered.
+/// Runs `answer --stream`, and prints a line for a fault of the reader and for want of memory.
 pub fn run_answer_stream<R: BufRead, W: Write>(
     alloc: Global,
     reader: &mut R,
     writer: &mut W,
 ) -> ExitStatus
-    ensures { result ≡ Done → IfSome (R.remaining reader.old)
-        (λ input. IsAllAnswered input (W.contents writer.old) (W.contents writer.new)) }
+    ensures whole { IfWhole result (IsStreamAnswered (R.remaining reader.old)
+        (W.contents writer.old) (W.contents writer.new)) }
+    ensures broken { IfFailed result (λ fault. UnlessOutput fault (IfSome (R.remaining reader.old)
+        (λ input. IsBrokenOff input (fault_line fault)
+        (W.contents writer.old) (W.contents writer.new)))) }
 {
     let ended = is_any_refused(alloc, reader, writer);
     finished(ended, writer)
@@ -69,21 +70,24 @@ fn is_any_refused<R: BufRead, W: Write>(
     reader: &mut R,
     writer: &mut W,
 ) -> Result<bool, CommandFault>
-    ensures { IfOk result (λ r. r ≡ false → IfSome (R.remaining reader.old)
-        (λ input. IsAllAnswered input (W.contents writer.old) (W.contents writer.new))) }
+    ensures whole { IfOk result (IsStreamAnswered (R.remaining reader.old)
+        (W.contents writer.old) (W.contents writer.new)) }
+    ensures broken { IfErr result (λ fault. UnlessOutput fault (IfSome (R.remaining reader.old)
+        (λ input. IsBrokenOff input [] (W.contents writer.old) (W.contents writer.new)))) }
 {
     let outcome = answer_stream(alloc, reader, writer)?;
     Ok(!outcome.is_whole())
 }
 
 /// Answers the messages of the stream that the lines of the reader are pieces of, each as soon as it
-/// is whole, and says how the stream ended. A refused line prints why, and the stream goes on behind
+/// is whole, and says how the stream ended. A refused line prints why, and the stream goes on after
 /// it. A head that is no message's prints its fault and ends the command; bytes left at the end print
 /// how many they are.
 ///
 /// # Errors
 ///
-/// `Input` where the reader fails, `Output` where the writer does, and `NoMemory`.
+/// `Input` where the reader fails, `Output` where the writer does, and `NoMemory`. Unless the writer
+/// failed, what is printed for some first lines is written, for each the whole.
 pub fn answer_stream<R: BufRead, W: Write>(
     alloc: Global,
     reader: &mut R,
@@ -93,11 +97,42 @@ pub fn answer_stream<R: BufRead, W: Write>(
         (λ input. IsWritten input outcome (W.contents writer.old) (W.contents writer.new))) }
     ensures stream { IfOk result (λ outcome. IfSome (R.remaining reader.old)
         (λ input. IsAnswered input outcome (W.contents writer.old) (W.contents writer.new))) }
+    ensures broken { IfErr result (λ fault. UnlessOutput fault (IfSome (R.remaining reader.old)
+        (λ input. IsBrokenOff input [] (W.contents writer.old) (W.contents writer.new)))) }
 {
     let mut streamer = Streamer::new(alloc)?;
     let has_refused = respond_to_lines(alloc, &mut streamer, reader, writer)?;
     let end = streamer.end();
-    write_end(alloc, end, writer)?;
+    let mut tail = Vec::new(alloc);
+    push_tail(alloc, end, &mut tail)?;
+    send(tail.as_slice(), false, writer)?;
+    Ok(StreamOutcome { end, has_refused })
+}
+
+/// Does the same in memory: appends what is printed for the lines of `input` to `output`.
+///
+/// # Errors
+///
+/// Where there is no memory; then what is printed for some first lines was appended, for each the
+/// whole.
+pub fn answer_stream_bytes(
+    alloc: Global,
+    input: &[u8],
+    output: &mut Vec<u8>,
+) -> Result<StreamOutcome, NoMemory>
+    ensures lines { IfOk result (λ outcome. IsWritten input.now outcome
+        (Some output.old.items) (Some output.new.items)) }
+    ensures stream { IfOk result (λ outcome. IsAnswered input.now outcome
+        (Some output.old.items) (Some output.new.items)) }
+    ensures broken { OnErr result (IsBrokenOff input.now []
+        (Some output.old.items) (Some output.new.items)) }
+{
+    let mut streamer = Streamer::new(alloc)?;
+    let has_refused = respond_to_bytes(alloc, &mut streamer, input, output)?;
+    let end = streamer.end();
+    let mut tail = Vec::new(alloc);
+    push_tail(alloc, end, &mut tail)?;
+    push_text(tail.as_slice(), output)?;
     Ok(StreamOutcome { end, has_refused })
 }
 
@@ -110,11 +145,11 @@ struct Streamer {
 
 impl Streamer {
     /// A server without rows, before the first byte.
-    fn new(alloc: Global) -> Result<Streamer, CommandFault>
+    fn new(alloc: Global) -> Result<Streamer, NoMemory>
         ensures { IfOk result (λ s. (s.server ≡ first_stock) × (s.framer ≡ [])) }
     {
         let Ok(framer) = Framer::new(alloc) else {
-            return Err(CommandFault::NoMemory);
+            return Err(NoMemory);
         };
         let server = new_server(alloc);
         Ok(Streamer { server, framer })
@@ -135,16 +170,16 @@ impl Streamer {
 
     /// Takes the piece up to the end of a message, which is answered, or to its own end, and says how
     /// many bytes it took. A head that is no message's prints its fault: then all are taken.
-    fn advance<W: Write>(
+    fn advance(
         &mut self,
         alloc: Global,
         piece: &[u8],
-        writer: &mut W,
-    ) -> Result<usize, CommandFault>
+        text: &mut Vec<u8>,
+    ) -> Result<usize, NoMemory>
         requires begins { BeginsWithNoMessage self.old.framer }
         requires lawful { fault_in self.old.framer ≡ None }
-        ensures text { IfOk result (λ count. Appends (W.contents writer.old) (W.contents writer.new)
-            (piece_text (self.old.server, self.old.framer) (take count piece.now))) }
+        ensures text { IfOk result (λ count. text.new.items ≡ text.old.items
+            ++ piece_text (self.old.server, self.old.framer) (take count piece.now)) }
         ensures after { IfOk result (λ count. (self.new.server, self.new.framer)
             ≡ state_after_piece (self.old.server, self.old.framer) (take count piece.now)) }
         ensures within { IfOk result (λ count. count ≤ length piece.now) }
@@ -153,17 +188,17 @@ impl Streamer {
         let count = match self.framer.feed(piece) {
             Ok(count) => count,
             Err(fault) => {
-                write_refusal(alloc, fault, writer)?;
+                push_refusal(alloc, fault, text)?;
                 return Ok(piece.len());
             }
         };
         let Ok(next) = self.framer.next(alloc) else {
-            return Err(CommandFault::NoMemory);
+            return Err(NoMemory);
         };
         let Some(message) = next else {
             return Ok(count);
         };
-        reply_to(alloc, &mut self.server, message.as_slice(), writer)?;
+        push_reply(alloc, &mut self.server, message.as_slice(), text)?;
         Ok(count)
     }
 }
@@ -173,27 +208,19 @@ impl Respond for Streamer {
 
     ghost state = { λ s. (s.server, s.framer) };
 
-    ghost text = { piece_text };
-
-    ghost behind = { state_after_piece };
-
-    ghost refuses = { λ _. false };
-
-    ghost over = { is_over };
+    ghost response = { streams };
 
     ghost IsReady = { IsReady };
 
-    ghost stays_ready = { stays_ready };
-
-    fn respond<W: Write>(
+    fn respond(
         &mut self,
         alloc: Global,
         message: &[u8],
-        writer: &mut W,
-    ) -> Result<bool, CommandFault> {
+        text: &mut Vec<u8>,
+    ) -> Result<bool, NoMemory> {
         let mut rest = message;
         while !rest.is_empty() && !self.is_over() {
-            let count = self.advance(alloc, rest, writer)?;
+            let count = self.advance(alloc, rest, text)?;
             let (_, after) = rest.split_at(count);
             rest = after;
         }
@@ -203,42 +230,37 @@ impl Respond for Streamer {
     fn is_over(&self) -> bool {
         self.framer.fault().is_some()
     }
+
+    fn stays_ready() {}
 }
 
-/// Prints the fault of a head, by its number and name.
+/// Appends the fault of a head, by its number and name.
 #[tactic(auto, unfolding(crate::specs::StreamText::stream_refusal_text))]
-fn write_refusal<W: Write>(
-    alloc: Global,
-    fault: FrameFault,
-    writer: &mut W,
-) -> Result<(), CommandFault>
-    ensures { OnOk result (Appends (W.contents writer.old) (W.contents writer.new)
-        (stream_refusal_text fault)) }
+fn push_refusal(alloc: Global, fault: FrameFault, text: &mut Vec<u8>) -> Result<(), NoMemory>
+    ensures { OnOk result (text.new.items ≡ text.old.items ++ stream_refusal_text fault) }
 {
     let number = fault.number();
     let name = fault.name();
-    let text = format!(in alloc; "stream refused: {number} {name}\n")?;
-    write_text(text.as_str().as_bytes(), writer)
+    let line = format!(in alloc; "stream refused: {number} {name}\n")?;
+    push_text(line.as_str().as_bytes(), text)
 }
 
-/// Prints how many bytes are left of a stream that is cut. The fault of one that is refused was
+/// Appends how many bytes are left of a stream that is cut. The fault of one that is refused was
 /// printed when it came.
-fn write_end<W: Write>(alloc: Global, end: InputEnd, writer: &mut W) -> Result<(), CommandFault>
-    ensures { OnOk result (Appends (W.contents writer.old) (W.contents writer.new) (tail_text end)) }
+fn push_tail(alloc: Global, end: InputEnd, text: &mut Vec<u8>) -> Result<(), NoMemory>
+    ensures { OnOk result (text.new.items ≡ text.old.items ++ tail_text end) }
 {
     match end {
         InputEnd::Whole | InputEnd::Refused(_) => Ok(()),
-        InputEnd::Cut(left) => write_cut(alloc, left, writer),
+        InputEnd::Cut(left) => push_cut(alloc, left, text),
     }
 }
 
-/// Prints how many bytes are left of a stream, and sends it on.
+/// Appends how many bytes are left of a stream.
 #[tactic(auto, unfolding(crate::specs::StreamText::cut_text))]
-fn write_cut<W: Write>(alloc: Global, left: usize, writer: &mut W) -> Result<(), CommandFault>
-    ensures { OnOk result (Appends (W.contents writer.old) (W.contents writer.new)
-        (cut_text left)) }
+fn push_cut(alloc: Global, left: usize, text: &mut Vec<u8>) -> Result<(), NoMemory>
+    ensures { OnOk result (text.new.items ≡ text.old.items ++ cut_text left) }
 {
-    let text = format!(in alloc; "stream cut: {left}\n")?;
-    write_text(text.as_str().as_bytes(), writer)?;
-    flush(writer)
+    let line = format!(in alloc; "stream cut: {left}\n")?;
+    push_text(line.as_str().as_bytes(), text)
 }

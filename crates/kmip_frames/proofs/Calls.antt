@@ -4,7 +4,7 @@ use Rattle.std.proofs.lemmas.List.{append-nil}
 use Rattle.kmip_frames.specs.Streams.{BeginsWithNoMessage, Stream}
 use Rattle.kmip_frames.specs.Calls.{Call, took, handed, Runs, all_taken, all_handed}
 use Rattle.kmip_frames.proofs.Messages.{stream_once}
-use Rattle.kmip_frames.proofs.SoFar.{IsSoFar, nothing_so_far, so_far_took, so_far_handed, so_far_ended}
+use Rattle.kmip_frames.proofs.ForCallers.{IsSoFar, nothing_so_far, so_far_took, so_far_handed, so_far_ended}
 
 run_so_far : (bytes : List ℕ) (messages : List (List ℕ)) (old : List ℕ) (calls : List Call) (new : List ℕ) → IsSoFar bytes messages old → Runs old calls new
     → IsSoFar (bytes ++ all_taken calls) (messages ++ all_handed calls) new

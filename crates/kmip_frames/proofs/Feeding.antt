@@ -7,7 +7,7 @@ use Rattle.kmip_frames.specs.declared.fault.FrameFault.{FrameFault}
 use Rattle.kmip_frames.specs.Streams.{IsMessage, BeginsWithNoMessage}
 use Rattle.kmip_frames.specs.Framing.{fault_in, size_needed, count_taken, held_after, answer_after, feed, IsHeldAfter, IsHeld}
 use Rattle.kmip_frames.specs.Calls.{further, IsFedAsTwo}
-use Rattle.kmip_frames.proofs.Sizes.{fault_more, fault_size, needed_more, needed_fault, needed_least, needed_most}
+use Rattle.kmip_frames.proofs.Sizes.{fault_more, fault_size, size_needed_more, size_needed_fault, size_needed_least, size_needed_most}
 use Rattle.kmip_frames.proofs.Messages.{message_whole, message_size, no_message}
 
 -- no more is held than the present message takes
@@ -22,7 +22,7 @@ pub is_within : (items held : List ℕ) → items ≡ held → length items ≤ 
 is_within items held is within = record { within = rw is at within }
 
 pub pending_most : (held : List ℕ) (count : ℕ) → count ≡ length held → IsWithin held → count ≤ 8192
-pending_most held count is w = omega (arith, needed_most held, w.within)
+pending_most held count is w = omega (arith, size_needed_most held, w.within)
 
 length_after : (held piece : List ℕ) (count : ℕ) → count ≤ length piece → length (held ++ take count piece) ≡ length held + count
 length_after held piece count within = omega (arith, length-append held (take count piece), length-take count piece)
@@ -45,20 +45,20 @@ same_fault held piece count s = elim s.enough [
   | inr all ↦ ap (λ t. fault_in (held ++ t)) (take_all count piece all)
 ]
 
-pub same_needed : (held piece : List ℕ) (count : ℕ) → Suffices held piece count → size_needed (held ++ take count piece) ≡ size_needed (held ++ piece)
-same_needed held piece count s = elim s.enough [
-  | inl long ↦ sym (needed_more (held ++ take count piece) (drop count piece) long) ∙ ap size_needed (rejoined held piece count)
+pub same_size_needed : (held piece : List ℕ) (count : ℕ) → Suffices held piece count → size_needed (held ++ take count piece) ≡ size_needed (held ++ piece)
+same_size_needed held piece count s = elim s.enough [
+  | inl long ↦ sym (size_needed_more (held ++ take count piece) (drop count piece) long) ∙ ap size_needed (rejoined held piece count)
   | inr all ↦ ap (λ t. size_needed (held ++ t)) (take_all count piece all)
 ]
 
 pub taken_suffices : (held piece : List ℕ) → Suffices held piece (count_taken held piece)
-taken_suffices held piece = up_to held piece (size_needed (held ++ piece)) (count_taken held piece) (needed_least (held ++ piece)) refl
+taken_suffices held piece = up_to held piece (size_needed (held ++ piece)) (count_taken held piece) (size_needed_least (held ++ piece)) refl
 
 -- a piece takes nothing of the room away
 pub within_more : (held piece : List ℕ) → IsWithin held → length held ≤ size_needed (held ++ piece)
 within_more held piece w = elim (cases_lt (length held) 8) [
-  | inl short ↦ omega (arith, needed_least (held ++ piece))
-  | inr long ↦ omega (arith, needed_more held piece long, w.within)
+  | inl short ↦ omega (arith, size_needed_least (held ++ piece))
+  | inr long ↦ omega (arith, size_needed_more held piece long, w.within)
 ]
 
 length_taken : (held piece : List ℕ) → length (held_after held piece) ≡ length held + count_taken held piece
@@ -66,7 +66,7 @@ length_taken held piece = length_after held piece (count_taken held piece) (omeg
 
 pub after_within : (held piece : List ℕ) → IsWithin held → IsWithin (held_after held piece)
 after_within held piece w = record {
-  within = omega (arith, length_taken held piece, same_needed held piece (count_taken held piece) (taken_suffices held piece), within_more held piece w);
+  within = omega (arith, length_taken held piece, same_size_needed held piece (count_taken held piece) (taken_suffices held piece), within_more held piece w);
 }
 
 -- ---- the steps of `feed`: up to the end of the head, and then of the message
@@ -78,9 +78,9 @@ pub record AreSteps (held piece : List ℕ) (of_head of_body : ℕ) : Type 0 whe
 pub two_steps : (held piece : List ℕ) (of_head of_body : ℕ) → of_head ≡ min (length piece) (8 - length held)
     → of_body ≡ min (length (drop of_head piece)) (size_needed (held ++ take of_head piece) - length (held ++ take of_head piece)) → AreSteps held piece of_head of_body
 two_steps held piece of_head of_body one two =
-    let size : size_needed (held ++ take of_head piece) ≡ size_needed (held ++ piece) = same_needed held piece of_head (up_to held piece 8 of_head (omega arith) one) in
+    let size : size_needed (held ++ take of_head piece) ≡ size_needed (held ++ piece) = same_size_needed held piece of_head (up_to held piece 8 of_head (omega arith) one) in
     let sum : of_head + of_body ≡ count_taken held piece =
-    omega (arith, size, needed_least (held ++ piece), length-drop of_head piece, length_after held piece of_head (omega arith)) in
+    omega (arith, size, size_needed_least (held ++ piece), length-drop of_head piece, length_after held piece of_head (omega arith)) in
     record {
       count = sum;
       held_is = append_assoc held (take of_head piece) (take of_body (drop of_head piece)) ∙ ap (λ s. held ++ s) (sym (take-add of_head of_body piece)) ∙ ap (λ n. held ++ take n piece) sum;
@@ -92,7 +92,7 @@ pub one_step : (held piece : List ℕ) (of_head : ℕ) (fault : FrameFault) → 
 one_step held piece of_head fault one is =
     let s = up_to held piece 8 of_head (omega arith) one in
     let all : fault_in (held ++ piece) ≡ Some fault = sym (same_fault held piece of_head s) ∙ is in
-    let size : size_needed (held ++ piece) ≡ 8 = needed_fault (held ++ piece) fault all in
+    let size : size_needed (held ++ piece) ≡ 8 = size_needed_fault (held ++ piece) fault all in
     (all, ap (λ n. held ++ take n piece) (one ∙ ap (λ n. min (length piece) (n - length held)) (sym size)))
 
 -- ---- what follows for a caller
@@ -101,14 +101,14 @@ pub after_whole : (held piece : List ℕ) → IsWithin held → fault_in (held +
 after_whole held piece w lawful less =
     let s = taken_suffices held piece in
     message_whole (held_after held piece) (same_fault held piece (count_taken held piece) s ∙ lawful)
-    (omega (arith, length_taken held piece, same_needed held piece (count_taken held piece) s, within_more held piece w))
+    (omega (arith, length_taken held piece, same_size_needed held piece (count_taken held piece) s, within_more held piece w))
 
 pub takes_some : (held piece : List ℕ) → IsWithin held → fault_in held ≡ None → BeginsWithNoMessage held → 0 < length piece → 0 < count_taken held piece
 takes_some held piece w lawful none some = elim (cases_lt (length held) (size_needed (held ++ piece))) [
   | inl less ↦ omega arith
   | inr full ↦ (
-      let long : 8 ≤ length held = omega (arith, needed_least (held ++ piece)) in
-      absurd (no_message held none (message_whole held lawful (omega (arith, needed_more held piece long, w.within)))))
+      let long : 8 ≤ length held = omega (arith, size_needed_least (held ++ piece)) in
+      absurd (no_message held none (message_whole held lawful (omega (arith, size_needed_more held piece long, w.within)))))
 ]
 
 pub is_held : (held : List ℕ) (o : Option FrameFault) → IsWithin held → fault_in held ≡ o → IsHeldAfter o held
@@ -119,25 +119,25 @@ is_held held None w is = elim (cases_lt (length held) 8) [
       inr (
         more,
         message_whole (held ++ more) (fault_more held more long ∙ is)
-            (omega (arith, length-append held more, length-replicate {A = ℕ} (size_needed held - length held) 0, needed_more held more long, w.within)),
+            (omega (arith, length-append held more, length-replicate {A = ℕ} (size_needed held - length held) 0, size_needed_more held more long, w.within)),
       ))
 ]
-is_held held (Some fault) w is = omega (arith, needed_fault held fault is, fault_size held fault is, w.within)
+is_held held (Some fault) w is = omega (arith, size_needed_fault held fault is, fault_size held fault is, w.within)
 
 pub pending_held : (held : List ℕ) → IsWithin held → IsHeld held
 pending_held held w = is_held held (fault_in held) w refl
 
 front_within : (held more : List ℕ) → IsMessage (held ++ more) → length held ≤ size_needed held
 front_within held more message = elim (cases_lt (length held) 8) [
-  | inl short ↦ omega (arith, needed_least held)
-  | inr long ↦ omega (arith, message_size (held ++ more) message, needed_more held more long, length-append held more)
+  | inl short ↦ omega (arith, size_needed_least held)
+  | inr long ↦ omega (arith, message_size (held ++ more) message, size_needed_more held more long, length-append held more)
 ]
 
 pub held_within : (held : List ℕ) (o : Option FrameFault) → IsHeldAfter o held → IsWithin held
-held_within held (Some fault) h = record { within = omega (arith, needed_least held) }
+held_within held (Some fault) h = record { within = omega (arith, size_needed_least held) }
 held_within held None h = record {
   within = elim h [
-    | inl short ↦ omega (arith, needed_least held)
+    | inl short ↦ omega (arith, size_needed_least held)
     | inr whole ↦ front_within held whole.0 whole.1
   ];
 }
@@ -164,7 +164,7 @@ taken_twice held first second w =
     let room : length held + count ≤ all =
     omega (arith, size, length_taken held first, within_more (held_after held first) (drop count first ++ second) (after_within held first w)) in
     let same : (size_needed (held ++ first) ≡ all) ⊎ (length first ≤ count) = elim s.enough [
-      | inl long ↦ inl (sym (same_needed held first count s) ∙ sym (needed_more (held_after held first) (drop count first ++ second) long) ∙ size)
+      | inl long ↦ inl (sym (same_size_needed held first count s) ∙ sym (size_needed_more (held_after held first) (drop count first ++ second) long) ∙ size)
       | inr whole ↦ inr whole
     ] in
     let sums = sum_taken (length held) (length first) (length second) (size_needed (held ++ first)) all count refl room same in

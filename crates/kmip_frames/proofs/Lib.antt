@@ -2,5 +2,5 @@ pub mod Sizes
 pub mod Messages
 pub mod Feeding
 pub mod Steps
-pub mod SoFar
+pub mod ForCallers
 pub mod Calls

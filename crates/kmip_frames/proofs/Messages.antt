@@ -6,24 +6,24 @@ use Rattle.kmip_frames.specs.declared.fault.FrameFault.{FrameFault}
 use Rattle.kmip_frames.specs.Heads.{head_fault}
 use Rattle.kmip_frames.specs.Streams.{IsMessage, BeginsWithNoMessage, joined, Stream}
 use Rattle.kmip_frames.specs.Framing.{fault_in, size_needed}
-use Rattle.kmip_frames.proofs.Sizes.{fault_long, fault_size, fault_more, needed_lawful, needed_more, needed_least}
+use Rattle.kmip_frames.proofs.Sizes.{fault_long, fault_size, fault_more, size_needed_lawful, size_needed_more, size_needed_least}
 
 pub message_lawful : (m : List ℕ) → IsMessage m → fault_in m ≡ None
 message_lawful m is = fault_long m is.head ∙ is.lawful
 
 pub message_size : (m : List ℕ) → IsMessage m → length m ≡ size_needed m
-message_size m is = is.size ∙ sym (needed_lawful m is.head is.lawful)
+message_size m is = is.size ∙ sym (size_needed_lawful m is.head is.lawful)
 
 -- bytes are a message, where they are as many as are needed and there is no fault
 pub message_whole : (s : List ℕ) → fault_in s ≡ None → length s ≡ size_needed s → IsMessage s
 message_whole s lawful whole =
-    let long : 8 ≤ length s = omega (arith, needed_least s) in
+    let long : 8 ≤ length s = omega (arith, size_needed_least s) in
     let good : head_fault (take 8 s) ≡ None = sym (fault_long s long) ∙ lawful in
-    record { head = long; lawful = good; size = whole ∙ needed_lawful s long good }
+    record { head = long; lawful = good; size = whole ∙ size_needed_lawful s long good }
 
 -- a message at the front is all that is needed
 front_size : (s m more : List ℕ) → s ≡ m ++ more → IsMessage m → length m ≡ size_needed s
-front_size s m more is message = rw is (message_size m message ∙ sym (needed_more m more message.head))
+front_size s m more is message = rw is (message_size m message ∙ sym (size_needed_more m more message.head))
 
 front_lawful : (s m more : List ℕ) → s ≡ m ++ more → IsMessage m → fault_in s ≡ None
 front_lawful s m more is message = rw is (fault_more m more message.head ∙ message_lawful m message)

@@ -33,21 +33,21 @@ pub fault_long : (s : List ℕ) → 8 ≤ length s → fault_in s ≡ head_fault
 unfolding fault_in
 fault_long s long = rw (le-ltb (length s) 8 long) refl
 
-pub needed_short : (s : List ℕ) → length s < 8 → size_needed s ≡ 8
+pub size_needed_short : (s : List ℕ) → length s < 8 → size_needed s ≡ 8
 unfolding size_needed
-needed_short s short = rw (lt-ltb (length s) 8 short) refl
+size_needed_short s short = rw (lt-ltb (length s) 8 short) refl
 
-pub needed_lawful : (s : List ℕ) → 8 ≤ length s → head_fault (take 8 s) ≡ None → size_needed s ≡ 8 + length_in (take 8 s)
+pub size_needed_lawful : (s : List ℕ) → 8 ≤ length s → head_fault (take 8 s) ≡ None → size_needed s ≡ 8 + length_in (take 8 s)
 unfolding size_needed
-needed_lawful s long lawful = rw (le-ltb (length s) 8 long, lawful) refl
+size_needed_lawful s long lawful = rw (le-ltb (length s) 8 long, lawful) refl
 
 -- a fault is that of a whole head
 pub fault_size : (s : List ℕ) (fault : FrameFault) → fault_in s ≡ Some fault → 8 ≤ length s
 fault_size s fault is = elim (cases_lt (length s) 8) [ inl short ↦ (let none = fault_short s short in absurd cc) | inr long ↦ long ]
 
-pub needed_fault : (s : List ℕ) (fault : FrameFault) → fault_in s ≡ Some fault → size_needed s ≡ 8
+pub size_needed_fault : (s : List ℕ) (fault : FrameFault) → fault_in s ≡ Some fault → size_needed s ≡ 8
 unfolding size_needed
-needed_fault s fault is =
+size_needed_fault s fault is =
     let long = fault_size s fault is in
     let bad : head_fault (take 8 s) ≡ Some fault = sym (fault_long s long) ∙ is in
     rw (le-ltb (length s) 8 long, bad) refl
@@ -64,31 +64,31 @@ fault_more s more long =
     fault_long (s ++ more) (longer s more long) ∙ ap head_fault (take_head s more long) ∙ sym (fault_long s long)
 
 -- the size that a whole head says
-needed_long : (s : List ℕ) → 8 ≤ length s → size_needed s ≡ cond (is_some (head_fault (take 8 s))) 8 (8 + length_in (take 8 s))
+size_needed_long : (s : List ℕ) → 8 ≤ length s → size_needed s ≡ cond (is_some (head_fault (take 8 s))) 8 (8 + length_in (take 8 s))
 unfolding size_needed
-needed_long s long = rw (le-ltb (length s) 8 long) refl
+size_needed_long s long = rw (le-ltb (length s) 8 long) refl
 
-size_said : List ℕ → ℕ
-size_said head = cond (is_some (head_fault head)) 8 (8 + length_in head)
+size_by_head : List ℕ → ℕ
+size_by_head head = cond (is_some (head_fault head)) 8 (8 + length_in head)
 
-pub needed_more : (s more : List ℕ) → 8 ≤ length s → size_needed (s ++ more) ≡ size_needed s
-unfolding size_said
-needed_more s more long =
-    needed_long (s ++ more) (longer s more long) ∙ ap size_said (take_head s more long) ∙ sym (needed_long s long)
+pub size_needed_more : (s more : List ℕ) → 8 ≤ length s → size_needed (s ++ more) ≡ size_needed s
+unfolding size_by_head
+size_needed_more s more long =
+    size_needed_long (s ++ more) (longer s more long) ∙ ap size_by_head (take_head s more long) ∙ sym (size_needed_long s long)
 
 -- the bounds of a size
 size_bounds : (head : List ℕ) (o : Option FrameFault) → head_fault head ≡ o → (8 ≤ cond (is_some o) 8 (8 + length_in head)) × (cond (is_some o) 8 (8 + length_in head) ≤ 8192)
 size_bounds head None is = let small = lawful_small head is in (omega arith, small)
 size_bounds head (Some fault) is = (omega arith, omega arith)
 
-pub needed_bounds : (s : List ℕ) → (8 ≤ size_needed s) × (size_needed s ≤ 8192)
-needed_bounds s = elim (cases_lt (length s) 8) [
-  | inl short ↦ rw (needed_short s short) (omega arith, omega arith)
-  | inr long ↦ rw (needed_long s long) (size_bounds (take 8 s) (head_fault (take 8 s)) refl)
+pub size_needed_bounds : (s : List ℕ) → (8 ≤ size_needed s) × (size_needed s ≤ 8192)
+size_needed_bounds s = elim (cases_lt (length s) 8) [
+  | inl short ↦ rw (size_needed_short s short) (omega arith, omega arith)
+  | inr long ↦ rw (size_needed_long s long) (size_bounds (take 8 s) (head_fault (take 8 s)) refl)
 ]
 
-pub needed_least : (s : List ℕ) → 8 ≤ size_needed s
-needed_least s = (needed_bounds s).0
+pub size_needed_least : (s : List ℕ) → 8 ≤ size_needed s
+size_needed_least s = (size_needed_bounds s).0
 
-pub needed_most : (s : List ℕ) → size_needed s ≤ 8192
-needed_most s = (needed_bounds s).1
+pub size_needed_most : (s : List ℕ) → size_needed s ≤ 8192
+size_needed_most s = (size_needed_bounds s).1

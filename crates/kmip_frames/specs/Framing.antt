@@ -1,22 +1,22 @@
 -- What a framer holds, takes and hands over. It is seen as the bytes that it holds.
 -- Source: own: how a contract sees the code.
 use Rattle.std.specs.Prelude.{◌≡◌, ℕ, ◌+◌, ◌-◌, ◌<◌, min, nat_lt, if◌then◌else◌, ◌⊎◌, List, [], ◌++◌, length, take, Option, Some, None, is_some, IsSome, Result, Ok, Err}
-use Rattle.kmip_frames.specs.declared.head.TheConstants.{HEAD_SIZE}
 use Rattle.kmip_frames.specs.declared.fault.FrameFault.{FrameFault}
 use Rattle.kmip_frames.specs.declared.fault.FrameFault.TheVariants.{BadHead, BadLength, TooLong, Failed, NoMemory}
 use Rattle.kmip_frames.specs.Heads.{length_in, head_fault}
+use Rattle.kmip_ttlv.specs.Limits.{head_size}
 use Rattle.kmip_frames.specs.Streams.{IsMessage, BeginsWithNoMessage}
 
 -- the fault of the head that the bytes begin with; none while it is not whole
 unfoldable pub fault_in : List ℕ → Option FrameFault
-fault_in bytes = if nat_lt (length bytes) HEAD_SIZE then None else head_fault (take HEAD_SIZE bytes)
+fault_in bytes = if nat_lt (length bytes) head_size then None else head_fault (take head_size bytes)
 
 -- how many bytes the message at the front takes, as far as they say it: those of its head, until that is whole and lawful
 unfoldable pub size_needed : List ℕ → ℕ
 size_needed bytes =
-    if nat_lt (length bytes) HEAD_SIZE then HEAD_SIZE
-    else if is_some (head_fault (take HEAD_SIZE bytes)) then HEAD_SIZE
-    else HEAD_SIZE + length_in (take HEAD_SIZE bytes)
+    if nat_lt (length bytes) head_size then head_size
+    else if is_some (head_fault (take head_size bytes)) then head_size
+    else head_size + length_in (take head_size bytes)
 
 -- how many bytes the present head, or once it is whole the message, still lacks
 abbrev pub wants : List ℕ → ℕ
@@ -24,8 +24,8 @@ wants held = size_needed held - length held
 
 -- what may be held: after a fault the eight bytes of the head, until then less than a head, a front of one message or a whole one
 abbrev pub IsHeldAfter : Option FrameFault → List ℕ → Type 0
-IsHeldAfter (Some fault) held = length held ≡ HEAD_SIZE
-IsHeldAfter None held = (length held < HEAD_SIZE) ⊎ ((more : List ℕ) × IsMessage (held ++ more))
+IsHeldAfter (Some fault) held = length held ≡ head_size
+IsHeldAfter None held = (length held < head_size) ⊎ ((more : List ℕ) × IsMessage (held ++ more))
 
 abbrev pub IsHeld : List ℕ → Type 0
 IsHeld held = IsHeldAfter (fault_in held) held

@@ -2,13 +2,14 @@
 -- Source: KMIP 2.1, Message Structure; TTLV Encoding. That a message takes at most 8,192 bytes is own.
 use Rattle.std.specs.Prelude.{ℕ, ◌+◌, ◌==◌, ◌%◌, nat_lt, Bool, not, ◌&&◌, ◌||◌, if◌then◌else◌, List, drop, slice_index, Option, Some, None}
 use Rattle.byteorder.specs.Endian.{big_number}
+use Rattle.kmip_ttlv.specs.Limits.{head_size, most_bytes}
 use Rattle.kmip_ttlv.specs.Types.{byte_of_type}
 use Rattle.kmip_ttlv.specs.declared.item_type.ItemType.TheVariants.{Structure}
-use Rattle.kmip_ttlv.specs.declared.limits.TheConstants.{MAX_SIZE}
-use Rattle.kmip_frames.specs.declared.head.TheConstants.{HEAD_SIZE, TAG_REQUEST_MESSAGE, TAG_RESPONSE_MESSAGE}
+use Rattle.kmip_messages.specs.declared.standard.TheConstants.{TAG_REQUEST_MESSAGE, TAG_RESPONSE_MESSAGE}
 use Rattle.kmip_frames.specs.declared.fault.FrameFault.{FrameFault}
 use Rattle.kmip_frames.specs.declared.fault.FrameFault.TheVariants.{BadHead, BadLength, TooLong}
 
+-- a message has the tag
 abbrev pub is_message_tag : ℕ → Bool
 is_message_tag tag = tag == TAG_REQUEST_MESSAGE || tag == TAG_RESPONSE_MESSAGE
 
@@ -21,5 +22,5 @@ unfoldable pub head_fault : List ℕ → Option FrameFault
 head_fault head =
     if not (is_message_tag (big_number 3 head) && slice_index head 3 == byte_of_type Structure) then Some BadHead
     else if not (length_in head % 8 == 0) then Some BadLength
-    else if nat_lt MAX_SIZE (HEAD_SIZE + length_in head) then Some TooLong
+    else if nat_lt most_bytes (head_size + length_in head) then Some TooLong
     else None

@@ -3,3 +3,4 @@ pub mod Heads
 pub mod Streams
 pub mod Framing
 pub mod Calls
+pub mod Laws

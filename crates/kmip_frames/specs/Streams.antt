@@ -2,14 +2,14 @@
 -- Source: KMIP 2.1, Message Structure; TTLV Encoding.
 use Rattle.std.specs.Prelude.{◌≡◌, ℕ, ◌+◌, ◌≤◌, List, ◌++◌, length, take, None}
 use Rattle.std.specs.List.{flat_map, AllByRecursion}
-use Rattle.kmip_frames.specs.declared.head.TheConstants.{HEAD_SIZE}
 use Rattle.kmip_frames.specs.Heads.{length_in, head_fault}
+use Rattle.kmip_ttlv.specs.Limits.{head_size}
 
 -- a lawful head, and as many bytes as it says
 pub record IsMessage (bytes : List ℕ) : Type 0 where
-  pub head : HEAD_SIZE ≤ length bytes
-  pub lawful : head_fault (take HEAD_SIZE bytes) ≡ None
-  pub size : length bytes ≡ HEAD_SIZE + length_in (take HEAD_SIZE bytes)
+  pub head : head_size ≤ length bytes
+  pub lawful : head_fault (take head_size bytes) ≡ None
+  pub size : length bytes ≡ head_size + length_in (take head_size bytes)
 
 abbrev pub BeginsWithNoMessage : List ℕ → Type 0
 BeginsWithNoMessage bytes = (message more : List ℕ) → bytes ≡ message ++ more → ¬ (IsMessage message)

@@ -1,11 +1,12 @@
 //! The framer.
 ghost use Rattle.std.specs.Prelude.{◌≡◌, ◌≤◌, ◌<◌, ◌-◌, ◌++◌, min, [], length, take, vec_capacity, None, Some, Err, IfOk, IfErr, IsSome};
 ghost use Rattle.kmip_frames.specs.Framing.{fault_in, wants, held_after, feed, IsHeld, Hands};
+ghost use Rattle.kmip_ttlv.specs.Limits.{most_bytes};
 ghost use Rattle.kmip_frames.specs.Streams.{IsMessage, BeginsWithNoMessage};
 
 use crate::fault::FrameFault;
-use crate::head::{HEAD_SIZE, fault_of, size_needed};
-use kmip_ttlv::MAX_SIZE;
+use crate::head::{fault_of, size_needed};
+use kmip_ttlv::{HEAD_SIZE, MAX_SIZE};
 use std::alloc::Global;
 use std::marker::Model;
 
@@ -21,12 +22,14 @@ pub struct Framer {
 impl Model for Framer {
     ghost use Rattle.std.specs.Prelude.{ℕ, List, length, ◌≤◌, vec_capacity};
     ghost use Rattle.kmip_frames.specs.Framing.{size_needed};
+    ghost use Rattle.kmip_ttlv.specs.Limits.{most_bytes};
 
     ghost Value = { List ℕ };
 
     ghost view = { λ f. f.held.items };
 
-    ghost invariant = { λ f. (8192 ≤ vec_capacity f.held) × (length f.held.items ≤ size_needed f.held.items) };
+    ghost invariant = { λ f. (most_bytes ≤ vec_capacity f.held)
+        × (length f.held.items ≤ size_needed f.held.items) };
 }
 
 impl Framer {
@@ -42,22 +45,26 @@ impl Framer {
         Ok(Framer { held })
     }
 
-    /// Takes bytes from the front of the piece up to the end of the present message, and answers how
-    /// many. While a whole message waits it takes none. A head is judged once its eighth byte is
-    /// taken. Takes no memory.
+    /// Takes bytes from the front of the piece up to the end of the present message, and answers
+    /// how many. While a whole message waits it takes none. A head is judged once its eighth byte
+    /// is taken. Takes no memory.
     ///
     /// # Errors
-    /// `BadHead`, `BadLength` or `TooLong`, by the first check that fails, where the next eight bytes
-    /// are no head of a message: these are then held. `Failed` where that came before: nothing is
-    /// changed.
+    /// `BadHead`, `BadLength` or `TooLong`, by the first check that fails, where the next eight
+    /// bytes are no head of a message: these are then held. `Failed` where that came before:
+    /// nothing is changed.
     pub fn feed(&mut self, piece: &[u8]) -> Result<usize, FrameFault>
         ensures answer { result ≡ feed self.old piece.now }
         ensures held { self.new ≡ held_after self.old piece.now }
-        ensures failed { IsSome (fault_in self.old) → (result ≡ Err FrameFault.Failed) × (self.new ≡ self.old) }
-        ensures refused { fault_in self.old ≡ None → IfErr result (λ fault. fault_in (self.old ++ piece.now) ≡ Some fault) }
-        ensures taken { IfOk result (λ count. (count ≤ length piece.now) × (self.new ≡ self.old ++ take count piece.now)) }
+        ensures failed { IsSome (fault_in self.old)
+            → (result ≡ Err FrameFault.Failed) × (self.new ≡ self.old) }
+        ensures refused { fault_in self.old ≡ None
+            → IfErr result (λ fault. fault_in (self.old ++ piece.now) ≡ Some fault) }
+        ensures taken { IfOk result (λ count.
+            (count ≤ length piece.now) × (self.new ≡ self.old ++ take count piece.now)) }
         ensures whole { IfOk result (λ count. count < length piece.now → IsMessage self.new) }
-        ensures some { IfOk result (λ count. BeginsWithNoMessage self.old → 0 < length piece.now → 0 < count) }
+        ensures some { IfOk result (λ count.
+            BeginsWithNoMessage self.old → 0 < length piece.now → 0 < count) }
     {
         if fault_of(self.held.as_slice()).is_some() {
             return Err(FrameFault::Failed);
@@ -92,7 +99,7 @@ impl Framer {
     /// How many bytes are taken and not handed over: at most 8,192, and 8 after a fault of `feed`.
     pub fn pending(&self) -> usize
         ensures value { result ≡ length self.now }
-        ensures at_most { result ≤ 8192 }
+        ensures at_most { result ≤ most_bytes }
         ensures held { IsHeld self.now }
     {
         self.held.len()
@@ -116,8 +123,8 @@ impl Framer {
     }
 }
 
-/// Appends bytes from the front of the piece until this many are held, or the piece ends. Answers how
-/// many.
+/// Appends bytes from the front of the piece until this many are held, or the piece ends. Answers
+/// how many.
 fn fill(held: &mut Vec<u8>, size: usize, piece: &[u8]) -> usize
     requires { size ≤ vec_capacity held.old }
     ensures count { result ≡ min (length piece.now) (size - length held.old.items) }

@@ -1,20 +1,13 @@
 //! The head of a message.
 ghost use Rattle.std.specs.Prelude.{◌≡◌, ◌≤◌, ◌<◌, ◌^◌, length};
 ghost use Rattle.kmip_frames.specs.Heads.{head_fault, is_message_tag, length_in};
+ghost use Rattle.kmip_ttlv.specs.Limits.{head_size};
 ghost use Rattle.kmip_frames.specs.Framing.{fault_in, size_needed};
 
 use crate::fault::FrameFault;
 use byteorder::{BigEndian, ByteOrder};
-use kmip_ttlv::{ItemType, MAX_SIZE};
-
-/// The tag of a Request Message (KMIP 2.1, Tags).
-pub const TAG_REQUEST_MESSAGE: u32 = 0x420078;
-
-/// The tag of a Response Message (KMIP 2.1, Tags).
-pub const TAG_RESPONSE_MESSAGE: u32 = 0x42007B;
-
-/// The bytes of a tag, a type and a length (KMIP 2.1, TTLV Encoding).
-pub const HEAD_SIZE: usize = 8;
+use kmip_messages::standard::{TAG_REQUEST_MESSAGE, TAG_RESPONSE_MESSAGE};
+use kmip_ttlv::{HEAD_SIZE, ItemType, MAX_SIZE};
 
 /// The fault of the head that the bytes begin with: `None` where it is a message's, and also while
 /// it is not whole.
@@ -47,7 +40,7 @@ pub(crate) fn size_needed(bytes: &[u8]) -> usize
 /// Why the eight bytes are no head of a message, by the first check that fails.
 #[tactic(auto, unfolding(crate::specs::Heads::head_fault))]
 fn fault_of_head(head: &[u8]) -> Option<FrameFault>
-    requires { 8 ≤ length head.now }
+    requires { head_size ≤ length head.now }
     ensures { result ≡ head_fault head.now }
 {
     let tag = BigEndian::read_u24(head);
@@ -74,7 +67,7 @@ fn has_message_tag(tag: u32) -> bool
 /// How many bytes follow the head.
 #[tactic(auto, unfolding(crate::specs::Heads::length_in))]
 fn length_in(head: &[u8]) -> usize
-    requires { 8 ≤ length head.now }
+    requires { head_size ≤ length head.now }
     ensures value { result ≡ length_in head.now }
     ensures small { result < 2 ^ 32 }
 {

@@ -8,9 +8,7 @@
 mod fault;
 mod framer;
 mod head;
-mod laws;
+pub mod laws;
 
 pub use fault::FrameFault;
 pub use framer::Framer;
-pub use head::{HEAD_SIZE, TAG_REQUEST_MESSAGE, TAG_RESPONSE_MESSAGE};
-pub use laws::{framer_laws, stream_laws};

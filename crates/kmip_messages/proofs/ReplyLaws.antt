@@ -75,16 +75,16 @@ is_one count header once same = once ∙ ap (λ z. integer z ∷ []) ((Decides-i
 reply_header-law : (message : List Node) → Reads (reply_header_at message) (λ u. (header : List Node) × Once TAG_RESPONSE_HEADER (inside header) message × IsReplyHeader header)
 unfolding reply_header_at
 reply_header-law message = reads-as (reply_header_at message) _ _
-    (λ u p. (
-      p.0,
-      p.1,
+    (λ u (header, has_header, (version, has_version, (major, has_major, (minor, has_minor, (_, same, (count, has_count, one)))))). (
+      header,
+      has_header,
       record {
-        version = p.2.0;
-        minor = p.2.2.2.0;
-        has_version = p.2.1;
-        has_major = is_version p.2.2.0 p.2.0 p.2.2.1 p.2.2.2.2.1;
-        has_minor = p.2.2.2.1;
-        has_count = is_one p.2.2.2.2.2.0 p.0 p.2.2.2.2.2.1 p.2.2.2.2.2.2;
+        version = version;
+        minor = minor;
+        has_version = has_version;
+        has_major = is_version major version has_major same;
+        has_minor = has_minor;
+        has_count = is_one count header has_count one;
       },
     ))
     (λ u p. (p.0, p.1, (p.2.version, p.2.has_version, (VERSION_MAJOR, p.2.has_major, (p.2.minor, p.2.has_minor, (tt, refl, (pos 1, p.2.has_count, refl)))))))
@@ -176,7 +176,7 @@ name_in-law : (parts : Option (List Node)) → Reads (name_in parts) (IsNameIn p
 unfolding IsNameIn
 name_in-law None = reads-ok None
 name_in-law (Some parts) = reads-as _ _ (IsNameIn (Some parts))
-    (λ a p. (p.0, p.1, is_plain p.2.0 parts p.2.1 p.2.2.1, p.2.2.2))
+    (λ a (value, has_value, (kind, has_kind, (_, plain, same))). (value, has_value, is_plain kind parts has_kind plain, same))
     (λ a q. (q.0, q.1, (NAME_TYPE_UNINTERPRETED_TEXT_STRING, q.2, (tt, refl, q.3))))
     (reads-bind _ _ _ _ (reads-the as_text_string text_string text_kind TAG_NAME_VALUE parts) (λ value.
     reads-bind _ _ _ _ (reads-the as_enumeration enumeration enumeration_kind TAG_NAME_TYPE parts) (λ kind.
@@ -206,13 +206,13 @@ any_name-law attributes = reads-as (any_name_at attributes) _ (IsNameIfAny attri
 attrs-law : (attributes : List Node) → Reads (attrs_at attributes) (AreAttrs attributes)
 unfolding attrs_at
 attrs-law attributes = reads-as (attrs_at attributes) _ (AreAttrs attributes)
-    (λ a p. subst (AreAttrs attributes) p.2.2.2.2.2.2 (record {
-      object_type = p.1;
-      name = p.2.1;
-      algorithm = p.2.2.1;
-      length = p.2.2.2.1;
-      usage = p.2.2.2.2.1;
-      state = p.2.2.2.2.2.1;
+    (λ a (_, object_type, (_, name, (_, algorithm, (_, length, (_, usage, (_, state, same)))))). subst (AreAttrs attributes) same (record {
+      object_type = object_type;
+      name = name;
+      algorithm = algorithm;
+      length = length;
+      usage = usage;
+      state = state;
     }))
     (λ a q. (a.object_type, q.object_type, (a.name, q.name, (a.algorithm, q.algorithm, (a.length, q.length, (a.usage, q.usage, (a.state, q.state, refl)))))))
     (reads-bind _ _ _ _ (reads-maybe as_enumeration enumeration enumeration_kind TAG_OBJECT_TYPE attributes) (λ object.
@@ -229,7 +229,8 @@ object-law : (payload : List Node)
     → Reads (attributes_at payload) (λ o. (uid : List ℕ) × (attrs : Attrs) × IsObject payload uid attrs × (Attributes uid attrs ≡ o))
 unfolding attributes_at
 object-law payload = reads-as (attributes_at payload) _ _
-    (λ a p. (p.0, p.2.2.0, record { attributes = p.2.0; is_identifier = p.1; has_attributes = p.2.1; are = p.2.2.1 }, p.2.2.2))
+    (λ a (uid, identifier, (attributes, has_attributes, (attrs, are, same))).
+    (uid, attrs, record { attributes = attributes; is_identifier = identifier; has_attributes = has_attributes; are = are }, same))
     (λ a q. (q.0, q.2.is_identifier, (q.2.attributes, q.2.has_attributes, (q.1, q.2.are, q.3))))
     (reads-bind _ _ _ _ (reads-identifier payload) (λ uid.
     reads-bind _ _ _ _ (reads-the as_structure inside structure_kind TAG_ATTRIBUTES payload) (λ attributes.
@@ -437,12 +438,12 @@ outcome-law batch asked = reads-as (outcome_at asked batch) _ (IsOutcome batch a
 pub reply-law : (n : Node) → Reads (reply_at n) (λ r. IsReply r n)
 unfolding reply_at
 reply-law n = reads-as (reply_at n) _ (λ r. IsReply r n)
-    (λ r p. subst (λ s. IsReply s n) p.2.2.2.2 (record {
-      batch = p.0;
-      is_batch = p.1;
-      operation = p.2.2.1;
-      id = p.2.1;
-      outcome = p.2.2.2.1;
+    (λ r (batch, is_batch, (_, id, (_, operation, (_, outcome, same)))). subst (λ s. IsReply s n) same (record {
+      batch = batch;
+      is_batch = is_batch;
+      operation = operation;
+      id = id;
+      outcome = outcome;
     }))
     (λ r q. (q.batch, q.is_batch, (r.id, q.id, (r.operation, q.operation, (r.outcome, q.outcome, refl)))))
     (reads-bind _ _ _ _ (reply_batch-law n) (λ batch.

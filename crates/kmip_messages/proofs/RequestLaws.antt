@@ -27,18 +27,18 @@ same_number x y h = (Decides-int_eq x y).0 h
 header-law : (message : List Node) → Reads (request_header_at message) (λ u. IsHeader message)
 unfolding request_header_at
 header-law message = reads-as (request_header_at message) _ (λ u. IsHeader message)
-    (λ a p.
-    let same = and_parts (int_eq p.2.2.0 VERSION_MAJOR) (int_eq p.2.2.2.0 VERSION_MINOR) p.2.2.2.2.1 in
+    (λ a (header, stands, (version, has_version, (major, has_major, (minor, has_minor, (_, same, (count, has_count, is_one)))))).
+    let (same_major, same_minor) = and_parts (int_eq major VERSION_MAJOR) (int_eq minor VERSION_MINOR) same in
     record {
-      parts = p.0;
-      stands = p.1;
+      parts = header;
+      stands = stands;
       version = record {
-        parts = p.2.0;
-        stands = p.2.1;
-        major = subst (λ z. Once TAG_PROTOCOL_VERSION_MAJOR (integer z) p.2.0) (same_number p.2.2.0 VERSION_MAJOR same.0) p.2.2.1;
-        minor = subst (λ z. Once TAG_PROTOCOL_VERSION_MINOR (integer z) p.2.0) (same_number p.2.2.2.0 VERSION_MINOR same.1) p.2.2.2.1;
+        parts = version;
+        stands = has_version;
+        major = subst (λ z. Once TAG_PROTOCOL_VERSION_MAJOR (integer z) version) (same_number major VERSION_MAJOR same_major) has_major;
+        minor = subst (λ z. Once TAG_PROTOCOL_VERSION_MINOR (integer z) version) (same_number minor VERSION_MINOR same_minor) has_minor;
       };
-      count = subst (λ z. Once TAG_BATCH_COUNT (integer z) p.0) (same_number p.2.2.2.2.2.0 (pos 1) p.2.2.2.2.2.2) p.2.2.2.2.2.1;
+      count = subst (λ z. Once TAG_BATCH_COUNT (integer z) header) (same_number count (pos 1) is_one) has_count;
     })
     (λ a p. (p.parts, p.stands, (p.version.parts, p.version.stands, (VERSION_MAJOR, p.version.major, (VERSION_MINOR, p.version.minor, (tt, refl, (pos 1, p.count, refl)))))))
     (reads-bind _ _ _ _ (reads-the as_structure inside structure_kind TAG_REQUEST_HEADER message) (λ header.
@@ -61,12 +61,13 @@ batch-law n = reads-as (batch_at n) _ (IsBatch n)
 name-law : (attributes : List Node) → Reads (name_at attributes) (IsName attributes)
 unfolding name_at
 name-law attributes = reads-as (name_at attributes) _ (IsName attributes)
-    (λ a p. subst (IsName attributes) p.2.2.2.2.2 (record {
-      parts = p.0;
-      stands = p.1;
-      value = p.2.1;
-      in_range = p.2.2.1;
-      plain = subst (λ t. Once TAG_NAME_TYPE (enumeration t) p.0) (eqb-true p.2.2.2.0 NAME_TYPE_UNINTERPRETED_TEXT_STRING p.2.2.2.2.1) p.2.2.2.1;
+    (λ a (parts, stands, (_, value, (_, in_range, (kind, has_kind, (_, plain, same))))).
+    subst (IsName attributes) same (record {
+      parts = parts;
+      stands = stands;
+      value = value;
+      in_range = in_range;
+      plain = subst (λ t. Once TAG_NAME_TYPE (enumeration t) parts) (eqb-true kind NAME_TYPE_UNINTERPRETED_TEXT_STRING plain) has_kind;
     }))
     (λ a p. (p.parts, p.stands, (a, p.value, (tt, p.in_range, (NAME_TYPE_UNINTERPRETED_TEXT_STRING, p.plain, (tt, refl, refl))))))
     (reads-bind _ _ _ _ (reads-the as_structure inside structure_kind TAG_NAME attributes) (λ parts.
@@ -79,15 +80,16 @@ name-law attributes = reads-as (name_at attributes) _ (IsName attributes)
 key_attrs-law : (attributes : List Node) → Reads (key_attrs_at attributes) (IsKeyAttrs attributes)
 unfolding key_attrs_at
 key_attrs-law attributes = reads-as (key_attrs_at attributes) _ (IsKeyAttrs attributes)
-    (λ a p. subst (IsKeyAttrs attributes) p.2.2.2.2.2.2.2.2 (record {
-      no_others = p.1;
-      called = p.2.1;
-      algorithm = p.2.2.1;
-      algorithm_in_range = p.2.2.2.1;
-      bits = p.2.2.2.2.1;
-      bits_in_range = p.2.2.2.2.2.1;
-      mask = p.2.2.2.2.2.2.1;
-      mask_in_range = p.2.2.2.2.2.2.2.1;
+    (λ a (_, no_others, (_, called, (_, algorithm, (_, algorithm_in_range, (_, bits, (_, bits_in_range, (_, mask, (_, mask_in_range, same)))))))).
+    subst (IsKeyAttrs attributes) same (record {
+      no_others = no_others;
+      called = called;
+      algorithm = algorithm;
+      algorithm_in_range = algorithm_in_range;
+      bits = bits;
+      bits_in_range = bits_in_range;
+      mask = mask;
+      mask_in_range = mask_in_range;
     }))
     (λ a p. (tt, p.no_others, (a.name, p.called, (a.algorithm, p.algorithm, (tt, p.algorithm_in_range, (a.length, p.bits, (tt, p.bits_in_range, (a.usage, p.mask, (tt, p.mask_in_range, refl)))))))))
     (reads-bind _ _ _ _ (reads-only key_tags attributes) (λ known.
@@ -107,16 +109,17 @@ named a o = record { object_type = a.object_type; name = o; algorithm = a.algori
 filter-law : (attributes : List Node) → Reads (filter_at attributes) (IsFilter attributes)
 unfolding filter_at
 filter-law attributes = reads-as (filter_at attributes) _ (IsFilter attributes)
-    (λ a p. subst (IsFilter attributes) p.2.2.2.2.2.2.2 (record {
-      no_others = p.1;
-      object_type = p.2.1;
-      text = p.2.2.0;
+    (λ a (_, no_others, (_, object_type, (text, called, (_, algorithm, (_, bits, (_, mask, (_, stage, same))))))).
+    subst (IsFilter attributes) same (record {
+      no_others = no_others;
+      object_type = object_type;
+      text = text;
       has_name = refl;
-      called = p.2.2.1;
-      algorithm = p.2.2.2.1;
-      bits = p.2.2.2.2.1;
-      mask = p.2.2.2.2.2.1;
-      stage = p.2.2.2.2.2.2.1;
+      called = called;
+      algorithm = algorithm;
+      bits = bits;
+      mask = mask;
+      stage = stage;
     }))
     (λ a p. (
       tt,
@@ -155,11 +158,11 @@ filter-law attributes = reads-as (filter_at attributes) _ (IsFilter attributes)
 create-law : (payload : List Node) → Reads (create_at payload) (IsCreate payload)
 unfolding create_at
 create-law payload = reads-as (create_at payload) _ (IsCreate payload)
-    (λ a p. record {
-      object_type = subst (λ t. Once TAG_OBJECT_TYPE (enumeration t) payload) (eqb-true p.0 OBJECT_TYPE_SYMMETRIC_KEY p.2.1) p.1;
-      attributes = p.2.2.0;
-      stands = p.2.2.1;
-      are = p.2.2.2;
+    (λ a (object, has_object, (_, symmetric, (attributes, stands, are))). record {
+      object_type = subst (λ t. Once TAG_OBJECT_TYPE (enumeration t) payload) (eqb-true object OBJECT_TYPE_SYMMETRIC_KEY symmetric) has_object;
+      attributes = attributes;
+      stands = stands;
+      are = are;
     })
     (λ a p. (OBJECT_TYPE_SYMMETRIC_KEY, p.object_type, (tt, refl, (p.attributes, p.stands, p.are))))
     (reads-bind _ _ _ _ (reads-the as_enumeration enumeration enumeration_kind TAG_OBJECT_TYPE payload) (λ object.
@@ -171,7 +174,8 @@ locate-law : (payload : List Node)
     → Reads (locate_at payload) (λ a. (storage : Option ℤ) × (filter : Attrs) × IsLocate payload storage filter × (Locate storage filter ≡ a))
 unfolding locate_at
 locate-law payload = reads-as (locate_at payload) _ (λ a. (storage : Option ℤ) × (filter : Attrs) × IsLocate payload storage filter × (Locate storage filter ≡ a))
-    (λ a p. (p.0, p.2.2.0, record { mask = p.1; attributes = p.2.0; stands = p.2.1; are = p.2.2.1 }, p.2.2.2))
+    (λ a (storage, mask, (attributes, stands, (filter, are, same))).
+    (storage, filter, record { mask = mask; attributes = attributes; stands = stands; are = are }, same))
     (λ a p. (p.0, p.2.mask, (p.2.attributes, p.2.stands, (p.1, p.2.are, p.3))))
     (reads-bind _ _ _ _ (reads-maybe as_integer integer integer_kind TAG_STORAGE_STATUS_MASK payload) (λ storage.
     reads-bind _ _ _ _ (reads-the as_structure inside structure_kind TAG_ATTRIBUTES payload) (λ attributes.
@@ -182,7 +186,8 @@ revoke-law : (payload : List Node)
     → Reads (revoke_at payload) (λ a. (uid : List ℕ) × (code : ℕ) × IsRevoke payload uid code × (Revoke uid code ≡ a))
 unfolding revoke_at
 revoke-law payload = reads-as (revoke_at payload) _ (λ a. (uid : List ℕ) × (code : ℕ) × IsRevoke payload uid code × (Revoke uid code ≡ a))
-    (λ a p. (p.0, p.2.2.0, record { identifier = p.1; reason = p.2.0; stands = p.2.1; says = p.2.2.1; in_range = p.2.2.2.1 }, p.2.2.2.2))
+    (λ a (uid, identifier, (reason, stands, (code, says, (_, in_range, same)))).
+    (uid, code, record { identifier = identifier; reason = reason; stands = stands; says = says; in_range = in_range }, same))
     (λ a p. (p.0, p.2.identifier, (p.2.reason, p.2.stands, (p.1, p.2.says, (tt, p.2.in_range, p.3)))))
     (reads-bind _ _ _ _ (reads-identifier payload) (λ uid.
     reads-bind _ _ _ _ (reads-the as_structure inside structure_kind TAG_REVOCATION_REASON payload) (λ reason.
@@ -305,15 +310,16 @@ ask-law operation batch = reads-as (ask_at operation batch) _ (λ a. (payload : 
 pub request-law : (n : Node) → Reads (request_at n) (λ r. IsRequest r n)
 unfolding request_at
 request-law n = reads-as (request_at n) _ (λ r. IsRequest r n)
-    (λ r p. subst (λ s. IsRequest s n) p.2.2.2.2 (record {
-      batch = p.0;
-      is_batch = p.1;
-      mark = p.2.1;
+    (λ r (batch, is_batch, (_, mark, (operation, has_operation, (_, (payload, stands, (is_of, says)), same)))).
+    subst (λ s. IsRequest s n) same (record {
+      batch = batch;
+      is_batch = is_batch;
+      mark = mark;
       asks = record {
-        operation = subst (λ o. Once TAG_OPERATION (enumeration o) p.0) p.2.2.2.1.2.0 p.2.2.1;
-        payload = p.2.2.2.1.0;
-        stands = p.2.2.2.1.1;
-        says = p.2.2.2.1.2.1;
+        operation = subst (λ o. Once TAG_OPERATION (enumeration o) batch) is_of has_operation;
+        payload = payload;
+        stands = stands;
+        says = says;
       };
     }))
     (λ r q. (q.batch, q.is_batch, (r.id, q.mark, (operation_of r.ask, q.asks.operation, (r.ask, (q.asks.payload, q.asks.stands, (refl, q.asks.says)), refl)))))

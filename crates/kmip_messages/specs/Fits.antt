@@ -3,6 +3,7 @@
 use Rattle.std.specs.Prelude.{ℕ, pos, Bool, true, false, ◌&&◌, ◌==◌, nat_le, Option, IsTrue}
 use Rattle.std.specs.List.{list_all}
 use Rattle.std.specs.Option.{option_map_or}
+use Rattle.kmip_ttlv.specs.Limits.{most_bytes}
 use Rattle.kmip_ttlv.specs.Sizes.{size}
 use Rattle.kmip_messages.specs.declared.reply.Outcome.{Outcome}
 use Rattle.kmip_messages.specs.declared.reply.Outcome.TheVariants.{Created, Located, Attributes, Activated, Revoked, Destroyed, Failed}
@@ -15,7 +16,7 @@ use Rattle.kmip_messages.specs.declared.standard.TheConstants.{
   OPERATION_REVOKE,
   OPERATION_DESTROY,
 }
-use Rattle.kmip_messages.specs.Ranges.{is_identifier, is_batch_id, most_message_bytes}
+use Rattle.kmip_messages.specs.Ranges.{is_identifier, is_batch_id}
 use Rattle.kmip_messages.specs.Written.{reply_item}
 
 -- the operation that was asked is this one
@@ -38,4 +39,4 @@ HasValuesInRange r = IsTrue (option_map_or is_batch_id r.id true) × IsTrue (out
 
 -- the values are in their ranges, and the written form is not too long; it has one length at all times
 abbrev pub reply_fits : Reply → Bool
-reply_fits r = option_map_or is_batch_id r.id true && outcome_fits r.operation r.outcome && nat_le (size (reply_item r (pos 0))) most_message_bytes
+reply_fits r = option_map_or is_batch_id r.id true && outcome_fits r.operation r.outcome && nat_le (size (reply_item r (pos 0))) most_bytes

@@ -1,12 +1,12 @@
--- How long the parts of a message are.
+-- Private: how long the parts of a message are.
 -- Source: KMIP 2.1, TTLV Encoding.
 use Rattle.std.specs.Prelude.{◌≡◌, ℕ, ◌+◌, ◌<◌, ◌≤◌, List, length, map, Option, Some, None}
+use Rattle.kmip_ttlv.specs.Limits.{most_bytes}
 use Rattle.kmip_ttlv.specs.Node.{nodes_of}
 use Rattle.kmip_ttlv.specs.Sizes.{padded, sizes}
 use Rattle.kmip_messages.specs.declared.request.Attrs.{Attrs}
 use Rattle.kmip_messages.specs.declared.reply.Outcome.{Outcome}
 use Rattle.kmip_messages.specs.declared.reply.Outcome.TheVariants.{Created, Located, Attributes, Activated, Revoked, Destroyed, Failed}
-use Rattle.kmip_messages.specs.Ranges.{most_message_bytes}
 use Rattle.kmip_messages.specs.Written.{uid_item}
 
 -- a number, a text and bytes, each where it is given
@@ -39,4 +39,4 @@ outcome_size (Failed reason) = 16 + number_size reason
 
 -- the same number, or both are more than a message may have
 abbrev pub IsCapped : ℕ → ℕ → Type 0
-IsCapped n m = (m ≤ most_message_bytes → n ≡ m) × (most_message_bytes < m → most_message_bytes < n)
+IsCapped n m = (m ≤ most_bytes → n ≡ m) × (most_bytes < m → most_bytes < n)

@@ -22,10 +22,6 @@ most_batch_id_bytes = 128
 abbrev pub most_usage : ℤ
 most_usage = pos 0x1FF
 
--- the most bytes of a message (own)
-abbrev pub most_message_bytes : ℕ
-most_message_bytes = 8192
-
 -- a printing ASCII character other than the space
 abbrev pub is_name_byte : ℕ → Bool
 is_name_byte b = nat_le 0x21 b && nat_le b 0x7E

@@ -1,5 +1,6 @@
 -- Messages in bytes: all of the bytes spell one item, and the item is the message.
 -- Source: KMIP 2.1, Message Structure; the order of the checks is own.
+use Rattle.kmip_ttlv.specs.Limits.{most_levels}
 use Rattle.std.specs.Prelude.{ℕ, ◌==◌, List, length, None, Result, Ok, Err, if◌then◌else◌}
 use Rattle.kmip_ttlv.specs.declared.fault.TtlvFault.{TtlvFault}
 use Rattle.kmip_ttlv.specs.Node.{Node}
@@ -20,7 +21,7 @@ whole len (Ok x) = if x.1 == len then Ok x.0 else Err NotMessage
 whole len (Err fault) = Err (message_fault_of fault)
 
 unfoldable pub item_in : List ℕ → Result Node MessageFault
-item_in bytes = whole (length bytes) (item_at 16 0 bytes)
+item_in bytes = whole (length bytes) (item_at most_levels 0 bytes)
 
 -- the request in the bytes, or its first fault
 unfoldable pub request_read : List ℕ → Result Request Refusal

@@ -32,7 +32,8 @@ pub(crate) fn push_id(
     id: &Option<Bytes>,
 ) -> Result<(), NoMemory>
     ensures { OnOk result
-        (views items.new.items ≡ views items.old.items ++ given (λ s. node TAG_UNIQUE_BATCH_ITEM_ID (byte_string s)) id.now) }
+        (views items.new.items ≡ views items.old.items
+        ++ given (λ s. node TAG_UNIQUE_BATCH_ITEM_ID (byte_string s)) id.now) }
 {
     match id {
         Some(id) => {
@@ -109,7 +110,8 @@ pub(crate) fn push_enumeration(
 ) -> Result<(), NoMemory>
     requires { tag < 2 ^ 24 }
     ensures { OnOk result
-        (views items.new.items ≡ views items.old.items ++ given (λ n. node tag (enumeration n)) value) }
+        (views items.new.items ≡ views items.old.items
+        ++ given (λ n. node tag (enumeration n)) value) }
 {
     match value {
         Some(number) => {
@@ -128,7 +130,8 @@ pub(crate) fn push_integer(
 ) -> Result<(), NoMemory>
     requires { tag < 2 ^ 24 }
     ensures { OnOk result
-        (views items.new.items ≡ views items.old.items ++ given (λ z. node tag (integer z)) value) }
+        (views items.new.items ≡ views items.old.items
+        ++ given (λ z. node tag (integer z)) value) }
 {
     match value {
         Some(number) => {

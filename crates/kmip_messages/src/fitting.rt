@@ -2,9 +2,10 @@
 ghost use Rattle.std.specs.Prelude.{◌≡◌, ◌+◌, ◌≤◌, ◌<◌, ◌==◌, pos, true, false, map, nat_le, length};
 ghost use Rattle.std.specs.List.{list_all};
 ghost use Rattle.std.specs.Option.{option_map_or};
+ghost use Rattle.kmip_ttlv.specs.Limits.{most_bytes};
 ghost use Rattle.kmip_ttlv.specs.Node.{nodes_of};
 ghost use Rattle.kmip_ttlv.specs.Sizes.{size, sizes, padded};
-ghost use Rattle.kmip_messages.specs.Ranges.{is_name, is_identifier, is_batch_id, ask_fits, request_fits, most_message_bytes};
+ghost use Rattle.kmip_messages.specs.Ranges.{is_name, is_identifier, is_batch_id, ask_fits, request_fits};
 ghost use Rattle.kmip_messages.specs.Written.{uid_item, reply_item};
 ghost use Rattle.kmip_messages.specs.Fits.{is_own, outcome_fits, reply_fits};
 ghost use Rattle.kmip_messages.specs.MessageSizes.{
@@ -111,7 +112,7 @@ fn are_identifiers(uids: &[Text]) -> bool
 
 /// Whether the written reply has at most 8,192 bytes.
 fn is_short(reply: &Reply) -> bool
-    ensures { result ≡ nat_le (size (reply_item reply.now (pos 0))) most_message_bytes }
+    ensures { result ≡ nat_le (size (reply_item reply.now (pos 0))) most_bytes }
 {
     let operation = number_size(&reply.operation);
     let id = id_size(&reply.id);

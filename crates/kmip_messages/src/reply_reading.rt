@@ -65,14 +65,16 @@ pub fn read_reply(alloc: Global, bytes: &[u8]) -> Result<Reply, MessageFault>
     ensures only { (r : Reply) (n : Node) → Spells n bytes.now → IsReply r n
         → Gives (λ x. x) result (Ok r) }
     // What was written is read again.
-    ensures back { (r : Reply) (now : ℤ) → IsTrue (reply_fits r) → IsInRange (reply_item r now)
+    ensures back { (r : Reply) (now : ℤ) → IsTrue (reply_fits r)
+        → IsInRange (reply_item r now)
         → bytes.now ≡ canon (reply_item r now) → Gives (λ x. x) result (Ok r) }
     // Which fault it is.
     ensures exact { Gives (λ r. r) result (reply_read bytes.now) }
     ensures fits { IfOk result HasValuesInRange }
     // What the bytes say, as a list.
     ensures says { IfOk result (λ r. replies_in bytes.now ≡ r ∷ []) }
-    ensures refused { IfErr result (λ e. is_no_memory e ≡ false → replies_in bytes.now ≡ []) }
+    ensures refused { IfErr result (λ e. is_no_memory e ≡ false → replies_in bytes.now
+        ≡ []) }
 {
     whole_reply(alloc, bytes)
 }

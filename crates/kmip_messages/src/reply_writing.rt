@@ -130,7 +130,8 @@ fn push_success(items: &mut Vec<Item>, payload: Vec<Item>) -> Result<(), NoMemor
 /// The payload of a Create.
 fn created_items(alloc: Global, uid: &Text) -> Result<Vec<Item>, NoMemory>
     ensures { IfOk result (λ v. views v.items
-        ≡ node TAG_OBJECT_TYPE (enumeration OBJECT_TYPE_SYMMETRIC_KEY) ∷ uid_item uid.now ∷ []) }
+        ≡ node TAG_OBJECT_TYPE (enumeration OBJECT_TYPE_SYMMETRIC_KEY) ∷ uid_item uid.now
+        ∷ []) }
 {
     let object_type = Item::enumeration(Tag::new(TAG_OBJECT_TYPE), OBJECT_TYPE_SYMMETRIC_KEY);
     let uid = uid_item(alloc, uid)?;
@@ -152,7 +153,8 @@ fn located_items(alloc: Global, uids: &[Text]) -> Result<Vec<Item>, NoMemory>
 
 /// The payload of a Get Attributes.
 fn attributes_items(alloc: Global, uid: &Text, attrs: &Attrs) -> Result<Vec<Item>, NoMemory>
-    ensures { IfOk result (λ v. views v.items ≡ uid_item uid.now ∷ attrs_item attrs.now ∷ []) }
+    ensures { IfOk result (λ v. views v.items
+        ≡ uid_item uid.now ∷ attrs_item attrs.now ∷ []) }
 {
     let uid = uid_item(alloc, uid)?;
     let attrs = attrs_item(alloc, attrs)?;

@@ -64,7 +64,8 @@ pub fn read_request(alloc: Global, bytes: &[u8]) -> Result<Request, Refusal>
     ensures carries { IfErr result (λ e. IsTrue (option_map_or is_batch_id e.id true)) }
     // What the bytes ask, as lists.
     ensures asks { IfOk result (AsksAlone bytes.now) }
-    ensures refused { IfErr result (λ e. is_no_memory e.fault ≡ false → AsksNothing bytes.now e) }
+    ensures refused { IfErr result (λ e. is_no_memory e.fault ≡ false
+        → AsksNothing bytes.now e) }
 {
     whole_request(alloc, bytes)
 }

@@ -110,7 +110,9 @@ fn ask_items(alloc: Global, ask: &Ask) -> Result<Vec<Item>, NoMemory>
 /// The payload of a Create.
 fn create_items(alloc: Global, attrs: &KeyAttrs) -> Result<Vec<Item>, NoMemory>
     ensures { IfOk result (λ v. views v.items
-        ≡ node TAG_OBJECT_TYPE (enumeration OBJECT_TYPE_SYMMETRIC_KEY) ∷ key_attrs_item attrs.now ∷ []) }
+        ≡ node TAG_OBJECT_TYPE (enumeration OBJECT_TYPE_SYMMETRIC_KEY)
+        ∷ key_attrs_item attrs.now
+        ∷ []) }
 {
     let object_type = Item::enumeration(Tag::new(TAG_OBJECT_TYPE), OBJECT_TYPE_SYMMETRIC_KEY);
     let attrs = key_attrs_item(alloc, attrs)?;

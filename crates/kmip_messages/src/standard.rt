@@ -138,8 +138,8 @@ pub const VERSION_MINOR: i32 = 1;
 /// The bits that a Cryptographic Usage Mask may have: it is 1 to this number (own).
 pub const USAGE_MAX: i32 = 0x1FF;
 
-/// The most bytes of a Name Value in a request, and of a Unique Identifier.
+/// The most bytes of a Name Value in a request, and of a Unique Identifier (own).
 pub const NAME_MAX: usize = 64;
 
-/// The most bytes of a Unique Batch Item ID.
+/// The most bytes of a Unique Batch Item ID (own).
 pub const ID_MAX: usize = 128;

@@ -25,7 +25,7 @@ own_name s t h = (bytes_eq-Decides s t).1 h
 apart : {X : Type 0} (b : Bool) → b ≡ true → b ≡ false → X
 apart b is other = absurd cc
 
--- no key before has the name of one that stands behind them
+-- no key before has the name of one that stands after them
 new_at : (before keys : List Key) (place : ℕ) (key : Key) → HaveNewNames before keys → slice_get keys place ≡ Some key → has_key_named key.attrs.name before ≡ false
 new_at before [] place key new is = not_some key is
 new_at before (k ∷ ks) zero key new is = subst (λ x. has_key_named x.attrs.name before ≡ false) (same_some k key is) new.0

@@ -40,12 +40,12 @@ pub record AreThere (ms : Members) : Type 0 where
 there-law : (place : ℕ) (ms : Members) → Reads (all_there place ms) (λ u. AreThere ms)
 unfolding all_there
 there-law place ms = reads-as (all_there place ms) _ (λ u. AreThere ms)
-    (λ u p. record {
-      name = (p.0, p.1);
-      algorithm = (p.2.0, p.2.1);
-      bits = (p.2.2.0, p.2.2.1);
-      usage = (p.2.2.2.0, p.2.2.2.1);
-      target = (p.2.2.2.2.0, p.2.2.2.2.1);
+    (λ u (name, has_name, (algorithm, has_algorithm, (bits, has_bits, (usage, has_usage, (target, has_target, _))))). record {
+      name = (name, has_name);
+      algorithm = (algorithm, has_algorithm);
+      bits = (bits, has_bits);
+      usage = (usage, has_usage);
+      target = (target, has_target);
     })
     (λ u p. (p.name.0, p.name.1, (p.algorithm.0, p.algorithm.1, (p.bits.0, p.bits.1, (p.usage.0, p.usage.1, (p.target.0, p.target.1, refl))))))
     (reads-bind _ _ _ _ (reads-need (faults.Missing field.Name place) (get_member (codes "name") ms)) (λ name.
@@ -119,9 +119,8 @@ unfolding key_in
 key-law keys ms =
     let place = length keys + 1 in
     reads-as (key_in keys ms) _ (IsNewKey keys ms)
-    (λ a p. subst (IsNewKey keys ms) p.2.2.2.2.2.2.2.2 (
-    new_key keys ms p.2.2.0 p.2.2.2.0 p.2.2.2.2.0 p.2.2.2.2.2.0 p.2.2.2.2.2.2.0
-    p.2.1 p.2.2.1 p.2.2.2.1 p.2.2.2.2.1 p.2.2.2.2.2.1 p.2.2.2.2.2.2.1 p.2.2.2.2.2.2.2.1))
+    (λ a (_, _, (_, only, (name, called, (suite, suits, (usage, used, (target, goes, (reason, because, (_, new, same)))))))).
+    subst (IsNewKey keys ms) same (new_key keys ms name suite usage target reason only called suits used goes because new))
     (λ a p. (
       tt,
       all_are_there ms a p.is,
@@ -226,16 +225,16 @@ as_many (item d ds) (k ∷ ks) h = grind (arith, as_many ds ks h.1)
 plan-law : (ms : Members) → Reads (plan_in ms) (IsPlan ms)
 unfolding plan_in
 plan-law ms = reads-as (plan_in ms) _ (IsPlan ms)
-    (λ a p.
-    let many = as_many p.2.0 p.2.2.2.2.keys p.2.2.2.2.each in
-    subst (IsPlan ms) (sym p.2.2.2.2.behind) (record {
-      no_others = p.1;
-      items = p.2.0;
-      stands = p.2.1;
-      each = p.2.2.2.2.each;
-      some = subst (λ n. 1 ≤ n) many (leb-true 1 (count p.2.0) p.2.2.1);
-      few = subst (λ n. n ≤ most_keys) many (leb-true (count p.2.0) most_keys p.2.2.2.1);
-      distinct = p.2.2.2.2.new;
+    (λ a (_, no_others, (items, stands, (_, some, (_, few, read)))).
+    let many = as_many items read.keys read.each in
+    subst (IsPlan ms) (sym read.behind) (record {
+      no_others = no_others;
+      items = items;
+      stands = stands;
+      each = read.each;
+      some = subst (λ n. 1 ≤ n) many (leb-true 1 (count items) some);
+      few = subst (λ n. n ≤ most_keys) many (leb-true (count items) most_keys few);
+      distinct = read.new;
     }))
     (λ a p.
     let many = sym (as_many p.items a p.each) in (

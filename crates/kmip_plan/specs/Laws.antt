@@ -61,7 +61,7 @@ StepsStandFromOne =
     → (1 ≤ place → place ≤ length (chain target) → (step : Step) × (step_at target place ≡ Some step))
     × ((step : Step) → step_at target place ≡ Some step → (1 ≤ place) × (place ≤ length (chain target)))
 
--- no step has a place behind the end of the chain
+-- no step has a place beyond the end of the chain
 abbrev pub StepsAreWithin : Type 0
 StepsAreWithin = (target : Target) (step : Step) → step_place target step ≤ length (chain target)
 
@@ -75,11 +75,13 @@ NextStepsStand =
 abbrev pub CreateIsFirst : Type 0
 CreateIsFirst =
     (target : Target) (place : ℕ)
-    → ((step_at target place ≡ Some Create) → (place ≡ 1)) × ((place ≡ 1) → (step_at target place ≡ Some Create))
+    → ((step_at target place ≡ Some Create) → (place ≡ 1))
+    × ((place ≡ 1) → (step_at target place ≡ Some Create))
 
 -- a chain with a Revoke is that of a target that is revoked
 abbrev pub RevokesAreOfTheRevoked : Type 0
-RevokesAreOfTheRevoked = (target : Target) (place : ℕ) → step_at target place ≡ Some Revoke → is_revoked target ≡ true
+RevokesAreOfTheRevoked =
+    (target : Target) (place : ℕ) → step_at target place ≡ Some Revoke → is_revoked target ≡ true
 
 -- there are as many states on the way as steps
 abbrev pub StatesAreAsMany : Type 0
@@ -95,9 +97,10 @@ StatesStandFromOne =
 -- the place of a state, by its number, is one of the chain
 abbrev pub PlacesAreWithin : Type 0
 PlacesAreWithin =
-    (target : Target) (number place : ℕ) → place_of target number ≡ Some place → (1 ≤ place) × (place ≤ length (chain target))
+    (target : Target) (number place : ℕ) → place_of target number ≡ Some place
+    → (1 ≤ place) × (place ≤ length (chain target))
 
--- no state is further than the end of the chain
+-- no state is beyond the end of the chain
 abbrev pub ReachedIsWithin : Type 0
 ReachedIsWithin = (target : Target) (state : KeyState) → place_reached target state ≤ length (chain target)
 
@@ -105,33 +108,36 @@ ReachedIsWithin = (target : Target) (state : KeyState) → place_reached target 
 abbrev pub PreActiveIsFirst : Type 0
 PreActiveIsFirst = (target : Target) → place_reached target PreActive ≡ 1
 
--- A step after Create that is due, all steps before it having been done, is either no row of the lifecycle, or is the next
--- step and leads to the next place.
+-- A step after Create that is due, all steps before it having been done, is no row of the lifecycle, or is the
+-- next step and leads to the next place.
 abbrev pub DueStepsAdvance : Type 0
 DueStepsAdvance =
-    (target : Target) (old : KeyState) (step : Step)
-    → 1 < step_place target step → step_place target step ≤ place_reached target old + 1 → 1 ≤ place_reached target old
+    (target : Target) (old : KeyState) (step : Step) → 1 < step_place target step
+    → step_place target step ≤ place_reached target old + 1 → 1 ≤ place_reached target old
     → MatchOption (after old step) (Unit {0}) (λ new.
-    (step_place target step ≡ place_reached target old + 1) × (place_reached target new ≡ place_reached target old + 1))
+    (step_place target step ≡ place_reached target old + 1)
+    × (place_reached target new ≡ place_reached target old + 1))
 
 -- the next step of the chain is a row of the lifecycle
 abbrev pub NextStepsAreRows : Type 0
 NextStepsAreRows =
-    (target : Target) (old : KeyState) (step : Step)
-    → 1 < step_place target step → step_place target step ≡ place_reached target old + 1 → 1 ≤ place_reached target old
+    (target : Target) (old : KeyState) (step : Step) → 1 < step_place target step
+    → step_place target step ≡ place_reached target old + 1 → 1 ≤ place_reached target old
     → after old step ≢ None
 
--- a step that is due, where the lifecycle has it, is the one behind the steps that were done
+-- a step that is due, where the lifecycle has it, is the one after the steps that were done
 abbrev pub DueStepsJoinTheDone : Type 0
 DueStepsJoinTheDone =
-    (target : Target) (old new : KeyState) (step : Step)
-    → 1 < step_place target step → step_place target step ≤ place_reached target old + 1 → 1 ≤ place_reached target old
+    (target : Target) (old new : KeyState) (step : Step) → 1 < step_place target step
+    → step_place target step ≤ place_reached target old + 1 → 1 ≤ place_reached target old
     → after old step ≡ Some new
     → take (place_reached target new) (chain target) ≡ take (place_reached target old) (chain target) ++ step ∷ []
 
 -- what stands at a place of a lawful plan is found by its name
 abbrev pub KeysAreFound : Type 0
-KeysAreFound = (keys : List Key) (place : ℕ) (key : Key) → IsLawful keys → slice_get keys place ≡ Some key → IsPlanned keys key
+KeysAreFound =
+    (keys : List Key) (place : ℕ) (key : Key) → IsLawful keys → slice_get keys place ≡ Some key
+    → IsPlanned keys key
 
 -- what is found has the name, and stands at a place
 abbrev pub FoundKeysStand : Type 0
@@ -142,7 +148,8 @@ FoundKeysStand =
 -- the keys of a lawful plan at two places have two names
 abbrev pub NamesAreDistinct : Type 0
 NamesAreDistinct =
-    (keys : List Key) (i j : ℕ) (key other : Key) → IsLawful keys → slice_get keys i ≡ Some key → slice_get keys j ≡ Some other
+    (keys : List Key) (i j : ℕ) (key other : Key) → IsLawful keys
+    → slice_get keys i ≡ Some key → slice_get keys j ≡ Some other
     → key.attrs.name ≡ other.attrs.name → i ≡ j
 
 -- each key of a lawful plan has its values in range
@@ -155,4 +162,5 @@ ReasonsAreNoCompromise = (key : Key) → key_fits key ≡ true → is_compromise
 
 -- what a run takes at most is what its keys take, one after the other
 abbrev pub BoundsAddUp : Type 0
-BoundsAddUp = (bound [] ≡ 0) × ((key : Key) (keys : List Key) → bound (key ∷ keys) ≡ key_bound key + bound keys)
+BoundsAddUp =
+    (bound [] ≡ 0) × ((key : Key) (keys : List Key) → bound (key ∷ keys) ≡ key_bound key + bound keys)

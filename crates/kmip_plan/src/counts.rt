@@ -41,7 +41,8 @@ pub(crate) fn are_usages(array: &Array) -> bool
 
 fn all_usages(values: &[Value]) -> bool
     ensures { result
-        ≡ list_all (λ value. option_map_or is_usage_word (as_str (view value)) false) values.now }
+        ≡ list_all (λ value. option_map_or is_usage_word
+        (as_str (view value)) false) values.now }
 {
     values.iter().all(|value| is_usage(value))
 }

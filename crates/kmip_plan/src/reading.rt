@@ -21,7 +21,7 @@ use std::alloc::Global;
 use toml::value::Array;
 use toml::{Table, Value};
 
-/// The most keys that a plan may have.
+/// The most keys that a plan may have (own).
 const KEYS_MAX: usize = 1000;
 
 /// The plan that a text is: TOML with an array of tables `key` and nothing else.
@@ -160,7 +160,8 @@ fn check_fields(table: &Table, place: usize) -> Result<(), PlanFault>
 /// The field is there.
 fn require<'a>(table: &'a Table, field: Field, place: usize) -> Result<&'a Value, PlanFault>
     ensures { GivesPlan (λ value. view value.now) result
-        (need (PlanFault.Missing field place) (get_member (field_word field) (table_view table.now))) }
+        (need (PlanFault.Missing field place)
+        (get_member (field_word field) (table_view table.now))) }
 {
     match value_at(table, field.word()) {
         Some(value) => Ok(value),

@@ -19,11 +19,11 @@ use Rattle.kmip_messages.specs.declared.step.Step.TheVariants as steps
 use Rattle.kmip_store.specs.declared.row.Row.{Row}
 use Rattle.kmip_store.specs.Stepping.{enter, enter_state, row_in_state, row_with, rows_in_state, take_step_from}
 use Rattle.kmip_store.specs.Stock.{Stock, has_row_named}
-use Rattle.kmip_store.proofs.KeptLemmas.{has_name_moved, moved_uid}
+use Rattle.kmip_store.proofs.ForCallers.{has_name_moved, moved_uid}
 use Rattle.kmip_server.specs.Again.{stock_after_asks, changes, has_failed}
 use Rattle.kmip_server.specs.Serving.{answer, outcome_of_change}
 use Rattle.kmip_messages.specs.Ranges.{is_compromise}
-use Rattle.kmip_server.proofs.BehindLemmas.{Behind, behind, more, moves, stays}
+use Rattle.kmip_server.proofs.ChangeLemmas.{Follows, follows, more, moves, stays}
 
 -- an object in the state never comes to a state that the step leads out of
 abbrev pub is_past : Step → KeyState → Bool
@@ -182,19 +182,19 @@ spent_goes_on (Destroy uid) = step_goes_on steps.Destroy uid
 spent_goes_on (Locate mask given) = never_goes_on
 spent_goes_on (GetAttributes uid) = never_goes_on
 
-test_behind : (test : List Row → Bool) (s : Stock) (ask : Ask) (next : Stock) → GoesOn test → Behind s ask next → test s.rows ≡ true
+test_after : (test : List Row → Bool) (s : Stock) (ask : Ask) (next : Stock) → GoesOn test → Follows s ask next → test s.rows ≡ true
     → test next.rows ≡ true
-test_behind test s ask next on stays holds = holds
-test_behind test s ask next on (more is free room) holds = on.grown s.rows _ holds
-test_behind test s ask next on (moves uid step {row = row} {state = state} found is) holds = on.moved uid step state s.rows row found is holds
+test_after test s ask next on stays holds = holds
+test_after test s ask next on (more is free room) holds = on.grown s.rows _ holds
+test_after test s ask next on (moves uid step {row = row} {state = state} found is) holds = on.moved uid step state s.rows row found is holds
 
-spent_behind_all : (ask : Ask) (between : List Ask) (s : Stock) → is_spent ask s.rows ≡ true → is_spent ask (stock_after_asks between s).rows ≡ true
-spent_behind_all ask [] s spent = spent
-spent_behind_all ask (other ∷ between) s spent =
-    spent_behind_all ask between (answer s other).1
-    (test_behind (is_spent ask) s other (answer s other).1 (spent_goes_on ask) (behind s other) spent)
+spent_after_all : (ask : Ask) (between : List Ask) (s : Stock) → is_spent ask s.rows ≡ true → is_spent ask (stock_after_asks between s).rows ≡ true
+spent_after_all ask [] s spent = spent
+spent_after_all ask (other ∷ between) s spent =
+    spent_after_all ask between (answer s other).1
+    (test_after (is_spent ask) s other (answer s other).1 (spent_goes_on ask) (follows s other) spent)
 
--- where it did not fail, the rows behind it pass the test
+-- where it did not fail, the rows after it pass the test
 abbrev pub Spends : (List Row → Bool) → Outcome × Stock → Type 0
 Spends test next = has_failed next.0 ≡ false → test next.1.rows ≡ true
 
@@ -260,4 +260,4 @@ spent_refused s (GetAttributes uid) past = absurd (cc)
 pub again_refused : (s : Stock) (ask : Ask) (between : List Ask) → changes ask ≡ true → has_failed (answer s ask).0 ≡ false
     → IsRefused (stock_after_asks between (answer s ask).1) (answer (stock_after_asks between (answer s ask).1) ask)
 again_refused s ask between changing done =
-    spent_refused (stock_after_asks between (answer s ask).1) ask (spent_behind_all ask between (answer s ask).1 (spends s ask changing done))
+    spent_refused (stock_after_asks between (answer s ask).1) ask (spent_after_all ask between (answer s ask).1 (spends s ask changing done))

@@ -1,5 +1,7 @@
 pub mod ServingLemmas
 pub mod ObjectLemmas
 pub mod StepLaws
-pub mod BehindLemmas
+pub mod ChangeLemmas
 pub mod AgainLaws
+pub mod MessageLemmas
+pub mod SearchLaws

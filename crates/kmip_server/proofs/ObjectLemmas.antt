@@ -1,16 +1,19 @@
 -- Objects and the rows that they show: found by name and by identifier, and in another state.
-use Rattle.std.proofs.Common.{◌≡◌, ℕ, ◌+◌, ◌≤◌, Bool, true, false, cond, nat_eq, List, [], ◌∷◌, length, map, Option, Some, None, is_some, refl, ap, ◌∙◌, inl, inr, arith}
+use Rattle.std.proofs.Common.{◌≡◌, ℕ, ◌+◌, ◌<◌, ◌≤◌, Bool, true, false, cond, nat_eq, List, [], ◌∷◌, length, map, Option, Some, None, is_some, refl, ap, ◌∙◌, inl, inr, arith}
 use Rattle.std.specs.Cmp.Lexicographic.{pointwise}
-use Rattle.std.specs.Fmt.{decimal}
-use Rattle.std.specs.List.{find, list_any}
+use Rattle.std.specs.List.{find, list_all, list_any}
 use Rattle.std.specs.Option.{option_map}
-use Rattle.std.proofs.lemmas.Bool.{cases_Bool, false_from_ne_true}
+use Rattle.std.proofs.lemmas.Bool.{and_parts, cases_Bool, false_from_ne_true}
 use Rattle.std.proofs.lemmas.Fmt.{decimal_injective}
+use Rattle.std.proofs.lemmas.List.{length-map}
 use Rattle.std.proofs.lemmas.Slice.Eq.{bytes_eq-Decides}
-use Rattle.kmip_messages.specs.Objects.{object_named, object_with, restated, all_restated}
+use Rattle.kmip_messages.specs.Objects.{DistinctNames, DistinctUids, object_named, object_with, restated, all_restated}
+use Rattle.kmip_messages.specs.Ranges.{attrs_fit, is_identifier}
+use Rattle.kmip_messages.proofs.ForCallers.{decimal_identifier}
 use Rattle.kmip_messages.specs.declared.state.KeyState.{KeyState}
 use Rattle.kmip_store.specs.declared.row.Row.{Row}
-use Rattle.kmip_store.specs.Stock.{AreNumbered, has_row_named, object_of, objects_of}
+use Rattle.kmip_store.specs.Stock.{AreNumbered, HaveOwnNames, IsKept, Stock, has_row_named, identifier_at, object_of, objects_of}
+use Rattle.kmip_server.specs.Shown.{HasLawfulObjects, object_fits}
 use Rattle.kmip_store.specs.Stepping.{enter, row_in_state, rows_in_state, row_with}
 
 -- the first image that passes a test is that of the first element whose image does
@@ -51,18 +54,6 @@ none_named name rows free = none_from (object_named name (objects_of rows)) (som
 pub object_of_row : (uid : List ℕ) (rows : List Row) → object_with uid (objects_of rows) ≡ option_map object_of (row_with uid rows)
 object_of_row uid rows = find-map (λ o. pointwise nat_eq uid o.uid) object_of rows
 
--- the decimal number behind that of each place is on no row
-pub unnumbered : (place n : ℕ) (rows : List Row) → AreNumbered place rows → place + length rows ≤ n → n ≤ 10000
-    → row_with (decimal (n + 1)) rows ≡ None
-unnumbered place n [] numbered within small = refl
-unnumbered place n (r ∷ rows) numbered within small =
-    let other : pointwise nat_eq (decimal (n + 1)) r.uid ≡ false =
-    false_from_ne_true (pointwise nat_eq (decimal (n + 1)) r.uid)
-    (λ same.
-    let equal = decimal_injective (n + 1) (place + 1) (omega (arith, small)) (omega (arith, within, small)) ((bytes_eq-Decides (decimal (n + 1)) r.uid).0 same ∙ numbered.0) in
-    omega (arith, equal, within)) in
-    rw other (unnumbered (place + 1) n rows numbered.1 (omega (arith, within)) small)
-
 -- what a row shows in another state
 restated_if : (b : Bool) (state : KeyState) (r : Row)
     → object_of (cond b (enter state r) r) ≡ cond b (record { uid = r.uid; attrs = r.attrs; state = state }) (object_of r)
@@ -76,3 +67,46 @@ pub objects_moved : (uid : List ℕ) (state : KeyState) (rows : List Row)
     → objects_of (rows_in_state uid state rows) ≡ all_restated uid state (objects_of rows)
 objects_moved uid state [] = refl
 objects_moved uid state (r ∷ rows) = rw (object_moved uid state r, objects_moved uid state rows) refl
+
+-- ---- the objects of records that are kept
+
+own_names : (rows : List Row) → HaveOwnNames rows → DistinctNames (objects_of rows)
+own_names [] named = tt
+own_names (r ∷ rows) named = (none_named r.attrs.name rows named.0, own_names rows named.1)
+
+-- the identifier of a place before those of some rows is on none of them
+before_all : (place n : ℕ) (rows : List Row) → AreNumbered place rows → n < place → place + length rows ≤ 10000
+    → row_with (identifier_at n) rows ≡ None
+before_all place n [] numbered before small = refl
+before_all place n (r ∷ rows) numbered before small =
+    let other : pointwise nat_eq (identifier_at n) r.uid ≡ false =
+    false_from_ne_true (pointwise nat_eq (identifier_at n) r.uid)
+    (λ same.
+    let equal = decimal_injective (n + 1) (place + 1) (omega (arith, before, small)) (omega (arith, small)) ((bytes_eq-Decides (identifier_at n) r.uid).0 same ∙ numbered.0) in
+    omega (arith, equal, before)) in
+    rw other (before_all (place + 1) n rows numbered.1 (omega (arith, before)) (omega (arith, small)))
+
+own_identifiers : (place : ℕ) (rows : List Row) → AreNumbered place rows → place + length rows ≤ 10000 → DistinctUids (objects_of rows)
+own_identifiers place [] numbered small = tt
+own_identifiers place (r ∷ rows) numbered small =
+    let free : row_with r.uid rows ≡ None =
+    ap (λ uid. row_with uid rows) numbered.0 ∙ before_all (place + 1) place rows numbered.1 (omega arith) (omega (arith, small)) in
+    (object_of_row r.uid rows ∙ ap (option_map object_of) free, own_identifiers (place + 1) rows numbered.1 (omega (arith, small)))
+
+fit_objects : (place : ℕ) (rows : List Row) → AreNumbered place rows → place + length rows ≤ 10000 → list_all (λ r. attrs_fit r.attrs) rows ≡ true
+    → list_all object_fits (objects_of rows) ≡ true
+fit_objects place [] numbered small fit = refl
+fit_objects place (r ∷ rows) numbered small fit =
+    let parts = and_parts (attrs_fit r.attrs) (list_all (λ r. attrs_fit r.attrs) rows) fit in
+    let identified : is_identifier r.uid ≡ true = ap is_identifier numbered.0 ∙ decimal_identifier (place + 1) (omega (arith, small)) in
+    rw (identified, parts.0, fit_objects (place + 1) rows numbered.1 (omega (arith, small)) parts.1) refl
+
+pub kept_objects : (s : Stock) → IsKept s.rows s.room → HasLawfulObjects s
+kept_objects s kept =
+    let small : 0 + length s.rows ≤ 10000 = omega (arith, kept.within, kept.small) in
+    record {
+      names = own_names s.rows kept.named;
+      identifiers = own_identifiers 0 s.rows kept.numbered small;
+      within = omega (arith, kept.within, length-map s.rows object_of);
+      fit = fit_objects 0 s.rows kept.numbered small kept.fit;
+    }

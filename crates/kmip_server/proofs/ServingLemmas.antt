@@ -18,7 +18,7 @@ use Rattle.kmip_messages.specs.Objects.{Object}
 use Rattle.kmip_messages.specs.Ranges.{attrs_fit, is_batch_id, is_identifier}
 use Rattle.kmip_messages.specs.RequestReading.{RefusalIs}
 use Rattle.kmip_messages.specs.Written.{reply_item}
-use Rattle.kmip_messages.proofs.WrittenLemmas.{size-reply, id_bound, name_length, text_bound, uid_length}
+use Rattle.kmip_messages.proofs.ForCallers.{size-reply, id_bound, name_length, text_bound, uid_length}
 use Rattle.kmip_store.specs.declared.fault.StoreFault.{StoreFault}
 use Rattle.kmip_store.specs.declared.fault.StoreFault.TheVariants.{NotFound, SameName, WrongState, Full, NoMemory}
 use Rattle.kmip_store.specs.Stock.{Stock, MayRefuse, stock_with, create}

@@ -1,6 +1,5 @@
 -- What the server answers, and what it leaves, is a step of the server.
-use Rattle.std.proofs.Common.{◌≡◌, ℕ, ◌+◌, ◌<◌, ◌≤◌, true, false, List, length, Option, Some, None, nat_lt, refl, sym, subst, ap, ◌∙◌, inl, inr, arith}
-use Rattle.std.specs.Fmt.{decimal}
+use Rattle.std.proofs.Common.{◌≡◌, ℕ, ◌<◌, ◌≤◌, true, false, List, length, Option, Some, None, nat_lt, refl, sym, subst, ap, ◌∙◌, inl, inr, arith}
 use Rattle.std.specs.Option.{option_map}
 use Rattle.std.proofs.lemmas.Bool.{cases_Bool, ltb-true, ltb-false}
 use Rattle.std.proofs.lemmas.List.{length-map, map-append}
@@ -14,15 +13,15 @@ use Rattle.kmip_messages.specs.declared.request.KeyAttrs.{KeyAttrs}
 use Rattle.kmip_messages.specs.declared.state.KeyState.{KeyState}
 use Rattle.kmip_messages.specs.declared.step.Step.{Step}
 use Rattle.kmip_messages.specs.declared.step.Step.TheVariants as steps
-use Rattle.kmip_messages.proofs.WrittenLemmas.{decimal_identifier}
 use Rattle.kmip_store.specs.declared.row.Row.{Row}
 use Rattle.kmip_store.specs.Stepping.{enter_state, row_with, take_step_from}
-use Rattle.kmip_store.specs.Stock.{IsKept, Stock, stock_with, has_row_named, object_of, objects_of}
+use Rattle.kmip_store.specs.Stock.{IsKept, Stock, identifier_at, stock_with, has_row_named, object_of, objects_of}
+use Rattle.kmip_store.specs.Laws.{NextIdentifierIsFree}
 use Rattle.kmip_server.specs.Serving.{answer, outcome_of_change, attributes_outcome}
 use Rattle.kmip_messages.specs.Ranges.{is_compromise}
 use Rattle.kmip_server.specs.ServerStep as rules_of
 use Rattle.kmip_server.specs.ServerStep.{ServerStep, step_asked, success_of}
-use Rattle.kmip_server.proofs.ObjectLemmas.{none_named, object_of_row, objects_moved, some_named, unnumbered}
+use Rattle.kmip_server.proofs.ObjectLemmas.{none_named, object_of_row, objects_moved, some_named}
 
 -- this outcome and these records are a step
 abbrev pub IsStep : Stock → Ask → Outcome × Stock → Type 0
@@ -37,22 +36,21 @@ the_object : (uid : List ℕ) (rows : List Row) (row : Row) → row_with uid row
     → object_with uid (objects_of rows) ≡ Some (object_of row)
 the_object uid rows row found = object_of_row uid rows ∙ ap (option_map object_of) found
 
-added_step : (s : Stock) (attrs : KeyAttrs) → IsKept s.rows s.room → has_row_named attrs.name s.rows ≡ false
-    → nat_lt (length s.rows) s.room ≡ true → IsStep s (Create attrs) (Created (decimal (length s.rows + 1)), stock_with attrs s)
-added_step s attrs kept free roomy =
-    let small : length s.rows + 1 ≤ 10000 = omega (arith, kept.small, ltb-true _ _ roomy) in
-    let room : length (objects_of s.rows) < s.room = omega (arith, length-map s.rows object_of, ltb-true _ _ roomy) in
-    let apart = no_object (decimal (length s.rows + 1)) s.rows
-    (unnumbered 0 (length s.rows) s.rows kept.numbered (omega arith) (omega (arith, small))) in
-    subst (λ objects. ServerStep s.room (objects_of s.rows) (Create attrs) (Created (decimal (length s.rows + 1))) objects)
+added_step : NextIdentifierIsFree → (s : Stock) (attrs : KeyAttrs) → IsKept s.rows s.room → has_row_named attrs.name s.rows ≡ false
+    → nat_lt (length s.rows) s.room ≡ true → IsStep s (Create attrs) (Created (identifier_at (length s.rows)), stock_with attrs s)
+added_step next s attrs kept free roomy =
+    let inside : length s.rows < s.room = ltb-true _ _ roomy in
+    let room : length (objects_of s.rows) < s.room = omega (arith, length-map s.rows object_of, inside) in
+    let identifier = next s kept inside in
+    subst (λ objects. ServerStep s.room (objects_of s.rows) (Create attrs) (Created (identifier_at (length s.rows))) objects)
     (sym (map-append object_of s.rows _))
-    (rules_of.created (none_named attrs.name s.rows free) room apart (decimal_identifier (length s.rows + 1) small))
+    (rules_of.created (none_named attrs.name s.rows free) room (no_object (identifier_at (length s.rows)) s.rows identifier.1) identifier.0)
 
-create_step : (s : Stock) (attrs : KeyAttrs) → IsKept s.rows s.room → IsStep s (Create attrs) (answer s (Create attrs))
-create_step s attrs kept = elim (cases_Bool (has_row_named attrs.name s.rows)) [
+create_step : NextIdentifierIsFree → (s : Stock) (attrs : KeyAttrs) → IsKept s.rows s.room → IsStep s (Create attrs) (answer s (Create attrs))
+create_step next s attrs kept = elim (cases_Bool (has_row_named attrs.name s.rows)) [
   | inl taken ↦ rw taken (rules_of.name_taken (some_named attrs.name s.rows ∙ taken))
   | inr free ↦ elim (cases_Bool (nat_lt (length s.rows) s.room)) [
-    | inl roomy ↦ rw (free, roomy) (added_step s attrs kept free roomy)
+    | inl roomy ↦ rw (free, roomy) (added_step next s attrs kept free roomy)
     | inr over ↦
         let within : s.room ≤ length (objects_of s.rows) = omega (arith, length-map s.rows object_of, ltb-false _ _ over) in
         rw (free, over) (rules_of.full (none_named attrs.name s.rows free) within)
@@ -86,10 +84,10 @@ revoke_step s uid code = elim (cases_Bool (is_compromise code)) [
       rw plain (stepped_step s (Revoke uid code) steps.Revoke uid (row_with uid s.rows) asked refl)
 ]
 
-pub serving_step : (s : Stock) (ask : Ask) → IsKept s.rows s.room → IsStep s ask (answer s ask)
-serving_step s (Create attrs) kept = create_step s attrs kept
-serving_step s (Locate mask given) kept = rules_of.searched
-serving_step s (GetAttributes uid) kept = told_step s uid (row_with uid s.rows) refl
-serving_step s (Activate uid) kept = stepped_step s (Activate uid) steps.Activate uid (row_with uid s.rows) refl refl
-serving_step s (Revoke uid code) kept = revoke_step s uid code
-serving_step s (Destroy uid) kept = stepped_step s (Destroy uid) steps.Destroy uid (row_with uid s.rows) refl refl
+pub serving_step : NextIdentifierIsFree → (s : Stock) (ask : Ask) → IsKept s.rows s.room → IsStep s ask (answer s ask)
+serving_step next s (Create attrs) kept = create_step next s attrs kept
+serving_step next s (Locate mask given) kept = rules_of.searched
+serving_step next s (GetAttributes uid) kept = told_step s uid (row_with uid s.rows) refl
+serving_step next s (Activate uid) kept = stepped_step s (Activate uid) steps.Activate uid (row_with uid s.rows) refl refl
+serving_step next s (Revoke uid code) kept = revoke_step s uid code
+serving_step next s (Destroy uid) kept = stepped_step s (Destroy uid) steps.Destroy uid (row_with uid s.rows) refl refl

@@ -20,7 +20,7 @@ abbrev pub has_failed : Outcome → Bool
 has_failed (Failed reason) = true
 has_failed outcome = false
 
--- the records behind some questions in turn
+-- the records after some questions in turn
 abbrev pub stock_after_asks : List Ask → Stock → Stock
 stock_after_asks [] s = s
 stock_after_asks (ask ∷ asks) s = stock_after_asks asks (answer s ask).1

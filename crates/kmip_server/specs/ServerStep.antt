@@ -1,4 +1,4 @@
--- The step of the server: what it may answer a question over its objects, and the objects behind it, a rule a case.
+-- The step of the server: what it may answer a question over its objects, and the objects after it, a rule a case.
 -- Source: KMIP 2.1, Operations; Object Attributes, State. Which reason answers which refusal is own, and that a
 -- compromise is refused.
 use Rattle.std.specs.Prelude.{◌≡◌, ℕ, ◌<◌, ◌≤◌, ℤ, List, [], ◌∷◌, ◌++◌, length, Option, Some, None, IsTrue, IsSome, if◌then◌else◌}

@@ -1,7 +1,6 @@
--- What the server answers a message, and what its records are behind it.
+-- What the server answers a message, and what its records are after it.
 -- Source: KMIP 2.1, Operations. Which reason answers which refusal is own, and that a compromise is refused.
-use Rattle.std.specs.Prelude.{ℕ, ◌+◌, ◌==◌, ◌||◌, ℤ, Bool, List, length, Option, Some, None, Result, Ok, Err, if◌then◌else◌}
-use Rattle.std.specs.Fmt.{decimal}
+use Rattle.std.specs.Prelude.{ℕ, ℤ, List, length, Option, Some, None, Result, Ok, Err, if◌then◌else◌}
 use Rattle.kmip_ttlv.specs.Spelling.{canon}
 use Rattle.kmip_messages.specs.Objects.{Object}
 use Rattle.kmip_messages.specs.Operations.{operation_of}
@@ -22,7 +21,7 @@ use Rattle.kmip_messages.specs.declared.step.Step.TheVariants as steps
 use Rattle.kmip_store.specs.declared.fault.StoreFault.{StoreFault}
 use Rattle.kmip_store.specs.declared.fault.StoreFault.TheVariants.{NotFound}
 use Rattle.kmip_store.specs.declared.row.Row.{Row}
-use Rattle.kmip_store.specs.Stock.{Stock, create, object_of, objects_of}
+use Rattle.kmip_store.specs.Stock.{Stock, create, identifier_at, object_of, objects_of}
 use Rattle.kmip_store.specs.Stepping.{row_with, take_step}
 use Rattle.kmip_store.specs.Locating.{locate}
 use Rattle.kmip_server.specs.Reasons.{message_reason, store_reason}
@@ -42,14 +41,14 @@ abbrev pub attributes_outcome : List ℕ → Option Row → Outcome
 attributes_outcome uid None = Failed (store_reason NotFound)
 attributes_outcome uid (Some row) = Attributes uid (attributes_of (object_of row))
 
--- the outcome of a change, and the records behind it: as they were where it is refused
+-- the outcome of a change, and the records after it: as they were where it is refused
 abbrev pub outcome_of_change : Outcome → Stock → Result Stock StoreFault → Outcome × Stock
 outcome_of_change success s (Ok new) = (success, new)
 outcome_of_change success s (Err fault) = (Failed (store_reason fault), s)
 
--- the outcome of an operation, and the records behind it
+-- the outcome of an operation, and the records after it
 abbrev pub answer : Stock → Ask → Outcome × Stock
-answer s (Create attrs) = outcome_of_change (Created (decimal (length s.rows + 1))) s (create attrs s)
+answer s (Create attrs) = outcome_of_change (Created (identifier_at (length s.rows))) s (create attrs s)
 answer s (Locate mask given) = (Located (locate mask given (objects_of s.rows)), s)
 answer s (GetAttributes uid) = (attributes_outcome uid (row_with uid s.rows), s)
 answer s (Activate uid) = outcome_of_change (Activated uid) s (take_step steps.Activate uid s)
@@ -66,7 +65,7 @@ abbrev pub reply_to : Stock → Result Request Refusal → Reply
 reply_to s (Ok request) = record { operation = Some (operation_of request.ask); id = request.id; outcome = (answer s request.ask).0 }
 reply_to s (Err refusal) = refusal_reply refusal
 
--- the records behind it
+-- the records after it
 abbrev pub stock_after_read : Stock → Result Request Refusal → Stock
 stock_after_read s (Ok request) = (answer s request.ask).1
 stock_after_read s (Err refusal) = s
@@ -75,6 +74,6 @@ stock_after_read s (Err refusal) = s
 unfoldable pub reply_bytes : Stock → List ℕ → ℤ → List ℕ
 reply_bytes s message now = canon (reply_item (reply_to s (request_read message)) now)
 
--- the records behind a message
+-- the records after a message
 unfoldable pub stock_after : Stock → List ℕ → Stock
 stock_after s message = stock_after_read s (request_read message)

@@ -1,5 +1,5 @@
 //! The reply to each operation, written before the records change.
-ghost use Rattle.std.specs.Prelude.{◌≡◌, true, OnErr, OnOk, IfOk, IsTrue, IsSome, Some, None, option_to_list};
+ghost use Rattle.std.specs.Prelude.{◌≡◌, [], ◌∷◌, true, OnErr, OnOk, IfOk, IsTrue, IsSome, Some, None, option_to_list};
 ghost use Rattle.std.specs.Option.{option_map_or};
 ghost use Rattle.kmip_ttlv.specs.Spelling.{canon};
 ghost use Rattle.kmip_messages.specs.Written.{reply_item};
@@ -7,7 +7,8 @@ ghost use Rattle.kmip_messages.specs.declared.reply.Outcome.TheVariants.{Failed}
 ghost use Rattle.kmip_messages.specs.declared.standard.TheConstants.{OPERATION_CREATE, OPERATION_LOCATE, OPERATION_GET_ATTRIBUTES, OPERATION_ACTIVATE, OPERATION_REVOKE, OPERATION_DESTROY};
 ghost use Rattle.kmip_messages.specs.Ranges.{is_batch_id, is_identifier, attrs_fit, request_fits};
 ghost use Rattle.kmip_messages.specs.declared.request.Ask.TheVariants as asks;
-ghost use Rattle.kmip_server.specs.Answering.{written_with};
+ghost use Rattle.kmip_messages.specs.Items.{replies_in};
+ghost use Rattle.kmip_server.specs.Answering.{with_outcome, written_with};
 ghost use Rattle.kmip_server.specs.Reasons.{message_reason};
 ghost use Rattle.kmip_server.specs.Serving.{answer, attributes_of, refusal_reply, reply_to};
 ghost use Rattle.kmip_store.specs.Stepping.{Becomes};
@@ -18,7 +19,7 @@ use kmip_messages::standard::{OBJECT_TYPE_SYMMETRIC_KEY, REASON_FEATURE_NOT_SUPP
 use kmip_messages::{
     Ask, Attrs, KeyAttrs, Outcome, Refusal, Reply, Request, Texts, is_compromise, write_reply,
 };
-use kmip_store::{Records, Row, StoreFault};
+use kmip_store::{Records, Row, StoreFault, identifier_at};
 use kmip_ttlv::{Bytes, NoMemory, Text};
 use std::alloc::Global;
 
@@ -30,7 +31,10 @@ pub(crate) fn answer<S: Records>(
     now: i64,
 ) -> Result<Vec<u8>, NoMemory>
     requires { IsTrue (request_fits request) }
-    ensures reply { IfOk result (λ v. v.items ≡ canon (reply_item (reply_to (S.stock store.old) (Ok request)) now)) }
+    ensures reply { IfOk result (λ v. v.items
+        ≡ canon (reply_item (reply_to (S.stock store.old) (Ok request)) now)) }
+    ensures says { IfOk result (λ v. replies_in v.items
+        ≡ reply_to (S.stock store.old) (Ok request) ∷ []) }
     ensures after { OnOk result (S.stock store.new ≡ (answer (S.stock store.old) request.ask).1) }
     ensures same { OnErr result (S.stock store.new ≡ S.stock store.old) }
 {
@@ -50,6 +54,7 @@ pub(crate) fn answer<S: Records>(
 pub(crate) fn refuse_message(alloc: Global, refusal: Refusal, now: i64) -> Result<Vec<u8>, NoMemory>
     requires { IsTrue (option_map_or is_batch_id refusal.id true) }
     ensures reply { IfOk result (λ v. v.items ≡ canon (reply_item (refusal_reply refusal) now)) }
+    ensures says { IfOk result (λ v. replies_in v.items ≡ refusal_reply refusal ∷ []) }
     ensures told { IfOk result (λ _. IsSome (message_reason refusal.fault)) }
 {
     let Refusal {
@@ -80,6 +85,8 @@ fn refuse(
 ) -> Result<Vec<u8>, NoMemory>
     requires { IsTrue (option_map_or is_batch_id reply.id true) }
     ensures reply { IfOk result (λ v. v.items ≡ written_with reply (Failed reason) now) }
+    ensures says { IfOk result (λ v. replies_in v.items
+        ≡ with_outcome reply (Failed reason) ∷ []) }
     ensures told { IfOk result (λ _. IsSome reason) }
 {
     if reason.is_none() {
@@ -100,12 +107,16 @@ fn create<S: Records>(
     requires attrs { IsTrue (attrs_fit attrs.now) }
     requires id { IsTrue (option_map_or is_batch_id reply.id true) }
     requires operation { reply.operation ≡ Some OPERATION_CREATE }
-    ensures reply { IfOk result (λ v. v.items ≡ written_with reply (answer (S.stock store.old) (asks.Create attrs.now)).0 now) }
-    ensures after { OnOk result (S.stock store.new ≡ (answer (S.stock store.old) (asks.Create attrs.now)).1) }
+    ensures reply { IfOk result (λ v. v.items
+        ≡ written_with reply (answer (S.stock store.old) (asks.Create attrs.now)).0 now) }
+    ensures says { IfOk result (λ v. replies_in v.items
+        ≡ with_outcome reply (answer (S.stock store.old) (asks.Create attrs.now)).0 ∷ []) }
+    ensures after { OnOk result (S.stock store.new
+        ≡ (answer (S.stock store.old) (asks.Create attrs.now)).1) }
     ensures same { OnErr result (S.stock store.new ≡ S.stock store.old) }
 {
-    let uid = (store.count() + 1).to_string(alloc)?;
-    reply.outcome = Outcome::Created(Text::from_string(uid));
+    let uid = identifier_at(alloc, store.count())?;
+    reply.outcome = Outcome::Created(uid);
     let written = write_reply(alloc, &reply, now)?;
     match make(store, alloc, attrs)? {
         Ok(()) => Ok(written),
@@ -120,7 +131,8 @@ fn make<S: Records>(
     attrs: &KeyAttrs,
 ) -> Result<Result<(), StoreFault>, NoMemory>
     requires { IsTrue (attrs_fit attrs.now) }
-    ensures made { IfOk result (λ made. Becomes made (S.stock store.old) (S.stock store.new) (create attrs.now (S.stock store.old))) }
+    ensures made { IfOk result (λ made. Becomes made (S.stock store.old) (S.stock store.new)
+        (create attrs.now (S.stock store.old))) }
     ensures same { OnErr result (S.stock store.new ≡ S.stock store.old) }
 {
     match store.create(alloc, attrs) {
@@ -146,7 +158,11 @@ fn locate<S: Records>(
     requires name { IsSome filter.now.name }
     requires id { IsTrue (option_map_or is_batch_id reply.id true) }
     requires operation { reply.operation ≡ Some OPERATION_LOCATE }
-    ensures { IfOk result (λ v. v.items ≡ written_with reply (answer (S.stock store.now) (asks.Locate mask filter.now)).0 now) }
+    ensures reply { IfOk result (λ v. v.items ≡ written_with reply
+        (answer (S.stock store.now) (asks.Locate mask filter.now)).0 now) }
+    ensures says { IfOk result (λ v. replies_in v.items
+        ≡ with_outcome reply (answer (S.stock store.now) (asks.Locate mask filter.now)).0
+        ∷ []) }
 {
     let Ok(found) = store.locate(alloc, mask, filter) else {
         return Err(NoMemory);
@@ -180,7 +196,10 @@ fn get_attributes<S: Records>(
     requires uid { IsTrue (is_identifier uid.now) }
     requires id { IsTrue (option_map_or is_batch_id reply.id true) }
     requires operation { reply.operation ≡ Some OPERATION_GET_ATTRIBUTES }
-    ensures { IfOk result (λ v. v.items ≡ written_with reply (answer (S.stock store.now) (asks.GetAttributes uid.now)).0 now) }
+    ensures reply { IfOk result (λ v. v.items ≡ written_with reply
+        (answer (S.stock store.now) (asks.GetAttributes uid.now)).0 now) }
+    ensures says { IfOk result (λ v. replies_in v.items
+        ≡ with_outcome reply (answer (S.stock store.now) (asks.GetAttributes uid.now)).0 ∷ []) }
 {
     let Some(row) = store.find(uid) else {
         return refuse(alloc, reply, store_reason(StoreFault::NotFound), now);
@@ -216,8 +235,12 @@ fn activate<S: Records>(
     requires uid { IsTrue (is_identifier uid.now) }
     requires id { IsTrue (option_map_or is_batch_id reply.id true) }
     requires operation { reply.operation ≡ Some OPERATION_ACTIVATE }
-    ensures reply { IfOk result (λ v. v.items ≡ written_with reply (answer (S.stock store.old) (asks.Activate uid.now)).0 now) }
-    ensures after { OnOk result (S.stock store.new ≡ (answer (S.stock store.old) (asks.Activate uid.now)).1) }
+    ensures reply { IfOk result (λ v. v.items
+        ≡ written_with reply (answer (S.stock store.old) (asks.Activate uid.now)).0 now) }
+    ensures says { IfOk result (λ v. replies_in v.items
+        ≡ with_outcome reply (answer (S.stock store.old) (asks.Activate uid.now)).0 ∷ []) }
+    ensures after { OnOk result (S.stock store.new
+        ≡ (answer (S.stock store.old) (asks.Activate uid.now)).1) }
     ensures same { OnErr result (S.stock store.new ≡ S.stock store.old) }
 {
     reply.outcome = Outcome::Activated(Text::copied(alloc, uid)?);
@@ -240,8 +263,12 @@ fn revoke<S: Records>(
     requires uid { IsTrue (is_identifier uid.now) }
     requires id { IsTrue (option_map_or is_batch_id reply.id true) }
     requires operation { reply.operation ≡ Some OPERATION_REVOKE }
-    ensures reply { IfOk result (λ v. v.items ≡ written_with reply (answer (S.stock store.old) (asks.Revoke uid.now code)).0 now) }
-    ensures after { OnOk result (S.stock store.new ≡ (answer (S.stock store.old) (asks.Revoke uid.now code)).1) }
+    ensures reply { IfOk result (λ v. v.items
+        ≡ written_with reply (answer (S.stock store.old) (asks.Revoke uid.now code)).0 now) }
+    ensures says { IfOk result (λ v. replies_in v.items
+        ≡ with_outcome reply (answer (S.stock store.old) (asks.Revoke uid.now code)).0 ∷ []) }
+    ensures after { OnOk result (S.stock store.new
+        ≡ (answer (S.stock store.old) (asks.Revoke uid.now code)).1) }
     ensures same { OnErr result (S.stock store.new ≡ S.stock store.old) }
 {
     if is_compromise(code) {
@@ -266,8 +293,12 @@ fn destroy<S: Records>(
     requires uid { IsTrue (is_identifier uid.now) }
     requires id { IsTrue (option_map_or is_batch_id reply.id true) }
     requires operation { reply.operation ≡ Some OPERATION_DESTROY }
-    ensures reply { IfOk result (λ v. v.items ≡ written_with reply (answer (S.stock store.old) (asks.Destroy uid.now)).0 now) }
-    ensures after { OnOk result (S.stock store.new ≡ (answer (S.stock store.old) (asks.Destroy uid.now)).1) }
+    ensures reply { IfOk result (λ v. v.items
+        ≡ written_with reply (answer (S.stock store.old) (asks.Destroy uid.now)).0 now) }
+    ensures says { IfOk result (λ v. replies_in v.items
+        ≡ with_outcome reply (answer (S.stock store.old) (asks.Destroy uid.now)).0 ∷ []) }
+    ensures after { OnOk result (S.stock store.new
+        ≡ (answer (S.stock store.old) (asks.Destroy uid.now)).1) }
     ensures same { OnErr result (S.stock store.new ≡ S.stock store.old) }
 {
     reply.outcome = Outcome::Destroyed(Text::copied(alloc, uid)?);

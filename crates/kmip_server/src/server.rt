@@ -1,8 +1,15 @@
 //! A server over the records of one store.
-ghost use Rattle.std.specs.Prelude.{◌≡◌, OnErr, OnOk, IfOk};
-ghost use Rattle.kmip_server.specs.Serving.{reply_bytes, stock_after};
+ghost use Rattle.std.specs.Prelude.{◌≡◌, [], ◌∷◌, OnErr, OnOk, IfOk};
+ghost use Rattle.kmip_messages.specs.Items.{parts_in, replies_in, stops_in};
+ghost use Rattle.kmip_messages.specs.Whole.{request_read};
+ghost use Rattle.kmip_server.specs.Messages.{AreServed};
+ghost use Rattle.kmip_server.specs.Serving.{reply_bytes, reply_to, stock_after};
+ghost use Rattle.kmip_server.specs.Shown.{HasLawfulObjects};
+ghost use Rattle.kmip_store.specs.Stock.{IsKept};
 
 use crate::answering::{answer, refuse_message};
+use crate::laws::serving_is_a_step;
+use kmip_messages::laws::question_laws;
 use kmip_messages::read_request;
 use kmip_store::Records;
 use kmip_ttlv::NoMemory;
@@ -27,15 +34,21 @@ impl<S: Records> Model for Server<S> {
 impl<S: Records> Server<S> {
     /// A server over the records that the store has.
     pub fn new(store: S) -> Self
-        ensures { result ≡ S.stock store }
+        ensures records { result ≡ S.stock store }
+        ensures kept { IsKept result.rows result.room }
+        ensures objects { HasLawfulObjects result }
     {
+        let _count = store.count();
         Server { store }
     }
 
     /// The records.
     pub fn records(&self) -> &S
-        ensures { S.stock result.now ≡ self.now }
+        ensures records { S.stock result.now ≡ self.now }
+        ensures kept { IsKept self.now.rows self.now.room }
+        ensures objects { HasLawfulObjects self.now }
     {
+        let _count = self.store.count();
         &self.store
     }
 
@@ -44,9 +57,37 @@ impl<S: Records> Server<S> {
     ///
     /// # Errors
     /// Where there is no memory; the records are then as they were.
-    #[tactic(auto, unfolding(crate::specs::Serving::reply_bytes, crate::specs::Serving::stock_after))]
     pub fn handle(&mut self, alloc: Global, message: &[u8], now: i64) -> Result<Vec<u8>, NoMemory>
         ensures reply { IfOk result (λ r. r.items ≡ reply_bytes self.old message.now now) }
+        ensures after { OnOk result (self.new ≡ stock_after self.old message.now) }
+        ensures same { OnErr result (self.new ≡ self.old) }
+        ensures room { self.new.room ≡ self.old.room }
+        ensures kept_before { IsKept self.old.rows self.old.room }
+        ensures kept { IsKept self.new.rows self.new.room }
+        ensures objects_before { HasLawfulObjects self.old }
+        ensures objects { HasLawfulObjects self.new }
+        ensures served { IfOk result (λ r. AreServed (stops_in message.now) (parts_in message.now)
+            (replies_in r.items) self.old self.new) }
+    {
+        question_laws();
+        serving_is_a_step();
+        let _before = self.store.count();
+        let reply = self.handle_message(alloc, message, now);
+        let _after = self.store.count();
+        reply
+    }
+
+    /// The same, of the reply and the records alone.
+    #[tactic(auto, unfolding(crate::specs::Serving::reply_bytes, crate::specs::Serving::stock_after))]
+    fn handle_message(
+        &mut self,
+        alloc: Global,
+        message: &[u8],
+        now: i64,
+    ) -> Result<Vec<u8>, NoMemory>
+        ensures reply { IfOk result (λ r. r.items ≡ reply_bytes self.old message.now now) }
+        ensures says { IfOk result (λ r. replies_in r.items
+            ≡ reply_to self.old (request_read message.now) ∷ []) }
         ensures after { OnOk result (self.new ≡ stock_after self.old message.now) }
         ensures same { OnErr result (self.new ≡ self.old) }
     {

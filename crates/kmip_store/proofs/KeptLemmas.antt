@@ -1,20 +1,22 @@
 -- What holds of the records at all times: with one object more, and of each object that is found.
-use Rattle.std.proofs.Common.{◌≡◌, ℕ, ◌+◌, ◌<◌, ◌≤◌, Bool, true, false, cond, nat_eq, List, [], ◌∷◌, ◌++◌, length, Option, Some, None, Bor, IfSome, subst, refl, sym, ap, ◌∙◌, inl, inr, arith}
+use Rattle.std.proofs.Common.{◌≡◌, ℕ, ◌+◌, ◌<◌, ◌≤◌, Bool, true, false, nat_eq, List, [], ◌∷◌, ◌++◌, length, Option, Some, None, Bor, IfSome, subst, refl, sym, ap, ◌∙◌, inl, inr, arith}
 use Rattle.std.specs.Cmp.Lexicographic.{pointwise}
 use Rattle.std.specs.Fmt.{decimal}
 use Rattle.std.specs.List.{list_all, find}
 use Rattle.std.specs.Option.{option_copied}
+use Rattle.std.proofs.lemmas.Fmt.{decimal_injective}
 use Rattle.std.proofs.lemmas.Bool.{and_parts, or_parts, or_from, cases_Bool, false_from_ne_true, both_ways}
 use Rattle.std.proofs.lemmas.List.{length-append, length-map}
 use Rattle.std.proofs.lemmas.List.Folds.{list_all-append}
 use Rattle.std.proofs.lemmas.Slice.Eq.{bytes_eq-Decides}
 use Rattle.kmip_messages.specs.Ranges.{is_identifier, attrs_fit}
 use Rattle.kmip_messages.specs.declared.request.KeyAttrs.{KeyAttrs}
-use Rattle.kmip_messages.proofs.WrittenLemmas.{decimal_identifier}
+use Rattle.kmip_messages.proofs.ForCallers.{decimal_identifier}
 use Rattle.kmip_messages.specs.declared.state.KeyState.{KeyState}
 use Rattle.kmip_store.specs.declared.row.Row.{Row}
-use Rattle.kmip_store.specs.Stock.{has_row_named, new_row, AreNumbered, HaveOwnNames, IsKept}
-use Rattle.kmip_store.specs.Stepping.{enter, row_in_state, rows_in_state}
+use Rattle.kmip_store.specs.Stock.{Stock, has_row_named, identifier_at, new_row, AreNumbered, HaveOwnNames, IsKept}
+use Rattle.kmip_store.specs.Stepping.{row_in_state, rows_in_state, row_with}
+use Rattle.kmip_store.proofs.ForCallers.{moved_uid, moved_attrs, has_name_moved}
 
 -- two texts that are apart one way are apart the other way
 apart_back : (a b : List ℕ) → pointwise nat_eq a b ≡ false → pointwise nat_eq b a ≡ false
@@ -88,28 +90,11 @@ kept_fits test rows room (Some r) kept is =
     subst (λ o. IfSome o IsLawful) (sym is)
     (found_fits test 0 rows kept.numbered (omega (arith, kept.within, kept.small)) kept.fit)
 
--- another state changes neither the identifier nor the attributes
-same_columns : (b : Bool) (state : KeyState) (r : Row)
-    → ((cond b (enter state r) r).uid ≡ r.uid) × ((cond b (enter state r) r).attrs ≡ r.attrs)
-same_columns true state r = (refl, refl)
-same_columns false state r = (refl, refl)
-
-pub moved_uid : (uid : List ℕ) (state : KeyState) (r : Row) → (row_in_state uid state r).uid ≡ r.uid
-moved_uid uid state r = (same_columns (pointwise nat_eq uid r.uid) state r).0
-
-moved_attrs : (uid : List ℕ) (state : KeyState) (r : Row) → (row_in_state uid state r).attrs ≡ r.attrs
-moved_attrs uid state r = (same_columns (pointwise nat_eq uid r.uid) state r).1
-
 numbered_moved : (uid : List ℕ) (state : KeyState) (place : ℕ) (rows : List Row) → AreNumbered place rows
     → AreNumbered place (rows_in_state uid state rows)
 numbered_moved uid state place [] numbered = tt
 numbered_moved uid state place (r ∷ rows) numbered =
     (moved_uid uid state r ∙ numbered.0, numbered_moved uid state (place + 1) rows numbered.1)
-
-pub has_name_moved : (uid : List ℕ) (state : KeyState) (name : List ℕ) (rows : List Row)
-    → has_row_named name (rows_in_state uid state rows) ≡ has_row_named name rows
-has_name_moved uid state name [] = refl
-has_name_moved uid state name (r ∷ rows) = rw (moved_attrs uid state r, has_name_moved uid state name rows) refl
 
 named_moved : (uid : List ℕ) (state : KeyState) (rows : List Row) → HaveOwnNames rows → HaveOwnNames (rows_in_state uid state rows)
 named_moved uid state [] named = tt
@@ -133,3 +118,23 @@ kept_moved uid state rows room kept = record {
   named = named_moved uid state rows kept.named;
   fit = fit_moved uid state rows ∙ kept.fit;
 }
+
+-- the identifier of a place behind those of some rows is on none of them
+free_identifier : (place n : ℕ) (rows : List Row) → AreNumbered place rows → place + length rows ≤ n → n ≤ 10000
+    → row_with (identifier_at n) rows ≡ None
+free_identifier place n [] numbered within small = refl
+free_identifier place n (r ∷ rows) numbered within small =
+    let other : pointwise nat_eq (identifier_at n) r.uid ≡ false =
+    false_from_ne_true (pointwise nat_eq (identifier_at n) r.uid)
+    (λ same.
+    let equal = decimal_injective (n + 1) (place + 1) (omega (arith, small)) (omega (arith, within, small)) ((bytes_eq-Decides (identifier_at n) r.uid).0 same ∙ numbered.0) in
+    omega (arith, equal, within)) in
+    rw other (free_identifier (place + 1) n rows numbered.1 (omega (arith, within)) small)
+
+-- the identifier of the next object
+pub next_identifier : (s : Stock) → IsKept s.rows s.room → length s.rows < s.room
+    → (is_identifier (identifier_at (length s.rows)) ≡ true) × (row_with (identifier_at (length s.rows)) s.rows ≡ None)
+next_identifier s kept roomy = (
+  decimal_identifier (length s.rows + 1) (omega (arith, kept.small, roomy)),
+  free_identifier 0 (length s.rows) s.rows kept.numbered (omega arith) (omega (arith, kept.small, roomy)),
+)

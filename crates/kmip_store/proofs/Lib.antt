@@ -1,4 +1,6 @@
+pub mod ForCallers
 pub mod KeptLemmas
+mod ChangingLemmas
 pub mod SteppingLemmas
 pub mod LocatingLemmas
 pub mod CallingLemmas

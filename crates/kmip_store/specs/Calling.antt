@@ -1,8 +1,7 @@
--- What a list of calls answers, and what the records hold behind it: both follow from the records before it, whatever keeps
+-- What a list of calls answers, and what the records hold after it: both follow from the records before it, whatever keeps
 -- them.
 -- Source: own: what the law of two stores says.
-use Rattle.std.specs.Prelude.{◌≡◌, ℕ, ◌+◌, Bool, true, List, [], ◌∷◌, length, take, Result, Ok, Err}
-use Rattle.std.specs.Fmt.{decimal}
+use Rattle.std.specs.Prelude.{◌≡◌, ℕ, Bool, true, List, [], ◌∷◌, length, take, Result, Ok, Err}
 use Rattle.std.specs.List.{slice_get}
 use Rattle.std.specs.Option.{is_some}
 use Rattle.kmip_messages.specs.Ranges.{attrs_fit}
@@ -12,7 +11,7 @@ use Rattle.kmip_store.specs.declared.calling.Answer.TheVariants as answers
 use Rattle.kmip_store.specs.declared.calling.Call.{Call}
 use Rattle.kmip_store.specs.declared.calling.Call.TheVariants.{Create, Locate, Find, Activate, Revoke, Destroy, Count, At}
 use Rattle.kmip_store.specs.declared.fault.StoreFault.{StoreFault}
-use Rattle.kmip_store.specs.Stock.{Stock, create, objects_of}
+use Rattle.kmip_store.specs.Stock.{Stock, create, identifier_at, objects_of}
 use Rattle.kmip_store.specs.Stepping.{row_with, take_step}
 use Rattle.kmip_store.specs.Locating.{locate}
 
@@ -27,14 +26,14 @@ abbrev pub answer_of : Answer → Result Stock StoreFault → Answer
 answer_of done (Ok after) = done
 answer_of done (Err fault) = answers.Refused fault
 
--- the records behind a change that was made or refused
+-- the records after a change that was made or refused
 abbrev pub stock_of : Stock → Result Stock StoreFault → Stock
 stock_of before (Ok after) = after
 stock_of before (Err fault) = before
 
 -- what a call answers
 abbrev pub answer_to : Call → Stock → Answer
-answer_to (Create attrs) s = answer_of (answers.Created (decimal (length s.rows + 1))) (create attrs s)
+answer_to (Create attrs) s = answer_of (answers.Created (identifier_at (length s.rows))) (create attrs s)
 answer_to (Locate mask filter) s = answers.Located (slice_get (locate mask filter (objects_of s.rows)) 0)
 answer_to (Find uid) s = answers.Found (row_with uid s.rows)
 answer_to (Activate uid) s = answer_of answers.Moved (take_step steps.Activate uid s)
@@ -43,7 +42,7 @@ answer_to (Destroy uid) s = answer_of answers.Moved (take_step steps.Destroy uid
 answer_to Count s = answers.Counted (length s.rows)
 answer_to (At place) s = answers.Found (slice_get s.rows place)
 
--- the records behind a call
+-- the records after a call
 abbrev pub stock_after_call : Call → Stock → Stock
 stock_after_call (Create attrs) s = stock_of s (create attrs s)
 stock_after_call (Activate uid) s = stock_of s (take_step steps.Activate uid s)
@@ -56,11 +55,11 @@ abbrev pub answers_to : List Call → Stock → List Answer
 answers_to [] s = []
 answers_to (call ∷ calls) s = answer_to call s ∷ answers_to calls (stock_after_call call s)
 
--- the records behind the calls
+-- the records after the calls
 abbrev pub stock_after_calls : List Call → Stock → Stock
 stock_after_calls [] s = s
 stock_after_calls (call ∷ calls) s = stock_after_calls calls (stock_after_call call s)
 
--- the records are those behind some of the calls, from the first on
+-- the records are those after some of the calls, from the first on
 abbrev pub IsAfterSome : List Call → Stock → Stock → Type 0
 IsAfterSome calls old new = (done : ℕ) × (new ≡ stock_after_calls (take done calls) old)

@@ -3,3 +3,4 @@ pub mod Stock
 pub mod Stepping
 pub mod Locating
 pub mod Calling
+pub mod Laws

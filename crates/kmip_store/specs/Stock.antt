@@ -41,13 +41,17 @@ abbrev pub material_size : ℤ → ℕ
 material_size (pos bits) = bits / 8
 material_size (negsuc n) = 0
 
--- the next bytes of the stream, and the stream behind them
+-- the next bytes of the stream, and the stream after them
 abbrev pub draw : ℕ → ChaCha → List ℕ × ChaCha
 draw size stream = fill_via_u32 (next_word 10) size stream
 
+-- the Unique Identifier of the object that is made at a place, from 0: the decimal number of the place, from 1 (own)
+abbrev pub identifier_at : ℕ → List ℕ
+identifier_at place = decimal (place + 1)
+
 -- the row of a new object at a place from 0
 abbrev pub new_row : ℕ → KeyAttrs → List ℕ → Row
-new_row place attrs material = record { uid = decimal (place + 1); attrs = attrs; state = PreActive; material = material }
+new_row place attrs material = record { uid = identifier_at place; attrs = attrs; state = PreActive; material = material }
 
 -- the records with one object more, what was drawn for it being its material
 abbrev pub stock_with_drawn : KeyAttrs → Stock → List ℕ × ChaCha → Stock
@@ -70,20 +74,24 @@ MayRefuse name s (Err NoMemory) = (has_row_named name s.rows ≡ false) × (leng
 MayRefuse name s (Err NotFound) = ⊥
 MayRefuse name s (Err WrongState) = ⊥
 
--- the identifiers are the decimal numbers of the places, from this place on
+-- the identifiers are those of the places, from this place on
 abbrev pub AreNumbered : ℕ → List Row → Type 0
 AreNumbered place [] = Unit {0}
-AreNumbered place (r ∷ rows) = (r.uid ≡ decimal (place + 1)) × AreNumbered (place + 1) rows
+AreNumbered place (r ∷ rows) = (r.uid ≡ identifier_at place) × AreNumbered (place + 1) rows
 
 -- no two rows have one name
 abbrev pub HaveOwnNames : List Row → Type 0
 HaveOwnNames [] = Unit {0}
 HaveOwnNames (r ∷ rows) = (has_row_named r.attrs.name rows ≡ false) × HaveOwnNames rows
 
+-- the most objects that there may be room for (own)
+abbrev pub most_room : ℕ
+most_room = 10000
+
 -- what holds of the records at all times
 pub record IsKept (rows : List Row) (room : ℕ) : Type 0 where
   pub within : length rows ≤ room
-  pub small : room ≤ 10000
+  pub small : room ≤ most_room
   pub numbered : AreNumbered 0 rows
   pub named : HaveOwnNames rows
   pub fit : list_all (λ r. attrs_fit r.attrs) rows ≡ true

@@ -56,7 +56,7 @@ pub enum Answer {
 /// Makes the calls one after the other, and answers what each of them answered.
 ///
 /// # Errors
-/// Where there is no memory for a call or for its answer; the records are then those behind some of
+/// Where there is no memory for a call or for its answer; the records are then those after some of
 /// the calls, from the first on.
 pub fn call_all<S: Records>(
     alloc: Global,
@@ -64,9 +64,12 @@ pub fn call_all<S: Records>(
     calls: &[Call],
 ) -> Result<Vec<Answer>, NoMemory>
     requires { IsTrue (list_all may_call calls.now) }
-    ensures answers { IfOk result (λ answers. answers.items ≡ answers_to calls.now (S.stock store.old)) }
-    ensures stock { OnOk result (S.stock store.new ≡ stock_after_calls calls.now (S.stock store.old)) }
-    ensures broken_off { OnErr result (IsAfterSome calls.now (S.stock store.old) (S.stock store.new)) }
+    ensures answers { IfOk result (λ answers. answers.items
+        ≡ answers_to calls.now (S.stock store.old)) }
+    ensures stock { OnOk result (S.stock store.new
+        ≡ stock_after_calls calls.now (S.stock store.old)) }
+    ensures broken_off { OnErr result (IsAfterSome calls.now (S.stock store.old)
+        (S.stock store.new)) }
 {
     let mut answers = Vec::new(alloc);
     for call in calls {
@@ -78,10 +81,10 @@ pub fn call_all<S: Records>(
 
 /// Makes the same calls of two stores, and answers what each of them answered. Where both had the same
 /// records, as two stores of one seed and room have, the answers are the same, and so are the records
-/// behind them, however each keeps its rows.
+/// after them, however each keeps its rows.
 ///
 /// # Errors
-/// Where there is no memory for a call or for its answer; the records of each are then those behind
+/// Where there is no memory for a call or for its answer; the records of each are then those after
 /// some of the calls, from the first on.
 pub fn call_both<A: Records, B: Records>(
     alloc: Global,
@@ -90,11 +93,18 @@ pub fn call_both<A: Records, B: Records>(
     calls: &[Call],
 ) -> Result<(Vec<Answer>, Vec<Answer>), NoMemory>
     requires { IsTrue (list_all may_call calls.now) }
-    ensures each { IfOk result (λ both. (both.0.items ≡ answers_to calls.now (A.stock first.old)) × (both.1.items ≡ answers_to calls.now (B.stock second.old))) }
-    ensures after { OnOk result ((A.stock first.new ≡ stock_after_calls calls.now (A.stock first.old)) × (B.stock second.new ≡ stock_after_calls calls.now (B.stock second.old))) }
-    ensures broken_off { OnErr result (IsAfterSome calls.now (A.stock first.old) (A.stock first.new) × IsAfterSome calls.now (B.stock second.old) (B.stock second.new)) }
-    ensures answers { IfOk result (λ both. A.stock first.old ≡ B.stock second.old → both.0.items ≡ both.1.items) }
-    ensures stock { OnOk result (A.stock first.old ≡ B.stock second.old → A.stock first.new ≡ B.stock second.new) }
+    ensures each { IfOk result (λ both. (both.0.items ≡ answers_to calls.now (A.stock first.old))
+        × (both.1.items ≡ answers_to calls.now (B.stock second.old))) }
+    ensures after { OnOk result ((A.stock first.new
+        ≡ stock_after_calls calls.now (A.stock first.old))
+        × (B.stock second.new ≡ stock_after_calls calls.now (B.stock second.old))) }
+    ensures broken_off { OnErr result (IsAfterSome calls.now (A.stock first.old)
+        (A.stock first.new) × IsAfterSome calls.now (B.stock second.old) (B.stock second.new)) }
+    ensures answers { IfOk result (λ both. A.stock first.old ≡ B.stock second.old
+        → both.0.items
+        ≡ both.1.items) }
+    ensures stock { OnOk result (A.stock first.old ≡ B.stock second.old → A.stock first.new
+        ≡ B.stock second.new) }
 {
     let ours = call_all(alloc, first, calls)?;
     let theirs = call_all(alloc, second, calls)?;
@@ -105,7 +115,8 @@ pub fn call_both<A: Records, B: Records>(
 fn call_one<S: Records>(alloc: Global, store: &mut S, call: &Call) -> Result<Answer, NoMemory>
     requires { IsTrue (may_call call.now) }
     ensures answer { IfOk result (λ answer. answer ≡ answer_to call.now (S.stock store.old)) }
-    ensures stock { OnOk result (S.stock store.new ≡ stock_after_call call.now (S.stock store.old)) }
+    ensures stock { OnOk result (S.stock store.new
+        ≡ stock_after_call call.now (S.stock store.old)) }
     ensures same { OnErr result (S.stock store.new ≡ S.stock store.old) }
 {
     match call {
@@ -122,8 +133,10 @@ fn call_one<S: Records>(alloc: Global, store: &mut S, call: &Call) -> Result<Ans
 
 fn create<S: Records>(alloc: Global, store: &mut S, attrs: &KeyAttrs) -> Result<Answer, NoMemory>
     requires { IsTrue (attrs_fit attrs.now) }
-    ensures answer { IfOk result (λ answer. answer ≡ answer_to (calls.Create attrs.now) (S.stock store.old)) }
-    ensures stock { OnOk result (S.stock store.new ≡ stock_after_call (calls.Create attrs.now) (S.stock store.old)) }
+    ensures answer { IfOk result (λ answer. answer
+        ≡ answer_to (calls.Create attrs.now) (S.stock store.old)) }
+    ensures stock { OnOk result (S.stock store.new
+        ≡ stock_after_call (calls.Create attrs.now) (S.stock store.old)) }
     ensures same { OnErr result (S.stock store.new ≡ S.stock store.old) }
 {
     match store.create(alloc, attrs) {
@@ -144,7 +157,8 @@ fn locate<S: Records>(
     filter: &Attrs,
 ) -> Result<Answer, NoMemory>
     requires { IsSome filter.now.name }
-    ensures { IfOk result (λ answer. answer ≡ answer_to (calls.Locate mask filter.now) (S.stock store.now)) }
+    ensures { IfOk result (λ answer. answer ≡ answer_to (calls.Locate mask filter.now)
+        (S.stock store.now)) }
 {
     match store.locate(alloc, mask, filter) {
         Ok(uid) => Ok(Answer::Located(uid)),
@@ -154,7 +168,8 @@ fn locate<S: Records>(
 
 fn activate<S: Records>(store: &mut S, uid: &str) -> Answer
     ensures answer { result ≡ answer_to (calls.Activate uid.now) (S.stock store.old) }
-    ensures stock { S.stock store.new ≡ stock_after_call (calls.Activate uid.now) (S.stock store.old) }
+    ensures stock { S.stock store.new ≡ stock_after_call (calls.Activate uid.now)
+        (S.stock store.old) }
 {
     match store.activate(uid) {
         Ok(()) => Answer::Moved,
@@ -164,7 +179,8 @@ fn activate<S: Records>(store: &mut S, uid: &str) -> Answer
 
 fn revoke<S: Records>(store: &mut S, uid: &str) -> Answer
     ensures answer { result ≡ answer_to (calls.Revoke uid.now) (S.stock store.old) }
-    ensures stock { S.stock store.new ≡ stock_after_call (calls.Revoke uid.now) (S.stock store.old) }
+    ensures stock { S.stock store.new ≡ stock_after_call (calls.Revoke uid.now)
+        (S.stock store.old) }
 {
     match store.revoke(uid) {
         Ok(()) => Answer::Moved,
@@ -174,7 +190,8 @@ fn revoke<S: Records>(store: &mut S, uid: &str) -> Answer
 
 fn destroy<S: Records>(store: &mut S, uid: &str) -> Answer
     ensures answer { result ≡ answer_to (calls.Destroy uid.now) (S.stock store.old) }
-    ensures stock { S.stock store.new ≡ stock_after_call (calls.Destroy uid.now) (S.stock store.old) }
+    ensures stock { S.stock store.new ≡ stock_after_call (calls.Destroy uid.now)
+        (S.stock store.old) }
 {
     match store.destroy(uid) {
         Ok(()) => Answer::Moved,

@@ -4,6 +4,8 @@
 
 mod calling;
 mod fault;
+mod identifying;
+pub mod laws;
 mod list_store;
 mod matching;
 mod material;
@@ -13,6 +15,7 @@ mod stepping;
 
 pub use calling::{Answer, Call, call_all, call_both};
 pub use fault::StoreFault;
+pub use identifying::{MOST_ROOM, identifier_at};
 pub use list_store::ListStore;
 pub use records::Records;
 pub use row::Row;

@@ -1,9 +1,10 @@
 //! The records as a plain list.
 ghost use Rattle.std.specs.Prelude.{◌≡◌, ◌≤◌, ◌<◌, length, IfOk};
-ghost use Rattle.kmip_store.specs.Stock.{empty_stock, new_row, material_size};
+ghost use Rattle.kmip_store.specs.Stock.{empty_stock, new_row, material_size, most_room};
 
 use crate::fault::StoreFault;
-use crate::matching::{first_wanted, has_name, row_with};
+use crate::identifying::identifier_at;
+use crate::matching::{first_wanted, has_row_named, row_with};
 use crate::material::{draw, zeroed};
 use crate::records::Records;
 use crate::row::Row;
@@ -37,7 +38,7 @@ impl ListStore {
     /// No rows, and room for this many, at most 10,000. The key material is drawn from the stream of
     /// ChaCha20 that the seed begins. Takes no memory.
     pub fn new(alloc: Global, seed: [u8; 32], room: usize) -> Self
-        requires { room ≤ 10000 }
+        requires { room ≤ most_room }
         ensures { result ≡ empty_stock seed room }
     {
         ListStore {
@@ -52,7 +53,7 @@ impl Records for ListStore {
     ghost stock = { λ s. s };
 
     fn create(&mut self, alloc: Global, attrs: &KeyAttrs) -> Result<Text, StoreFault> {
-        if has_name(self.rows.as_slice(), attrs.name.as_str()) {
+        if has_row_named(self.rows.as_slice(), attrs.name.as_str()) {
             return Err(StoreFault::SameName);
         }
         if self.rows.len() >= self.room {
@@ -107,15 +108,15 @@ impl Records for ListStore {
 
 /// The row of a new object at a place from 0, with zeros in the place of its material.
 fn new_row(alloc: Global, place: usize, attrs: &KeyAttrs) -> Result<Row, AllocError>
-    requires { place < 10000 }
+    requires { place < most_room }
     ensures row { IfOk result (λ row. row ≡ new_row place attrs.now row.material) }
     ensures size { IfOk result (λ row. length row.material ≡ material_size attrs.now.length) }
 {
-    let uid = (place + 1).to_string(alloc)?;
+    let uid = identifier_at(alloc, place)?;
     let attrs = attrs.copied(alloc)?;
     let material = zeroed(alloc, attrs.length)?;
     Ok(Row {
-        uid: Text::from_string(uid),
+        uid,
         attrs,
         state: KeyState::PreActive,
         material,

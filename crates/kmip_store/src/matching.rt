@@ -13,7 +13,7 @@ use kmip_messages::standard::{OBJECT_TYPE_SYMMETRIC_KEY, STORAGE_DESTROYED, STOR
 use kmip_messages::{Attrs, KeyState};
 
 /// Whether a row has the name.
-pub(crate) fn has_name(rows: &[Row], name: &str) -> bool
+pub(crate) fn has_row_named(rows: &[Row], name: &str) -> bool
     ensures { result ≡ has_row_named name.now rows.now }
 {
     rows.iter().any(|row| name == row.attrs.name.as_str())
@@ -32,7 +32,8 @@ pub(crate) fn first_wanted<'a>(
     mask: Option<i32>,
     filter: &Attrs,
 ) -> Option<&'a Row>
-    ensures { option_copied result ≡ find (λ r. is_wanted mask filter.now (object_of r)) rows.now }
+    ensures { option_copied result ≡ find (λ r. is_wanted mask filter.now
+        (object_of r)) rows.now }
 {
     rows.iter().find(|row| is_wanted(row, mask, filter))
 }
@@ -79,7 +80,8 @@ fn has_given(filter: &Attrs, row: &Row) -> bool
 
 /// Whether the row has the name that is given.
 fn is_named(filter: &Attrs, row: &Row) -> bool
-    ensures { result ≡ option_map_or (λ name. pointwise nat_eq name row.now.attrs.name) filter.now.name true }
+    ensures { result ≡ option_map_or
+        (λ name. pointwise nat_eq name row.now.attrs.name) filter.now.name true }
 {
     match &filter.name {
         Some(name) => name.as_str() == row.attrs.name.as_str(),

@@ -1,11 +1,10 @@
 //! What a server keeps its objects in.
-ghost use Rattle.std.specs.Prelude.{◌≡◌, ◌+◌, ◌≤◌, length, true, IsTrue, IsSome, IfOk, IfSome, OnErr, Err, option_to_list};
-ghost use Rattle.std.specs.Fmt.{decimal};
+ghost use Rattle.std.specs.Prelude.{◌≡◌, length, true, IsTrue, IsSome, IfOk, IfSome, OnErr, Err, option_to_list};
 ghost use Rattle.std.specs.List.{slice_get};
 ghost use Rattle.std.specs.Option.{option_copied};
 ghost use Rattle.kmip_messages.specs.Ranges.{attrs_fit, is_identifier};
 ghost use Rattle.kmip_messages.specs.declared.step.Step.TheVariants as steps;
-ghost use Rattle.kmip_store.specs.Stock.{Stock, IsKept, stock_with, MayRefuse, objects_of};
+ghost use Rattle.kmip_store.specs.Stock.{Stock, IsKept, identifier_at, stock_with, MayRefuse, objects_of};
 ghost use Rattle.kmip_store.specs.Stepping.{Becomes, row_with, take_step};
 ghost use Rattle.kmip_store.specs.Locating.{locate};
 
@@ -27,7 +26,8 @@ pub trait Records {
     /// the records are then as they were.
     fn create(&mut self, alloc: Global, attrs: &KeyAttrs) -> Result<Text, StoreFault>
         requires { IsTrue (attrs_fit attrs.now) }
-        ensures ok { IfOk result (λ uid. (uid ≡ decimal (length (stock self.old).rows + 1)) × (stock self.new ≡ stock_with attrs.now (stock self.old))) }
+        ensures ok { IfOk result (λ uid. (uid ≡ identifier_at (length (stock self.old).rows))
+            × (stock self.new ≡ stock_with attrs.now (stock self.old))) }
         ensures fault { MayRefuse attrs.now.name (stock self.old) result }
         ensures err { OnErr result (stock self.new ≡ stock self.old) };
 
@@ -44,14 +44,16 @@ pub trait Records {
         filter: &Attrs,
     ) -> Result<Option<Text>, StoreFault>
         requires { IsSome filter.now.name }
-        ensures found { IfOk result (λ uid. locate mask filter.now (objects_of (stock self.now).rows) ≡ option_to_list uid) }
+        ensures found { IfOk result (λ uid. locate mask filter.now
+            (objects_of (stock self.now).rows) ≡ option_to_list uid) }
         ensures uid { IfOk result (λ uid. IfSome uid (λ u. IsTrue (is_identifier u))) }
         ensures fault { OnErr result (result ≡ Err StoreFault.NoMemory) };
 
     /// The row with the identifier.
     fn find(&self, uid: &str) -> Option<&Row>
         ensures value { option_copied result ≡ row_with uid.now (stock self.now).rows }
-        ensures fits { IfSome result (λ row. IsTrue (is_identifier row.now.uid) × IsTrue (attrs_fit row.now.attrs)) };
+        ensures fits { IfSome result (λ row. IsTrue (is_identifier row.now.uid)
+            × IsTrue (attrs_fit row.now.attrs)) };
 
     /// Makes the object with the identifier Active, where it is Pre-Active.
     ///
@@ -59,7 +61,8 @@ pub trait Records {
     /// `NotFound` where no row has the identifier, `WrongState` where its row is in another state; the
     /// records are then as they were. Takes no memory.
     fn activate(&mut self, uid: &str) -> Result<(), StoreFault>
-        ensures { Becomes result (stock self.old) (stock self.new) (take_step steps.Activate uid.now (stock self.old)) };
+        ensures { Becomes result (stock self.old) (stock self.new)
+            (take_step steps.Activate uid.now (stock self.old)) };
 
     /// Makes the object with the identifier Deactivated, where it is Active.
     ///
@@ -67,7 +70,8 @@ pub trait Records {
     /// `NotFound` where no row has the identifier, `WrongState` where its row is in another state; the
     /// records are then as they were. Takes no memory.
     fn revoke(&mut self, uid: &str) -> Result<(), StoreFault>
-        ensures { Becomes result (stock self.old) (stock self.new) (take_step steps.Revoke uid.now (stock self.old)) };
+        ensures { Becomes result (stock self.old) (stock self.new)
+            (take_step steps.Revoke uid.now (stock self.old)) };
 
     /// Makes the object with the identifier Destroyed, where it is Pre-Active or Deactivated. Its key
     /// material is then empty; its name is never free again.
@@ -76,7 +80,8 @@ pub trait Records {
     /// `NotFound` where no row has the identifier, `WrongState` where its row is in another state; the
     /// records are then as they were. Takes no memory.
     fn destroy(&mut self, uid: &str) -> Result<(), StoreFault>
-        ensures { Becomes result (stock self.old) (stock self.new) (take_step steps.Destroy uid.now (stock self.old)) };
+        ensures { Becomes result (stock self.old) (stock self.new)
+            (take_step steps.Destroy uid.now (stock self.old)) };
 
     /// How many rows there are.
     fn count(&self) -> usize

@@ -3,7 +3,7 @@ ghost use Rattle.std.specs.Prelude.{◌≡◌, ◌≤◌, ℕ, nat_eq, length};
 ghost use Rattle.std.specs.Cmp.Lexicographic.{pointwise};
 ghost use Rattle.std.specs.List.{position};
 ghost use Rattle.rand_chacha.specs.ChaCha.{ChaCha};
-ghost use Rattle.kmip_store.specs.Stock.{IsKept, AreNumbered};
+ghost use Rattle.kmip_store.specs.Stock.{IsKept, AreNumbered, most_room};
 ghost use Rattle.kmip_store.specs.Stepping.{Becomes, take_step, enter};
 
 use crate::fault::StoreFault;
@@ -19,8 +19,11 @@ use std::alloc::Global;
 /// `NotFound` where no row has the identifier, `WrongState` where the lifecycle has no such step from
 /// the row's state; the rows are then as they were.
 pub(crate) fn step(rows: &mut Vec<Row>, uid: &str, step: Step) -> Result<(), StoreFault>
-    requires { AreNumbered 0 rows.old.items × (length rows.old.items ≤ 10000) }
-    ensures step { (room : ℕ) (stream : ChaCha) → Becomes result (record { rows = rows.old.items; room = room; stream = stream }) (record { rows = rows.new.items; room = room; stream = stream }) (take_step step uid.now (record { rows = rows.old.items; room = room; stream = stream })) }
+    requires { AreNumbered 0 rows.old.items × (length rows.old.items ≤ most_room) }
+    ensures step { (room : ℕ) (stream : ChaCha)
+        → Becomes result (record { rows = rows.old.items; room = room; stream = stream })
+        (record { rows = rows.new.items; room = room; stream = stream })
+        (take_step step uid.now (record { rows = rows.old.items; room = room; stream = stream })) }
     ensures kept { (room : ℕ) → IsKept rows.old.items room → IsKept rows.new.items room }
 {
     let Some(place) = place_of(rows.as_slice(), uid) else {

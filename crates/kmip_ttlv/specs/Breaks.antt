@@ -1,5 +1,6 @@
 -- What is wrong with bytes at whose front no item stands: the first fault, and where.
--- Source: KMIP 2.1, TTLV Encoding.
+-- Source: KMIP 2.1, TTLV Encoding; 16 levels and 8,192 bytes are own.
+use Rattle.kmip_ttlv.specs.Limits.{head_size, most_levels}
 use Rattle.std.specs.Prelude.{◌≡◌, ℕ, zero, suc, ◌+◌, ◌<◌, ◌≤◌, ◌==◌, ◌⊎◌, List, ◌++◌, length, take, drop, Ok, Err, IsUtf8}
 use Rattle.byteorder.specs.Endian.{big_number}
 use Rattle.kmip_ttlv.specs.declared.fault.TtlvFault.{TtlvFault}
@@ -24,10 +25,10 @@ LeafBreaks type at value fault = ⊥
 unfoldable pub Breaks : ℕ → ℕ → List ℕ → TtlvFault → Type 0
 Breaks zero at bytes fault = fault ≡ TooDeep at
 Breaks (suc left) at bytes fault =
-    (head_at (suc left == 16) at bytes ≡ Err fault)
+    (head_at (suc left == most_levels) at bytes ≡ Err fault)
     ⊎ ((tag : ℕ) × (type : ItemType) × (len : ℕ) × (value : List ℕ)
-    × (head_at (suc left == 16) at bytes ≡ Ok (tag, type, len)) × (value ≡ take len (drop 8 bytes))
+    × (head_at (suc left == most_levels) at bytes ≡ Ok (tag, type, len)) × (value ≡ take len (drop head_size bytes))
     × (LeafBreaks type at value fault
     ⊎ ((type ≡ Structure) × (children : Nodes) × (front : List ℕ) × (rest : List ℕ)
     × SpelledAll children front × (depths children ≤ left) × (value ≡ front ++ rest) × (0 < length rest)
-    × Breaks left (at + 8 + length front) rest fault)))
+    × Breaks left (at + head_size + length front) rest fault)))

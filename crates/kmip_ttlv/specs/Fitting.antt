@@ -1,5 +1,5 @@
 -- The ranges of bytes and values, and how deep an item is.
--- Source: KMIP 2.1, TTLV Encoding, Type and Value.
+-- Source: KMIP 2.1, TTLV Encoding, Type and Value; that a Big Integer has a positive multiple of eight bytes is own.
 use Rattle.std.specs.Prelude.{◌≡◌, ℕ, ◌+◌, ◌%◌, ◌^◌, ◌<◌, max, List, length, get_or, FitsSigned, IsUtf8}
 use Rattle.std.specs.Int.{w32, w64}
 use Rattle.kmip_ttlv.specs.Node.{

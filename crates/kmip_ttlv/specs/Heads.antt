@@ -1,5 +1,6 @@
 -- The checks of an item's head, in their order, and the first of them to fail.
--- Source: KMIP 2.1, TTLV Encoding.
+-- Source: KMIP 2.1, TTLV Encoding; 16 levels and 8,192 bytes are own.
+use Rattle.kmip_ttlv.specs.Limits.{head_size, most_bytes}
 use Rattle.std.specs.Prelude.{ℕ, ◌+◌, Bool, true, false, not, ◌&&◌, nat_lt, if◌then◌else◌, List, length, drop, slice_index, Option, Some, None, Result, Ok, Err}
 use Rattle.byteorder.specs.Endian.{big_number}
 use Rattle.kmip_ttlv.specs.declared.fault.TtlvFault.{TtlvFault}
@@ -18,13 +19,13 @@ unfoldable pub typed_head_at : Bool → ℕ → List ℕ → Option ItemType →
 typed_head_at outermost at bytes None len = Err (UnknownType at)
 typed_head_at outermost at bytes (Some type) len =
     if not (is_allowed type len) then Err (BadLength at)
-    else if outermost && nat_lt 8192 (8 + padded len) then Err (TooLong at)
-    else if nat_lt (length bytes) (8 + padded len) then Err (overrun outermost at)
+    else if outermost && nat_lt most_bytes (head_size + padded len) then Err (TooLong at)
+    else if nat_lt (length bytes) (head_size + padded len) then Err (overrun outermost at)
     else Ok (big_number 3 bytes, type, len)
 
 -- The tag, the type and the length of the value of the item at the front of the bytes, which begin at
 -- this offset and end where the item's parent does.
 unfoldable pub head_at : Bool → ℕ → List ℕ → Result (ℕ × ItemType × ℕ) TtlvFault
 head_at outermost at bytes =
-    if nat_lt (length bytes) 8 then Err (overrun outermost at)
+    if nat_lt (length bytes) head_size then Err (overrun outermost at)
     else typed_head_at outermost at bytes (type_of_byte (slice_index bytes 3)) (big_number 4 (drop 4 bytes))

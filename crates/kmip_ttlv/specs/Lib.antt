@@ -1,3 +1,4 @@
+pub mod Limits
 pub mod Node
 pub mod View
 pub mod Faults

@@ -1,5 +1,6 @@
 -- Reading as a function: the item at the front of some bytes, or the first fault.
--- Source: KMIP 2.1, TTLV Encoding.
+-- Source: KMIP 2.1, TTLV Encoding; 16 levels and 8,192 bytes are own.
+use Rattle.kmip_ttlv.specs.Limits.{head_size, most_levels}
 use Rattle.std.specs.Prelude.{◌≡◌, ℕ, zero, suc, ◌+◌, ◌==◌, ◌⊎◌, Bool, true, false, List, [], ◌∷◌, length, take, drop, if◌then◌else◌, Result, Ok, Err}
 use Rattle.std.specs.Int.{w32, w64, cast_signed}
 use Rattle.std.specs.Str.{is_utf8}
@@ -72,7 +73,7 @@ text_value_at at text = if is_utf8 text then Ok text else Err (BadText at)
 -- the content that a value of this type is, of the item at this offset
 unfoldable pub value_at : Reader → ℕ → ItemType → List ℕ → Result Content TtlvFault
 value_at reader at Structure value = do
-  items ← all_at reader (length value) (at + 8) value
+  items ← all_at reader (length value) (at + head_size) value
   Ok (structure (nodes_of items))
 value_at reader at Integer value = Ok (integer (cast_signed w32 (big_number 4 value)))
 value_at reader at LongInteger value = Ok (long_integer (cast_signed w64 (big_number 8 value)))
@@ -94,9 +95,9 @@ value_at reader at DateTimeExtended value = Ok (date_time_extended (cast_signed 
 unfoldable pub item_at : ℕ → ℕ → List ℕ → Result (Node × ℕ) TtlvFault
 item_at zero at bytes = Err (TooDeep at)
 item_at (suc left) at bytes = do
-  found ← head_at (suc left == 16) at bytes
-  content ← value_at (item_at left) at found.1 (take found.2 (drop 8 bytes))
-  Ok (node found.0 content, 8 + padded found.2)
+  found ← head_at (suc left == most_levels) at bytes
+  content ← value_at (item_at left) at found.1 (take found.2 (drop head_size bytes))
+  Ok (node found.0 content, head_size + padded found.2)
 
 -- ---- what the code answers
 
@@ -105,7 +106,7 @@ abbrev pub FailsContent : {Y : Type 0} → TtlvFault → Result Y TtlvFault → 
 FailsContent NoMemory read = Unit {0}
 FailsContent e read = read ≡ Err e
 
--- What the code answered, seen by a view, is what reading gives, unless memory ran out.
+-- Private: what the code answered, seen by a view, is what reading gives, unless memory ran out.
 abbrev pub GivesContent : {X Y : Type 0} → (X → Y) → Result X TtlvFault → Result Y TtlvFault → Type 0
 GivesContent seen (Ok x) read = read ≡ Ok (seen x)
 GivesContent seen (Err e) read = FailsContent e read

@@ -60,9 +60,13 @@ unfoldable pub shown_byte : ℕ → List ℕ
 shown_byte b =
     if nat_le 32 b && nat_lt b 127 && not (b == 34) && not (b == 92) then b ∷ [] else 92 ∷ encode_upper (b ∷ [])
 
+-- a text in plain characters
+abbrev pub plain_text : List ℕ → List ℕ
+plain_text text = flat_map shown_byte text
+
 -- a text between quotation marks
 abbrev pub quoted : List ℕ → List ℕ
-quoted text = 34 ∷ flat_map shown_byte text ++ 34 ∷ []
+quoted text = 34 ∷ plain_text text ++ 34 ∷ []
 
 abbrev pub shown_truth : Bool → List ℕ
 shown_truth true = codes "true"

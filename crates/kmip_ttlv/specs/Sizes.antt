@@ -1,5 +1,6 @@
 -- How many bytes an item takes, and which items have a written form.
--- Source: KMIP 2.1, TTLV Encoding.
+-- Source: KMIP 2.1, TTLV Encoding; 16 levels and 8,192 bytes are own.
+use Rattle.kmip_ttlv.specs.Limits.{head_size, most_bytes, most_levels}
 use Rattle.std.specs.Prelude.{◌≡◌, ℕ, ◌+◌, ◌≤◌, length, nat_le, if◌then◌else◌, Option, Some, None}
 use Rattle.kmip_ttlv.specs.Node.{
   Node,
@@ -30,7 +31,7 @@ padded len = len + padding len
 -- the length of the written form
 abbrev mutual
   pub size : Node → ℕ
-  size (node tag content) = 8 + content_size content
+  size (node tag content) = head_size + content_size content
 
   pub content_size : Content → ℕ
   content_size (structure items) = sizes items
@@ -51,30 +52,30 @@ abbrev mutual
 
 -- The item has a written form: in range, at most 16 levels, at most 8,192 bytes.
 abbrev pub Fits : Node → Type 0
-Fits n = IsInRange n × (depth n ≤ 16) × (length (canon n) ≤ 8192)
+Fits n = IsInRange n × (depth n ≤ most_levels) × (length (canon n) ≤ most_bytes)
 
 -- The same of an item of the code, whose numbers and texts are in range by their types.
 abbrev pub IsWritable : Node → Type 0
-IsWritable n = HasWholeGroups n × (depth n ≤ 16) × (length (canon n) ≤ 8192)
+IsWritable n = HasWholeGroups n × (depth n ≤ most_levels) × (length (canon n) ≤ most_bytes)
 
 -- ---- what the code answers
 
--- a size, where the room holds it
+-- Private: a size, where the room holds it
 abbrev pub size_up_to : ℕ → ℕ → Option ℕ
 size_up_to size room = if nat_le size room then Some size else None
 
--- the size of an item, where it has at most so many levels and bytes
+-- Private: the size of an item, where it has at most so many levels and bytes
 abbrev pub IsSizeWithin : Option ℕ → Node → ℕ → ℕ → Type 0
 IsSizeWithin (Some found) n levels room = IsInRange n × (depth n ≤ levels) × (found ≡ size n) × (found ≤ room)
 IsSizeWithin None n levels room = HasWholeGroups n → depth n ≤ levels → size n ≤ room → ⊥
 
--- the size of these items together
+-- Private: the size of these items together
 abbrev pub AreSizesWithin : Option ℕ → Nodes → ℕ → ℕ → Type 0
 AreSizesWithin (Some found) ns levels room = AreInRange ns × (depths ns ≤ levels) × (found ≡ sizes ns) × (found ≤ room)
 AreSizesWithin None ns levels room = HaveWholeGroups ns → depths ns ≤ levels → sizes ns ≤ room → ⊥
 
--- the size of a Structure of these items
+-- Private: the size of a Structure of these items
 abbrev pub IsStructureWithin : Option ℕ → Nodes → ℕ → ℕ → Type 0
 IsStructureWithin (Some found) ns levels room =
-    AreInRange ns × (1 + depths ns ≤ levels) × (found ≡ 8 + sizes ns) × (found ≤ room)
-IsStructureWithin None ns levels room = HaveWholeGroups ns → 1 + depths ns ≤ levels → 8 + sizes ns ≤ room → ⊥
+    AreInRange ns × (1 + depths ns ≤ levels) × (found ≡ head_size + sizes ns) × (found ≤ room)
+IsStructureWithin None ns levels room = HaveWholeGroups ns → 1 + depths ns ≤ levels → head_size + sizes ns ≤ room → ⊥

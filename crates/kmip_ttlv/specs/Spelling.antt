@@ -1,5 +1,6 @@
 -- How an item is spelled in bytes: a tag, a type, a length, a value and padding.
--- Source: KMIP 2.1, TTLV Encoding.
+-- Source: KMIP 2.1, TTLV Encoding; 16 levels and 8,192 bytes are own.
+use Rattle.kmip_ttlv.specs.Limits.{most_bytes, most_levels}
 use Rattle.std.specs.Prelude.{◌≡◌, ℕ, ◌-◌, ◌%◌, ◌^◌, ◌<◌, ◌≤◌, List, [], ◌∷◌, ◌++◌, length, replicate}
 use Rattle.std.specs.Int.{w32, w64, cast_unsigned, from_bool}
 use Rattle.byteorder.specs.Endian.{big_bytes}
@@ -107,4 +108,4 @@ abbrev mutual
 
 -- The bytes are those of an item that is neither too deep nor too long.
 abbrev pub Spells : Node → List ℕ → Type 0
-Spells n bytes = Spelled n bytes × (depth n ≤ 16) × (length bytes ≤ 8192)
+Spells n bytes = Spelled n bytes × (depth n ≤ most_levels) × (length bytes ≤ most_bytes)

@@ -1,5 +1,5 @@
 -- The types of TTLV: their numbers, and the lengths that a value of each may have.
--- Source: KMIP 2.1, TTLV Encoding, Type and Length.
+-- Source: KMIP 2.1, TTLV Encoding, Type and Length; that a Big Integer has a positive multiple of eight bytes is own.
 use Rattle.std.specs.Prelude.{ℕ, zero, suc, Bool, true, ◌==◌, ◌%◌, ◌&&◌, nat_lt, Option, Some, None}
 use Rattle.kmip_ttlv.specs.declared.item_type.ItemType.{ItemType}
 use Rattle.kmip_ttlv.specs.declared.item_type.ItemType.TheVariants.{

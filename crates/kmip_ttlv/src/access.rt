@@ -48,7 +48,8 @@ impl Item {
 
     /// The items of a Structure, `None` for another type.
     pub fn as_structure(&self) -> Option<&[Item]>
-        ensures { option_map (λ items. views items.now) result ≡ as_structure (content_of (view self.now)) }
+        ensures { option_map (λ items. views items.now) result
+            ≡ as_structure (content_of (view self.now)) }
     {
         match &self.value {
             Value::Structure(items) => Some(items.as_slice()),
@@ -78,7 +79,8 @@ impl Item {
 
     /// The text of a Text String, `None` for another type.
     pub fn as_text_string(&self) -> Option<&str>
-        ensures { option_map (λ text. text.now) result ≡ as_text_string (content_of (view self.now)) }
+        ensures { option_map (λ text. text.now) result
+            ≡ as_text_string (content_of (view self.now)) }
     {
         match &self.value {
             Value::TextString(text) => Some(text.as_str()),
@@ -88,7 +90,8 @@ impl Item {
 
     /// The bytes of a Byte String, `None` for another type.
     pub fn as_byte_string(&self) -> Option<&[u8]>
-        ensures { option_map (λ bytes. bytes.now) result ≡ as_byte_string (content_of (view self.now)) }
+        ensures { option_map (λ bytes. bytes.now) result
+            ≡ as_byte_string (content_of (view self.now)) }
     {
         match &self.value {
             Value::ByteString(bytes) => Some(bytes.as_slice()),

@@ -1,4 +1,5 @@
 //! Which items have a written form.
+ghost use Rattle.kmip_ttlv.specs.Limits.{head_size, most_bytes};
 ghost use Rattle.std.specs.Prelude.{◌≡◌, ◌+◌, ◌≤◌, ◌<◌, ◌↔◌, length, IsTrue};
 ghost use Rattle.kmip_ttlv.specs.Node.{nodes_of};
 ghost use Rattle.kmip_ttlv.specs.View.{view, views};
@@ -20,7 +21,7 @@ pub fn fits(item: &Item) -> bool
 /// The size of the item's written form, where it has one of at most `levels` levels and `room` bytes.
 #[cycle(sizes)]
 fn size_within(item: &Item, levels: usize, room: usize) -> Option<usize>
-    requires { room ≤ 8192 }
+    requires { room ≤ most_bytes }
     ensures { IsSizeWithin result (view item.now) levels room }
 {
     // A tag is below 2^24.
@@ -52,7 +53,7 @@ fn size_within(item: &Item, levels: usize, room: usize) -> Option<usize>
 /// The size of a Structure of these items, as `size_within` has it.
 #[cycle(sizes)]
 fn structure_within(items: &[Item], levels: usize, room: usize) -> Option<usize>
-    requires room { room ≤ 8192 }
+    requires room { room ≤ most_bytes }
     requires levels { 0 < levels }
     ensures { IsStructureWithin result (nodes_of (views items.now)) levels room }
 {
@@ -69,7 +70,7 @@ fn structure_within(items: &[Item], levels: usize, room: usize) -> Option<usize>
 /// bytes.
 #[cycle(sizes)]
 pub(crate) fn all_within(items: &[Item], levels: usize, room: usize) -> Option<usize>
-    requires { room ≤ 8192 }
+    requires { room ≤ most_bytes }
     ensures { AreSizesWithin result (nodes_of (views items.now)) levels room }
 {
     let mut size = 0;
@@ -84,8 +85,8 @@ pub(crate) fn all_within(items: &[Item], levels: usize, room: usize) -> Option<u
 
 /// The size of an item without children whose value has this length.
 fn leaf_within(len: usize, room: usize) -> Option<usize>
-    requires { room ≤ 8192 }
-    ensures { result ≡ size_up_to (8 + padded len) room }
+    requires { room ≤ most_bytes }
+    ensures { result ≡ size_up_to (head_size + padded len) room }
 {
     if len > room {
         return None;

@@ -3,7 +3,7 @@
 //! An item is a tag, a type, a length and a value ("Key Management Interoperability Protocol
 //! Specification Version 2.1", TTLV Encoding). `read` takes the item at the front of some bytes,
 //! `write` appends the one written form of an item, and `fits` says which items have one.
-//! `show` gives an item as text.
+//! `show` gives an item as text, and `plain_text` a text in plain characters alone.
 #![tactic(auto)]
 
 mod access;
@@ -25,9 +25,9 @@ pub use fault::{NoMemory, TtlvFault};
 pub use fitting::fits;
 pub use item::{Item, Value};
 pub use item_type::ItemType;
-pub use limits::{MAX_DEPTH, MAX_SIZE};
+pub use limits::{HEAD_SIZE, MAX_DEPTH, MAX_SIZE};
 pub use reading::read;
-pub use showing::show;
+pub use showing::{plain_text, show};
 pub use tag::Tag;
 pub use text::Text;
 pub use writing::write;

@@ -1,4 +1,5 @@
 //! Bytes to items.
+ghost use Rattle.kmip_ttlv.specs.Limits.{head_size, most_levels};
 ghost use Rattle.std.specs.Prelude.{◌≡◌, ℕ, ◌+◌, ◌<◌, ◌≤◌, ◌^◌, ◌⊎◌, List, ◌++◌, length, take, IfOk, IfErr, IsTrue};
 ghost use Rattle.kmip_ttlv.specs.declared.fault.TtlvFault.{TtlvFault};
 ghost use Rattle.kmip_ttlv.specs.declared.fault.TtlvFault.TheVariants as faults;
@@ -29,18 +30,22 @@ use std::alloc::Global;
 /// The first fault, with the offset of the first byte of the item at fault; want of memory otherwise.
 pub fn read(alloc: Global, bytes: &[u8]) -> Result<(Item, usize), TtlvFault>
     // What is read is spelled so.
-    ensures found { IfOk result (λ x. (x.1 ≤ length bytes.now) × Spells (view x.0) (take x.1 bytes.now)) }
+    ensures found { IfOk result (λ x. (x.1 ≤ length bytes.now)
+        × Spells (view x.0) (take x.1 bytes.now)) }
     // What is spelled so is read, unless memory runs out.
-    ensures only { (n : Node) (count : ℕ) → count ≤ length bytes.now → Spells n (take count bytes.now) → IsRead result n count }
+    ensures only { (n : Node) (count : ℕ) → count ≤ length bytes.now
+        → Spells n (take count bytes.now) → IsRead result n count }
     // What was written is read again, whatever follows it.
-    ensures back { (n : Node) (rest : List ℕ) → Fits n → bytes.now ≡ canon n ++ rest → IsRead result n (length (canon n)) }
+    ensures back { (n : Node) (rest : List ℕ) → Fits n → bytes.now ≡ canon n ++ rest
+        → IsRead result n (length (canon n)) }
     // What is read has a written form.
     ensures writable { IfOk result (λ x. IsWritable (view x.0)) }
     // Which fault it is, and that there is no other.
-    ensures fault { IfErr result (λ e. (e ≡ faults.NoMemory) ⊎ Breaks 16 0 bytes.now e) }
-    ensures refused { (e : TtlvFault) → Breaks 16 0 bytes.now e → IsRefused result e }
+    ensures fault { IfErr result (λ e. (e ≡ faults.NoMemory)
+        ⊎ Breaks most_levels 0 bytes.now e) }
+    ensures refused { (e : TtlvFault) → Breaks most_levels 0 bytes.now e → IsRefused result e }
     // All of this as one function of the bytes.
-    ensures exact { ReadsAs result (item_at 16 0 bytes.now) }
+    ensures exact { ReadsAs result (item_at most_levels 0 bytes.now) }
 {
     item_of(alloc, MAX_DEPTH, 0, bytes)
 }
@@ -50,7 +55,7 @@ pub fn read(alloc: Global, bytes: &[u8]) -> Result<(Item, usize), TtlvFault>
 #[cycle(reading)]
 #[tactic(auto, unfolding(crate::specs::Reading::item_at))]
 fn item_of(alloc: Global, left: usize, at: usize, bytes: &[u8]) -> Result<(Item, usize), TtlvFault>
-    requires levels { left ≤ 16 }
+    requires levels { left ≤ most_levels }
     requires offsets { at + length bytes.now < 2 ^ 64 }
     ensures exact { ReadsAs result (item_at left at bytes.now) }
     ensures size { IfOk result (λ x. (0 < x.1) × (x.1 ≤ length bytes.now)) }
@@ -75,8 +80,8 @@ fn value_of(
     item_type: ItemType,
     bytes: &[u8],
 ) -> Result<Value, TtlvFault>
-    requires levels { left < 16 }
-    requires offsets { at + 8 + length bytes.now < 2 ^ 64 }
+    requires levels { left < most_levels }
+    requires offsets { at + head_size + length bytes.now < 2 ^ 64 }
     requires allowed { IsTrue (is_allowed item_type (length bytes.now)) }
     ensures { GivesContent content result (value_at (item_at left) at item_type bytes.now) }
 {
@@ -113,9 +118,10 @@ fn value_of(
 /// The children that take up all of the bytes, which begin at offset `at`.
 #[cycle(reading)]
 fn all_of(alloc: Global, left: usize, at: usize, bytes: &[u8]) -> Result<Vec<Item>, TtlvFault>
-    requires levels { left < 16 }
+    requires levels { left < most_levels }
     requires offsets { at + length bytes.now < 2 ^ 64 }
-    ensures { GivesContent (λ v. views v.items) result (all_at (item_at left) (length bytes.now) at bytes.now) }
+    ensures { GivesContent (λ v. views v.items) result
+        (all_at (item_at left) (length bytes.now) at bytes.now) }
 {
     let mut items = Vec::new(alloc);
     let mut place = at;
@@ -137,7 +143,7 @@ fn head_of(outermost: bool, at: usize, bytes: &[u8]) -> Result<(u32, ItemType, u
     ensures exact { result ≡ head_at outermost at bytes.now }
     ensures tag { IfOk result (λ h. h.0 < 2 ^ 24) }
     ensures allowed { IfOk result (λ h. IsTrue (is_allowed h.1 h.2)) }
-    ensures within { IfOk result (λ h. 8 + h.2 + padding h.2 ≤ length bytes.now) }
+    ensures within { IfOk result (λ h. head_size + h.2 + padding h.2 ≤ length bytes.now) }
 {
     if bytes.len() < HEAD_SIZE {
         return Err(overrun_of(outermost, at));

@@ -6,6 +6,7 @@ ghost use Rattle.kmip_ttlv.specs.View.{view, views, content};
 ghost use Rattle.kmip_ttlv.specs.Showing.{
   shown_byte,
   quoted,
+  plain_text,
   shown_bytes,
   shown_value,
   line,
@@ -31,10 +32,25 @@ pub fn show(alloc: Global, item: &Item) -> Result<String, NoMemory>
     Ok(out)
 }
 
+/// The text in plain characters, as it stands between the quotation marks of a shown Text String: a byte
+/// from 20 to 7E (hexadecimal) as it is, but for the quotation mark and the backslash, and each other
+/// byte as a backslash and its two digits.
+///
+/// # Errors
+/// Where there is no memory for it.
+pub fn plain_text(alloc: Global, text: &str) -> Result<String, NoMemory>
+    ensures { IfOk result (λ s. string_bytes s ≡ plain_text text.now) }
+{
+    let mut out = String::new(alloc);
+    push_plain(alloc, text, &mut out)?;
+    Ok(out)
+}
+
 /// Appends the lines of the item, each behind this indentation.
 #[cycle(showing)]
 fn push_lines(alloc: Global, indent: &str, item: &Item, out: &mut String) -> Result<(), NoMemory>
-    ensures { OnOk result (string_bytes out.new ≡ string_bytes out.old ++ shown_lines indent.now (view item.now)) }
+    ensures { OnOk result (string_bytes out.new ≡ string_bytes out.old
+        ++ shown_lines indent.now (view item.now)) }
 {
     push_line(alloc, indent, item, out)?;
     if let Value::Structure(items) = &item.value {
@@ -48,7 +64,8 @@ fn push_lines(alloc: Global, indent: &str, item: &Item, out: &mut String) -> Res
 /// Appends the lines of the items, each behind this indentation.
 #[cycle(showing)]
 fn push_all(alloc: Global, indent: &str, items: &[Item], out: &mut String) -> Result<(), NoMemory>
-    ensures { OnOk result (string_bytes out.new ≡ string_bytes out.old ++ shown_all indent.now (nodes_of (views items.now))) }
+    ensures { OnOk result (string_bytes out.new ≡ string_bytes out.old
+        ++ shown_all indent.now (nodes_of (views items.now))) }
 {
     for item in items {
         push_lines(alloc, indent, item, out)?;
@@ -59,7 +76,8 @@ fn push_all(alloc: Global, indent: &str, items: &[Item], out: &mut String) -> Re
 /// Appends the item's own line.
 #[tactic(auto, unfolding(crate::specs::Showing::line))]
 fn push_line(alloc: Global, indent: &str, item: &Item, out: &mut String) -> Result<(), NoMemory>
-    ensures { OnOk result (string_bytes out.new ≡ string_bytes out.old ++ line indent.now item.now.tag (content item.now.value)) }
+    ensures { OnOk result (string_bytes out.new ≡ string_bytes out.old
+        ++ line indent.now item.now.tag (content item.now.value)) }
 {
     out.push_str(indent)?;
     push_hex(alloc, &item.tag.number().to_be_bytes()[1..], out)?;
@@ -72,7 +90,8 @@ fn push_line(alloc: Global, indent: &str, item: &Item, out: &mut String) -> Resu
 
 /// Appends a space and the value, and nothing for a Structure.
 fn push_value(alloc: Global, value: &Value, out: &mut String) -> Result<(), NoMemory>
-    ensures { OnOk result (string_bytes out.new ≡ string_bytes out.old ++ shown_value (content value.now)) }
+    ensures { OnOk result (string_bytes out.new ≡ string_bytes out.old
+        ++ shown_value (content value.now)) }
 {
     match value {
         Value::Structure(_) => {}
@@ -104,7 +123,8 @@ fn push_word(word: &str, out: &mut String) -> Result<(), NoMemory>
 
 /// Appends a space and the bytes in hexadecimal, a dash where there are none.
 fn push_bytes(alloc: Global, bytes: &[u8], out: &mut String) -> Result<(), NoMemory>
-    ensures { OnOk result (string_bytes out.new ≡ string_bytes out.old ++ 32 ∷ shown_bytes bytes.now) }
+    ensures { OnOk result (string_bytes out.new ≡ string_bytes out.old
+        ++ 32 ∷ shown_bytes bytes.now) }
 {
     if bytes.is_empty() {
         out.push_str(" -")?;
@@ -117,13 +137,22 @@ fn push_bytes(alloc: Global, bytes: &[u8], out: &mut String) -> Result<(), NoMem
 
 /// Appends a space and the text between quotation marks.
 fn push_quoted(alloc: Global, text: &str, out: &mut String) -> Result<(), NoMemory>
-    ensures { OnOk result (string_bytes out.new ≡ string_bytes out.old ++ 32 ∷ quoted text.now) }
+    ensures { OnOk result (string_bytes out.new ≡ string_bytes out.old
+        ++ 32 ∷ quoted text.now) }
 {
     out.push_str(" \"")?;
+    push_plain(alloc, text, out)?;
+    out.push_str("\"")?;
+    Ok(())
+}
+
+/// Appends the text in plain characters.
+fn push_plain(alloc: Global, text: &str, out: &mut String) -> Result<(), NoMemory>
+    ensures { OnOk result (string_bytes out.new ≡ string_bytes out.old ++ plain_text text.now) }
+{
     for byte in text.as_bytes() {
         push_byte(alloc, *byte, out)?;
     }
-    out.push_str("\"")?;
     Ok(())
 }
 
@@ -143,7 +172,8 @@ fn push_byte(alloc: Global, byte: u8, out: &mut String) -> Result<(), NoMemory>
 
 /// Appends the bytes in hexadecimal, with upper-case letters.
 fn push_hex(alloc: Global, bytes: &[u8], out: &mut String) -> Result<(), NoMemory>
-    ensures { OnOk result (string_bytes out.new ≡ string_bytes out.old ++ encode_upper bytes.now) }
+    ensures { OnOk result (string_bytes out.new ≡ string_bytes out.old
+        ++ encode_upper bytes.now) }
 {
     let digits = hex::encode_upper(alloc, bytes)?;
     out.push_str(&digits)?;

@@ -80,7 +80,8 @@ fn append(item: &Item, out: &mut Vec<u8>) -> Result<(), NoMemory>
 #[cycle(appending)]
 fn append_structure(tag: Tag, items: &[Item], out: &mut Vec<u8>) -> Result<(), NoMemory>
     requires { IsWritable (node tag (structure (nodes_of (views items.now)))) }
-    ensures ok { OnOk result (out.new.items ≡ out.old.items ++ canon (node tag (structure (nodes_of (views items.now))))) }
+    ensures ok { OnOk result (out.new.items ≡ out.old.items
+        ++ canon (node tag (structure (nodes_of (views items.now))))) }
     ensures kept { take (length out.old.items) out.new.items ≡ out.old.items }
     ensures in_range { OnOk result (AreInRange (nodes_of (views items.now))) }
 {
@@ -100,7 +101,8 @@ fn append_leaf(
     out: &mut Vec<u8>,
 ) -> Result<(), NoMemory>
     requires { length value.now < 2 ^ 32 }
-    ensures ok { OnOk result (out.new.items ≡ out.old.items ++ item_bytes tag item_type value.now (zeros (padding (length value.now)))) }
+    ensures ok { OnOk result (out.new.items ≡ out.old.items
+        ++ item_bytes tag item_type value.now (zeros (padding (length value.now)))) }
     ensures kept { take (length out.old.items) out.new.items ≡ out.old.items }
 {
     append_head(tag, item_type, value.len(), out)?;

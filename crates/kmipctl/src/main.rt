@@ -5,10 +5,10 @@
 //! usage faults too.
 #![tactic(auto)]
 
-mod command_line;
-
-use command_line::{Choice, chosen, status_of};
-use kmip_commands::{ExitStatus, Form, run_answer, run_answer_stream, run_check, run_show};
+use kmip_command_line::{Choice, chosen, status_of};
+use kmip_commands::{
+    CommandFault, ExitStatus, Form, run_answer, run_answer_stream, run_check, run_show,
+};
 use std::io::{BufReader, BufWriter, Error, ErrorKind, Read};
 use std::process::ExitCode;
 use std::{env, fs, io};
@@ -20,13 +20,23 @@ fn main(rt: HostRuntime) -> ExitCode {
     let status = match run(&rt) {
         Ok(status) => status,
         Err(error) => {
-            if error.kind() == ErrorKind::OutOfMemory {
-                let _ = rt.println("no memory");
+            let fault = fault_of(&error);
+            if fault == CommandFault::NoMemory {
+                let _ = rt.println(fault.text());
             }
-            ExitStatus::Refused
+            ExitStatus::Failed(fault)
         }
     };
     ExitCode::from(status.code())
+}
+
+/// What an error outside the commands is: want of memory, or else one of the output.
+fn fault_of(error: &Error) -> CommandFault {
+    if error.kind() == ErrorKind::OutOfMemory {
+        CommandFault::NoMemory
+    } else {
+        CommandFault::Output
+    }
 }
 
 /// Does what the command line asks for.
@@ -42,7 +52,7 @@ fn run(rt: &HostRuntime) -> io::Result<ExitStatus> {
         Ok(Choice::Check(path)) => check_plan(rt, path.as_str()),
         Err(error) => {
             let status = status_of(&error);
-            if status == ExitStatus::Refused {
+            if status == ExitStatus::Failed(CommandFault::NoMemory) {
                 return Err(Error::from(ErrorKind::OutOfMemory));
             }
             rt.print(&error)?;

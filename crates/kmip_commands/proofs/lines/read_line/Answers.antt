@@ -18,5 +18,5 @@ pub loop-preserved : goal.loop-preserved
 loop-preserved g c =
     record {
       read = HasRead-more _ _ _ _ _ c.loop.invariant.read (subst (TakesPiece _ _ _ _) c.in-Middle.is c.in_ok-take_piece.ensures);
-      unwritten = Keeps-trans _ _ _ c.loop.invariant.unwritten c.flush.ensures;
+      unwritten = Keeps-trans _ _ _ c.loop.invariant.unwritten c.flush.ensures.unwritten;
     }

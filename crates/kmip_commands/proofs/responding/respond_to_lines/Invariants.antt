@@ -6,7 +6,6 @@ abbrev pub invariant-loop : goal.invariant-loop
 invariant-loop g l =
     let command = g.C.Respond in
     command.IsReady (command.state l.command)
-    × Responding command.text command.behind command.refuses command.over
-    (g.R.Read.remaining l.fn.reader) (g.R.Read.remaining l.reader)
-    (g.W.Write.contents l.fn.writer) (g.W.Write.contents l.writer)
-    (command.state l.fn.command) (command.state l.command) l.has_refused
+    × Responding command.response (g.R.Read.remaining l.fn.reader) (g.R.Read.remaining l.reader)
+    (command.state l.fn.command) (command.state l.command)
+    (g.W.Write.contents l.fn.writer) (g.W.Write.contents l.writer) l.has_refused

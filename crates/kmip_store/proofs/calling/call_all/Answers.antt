@@ -1,4 +1,4 @@
--- The call that was made is one of those behind which the records are.
+-- The call that was made is one of those after which the records are these.
 use Rattle.std.proofs.Common.{arith, ◌+◌, ◌<◌, length}
 use Rattle.std.proofs.lemmas.Grind.{common_steps}
 use Rattle.std.proofs.lemmas.Result.{err_from_is_err_and}

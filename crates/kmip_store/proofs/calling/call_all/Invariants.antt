@@ -1,4 +1,4 @@
--- What was answered, and then what the calls left will answer, is all of it; the records are those behind the calls made.
+-- What was answered, and then what the calls left will answer, is all of it; the records are those after the calls made.
 use Rattle.std.proofs.Common.{◌≡◌, ◌++◌, take, drop}
 use Rattle.kmip_store.specs.Calling.{answers_to, stock_after_calls}
 use Rattle.kmip_store.proofs.calling.call_all.Given as goal

@@ -1,25 +1,23 @@
-use Rattle.std.proofs.Common.{rules, ◌≡◌, IfOk, IsSome, sym, ap, ◌∙◌}
-use Rattle.kmip_ttlv.specs.Spelling.{canon}
-use Rattle.kmip_messages.specs.Whole.{request_read}
-use Rattle.kmip_messages.specs.Written.{reply_item}
-use Rattle.kmip_server.specs.Reasons.{message_reason}
-use Rattle.kmip_server.specs.Serving.{reply_bytes, stock_after, stock_after_read, reply_to, refusal_reply}
-use Rattle.kmip_server.proofs.ServingLemmas.{if_ok, on_ok, refusal_read}
+-- The room is that before the message, answered or not; and the records are kept before it and after.
+use Rattle.std.proofs.Common.{subst}
+use Rattle.kmip_server.specs.Shown.{HasLawfulObjects}
+use Rattle.kmip_store.specs.Stock.{IsKept}
+use Rattle.kmip_server.proofs.MessageLemmas.{served_message}
+use Rattle.kmip_server.proofs.ChangeLemmas.{room_kept}
+use Rattle.kmip_server.proofs.ObjectLemmas.{kept_objects}
 use Rattle.kmip_server.proofs.server.Server.handle.Goals as goal
 
--- src/server.rt:47:5
-pub returns-in-Err-clause-reply : goal.returns-in-Err-clause-reply
-unfolding reply_bytes
-returns-in-Err-clause-reply g c =
-    let refusal = c.in-Err.refusal in
-    let known : IfOk c.refuse_message.result (λ v. v.items ≡ canon (reply_item (refusal_reply refusal) c.args.now)) = search (rules, c.refuse_message.ensures.reply) in
-    if_ok c.refuse_message.result (λ v. v.items ≡ canon (reply_item (refusal_reply refusal) c.args.now)) _ (IsSome (message_reason refusal.fault)) known c.refuse_message.ensures.told (λ some v p.
-    p ∙ ap (λ read. canon (reply_item (reply_to c.args.self.now read) c.args.now)) (sym (refusal_read refusal (request_read c.args.message.now) c.in-Err.ensures.exact some)))
+pub returns-clause-room : goal.returns-clause-room
+returns-clause-room g c =
+    room_kept c.handle_message-reply.result c.args.self.now c.handle_message-reply.new.self c.args.message.now c.handle_message-reply.ensures.after c.handle_message-reply.ensures.same
 
--- src/server.rt:47:5
-pub returns-in-Err-clause-after : goal.returns-in-Err-clause-after
-unfolding stock_after
-returns-in-Err-clause-after g c =
-    let s = c.args.self.now in
-    on_ok c.refuse_message.result _ _ c.refuse_message.ensures.told (λ some.
-    ap (λ read. stock_after_read s read) (sym (refusal_read c.in-Err.refusal (request_read c.args.message.now) c.in-Err.ensures.exact some)))
+pub returns-clause-objects_before : goal.returns-clause-objects_before
+returns-clause-objects_before g c = subst HasLawfulObjects c.self.view_is (kept_objects _ c.count-before.ensures.kept)
+
+pub returns-clause-objects : goal.returns-clause-objects
+returns-clause-objects g c = subst HasLawfulObjects c.self-2.view_is (kept_objects _ c.count-after.ensures.kept)
+
+pub returns-clause-served : goal.returns-clause-served
+returns-clause-served g c =
+    served_message c.serving_is_a_step.ensures c.handle_message-reply.result (λ v. v.items) c.args.self.now c.handle_message-reply.new.self c.args.message.now _ _
+    (subst (λ s. IsKept s.rows s.room) c.self.view_is c.count-before.ensures.kept) (c.question_laws.ensures.parts c.args.message.now) c.handle_message-reply.ensures.says c.handle_message-reply.ensures.after

@@ -1,0 +1,27 @@
+//! Tests of kmip_commands and kmip_command_line, against messages and values that are known from
+//! outside.
+//!
+//! The expected values come from the Key Management Interoperability Protocol Specification Version
+//! 2.1 and from this project's profile of it, and never from what the crates wrote.
+#![tactic(auto)]
+
+#[cfg(test)]
+mod answering;
+#[cfg(test)]
+mod checking;
+#[cfg(test)]
+mod ending;
+#[cfg(test)]
+mod flushing;
+#[cfg(test)]
+mod limits;
+#[cfg(test)]
+mod readers;
+#[cfg(test)]
+mod showing;
+#[cfg(test)]
+mod streaming;
+#[cfg(test)]
+mod texts;
+#[cfg(test)]
+mod words;

@@ -1,0 +1,92 @@
+//! What the words of a command line ask for, and how the program ends where they ask for nothing.
+
+use kmip_command_line::{Choice, chosen, status_of};
+use kmip_commands::{ExitStatus, Form};
+use std::alloc::Global;
+use std::test::Fail;
+
+/// The words behind the program's name, and what they ask for.
+enum Wanted {
+    Answer,
+    AnswerStream,
+    Show(Form),
+    Check(&'static str),
+    /// No command: this status, with a text that has these words.
+    Text(ExitStatus, &'static str),
+}
+
+const ROWS: [(&[&str], Wanted); 17] = [
+    (&[], Wanted::Answer),
+    (&["answer"], Wanted::Answer),
+    (&["answer", "--stream"], Wanted::AnswerStream),
+    (&["show"], Wanted::Show(Form::Text)),
+    (&["show", "--canon"], Wanted::Show(Form::Canonical)),
+    (&["check", "--plan", "a.toml"], Wanted::Check("a.toml")),
+    (&["check", "--plan=b"], Wanted::Check("b")),
+    (
+        &["--version"],
+        Wanted::Text(ExitStatus::Done, "kmipctl 0.2.0\n"),
+    ),
+    (&["-V"], Wanted::Text(ExitStatus::Done, "kmipctl 0.2.0\n")),
+    (
+        &["--help"],
+        Wanted::Text(ExitStatus::Done, "Usage: kmipctl"),
+    ),
+    (
+        &["show", "--help"],
+        Wanted::Text(ExitStatus::Done, "--canon"),
+    ),
+    (
+        &["help", "answer"],
+        Wanted::Text(ExitStatus::Done, "--stream"),
+    ),
+    (&["check"], Wanted::Text(ExitStatus::Usage, "--plan")),
+    (
+        &["answer", "--canon"],
+        Wanted::Text(ExitStatus::Usage, "--canon"),
+    ),
+    (
+        &["show", "--stream"],
+        Wanted::Text(ExitStatus::Usage, "--stream"),
+    ),
+    (&["ask"], Wanted::Text(ExitStatus::Usage, "ask")),
+    (&["answer", "more"], Wanted::Text(ExitStatus::Usage, "more")),
+];
+
+/// The words behind the program's name, as it gets them.
+fn with_name(alloc: Global, words: &[&str]) -> Result<Vec<String>, Fail> {
+    let mut all = Vec::new(alloc);
+    all.push(String::from_str(alloc, "kmipctl")?)?;
+    for word in words {
+        all.push(String::from_str(alloc, word)?)?;
+    }
+    Ok(all)
+}
+
+/// Whether the words ask for what is wanted.
+fn is_wanted(alloc: Global, words: &[&str], wanted: &Wanted) -> Result<bool, Fail> {
+    let words = with_name(alloc, words)?;
+    let choice = chosen(alloc, words.as_slice());
+    match (wanted, choice) {
+        (Wanted::Answer, Ok(choice)) => Ok(choice == Choice::Answer),
+        (Wanted::AnswerStream, Ok(choice)) => Ok(choice == Choice::AnswerStream),
+        (Wanted::Show(form), Ok(choice)) => Ok(choice == Choice::Show(*form)),
+        (Wanted::Check(path), Ok(choice)) => {
+            let path = String::from_str(alloc, path)?;
+            Ok(choice == Choice::Check(path))
+        }
+        (Wanted::Text(status, part), Err(error)) => {
+            let text = error.to_string(alloc)?;
+            Ok(status_of(&error) == *status && text.as_str().contains(*part))
+        }
+        _ => Ok(false),
+    }
+}
+
+#[test]
+fn chooses_by_the_words(rt: HostRuntime) -> Result<(), Fail> {
+    for (words, wanted) in &ROWS {
+        assert!(rt; is_wanted(rt.alloc(), words, wanted)?, "{words:?}");
+    }
+    Ok(())
+}

@@ -1,0 +1,5 @@
+use Rattle.kmip_server.proofs.ObjectLemmas.{kept_objects}
+use Rattle.kmip_server.proofs.server.Server.new.Goals as goal
+
+pub returns-clause-objects : goal.returns-clause-objects
+returns-clause-objects g c = kept_objects _ c.count-count.ensures.kept

@@ -1,0 +1,18 @@
+-- What holds of every server, in the words of its laws.
+-- Source: own: what the laws of the server say.
+use Rattle.std.specs.Prelude.{◌≡◌, ℕ, List, Some, option_to_list}
+use Rattle.std.specs.Option.{option_map}
+use Rattle.kmip_messages.specs.Objects.{DistinctNames, Object, object_named}
+use Rattle.kmip_messages.specs.Searching.{by_name, every_state}
+use Rattle.kmip_messages.specs.declared.reply.Outcome.{Outcome}
+use Rattle.kmip_messages.specs.declared.reply.Outcome.TheVariants.{Located}
+use Rattle.kmip_messages.specs.declared.request.Ask.TheVariants.{Locate}
+use Rattle.kmip_server.specs.ServerStep.{ServerStep}
+
+-- A Locate by a name alone, under the mask that searches all, answers the identifier of the object with the name, where
+-- there is one, and nothing else; no object changes.
+abbrev pub LocateFindsTheName : Type 0
+LocateFindsTheName =
+    (room : ℕ) (objects after : List Object) (name : List ℕ) (outcome : Outcome) → DistinctNames objects
+    → ServerStep room objects (Locate (Some every_state) (by_name name)) outcome after
+    → (after ≡ objects) × (outcome ≡ Located (option_to_list (option_map (λ o. o.uid) (object_named name objects))))

@@ -1,0 +1,24 @@
+//! The identifiers of the objects, and how many objects there may be.
+ghost use Rattle.std.specs.Prelude.{◌≡◌, ◌≤◌, IfOk, IsTrue};
+ghost use Rattle.kmip_messages.specs.Ranges.{is_identifier};
+ghost use Rattle.kmip_store.specs.Stock.{identifier_at, most_room};
+
+use kmip_ttlv::Text;
+use std::alloc::{AllocError, Global};
+
+/// The most objects that a store may have room for (own).
+pub const MOST_ROOM: usize = 10_000;
+
+/// The Unique Identifier of the object that is made at a place, from 0: the decimal number of the
+/// place, from 1 (own).
+///
+/// # Errors
+/// Where there is no memory for it.
+pub fn identifier_at(alloc: Global, place: usize) -> Result<Text, AllocError>
+    requires { place ≤ most_room }
+    ensures value { IfOk result (λ uid. uid ≡ identifier_at place) }
+    ensures lawful { IfOk result (λ uid. IsTrue (is_identifier uid)) }
+{
+    let uid = (place + 1).to_string(alloc)?;
+    Ok(Text::from_string(uid))
+}
