@@ -1,14 +1,14 @@
 -- What holds of each key, key by key.
-use Rattle.std.proofs.Common.{◌≡◌, ◌≢◌, ℕ, zero, suc, ◌+◌, ◌≤◌, ◌<◌, Bool, true, false, List, [], ◌∷◌, map, length, Option, Some, None, IfSome, slice_set, subst, refl, sym, ap, ◌∙◌, inl, inr, arith}
-use Rattle.std.proofs.lemmas.Bool.{and_parts, cases_Bool}
+use Rattle.std.proofs.Common.{◌≡◌, ℕ, zero, suc, List, [], ◌∷◌, map, Option, Some, None, slice_set, subst, refl, inl, inr, arith}
+use Rattle.std.proofs.lemmas.Bool.{cases_Bool}
 use Rattle.std.specs.List.{AllZip, slice_get}
 use Rattle.kmip_plan.specs.Plans.{IsLawful}
 use Rattle.kmip_plan.specs.declared.key.Key.{Key}
 use Rattle.kmip_client.specs.declared.knowledge.Knowledge.{Knowledge}
 use Rattle.kmip_client.specs.Clients.{lost_working, changed_by, changed_at}
 use Rattle.kmip_client.specs.Knowledge.{fresh_knowledge, is_working, lost}
-use Rattle.kmip_client.specs.Shapes.{IsShaped, AreShaped, IsKept}
-use Rattle.kmip_client.proofs.LearningLemmas.{kept_itself, lost_goes_on}
+use Rattle.kmip_client.specs.Shapes.{IsShaped, AreShaped}
+use Rattle.kmip_client.proofs.LearningLemmas.{lost_goes_on}
 
 -- ---- one place of two lists
 

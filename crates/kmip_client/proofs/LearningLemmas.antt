@@ -1,9 +1,9 @@
 -- What is learnt keeps the shape of what is known, and takes nothing back.
-use Rattle.std.proofs.Common.{◌≡◌, ◌≢◌, ℕ, zero, suc, ◌+◌, ◌≤◌, ◌<◌, Bool, true, false, not, ◌&&◌, nat_eq, nat_lt, List, [], ◌∷◌, length, Option, Some, None, Result, Ok, Err, IfSome, IsTrue, cond, subst, refl, sym, ap, ◌∙◌, inl, inr, arith, if◌then◌else◌}
+use Rattle.std.proofs.Common.{◌≡◌, ◌≢◌, ℕ, ◌≤◌, ◌<◌, Bool, true, false, not, nat_eq, nat_lt, List, [], ◌∷◌, length, Option, Some, None, Result, Ok, Err, IfSome, IsTrue, subst, refl, sym, ap, ◌∙◌, inl, inr, arith}
 use Rattle.std.proofs.lemmas.Bool.{and_parts, cases_Bool, ltb-true, ltb-false}
 use Rattle.std.proofs.lemmas.Slice.Eq.{bytes_eq-Decides}
 use Rattle.std.specs.Cmp.Lexicographic.{pointwise}
-use Rattle.std.specs.Option.{is_some, option_map_or}
+use Rattle.std.specs.Option.{is_some}
 use Rattle.std.specs.List.{list_all}
 use Rattle.kmip_messages.specs.Fits.{is_own, outcome_fits}
 use Rattle.kmip_messages.specs.Ranges.{is_identifier}
@@ -22,7 +22,6 @@ use Rattle.kmip_client.specs.declared.clash.Clash.TheVariants as clashes
 use Rattle.kmip_client.specs.declared.fault.HearFault.{HearFault}
 use Rattle.kmip_client.specs.declared.fault.HearFault.TheVariants.{OtherIdentifier, OtherName}
 use Rattle.kmip_client.specs.declared.knowledge.Knowledge.{Knowledge}
-use Rattle.kmip_client.specs.declared.knowledge.Phase.{Phase}
 use Rattle.kmip_client.specs.declared.knowledge.Phase.TheVariants as phases
 use Rattle.kmip_client.specs.Knowledge.{chain_length, lost, lost_phase}
 use Rattle.kmip_client.specs.Learning.{is_known, is_other, raised, entered, in_conflict, is_planned, is_named, place_learnt, state_learnt, attributes_learnt, created_learnt, none_learnt, one_learnt, located_learnt, step_learnt, learn}
@@ -35,30 +34,33 @@ GoesOn key old new = IsShaped key new × IsKept old new
 pub kept_itself : (known : Knowledge) → IsKept known known
 kept_itself known = record { identifier_kept = λ uid is. is; done_kept = omega arith }
 
-some_is : (uid : List ℕ) → Some uid ≢ None
+pub some_is : (uid : List ℕ) → Some uid ≢ None
 some_is uid e = absurd cc
 
-lost_suits : (uid : Option (List ℕ)) (done : ℕ) → PhaseSuits (lost_phase uid) uid done
+pub lost_suits : (uid : Option (List ℕ)) (done : ℕ) → PhaseSuits (lost_phase uid) uid done
 lost_suits None done = refl
 lost_suits (Some uid) done = some_is uid
 
 pub lost_goes_on : (key : Key) (known : Knowledge) → IsShaped key known → GoesOn key known (lost known)
-lost_goes_on key known shaped =
-    (record { few = shaped.few; suits = lost_suits known.identifier known.done; has_identifier = shaped.has_identifier; in_range = shaped.in_range; unsettled = shaped.unsettled },
-    record { identifier_kept = λ uid is. is; done_kept = omega arith })
+lost_goes_on key known shaped = (
+  record { few = shaped.few; suits = lost_suits known.identifier known.done; has_identifier = shaped.has_identifier; in_range = shaped.in_range; unsettled = shaped.unsettled },
+  record { identifier_kept = λ uid is. is; done_kept = omega arith },
+)
 
 pub conflict_goes_on : (key : Key) (clash : Clash) (known : Knowledge) → IsShaped key known → known.done < chain_length key → GoesOn key known (in_conflict clash known)
-conflict_goes_on key clash known shaped more =
-    (record { few = shaped.few; suits = shaped.suits; has_identifier = shaped.has_identifier; in_range = shaped.in_range; unsettled = λ some. more },
-    record { identifier_kept = λ uid is. is; done_kept = omega arith })
+conflict_goes_on key clash known shaped more = (
+  record { few = shaped.few; suits = shaped.suits; has_identifier = shaped.has_identifier; in_range = shaped.in_range; unsettled = λ some. more },
+  record { identifier_kept = λ uid is. is; done_kept = omega arith },
+)
 
 -- a key that stands at a place of its chain
 gone_to : (key : Key) (place : ℕ) (known : Knowledge) → IsShaped key known → known.clash ≡ None → known.identifier ≢ None
     → 1 ≤ place → place ≤ chain_length key → known.done ≤ place
     → GoesOn key known (record known { done = place; phase = phases.Go })
-gone_to key place known shaped none has from within more =
-    (record { few = within; suits = (has, from); has_identifier = λ some. has; in_range = shaped.in_range; unsettled = λ some. absurd (some none) },
-    record { identifier_kept = λ uid is. is; done_kept = more })
+gone_to key place known shaped none has from within more = (
+  record { few = within; suits = (has, from); has_identifier = λ some. has; in_range = shaped.in_range; unsettled = λ some. absurd (some none) },
+  record { identifier_kept = λ uid is. is; done_kept = more },
+)
 
 entered_goes_on : (key : Key) (place : ℕ) (known : Knowledge) → IsShaped key known → known.clash ≡ None → known.identifier ≢ None
     → 1 ≤ place → place ≤ chain_length key → GoesOn key known (entered place known)
@@ -98,12 +100,12 @@ known_is (Some own) uid same = ap Some (same_text own uid same)
 pub not_none : (own : Option (List ℕ)) (uid : List ℕ) → own ≡ Some uid → own ≢ None
 not_none own uid is none = absurd cc
 
-none_of : (own : Option (List ℕ)) → is_some own ≡ false → own ≡ None
+pub none_of : (own : Option (List ℕ)) → is_some own ≡ false → own ≡ None
 none_of None h = refl
 none_of (Some uid) h = absurd cc
 
 -- a value that was learnt
-abbrev ok : Knowledge → Result Knowledge HearFault
+abbrev pub ok : Knowledge → Result Knowledge HearFault
 ok x = Ok x
 
 pub same_ok : (x y : Knowledge) → ok x ≡ ok y → x ≡ y
@@ -112,7 +114,7 @@ same_ok x y is = cc
 onward : (key : Key) (known x new : Knowledge) → ok x ≡ Ok new → GoesOn key known x → GoesOn key known new
 onward key known x new is goes = subst (λ n. GoesOn key known n) (same_ok x new is) goes
 
-refused : {X : Type 0} (fault : HearFault) (new : Knowledge) → Err fault ≡ Ok new → X
+pub refused : {X : Type 0} (fault : HearFault) (new : Knowledge) → Err fault ≡ Ok new → X
 refused fault new is = absurd cc
 
 -- ---- each outcome
@@ -125,17 +127,19 @@ keeps_own known uid same own is = sym (own_is known.identifier uid (not_none kno
 made_goes_on : (key : Key) (uid : List ℕ) (known : Knowledge) → IsShaped key known → known.clash ≡ None → IsTrue (is_identifier uid)
     → known.done < chain_length key → is_other known.identifier uid ≡ false → known.done < 1
     → GoesOn key known (record known { identifier = Some uid; done = 1; phase = phases.Go })
-made_goes_on key uid known shaped none fits more same first =
-    (record { few = omega arith; suits = (some_is uid, omega arith); has_identifier = λ some. some_is uid; in_range = fits; unsettled = λ some. absurd (some none) },
-    record { identifier_kept = keeps_own known uid same; done_kept = omega arith })
+made_goes_on key uid known shaped none fits more same first = (
+  record { few = omega arith; suits = (some_is uid, omega arith); has_identifier = λ some. some_is uid; in_range = fits; unsettled = λ some. absurd (some none) },
+  record { identifier_kept = keeps_own known uid same; done_kept = omega arith },
+)
 
 renamed_goes_on : (key : Key) (uid : List ℕ) (known : Knowledge) → IsShaped key known → IsTrue (is_identifier uid)
     → is_other known.identifier uid ≡ false → 1 ≤ known.done
     → GoesOn key known (record known { identifier = Some uid })
 renamed_goes_on key uid known shaped fits same from =
-    let own = own_is known.identifier uid (shaped.has_identifier from) same in
-    (record { few = shaped.few; suits = subst (λ o. PhaseSuits known.phase o known.done) own shaped.suits; has_identifier = λ some. some_is uid; in_range = fits; unsettled = shaped.unsettled },
-    record { identifier_kept = keeps_own known uid same; done_kept = omega arith })
+    let own = own_is known.identifier uid (shaped.has_identifier from) same in (
+      record { few = shaped.few; suits = subst (λ o. PhaseSuits known.phase o known.done) own shaped.suits; has_identifier = λ some. some_is uid; in_range = fits; unsettled = shaped.unsettled },
+      record { identifier_kept = keeps_own known uid same; done_kept = omega arith },
+    )
 
 created_goes_on : (key : Key) (uid : List ℕ) (known new : Knowledge) → IsShaped key known → known.clash ≡ None → IsTrue (is_identifier uid)
     → known.done < chain_length key → created_learnt uid known ≡ Ok new → GoesOn key known new
@@ -154,18 +158,20 @@ none_goes_on : (key : Key) (known : Knowledge) → IsShaped key known → GoesOn
 none_goes_on key known shaped =
     elim (cases_Bool (is_some known.identifier)) [
       | inl some ↦ rw some (shaped, kept_itself known)
-      | inr nothing ↦ rw nothing
-          (record { few = shaped.few; suits = none_of known.identifier nothing; has_identifier = shaped.has_identifier; in_range = shaped.in_range; unsettled = shaped.unsettled },
-          record { identifier_kept = λ uid is. is; done_kept = omega arith })
+      | inr nothing ↦ rw nothing (
+        record { few = shaped.few; suits = none_of known.identifier nothing; has_identifier = shaped.has_identifier; in_range = shaped.in_range; unsettled = shaped.unsettled },
+        record { identifier_kept = λ uid is. is; done_kept = omega arith },
+      )
     ]
 
 one_goes_on : (key : Key) (uid : List ℕ) (known : Knowledge) → IsShaped key known → IsTrue (is_identifier uid) → GoesOn key known (one_learnt uid known)
 one_goes_on key uid known shaped fits =
     elim (cases_Bool (is_some known.identifier)) [
       | inl some ↦ rw some (shaped, kept_itself known)
-      | inr nothing ↦ rw nothing
-          (record { few = shaped.few; suits = some_is uid; has_identifier = λ some. some_is uid; in_range = fits; unsettled = shaped.unsettled },
-          record { identifier_kept = λ own is. absurd (not_none known.identifier own is (none_of known.identifier nothing)); done_kept = omega arith })
+      | inr nothing ↦ rw nothing (
+        record { few = shaped.few; suits = some_is uid; has_identifier = λ some. some_is uid; in_range = fits; unsettled = shaped.unsettled },
+        record { identifier_kept = λ own is. absurd (not_none known.identifier own is (none_of known.identifier nothing)); done_kept = omega arith },
+      )
     ]
 
 located_goes_on : (key : Key) (uids : List (List ℕ)) (known new : Knowledge) → IsShaped key known → IsTrue (list_all is_identifier uids)

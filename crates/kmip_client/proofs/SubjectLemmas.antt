@@ -1,5 +1,5 @@
 -- A name stands at one place alone.
-use Rattle.std.proofs.Common.{◌≡◌, ℕ, zero, suc, ◌+◌, ◌≤◌, ◌<◌, Bool, true, false, cond, List, [], ◌∷◌, length, drop, get_or, Option, Some, None, subst, refl, sym, ap, ◌∙◌, inl, inr, arith}
+use Rattle.std.proofs.Common.{◌≡◌, ℕ, zero, suc, ◌+◌, Bool, true, false, List, [], ◌∷◌, Option, Some, None, subst, refl, sym, ap, ◌∙◌, inl, inr, arith}
 use Rattle.std.proofs.lemmas.Bool.{cases_Bool}
 use Rattle.std.proofs.lemmas.Slice.Eq.{bytes_eq-Decides}
 use Rattle.std.proofs.lemmas.Iterator.Adapters.{position_from-zero}
@@ -37,7 +37,7 @@ named_of : (keys : List Key) (name : List ℕ) (place : ℕ) (key : Option Key) 
 named_of keys name place None distinct lawful here has = absurd cc
 named_of keys name place (Some key) distinct lawful here has =
     let found = first_at (λ (k : Key). is_text name k.attrs.name) 0 keys place key here has
-        (λ other k there is. distinct keys other place k key lawful there here (sym (named_as name k.attrs.name is) ∙ named_as name key.attrs.name has)) in
+    (λ other k there is. distinct keys other place k key lawful there here (sym (named_as name k.attrs.name is) ∙ named_as name key.attrs.name has)) in
     let same : 0 + place ≡ place = omega arith in
     sym (position_from-zero (λ (k : Key). is_text name k.attrs.name) keys ∙ found ∙ ap Some same)
 

@@ -1,8 +1,7 @@
 -- Whose turn it is.
-use Rattle.std.proofs.Common.{◌≡◌, ◌≢◌, ℕ, zero, suc, ◌+◌, ◌≤◌, ◌<◌, Bool, true, false, cond, List, [], ◌∷◌, length, drop, get_or, Option, Some, None, Result, Ok, Err, IfOk, subst, refl, sym, ap, ◌∙◌, inl, inr, arith, add-one, drop-cons, length-drop}
+use Rattle.std.proofs.Common.{◌≡◌, ℕ, zero, suc, ◌+◌, ◌≤◌, ◌<◌, Bool, true, cond, List, [], ◌∷◌, length, drop, get_or, Some, None, Result, Ok, Err, IfOk, subst, refl, sym, ap, ◌∙◌, arith, add-one, drop-cons, length-drop}
 use Rattle.std.proofs.lemmas.Option.{slice_get_read}
-use Rattle.std.specs.List.{AllZip, slice_get}
-use Rattle.std.specs.Option.{option_map, option_and_then}
+use Rattle.std.specs.List.{slice_get}
 use Rattle.kmip_messages.specs.Items.{AsksAlone}
 use Rattle.kmip_plan.specs.declared.key.Key.{Key}
 use Rattle.kmip_client.specs.declared.knowledge.Knowledge.{Knowledge}
@@ -62,21 +61,25 @@ pub question_said : (keys : List Key) (knowns : List Knowledge) (place : ℕ) (k
     → question_at keys knowns place ≡ Some q
 question_said keys knowns place key known q here there is = rw (here, there) (ap Some (sym is))
 
+pub works_there : (keys : List Key) (knowns : List Knowledge) (place : ℕ) (key : Key) (known : Knowledge) → WorksAt keys knowns place
+    → slice_get keys place ≡ Some key → slice_get knowns place ≡ Some known → is_working key known ≡ true
+works_there keys knowns place key known at_work here there =
+    let own : at_work.key ≡ key = same_key at_work.key key (sym at_work.key_is ∙ here) in
+    let same : at_work.known ≡ known = same_known at_work.known known (sym at_work.known_is ∙ there) in
+    subst (λ x. is_working x known ≡ true) own (subst (λ x. is_working at_work.key x ≡ true) same at_work.works)
+
 pub about_it : (keys : List Key) (knowns : List Knowledge) (place : ℕ) (key : Key) (known : Knowledge) (q : Question) → WorksAt keys knowns place
     → slice_get keys place ≡ Some key → slice_get knowns place ≡ Some known → q ≡ question_about place key known
     → AsksAlone q.bytes (request_about key known) → IsAbout keys knowns q
-about_it keys knowns place key known q at_work here there is asks =
-    let own : at_work.key ≡ key = same_key at_work.key key (sym at_work.key_is ∙ here) in
-    let same : at_work.known ≡ known = same_known at_work.known known (sym at_work.known_is ∙ there) in
-    record {
-      key = key;
-      known = known;
-      key_is = ap (λ (x : Question). slice_get keys x.key) is ∙ here;
-      known_is = ap (λ (x : Question). slice_get knowns x.key) is ∙ there;
-      works = subst (λ x. is_working x known ≡ true) own (subst (λ x. is_working at_work.key x ≡ true) same at_work.works);
-      operation_is = ap (λ (x : Question). x.operation) is;
-      asks = asks;
-    }
+about_it keys knowns place key known q at_work here there is asks = record {
+  key = key;
+  known = known;
+  key_is = ap (λ (x : Question). slice_get keys x.key) is ∙ here;
+  known_is = ap (λ (x : Question). slice_get knowns x.key) is ∙ there;
+  works = works_there keys knowns place key known at_work here there;
+  operation_is = ap (λ (x : Question). x.operation) is;
+  asks = asks;
+}
 
 pub if_ok_both : {A E : Type 0} (P Q R : A → Type 0) (r : Result A E) → ((x : A) → P x → Q x → R x) → IfOk r P → IfOk r Q → IfOk r R
 if_ok_both P Q R (Ok x) to p q = to x p q

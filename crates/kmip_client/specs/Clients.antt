@@ -1,6 +1,6 @@
 -- What a client is to its caller: what it knows of each key of a plan, and whose turn it is.
 -- Source: own.
-use Rattle.std.specs.Prelude.{◌≡◌, ℕ, ◌+◌, Bool, true, false, cond, List, [], ◌∷◌, map, Option, Some, None, slice_get, slice_set, drop, if◌then◌else◌}
+use Rattle.std.specs.Prelude.{◌≡◌, ℕ, ◌+◌, true, false, cond, List, [], ◌∷◌, map, Option, Some, None, slice_get, slice_set, drop, if◌then◌else◌}
 use Rattle.std.specs.List.{AllZip}
 use Rattle.std.specs.Option.{option_map, option_map_or, option_and_then}
 use Rattle.kmip_messages.specs.Operations.{operation_of}

@@ -3,6 +3,7 @@
 use Rattle.std.specs.Prelude.{◌≡◌, ℕ, Bool, true, false, not, ◌&&◌, ◌||◌, ◌==◌, nat_le, nat_lt, List, [], ◌∷◌, Option, Some, None, Result, Ok, Err, slice_get, slice_set, if◌then◌else◌}
 use Rattle.std.specs.List.{position}
 use Rattle.std.specs.Option.{is_some, option_map_or, option_and_then}
+use Rattle.kmip_messages.specs.Faults.{is_no_memory}
 use Rattle.kmip_messages.specs.Items.{replies_in}
 use Rattle.kmip_messages.specs.Whole.{reply_read}
 use Rattle.kmip_messages.specs.declared.fault.MessageFault.{MessageFault}
@@ -132,6 +133,10 @@ heard_in keys reply knowns = heard_about keys reply (subject_of keys reply.id) k
 abbrev pub unreadable : Result Reply MessageFault → HearFault
 unreadable (Err fault) = faults.Unreadable fault
 unreadable (Ok reply) = faults.StrangerId
+
+-- the same of a call that may run out of memory
+abbrev pub unheard : MessageFault → HearFault
+unheard fault = if is_no_memory fault then faults.NoMemory else faults.Unreadable fault
 
 abbrev pub first_heard : List Key → HearFault → List Reply → List Knowledge → Result (Heard × List Knowledge) HearFault
 first_heard keys fault [] knowns = Err fault

@@ -5,3 +5,7 @@ pub mod Shapes
 pub mod Questions
 pub mod Clients
 pub mod Hearing
+pub mod Places
+pub mod Justified
+pub mod Truth
+pub mod Held

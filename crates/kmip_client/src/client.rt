@@ -1,5 +1,6 @@
 //! A client of one plan.
-ghost use Rattle.std.specs.Prelude.{◌≡◌, ◌≤◌, ◌<◌, length, map, drop, Some, IfOk, IfSome, OnOk, OnErr, option_map};
+ghost use Rattle.std.specs.Prelude.{◌≡◌, List, ◌≤◌, ◌<◌, length, map, drop, Some, Ok, Err, IfOk, IfErr, IfSome, IsTrue, OnOk, OnErr, option_map};
+ghost use Rattle.kmip_messages.specs.Fits.{outcome_fits};
 ghost use Rattle.std.specs.List.{AllZip};
 ghost use Rattle.kmip_plan.specs.Plans.{IsLawful, EachFits};
 ghost use Rattle.kmip_client.specs.Clients.{
@@ -18,12 +19,21 @@ ghost use Rattle.kmip_client.specs.Clients.{
   WorksAt,
   IsAbout,
 };
-ghost use Rattle.kmip_client.specs.Shapes.{IsShaped};
+ghost use Rattle.kmip_client.specs.Hearing.{unheard, heard_in, hear, Refuses};
+ghost use Rattle.kmip_client.specs.Held.{Held};
+ghost use Rattle.kmip_client.specs.Justified.{JustifiedMessage};
+ghost use Rattle.kmip_client.specs.Shapes.{IsShaped, IsKept};
+ghost use Rattle.kmip_client.specs.Truth.{TrueReply, TrueMessage};
+ghost use Rattle.kmip_messages.specs.Objects.{Object};
 ghost use Rattle.kmip_client.specs.Knowledge.{fresh_knowledge};
 
+use crate::fault::HearFault;
+use crate::hearing::{Heard, hear_about};
 use crate::knowledge::{Knowledge, Verdict};
 use crate::question::{Question, question_about};
-use kmip_plan::{Key, Plan};
+use crate::subject::subject_of;
+use kmip_messages::{MessageFault, Reply, read_reply};
+use kmip_plan::{Key, Plan, laws};
 use kmip_ttlv::{NoMemory, Text};
 use std::alloc::Global;
 use std::marker::Model;
@@ -54,7 +64,9 @@ impl<'p> Client<'p> {
     /// # Errors
     /// Where there is no memory for it.
     pub fn fresh(alloc: Global, plan: &'p Plan) -> Result<Client<'p>, NoMemory>
-        ensures { IfOk result (λ client. client ≡ fresh plan.now) }
+        ensures fresh { IfOk result (λ client. client ≡ fresh plan.now) }
+        ensures held { (objects : List Object)
+            → IfOk result (λ client. Held objects client.keys client.knowns) }
     {
         let knowns = nothing_known(alloc, plan.keys())?;
         Ok(Client {
@@ -81,6 +93,9 @@ impl<'p> Client<'p> {
         ensures question { IfOk result (λ question. question ≡ next_question self.old) }
         ensures about { IfOk result (λ question. IfSome question (λ q.
             IsAbout self.old.keys self.old.knowns q)) }
+        ensures justified { (objects : List Object) → Held objects self.old.keys self.old.knowns
+            → IfOk result (λ question. IfSome question (λ q.
+            JustifiedMessage self.old.keys objects q.bytes)) }
         ensures turn { OnOk result (self.new ≡ asked self.old) }
         ensures same { OnErr result (self.new ≡ self.old) }
     {
@@ -91,6 +106,47 @@ impl<'p> Client<'p> {
         let question = question_at(alloc, keys, self.knowns.as_slice(), place)?;
         self.next = place + 1;
         Ok(Some(question))
+    }
+
+    /// Learns from any bytes that have come, about the key that the reply's id names, whatever was
+    /// asked last.
+    ///
+    /// # Errors
+    /// The first fault in the order of `HearFault`; `NoMemory` where it comes before any other. The
+    /// client is then as it was.
+    pub fn hear(&mut self, alloc: Global, bytes: &[u8]) -> Result<Heard, HearFault>
+        ensures heard { IfOk result (λ heard.
+            hear self.old bytes.now ≡ Ok (heard, self.new.knowns)) }
+        ensures stays { self.new ≡ record self.old { knowns = self.new.knowns } }
+        ensures fault { IfErr result (λ fault. Refuses fault (hear self.old bytes.now)) }
+        ensures same { OnErr result (self.new ≡ self.old) }
+        ensures kept { AllZip IsKept self.old.knowns self.new.knowns }
+        ensures held { (objects : List Object) → Held objects self.old.keys self.old.knowns
+            → TrueMessage self.old.keys objects bytes.now
+            → Held objects self.new.keys self.new.knowns }
+    {
+        match read_reply(alloc, bytes) {
+            Ok(reply) => self.hear_reply(reply),
+            Err(fault) => Err(unreadable(fault)),
+        }
+    }
+
+    fn hear_reply(&mut self, reply: Reply) -> Result<Heard, HearFault>
+        requires { IsTrue (outcome_fits reply.operation reply.outcome) }
+        ensures heard { IfOk result (λ heard.
+            heard_in self.old.keys reply self.old.knowns ≡ Ok (heard, self.new.knowns)) }
+        ensures stays { self.new ≡ record self.old { knowns = self.new.knowns } }
+        ensures fault { IfErr result (λ e. heard_in self.old.keys reply self.old.knowns ≡ Err e) }
+        ensures same { OnErr result (self.new ≡ self.old) }
+        ensures kept { AllZip IsKept self.old.knowns self.new.knowns }
+        ensures held { (objects : List Object) → Held objects self.old.keys self.old.knowns
+            → TrueReply self.old.keys objects reply → Held objects self.new.keys self.new.knowns }
+    {
+        laws::steps_have_places();
+        laws::states_have_places();
+        let keys = self.plan.keys();
+        let subject = subject_of(keys, self.next.saturating_sub(1), &reply.id);
+        hear_about(keys, &mut self.knowns, subject, reply)
     }
 
     /// How many steps of the key at a place from 0 are known to have taken effect. Takes no memory.
@@ -128,9 +184,21 @@ impl<'p> Client<'p> {
     /// that is worked on is looked at again. Takes no memory.
     pub fn lost(&mut self, key: usize)
         requires { key < length self.old.keys }
-        ensures { self.new ≡ lost_at self.old key }
+        ensures lost { self.new ≡ lost_at self.old key }
+        ensures held { (objects : List Object) → Held objects self.old.keys self.old.knowns
+            → Held objects self.new.keys self.new.knowns }
     {
         lose(self.plan.keys(), &mut self.knowns, key);
+    }
+}
+
+/// What it is to hear bytes that are no reply.
+fn unreadable(fault: MessageFault) -> HearFault
+    ensures { result ≡ unheard fault }
+{
+    match fault {
+        MessageFault::NoMemory => HearFault::NoMemory,
+        other => HearFault::Unreadable(other),
     }
 }
 
@@ -172,9 +240,14 @@ fn question_at(
     requires shaped { AllZip IsShaped keys.now knowns.now }
     requires fits { EachFits keys.now }
     requires works { WorksAt keys.now knowns.now place }
+    requires lawful { IsLawful keys.now }
+    ensures justified { (objects : List Object) → Held objects keys.now knowns.now
+        → IfOk result (λ q. JustifiedMessage keys.now objects q.bytes) }
     ensures question { IfOk result (λ q. question_at keys.now knowns.now place ≡ Some q) }
     ensures about { IfOk result (λ q. IsAbout keys.now knowns.now q) }
 {
+    laws::steps_have_places();
+    laws::keys_have_names();
     let key = &keys[place];
     let known = &knowns[place];
     question_about(alloc, place, key, known)

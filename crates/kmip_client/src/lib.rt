@@ -15,5 +15,5 @@ pub use clash::Clash;
 pub use client::Client;
 pub use fault::HearFault;
 pub use hearing::{Heard, News};
-pub use question::Question;
 pub use knowledge::{Knowledge, Phase, Verdict};
+pub use question::Question;

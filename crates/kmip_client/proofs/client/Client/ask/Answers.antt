@@ -1,5 +1,5 @@
 -- The turn passes to the place after the key that is asked about.
-use Rattle.std.proofs.Common.{◌≡◌, ◌<◌, ◌≤◌, length, sym, subst, arith}
+use Rattle.std.proofs.Common.{◌<◌, length, subst, arith}
 use Rattle.std.proofs.lemmas.Slice.Zip.{AllZip-long}
 use Rattle.kmip_client.specs.Shapes.{IsShaped}
 use Rattle.kmip_client.proofs.TurnLemmas.{within_some}

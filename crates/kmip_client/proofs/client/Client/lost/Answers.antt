@@ -1,8 +1,17 @@
 -- Key by key.
+use Rattle.std.proofs.Common.{sym, subst}
+use Rattle.kmip_client.specs.Clients.{ClientState}
+use Rattle.kmip_client.specs.Held.{Held}
 use Rattle.kmip_client.proofs.ClientLemmas.{lost_are_shaped}
+use Rattle.kmip_client.proofs.HeldLemmas.{lost_held}
 use Rattle.kmip_client.proofs.client.Client.lost.Goals as goal
 
 pub invariant_of-self : goal.invariant_of-self
 invariant_of-self c =
     rw (c.lose.ensures, c.keys.ensures.value)
     (lost_are_shaped c.self.inside.plan.now c.self.inside.knowns.items c.self.inside.next c.args.key c.self.invariant)
+
+pub returns-clause-held : goal.returns-clause-held
+returns-clause-held c = λ objects held.
+    let inside : Held objects c.self.inside.plan.now c.self.inside.knowns.items = subst (λ (s : ClientState). Held objects s.keys s.knowns) (sym c.self.view_is) held in
+    rw (c.lose.ensures, c.keys.ensures.value) (lost_held objects c.self.inside.plan.now c.self.inside.knowns.items c.args.key inside)
