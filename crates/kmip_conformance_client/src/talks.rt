@@ -1,7 +1,7 @@
 //! Whole talks with a client: in which order it asks, and what it takes from the replies.
 
 use crate::talking::Act::{self, Ask, Hear, Lost};
-use crate::talking::{act, known, plan_of};
+use crate::talking::{known, plan_of, said_to};
 use crate::texts::{
     ACTIVATED, ASK_ACTIVATE, ASK_ATTRIBUTES, ASK_DESTROY, ASK_REVOKE, ATTRIBUTES, FAILED_UNNAMED,
     FOUND_SAME_TWICE, FOUND_TWO,
