@@ -1,0 +1,140 @@
+//! A client that is talked to: its plan, what is done to it, and how it answers, in words.
+
+use kmip_client::{Client, HearFault, News, Verdict};
+use kmip_messages::MessageFault;
+use kmip_plan::{Plan, read_plan};
+use std::alloc::{AllocError, Global};
+use std::process::Abort;
+use std::test::Fail;
+
+/// One key of a plan, AES with 256 bits, to encrypt and decrypt.
+const KEY: &str = "\
+    [[key]]\n\
+    name = \"NAME\"\n\
+    algorithm = \"AES\"\n\
+    length = 256\n\
+    usage = [\"encrypt\", \"decrypt\"]\n\
+    target = \"TARGET\"\n";
+
+/// What is done to a client.
+#[derive(Clone, Copy, Debug)]
+pub enum Act {
+    /// It is asked for its next question, which is this one in hexadecimal; any where nothing is said.
+    Ask(&'static str),
+    /// It hears these bytes, in hexadecimal.
+    Hear(&'static str),
+    /// The question about the key at this place has no answer.
+    Lost(usize),
+}
+
+/// The plan of keys with these names and one target.
+pub fn plan_of(alloc: Global, names: &[&str], target: &str) -> Result<Plan, Fail> {
+    let mut text = String::new(alloc);
+    for name in names {
+        let key = KEY.replace(alloc, "NAME", *name)?;
+        let key = key.as_str().replace(alloc, "TARGET", target)?;
+        text.push_str(key.as_str())?;
+    }
+    let plan = read_plan(alloc, text.as_str())?;
+    Ok(plan)
+}
+
+/// The text with each change made in it, in turn.
+pub fn changed(alloc: Global, text: &str, changes: &[(&str, &str)]) -> Result<String, AllocError> {
+    let mut text = String::from_str(alloc, text)?;
+    for (from, to) in changes {
+        text = text.as_str().replace(alloc, *from, *to)?;
+    }
+    Ok(text)
+}
+
+/// The key and the operation of the next question, with its bytes where they are not the wanted ones.
+pub fn asked(alloc: Global, client: &mut Client<'_>, wanted: &str) -> Result<String, Fail> {
+    let Some(question) = client.ask(alloc)? else {
+        let none = String::from_str(alloc, "none")?;
+        return Ok(none);
+    };
+    let mut said = format!(in alloc; "{} {:x}", question.key, question.operation)?;
+    if !wanted.is_empty() {
+        let text = hex::encode(alloc, question.bytes.as_slice())?;
+        if text.as_str() != wanted {
+            write!(said, " {}", text.as_str())?;
+        }
+    }
+    Ok(said)
+}
+
+/// The key, the operation and the news of a reply, or the fault.
+pub fn heard(alloc: Global, client: &mut Client<'_>, bytes: &[u8]) -> Result<String, AllocError> {
+    match client.hear(alloc, bytes) {
+        Ok(heard) => {
+            let news = news_word(heard.news);
+            format!(in alloc; "{} {:x} {news}", heard.key, heard.operation)
+        }
+        Err(HearFault::Unreadable(fault)) => unreadable(alloc, fault),
+        Err(fault) => String::from_str(alloc, fault.name()),
+    }
+}
+
+fn news_word(news: News) -> &'static str {
+    match news {
+        News::Grew => "Grew",
+        News::Same => "Same",
+        News::Refused => "Refused",
+        News::Clash => "Clash",
+    }
+}
+
+fn unreadable(alloc: Global, fault: MessageFault) -> Result<String, AllocError> {
+    let mut said = format!(in alloc; "Unreadable {}", fault.name())?;
+    match fault {
+        MessageFault::Missing(tag)
+        | MessageFault::Twice(tag)
+        | MessageFault::WrongType(tag)
+        | MessageFault::OutOfRange(tag) => write!(said, " {:06x}", tag.number())?,
+        _ => {}
+    }
+    Ok(said)
+}
+
+/// The steps done, the identifier and the verdict of the key at a place.
+pub fn known(
+    rt: &impl Abort,
+    alloc: Global,
+    client: &Client<'_>,
+    key: usize,
+) -> Result<String, AllocError> {
+    assert!(rt; key < client.plan().count());
+    let done = client.done(key);
+    let uid = match client.identifier(key) {
+        Some(uid) => uid.as_str(),
+        None => "-",
+    };
+    match client.verdict(key) {
+        Verdict::Working => format!(in alloc; "{done} {uid} Working"),
+        Verdict::Finished => format!(in alloc; "{done} {uid} Finished"),
+        Verdict::Conflict(clash) => format!(in alloc; "{done} {uid} {}", clash.name()),
+    }
+}
+
+/// Does an act to a client. What the client says to it; nothing where it says nothing.
+pub fn said_to(
+    rt: &impl Abort,
+    alloc: Global,
+    client: &mut Client<'_>,
+    act: Act,
+) -> Result<String, Fail> {
+    match act {
+        Act::Ask(wanted) => asked(alloc, client, wanted),
+        Act::Hear(text) => {
+            let bytes = hex::decode(alloc, text)?;
+            let said = heard(alloc, client, bytes.as_slice())?;
+            Ok(said)
+        }
+        Act::Lost(key) => {
+            assert!(rt; key < client.plan().count());
+            client.lost(key);
+            Ok(String::new(alloc))
+        }
+    }
+}
