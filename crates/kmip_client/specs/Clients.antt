@@ -80,7 +80,7 @@ turn_after (Some place) next = place + 1
 abbrev pub asked : ClientState → ClientState
 asked c = record c { next = turn_after (next_working c) c.next }
 
--- the key at the place is worked on
+-- Private: the key at the place is worked on
 pub record WorksAt (keys : List Key) (knowns : List Knowledge) (place : ℕ) : Type 0 where
   pub key : Key
   pub known : Knowledge

@@ -56,7 +56,7 @@ is_asked_of key operation =
 abbrev pub place_named : List ℕ → List Key → Option ℕ
 place_named name keys = position (λ key. is_text name key.attrs.name) keys
 
--- the key at the place has the name
+-- Private: the key at the place has the name
 abbrev pub is_named_at : List ℕ → List Key → ℕ → Bool
 is_named_at name keys place = option_map_or (λ key. is_text name key.attrs.name) (slice_get keys place) false
 
@@ -134,7 +134,7 @@ abbrev pub unreadable : Result Reply MessageFault → HearFault
 unreadable (Err fault) = faults.Unreadable fault
 unreadable (Ok reply) = faults.StrangerId
 
--- the same of a call that may run out of memory
+-- Private: the same of a call that may run out of memory
 abbrev pub unheard : MessageFault → HearFault
 unheard fault = if is_no_memory fault then faults.NoMemory else faults.Unreadable fault
 

@@ -17,7 +17,7 @@ PhaseSuits Make uid done = uid ≡ None
 PhaseSuits Check uid done = uid ≢ None
 PhaseSuits Go uid done = (uid ≢ None) × (1 ≤ done)
 
--- the knowledge of one key: no more steps than the chain has, none without an identifier, a phase that suits, and a clash
+-- Private: the knowledge of one key: no more steps than the chain has, none without an identifier, a phase that suits, and a clash
 -- only where the key is not finished
 pub record IsShaped (key : Key) (known : Knowledge) : Type 0 where
   pub few : known.done ≤ chain_length key
@@ -31,7 +31,7 @@ pub record IsKept (old new : Knowledge) : Type 0 where
   pub identifier_kept : (uid : List ℕ) → old.identifier ≡ Some uid → new.identifier ≡ Some uid
   pub done_kept : old.done ≤ new.done
 
--- the keys of a plan, what is known of each, and the place at which the next key is looked for
+-- Private: the keys of a plan, what is known of each, and the place at which the next key is looked for
 pub record AreShaped (keys : List Key) (knowns : List Knowledge) (next : ℕ) : Type 0 where
   pub lawful : IsLawful keys
   pub each : AllZip IsShaped keys knowns

@@ -4,7 +4,6 @@ ghost use Rattle.kmip_messages.specs.Fits.{outcome_fits};
 ghost use Rattle.std.specs.List.{AllZip};
 ghost use Rattle.kmip_plan.specs.Plans.{IsLawful, EachFits};
 ghost use Rattle.kmip_client.specs.Clients.{
-  ClientState,
   fresh,
   done_at,
   identifier_at,
@@ -140,11 +139,13 @@ impl<'p> Client<'p> {
         ensures heard { IfOk result (λ heard.
             heard_in self.old.keys reply self.old.knowns ≡ Ok (heard, self.new.knowns)) }
         ensures stays { self.new ≡ record self.old { knowns = self.new.knowns } }
-        ensures fault { IfErr result (λ e. heard_in self.old.keys reply self.old.knowns ≡ Err e) }
+        ensures fault { IfErr result (λ e. heard_in self.old.keys reply self.old.knowns
+            ≡ Err e) }
         ensures same { OnErr result (self.new ≡ self.old) }
         ensures kept { AllZip IsKept self.old.knowns self.new.knowns }
         ensures held { (objects : List Object) → Held objects self.old.keys self.old.knowns
-            → TrueReply self.old.keys objects reply → Held objects self.new.keys self.new.knowns }
+            → TrueReply self.old.keys objects reply
+            → Held objects self.new.keys self.new.knowns }
     {
         laws::steps_have_places();
         laws::states_have_places();
@@ -210,8 +211,8 @@ fn unreadable(fault: MessageFault) -> HearFault
 fn next_working(keys: &[Key], knowns: &[Knowledge], next: usize) -> Option<usize>
     requires as_many { length knowns.now ≡ length keys.now }
     requires within { next ≤ length keys.now }
-    ensures place { let c : ClientState = record { keys = keys.now; knowns = knowns.now; next = next } in
-        result ≡ next_working c }
+    ensures place { result
+        ≡ next_working (record { keys = keys.now; knowns = knowns.now; next = next }) }
     ensures none { result ≡ None → AreSettled keys.now knowns.now }
     ensures works { IfSome result (λ place. WorksAt keys.now knowns.now place) }
 {

@@ -54,7 +54,8 @@ pub(crate) fn hear_about(
 ) -> Result<Heard, HearFault>
     ensures ok { IfOk result (λ heard.
         heard_about keys.now reply subject knowns.old.items ≡ Ok (heard, knowns.new.items)) }
-    ensures err { IfErr result (λ e. heard_about keys.now reply subject knowns.old.items ≡ Err e) }
+    ensures err { IfErr result (λ e. heard_about keys.now reply subject knowns.old.items
+        ≡ Err e) }
     ensures same { OnErr result (knowns.new.items ≡ knowns.old.items) }
 {
     let Some(subject) = subject else {
@@ -75,7 +76,8 @@ fn hear_at(
 ) -> Result<Heard, HearFault>
     ensures ok { IfOk result (λ heard.
         heard_at keys.now subject outcome knowns.old.items ≡ Ok (heard, knowns.new.items)) }
-    ensures err { IfErr result (λ e. heard_at keys.now subject outcome knowns.old.items ≡ Err e) }
+    ensures err { IfErr result (λ e. heard_at keys.now subject outcome knowns.old.items
+        ≡ Err e) }
     ensures same { OnErr result (knowns.new.items ≡ knowns.old.items) }
 {
     let Some(key) = keys.get(subject.key) else {
