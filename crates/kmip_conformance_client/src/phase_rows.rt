@@ -166,8 +166,8 @@ const CREATED: [&str; 5] = [
     "0 1 Same 2 1 Working 0 b",
 ];
 
-/// The rows, for a key that is to be destroyed.
-pub const ROWS: [Row; 40] = [
+/// Failures, what was made and what was found.
+const LOOK_ROWS: [Row; 10] = [
     Row(NAME_USED_REPLY, &[], REFUSED),
     Row(FAILED_UNNAMED, &[], REFUSED),
     Row(CREATE_K1_REPLY, &[], CREATED),
@@ -218,7 +218,10 @@ pub const ROWS: [Row; 40] = [
     ),
     Row(FOUND_TWO, &[], TWO_OBJECTS),
     Row(FOUND_SAME_TWICE, &[], TWO_OBJECTS),
-    // The state after each number of steps.
+];
+
+/// The state after each number of steps.
+const STATE_ROWS: [Row; 9] = [
     Row(
         ATTRIBUTES,
         &[],
@@ -268,7 +271,10 @@ pub const ROWS: [Row; 40] = [
     Row(ATTRIBUTES, &[STATE_0], STATE_CLASH),
     Row(ATTRIBUTES, &[STATE_7], STATE_CLASH),
     Row(ATTRIBUTES, &[NO_STATE], STATE_CLASH),
-    // The attributes, which are judged before the state.
+];
+
+/// The attributes, which are judged before the state.
+const ATTRIBUTE_ROWS: [Row; 10] = [
     Row(ATTRIBUTES, &[NO_OBJECT_TYPE], ATTRIBUTES_CLASH),
     Row(ATTRIBUTES, &[OTHER_OBJECT_TYPE], ATTRIBUTES_CLASH),
     Row(ATTRIBUTES, &[NO_ALGORITHM], ATTRIBUTES_CLASH),
@@ -279,7 +285,10 @@ pub const ROWS: [Row; 40] = [
     Row(ATTRIBUTES, &[OTHER_USAGE], ATTRIBUTES_CLASH),
     Row(ATTRIBUTES, &[OTHER_LENGTH, NO_STATE], ATTRIBUTES_CLASH),
     Row(ATTRIBUTES, &[OTHER_USAGE, COMPROMISED], ATTRIBUTES_CLASH),
-    // The name, which is judged before the attributes, and the identifier before all.
+];
+
+/// The name, which is judged before the attributes, and the identifier before all.
+const NAME_ROWS: [Row; 5] = [
     Row(ATTRIBUTES, &[NO_NAME], OTHERWISE_NAMED),
     Row(ATTRIBUTES, &[OTHER_NAME], OTHERWISE_NAMED),
     Row(
@@ -289,7 +298,10 @@ pub const ROWS: [Row; 40] = [
     ),
     Row(ATTRIBUTES, &[OTHER_OBJECT], OTHER),
     Row(ATTRIBUTES, &[OTHER_OBJECT, OTHER_NAME, NO_STATE], OTHER),
-    // The steps after the first.
+];
+
+/// The steps after the first.
+const STEP_ROWS: [Row; 6] = [
     Row(
         ACTIVATED,
         &[],
@@ -326,4 +338,13 @@ pub const ROWS: [Row; 40] = [
     Row(ACTIVATED, &[OTHER_OBJECT], OTHER),
     Row(ACTIVATED, &[REVOKE, REVOKE_ID, OTHER_OBJECT], OTHER),
     Row(ACTIVATED, &[DESTROY, DESTROY_ID, OTHER_OBJECT], OTHER),
+];
+
+/// All of them, for a key that is to be destroyed.
+pub const TABLES: [&[Row]; 5] = [
+    &LOOK_ROWS,
+    &STATE_ROWS,
+    &ATTRIBUTE_ROWS,
+    &NAME_ROWS,
+    &STEP_ROWS,
 ];

@@ -1,6 +1,6 @@
 //! Each reply in each phase, which is seen by what is asked next.
 
-use crate::phase_rows::{BEFORE, PHASES, ROWS};
+use crate::phase_rows::{BEFORE, PHASES, Row, TABLES};
 use crate::talking::{asked, changed, heard, known, plan_of};
 use kmip_client::Client;
 use kmip_plan::Plan;
@@ -37,19 +37,39 @@ fn comes_to_each_phase(rt: HostRuntime) -> Result<(), Fail> {
     Ok(())
 }
 
+/// A reply is heard in each phase.
+fn hear_in_each(
+    rt: &impl Abort,
+    alloc: Global,
+    plan: &Plan,
+    bytes: &[u8],
+    wanted: &[&str],
+) -> Result<(), Fail> {
+    for (replies, wanted) in PHASES.iter().zip(wanted.iter()) {
+        let mut client = client_after(alloc, plan, replies)?;
+        let said = heard(alloc, &mut client, bytes)?;
+        let after = standing(rt, alloc, &mut client)?;
+        let told = format!(in alloc; "{} {}", said.as_str(), after.as_str())?;
+        assert_eq!(rt; told.as_str(), *wanted, "{bytes:?}");
+    }
+    Ok(())
+}
+
+/// Tries the rows of a table.
+fn try_rows(rt: &impl Abort, alloc: Global, plan: &Plan, rows: &[Row]) -> Result<(), Fail> {
+    for Row(text, changes, wanted) in rows {
+        let text = changed(alloc, text, changes)?;
+        let bytes = hex::decode(alloc, text.as_str())?;
+        hear_in_each(rt, alloc, plan, bytes.as_slice(), wanted)?;
+    }
+    Ok(())
+}
+
 #[test]
 fn hears_each_reply_in_each_phase(rt: HostRuntime) -> Result<(), Fail> {
     let plan = plan_of(rt.alloc(), &["k1"], "destroyed")?;
-    for row in &ROWS {
-        let text = changed(rt.alloc(), row.0, row.1)?;
-        let bytes = hex::decode(rt.alloc(), text.as_str())?;
-        for (replies, wanted) in PHASES.iter().zip(row.2.iter()) {
-            let mut client = client_after(rt.alloc(), &plan, replies)?;
-            let said = heard(rt.alloc(), &mut client, bytes.as_slice())?;
-            let after = standing(&rt, rt.alloc(), &mut client)?;
-            let told = format!(in rt.alloc(); "{} {}", said.as_str(), after.as_str())?;
-            assert_eq!(rt; told.as_str(), *wanted, "{}", text.as_str());
-        }
+    for rows in &TABLES {
+        try_rows(&rt, rt.alloc(), &plan, rows)?;
     }
     Ok(())
 }

@@ -86,15 +86,27 @@ fn news_word(news: News) -> &'static str {
 }
 
 fn unreadable(alloc: Global, fault: MessageFault) -> Result<String, AllocError> {
-    let mut said = format!(in alloc; "Unreadable {}", fault.name())?;
-    match fault {
-        MessageFault::Missing(tag)
-        | MessageFault::Twice(tag)
-        | MessageFault::WrongType(tag)
-        | MessageFault::OutOfRange(tag) => write!(said, " {:06x}", tag.number())?,
-        _ => {}
+    let (name, tag) = told_of(fault);
+    match tag {
+        Some(tag) => format!(in alloc; "Unreadable {name} {tag:06x}"),
+        None => format!(in alloc; "Unreadable {name}"),
     }
-    Ok(said)
+}
+
+/// What a fault is called, and the number of the tag that it names.
+fn told_of(fault: MessageFault) -> (&'static str, Option<u32>) {
+    match fault {
+        MessageFault::Ttlv(_) => ("Ttlv", None),
+        MessageFault::NotMessage => ("NotMessage", None),
+        MessageFault::Version => ("Version", None),
+        MessageFault::BatchCount => ("BatchCount", None),
+        MessageFault::Missing(tag) => ("Missing", Some(tag.number())),
+        MessageFault::Twice(tag) => ("Twice", Some(tag.number())),
+        MessageFault::WrongType(tag) => ("WrongType", Some(tag.number())),
+        MessageFault::OutOfRange(tag) => ("OutOfRange", Some(tag.number())),
+        MessageFault::UnknownOperation => ("UnknownOperation", None),
+        MessageFault::NoMemory => ("NoMemory", None),
+    }
 }
 
 /// The steps done, the identifier and the verdict of the key at a place.
