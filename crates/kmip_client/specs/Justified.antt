@@ -1,4 +1,4 @@
--- What may be asked of a key for good: it does no harm however late, and however often, it is served.
+-- What may be asked of a key for good: as objects go onward, it may be asked still.
 -- Source: own, over KMIP 2.1, Operations.
 use Rattle.std.specs.Prelude.{◌≡◌, ◌≤◌, ◌<◌, ◌+◌, ℕ, List, Some}
 use Rattle.std.specs.List.{All}
