@@ -6,6 +6,7 @@ use crate::texts::{
     FOUND_TWO, LOCATED_BARE,
 };
 use kmip_client::Client;
+use kmip_plan::Plan;
 use kmip_vectors::{
     ACTIVATE_1, ACTIVATE_1_REPLY, ALL, CREATE_K1_LOOSE_REPLY, CREATE_K1_REPLY,
     INVALID_MESSAGE_REPLY, LOCATE_K1, LOCATE_K1_FOUND, LOCATE_K1_NONE, NAME_USED_REPLY,
@@ -28,7 +29,7 @@ const ID: &str = "4200930800000003016b310000000000";
 
 const UNCHANGED: &str = "0 - Working";
 
-const ROWS: [Row; 38] = [
+const ROWS: &[Row] = &[
     // The id: another operation, which is asked of no key or of none with this target; another name;
     // shorter and longer.
     Row(
@@ -255,18 +256,30 @@ fn asks_first(rt: &impl Abort, alloc: Global, client: &mut Client<'_>) -> Result
 #[test]
 fn hears_a_first_reply(rt: HostRuntime) -> Result<(), Fail> {
     let plan = plan_of(rt.alloc(), &["k1"], "active")?;
-    for Row(text, changes, wanted, wanted_known, next) in &ROWS {
-        let mut client = Client::fresh(rt.alloc(), &plan)?;
-        let text = changed(rt.alloc(), text, changes)?;
-        let bytes = hex::decode(rt.alloc(), text.as_str())?;
-        let said = heard(rt.alloc(), &mut client, bytes.as_slice())?;
-        assert_eq!(rt; said.as_str(), *wanted, "{}", text.as_str());
-        let told = known(&rt, rt.alloc(), &client, 0)?;
-        assert_eq!(rt; told.as_str(), *wanted_known, "{}", text.as_str());
-        let first = if *next == "0 8" { LOCATE_K1 } else { "" };
-        let question = asked(rt.alloc(), &mut client, first)?;
-        assert_eq!(rt; question.as_str(), *next, "{}", text.as_str());
+    hear_rows(&rt, rt.alloc(), &plan, ROWS)
+}
+
+/// Tries the rows.
+fn hear_rows(rt: &impl Abort, alloc: Global, plan: &Plan, rows: &[Row]) -> Result<(), Fail> {
+    for row in rows {
+        hears_first(rt, alloc, plan, row)?;
     }
+    Ok(())
+}
+
+/// What a fresh client hears in the reply of a row, what it knows then, and what it asks next.
+fn hears_first(rt: &impl Abort, alloc: Global, plan: &Plan, row: &Row) -> Result<(), Fail> {
+    let Row(text, changes, wanted, wanted_known, next) = row;
+    let mut client = Client::fresh(alloc, plan)?;
+    let text = changed(alloc, text, changes)?;
+    let bytes = hex::decode(alloc, text.as_str())?;
+    let said = heard(alloc, &mut client, bytes.as_slice())?;
+    assert_eq!(rt; said.as_str(), *wanted, "{}", text.as_str());
+    let told = known(rt, alloc, &client, 0)?;
+    assert_eq!(rt; told.as_str(), *wanted_known, "{}", text.as_str());
+    let first = if *next == "0 8" { LOCATE_K1 } else { "" };
+    let question = asked(alloc, &mut client, first)?;
+    assert_eq!(rt; question.as_str(), *next, "{}", text.as_str());
     Ok(())
 }
 
