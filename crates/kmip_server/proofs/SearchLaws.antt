@@ -1,5 +1,5 @@
 -- A Locate by a name alone that searches the objects in every state finds the object of that name, and no other.
-use Rattle.std.proofs.Common.{◌≡◌, ℕ, ℤ, Bool, true, false, ◌&&◌, nat_eq, List, [], ◌∷◌, Option, Some, None, refl, sym, ap, ◌∙◌, inl, inr}
+use Rattle.std.proofs.Common.{map, filter, ◌≡◌, ℕ, ℤ, Bool, true, false, ◌&&◌, nat_eq, List, [], ◌∷◌, Option, Some, None, refl, sym, ap, ◌∙◌, inl, inr}
 use Rattle.std.specs.Cmp.Lexicographic.{pointwise}
 use Rattle.std.specs.Option.{option_map, option_to_list}
 use Rattle.std.proofs.lemmas.Bool.{cases_Bool, cond-true, cond-false}
@@ -14,7 +14,7 @@ use Rattle.kmip_messages.specs.declared.reply.Outcome.TheVariants.{Located}
 use Rattle.kmip_messages.specs.declared.request.Ask.{Ask}
 use Rattle.kmip_messages.specs.declared.request.Ask.TheVariants.{Locate}
 use Rattle.kmip_messages.specs.declared.request.Attrs.{Attrs}
-use Rattle.kmip_server.specs.Laws.{LocateFindsTheName}
+use Rattle.kmip_server.specs.Laws.{LocateFindsAllNamed, LocateFindsTheName}
 use Rattle.kmip_server.specs.ServerStep as rules_of
 use Rattle.kmip_server.specs.ServerStep.{ServerStep, step_asked}
 use Rattle.kmip_store.specs.Locating.{has_given, is_searched, is_wanted, locate}
@@ -88,3 +88,16 @@ pub name_located : LocateFindsTheName
 name_located room objects after name outcome distinct step =
     let located = step_located room objects after _ (Some every_state) (by_name name) outcome refl step in
     (located.0, located.1 ∙ ap Located (located_by_name name objects distinct))
+
+all_located : (name : List ℕ) (objects : List Object)
+    → locate (Some every_state) (by_name name) objects ≡ map (λ o. o.uid) (filter (λ o. pointwise nat_eq name o.attrs.name) objects)
+all_located name [] = refl
+all_located name (o ∷ objects) = elim (cases_Bool (pointwise nat_eq name o.attrs.name)) [
+  | inl same ↦ rw (wanted_by_name name o ∙ same, same) (ap (λ uids. o.uid ∷ uids) (all_located name objects))
+  | inr other ↦ rw (wanted_by_name name o ∙ other, other) (all_located name objects)
+]
+
+pub all_named_located : LocateFindsAllNamed
+all_named_located room objects after name outcome step =
+    let located = step_located room objects after _ (Some every_state) (by_name name) outcome refl step in
+    (located.0, located.1 ∙ ap Located (all_located name objects))

@@ -1,6 +1,7 @@
 -- What holds of every server, in the words of its laws.
 -- Source: own: what the laws of the server say.
-use Rattle.std.specs.Prelude.{◌≡◌, ℕ, List, Some, option_to_list}
+use Rattle.std.specs.Prelude.{◌≡◌, ℕ, nat_eq, List, map, filter, Some, option_to_list}
+use Rattle.std.specs.Cmp.Lexicographic.{pointwise}
 use Rattle.std.specs.Option.{option_map}
 use Rattle.kmip_messages.specs.Objects.{DistinctNames, Object, object_named}
 use Rattle.kmip_messages.specs.Searching.{by_name, every_state}
@@ -16,3 +17,11 @@ LocateFindsTheName =
     (room : ℕ) (objects after : List Object) (name : List ℕ) (outcome : Outcome) → DistinctNames objects
     → ServerStep room objects (Locate (Some every_state) (by_name name)) outcome after
     → (after ≡ objects) × (outcome ≡ Located (option_to_list (option_map (λ o. o.uid) (object_named name objects))))
+
+-- Whether names are distinct or not, it answers the identifiers of the objects with the name, in their order.
+abbrev pub LocateFindsAllNamed : Type 0
+LocateFindsAllNamed =
+    (room : ℕ) (objects after : List Object) (name : List ℕ) (outcome : Outcome)
+    → ServerStep room objects (Locate (Some every_state) (by_name name)) outcome after
+    → (after ≡ objects)
+    × (outcome ≡ Located (map (λ o. o.uid) (filter (λ o. pointwise nat_eq name o.attrs.name) objects)))

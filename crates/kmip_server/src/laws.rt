@@ -5,7 +5,7 @@ ghost use Rattle.kmip_messages.specs.declared.request.Ask.{Ask};
 ghost use Rattle.kmip_server.specs.Again.{stock_after_asks, changes, has_failed};
 ghost use Rattle.kmip_server.specs.ServerStep.{ServerStep};
 ghost use Rattle.kmip_server.specs.Serving.{answer};
-ghost use Rattle.kmip_server.specs.Laws.{LocateFindsTheName};
+ghost use Rattle.kmip_server.specs.Laws.{LocateFindsAllNamed, LocateFindsTheName};
 ghost use Rattle.kmip_server.specs.Shown.{HasLawfulObjects, objects_in, room_in};
 ghost use Rattle.kmip_store.specs.Stock.{Stock, IsKept};
 
@@ -43,7 +43,9 @@ pub fn the_objects_are_lawful()
     ensures { (s : Stock) → IsKept s.rows s.room → HasLawfulObjects s }
 {}
 
-/// A Locate by a name alone, under the mask that searches all, finds exactly the object of that name.
+/// A Locate by a name alone, under the mask that searches all, finds exactly the objects of that
+/// name: one at most, where names are distinct.
 pub fn a_name_is_found()
-    ensures { LocateFindsTheName }
+    ensures one { LocateFindsTheName }
+    ensures all { LocateFindsAllNamed }
 {}

@@ -66,6 +66,8 @@ impl<S: Records> Server<S> {
         ensures kept { IsKept self.new.rows self.new.room }
         ensures objects_before { HasLawfulObjects self.old }
         ensures objects { HasLawfulObjects self.new }
+        ensures says { IfOk result (λ r. replies_in r.items
+            ≡ reply_to self.old (request_read message.now) ∷ []) }
         ensures served { IfOk result (λ r. AreServed (stops_in message.now) (parts_in message.now)
             (replies_in r.items) self.old self.new) }
     {
