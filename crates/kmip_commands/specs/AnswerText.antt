@@ -2,7 +2,7 @@
 -- Source: own: what the program prints.
 use Rattle.std.specs.Prelude.{ℕ, pos, false, List, [], ◌∷◌, ◌++◌, replicate}
 use Rattle.hex.specs.Hex.{encode_lower}
-use Rattle.kmip_store.specs.Stock.{Stock, empty_stock}
+use Rattle.kmip_store.specs.Stock.{Stock, empty_stock, most_room}
 use Rattle.kmip_server.specs.Serving.{reply_bytes, stock_after}
 use Rattle.kmip_commands.specs.LineText.{Response, lines_text, input_text}
 
@@ -12,7 +12,7 @@ reply_text stock message = encode_lower (reply_bytes stock message (pos 0)) ++ 1
 
 -- the records at first: none, room for 10,000, and the stream of a seed of 32 zeros
 abbrev pub first_stock : Stock
-first_stock = empty_stock (replicate 32 0) 10000
+first_stock = empty_stock (replicate 32 0) most_room
 
 -- the replies of one server to lines, each to a message as the messages before it left the records
 abbrev pub answer_lines : List (List ℕ) → List ℕ

@@ -14,15 +14,13 @@ use crate::finishing::finished;
 use crate::replies::push_hex;
 use crate::responding::{Respond, respond_to_bytes, respond_to_lines};
 use kmip_server::{ListStore, Server};
+use kmip_store::MOST_ROOM;
 use kmip_ttlv::NoMemory;
 use std::alloc::Global;
 use std::io::{BufRead, Write};
 
 /// The server's seed of key material.
 const SEED: [u8; 32] = [0; 32];
-
-/// How many objects the server has room for.
-const ROOM: usize = 10_000;
 
 /// The time of each reply.
 const NOW: i64 = 0;
@@ -83,7 +81,7 @@ pub fn answer_bytes(alloc: Global, input: &[u8], output: &mut Vec<u8>) -> Result
 pub(crate) fn new_server(alloc: Global) -> Server<ListStore>
     ensures { result ≡ first_stock }
 {
-    let store = ListStore::new(alloc, SEED, ROOM);
+    let store = ListStore::new(alloc, SEED, MOST_ROOM);
     Server::new(store)
 }
 
