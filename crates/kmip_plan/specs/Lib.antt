@@ -6,4 +6,5 @@ pub mod Tables
 pub mod Fields
 pub mod Reading
 pub mod Plans
+pub mod Prolonging
 pub mod Laws
