@@ -1,13 +1,14 @@
 -- What holds of each key, key by key.
-use Rattle.std.proofs.Common.{◌≡◌, ℕ, zero, suc, List, [], ◌∷◌, map, Option, Some, None, slice_set, subst, refl, inl, inr, arith}
+use Rattle.std.proofs.Common.{◌≡◌, ℕ, zero, suc, List, [], ◌∷◌, length, map, Option, Some, None, slice_set, subst, refl, sym, ◌∙◌, inl, inr, arith}
 use Rattle.std.proofs.lemmas.Bool.{cases_Bool}
 use Rattle.std.specs.List.{AllZip, slice_get}
 use Rattle.kmip_plan.specs.Plans.{IsLawful}
 use Rattle.kmip_plan.specs.declared.key.Key.{Key}
 use Rattle.kmip_client.specs.declared.knowledge.Knowledge.{Knowledge}
 use Rattle.kmip_client.specs.Clients.{lost_working, changed_by, changed_at}
-use Rattle.kmip_client.specs.Knowledge.{fresh_knowledge, is_working, lost}
+use Rattle.kmip_client.specs.Knowledge.{fresh_knowledge, is_working, lose}
 use Rattle.kmip_client.specs.Shapes.{IsShaped, AreShaped}
+use Rattle.kmip_client.proofs.CountLemmas.{fresh_count, lost_count}
 use Rattle.kmip_client.proofs.LearningLemmas.{lost_goes_on}
 
 -- ---- one place of two lists
@@ -49,7 +50,7 @@ changed_keeps R f keep keys knowns place (Some key) None each here there = each
 changed_keeps R f keep keys knowns place (Some key) (Some known) each here there =
     set_both R keys knowns place key (f key known) each here (keep key known (at_both R keys knowns place key known each here there))
 
-if_working : (R : Key → Knowledge → Type 0) → ((key : Key) (known : Knowledge) → R key known → R key (lost known))
+if_working : (R : Key → Knowledge → Type 0) → ((key : Key) (known : Knowledge) → R key known → R key (lose known))
     → (key : Key) (known : Knowledge) → R key known → R key (lost_working key known)
 if_working R keep key known holds =
     elim (cases_Bool (is_working key known)) [
@@ -58,7 +59,7 @@ if_working R keep key known holds =
     ]
 
 -- what being lost keeps of one key it keeps of all
-pub lost_keeps : (R : Key → Knowledge → Type 0) → ((key : Key) (known : Knowledge) → R key known → R key (lost known))
+pub lost_keeps : (R : Key → Knowledge → Type 0) → ((key : Key) (known : Knowledge) → R key known → R key (lose known))
     → (keys : List Key) (knowns : List Knowledge) (place : ℕ) → AllZip R keys knowns → AllZip R keys (changed_at lost_working keys knowns place)
 lost_keeps R keep keys knowns place each =
     changed_keeps R lost_working (if_working R keep) keys knowns place (slice_get keys place) (slice_get knowns place) each refl refl
@@ -72,13 +73,15 @@ fresh_holds R holds (key ∷ keys) = (holds key, fresh_holds R holds keys)
 fresh_shaped : (key : Key) → IsShaped key fresh_knowledge
 fresh_shaped key = record { few = omega arith; suits = refl; has_identifier = λ some. absurd (omega arith); in_range = tt; unsettled = λ some. absurd (some refl) }
 
-pub fresh_are_shaped : (keys : List Key) → IsLawful keys → AreShaped keys (map (λ key. fresh_knowledge) keys) 0
-fresh_are_shaped keys lawful = record { lawful = lawful; each = fresh_holds IsShaped fresh_shaped keys; turn = omega arith }
+pub fresh_are_shaped : (keys : List Key) → IsLawful keys → AreShaped keys (map (λ key. fresh_knowledge) keys) 0 (length keys)
+fresh_are_shaped keys lawful =
+    record { lawful = lawful; each = fresh_holds IsShaped fresh_shaped keys; turn = omega arith; counted = sym (fresh_count keys) }
 
-pub lost_are_shaped : (keys : List Key) (knowns : List Knowledge) (next place : ℕ) → AreShaped keys knowns next
-    → AreShaped keys (changed_at lost_working keys knowns place) next
-lost_are_shaped keys knowns next place shaped = record {
+pub lost_are_shaped : (keys : List Key) (knowns : List Knowledge) (next working place : ℕ) → AreShaped keys knowns next working
+    → AreShaped keys (changed_at lost_working keys knowns place) next working
+lost_are_shaped keys knowns next working place shaped = record {
   lawful = shaped.lawful;
   each = lost_keeps IsShaped (λ key known holds. (lost_goes_on key known holds).0) keys knowns place shaped.each;
   turn = shaped.turn;
+  counted = shaped.counted ∙ sym (lost_count keys knowns place);
 }

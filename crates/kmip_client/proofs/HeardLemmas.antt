@@ -1,5 +1,5 @@
 -- What was heard is about one key of the plan, whose name stands in the reply's id.
-use Rattle.std.proofs.Common.{◌≡◌, ℕ, zero, suc, ◌+◌, ◌≤◌, ◌<◌, Bool, true, false, not, nat_lt, List, [], ◌∷◌, Option, Some, None, Result, Ok, Err, slice_set, subst, refl, sym, ap, ◌∙◌, ◌⊎◌, inl, inr, arith, IfOk, OnErr, if◌then◌else◌}
+use Rattle.std.proofs.Common.{◌≡◌, ◌≢◌, ℕ, zero, suc, ◌+◌, ◌≤◌, ◌<◌, Bool, true, false, not, nat_lt, List, [], ◌∷◌, Option, Some, None, Result, Ok, Err, slice_set, subst, refl, sym, ap, ◌∙◌, ◌⊎◌, inl, inr, arith, IfOk, OnErr, if◌then◌else◌}
 use Rattle.std.proofs.lemmas.Bool.{cases_Bool, and_parts, ltb-true}
 use Rattle.std.proofs.lemmas.Iterator.Adapters.{position_from-zero}
 use Rattle.std.specs.List.{AllZip, slice_get, position_from, find}
@@ -19,11 +19,14 @@ use Rattle.kmip_client.specs.declared.hearing.News.{News}
 use Rattle.kmip_client.specs.declared.hearing.News.TheVariants as news
 use Rattle.kmip_client.specs.declared.knowledge.Knowledge.{Knowledge}
 use Rattle.kmip_client.specs.declared.subject.Subject.{Subject}
-use Rattle.kmip_client.specs.Hearing.{is_asked_of, place_named, subject_at, subject_of, is_other_operation, has_failed, news_of, with_news, taught, with_heard, heard_by, heard_about, heard_in}
-use Rattle.kmip_client.specs.Knowledge.{chain_length, is_working}
+use Rattle.kmip_client.specs.Clients.{one_if, working_count, verdict_at, VerdictsStay}
+use Rattle.kmip_client.specs.declared.knowledge.Verdict.TheVariants.{Working}
+use Rattle.kmip_client.specs.Hearing.{is_asked_of, place_named, subject_at, subject_of, is_other_operation, has_failed, news_of, with_news, teach, with_heard, heard_by, heard_about, heard_in}
+use Rattle.kmip_client.specs.Knowledge.{chain_length, is_working, verdict_of}
 use Rattle.kmip_client.specs.Learning.{learn}
 use Rattle.kmip_client.specs.Shapes.{IsShaped, AreShaped, IsKept}
 use Rattle.kmip_client.proofs.ClientLemmas.{at_both, set_both}
+use Rattle.kmip_client.proofs.CountLemmas.{stay_with, count_with, not_working}
 use Rattle.kmip_client.proofs.LearningLemmas.{GoesOn, kept_itself, learn_goes_on}
 
 -- ---- the key with the name
@@ -92,7 +95,7 @@ pub record WasHeard (keys : List Key) (reply : Reply) (knowns : List Knowledge) 
   pub key_is : slice_get keys heard.key ≡ Some key
   pub known_is : slice_get knowns heard.key ≡ Some known
   pub for_it : IsFor keys reply.id key
-  pub teaches : taught key reply.outcome known ≡ Ok (heard.news, new)
+  pub teaches : teach key reply.outcome known ≡ Ok (heard.news, new)
   pub all : nexts ≡ slice_set knowns heard.key new
 
 abbrev ok : Heard × List Knowledge → Result (Heard × List Knowledge) HearFault
@@ -106,7 +109,7 @@ not_heard fault y is = absurd cc
 
 heard_once : (keys : List Key) (reply : Reply) (subject : Subject) (knowns : List Knowledge) (key : Key) (known : Knowledge) (t : Result (News × Knowledge) HearFault)
     (heard : Heard) (nexts : List Knowledge) → subject_of keys reply.id ≡ Some subject → slice_get keys subject.key ≡ Some key → slice_get knowns subject.key ≡ Some known
-    → taught key reply.outcome known ≡ t → with_heard subject knowns t ≡ ok (heard, nexts) → WasHeard keys reply knowns heard nexts
+    → teach key reply.outcome known ≡ t → with_heard subject knowns t ≡ ok (heard, nexts) → WasHeard keys reply knowns heard nexts
 heard_once keys reply subject knowns key known (Err fault) heard nexts about here there teaches is = not_heard fault (heard, nexts) is
 heard_once keys reply subject knowns key known (Ok (news, new)) heard nexts about here there teaches is =
     let same = same_heard (record { key = subject.key; operation = subject.operation; news = news }, slice_set knowns subject.key new) (heard, nexts) is in
@@ -119,7 +122,7 @@ heard_once keys reply subject knowns key known (Ok (news, new)) heard nexts abou
       key_is = subst (λ p. slice_get keys p ≡ Some key) place here;
       known_is = subst (λ p. slice_get knowns p ≡ Some known) place there;
       for_it = for_id keys reply.id subject key about here;
-      teaches = subst (λ n. taught key reply.outcome known ≡ Ok (n, new)) told teaches;
+      teaches = subst (λ n. teach key reply.outcome known ≡ Ok (n, new)) told teaches;
       all = subst (λ p. nexts ≡ slice_set knowns p new) place (sym (ap (λ (p : Heard × List Knowledge). p.1) same));
     }
 
@@ -129,7 +132,7 @@ heard_there : (keys : List Key) (reply : Reply) (subject : Subject) (knowns : Li
 heard_there keys reply subject knowns None known heard nexts about here there is = not_heard faults.StrangerId (heard, nexts) is
 heard_there keys reply subject knowns (Some key) None heard nexts about here there is = not_heard faults.StrangerId (heard, nexts) is
 heard_there keys reply subject knowns (Some key) (Some known) heard nexts about here there is =
-    heard_once keys reply subject knowns key known (taught key reply.outcome known) heard nexts about here there refl is
+    heard_once keys reply subject knowns key known (teach key reply.outcome known) heard nexts about here there refl is
 
 heard_of : (keys : List Key) (reply : Reply) (subject : Option Subject) (knowns : List Knowledge) (heard : Heard) (nexts : List Knowledge)
     → subject_of keys reply.id ≡ subject → heard_about keys reply subject knowns ≡ ok (heard, nexts) → WasHeard keys reply knowns heard nexts
@@ -166,7 +169,7 @@ learnt_by key outcome known new told (Ok next) works is said =
     let same : next ≡ new = ap (λ (p : News × Knowledge). p.1) (same_pair (news_of (has_failed outcome) (is_some known.identifier) known.done next, next) (told, new) said) in
     inl (works, is ∙ ap (λ (k : Knowledge). Ok k) same)
 
-pub was_taught : (key : Key) (outcome : Outcome) (known new : Knowledge) (told : News) → taught key outcome known ≡ pair (told, new)
+pub was_taught : (key : Key) (outcome : Outcome) (known new : Knowledge) (told : News) → teach key outcome known ≡ pair (told, new)
     → WasTaught key outcome known new
 was_taught key outcome known new told is =
     elim (cases_Bool (is_working key known)) [
@@ -233,23 +236,51 @@ pub heard_view : (keys ks : List Key) (reply : Reply) (s : Option Subject) (know
 heard_view keys ks reply s knowns heard nexts same about is =
     subst (λ k. heard_in k reply knowns ≡ ok (heard, nexts)) same (subst (λ x. heard_about ks reply x knowns ≡ ok (heard, nexts)) about is)
 
-pub shaped_after : (keys ks : List Key) (reply : Reply) (s : Option Subject) (knowns nexts : List Knowledge) (next : ℕ) (r : Result Heard HearFault)
+pub shaped_after : (keys ks : List Key) (reply : Reply) (s : Option Subject) (knowns nexts : List Knowledge) (next working left : ℕ) (r : Result Heard HearFault)
     → StepsAreWithin → PlacesAreWithin → outcome_fits reply.operation reply.outcome ≡ true → ks ≡ keys → s ≡ subject_of ks reply.id
-    → AreShaped keys knowns next → IfOk r (λ heard. heard_about ks reply s knowns ≡ Ok (heard, nexts)) → OnErr r (nexts ≡ knowns)
-    → AreShaped keys nexts next
-shaped_after keys ks reply s knowns nexts next (Ok heard) steps_in places_in fits same about shaped is kept = record {
+    → AreShaped keys knowns next working → IfOk r (λ heard. heard_about ks reply s knowns ≡ Ok (heard, nexts)) → OnErr r (nexts ≡ knowns)
+    → left ≡ working_count ks nexts → AreShaped keys nexts next left
+shaped_after keys ks reply s knowns nexts next working left (Ok heard) steps_in places_in fits same about shaped is kept counted = record {
   lawful = shaped.lawful;
   each = heard_shaped keys reply knowns heard nexts steps_in places_in fits shaped.each (heard_view keys ks reply s knowns heard nexts same about is);
   turn = shaped.turn;
+  counted = subst (λ k. left ≡ working_count k nexts) same counted;
 }
-shaped_after keys ks reply s knowns nexts next (Err fault) steps_in places_in fits same about shaped is kept =
-    subst (λ k. AreShaped keys k next) (sym kept) shaped
+shaped_after keys ks reply s knowns nexts next working left (Err fault) steps_in places_in fits same about shaped is kept counted = record {
+  lawful = shaped.lawful;
+  each = subst (λ k. AllZip IsShaped keys k) (sym kept) shaped.each;
+  turn = shaped.turn;
+  counted = subst (λ k. left ≡ working_count k nexts) same counted;
+}
 
-pub kept_after : (keys ks : List Key) (reply : Reply) (s : Option Subject) (knowns nexts : List Knowledge) (next : ℕ) (r : Result Heard HearFault)
+pub kept_after : (keys ks : List Key) (reply : Reply) (s : Option Subject) (knowns nexts : List Knowledge) (next working : ℕ) (r : Result Heard HearFault)
     → StepsAreWithin → PlacesAreWithin → outcome_fits reply.operation reply.outcome ≡ true → ks ≡ keys → s ≡ subject_of ks reply.id
-    → AreShaped keys knowns next → IfOk r (λ heard. heard_about ks reply s knowns ≡ Ok (heard, nexts)) → OnErr r (nexts ≡ knowns)
+    → AreShaped keys knowns next working → IfOk r (λ heard. heard_about ks reply s knowns ≡ Ok (heard, nexts)) → OnErr r (nexts ≡ knowns)
     → AllZip IsKept knowns nexts
-kept_after keys ks reply s knowns nexts next (Ok heard) steps_in places_in fits same about shaped is kept =
+kept_after keys ks reply s knowns nexts next working (Ok heard) steps_in places_in fits same about shaped is kept =
     heard_kept keys reply knowns heard nexts steps_in places_in fits shaped.each (heard_view keys ks reply s knowns heard nexts same about is)
-kept_after keys ks reply s knowns nexts next (Err fault) steps_in places_in fits same about shaped is kept =
+kept_after keys ks reply s knowns nexts next working (Err fault) steps_in places_in fits same about shaped is kept =
     subst (λ k. AllZip IsKept knowns k) (sym kept) (all_kept knowns)
+
+-- ---- a verdict that stands, and the count
+
+taught_stays : (key : Key) (outcome : Outcome) (known new : Knowledge) → WasTaught key outcome known new → verdict_of key known ≢ Working
+    → verdict_of key new ≡ verdict_of key known
+taught_stays key outcome known new (inl learnt) settled = absurd (settled (not_working key known learnt.0))
+taught_stays key outcome known new (inr same) settled = ap (λ k. verdict_of key k) (sym same)
+
+pub stays_after : (keys ks : List Key) (reply : Reply) (s : Option Subject) (knowns nexts : List Knowledge) (r : Result Heard HearFault) → ks ≡ keys
+    → s ≡ subject_of ks reply.id → IfOk r (λ heard. heard_about ks reply s knowns ≡ Ok (heard, nexts)) → OnErr r (nexts ≡ knowns) → VerdictsStay keys knowns nexts
+stays_after keys ks reply s knowns nexts (Ok heard) same about is kept =
+    let h = was_heard keys reply knowns heard nexts (heard_view keys ks reply s knowns heard nexts same about is) in
+    subst (λ ks. VerdictsStay keys knowns ks) (sym h.all)
+    (stay_with keys knowns heard.key h.key h.known h.new h.key_is h.known_is
+    (taught_stays h.key reply.outcome h.known h.new (was_taught h.key reply.outcome h.known h.new heard.news h.teaches)))
+stays_after keys ks reply s knowns nexts (Err fault) same about is kept = λ place settled. ap (λ k. verdict_at keys k place) kept
+
+-- the count after the one key was taught
+pub count_after : (keys : List Key) (knowns : List Knowledge) (place working left : ℕ) (key : Key) (known new : Knowledge)
+    → slice_get keys place ≡ Some key → slice_get knowns place ≡ Some known → working ≡ working_count keys knowns
+    → left + one_if (is_working key known) ≡ working + one_if (is_working key new) → left ≡ working_count keys (slice_set knowns place new)
+count_after keys knowns place working left key known new here there counted taught =
+    omega (arith, count_with keys knowns place key known new here there, counted, taught)

@@ -29,8 +29,8 @@ use Rattle.kmip_client.specs.Clients.{lost_working, changed_at}
 use Rattle.kmip_client.specs.Hearing.{subject_of, heard_about}
 use Rattle.kmip_client.specs.Held.{IsHeld, Held}
 use Rattle.kmip_client.specs.Justified.{MayAsk, Justified, JustifiedMessage}
-use Rattle.kmip_client.specs.Knowledge.{chain_length, fresh_knowledge, is_working, lost}
-use Rattle.kmip_client.specs.Learning.{is_known, is_other, is_number, is_planned, is_named, raised, entered, state_learnt, attributes_learnt, created_learnt, none_learnt, one_learnt, located_learnt, step_learnt, learn}
+use Rattle.kmip_client.specs.Knowledge.{chain_length, fresh_knowledge, is_working, lose}
+use Rattle.kmip_client.specs.Learning.{is_known, is_other, is_number, is_planned, is_named, raise, enter, state_learnt, attributes_learnt, created_learnt, none_learnt, one_learnt, located_learnt, step_learnt, learn}
 use Rattle.kmip_client.specs.Places.{uid_of, position}
 use Rattle.kmip_client.specs.Questions.{step_ask, phase_ask, request_about}
 use Rattle.kmip_client.specs.Shapes.{PhaseSuits}
@@ -51,7 +51,7 @@ nothing_held objects key = record {
 pub fresh_held : (objects : List Object) (keys : List Key) → Held objects keys (map (λ key. fresh_knowledge) keys)
 fresh_held objects keys = fresh_holds (IsHeld objects) (nothing_held objects) keys
 
-lost_is_held : (objects : List Object) (key : Key) (known : Knowledge) → IsHeld objects key known → IsHeld objects key (lost known)
+lost_is_held : (objects : List Object) (key : Key) (known : Knowledge) → IsHeld objects key known → IsHeld objects key (lose known)
 lost_is_held objects key known held = record {
   holds = record { uid_true = held.holds.uid_true; done_true = held.holds.done_true; has_identifier = held.holds.has_identifier };
   no_clash = held.no_clash;
@@ -130,7 +130,7 @@ step_held : (objects : List Object) (key : Key) (step : Step) (uid : List ℕ) (
 step_held objects key step uid known new held done is =
     elim (cases_Bool (is_known known.identifier uid)) [
       | inr other ↦ refused faults.OtherIdentifier new (rw other at is)
-      | inl own ↦ held_by objects key (raised (step_place key.target step) known) new (rw own at is)
+      | inl own ↦ held_by objects key (raise (step_place key.target step) known) new (rw own at is)
           (elim (cases_Bool (nat_lt known.done (step_place key.target step))) [
             | inl more ↦ rw more (gone_held objects key (step_place key.target step) known held (not_none known.identifier uid (known_is known.identifier uid own)) done.in_chain done.done)
             | inr less ↦ rw less held
@@ -157,7 +157,7 @@ shown_is_planned objects key told shown =
     rw (one, two, three, four) refl
 
 entered_held : (objects : List Object) (key : Key) (place : ℕ) (known : Knowledge) → IsHeld objects key known → known.identifier ≢ None → 1 ≤ place
-    → place ≤ position key objects → IsHeld objects key (entered place known)
+    → place ≤ position key objects → IsHeld objects key (enter place known)
 entered_held objects key place known held has from had =
     elim (cases_Bool (nat_lt place known.done)) [
       | inl less ↦ rw less held
@@ -189,7 +189,7 @@ told_held objects key uid told known new within held shown is =
 
 pub learn_held : (objects : List Object) (key : Key) (outcome : Outcome) (known new : Knowledge) → PlacesAreWithin → IsHeld objects key known
     → TrueOutcome objects key outcome → learn key outcome known ≡ Ok new → IsHeld objects key new
-learn_held objects key (Failed reason) known new within held so is = held_by objects key (lost known) new is (lost_is_held objects key known held)
+learn_held objects key (Failed reason) known new within held so is = held_by objects key (lose known) new is (lost_is_held objects key known held)
 learn_held objects key (Created uid) known new within held so is = created_held objects key uid known new held so is
 learn_held objects key (Located uids) known new within held so is = located_held objects key uids known new held so is
 learn_held objects key (Attributes uid told) known new within held so is = told_held objects key uid told known new within held so.1 is

@@ -23,8 +23,8 @@ use Rattle.kmip_client.specs.declared.fault.HearFault.{HearFault}
 use Rattle.kmip_client.specs.declared.fault.HearFault.TheVariants.{OtherIdentifier, OtherName}
 use Rattle.kmip_client.specs.declared.knowledge.Knowledge.{Knowledge}
 use Rattle.kmip_client.specs.declared.knowledge.Phase.TheVariants as phases
-use Rattle.kmip_client.specs.Knowledge.{chain_length, lost, lost_phase}
-use Rattle.kmip_client.specs.Learning.{is_known, is_other, raised, entered, in_conflict, is_planned, is_named, place_learnt, state_learnt, attributes_learnt, created_learnt, none_learnt, one_learnt, located_learnt, step_learnt, learn}
+use Rattle.kmip_client.specs.Knowledge.{chain_length, lose, lost_phase}
+use Rattle.kmip_client.specs.Learning.{is_known, is_other, raise, enter, with_clash, is_planned, is_named, place_learnt, state_learnt, attributes_learnt, created_learnt, none_learnt, one_learnt, located_learnt, step_learnt, learn}
 use Rattle.kmip_client.specs.Shapes.{PhaseSuits, IsShaped, IsKept}
 
 -- both at once
@@ -41,13 +41,13 @@ pub lost_suits : (uid : Option (List ℕ)) (done : ℕ) → PhaseSuits (lost_pha
 lost_suits None done = refl
 lost_suits (Some uid) done = some_is uid
 
-pub lost_goes_on : (key : Key) (known : Knowledge) → IsShaped key known → GoesOn key known (lost known)
+pub lost_goes_on : (key : Key) (known : Knowledge) → IsShaped key known → GoesOn key known (lose known)
 lost_goes_on key known shaped = (
   record { few = shaped.few; suits = lost_suits known.identifier known.done; has_identifier = shaped.has_identifier; in_range = shaped.in_range; unsettled = shaped.unsettled },
   record { identifier_kept = λ uid is. is; done_kept = omega arith },
 )
 
-pub conflict_goes_on : (key : Key) (clash : Clash) (known : Knowledge) → IsShaped key known → known.done < chain_length key → GoesOn key known (in_conflict clash known)
+pub conflict_goes_on : (key : Key) (clash : Clash) (known : Knowledge) → IsShaped key known → known.done < chain_length key → GoesOn key known (with_clash clash known)
 conflict_goes_on key clash known shaped more = (
   record { few = shaped.few; suits = shaped.suits; has_identifier = shaped.has_identifier; in_range = shaped.in_range; unsettled = λ some. more },
   record { identifier_kept = λ uid is. is; done_kept = omega arith },
@@ -63,7 +63,7 @@ gone_to key place known shaped none has from within more = (
 )
 
 entered_goes_on : (key : Key) (place : ℕ) (known : Knowledge) → IsShaped key known → known.clash ≡ None → known.identifier ≢ None
-    → 1 ≤ place → place ≤ chain_length key → GoesOn key known (entered place known)
+    → 1 ≤ place → place ≤ chain_length key → GoesOn key known (enter place known)
 entered_goes_on key place known shaped none has from within =
     elim (cases_Bool (nat_lt place known.done)) [
       | inl less ↦ rw less (shaped, kept_itself known)
@@ -71,7 +71,7 @@ entered_goes_on key place known shaped none has from within =
     ]
 
 raised_goes_on : (key : Key) (place : ℕ) (known : Knowledge) → IsShaped key known → known.clash ≡ None → known.identifier ≢ None
-    → place ≤ chain_length key → GoesOn key known (raised place known)
+    → place ≤ chain_length key → GoesOn key known (raise place known)
 raised_goes_on key place known shaped none has within =
     elim (cases_Bool (nat_lt known.done place)) [
       | inl more ↦
@@ -184,7 +184,7 @@ located_goes_on key (uid ∷ []) known new shaped fits more is =
           (one_goes_on key uid known shaped (and_parts (is_identifier uid) true fits).0)
     ]
 located_goes_on key (uid ∷ other ∷ uids) known new shaped fits more is =
-    onward key known (in_conflict clashes.TwoObjects known) new is (conflict_goes_on key clashes.TwoObjects known shaped more)
+    onward key known (with_clash clashes.TwoObjects known) new is (conflict_goes_on key clashes.TwoObjects known shaped more)
 
 place_goes_on : (key : Key) (place : Option ℕ) (known : Knowledge) → IsShaped key known → known.clash ≡ None → known.identifier ≢ None
     → known.done < chain_length key → IfSome place (λ p. (1 ≤ p) × (p ≤ chain_length key)) → GoesOn key known (place_learnt place known)
@@ -210,7 +210,7 @@ attributes_goes_on key told known new within shaped none has more is =
       | inl own ↦ elim (cases_Bool (is_planned key told)) [
         | inl planned ↦ onward key known (state_learnt key told.state known) new (rw (own, planned) at is)
             (state_goes_on key told.state known within shaped none has more)
-        | inr differs ↦ onward key known (in_conflict clashes.Attributes known) new (rw (own, differs) at is)
+        | inr differs ↦ onward key known (with_clash clashes.Attributes known) new (rw (own, differs) at is)
             (conflict_goes_on key clashes.Attributes known shaped more)
       ]
     ]
@@ -228,14 +228,14 @@ step_goes_on : (key : Key) (step : Step) (uid : List ℕ) (known new : Knowledge
 step_goes_on key step uid known new within shaped none is =
     elim (cases_Bool (is_known known.identifier uid)) [
       | inr other ↦ refused OtherIdentifier new (rw other at is)
-      | inl own ↦ onward key known (raised (step_place key.target step) known) new (rw own at is)
+      | inl own ↦ onward key known (raise (step_place key.target step) known) new (rw own at is)
           (raised_goes_on key (step_place key.target step) known shaped none (not_none known.identifier uid (known_is known.identifier uid own)) (within key.target step))
     ]
 
 pub learn_goes_on : (key : Key) (asked : Option ℕ) (outcome : Outcome) (known new : Knowledge) → StepsAreWithin → PlacesAreWithin
     → IsShaped key known → known.clash ≡ None → known.done < chain_length key → outcome_fits asked outcome ≡ true
     → learn key outcome known ≡ Ok new → GoesOn key known new
-learn_goes_on key asked (Failed reason) known new steps_in places_in shaped none more fits is = onward key known (lost known) new is (lost_goes_on key known shaped)
+learn_goes_on key asked (Failed reason) known new steps_in places_in shaped none more fits is = onward key known (lose known) new is (lost_goes_on key known shaped)
 learn_goes_on key asked (Created uid) known new steps_in places_in shaped none more fits is =
     created_goes_on key uid known new shaped none (and_parts (is_own OPERATION_CREATE asked) (is_identifier uid) fits).1 more is
 learn_goes_on key asked (Located uids) known new steps_in places_in shaped none more fits is =

@@ -1,4 +1,5 @@
 pub mod LearningLemmas
+pub mod CountLemmas
 pub mod ClientLemmas
 pub mod QuestionLemmas
 pub mod TurnLemmas

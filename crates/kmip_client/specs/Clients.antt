@@ -1,6 +1,6 @@
 -- What a client is to its caller: what it knows of each key of a plan, and whose turn it is.
 -- Source: own.
-use Rattle.std.specs.Prelude.{◌≡◌, ℕ, ◌+◌, true, false, cond, List, [], ◌∷◌, map, Option, Some, None, slice_get, slice_set, drop, if◌then◌else◌}
+use Rattle.std.specs.Prelude.{◌≡◌, ◌≢◌, ℕ, ◌+◌, Bool, true, false, cond, List, [], ◌∷◌, map, Option, Some, None, slice_get, slice_set, drop, if◌then◌else◌}
 use Rattle.std.specs.List.{AllZip}
 use Rattle.std.specs.Option.{option_map, option_map_or, option_and_then}
 use Rattle.kmip_messages.specs.Operations.{operation_of}
@@ -11,7 +11,7 @@ use Rattle.kmip_client.specs.declared.knowledge.Verdict.{Verdict}
 use Rattle.kmip_client.specs.declared.question.Question.{Question}
 use Rattle.kmip_client.specs.declared.knowledge.Verdict.TheVariants.{Working}
 use Rattle.kmip_client.specs.Questions.{ask_about, request_about, question_about}
-use Rattle.kmip_client.specs.Knowledge.{fresh_knowledge, lost, is_working, verdict_of}
+use Rattle.kmip_client.specs.Knowledge.{fresh_knowledge, lose, is_working, verdict_of}
 
 -- the keys of the plan, what is known of each, and the place at which the next key is looked for
 pub record ClientState : Type 0 where
@@ -36,7 +36,7 @@ verdict_at keys knowns place =
 
 -- the answer about the key at a place did not come: where it is worked on it is looked at again
 abbrev pub lost_working : Key → Knowledge → Knowledge
-lost_working key known = if is_working key known then lost known else known
+lost_working key known = if is_working key known then lose known else known
 
 -- what is known, changed for the key at a place
 abbrev pub changed_by : (Key → Knowledge → Knowledge) → List Knowledge → ℕ → Option Key → Option Knowledge → List Knowledge
@@ -77,8 +77,21 @@ abbrev pub turn_after : Option ℕ → ℕ → ℕ
 turn_after None next = next
 turn_after (Some place) next = place + 1
 
-abbrev pub asked : ClientState → ClientState
-asked c = record c { next = turn_after (next_working c) c.next }
+abbrev pub after_ask : ClientState → ClientState
+after_ask c = record c { next = turn_after (next_working c) c.next }
+
+-- how many keys are worked on
+abbrev pub one_if : Bool → ℕ
+one_if b = cond b 1 0
+
+abbrev pub working_count : List Key → List Knowledge → ℕ
+working_count [] knowns = 0
+working_count (key ∷ keys) [] = 0
+working_count (key ∷ keys) (known ∷ knowns) = one_if (is_working key known) + working_count keys knowns
+
+-- a key that is finished, or in conflict, stays so
+abbrev pub VerdictsStay : List Key → List Knowledge → List Knowledge → Type 0
+VerdictsStay keys old new = (place : ℕ) → verdict_at keys old place ≢ Working → verdict_at keys new place ≡ verdict_at keys old place
 
 -- Private: the key at the place is worked on
 pub record WorksAt (keys : List Key) (knowns : List Knowledge) (place : ℕ) : Type 0 where

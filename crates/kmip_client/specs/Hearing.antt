@@ -101,18 +101,18 @@ with_news failed old (Ok new) = Ok (news_of failed (is_some old.identifier) old.
 with_news failed old (Err fault) = Err fault
 
 -- a key that is not worked on learns nothing more
-abbrev pub taught : Key → Outcome → Knowledge → Result (News × Knowledge) HearFault
-taught key outcome known =
+abbrev pub teach : Key → Outcome → Knowledge → Result (News × Knowledge) HearFault
+teach key outcome known =
     if is_working key known then with_news (has_failed outcome) known (learn key outcome known) else Ok (news.Same, known)
 
 -- what was heard about the key at a place, and what is known of all after it
 abbrev pub with_heard : Subject → List Knowledge → Result (News × Knowledge) HearFault → Result (Heard × List Knowledge) HearFault
-with_heard subject knowns (Ok taught) =
-    Ok (record { key = subject.key; operation = subject.operation; news = taught.0 }, slice_set knowns subject.key taught.1)
+with_heard subject knowns (Ok lesson) =
+    Ok (record { key = subject.key; operation = subject.operation; news = lesson.0 }, slice_set knowns subject.key lesson.1)
 with_heard subject knowns (Err fault) = Err fault
 
 abbrev pub heard_by : Subject → Outcome → List Knowledge → Option Key → Option Knowledge → Result (Heard × List Knowledge) HearFault
-heard_by subject outcome knowns (Some key) (Some known) = with_heard subject knowns (taught key outcome known)
+heard_by subject outcome knowns (Some key) (Some known) = with_heard subject knowns (teach key outcome known)
 heard_by subject outcome knowns key known = Err faults.StrangerId
 
 abbrev pub heard_at : List Key → Subject → Outcome → List Knowledge → Result (Heard × List Knowledge) HearFault

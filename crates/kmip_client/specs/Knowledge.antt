@@ -24,8 +24,8 @@ abbrev pub lost_phase : Option (List ℕ) → Phase
 lost_phase None = phases.Look
 lost_phase (Some uid) = phases.Check
 
-abbrev pub lost : Knowledge → Knowledge
-lost known = record known { phase = lost_phase known.identifier }
+abbrev pub lose : Knowledge → Knowledge
+lose known = record known { phase = lost_phase known.identifier }
 
 -- more is to be asked about the key
 abbrev pub is_working : Key → Knowledge → Bool

@@ -1,12 +1,15 @@
 -- What holds of objects that go onward, and of what a client asks.
 -- Source: own: what the laws say.
-use Rattle.std.specs.Prelude.{◌≡◌, true, List}
+use Rattle.std.specs.Prelude.{◌≡◌, ◌≢◌, ℕ, true, List}
 use Rattle.kmip_messages.specs.Objects.{Object}
 use Rattle.kmip_messages.specs.declared.reply.Reply.{Reply}
 use Rattle.kmip_messages.specs.declared.request.Request.{Request}
 use Rattle.kmip_plan.specs.Plans.{IsLawful}
 use Rattle.kmip_plan.specs.declared.key.Key.{Key}
+use Rattle.kmip_client.specs.declared.clash.Clash.{Clash}
 use Rattle.kmip_client.specs.declared.knowledge.Knowledge.{Knowledge}
+use Rattle.kmip_client.specs.declared.knowledge.Verdict.TheVariants.{Conflict}
+use Rattle.kmip_client.specs.Clients.{verdict_at}
 use Rattle.kmip_client.specs.Held.{IsHeld, Held}
 use Rattle.kmip_client.specs.Justified.{MayAsk, Justified}
 use Rattle.kmip_client.specs.Knowledge.{is_working}
@@ -34,6 +37,12 @@ abbrev pub HeldForGood : Type 0
 HeldForGood =
     (keys : List Key) (knowns : List Knowledge) (old new : List Object) → IsLawful keys → Onward keys old new → Held old keys knowns
     → Held new keys knowns
+
+-- no key is in conflict
+abbrev pub HeldIsNoConflict : Type 0
+HeldIsNoConflict =
+    (objects : List Object) (keys : List Key) (knowns : List Knowledge) → Held objects keys knowns
+    → (place : ℕ) (clash : Clash) → verdict_at keys knowns place ≢ Conflict clash
 
 -- what is asked about a key of which the truth is known may be asked
 abbrev pub AsksWhatItMay : Type 0

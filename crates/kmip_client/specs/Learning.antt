@@ -18,7 +18,7 @@ use Rattle.kmip_client.specs.declared.fault.HearFault.{HearFault}
 use Rattle.kmip_client.specs.declared.fault.HearFault.TheVariants.{OtherIdentifier, OtherName}
 use Rattle.kmip_client.specs.declared.knowledge.Knowledge.{Knowledge}
 use Rattle.kmip_client.specs.declared.knowledge.Phase.TheVariants as phases
-use Rattle.kmip_client.specs.Knowledge.{lost}
+use Rattle.kmip_client.specs.Knowledge.{lose}
 
 -- this identifier is known, and another one is
 abbrev pub is_known : Option (List ℕ) → List ℕ → Bool
@@ -30,15 +30,15 @@ is_other None uid = false
 is_other (Some own) uid = not (pointwise nat_eq own uid)
 
 -- so many steps have taken effect: where that is more than was known
-abbrev pub raised : ℕ → Knowledge → Knowledge
-raised place known = if nat_lt known.done place then record known { done = place; phase = phases.Go } else known
+abbrev pub raise : ℕ → Knowledge → Knowledge
+raise place known = if nat_lt known.done place then record known { done = place; phase = phases.Go } else known
 
 -- the object is where so many steps lead: where that is not less than was known
-abbrev pub entered : ℕ → Knowledge → Knowledge
-entered place known = if nat_lt place known.done then known else record known { done = place; phase = phases.Go }
+abbrev pub enter : ℕ → Knowledge → Knowledge
+enter place known = if nat_lt place known.done then known else record known { done = place; phase = phases.Go }
 
-abbrev pub in_conflict : Clash → Knowledge → Knowledge
-in_conflict clash known = record known { clash = Some clash }
+abbrev pub with_clash : Clash → Knowledge → Knowledge
+with_clash clash known = record known { clash = Some clash }
 
 -- a number is told, and it is this one
 abbrev pub is_number : ℕ → Option ℕ → Bool
@@ -58,23 +58,23 @@ is_named key told = option_map_or (λ name. pointwise nat_eq name key.attrs.name
 
 -- after how many steps the object is in its state, if the way to the target leads through it
 abbrev pub place_learnt : Option ℕ → Knowledge → Knowledge
-place_learnt None known = in_conflict clashes.State known
-place_learnt (Some place) known = entered place known
+place_learnt None known = with_clash clashes.State known
+place_learnt (Some place) known = enter place known
 
 abbrev pub state_learnt : Key → Option ℕ → Knowledge → Knowledge
-state_learnt key None known = in_conflict clashes.State known
+state_learnt key None known = with_clash clashes.State known
 state_learnt key (Some state) known = place_learnt (place_of key.target state) known
 
 abbrev pub attributes_learnt : Key → Attrs → Knowledge → Result Knowledge HearFault
 attributes_learnt key told known =
     if is_named key told
-    then Ok (if is_planned key told then state_learnt key told.state known else in_conflict clashes.Attributes known)
+    then Ok (if is_planned key told then state_learnt key told.state known else with_clash clashes.Attributes known)
     else Err OtherName
 
 -- a key is made; where no step was known to be done it is one
 abbrev pub created_learnt : List ℕ → Knowledge → Result Knowledge HearFault
 created_learnt uid known =
-    if is_other known.identifier uid then Err OtherIdentifier else Ok (raised 1 (record known { identifier = Some uid }))
+    if is_other known.identifier uid then Err OtherIdentifier else Ok (raise 1 (record known { identifier = Some uid }))
 
 -- nothing was found, one object, or more
 abbrev pub none_learnt : Knowledge → Knowledge
@@ -86,16 +86,16 @@ one_learnt uid known = if is_some known.identifier then known else record known 
 abbrev pub located_learnt : List (List ℕ) → Knowledge → Result Knowledge HearFault
 located_learnt [] known = Ok (none_learnt known)
 located_learnt (uid ∷ []) known = if is_other known.identifier uid then Err OtherIdentifier else Ok (one_learnt uid known)
-located_learnt (uid ∷ other ∷ more) known = Ok (in_conflict clashes.TwoObjects known)
+located_learnt (uid ∷ other ∷ more) known = Ok (with_clash clashes.TwoObjects known)
 
 -- a step has taken effect on the object with the identifier
 abbrev pub step_learnt : Key → Step → List ℕ → Knowledge → Result Knowledge HearFault
 step_learnt key step uid known =
-    if is_known known.identifier uid then Ok (raised (step_place key.target step) known) else Err OtherIdentifier
+    if is_known known.identifier uid then Ok (raise (step_place key.target step) known) else Err OtherIdentifier
 
 -- what an outcome teaches
 abbrev pub learn : Key → Outcome → Knowledge → Result Knowledge HearFault
-learn key (Failed reason) known = Ok (lost known)
+learn key (Failed reason) known = Ok (lose known)
 learn key (Created uid) known = created_learnt uid known
 learn key (Located uids) known = located_learnt uids known
 learn key (Attributes uid told) known =

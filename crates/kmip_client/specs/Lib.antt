@@ -1,9 +1,9 @@
 pub mod Faults
 pub mod Knowledge
 pub mod Learning
-pub mod Shapes
 pub mod Questions
 pub mod Clients
+pub mod Shapes
 pub mod Hearing
 pub mod Places
 pub mod Justified

@@ -8,6 +8,7 @@ use Rattle.kmip_plan.specs.declared.key.Key.{Key}
 use Rattle.kmip_client.specs.declared.knowledge.Knowledge.{Knowledge}
 use Rattle.kmip_client.specs.declared.knowledge.Phase.{Phase}
 use Rattle.kmip_client.specs.declared.knowledge.Phase.TheVariants.{Look, Make, Check, Go}
+use Rattle.kmip_client.specs.Clients.{working_count}
 use Rattle.kmip_client.specs.Knowledge.{chain_length}
 
 -- what has to be known in a phase
@@ -31,8 +32,10 @@ pub record IsKept (old new : Knowledge) : Type 0 where
   pub identifier_kept : (uid : List ℕ) → old.identifier ≡ Some uid → new.identifier ≡ Some uid
   pub done_kept : old.done ≤ new.done
 
--- Private: the keys of a plan, what is known of each, and the place at which the next key is looked for
-pub record AreShaped (keys : List Key) (knowns : List Knowledge) (next : ℕ) : Type 0 where
+-- Private: the keys of a plan, what is known of each, the place at which the next key is looked for, and how many keys are
+-- worked on
+pub record AreShaped (keys : List Key) (knowns : List Knowledge) (next working : ℕ) : Type 0 where
   pub lawful : IsLawful keys
   pub each : AllZip IsShaped keys knowns
   pub turn : next ≤ length keys
+  pub counted : working ≡ working_count keys knowns

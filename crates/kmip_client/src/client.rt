@@ -15,10 +15,12 @@ ghost use Rattle.kmip_client.specs.Clients.{
   next_working,
   next_question,
   question_at,
-  asked,
+  after_ask,
   WorksAt,
   IsAbout,
   AreSettled,
+  VerdictsStay,
+  working_count,
 };
 ghost use Rattle.kmip_client.specs.Hearing.{unheard, heard_in, hear, Refuses};
 ghost use Rattle.kmip_client.specs.Held.{Held};
@@ -46,6 +48,7 @@ pub struct Client<'p> {
     plan: &'p Plan,
     knowns: Vec<Knowledge>,
     next: usize,
+    working: usize,
 }
 
 impl<'p> Model for Client<'p> {
@@ -56,7 +59,7 @@ impl<'p> Model for Client<'p> {
 
     ghost view = { λ c. record { keys = c.plan.now; knowns = c.knowns.items; next = c.next } };
 
-    ghost invariant = { λ c. AreShaped c.plan.now c.knowns.items c.next };
+    ghost invariant = { λ c. AreShaped c.plan.now c.knowns.items c.next c.working };
 }
 
 impl<'p> Client<'p> {
@@ -74,6 +77,7 @@ impl<'p> Client<'p> {
             plan,
             knowns,
             next: 0,
+            working: plan.count(),
         })
     }
 
@@ -99,9 +103,12 @@ impl<'p> Client<'p> {
         ensures justified { (objects : List Object) → Held objects self.old.keys self.old.knowns
             → IfOk result (λ question. IfSome question (λ q.
             JustifiedMessage self.old.keys objects q.bytes)) }
-        ensures turn { OnOk result (self.new ≡ asked self.old) }
+        ensures turn { OnOk result (self.new ≡ after_ask self.old) }
         ensures same { OnErr result (self.new ≡ self.old) }
     {
+        if self.working == 0 {
+            return Ok(None);
+        }
         let keys = self.plan.keys();
         let Some(place) = next_working(keys, self.knowns.as_slice(), self.next) else {
             return Ok(None);
@@ -124,13 +131,14 @@ impl<'p> Client<'p> {
         ensures fault { IfErr result (λ fault. Refuses fault (hear self.old bytes.now)) }
         ensures same { OnErr result (self.new ≡ self.old) }
         ensures kept { AllZip IsKept self.old.knowns self.new.knowns }
+        ensures settled { VerdictsStay self.old.keys self.old.knowns self.new.knowns }
         ensures held { (objects : List Object) → Held objects self.old.keys self.old.knowns
             → TrueMessage self.old.keys objects bytes.now
             → Held objects self.new.keys self.new.knowns }
     {
         match read_reply(alloc, bytes) {
             Ok(reply) => self.hear_reply(reply),
-            Err(fault) => Err(unreadable(fault)),
+            Err(fault) => Err(unheard(fault)),
         }
     }
 
@@ -143,6 +151,7 @@ impl<'p> Client<'p> {
             ≡ Err e) }
         ensures same { OnErr result (self.new ≡ self.old) }
         ensures kept { AllZip IsKept self.old.knowns self.new.knowns }
+        ensures settled { VerdictsStay self.old.keys self.old.knowns self.new.knowns }
         ensures held { (objects : List Object) → Held objects self.old.keys self.old.knowns
             → TrueReply self.old.keys objects reply
             → Held objects self.new.keys self.new.knowns }
@@ -151,7 +160,7 @@ impl<'p> Client<'p> {
         laws::states_have_places();
         let keys = self.plan.keys();
         let subject = subject_of(keys, self.next.saturating_sub(1), &reply.id);
-        hear_about(keys, &mut self.knowns, subject, reply)
+        hear_about(keys, &mut self.knowns, &mut self.working, subject, reply)
     }
 
     /// How many steps of the key at a place from 0 are known to have taken effect. Takes no memory.
@@ -185,11 +194,19 @@ impl<'p> Client<'p> {
         verdict_of(self.plan.keys(), self.knowns.as_slice(), key)
     }
 
+    /// How many keys are worked on. Takes no memory.
+    pub fn working(&self) -> usize
+        ensures { result ≡ working_count self.now.keys self.now.knowns }
+    {
+        self.working
+    }
+
     /// A question about the key at a place from 0 has no answer, or one that did not help: a key
     /// that is worked on is looked at again. Takes no memory.
     pub fn lost(&mut self, key: usize)
         requires { key < length self.old.keys }
         ensures lost { self.new ≡ lost_at self.old key }
+        ensures settled { VerdictsStay self.old.keys self.old.knowns self.new.knowns }
         ensures held { (objects : List Object) → Held objects self.old.keys self.old.knowns
             → Held objects self.new.keys self.new.knowns }
     {
@@ -198,7 +215,7 @@ impl<'p> Client<'p> {
 }
 
 /// What it is to hear bytes that are no reply.
-fn unreadable(fault: MessageFault) -> HearFault
+fn unheard(fault: MessageFault) -> HearFault
     ensures { result ≡ unheard fault }
 {
     match fault {

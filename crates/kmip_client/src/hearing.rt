@@ -1,5 +1,7 @@
 //! What a reply teaches a client.
-ghost use Rattle.std.specs.Prelude.{◌≡◌, Ok, Err, IfOk, IfErr, OnErr, Some, is_some, option_map};
+ghost use Rattle.std.specs.Prelude.{◌≡◌, ◌≤◌, ◌+◌, Ok, Err, IfOk, IfErr, OnErr, Some, is_some, option_map};
+ghost use Rattle.kmip_client.specs.Clients.{one_if, working_count};
+ghost use Rattle.kmip_client.specs.Knowledge.{is_working};
 ghost use Rattle.kmip_client.specs.Learning.{learn};
 ghost use Rattle.kmip_client.specs.Hearing.{
   is_other_operation,
@@ -7,7 +9,7 @@ ghost use Rattle.kmip_client.specs.Hearing.{
   has_grown,
   news_of,
   with_news,
-  taught,
+  teach,
   heard_at,
   heard_about,
 };
@@ -49,14 +51,17 @@ pub enum News {
 pub(crate) fn hear_about(
     keys: &[Key],
     knowns: &mut Vec<Knowledge>,
+    working: &mut usize,
     subject: Option<Subject>,
     reply: Reply,
 ) -> Result<Heard, HearFault>
+    requires { working.old ≡ working_count keys.now knowns.old.items }
     ensures ok { IfOk result (λ heard.
         heard_about keys.now reply subject knowns.old.items ≡ Ok (heard, knowns.new.items)) }
     ensures err { IfErr result (λ e. heard_about keys.now reply subject knowns.old.items
         ≡ Err e) }
     ensures same { OnErr result (knowns.new.items ≡ knowns.old.items) }
+    ensures counted { working.new ≡ working_count keys.now knowns.new.items }
 {
     let Some(subject) = subject else {
         return Err(HearFault::StrangerId);
@@ -64,21 +69,24 @@ pub(crate) fn hear_about(
     if is_other_operation(reply.operation, subject.operation) {
         return Err(HearFault::WrongOperation);
     }
-    hear_at(keys, knowns, subject, reply.outcome)
+    hear_at(keys, knowns, working, subject, reply.outcome)
 }
 
 /// Learns from an outcome about the key at a place.
 fn hear_at(
     keys: &[Key],
     knowns: &mut Vec<Knowledge>,
+    working: &mut usize,
     subject: Subject,
     outcome: Outcome,
 ) -> Result<Heard, HearFault>
+    requires { working.old ≡ working_count keys.now knowns.old.items }
     ensures ok { IfOk result (λ heard.
         heard_at keys.now subject outcome knowns.old.items ≡ Ok (heard, knowns.new.items)) }
     ensures err { IfErr result (λ e. heard_at keys.now subject outcome knowns.old.items
         ≡ Err e) }
     ensures same { OnErr result (knowns.new.items ≡ knowns.old.items) }
+    ensures counted { working.new ≡ working_count keys.now knowns.new.items }
 {
     let Some(key) = keys.get(subject.key) else {
         return Err(HearFault::StrangerId);
@@ -86,7 +94,7 @@ fn hear_at(
     if subject.key >= knowns.len() {
         return Err(HearFault::StrangerId);
     }
-    match teach(key, outcome, &mut knowns[subject.key]) {
+    match teach(key, outcome, &mut knowns[subject.key], working) {
         Ok(news) => Ok(Heard {
             key: subject.key,
             operation: subject.operation,
@@ -96,17 +104,29 @@ fn hear_at(
     }
 }
 
-/// Learns from an outcome about the key, where that is worked on.
-fn teach(key: &Key, outcome: Outcome, known: &mut Knowledge) -> Result<News, HearFault>
-    ensures ok { IfOk result (λ news. taught key.now outcome known.old ≡ Ok (news, known.new)) }
-    ensures err { IfErr result (λ e. taught key.now outcome known.old ≡ Err e) }
+/// Learns from an outcome about the key, where that is worked on, and counts it no more where it is
+/// worked on no more.
+fn teach(
+    key: &Key,
+    outcome: Outcome,
+    known: &mut Knowledge,
+    working: &mut usize,
+) -> Result<News, HearFault>
+    requires { one_if (is_working key.now known.old) ≤ working.old }
+    ensures ok { IfOk result (λ news. teach key.now outcome known.old ≡ Ok (news, known.new)) }
+    ensures err { IfErr result (λ e. teach key.now outcome known.old ≡ Err e) }
     ensures same { OnErr result (known.new ≡ known.old) }
+    ensures counted { working.new + one_if (is_working key.now known.old)
+        ≡ working.old + one_if (is_working key.now known.new) }
 {
-    if known.is_working(key) {
-        teach_working(key, outcome, known)
-    } else {
-        Ok(News::Same)
+    if !known.is_working(key) {
+        return Ok(News::Same);
     }
+    let news = teach_working(key, outcome, known);
+    if !known.is_working(key) {
+        *working -= 1;
+    }
+    news
 }
 
 /// Learns from an outcome about a key that is worked on.

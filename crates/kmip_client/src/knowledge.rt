@@ -1,6 +1,6 @@
 //! What is known of one key.
 ghost use Rattle.std.specs.Prelude.{◌≡◌};
-ghost use Rattle.kmip_client.specs.Knowledge.{fresh_knowledge, lost_phase, lost, is_working, verdict_of};
+ghost use Rattle.kmip_client.specs.Knowledge.{fresh_knowledge, lost_phase, lose, is_working, verdict_of};
 
 use crate::clash::Clash;
 use kmip_plan::{Key, chain_length};
@@ -58,7 +58,7 @@ impl Knowledge {
     /// An answer did not come, or did not help: the object is looked at again, by its identifier
     /// where that is known, else by its name.
     pub(crate) fn lose(&mut self)
-        ensures { self.new ≡ lost self.old }
+        ensures { self.new ≡ lose self.old }
     {
         self.phase = lost_phase(&self.identifier);
     }

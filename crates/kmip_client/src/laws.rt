@@ -6,6 +6,7 @@ ghost use Rattle.kmip_client.specs.Laws.{
   JustifiedForGood,
   TrueForGood,
   HeldForGood,
+  HeldIsNoConflict,
   AsksWhatItMay,
 };
 
@@ -26,6 +27,11 @@ pub fn truth_is_for_good()
 {
     keys_have_names();
 }
+
+/// Where all that is known is true, no key is in conflict.
+pub fn what_is_true_is_no_conflict()
+    ensures { HeldIsNoConflict }
+{}
 
 /// A client that knows the truth of a key asks only what may be asked of it.
 pub fn what_is_asked_may_be()

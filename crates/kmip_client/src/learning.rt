@@ -3,9 +3,9 @@ ghost use Rattle.std.specs.Prelude.{◌≡◌, Ok, Err, OnOk, OnErr, IfErr};
 ghost use Rattle.kmip_client.specs.Learning.{
   is_known,
   is_other,
-  raised,
-  entered,
-  in_conflict,
+  raise,
+  enter,
+  with_clash,
   is_number,
   is_planned,
   is_named,
@@ -156,7 +156,7 @@ fn learn_step(key: &Key, step: Step, uid: &Text, known: &mut Knowledge) -> Resul
 
 /// So many steps have taken effect.
 fn raise(place: usize, known: &mut Knowledge)
-    ensures { known.new ≡ raised place known.old }
+    ensures { known.new ≡ raise place known.old }
 {
     if known.done < place {
         known.done = place;
@@ -166,7 +166,7 @@ fn raise(place: usize, known: &mut Knowledge)
 
 /// The object is where so many steps lead.
 fn enter(place: usize, known: &mut Knowledge)
-    ensures { known.new ≡ entered place known.old }
+    ensures { known.new ≡ enter place known.old }
 {
     if place >= known.done {
         known.done = place;

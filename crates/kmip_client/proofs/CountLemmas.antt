@@ -1,0 +1,172 @@
+-- How many keys are worked on, and that a verdict stands once it is given.
+use Rattle.std.proofs.Common.{◌≡◌, ◌≢◌, ℕ, zero, suc, ◌+◌, ◌≤◌, ◌<◌, Bool, true, false, not, nat_lt, nat_le, cond, List, [], ◌∷◌, length, map, drop, Option, Some, None, slice_set, subst, refl, sym, ap, ◌∙◌, ◌⊎◌, inl, inr, arith, if◌then◌else◌}
+use Rattle.std.proofs.lemmas.Bool.{cases_Bool, and_parts, ltb-true, leb-true}
+use Rattle.std.specs.List.{AllZip, slice_get}
+use Rattle.std.specs.Option.{is_some}
+use Rattle.kmip_messages.specs.Objects.{Object}
+use Rattle.kmip_plan.specs.declared.key.Key.{Key}
+use Rattle.kmip_plan.specs.declared.target.Target.{Target}
+use Rattle.kmip_plan.specs.declared.target.Target.TheVariants.{Created, Active, Revoked, Destroyed, Discarded}
+use Rattle.kmip_client.specs.declared.clash.Clash.{Clash}
+use Rattle.kmip_client.specs.declared.knowledge.Knowledge.{Knowledge}
+use Rattle.kmip_client.specs.declared.knowledge.Verdict.{Verdict}
+use Rattle.kmip_client.specs.declared.knowledge.Verdict.TheVariants.{Working, Finished, Conflict}
+use Rattle.kmip_client.specs.Clients.{ClientState, next_working, one_if, working_count, working_from, changed_by, changed_at, lost_working, verdict_at, VerdictsStay}
+use Rattle.kmip_client.specs.Held.{IsHeld, Held}
+use Rattle.kmip_client.specs.Knowledge.{chain_length, fresh_knowledge, is_working, lose, clash_verdict, verdict_of}
+
+-- ---- the count
+
+-- where none is counted, none is found
+pub none_from : (place : ℕ) (keys : List Key) (knowns : List Knowledge) → working_count keys knowns ≡ 0 → working_from place keys knowns ≡ None
+none_from place [] knowns none = refl
+none_from place (key ∷ keys) [] none = refl
+none_from place (key ∷ keys) (known ∷ knowns) none =
+    elim (cases_Bool (is_working key known)) [
+      | inl works ↦ absurd (omega (arith, ap one_if works))
+      | inr settled ↦ rw settled (none_from (place + 1) keys knowns (omega arith))
+    ]
+
+-- fewer are counted in a part
+pub none_behind : (n : ℕ) (keys : List Key) (knowns : List Knowledge) → working_count keys knowns ≡ 0 → working_count (drop n keys) (drop n knowns) ≡ 0
+none_behind zero keys knowns none = none
+none_behind (suc n) [] [] none = refl
+none_behind (suc n) [] (known ∷ knowns) none = refl
+none_behind (suc n) (key ∷ keys) [] none = none_behind_none n keys
+  where
+    none_behind_none : (n : ℕ) (keys : List Key) → working_count (drop n keys) [] ≡ 0
+    none_behind_none zero [] = refl
+    none_behind_none zero (key ∷ keys) = refl
+    none_behind_none (suc n) [] = refl
+    none_behind_none (suc n) (key ∷ keys) = none_behind_none n keys
+none_behind (suc n) (key ∷ keys) (known ∷ knowns) none = none_behind n keys knowns (omega arith)
+
+-- then no key has the turn
+pub none_next : (c : ClientState) → working_count c.keys c.knowns ≡ 0 → next_working c ≡ None
+none_next c none =
+    rw (none_from c.next (drop c.next c.keys) (drop c.next c.knowns) (none_behind c.next c.keys c.knowns none), none_from 0 c.keys c.knowns none) refl
+
+-- a key of which nothing is known is worked on, since every chain has a step
+fresh_works : (key : Key) → is_working key fresh_knowledge ≡ true
+fresh_works key = first key.target
+  where
+    first : (target : Target) → is_working (record key { target = target }) fresh_knowledge ≡ true
+    first Created = refl
+    first Active = refl
+    first Revoked = refl
+    first Destroyed = refl
+    first Discarded = refl
+
+pub fresh_count : (keys : List Key) → working_count keys (map (λ key. fresh_knowledge) keys) ≡ length keys
+fresh_count [] = refl
+fresh_count (key ∷ keys) = omega (arith, ap one_if (fresh_works key), fresh_count keys)
+
+-- the count changes as the one key does
+pub count_with : (keys : List Key) (knowns : List Knowledge) (place : ℕ) (key : Key) (known new : Knowledge)
+    → slice_get keys place ≡ Some key → slice_get knowns place ≡ Some known
+    → working_count keys (slice_set knowns place new) + one_if (is_working key known) ≡ working_count keys knowns + one_if (is_working key new)
+count_with [] knowns place key known new here there = absurd cc
+count_with (k ∷ keys) [] place key known new here there = absurd cc
+count_with (k ∷ keys) (a ∷ knowns) zero key known new here there =
+    let first : k ≡ key = cc in
+    let second : a ≡ known = cc in
+    subst (λ x. one_if (is_working k new) + working_count keys knowns + one_if (is_working x known) ≡ one_if (is_working k a) + working_count keys knowns + one_if (is_working x new)) first
+    (subst (λ x. one_if (is_working k new) + working_count keys knowns + one_if (is_working k x) ≡ one_if (is_working k a) + working_count keys knowns + one_if (is_working k new)) second (omega arith))
+count_with (k ∷ keys) (a ∷ knowns) (suc place) key known new here there =
+    omega (arith, count_with keys knowns place key known new here there)
+
+-- a key that is worked on is counted
+pub counted_one : (keys : List Key) (knowns : List Knowledge) (place : ℕ) (key : Key) (known : Knowledge)
+    → slice_get keys place ≡ Some key → slice_get knowns place ≡ Some known → one_if (is_working key known) ≤ working_count keys knowns
+counted_one [] knowns place key known here there = absurd cc
+counted_one (k ∷ keys) [] place key known here there = absurd cc
+counted_one (k ∷ keys) (a ∷ knowns) zero key known here there =
+    let first : k ≡ key = cc in
+    let second : a ≡ known = cc in
+    subst (λ x. one_if (is_working x known) ≤ one_if (is_working k a) + working_count keys knowns) first
+    (subst (λ x. one_if (is_working k x) ≤ one_if (is_working k a) + working_count keys knowns) second (omega arith))
+counted_one (k ∷ keys) (a ∷ knowns) (suc place) key known here there = omega (arith, counted_one keys knowns place key known here there)
+
+-- a key that is looked at again is worked on as before
+lose_works : (key : Key) (known : Knowledge) → is_working key (lost_working key known) ≡ is_working key known
+lose_works key known =
+    elim (cases_Bool (is_working key known)) [
+      | inl works ↦ rw works works
+      | inr settled ↦ rw settled settled
+    ]
+
+lost_one : (keys : List Key) (knowns : List Knowledge) (place : ℕ) (key : Option Key) (known : Option Knowledge)
+    → slice_get keys place ≡ key → slice_get knowns place ≡ known
+    → working_count keys (changed_by lost_working knowns place key known) ≡ working_count keys knowns
+lost_one keys knowns place None known here there = refl
+lost_one keys knowns place (Some key) None here there = refl
+lost_one keys knowns place (Some key) (Some known) here there =
+    omega (arith, count_with keys knowns place key known (lost_working key known) here there, ap one_if (lose_works key known))
+
+pub lost_count : (keys : List Key) (knowns : List Knowledge) (place : ℕ)
+    → working_count keys (changed_at lost_working keys knowns place) ≡ working_count keys knowns
+lost_count keys knowns place = lost_one keys knowns place (slice_get keys place) (slice_get knowns place) refl refl
+
+-- ---- verdicts
+
+-- what is known of one key stays, or gives the same verdict, or the key was worked on
+pub stay_with : (keys : List Key) (knowns : List Knowledge) (place : ℕ) (key : Key) (known new : Knowledge)
+    → slice_get keys place ≡ Some key → slice_get knowns place ≡ Some known
+    → (verdict_of key known ≢ Working → verdict_of key new ≡ verdict_of key known) → VerdictsStay keys knowns (slice_set knowns place new)
+stay_with [] knowns place key known new here there stays at settled = absurd cc
+stay_with (k ∷ keys) [] place key known new here there stays at settled = absurd cc
+stay_with (k ∷ keys) (a ∷ knowns) zero key known new here there stays zero settled =
+    let first : k ≡ key = cc in
+    let second : a ≡ known = cc in
+    subst (λ x. verdict_of k x ≢ Working → verdict_of k new ≡ verdict_of k x) (sym second)
+    (subst (λ x. verdict_of x known ≢ Working → verdict_of x new ≡ verdict_of x known) (sym first) stays) settled
+stay_with (k ∷ keys) (a ∷ knowns) zero key known new here there stays (suc at) settled = refl
+stay_with (k ∷ keys) (a ∷ knowns) (suc place) key known new here there stays zero settled = refl
+stay_with (k ∷ keys) (a ∷ knowns) (suc place) key known new here there stays (suc at) settled =
+    stay_with keys knowns place key known new here there stays at settled
+
+lose_verdict : (key : Key) (known : Knowledge) → verdict_of key (lost_working key known) ≡ verdict_of key known
+lose_verdict key known =
+    elim (cases_Bool (is_working key known)) [
+      | inl works ↦ rw works refl
+      | inr settled ↦ rw settled refl
+    ]
+
+lost_stays : (keys : List Key) (knowns : List Knowledge) (place : ℕ) (key : Option Key) (known : Option Knowledge)
+    → slice_get keys place ≡ key → slice_get knowns place ≡ known → VerdictsStay keys knowns (changed_by lost_working knowns place key known)
+lost_stays keys knowns place None known here there = λ at settled. refl
+lost_stays keys knowns place (Some key) None here there = λ at settled. refl
+lost_stays keys knowns place (Some key) (Some known) here there =
+    stay_with keys knowns place key known (lost_working key known) here there (λ settled. lose_verdict key known)
+
+pub lost_verdicts : (keys : List Key) (knowns : List Knowledge) (place : ℕ) → VerdictsStay keys knowns (changed_at lost_working keys knowns place)
+lost_verdicts keys knowns place = lost_stays keys knowns place (slice_get keys place) (slice_get knowns place) refl refl
+
+-- a key that is worked on has the verdict that says so
+none_clash : (clash : Option Clash) → not (is_some clash) ≡ true → clash_verdict clash ≡ Working
+none_clash None h = refl
+none_clash (Some clash) h = absurd cc
+
+pub not_working : (key : Key) (known : Knowledge) → is_working key known ≡ true → verdict_of key known ≡ Working
+not_working key known works =
+    let parts = and_parts (nat_lt known.done (chain_length key)) (not (is_some known.clash)) works in
+    let less : known.done < chain_length key = ltb-true known.done (chain_length key) parts.0 in
+    elim (cases_Bool (nat_le (chain_length key) known.done)) [
+      | inl full ↦ absurd (omega (arith, leb-true (chain_length key) known.done full))
+      | inr unfinished ↦ rw unfinished (none_clash known.clash parts.1)
+    ]
+
+-- ---- no conflict
+
+not_conflict : (finished : Bool) (found : Option Clash) (clash : Clash) → found ≡ None → (if finished then Finished else clash_verdict found) ≢ Conflict clash
+not_conflict true none clash is = λ same. absurd cc
+not_conflict false None clash is = λ same. absurd cc
+not_conflict false (Some other) clash is = absurd cc
+
+pub held_no_conflict : (objects : List Object) (keys : List Key) (knowns : List Knowledge) → Held objects keys knowns → (place : ℕ) (clash : Clash)
+    → verdict_at keys knowns place ≢ Conflict clash
+held_no_conflict objects [] knowns held place clash = λ same. absurd cc
+held_no_conflict objects (key ∷ keys) [] held place clash = absurd held
+held_no_conflict objects (key ∷ keys) (known ∷ knowns) held zero clash =
+    not_conflict (nat_le (chain_length key) known.done) known.clash clash held.0.no_clash
+held_no_conflict objects (key ∷ keys) (known ∷ knowns) held (suc place) clash = held_no_conflict objects keys knowns held.1 place clash
