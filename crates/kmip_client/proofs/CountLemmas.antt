@@ -1,7 +1,7 @@
 -- How many keys are worked on, and that a verdict stands once it is given.
-use Rattle.std.proofs.Common.{◌≡◌, ◌≢◌, ℕ, zero, suc, ◌+◌, ◌≤◌, ◌<◌, Bool, true, false, not, nat_lt, nat_le, cond, List, [], ◌∷◌, length, map, drop, Option, Some, None, slice_set, subst, refl, sym, ap, ◌∙◌, ◌⊎◌, inl, inr, arith, if◌then◌else◌}
+use Rattle.std.proofs.Common.{◌≡◌, ◌≢◌, ℕ, zero, suc, ◌+◌, ◌≤◌, ◌<◌, Bool, true, false, not, nat_lt, nat_le, List, [], ◌∷◌, length, map, drop, Option, Some, None, slice_set, subst, refl, sym, ap, inl, inr, arith, if◌then◌else◌}
 use Rattle.std.proofs.lemmas.Bool.{cases_Bool, and_parts, ltb-true, leb-true}
-use Rattle.std.specs.List.{AllZip, slice_get}
+use Rattle.std.specs.List.{slice_get}
 use Rattle.std.specs.Option.{is_some}
 use Rattle.kmip_messages.specs.Objects.{Object}
 use Rattle.kmip_plan.specs.declared.key.Key.{Key}
@@ -9,11 +9,10 @@ use Rattle.kmip_plan.specs.declared.target.Target.{Target}
 use Rattle.kmip_plan.specs.declared.target.Target.TheVariants.{Created, Active, Revoked, Destroyed, Discarded}
 use Rattle.kmip_client.specs.declared.clash.Clash.{Clash}
 use Rattle.kmip_client.specs.declared.knowledge.Knowledge.{Knowledge}
-use Rattle.kmip_client.specs.declared.knowledge.Verdict.{Verdict}
 use Rattle.kmip_client.specs.declared.knowledge.Verdict.TheVariants.{Working, Finished, Conflict}
 use Rattle.kmip_client.specs.Clients.{ClientState, next_working, one_if, working_count, working_from, changed_by, changed_at, lost_working, verdict_at, VerdictsStay}
-use Rattle.kmip_client.specs.Held.{IsHeld, Held}
-use Rattle.kmip_client.specs.Knowledge.{chain_length, fresh_knowledge, is_working, lose, clash_verdict, verdict_of}
+use Rattle.kmip_client.specs.Held.{Held}
+use Rattle.kmip_client.specs.Knowledge.{chain_length, fresh_knowledge, is_working, clash_verdict, verdict_of}
 
 -- ---- the count
 

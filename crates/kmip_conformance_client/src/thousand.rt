@@ -32,11 +32,12 @@ const ACTIVATED: &str = "\
     42007f0500000004000000000000000042007c01000000104200940700000004\
     NAME00000000";
 
-/// The rounds: what is asked about each key, the reply, and the news.
-const ROUNDS: [(&str, &str, &str); 3] = [
-    ("8", NONE, "8 Same"),
-    ("1", CREATED, "1 Grew"),
-    ("12", ACTIVATED, "12 Grew"),
+/// The rounds: what is asked about each key, the reply, the news, and how many keys are worked on
+/// after it.
+const ROUNDS: [(&str, &str, &str, usize); 3] = [
+    ("8", NONE, "8 Same", 1_000),
+    ("1", CREATED, "1 Grew", 1_000),
+    ("12", ACTIVATED, "12 Grew", 0),
 ];
 
 /// The names of so many keys, each of four bytes.
@@ -94,9 +95,10 @@ fn finishes_a_thousand_keys(rt: HostRuntime) -> Result<(), Fail> {
     }
     let plan = plan_of(rt.alloc(), words.as_slice(), "active")?;
     let mut client = Client::fresh(rt.alloc(), &plan)?;
-    for (operation, reply, news) in ROUNDS {
+    for (operation, reply, news, working) in ROUNDS {
         ask_all(&rt, rt.alloc(), &mut client, 1_000, operation)?;
         hear_all(&rt, rt.alloc(), &mut client, names.as_slice(), reply, news)?;
+        assert_eq!(rt; client.working(), working);
     }
     for (key, name) in names.iter().enumerate() {
         let told = known(&rt, rt.alloc(), &client, key)?;

@@ -1,5 +1,5 @@
 -- The one key's knowledge is what was taught, and the count changes with it.
-use Rattle.std.proofs.Common.{◌≡◌, ◌≤◌, ◌<◌, ◌∙◌, length, Some, refl, sym, subst, rules, arith}
+use Rattle.std.proofs.Common.{◌≡◌, ◌≤◌, ◌<◌, length, Some, refl, sym, subst, rules}
 use Rattle.std.proofs.lemmas.Bool.{ltb-true}
 use Rattle.std.proofs.lemmas.Option.{slice_get_read}
 use Rattle.std.specs.List.{slice_get}
@@ -13,10 +13,10 @@ pub teach-requires : goal.teach-requires
 teach-requires c =
     let within : c.args.subject.key < length c.args.keys.now = ltb-true c.args.subject.key (length c.args.keys.now) (sym c.in-Some.ensures.lookup.0) in
     let here : slice_get c.args.keys.now c.args.subject.key ≡ Some c.in-Some.key.now =
-      slice_get_read c.args.keys.now (length c.args.keys.now) c.args.subject.key c.in-Some.key.now refl within c.in-Some.ensures.lookup.1 in
+    slice_get_read c.args.keys.now (length c.args.keys.now) c.args.subject.key c.in-Some.key.now refl within c.in-Some.ensures.lookup.1 in
     let inside : c.args.subject.key < length c.args.knowns.now.items = search (rules, c.if-subject-len.false, c.len.ensures) in
     let there : slice_get c.args.knowns.now.items c.args.subject.key ≡ Some c.index_mut.result.now =
-      slice_get_read c.args.knowns.now.items (length c.args.knowns.now.items) c.args.subject.key c.index_mut.result.now refl inside c.index_mut.ensures.value in
+    slice_get_read c.args.knowns.now.items (length c.args.knowns.now.items) c.args.subject.key c.index_mut.result.now refl inside c.index_mut.ensures.value in
     subst (λ n. one_if (is_working c.in-Some.key.now c.index_mut.result.now) ≤ n) (sym c.requires)
     (counted_one c.args.keys.now c.args.knowns.now.items c.args.subject.key c.in-Some.key.now c.index_mut.result.now here there)
 
@@ -24,20 +24,20 @@ pub returns-in-Ok-clause-ok : goal.returns-in-Ok-clause-ok
 returns-in-Ok-clause-ok c =
     let within : c.args.subject.key < length c.args.keys.now = ltb-true c.args.subject.key (length c.args.keys.now) (sym c.in-Some.ensures.lookup.0) in
     let here : slice_get c.args.keys.now c.args.subject.key ≡ Some c.in-Some.key.now =
-      slice_get_read c.args.keys.now (length c.args.keys.now) c.args.subject.key c.in-Some.key.now refl within c.in-Some.ensures.lookup.1 in
+    slice_get_read c.args.keys.now (length c.args.keys.now) c.args.subject.key c.in-Some.key.now refl within c.in-Some.ensures.lookup.1 in
     let inside : c.args.subject.key < length c.args.knowns.now.items = search (rules, c.if-subject-len.false, c.len.ensures) in
     let there : slice_get c.args.knowns.now.items c.args.subject.key ≡ Some c.index_mut.result.now =
-      slice_get_read c.args.knowns.now.items (length c.args.knowns.now.items) c.args.subject.key c.index_mut.result.now refl inside c.index_mut.ensures.value in
+    slice_get_read c.args.knowns.now.items (length c.args.knowns.now.items) c.args.subject.key c.index_mut.result.now refl inside c.index_mut.ensures.value in
     rw (here, there, c.in-Ok.ensures.ok) refl
 
 pub returns-in-Ok-clause-counted : goal.returns-in-Ok-clause-counted
 returns-in-Ok-clause-counted c =
     let within : c.args.subject.key < length c.args.keys.now = ltb-true c.args.subject.key (length c.args.keys.now) (sym c.in-Some.ensures.lookup.0) in
     let here : slice_get c.args.keys.now c.args.subject.key ≡ Some c.in-Some.key.now =
-      slice_get_read c.args.keys.now (length c.args.keys.now) c.args.subject.key c.in-Some.key.now refl within c.in-Some.ensures.lookup.1 in
+    slice_get_read c.args.keys.now (length c.args.keys.now) c.args.subject.key c.in-Some.key.now refl within c.in-Some.ensures.lookup.1 in
     let inside : c.args.subject.key < length c.args.knowns.now.items = search (rules, c.if-subject-len.false, c.len.ensures) in
     let there : slice_get c.args.knowns.now.items c.args.subject.key ≡ Some c.index_mut.result.now =
-      slice_get_read c.args.knowns.now.items (length c.args.knowns.now.items) c.args.subject.key c.index_mut.result.now refl inside c.index_mut.ensures.value in
+    slice_get_read c.args.knowns.now.items (length c.args.knowns.now.items) c.args.subject.key c.index_mut.result.now refl inside c.index_mut.ensures.value in
     count_after c.args.keys.now c.args.knowns.now.items c.args.subject.key c.args.working.now c.teach.new.working c.in-Some.key.now
     c.index_mut.result.now c.teach.new.known here there c.requires c.teach.ensures.counted
 
@@ -45,8 +45,8 @@ pub returns-in-Err-clause-err : goal.returns-in-Err-clause-err
 returns-in-Err-clause-err c =
     let within : c.args.subject.key < length c.args.keys.now = ltb-true c.args.subject.key (length c.args.keys.now) (sym c.in-Some.ensures.lookup.0) in
     let here : slice_get c.args.keys.now c.args.subject.key ≡ Some c.in-Some.key.now =
-      slice_get_read c.args.keys.now (length c.args.keys.now) c.args.subject.key c.in-Some.key.now refl within c.in-Some.ensures.lookup.1 in
+    slice_get_read c.args.keys.now (length c.args.keys.now) c.args.subject.key c.in-Some.key.now refl within c.in-Some.ensures.lookup.1 in
     let inside : c.args.subject.key < length c.args.knowns.now.items = search (rules, c.if-subject-len.false, c.len.ensures) in
     let there : slice_get c.args.knowns.now.items c.args.subject.key ≡ Some c.index_mut.result.now =
-      slice_get_read c.args.knowns.now.items (length c.args.knowns.now.items) c.args.subject.key c.index_mut.result.now refl inside c.index_mut.ensures.value in
+    slice_get_read c.args.knowns.now.items (length c.args.knowns.now.items) c.args.subject.key c.index_mut.result.now refl inside c.index_mut.ensures.value in
     rw (here, there, c.in-Err.ensures.err) refl

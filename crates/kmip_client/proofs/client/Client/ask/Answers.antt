@@ -26,7 +26,7 @@ invariant_of-self c =
 pub returns-then-self-eq0-clause-question : goal.returns-then-self-eq0-clause-question
 returns-then-self-eq0-clause-question c =
     let none : working_count c.args.self.now.keys c.args.self.now.knowns ≡ 0 =
-      subst (λ (s : ClientState). working_count s.keys s.knowns ≡ 0) c.self.view_is (sym c.self.invariant.counted ∙ c.if-self-eq0.true) in
+    subst (λ (s : ClientState). working_count s.keys s.knowns ≡ 0) c.self.view_is (sym c.self.invariant.counted ∙ c.if-self-eq0.true) in
     rw (none_next c.args.self.now none) refl
 
 pub returns-then-self-eq0-clause-none : goal.returns-then-self-eq0-clause-none
@@ -40,5 +40,5 @@ returns-then-self-eq0-clause-none c = λ is.
 pub returns-then-self-eq0-clause-turn : goal.returns-then-self-eq0-clause-turn
 returns-then-self-eq0-clause-turn c =
     let none : working_count c.args.self.now.keys c.args.self.now.knowns ≡ 0 =
-      subst (λ (s : ClientState). working_count s.keys s.knowns ≡ 0) c.self.view_is (sym c.self.invariant.counted ∙ c.if-self-eq0.true) in
+    subst (λ (s : ClientState). working_count s.keys s.knowns ≡ 0) c.self.view_is (sym c.self.invariant.counted ∙ c.if-self-eq0.true) in
     rw (none_next c.args.self.now none) refl

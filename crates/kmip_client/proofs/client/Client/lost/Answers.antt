@@ -15,7 +15,7 @@ invariant_of-self c =
 pub returns-clause-settled : goal.returns-clause-settled
 returns-clause-settled c =
     let same : VerdictsStay c.self.inside.plan.now c.self.inside.knowns.items c.lose.new.knowns.items =
-      rw (c.lose.ensures, c.keys.ensures.value) (lost_verdicts c.self.inside.plan.now c.self.inside.knowns.items c.args.key) in
+    rw (c.lose.ensures, c.keys.ensures.value) (lost_verdicts c.self.inside.plan.now c.self.inside.knowns.items c.args.key) in
     subst (λ (s : ClientState). VerdictsStay s.keys s.knowns c.lose.new.knowns.items) c.self.view_is same
 
 pub returns-clause-held : goal.returns-clause-held
