@@ -6,4 +6,5 @@ pub mod TurnLemmas
 pub mod SubjectLemmas
 pub mod HeardLemmas
 pub mod HeldLemmas
+pub mod SavingLemmas
 pub mod OnwardLemmas

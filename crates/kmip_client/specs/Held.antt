@@ -4,19 +4,25 @@ use Rattle.std.specs.Prelude.{◌≡◌, ◌≢◌, ◌≤◌, ℕ, List, Some, 
 use Rattle.std.specs.List.{AllZip}
 use Rattle.kmip_messages.specs.Objects.{Object}
 use Rattle.kmip_plan.specs.declared.key.Key.{Key}
+use Rattle.kmip_progress.specs.declared.known.Known.{Known}
 use Rattle.kmip_client.specs.declared.knowledge.Knowledge.{Knowledge}
 use Rattle.kmip_client.specs.Places.{uid_of, position}
+use Rattle.kmip_client.specs.Saving.{known_of}
 use Rattle.kmip_client.specs.Shapes.{PhaseSuits}
 
 -- A known identifier is that of the key's object, the count is at most its position, and none is counted without an identifier.
-pub record TrueOf (objects : List Object) (key : Key) (known : Knowledge) : Type 0 where
+pub record TrueOf (objects : List Object) (key : Key) (known : Known) : Type 0 where
   pub uid_true : (uid : List ℕ) → known.identifier ≡ Some uid → uid_of key objects ≡ Some uid
   pub done_true : known.done ≤ position key objects
   pub has_identifier : 1 ≤ known.done → known.identifier ≢ None
 
--- The same, with no conflict and a phase that suits.
+-- the same of each key of a plan
+abbrev pub TrueProgress : List Object → List Key → List Known → Type 0
+TrueProgress objects keys saved = AllZip (TrueOf objects) keys saved
+
+-- The same of what a client knows, with no conflict and a phase that suits.
 pub record IsHeld (objects : List Object) (key : Key) (known : Knowledge) : Type 0 where
-  pub holds : TrueOf objects key known
+  pub holds : TrueOf objects key (known_of known)
   pub no_clash : known.clash ≡ None
   pub suits : PhaseSuits known.phase known.identifier known.done
 

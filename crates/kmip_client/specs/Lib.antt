@@ -3,6 +3,7 @@ pub mod Knowledge
 pub mod Learning
 pub mod Questions
 pub mod Clients
+pub mod Saving
 pub mod Shapes
 pub mod Hearing
 pub mod Places

@@ -23,7 +23,9 @@ ghost use Rattle.kmip_client.specs.Clients.{
   working_count,
 };
 ghost use Rattle.kmip_client.specs.Hearing.{unheard, heard_in, hear, Refuses};
-ghost use Rattle.kmip_client.specs.Held.{Held};
+ghost use Rattle.kmip_client.specs.Held.{Held, TrueProgress};
+ghost use Rattle.kmip_client.specs.Saving.{progress, resume};
+ghost use Rattle.kmip_progress.specs.Suiting.{Suits};
 ghost use Rattle.kmip_client.specs.Justified.{JustifiedMessage};
 ghost use Rattle.kmip_client.specs.Shapes.{IsShaped, IsKept};
 ghost use Rattle.kmip_client.specs.Truth.{TrueReply, TrueMessage};
@@ -34,9 +36,11 @@ use crate::fault::HearFault;
 use crate::hearing::{Heard, hear_about};
 use crate::knowledge::{Knowledge, Verdict};
 use crate::question::{Question, question_about};
+use crate::saving::{all_knowledge, all_known, count_working};
 use crate::subject::subject_of;
 use kmip_messages::{MessageFault, Reply, read_reply};
 use kmip_plan::{Key, Plan, laws};
+use kmip_progress::Progress;
 use kmip_ttlv::{NoMemory, Text};
 use std::alloc::Global;
 use std::marker::Model;
@@ -79,6 +83,41 @@ impl<'p> Client<'p> {
             next: 0,
             working: plan.count(),
         })
+    }
+
+    /// A client that knows what was known when this progress was saved, and looks at each object
+    /// again.
+    ///
+    /// # Errors
+    /// Where there is no memory for it.
+    pub fn resume(alloc: Global, plan: &'p Plan, saved: &Progress) -> Result<Client<'p>, NoMemory>
+        requires { Suits plan.now saved.now }
+        ensures resumed { IfOk result (λ client. client ≡ resume plan.now saved.now) }
+        ensures held { (objects : List Object) → TrueProgress objects plan.now saved.now
+            → IfOk result (λ client. Held objects client.keys client.knowns) }
+    {
+        let knowns = all_knowledge(alloc, saved.known())?;
+        let working = count_working(plan.keys(), knowns.as_slice());
+        Ok(Client {
+            plan,
+            knowns,
+            next: 0,
+            working,
+        })
+    }
+
+    /// What is known of each key, to be saved. A conflict is not.
+    ///
+    /// # Errors
+    /// Where there is no memory for it.
+    pub fn progress(&self, alloc: Global) -> Result<Progress, NoMemory>
+        ensures progress { IfOk result (λ saved. saved ≡ progress self.now) }
+        ensures suits { IfOk result (λ saved. Suits self.now.keys saved) }
+        ensures held { (objects : List Object) → Held objects self.now.keys self.now.knowns
+            → IfOk result (λ saved. TrueProgress objects self.now.keys saved) }
+    {
+        let known = all_known(alloc, self.knowns.as_slice())?;
+        Ok(Progress::new(known))
     }
 
     /// The plan. Takes no memory.

@@ -85,7 +85,7 @@ impl Knowledge {
 }
 
 /// How a key is looked at again.
-fn lost_phase(identifier: &Option<Text>) -> Phase
+pub(crate) fn lost_phase(identifier: &Option<Text>) -> Phase
     ensures { result ≡ lost_phase identifier.now }
 {
     match identifier {

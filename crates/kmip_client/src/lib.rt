@@ -10,6 +10,7 @@ mod knowledge;
 pub mod laws;
 mod learning;
 mod question;
+mod saving;
 mod subject;
 
 pub use clash::Clash;

@@ -1,0 +1,23 @@
+-- What of a client's knowledge is kept from one run to the next.
+-- Source: own.
+use Rattle.std.specs.Prelude.{ℕ, List, map, Option, None}
+use Rattle.kmip_plan.specs.declared.key.Key.{Key}
+use Rattle.kmip_progress.specs.declared.known.Known.{Known}
+use Rattle.kmip_client.specs.declared.knowledge.Knowledge.{Knowledge}
+use Rattle.kmip_client.specs.Clients.{ClientState}
+use Rattle.kmip_client.specs.Knowledge.{lost_phase}
+
+-- the identifier and the count are kept; neither a conflict nor what is asked next is
+abbrev pub known_of : Knowledge → Known
+known_of knowledge = record { identifier = knowledge.identifier; done = knowledge.done }
+
+-- whoever goes on from it looks at the object again: by its name, or by its identifier
+abbrev pub knowledge_from : Known → Knowledge
+knowledge_from known = record { identifier = known.identifier; done = known.done; phase = lost_phase known.identifier; clash = None }
+
+-- what a client keeps, and the client that goes on from what was kept
+abbrev pub progress : ClientState → List Known
+progress c = map known_of c.knowns
+
+abbrev pub resume : List Key → List Known → ClientState
+resume keys saved = record { keys = keys; knowns = map knowledge_from saved; next = 0 }
