@@ -5,3 +5,4 @@ pub mod NameLemmas
 pub mod WordLemmas
 pub mod FieldLemmas
 pub mod PlanLemmas
+pub mod ProlongingLemmas

@@ -1,5 +1,5 @@
--- What holds of the five chains, and of the keys of every plan.
--- Source: own: what the laws of the chains and of the keys say.
+-- What holds of the five chains, of the keys of every plan, and of a plan that takes over from another.
+-- Source: own: what the laws of the chains, of the keys and of prolonging say.
 use Rattle.std.specs.Prelude.{◌≡◌, ◌≢◌, ◌≤◌, ◌<◌, ◌+◌, ℕ, suc, true, false, List, [], ◌∷◌, ◌++◌, length, take, Some, None, MatchOption}
 use Rattle.std.specs.List.{slice_get}
 use Rattle.kmip_messages.specs.Lifecycle.{after}
@@ -13,6 +13,7 @@ use Rattle.kmip_plan.specs.declared.key.Key.{Key}
 use Rattle.kmip_plan.specs.declared.target.Target.{Target}
 use Rattle.kmip_plan.specs.Chains.{chain, states, step_at, state_after, moved_by, place_of, place_reached, step_place, is_revoked, key_bound, bound}
 use Rattle.kmip_plan.specs.Plans.{IsLawful, EachFits, key_fits, key_named, IsPlanned}
+use Rattle.kmip_plan.specs.Prolonging.{LeadsOn, GoesOn, Prolongs}
 use Rattle.kmip_plan.specs.Words.{target_word, target_of_word}
 
 -- a step stands at one place, and so does a state
@@ -164,3 +165,76 @@ ReasonsAreNoCompromise = (key : Key) → key_fits key ≡ true → is_compromise
 abbrev pub BoundsAddUp : Type 0
 BoundsAddUp =
     (bound [] ≡ 0) × ((key : Key) (keys : List Key) → bound (key ∷ keys) ≡ key_bound key + bound keys)
+
+-- a way leads on to itself, and to what it leads on to by way of another
+abbrev pub WaysLeadToThemselves : Type 0
+WaysLeadToThemselves = (target : Target) → LeadsOn target target
+
+abbrev pub WaysLeadOnAgain : Type 0
+WaysLeadOnAgain = (first next last : Target) → LeadsOn first next → LeadsOn next last → LeadsOn first last
+
+-- so it is with keys that go on
+abbrev pub KeysGoOnFromThemselves : Type 0
+KeysGoOnFromThemselves = (key : Key) → GoesOn key key
+
+abbrev pub KeysGoOnAgain : Type 0
+KeysGoOnAgain = (first next last : Key) → GoesOn next first → GoesOn last next → GoesOn last first
+
+-- and with plans
+abbrev pub PlansProlongThemselves : Type 0
+PlansProlongThemselves = (keys : List Key) → Prolongs keys keys
+
+abbrev pub PlansProlongAgain : Type 0
+PlansProlongAgain = (first next last : List Key) → Prolongs next first → Prolongs last next → Prolongs last first
+
+-- the further way has no fewer steps
+abbrev pub FurtherWaysAreNoShorter : Type 0
+FurtherWaysAreNoShorter = (target further : Target) → LeadsOn target further → length (chain target) ≤ length (chain further)
+
+-- a step stands at the same place of the further way
+abbrev pub StepsStandOnward : Type 0
+StepsStandOnward =
+    (target further : Target) (place : ℕ) (step : Step) → LeadsOn target further
+    → step_at target place ≡ Some step → step_at further place ≡ Some step
+
+abbrev pub StepsKeepTheirPlaces : Type 0
+StepsKeepTheirPlaces =
+    (target further : Target) (step : Step) → LeadsOn target further → 1 ≤ step_place target step
+    → step_place further step ≡ step_place target step
+
+-- a state stands at the same place of the further way
+abbrev pub StatesStandOnward : Type 0
+StatesStandOnward =
+    (target further : Target) (steps : ℕ) (state : KeyState) → LeadsOn target further
+    → state_after target steps ≡ Some state → state_after further steps ≡ Some state
+
+abbrev pub StatesKeepTheirPlaces : Type 0
+StatesKeepTheirPlaces =
+    (target further : Target) (number place : ℕ) → LeadsOn target further
+    → place_of target number ≡ Some place → place_of further number ≡ Some place
+
+-- a state that the way does not come through may stand on the further one
+abbrev pub ReachedIsNoLess : Type 0
+ReachedIsNoLess =
+    (target further : Target) (state : KeyState) → LeadsOn target further
+    → place_reached target state ≤ place_reached further state
+
+-- a Revoke on the way stands on the further one
+abbrev pub RevokesStay : Type 0
+RevokesStay = (target further : Target) → LeadsOn target further → is_revoked target ≡ true → is_revoked further ≡ true
+
+-- each key of the old plan goes on in the key that the new plan has at its place
+abbrev pub OldKeysStand : Type 0
+OldKeysStand =
+    (new old : List Key) (place : ℕ) (key : Key) → Prolongs new old → slice_get old place ≡ Some key
+    → (newer : Key) × (slice_get new place ≡ Some newer) × GoesOn newer key
+
+-- and in the key that the new plan has under its name
+abbrev pub OldKeysAreFound : Type 0
+OldKeysAreFound =
+    (new old : List Key) (key : Key) → IsLawful new → Prolongs new old → IsPlanned old key
+    → (newer : Key) × IsPlanned new newer × (newer.attrs.name ≡ key.attrs.name) × GoesOn newer key
+
+-- the new plan has no fewer keys
+abbrev pub NewPlansAreNoShorter : Type 0
+NewPlansAreNoShorter = (new old : List Key) → Prolongs new old → length old ≤ length new

@@ -1,22 +1,22 @@
--- When a plan goes on where an earlier one left off: what was done under the earlier one is then a beginning of what it wants.
--- Source: own.
+-- When a new plan takes over from an old one: all that was done under the old plan is then a beginning of what the new one wants.
+-- Source: own: a plan that is changed goes further, and takes back nothing that may have been done.
 use Rattle.std.specs.Prelude.{◌≡◌, true, List, [], ◌∷◌, length, take, ⊤}
 use Rattle.kmip_plan.specs.Chains.{chain, is_revoked}
 use Rattle.kmip_plan.specs.declared.key.Key.{Key}
 use Rattle.kmip_plan.specs.declared.target.Target.{Target}
 
--- the way to a target leads on to another one: its steps are the first steps there
+-- the way to a target is a beginning of the way to a further one, or all of it: its steps are the first steps there
 abbrev pub LeadsOn : Target → Target → Type 0
 LeadsOn target further = take (length (chain target)) (chain further) ≡ chain target
 
--- a key of the new plan goes on from that of the old one: the same attributes, a way that leads on, and no other reason for a
--- Revoke that stands on the old way
+-- a key of the new plan goes on from one of the old plan: it has the same attributes, the old way is a beginning of its own,
+-- and a Revoke on the old way keeps its reason
 pub record GoesOn (new old : Key) : Type 0 where
   pub attrs_same : new.attrs ≡ old.attrs
   pub leads_on : LeadsOn old.target new.target
   pub reason_same : is_revoked old.target ≡ true → new.reason ≡ old.reason
 
--- the keys of the old plan are the first of the new one, in their order, and each goes on
+-- the new plan begins with the keys of the old one, in the same order, and each goes on there; other keys may follow
 abbrev pub Prolongs : List Key → List Key → Type 0
 Prolongs new [] = ⊤
 Prolongs [] (old ∷ olds) = ⊥

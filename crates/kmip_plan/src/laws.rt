@@ -1,5 +1,5 @@
-//! What holds of the five chains and of the keys of every plan, each as the contract of a function
-//! that does nothing.
+//! What holds of the five chains, of the keys of every plan and of a plan that prolongs another, each
+//! as the contract of a function that does nothing.
 ghost use Rattle.kmip_plan.specs.Laws.{
   StepsAreDistinct,
   StatesAreDistinct,
@@ -27,6 +27,22 @@ ghost use Rattle.kmip_plan.specs.Laws.{
   KeysFit,
   ReasonsAreNoCompromise,
   BoundsAddUp,
+  WaysLeadToThemselves,
+  WaysLeadOnAgain,
+  KeysGoOnFromThemselves,
+  KeysGoOnAgain,
+  PlansProlongThemselves,
+  PlansProlongAgain,
+  FurtherWaysAreNoShorter,
+  StepsStandOnward,
+  StepsKeepTheirPlaces,
+  StatesStandOnward,
+  StatesKeepTheirPlaces,
+  ReachedIsNoLess,
+  RevokesStay,
+  OldKeysStand,
+  OldKeysAreFound,
+  NewPlansAreNoShorter,
 };
 
 /// No step stands in a chain twice.
@@ -104,4 +120,34 @@ pub fn keys_fit()
 /// The bound of a plan is the sum of those of its keys.
 pub fn bounds_add_up()
     ensures { BoundsAddUp }
+{}
+
+/// A plan prolongs itself, and what its prolonged plan prolongs; so it is with keys that go on and
+/// with ways that lead on.
+pub fn prolonging_may_be_repeated()
+    ensures way_itself { WaysLeadToThemselves }
+    ensures way_again { WaysLeadOnAgain }
+    ensures key_itself { KeysGoOnFromThemselves }
+    ensures key_again { KeysGoOnAgain }
+    ensures plan_itself { PlansProlongThemselves }
+    ensures plan_again { PlansProlongAgain }
+{}
+
+/// What has been reached on the way to a target is reached on a way that it leads on to: each step
+/// and each state stands at the same place there.
+pub fn further_ways_keep_places()
+    ensures length { FurtherWaysAreNoShorter }
+    ensures steps { StepsStandOnward }
+    ensures places { StepsKeepTheirPlaces }
+    ensures states { StatesStandOnward }
+    ensures state_places { StatesKeepTheirPlaces }
+    ensures reached { ReachedIsNoLess }
+    ensures revoke { RevokesStay }
+{}
+
+/// A plan that prolongs another has each of its keys, at the same place and under the same name.
+pub fn prolonged_keys_stand()
+    ensures stand { OldKeysStand }
+    ensures found { OldKeysAreFound }
+    ensures as_many { NewPlansAreNoShorter }
 {}

@@ -8,6 +8,7 @@ mod fields;
 mod key;
 pub mod laws;
 mod plan;
+mod prolonging;
 mod reading;
 mod tables;
 mod target;
@@ -22,6 +23,7 @@ pub use laws::{
     steps_follow_the_lifecycle, targets_and_words,
 };
 pub use plan::{Plan, bound};
+pub use prolonging::prolongs;
 pub use reading::read_plan;
 pub use target::Target;
 pub use words::algorithm_word;
