@@ -1,17 +1,22 @@
 -- What is kept suits the plan and is as true as what is known, and who goes on from it knows the same.
-use Rattle.std.proofs.Common.{◌≡◌, ◌≢◌, ◌≤◌, ◌==◌, ◌||◌, ◌&&◌, ℕ, zero, suc, Bool, true, false, nat_le, List, [], ◌∷◌, length, map, Option, Some, None, IfSome, IsTrue, refl, sym, ap, inl, inr, arith, is_some}
+use Rattle.std.proofs.Common.{◌≡◌, ◌≢◌, ◌≤◌, ◌==◌, ◌||◌, ◌&&◌, ℕ, zero, suc, Bool, true, false, nat_le, List, [], ◌∷◌, ◌++◌, length, map, drop, Option, Some, None, IfSome, IsTrue, refl, sym, ap, subst, ◌∙◌, inl, inr, arith, is_some}
 use Rattle.std.proofs.lemmas.Bool.{cases_Bool, and_parts, leb-true, le-leb, eqb-true, eqb-false}
 use Rattle.std.specs.List.{AllZip}
-use Rattle.std.specs.Option.{option_map_or}
-use Rattle.kmip_messages.specs.Objects.{Object}
+use Rattle.std.specs.Option.{option_map, option_map_or}
+use Rattle.kmip_messages.specs.Objects.{Object, object_named}
+use Rattle.kmip_messages.specs.declared.request.KeyAttrs.{KeyAttrs}
+use Rattle.kmip_plan.specs.Chains.{place_reached}
+use Rattle.kmip_plan.specs.Laws.{ReachedIsNoLess}
+use Rattle.kmip_plan.specs.Prolonging.{LeadsOn, GoesOn, Prolongs}
+use Rattle.kmip_plan.specs.declared.target.Target.{Target}
 use Rattle.kmip_messages.specs.Ranges.{is_identifier}
 use Rattle.kmip_plan.specs.declared.key.Key.{Key}
-use Rattle.kmip_progress.specs.Suiting.{is_known, known_fits, Suits}
+use Rattle.kmip_progress.specs.Suiting.{is_known, known_fits, nothing_known, Suits}
 use Rattle.kmip_progress.specs.declared.known.Known.{Known}
 use Rattle.kmip_client.specs.declared.knowledge.Knowledge.{Knowledge}
-use Rattle.kmip_client.specs.declared.knowledge.Phase.{Phase}
-use Rattle.kmip_client.specs.Held.{TrueOf, TrueProgress, IsHeld, Held}
+use Rattle.kmip_client.specs.Held.{TrueOf, TrueProgress, Held}
 use Rattle.kmip_client.specs.Knowledge.{chain_length, lost_phase}
+use Rattle.kmip_client.specs.Places.{uid_of, position}
 use Rattle.kmip_client.specs.Saving.{known_of, knowledge_from}
 use Rattle.kmip_client.specs.Shapes.{PhaseSuits, IsShaped}
 
@@ -109,3 +114,41 @@ all_true objects [] [] held = tt
 all_true objects [] (knowledge ∷ knowns) held = absurd held
 all_true objects (key ∷ keys) [] held = absurd held
 all_true objects (key ∷ keys) (knowledge ∷ knowns) held = (held.0.holds, all_true objects keys knowns held.1)
+
+-- ---- under a plan that prolongs the old one
+
+nothing_true : (objects : List Object) (key : Key) → TrueOf objects key nothing_known
+nothing_true objects key = record { uid_true = λ uid is. absurd cc; done_true = omega arith; has_identifier = λ some. absurd (omega arith) }
+
+all_nothing : (objects : List Object) (keys : List Key) → TrueProgress objects keys (map (λ key. nothing_known) keys)
+all_nothing objects [] = tt
+all_nothing objects (key ∷ keys) = (nothing_true objects key, all_nothing objects keys)
+
+reached : (target further : Target) (found : Option Object) → ReachedIsNoLess → LeadsOn target further
+    → option_map_or (λ o. place_reached target o.state) found 0 ≤ option_map_or (λ o. place_reached further o.state) found 0
+reached target further None law on = omega arith
+reached target further (Some o) law on = law target further o.state on
+
+same_uid : (objects : List Object) (new old : Key) → new.attrs ≡ old.attrs → uid_of new objects ≡ uid_of old objects
+same_uid objects new old same = ap (λ (a : KeyAttrs). option_map (λ o. o.uid) (object_named a.name objects)) same
+
+further : (objects : List Object) (new old : Key) → ReachedIsNoLess → GoesOn new old → position old objects ≤ position new objects
+further objects new old law on =
+    subst (λ (a : KeyAttrs). position old objects ≤ option_map_or (λ o. place_reached new.target o.state) (object_named a.name objects) 0) (sym on.attrs_same)
+    (reached old.target new.target (object_named old.attrs.name objects) law on.leads_on)
+
+still_true : (objects : List Object) (new old : Key) (known : Known) → ReachedIsNoLess → GoesOn new old → TrueOf objects old known → TrueOf objects new known
+still_true objects new old known law on so = record {
+  uid_true = λ uid is. same_uid objects new old on.attrs_same ∙ so.uid_true uid is;
+  done_true = omega (arith, so.done_true, further objects new old law on);
+  has_identifier = so.has_identifier;
+}
+
+pub prolonged_true : (objects : List Object) (new old : List Key) (saved : List Known) → ReachedIsNoLess → Prolongs new old → TrueProgress objects old saved
+    → TrueProgress objects new (saved ++ map (λ key. nothing_known) (drop (length old) new))
+prolonged_true objects new [] [] law on so = all_nothing objects new
+prolonged_true objects new [] (known ∷ saved) law on so = absurd so
+prolonged_true objects [] (old ∷ olds) saved law on so = absurd on
+prolonged_true objects (new ∷ news) (old ∷ olds) [] law on so = absurd so
+prolonged_true objects (new ∷ news) (old ∷ olds) (known ∷ saved) law on so =
+    (still_true objects new old known law on.0 so.0, prolonged_true objects news olds saved law on.1 so.1)

@@ -1,16 +1,19 @@
 -- What holds of objects that go onward, and of what a client asks.
 -- Source: own: what the laws say.
-use Rattle.std.specs.Prelude.{◌≡◌, ◌≢◌, ℕ, true, List}
+use Rattle.std.specs.Prelude.{◌≡◌, ◌≢◌, ℕ, true, List, ◌++◌, length, map, drop}
 use Rattle.kmip_messages.specs.Objects.{Object}
 use Rattle.kmip_messages.specs.declared.reply.Reply.{Reply}
 use Rattle.kmip_messages.specs.declared.request.Request.{Request}
 use Rattle.kmip_plan.specs.Plans.{IsLawful}
+use Rattle.kmip_plan.specs.Prolonging.{Prolongs}
 use Rattle.kmip_plan.specs.declared.key.Key.{Key}
+use Rattle.kmip_progress.specs.Suiting.{nothing_known}
+use Rattle.kmip_progress.specs.declared.known.Known.{Known}
 use Rattle.kmip_client.specs.declared.clash.Clash.{Clash}
 use Rattle.kmip_client.specs.declared.knowledge.Knowledge.{Knowledge}
 use Rattle.kmip_client.specs.declared.knowledge.Verdict.TheVariants.{Conflict}
 use Rattle.kmip_client.specs.Clients.{verdict_at}
-use Rattle.kmip_client.specs.Held.{IsHeld, Held}
+use Rattle.kmip_client.specs.Held.{TrueProgress, IsHeld, Held}
 use Rattle.kmip_client.specs.Justified.{MayAsk, Justified}
 use Rattle.kmip_client.specs.Knowledge.{is_working}
 use Rattle.kmip_client.specs.Places.{Onward}
@@ -37,6 +40,12 @@ abbrev pub HeldForGood : Type 0
 HeldForGood =
     (keys : List Key) (knowns : List Knowledge) (old new : List Object) → IsLawful keys → Onward keys old new → Held old keys knowns
     → Held new keys knowns
+
+-- what was saved under a plan is true of the keys of each plan that prolongs it, with nothing known of the further keys
+abbrev pub TrueOfProlonged : Type 0
+TrueOfProlonged =
+    (objects : List Object) (new old : List Key) (saved : List Known) → Prolongs new old → TrueProgress objects old saved
+    → TrueProgress objects new (saved ++ map (λ key. nothing_known) (drop (length old) new))
 
 -- no key is in conflict
 abbrev pub HeldIsNoConflict : Type 0

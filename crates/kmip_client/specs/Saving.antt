@@ -1,6 +1,6 @@
 -- What of a client's knowledge is kept from one run to the next.
 -- Source: own.
-use Rattle.std.specs.Prelude.{ℕ, List, map, Option, None}
+use Rattle.std.specs.Prelude.{List, map, None}
 use Rattle.kmip_plan.specs.declared.key.Key.{Key}
 use Rattle.kmip_progress.specs.declared.known.Known.{Known}
 use Rattle.kmip_client.specs.declared.knowledge.Knowledge.{Knowledge}

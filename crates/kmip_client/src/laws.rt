@@ -7,10 +7,11 @@ ghost use Rattle.kmip_client.specs.Laws.{
   TrueForGood,
   HeldForGood,
   HeldIsNoConflict,
+  TrueOfProlonged,
   AsksWhatItMay,
 };
 
-use kmip_plan::laws::{keys_have_names, steps_have_places};
+use kmip_plan::laws::{further_ways_keep_places, keys_have_names, steps_have_places};
 
 /// Objects go onward to themselves, and onward twice is onward.
 pub fn onward_is_an_order()
@@ -26,6 +27,13 @@ pub fn truth_is_for_good()
     ensures known { HeldForGood }
 {
     keys_have_names();
+}
+
+/// What was saved under a plan is as true under each plan that prolongs it.
+pub fn progress_is_true_of_prolonged_plans()
+    ensures { TrueOfProlonged }
+{
+    further_ways_keep_places();
 }
 
 /// Where all that is known is true, no key is in conflict.

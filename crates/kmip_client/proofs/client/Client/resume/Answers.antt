@@ -1,7 +1,5 @@
 -- Key by key.
-use Rattle.std.proofs.Common.{◌≡◌, length, map, sym, ap, refl, arith}
-use Rattle.kmip_client.specs.Held.{Held}
-use Rattle.kmip_client.specs.Saving.{knowledge_from}
+use Rattle.std.proofs.Common.{refl, arith}
 use Rattle.kmip_client.proofs.SavingLemmas.{all_shaped, all_held, as_many}
 use Rattle.kmip_client.proofs.client.Client.resume.Goals as goal
 
