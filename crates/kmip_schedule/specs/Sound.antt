@@ -1,0 +1,62 @@
+-- What holds of all that was ever asked, answered and done, for the keys of a plan; and where nothing of the plan has happened.
+-- Source: own.
+use Rattle.std.specs.Prelude.{◌≡◌, ◌⊎◌, ◌≤◌, ℕ, List, [], take, Option, Some, None, IsTrue}
+use Rattle.std.specs.List.{All, Contains}
+use Rattle.kmip_messages.specs.Objects.{Object, object_named, DistinctNames, DistinctUids}
+use Rattle.kmip_messages.specs.Operations.{operation_of}
+use Rattle.kmip_messages.specs.Ranges.{is_identifier}
+use Rattle.kmip_messages.specs.declared.reply.Reply.{Reply}
+use Rattle.kmip_messages.specs.declared.request.Request.{Request}
+use Rattle.kmip_plan.specs.Chains.{chain, place_reached}
+use Rattle.kmip_plan.specs.Plans.{IsPlanned, key_named}
+use Rattle.kmip_plan.specs.declared.key.Key.{Key}
+use Rattle.kmip_client.specs.Justified.{Justified}
+use Rattle.kmip_client.specs.Places.{position}
+use Rattle.kmip_client.specs.Truth.{TrueReply}
+use Rattle.kmip_schedule.specs.Moves.{HasFailed}
+use Rattle.kmip_schedule.specs.Past.{Past, steps_on}
+
+-- The object of a planned name is the plan's: an identifier in its range, the attributes of the key, a state on its way.
+pub record IsObjectOf (key : Key) (o : Object) : Type 0 where
+  pub identified : IsTrue (is_identifier o.uid)
+  pub attrs_are : o.attrs ≡ key.attrs
+  pub on_the_way : 1 ≤ place_reached key.target o.state
+
+abbrev pub HasItsObjects : List Key → List Object → Type 0
+HasItsObjects keys objects =
+    (key : Key) (o : Object) → IsPlanned keys key → object_named key.attrs.name objects ≡ Some o → IsObjectOf key o
+
+-- The effects on each planned name are the first steps of its chain, as many as its position says, and no effect is on another name.
+pub record EffectsAreFirst (keys : List Key) (p : Past) : Type 0 where
+  pub planned : (key : Key) → IsPlanned keys key → steps_on key.attrs.name p.effects ≡ take (position key p.objects) (chain key.target)
+  pub no_others : (name : List ℕ) → key_named name keys ≡ None → steps_on name p.effects ≡ []
+
+-- The reply has the operation and the id of a request that was ever asked.
+pub record Echoes (requests : List Request) (reply : Reply) : Type 0 where
+  pub request : Request
+  pub asked : Contains requests request
+  pub operation_is : reply.operation ≡ Some (operation_of request.ask)
+  pub id_is : reply.id ≡ request.id
+
+-- The reply says the truth, and answers a request that was ever asked, or says "failed".
+pub record TrueAnswer (keys : List Key) (objects : List Object) (requests : List Request) (reply : Reply) : Type 0 where
+  pub holds : TrueReply keys objects reply
+  pub echoes : HasFailed reply.outcome ⊎ Echoes requests reply
+
+-- Each planned name is the plan's own, each request ever asked may be asked still, and each reply ever given is true.
+pub record Sound (keys : List Key) (p : Past) : Type 0 where
+  pub names : DistinctNames p.objects
+  pub uids : DistinctUids p.objects
+  pub objects : HasItsObjects keys p.objects
+  pub effects : EffectsAreFirst keys p
+  pub requests : All (Justified keys p.objects) p.requests
+  pub replies : All (TrueAnswer keys p.objects p.requests) p.replies
+
+-- Nothing of the plan has happened yet.
+pub record Opening (keys : List Key) (p : Past) : Type 0 where
+  pub names : DistinctNames p.objects
+  pub uids : DistinctUids p.objects
+  pub no_object : (key : Key) → IsPlanned keys key → object_named key.attrs.name p.objects ≡ None
+  pub no_request : p.requests ≡ []
+  pub no_reply : p.replies ≡ []
+  pub no_effect : p.effects ≡ []

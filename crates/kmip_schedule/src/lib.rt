@@ -1,0 +1,9 @@
+//! What may happen between a client and its server over a network that loses, repeats, delays and
+//! reorders, and what holds whatever happens: the theory, with no code in it but its own few types.
+#![tactic(auto)]
+
+mod effect;
+mod link;
+
+pub use effect::Effect;
+pub use link::LinkFault;
