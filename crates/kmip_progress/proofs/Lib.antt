@@ -1,0 +1,4 @@
+pub mod WordLemmas
+pub mod SuitingLemmas
+pub mod WritingLemmas
+pub mod BodyLemmas
