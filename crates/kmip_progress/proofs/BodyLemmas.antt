@@ -3,6 +3,7 @@ use Rattle.std.proofs.Common.{◌≡◌, ◌==◌, ◌≤◌, ℕ, true, false, 
 use Rattle.std.proofs.lemmas.Bool.{ne_eqb}
 use Rattle.std.proofs.lemmas.List.{length-append, append_assoc, map-append}
 use Rattle.kmip_progress.specs.Reading.{body_of}
+use Rattle.kmip_progress.proofs.WordLemmas.{same_some, not_some}
 
 -- a line before
 abbrev onto : List ℕ → List (List ℕ) × List ℕ → List (List ℕ) × List ℕ
@@ -53,3 +54,23 @@ ended view lines front body last end is behind nothing =
     ∙ ap body_of (map-append view body (end ∷ last ∷ []))
     ∙ ap (λ rest. body_of (map view body ++ view end ∷ rest ∷ [])) (empty (view last) nothing)
     ∙ body_here (map view body) (view end))
+
+-- the lines that were found are there
+onto_found : (line : List ℕ) (o : Option (List (List ℕ) × List ℕ)) (body : List (List ℕ)) (end : List ℕ) → option_map (onto line) o ≡ Some (body, end)
+    → (b : List (List ℕ) × List ℕ) × (o ≡ Some b) × (line ∷ b.0 ≡ body) × (b.1 ≡ end)
+onto_found line None body end is = absurd cc
+onto_found line (Some b) body end is =
+    let same = same_some (line ∷ b.0, b.1) (body, end) is in
+    (b, refl, ap (λ (p : List (List ℕ) × List ℕ). p.0) same, ap (λ (p : List (List ℕ) × List ℕ). p.1) same)
+
+pub body_found : (lines body : List (List ℕ)) (end : List ℕ) → body_of lines ≡ Some (body, end) → lines ≡ body ++ end ∷ [] ∷ []
+body_found [] body end is = not_some (body, end) is
+body_found (line ∷ []) body end is = not_some (body, end) is
+body_found (line ∷ [] ∷ []) body end is =
+    let same = same_some ([], line) (body, end) is in
+    (λ i. ((same i).0 ++ (same i).1 ∷ [] ∷ []))
+body_found (line ∷ (b ∷ bs) ∷ []) body end is = not_some (body, end) is
+body_found (line ∷ next ∷ third ∷ lines) body end is =
+    let many = before line (next ∷ third ∷ lines) (omega arith) in
+    let (b, found, body_is, end_is) = onto_found line (body_of (next ∷ third ∷ lines)) body end (sym many ∙ is) in
+    ap (λ l. line ∷ l) (body_found (next ∷ third ∷ lines) b.0 b.1 found) ∙ (λ i. (body_is i ++ end_is i ∷ [] ∷ []))

@@ -1,5 +1,6 @@
 //! What is known of each key of a plan.
 ghost use Rattle.std.specs.Prelude.{◌≡◌, ◌↔◌, List, IfOk, OnOk, IsTrue, Ok};
+ghost use Rattle.kmip_plan.specs.Plans.{IsLawful};
 ghost use Rattle.kmip_progress.specs.declared.known.Known.{Known};
 ghost use Rattle.kmip_progress.specs.Reading.{read_text, GivesProgress};
 ghost use Rattle.kmip_progress.specs.Suiting.{Suits, all_fit, are_texts};
@@ -76,7 +77,8 @@ impl Progress {
 
 /// The same, by the order of the checks.
 fn read_progress(alloc: Global, plan: &Plan, text: &str) -> Result<Progress, ProgressFault>
-    ensures { GivesProgress (λ read. read) result (read_text plan.now text.now) }
+    ensures exact { GivesProgress (λ read. read) result (read_text plan.now text.now) }
+    ensures lawful { IsLawful plan.now }
 {
     let known = read_known(alloc, plan.keys(), text)?;
     Ok(Progress::new(known))

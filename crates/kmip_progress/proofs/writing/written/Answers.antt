@@ -8,5 +8,5 @@ pub returns-clause-text : goal.returns-clause-text
 returns-clause-text c =
     let keys = c.args.keys.now in
     let text : string_bytes c.push_str.new.self
-            ≡ (codes "kmip-progress 2" ++ 10 ∷ key_lines keys c.args.known.now) ++ (end_line (length keys) ++ 10 ∷ []) = search rules in
+    ≡ (codes "kmip-progress 2" ++ 10 ∷ key_lines keys c.args.known.now) ++ (end_line (length keys) ++ 10 ∷ []) = search rules in
     text ∙ whole keys c.args.known.now c.requires
