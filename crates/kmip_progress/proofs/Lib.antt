@@ -1,0 +1,10 @@
+pub mod ByteLemmas
+pub mod SplitLemmas
+pub mod WordLemmas
+pub mod EntryLemmas
+pub mod SuitingLemmas
+pub mod WritingLemmas
+pub mod BodyLemmas
+pub mod TellingLemmas
+pub mod TextLemmas
+pub mod LawLemmas

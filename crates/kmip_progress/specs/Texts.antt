@@ -1,0 +1,113 @@
+-- The texts of a progress, of both formats.
+-- Source: own.
+use Rattle.std.specs.Prelude.{◌≡◌, ◌≤◌, ℕ, Bool, true, false, not, ◌&&◌, nat_le, List, [], ◌∷◌, ◌++◌, length, map, codes, decimal, Option, Some, None, IfSome, if◌then◌else◌}
+use Rattle.std.specs.List.{list_all, join_with_byte}
+use Rattle.kmip_messages.specs.Ranges.{is_name}
+use Rattle.kmip_plan.specs.Chains.{chain, is_revoked}
+use Rattle.kmip_plan.specs.Plans.{reason_fits}
+use Rattle.kmip_plan.specs.Prolonging.{LeadsOn}
+use Rattle.kmip_plan.specs.Words.{target_word}
+use Rattle.kmip_plan.specs.declared.key.Key.{Key}
+use Rattle.kmip_plan.specs.declared.target.Target.{Target}
+use Rattle.kmip_progress.specs.declared.entry.Entry.{Entry}
+use Rattle.kmip_progress.specs.declared.entry.Format.{Format}
+use Rattle.kmip_progress.specs.declared.entry.Format.TheVariants.{One, Two}
+use Rattle.kmip_progress.specs.declared.known.Known.{Known}
+use Rattle.kmip_progress.specs.Suiting.{is_known, has_text, nothing_known}
+use Rattle.kmip_progress.specs.Words.{reason_word, identifier_word}
+
+-- the first line of a text
+abbrev pub head_line : Format → List ℕ
+head_line One = codes "kmip-progress 1"
+head_line Two = codes "kmip-progress 2"
+
+-- the words of a key's line; the reason stands in format 2 alone
+abbrev pub entry_words : Format → Entry → List (List ℕ)
+entry_words One e = e.name ∷ target_word e.target ∷ decimal e.known.done ∷ identifier_word e.known.identifier ∷ []
+entry_words Two e =
+    e.name ∷ target_word e.target ∷ reason_word e.reason ∷ decimal e.known.done ∷ identifier_word e.known.identifier ∷ []
+
+-- a line is its words, one space between
+abbrev pub line_of : List (List ℕ) → List ℕ
+line_of words = join_with_byte 0x20 words
+
+-- each line is ended by a line feed
+abbrev pub text_of_lines : List (List ℕ) → List ℕ
+text_of_lines [] = []
+text_of_lines (line ∷ lines) = line ++ 0x0A ∷ text_of_lines lines
+
+-- the lines of a text: its head, a line for each key, and how many keys there are
+abbrev pub end_line : ℕ → List ℕ
+end_line count = line_of (codes "end" ∷ decimal count ∷ [])
+
+abbrev pub lines_of : Format → List Entry → List (List ℕ)
+lines_of format entries =
+    head_line format ∷ map (λ e. line_of (entry_words format e)) entries ++ end_line (length entries) ∷ []
+
+abbrev pub text_of : Format → List Entry → List ℕ
+text_of format entries = text_of_lines (lines_of format entries)
+
+-- a reason may stand there: in format 2 just where a Revoke leads to the target
+abbrev pub reason_stands : Format → Target → Option ℕ → Bool
+reason_stands One target None = true
+reason_stands One target (Some reason) = false
+reason_stands Two target None = not (is_revoked target)
+reason_stands Two target (Some reason) = is_revoked target && reason_fits target reason
+
+-- what a key's line may say
+abbrev pub entry_fits : Format → Entry → Bool
+entry_fits format e =
+    is_name e.name && reason_stands format e.target e.reason && nat_le e.known.done 4 && is_known e.known && has_text e.known
+
+-- a line speaks of a key of the plan: it has the key's name, its target leads on to the key's target, its reason is the key's, and
+-- no more steps are done than lead to its own target
+pub record SpeaksOf (e : Entry) (key : Key) : Type 0 where
+  pub name_same : e.name ≡ key.attrs.name
+  pub leads_on : LeadsOn e.target key.target
+  pub reason_same : IfSome e.reason (λ reason. reason ≡ key.reason)
+  pub within : e.known.done ≤ length (chain e.target)
+
+-- the lines speak of the first keys of the plan, in order, and nothing is known of those behind them
+abbrev pub Tells : List Key → List Entry → List Known → Type 0
+Tells keys [] progress = progress ≡ map (λ key. nothing_known) keys
+Tells [] (e ∷ entries) progress = ⊥
+Tells (key ∷ keys) (e ∷ entries) [] = ⊥
+Tells (key ∷ keys) (e ∷ entries) (known ∷ progress) = SpeaksOf e key × (known ≡ e.known) × Tells keys entries progress
+
+-- a text says this of the keys of a plan
+pub record IsProgressText (keys : List Key) (text : List ℕ) (progress : List Known) : Type 0 where
+  pub format : Format
+  pub entries : List Entry
+  pub fit : list_all (entry_fits format) entries ≡ true
+  pub spelt : text ≡ text_of format entries
+  pub tells : Tells keys entries progress
+
+-- what the line of a key says; the reason where a Revoke leads to its target
+abbrev pub reason_for : Format → Key → Option ℕ
+reason_for One key = None
+reason_for Two key = if is_revoked key.target then Some key.reason else None
+
+abbrev pub entry_for : Format → Key → Known → Entry
+entry_for format key known =
+    record { name = key.attrs.name; target = key.target; reason = reason_for format key; known = known }
+
+abbrev pub entries_for : Format → List Key → List Known → List Entry
+entries_for format [] progress = []
+entries_for format (key ∷ keys) [] = []
+entries_for format (key ∷ keys) (known ∷ progress) = entry_for format key known ∷ entries_for format keys progress
+
+-- Private: the line of a key in format 2, and the lines of keys, each with its line feed
+abbrev pub key_line : Key → Known → List ℕ
+key_line key known = line_of (entry_words Two (entry_for Two key known))
+
+abbrev pub key_lines : List Key → List Known → List ℕ
+key_lines [] progress = []
+key_lines (key ∷ keys) [] = []
+key_lines (key ∷ keys) (known ∷ progress) = key_line key known ++ 0x0A ∷ key_lines keys progress
+
+-- the text that is written, and the one that an earlier version wrote
+abbrev pub progress_text : List Key → List Known → List ℕ
+progress_text keys progress = text_of Two (entries_for Two keys progress)
+
+abbrev pub progress_text_1 : List Key → List Known → List ℕ
+progress_text_1 keys progress = text_of One (entries_for One keys progress)

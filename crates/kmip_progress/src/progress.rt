@@ -1,0 +1,111 @@
+//! What is known of each key of a plan.
+ghost use Rattle.std.specs.Prelude.{◌≡◌, ◌↔◌, List, IfOk, OnOk, IsTrue, Ok};
+ghost use Rattle.kmip_plan.specs.Plans.{IsLawful};
+ghost use Rattle.kmip_progress.specs.declared.known.Known.{Known};
+ghost use Rattle.kmip_progress.specs.Reading.{read_text, GivesProgress};
+ghost use Rattle.kmip_progress.specs.Suiting.{Suits, all_fit, are_texts};
+ghost use Rattle.kmip_progress.specs.Texts.{IsProgressText, progress_text};
+
+use crate::fault::ProgressFault;
+use crate::known::{Known, known_fits};
+use crate::reading::read_known;
+use crate::writing::written;
+use kmip_plan::{Key, Plan};
+use kmip_ttlv::Text;
+use std::alloc::{AllocError, Global};
+use std::marker::Model;
+
+/// What is known of each key of a plan, in the plan's order. A contract sees the list of it.
+#[derive(Debug, Drop)]
+pub struct Progress {
+    known: Vec<Known>,
+}
+
+impl Model for Progress {
+    ghost use Rattle.std.specs.Prelude.{List};
+    ghost use Rattle.kmip_progress.specs.declared.known.Known.{Known};
+
+    ghost Value = { List Known };
+
+    ghost view = { λ p. p.known.items };
+}
+
+impl Progress {
+    /// The progress that has this of each key. Takes no memory.
+    pub fn new(known: Vec<Known>) -> Self
+        ensures { result ≡ known.items }
+    {
+        Progress { known }
+    }
+
+    /// What is known of each key. Takes no memory.
+    pub fn known(&self) -> &[Known]
+        ensures { result.now ≡ self.now }
+    {
+        self.known.as_slice()
+    }
+
+    /// The progress as a text, for a plan that it suits: format 2, a line for each key.
+    ///
+    /// # Errors
+    /// Where there is no memory for the text.
+    pub fn write_text(&self, alloc: Global, plan: &Plan) -> Result<Text, AllocError>
+        requires { Suits plan.now self.now }
+        ensures text { IfOk result (λ text. text ≡ progress_text plan.now self.now) }
+        ensures utf8 { OnOk result (IsTrue (are_texts self.now)) }
+    {
+        let text = written(alloc, plan.keys(), self.known.as_slice())?;
+        Ok(Text::from_string(text))
+    }
+
+    /// The progress that a text of format 1 or 2 says for a plan: its keys are the first of the plan,
+    /// and the target of each leads on to the plan's. Nothing is known of the plan's further keys.
+    ///
+    /// # Errors
+    /// The first fault of the text, `Cut` before `BadText` before `OtherPlan`; want of memory
+    /// otherwise.
+    pub fn read_text(alloc: Global, plan: &Plan, text: &str) -> Result<Progress, ProgressFault>
+        ensures found { IfOk result (λ progress. IsProgressText plan.now text.now progress) }
+        ensures only { (progress : List Known) → IsProgressText plan.now text.now progress
+            → GivesProgress (λ read. read) result (Ok progress) }
+        ensures exact { GivesProgress (λ read. read) result (read_text plan.now text.now) }
+        ensures suits { IfOk result (λ progress. Suits plan.now progress) }
+    {
+        read_progress(alloc, plan, text)
+    }
+}
+
+/// The same, by the order of the checks.
+fn read_progress(alloc: Global, plan: &Plan, text: &str) -> Result<Progress, ProgressFault>
+    ensures exact { GivesProgress (λ read. read) result (read_text plan.now text.now) }
+    ensures lawful { IsLawful plan.now }
+{
+    let known = read_known(alloc, plan.keys(), text)?;
+    Ok(Progress::new(known))
+}
+
+/// Whether a progress has one entry for each key of the plan, each with no more steps done than lead
+/// to the key's target, none without an identifier, and identifiers of 1 to 64 bytes. Takes no
+/// memory.
+pub fn suits(plan: &Plan, progress: &Progress) -> bool
+    ensures { IsTrue result ↔ Suits plan.now progress.now }
+{
+    all_fit(plan.keys(), progress.known.as_slice())
+}
+
+/// Whether what is known fits the keys, one for one.
+fn all_fit(keys: &[Key], known: &[Known]) -> bool
+    ensures { result ≡ all_fit keys.now known.now }
+{
+    let mut rest = keys;
+    for one in known {
+        let Some((key, behind)) = rest.split_first() else {
+            return false;
+        };
+        if !known_fits(key, one) {
+            return false;
+        }
+        rest = behind;
+    }
+    rest.is_empty()
+}
