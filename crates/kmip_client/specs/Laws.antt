@@ -1,13 +1,14 @@
 -- What holds of objects that go onward, and of what a client asks.
 -- Source: own: what the laws say.
-use Rattle.std.specs.Prelude.{◌≡◌, ◌≢◌, ℕ, true, List, ◌++◌, length, map, drop}
+use Rattle.std.specs.Prelude.{◌≡◌, ◌≢◌, ℕ, true, List, ◌++◌, length, map, drop, Ok}
 use Rattle.kmip_messages.specs.Objects.{Object}
 use Rattle.kmip_messages.specs.declared.reply.Reply.{Reply}
 use Rattle.kmip_messages.specs.declared.request.Request.{Request}
 use Rattle.kmip_plan.specs.Plans.{IsLawful}
 use Rattle.kmip_plan.specs.Prolonging.{Prolongs}
 use Rattle.kmip_plan.specs.declared.key.Key.{Key}
-use Rattle.kmip_progress.specs.Suiting.{nothing_known}
+use Rattle.kmip_progress.specs.Reading.{read_text}
+use Rattle.kmip_progress.specs.Suiting.{Suits, nothing_known, are_texts}
 use Rattle.kmip_progress.specs.declared.known.Known.{Known}
 use Rattle.kmip_client.specs.declared.clash.Clash.{Clash}
 use Rattle.kmip_client.specs.declared.knowledge.Knowledge.{Knowledge}
@@ -46,6 +47,13 @@ abbrev pub TrueOfProlonged : Type 0
 TrueOfProlonged =
     (objects : List Object) (new old : List Key) (saved : List Known) → Prolongs new old → TrueProgress objects old saved
     → TrueProgress objects new (saved ++ map (λ key. nothing_known) (drop (length old) new))
+
+-- so its text, in either format, is read for each plan that prolongs the old one, and what is read is true of it
+abbrev pub TextsStayTrue : (List Key → List Known → List ℕ) → Type 0
+TextsStayTrue text_for =
+    (objects : List Object) (new old : List Key) (saved : List Known) → IsLawful old → Prolongs new old → Suits old saved
+    → are_texts saved ≡ true → TrueProgress objects old saved
+    → (read : List Known) × (read_text new (text_for old saved) ≡ Ok read) × TrueProgress objects new read
 
 -- no key is in conflict
 abbrev pub HeldIsNoConflict : Type 0

@@ -1,5 +1,6 @@
 //! What holds of objects that go onward and of what a client asks, each as the contract of a
 //! function that does nothing.
+ghost use Rattle.kmip_progress.specs.Texts.{progress_text, progress_text_1};
 ghost use Rattle.kmip_client.specs.Laws.{
   OnwardToItself,
   OnwardTwice,
@@ -8,10 +9,12 @@ ghost use Rattle.kmip_client.specs.Laws.{
   HeldForGood,
   HeldIsNoConflict,
   TrueOfProlonged,
+  TextsStayTrue,
   AsksWhatItMay,
 };
 
 use kmip_plan::laws::{further_ways_keep_places, keys_have_names, steps_have_places};
+use kmip_progress::laws::texts_are_prolonged;
 
 /// Objects go onward to themselves, and onward twice is onward.
 pub fn onward_is_an_order()
@@ -29,11 +32,15 @@ pub fn truth_is_for_good()
     keys_have_names();
 }
 
-/// What was saved under a plan is as true under each plan that prolongs it.
+/// What was saved under a plan is as true under each plan that prolongs it; and so its text is read
+/// for that plan, and what is read is true.
 pub fn progress_is_true_of_prolonged_plans()
-    ensures { TrueOfProlonged }
+    ensures known { TrueOfProlonged }
+    ensures text { TextsStayTrue progress_text }
+    ensures old_text { TextsStayTrue progress_text_1 }
 {
     further_ways_keep_places();
+    texts_are_prolonged();
 }
 
 /// Where all that is known is true, no key is in conflict.
