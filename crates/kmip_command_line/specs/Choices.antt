@@ -1,10 +1,13 @@
--- How the program ends where the words of its command line ask for no command.
+-- What the words of the command line ask for, and how the program ends where they ask for no command.
 -- Source: own: what the program prints, and its exit status.
+use Rattle.std.specs.Prelude.{◌≡◌, ℕ, List, Option, Some, None, string_bytes}
 use Rattle.clap.specs.declared.error.kind.ErrorKind.{ErrorKind}
 use Rattle.clap.specs.declared.error.kind.ErrorKind.TheVariants as kind
 use Rattle.kmip_commands.specs.declared.exit_status.ExitStatus.{ExitStatus}
 use Rattle.kmip_commands.specs.declared.exit_status.ExitStatus.TheVariants.{Done, Failed, Usage}
 use Rattle.kmip_commands.specs.declared.fault.CommandFault.TheVariants.{NoMemory}
+use Rattle.kmip_command_line.specs.declared.Choice.{Choice}
+use Rattle.kmip_command_line.specs.declared.Choice.TheVariants.{Check, CheckAfter}
 
 -- by the kind of the error: help and the version are no fault
 abbrev pub status_of : ErrorKind → ExitStatus
@@ -12,3 +15,9 @@ status_of kind.DisplayHelp = Done
 status_of kind.DisplayVersion = Done
 status_of kind.OutOfMemory = Failed NoMemory
 status_of other = Usage
+
+-- Private: the choice is to check the plan at this path, after the one at the other path where there is one
+abbrev pub IsCheckOf : List ℕ → Option (List ℕ) → Choice → Type 0
+IsCheckOf plan None (Check path) = string_bytes path ≡ plan
+IsCheckOf plan (Some earlier) (CheckAfter path other) = (string_bytes path ≡ plan) × (string_bytes other ≡ earlier)
+IsCheckOf plan earlier choice = ⊥

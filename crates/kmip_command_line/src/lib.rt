@@ -1,11 +1,11 @@
 //! The words of the command line of `kmipctl`, what they ask for, and the program that does it.
 #![tactic(auto)]
 
-ghost use Rattle.std.specs.Prelude.{◌≡◌, if◌then◌else◌};
+ghost use Rattle.std.specs.Prelude.{◌≡◌, IfOk, option_map, if◌then◌else◌};
 ghost use Rattle.clap.specs.Words.{kind_of};
 ghost use Rattle.kmip_commands.specs.declared.showing.Form.TheVariants.{Text, Canonical};
 ghost use Rattle.kmip_command_line.specs.declared.Choice.TheVariants.{Answer, AnswerStream};
-ghost use Rattle.kmip_command_line.specs.Choices.{status_of};
+ghost use Rattle.kmip_command_line.specs.Choices.{IsCheckOf, status_of};
 
 mod running;
 
@@ -28,7 +28,8 @@ Without words it does `answer`. Everything is printed on standard output.
 
 Exit status:
   0  nothing was refused
-  1  a line, a stream or a plan was refused, or reading, writing or memory failed
+  1  a line, a stream or a plan was refused, a plan does not prolong the earlier one, or reading,
+     writing or memory failed
   2  the command line is wrong
 
 Example, bytes that are no message, and the reply Invalid Message as text:
@@ -86,9 +87,18 @@ The whole plan is judged before anything is printed. One with a fault prints its
 `plan refused: 4 Missing length at key 1`: the fault's number, its name, the field where there is one,
 and the place of the key, where 0 is beside the keys. Of a field that plans do not have, a byte that is
 no plain character is printed as a backslash and two digits. A file that cannot be read as text prints
-`cannot read PATH`, and one of more than 16,777,216 bytes `longer than 16777216 bytes: PATH`.";
+`cannot read PATH`, and one of more than 16,777,216 bytes `longer than 16777216 bytes: PATH`.
+
+With --after it also says whether the plan prolongs an earlier one, so that all that was done by the
+earlier plan is a beginning of what this one wants. The keys of the earlier plan have to come first, in
+the same order, and each with the same algorithm, length and usage, a target whose steps begin with the
+steps to its earlier target, and, where a Revoke was among those, the same reason. New keys come after
+them. Below the lines of the keys stands `prolongs`, or `prolongs not` with the exit status 1. Both files
+are read, and then both plans judged, before anything is printed: this plan first, then the earlier one.";
 
 const PLAN: &str = "The file of the plan";
+
+const AFTER: &str = "The file of an earlier plan, which the plan is to prolong";
 
 const CANON: &str = "Print the item's one written form, the padding zero, in lower-case digits";
 
@@ -102,6 +112,13 @@ pub enum Choice {
     Show(Form),
     /// Check the plan at this path.
     Check(String),
+    /// Check the plan at the first path, and whether it prolongs the one at the other.
+    CheckAfter {
+        /// The path of the plan.
+        plan: String,
+        /// The path of the earlier plan.
+        earlier: String,
+    },
 }
 
 /// What the words ask for; the first is the program's name.
@@ -115,9 +132,8 @@ pub fn chosen(alloc: Global, words: &[String]) -> Result<Choice, Error> {
         Some(("answer", options)) => Ok(answer_of(options.get_flag("stream"))),
         Some(("show", options)) => Ok(Choice::Show(form_of(options.get_flag("canon")))),
         Some(("check", options)) => {
-            let path = options.get_str("plan").unwrap_or("");
-            let path = String::from_str(alloc, path)?;
-            Ok(Choice::Check(path))
+            let plan = options.get_str("plan").unwrap_or("");
+            Ok(check_of(alloc, plan, options.get_str("after"))?)
         }
         _ => Ok(Choice::Answer),
     }
@@ -142,6 +158,21 @@ fn form_of(is_canonical: bool) -> Form
         Form::Canonical
     } else {
         Form::Text
+    }
+}
+
+/// What to check: the plan at a path, after the earlier one where there is a path of one.
+fn check_of(alloc: Global, plan: &str, earlier: Option<&str>) -> Result<Choice, AllocError>
+    ensures { IfOk result
+        (IsCheckOf plan.now (option_map (λ path. path.now) earlier.entry)) }
+{
+    let plan = String::from_str(alloc, plan)?;
+    match earlier {
+        Some(earlier) => {
+            let earlier = String::from_str(alloc, earlier)?;
+            Ok(Choice::CheckAfter { plan, earlier })
+        }
+        None => Ok(Choice::Check(plan)),
     }
 }
 
@@ -180,10 +211,15 @@ fn command<'a>(alloc: Global) -> Result<Command<'a>, AllocError> {
         .value_name("PATH")
         .help(PLAN)
         .required(true);
+    let after = Arg::new(alloc, "after")
+        .long("after")
+        .value_name("PATH")
+        .help(AFTER);
     let check = Command::new(alloc, "check")
         .about(CHECK)
         .long_about(CHECK_LONG)
-        .arg(plan)?;
+        .arg(plan)?
+        .arg(after)?;
     Command::new(alloc, "kmipctl")
         .version(VERSION)
         .about(ABOUT)

@@ -2,7 +2,8 @@
 
 use crate::{Choice, chosen, status_of};
 use kmip_commands::{
-    CommandFault, ExitStatus, Form, run_answer, run_answer_stream, run_check, run_show,
+    CommandFault, ExitStatus, Form, run_answer, run_answer_stream, run_check, run_check_after,
+    run_show,
 };
 use std::io::{BufReader, BufWriter, Error, ErrorKind, Read};
 use std::process::ExitCode;
@@ -48,6 +49,9 @@ fn run_command(rt: &HostRuntime) -> io::Result<ExitStatus> {
         Ok(Choice::AnswerStream) => answer_stream_input(rt),
         Ok(Choice::Show(form)) => show_input(rt, form),
         Ok(Choice::Check(path)) => check_plan(rt, path.as_str()),
+        Ok(Choice::CheckAfter { plan, earlier }) => {
+            check_plan_after(rt, plan.as_str(), earlier.as_str())
+        }
         Err(error) => {
             let status = status_of(&error);
             if status == ExitStatus::Failed(CommandFault::NoMemory) {
@@ -82,21 +86,39 @@ fn show_input(rt: &HostRuntime, form: Form) -> io::Result<ExitStatus> {
 
 /// The command `check` from a file to standard output.
 fn check_plan(rt: &HostRuntime, path: &str) -> io::Result<ExitStatus> {
+    let Some(plan) = plan_or_why_not(rt, path)? else {
+        return Ok(ExitStatus::Refused);
+    };
+    let mut writer = BufWriter::new(rt.alloc(), io::writer(rt))?;
+    Ok(run_check(rt.alloc(), plan.as_str(), &mut writer))
+}
+
+/// The command `check --after` from two files to standard output.
+fn check_plan_after(rt: &HostRuntime, path: &str, earlier_path: &str) -> io::Result<ExitStatus> {
+    let Some(plan) = plan_or_why_not(rt, path)? else {
+        return Ok(ExitStatus::Refused);
+    };
+    let Some(earlier) = plan_or_why_not(rt, earlier_path)? else {
+        return Ok(ExitStatus::Refused);
+    };
+    let mut writer = BufWriter::new(rt.alloc(), io::writer(rt))?;
+    Ok(run_check_after(rt.alloc(), plan.as_str(), earlier.as_str(), &mut writer))
+}
+
+/// The text of a plan's file; where it has none, or one that is too long, that is printed.
+fn plan_or_why_not(rt: &HostRuntime, path: &str) -> io::Result<Option<String>> {
     match plan_text(rt, path) {
-        Ok(Some(plan)) => {
-            let mut writer = BufWriter::new(rt.alloc(), io::writer(rt))?;
-            Ok(run_check(rt.alloc(), plan.as_str(), &mut writer))
-        }
+        Ok(Some(plan)) => Ok(Some(plan)),
         Ok(None) => {
             rt.println(format_args!("longer than {MOST_PLAN_BYTES} bytes: {path}"))?;
-            Ok(ExitStatus::Refused)
+            Ok(None)
         }
         Err(error) => {
             if error.kind() == ErrorKind::OutOfMemory {
                 return Err(error);
             }
             rt.println(format_args!("cannot read {path}"))?;
-            Ok(ExitStatus::Refused)
+            Ok(None)
         }
     }
 }

@@ -1,6 +1,6 @@
--- What `check` writes for a plan.
+-- What `check` writes for a plan, alone or after an earlier one.
 -- Source: own: what the program prints.
-use Rattle.std.specs.Prelude.{ℕ, ℤ, Bool, true, false, List, [], ◌∷◌, ◌++◌, codes, Option, Some, None, Result, Ok, Err}
+use Rattle.std.specs.Prelude.{⊤, ℕ, ℤ, Bool, true, false, List, [], ◌∷◌, ◌++◌, codes, Option, Some, None, Result, Ok, Err}
 use Rattle.std.specs.Fmt.{decimal, signed_decimal}
 use Rattle.std.specs.Int.{w32, cast_unsigned, to_be_bytes}
 use Rattle.std.specs.List.{flat_map}
@@ -10,6 +10,7 @@ use Rattle.kmip_messages.specs.Lifecycle.{step_word}
 use Rattle.kmip_messages.specs.declared.step.Step.{Step}
 use Rattle.kmip_plan.specs.Chains.{chain}
 use Rattle.kmip_plan.specs.Faults.{plan_fault_number, plan_fault_name, plan_fault_field, plan_fault_place}
+use Rattle.kmip_plan.specs.Prolonging.{Prolongs}
 use Rattle.kmip_plan.specs.Words.{algorithm_word, target_word}
 use Rattle.kmip_plan.specs.declared.fault.PlanFault.{PlanFault}
 use Rattle.kmip_plan.specs.declared.fault.PlanFault.TheVariants.{NoMemory}
@@ -80,6 +81,24 @@ check_text (Err fault) = plan_refusal_text fault
 abbrev pub is_plan_refused : Result (List Key) PlanFault → Bool
 is_plan_refused (Ok keys) = false
 is_plan_refused (Err fault) = true
+
+-- the last line, where a plan and an earlier one are read: the first is refused where it does not prolong the other
+abbrev pub prolonging_text : Bool → List ℕ
+prolonging_text false = codes "prolongs\n"
+prolonging_text true = codes "prolongs not\n"
+
+-- what is written for what was read of a plan and of an earlier one, by whether something is refused: the first that is no plan
+-- is refused alone
+abbrev pub check_after_text : Bool → Result (List Key) PlanFault → Result (List Key) PlanFault → List ℕ
+check_after_text refused (Err fault) earlier = plan_refusal_text fault
+check_after_text refused (Ok keys) (Err fault) = plan_refusal_text fault
+check_after_text refused (Ok keys) (Ok earlier) = keys_text keys ++ prolonging_text refused
+
+-- one of the two is no plan, or the plan does not prolong the earlier one
+abbrev pub IsRefusedAfter : Result (List Key) PlanFault → Result (List Key) PlanFault → Type 0
+IsRefusedAfter (Err fault) earlier = ⊤
+IsRefusedAfter (Ok keys) (Err fault) = ⊤
+IsRefusedAfter (Ok keys) (Ok earlier) = ¬ Prolongs keys earlier
 
 -- Private: want of memory is no refusal
 abbrev pub is_memory : PlanFault → Bool

@@ -84,7 +84,7 @@ fn push_judgement(alloc: Global, plan: &str, text: &mut Vec<u8>) -> Result<bool,
 }
 
 /// Appends a line for each key of the plan.
-fn push_keys(alloc: Global, plan: &Plan, text: &mut Vec<u8>) -> Result<(), NoMemory>
+pub(crate) fn push_keys(alloc: Global, plan: &Plan, text: &mut Vec<u8>) -> Result<(), NoMemory>
     ensures { OnOk result (text.new.items ≡ text.old.items ++ keys_text plan.now) }
 {
     for index in 0..plan.count() {
@@ -158,7 +158,11 @@ fn push_step(text: &mut String, step: Step) -> Result<(), NoMemory>
 }
 
 /// Appends why a text is no plan; want of memory is no reason.
-fn push_refusal(alloc: Global, fault: &PlanFault, text: &mut Vec<u8>) -> Result<(), NoMemory>
+pub(crate) fn push_refusal(
+    alloc: Global,
+    fault: &PlanFault,
+    text: &mut Vec<u8>,
+) -> Result<(), NoMemory>
     ensures known { OnOk result (is_memory fault.now ≡ false) }
     ensures text { OnOk result (text.new.items ≡ text.old.items ++ plan_refusal_text fault.now) }
 {

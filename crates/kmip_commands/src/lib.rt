@@ -1,13 +1,15 @@
 //! The commands of `kmipctl`, each a public function over a reader and a writer.
 //!
-//! `answer`, `answer_stream`, `show_lines` and `check` do the work of their commands and return a fault
-//! as a value; `run_answer`, `run_answer_stream`, `run_show` and `run_check` also print the fault and
-//! say how the program ends. `answer_bytes`, `answer_stream_bytes`, `show_bytes` and `check_bytes` do
-//! the same work in memory, where nothing but memory can fail.
+//! `answer`, `answer_stream`, `show_lines`, `check` and `check_after` do the work of their commands and
+//! return a fault as a value; `run_answer`, `run_answer_stream`, `run_show`, `run_check` and
+//! `run_check_after` also print the fault and say how the program ends. `answer_bytes`,
+//! `answer_stream_bytes`, `show_bytes`, `check_bytes` and `check_after_bytes` do the same work in
+//! memory, where nothing but memory can fail.
 #![tactic(auto)]
 
 mod answering;
 mod checking;
+mod checking_after;
 mod exit_status;
 mod fault;
 mod finishing;
@@ -20,6 +22,7 @@ mod streaming;
 
 pub use answering::{answer, answer_bytes, run_answer};
 pub use checking::{check, check_bytes, run_check};
+pub use checking_after::{check_after, check_after_bytes, run_check_after};
 pub use exit_status::ExitStatus;
 pub use fault::CommandFault;
 pub use showing::{Form, run_show, show_bytes, show_lines};

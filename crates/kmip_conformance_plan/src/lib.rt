@@ -9,3 +9,5 @@ mod long_texts;
 mod plan_rows;
 #[cfg(test)]
 mod planning;
+#[cfg(test)]
+mod prolonging;

@@ -10,7 +10,7 @@ use std::process::Abort;
 use std::test::Fail;
 
 /// The text of one key, after some changes.
-fn changed(alloc: Global, changes: &[(&str, &str)]) -> Result<String, AllocError> {
+pub fn changed(alloc: Global, changes: &[(&str, &str)]) -> Result<String, AllocError> {
     let mut text = String::from_str(alloc, KEY)?;
     for (old, new) in changes {
         text = text.as_str().replace(alloc, *old, *new)?;
