@@ -1,9 +1,11 @@
 //! A baseline for `kmipctl answer`: the same work in plain Rust, with std alone and without contracts.
 //!
 //! It prints the bytes that `kmipctl answer` prints for the same input. The objects stand in a `Vec`,
-//! and every look-up is a search through it, as in the store of `kmipctl`. Key material, which no reply
-//! shows, is zeros here and not drawn from ChaCha20.
+//! and every look-up goes by one of two maps, from the names and from the identifiers, as in the store
+//! of `kmipctl`; the maps are std's. Key material, which no reply shows, is zeros here and not drawn
+//! from ChaCha20.
 
+use std::collections::HashMap;
 use std::io::{self, BufRead, BufReader, BufWriter, Read, Write};
 use std::process::ExitCode;
 
@@ -249,6 +251,10 @@ type Outcome<'a> = Result<Option<&'a Row>, Reason>;
 #[derive(Default)]
 struct Server {
     rows: Vec<Row>,
+    /// From the name of each row to its place.
+    names: HashMap<String, usize>,
+    /// From its identifier.
+    uids: HashMap<String, usize>,
 }
 
 impl Server {
@@ -271,8 +277,8 @@ impl Server {
             LOCATE => self.locate(payload?),
             GET_ATTRIBUTES => {
                 let uid = read_uid(payload?)?;
-                let found = self.rows.iter().find(|row| row.uid == uid);
-                found.map(Some).ok_or(NOT_FOUND)
+                let place = *self.uids.get(uid).ok_or(NOT_FOUND)?;
+                Ok(Some(&self.rows[place]))
             }
             ACTIVATE => self.step(read_uid(payload?)?, &[PreActive], Active),
             REVOKE => {
@@ -304,12 +310,14 @@ impl Server {
         check(is_lawful, INVALID_FIELD)?;
         let usage = *the(attrs, USAGE_MASK, Value::integer)?;
         check((1..=0x1FF).contains(&usage), INVALID_FIELD)?;
-        if self.rows.iter().any(|row| row.name == name) {
-            return Err(SAME_NAME);
-        }
-        check(self.rows.len() < ROOM, SERVER_FULL)?;
+        check(!self.names.contains_key(name), SAME_NAME)?;
+        let place = self.rows.len();
+        check(place < ROOM, SERVER_FULL)?;
+        let uid = (place + 1).to_string();
+        self.names.insert(name.to_owned(), place);
+        self.uids.insert(uid.clone(), place);
         self.rows.push(Row {
-            uid: (self.rows.len() + 1).to_string(),
+            uid,
             name: name.to_owned(),
             algorithm,
             length,
@@ -332,10 +340,10 @@ impl Server {
         let length = maybe(attrs, LENGTH, Value::integer)?;
         let usage = maybe(attrs, USAGE_MASK, Value::integer)?;
         let state = maybe(attrs, STATE, Value::enumeration)?;
-        Ok(self.rows.iter().find(|row| {
+        let found = self.names.get(name).map(|place| &self.rows[*place]);
+        Ok(found.filter(|row| {
             let bit = if row.state == State::Destroyed { 4 } else { 1 };
             mask & bit != 0
-                && name == row.name
                 && object_type.is_none_or(|given| *given == SYMMETRIC_KEY)
                 && algorithm.is_none_or(|given| *given == row.algorithm)
                 && length.is_none_or(|given| *given == row.length)
@@ -345,8 +353,8 @@ impl Server {
     }
 
     fn step(&mut self, uid: &str, from: &[State], to: State) -> Outcome<'_> {
-        let mut rows = self.rows.iter_mut();
-        let row = rows.find(|row| row.uid == uid).ok_or(NOT_FOUND)?;
+        let place = *self.uids.get(uid).ok_or(NOT_FOUND)?;
+        let row = &mut self.rows[place];
         check(from.contains(&row.state), WRONG_STATE)?;
         row.state = to;
         if to == State::Destroyed {

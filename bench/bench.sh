@@ -4,20 +4,26 @@
 #
 #     bench/bench.sh PROGRAM
 #
-# Both programs answer the same input, and have to print the same bytes. A time is the least of five
-# runs, which the two programs take in turn. It is processor time, the system's included, so other
-# work on the machine disturbs it little. Then the script prints how the cost of a request grows with
-# the rows of the server. The exit status is 1 where the outputs differ, and 0 whatever the times are.
+# Both programs answer the same input, and have to print the same bytes. A time is the least of seven
+# runs, which the two programs take in turn; a short one is the mean of several runs at a time. It is
+# processor time, the system's included, so other work on the machine disturbs it little. First come
+# whole loads, then how the cost of a request grows from 10 objects of the server to 10,000, and then
+# the memory that an object takes. The exit status is 1 where the outputs differ, and 0 whatever the
+# times are.
 set -euo pipefail
 export LC_ALL=C
 
 program=$(realpath "$1")
 cd "$(dirname "$0")/.."
 out=out/bench
-requests=100000
-keys=100
-runs=5
-aim=2
+runs=7
+# How long each request of a load of 10,000 objects may take, and how much its cost may grow, by the
+# baseline's; how long one of a load of 100 objects may take; and the bytes of an object beyond its
+# data.
+aim=1.5
+growth_aim=1.3
+small_aim=2
+memory_aim=300
 
 TIMEFORMAT='%3U %3S'
 
@@ -26,26 +32,26 @@ build() {
     rustc --edition 2024 -O -o "$out/$1" "bench/$1.rs"
 }
 
-# Answers the input $1 by the program that the further words name, and prints the milliseconds of
-# processor time.
-milliseconds() {
-    local input=$1 times
-    shift
-    times=$({ time "$@" < "$input" > "$out/replies"; } 2>&1)
+# Answers the input $1 $2 times by the program that the further words name, and prints the
+# microseconds of processor time that one run took.
+microseconds() {
+    local input=$1 repeats=$2 times
+    shift 2
+    times=$({ time for ((i = 0; i < repeats; i++)); do "$@" < "$input" > "$out/replies"; done; } 2>&1)
     read -r user system <<< "${times//./}"
-    echo $((10#$user + 10#$system))
+    echo $(((10#$user + 10#$system) * 1000 / repeats))
 }
 
-# Sets `ours` and `theirs` to the least milliseconds that kmipctl and the baseline take for the
-# input $1.
+# Sets `ours` and `theirs` to the least microseconds that kmipctl and the baseline take for the input
+# $1, of $2 runs at a time.
 measure() {
-    local input=$1 time
+    local input=$1 repeats=$2 time
     ours=
     theirs=
     for ((run = 0; run < runs; run++)); do
-        time=$(milliseconds "$input" "$program" answer)
+        time=$(microseconds "$input" "$repeats" "$program" answer)
         if [[ -z $ours || $time -lt $ours ]]; then ours=$time; fi
-        time=$(milliseconds "$input" "$out/baseline")
+        time=$(microseconds "$input" "$repeats" "$out/baseline")
         if [[ -z $theirs || $time -lt $theirs ]]; then theirs=$time; fi
     done
 }
@@ -62,36 +68,113 @@ quotient() {
     awk -v a="$1" -v b="$2" -v digits="$3" 'BEGIN { printf "%.*f", digits, (b > 0) ? a / b : 0 }'
 }
 
+# Compares the two programs over a whole input: what it is called, the aim, and the words for
+# bench/input.rs.
+load() {
+    local title=$1 aim=$2
+    shift 2
+    "$out/input" "$@" > "$out/load.hex"
+    compare "$out/load.hex"
+    measure "$out/load.hex" 1
+    printf '%s: kmipctl %s s, baseline %s s, ratio %s (aim: at most %s)\n' "$title" \
+        "$(quotient "$ours" 1000000 3)" "$(quotient "$theirs" 1000000 3)" \
+        "$(quotient "$ours" "$theirs" 2)" "$aim"
+}
+
+# Sets `ours_each` and `theirs_each` to the nanoseconds of one request: what the input of the words
+# from $4 on takes beyond that of the words $3, both $2 runs at a time, by the $1 requests more.
+each() {
+    local requests=$1 repeats=$2 before=$3
+    shift 3
+    # shellcheck disable=SC2086
+    "$out/input" $before > "$out/before.hex"
+    "$out/input" "$@" > "$out/after.hex"
+    compare "$out/after.hex"
+    measure "$out/before.hex" "$repeats"
+    local ours_before=$ours theirs_before=$theirs
+    measure "$out/after.hex" "$repeats"
+    ours_each=$((1000 * (ours - ours_before) / requests))
+    theirs_each=$((1000 * (theirs - theirs_before) / requests))
+}
+
+# Prints a line of the table: the nanoseconds of a request with few objects and with many.
+print_growth() {
+    local title=$1 ours_few=$2 theirs_few=$3 ours_many=$4 theirs_many=$5 growth growth_of_theirs
+    growth=$(quotient "$ours_many" "$ours_few" 2)
+    growth_of_theirs=$(quotient "$theirs_many" "$theirs_few" 2)
+    printf '%-26s %7s %7s %7s %9s %7s %7s %12s\n' "$title" \
+        "$(quotient "$ours_few" 1000 2)" "$(quotient "$ours_many" 1000 2)" "$growth" \
+        "$(quotient "$theirs_few" 1000 2)" "$(quotient "$theirs_many" 1000 2)" "$growth_of_theirs" \
+        "$(quotient "$growth" "$growth_of_theirs" 2)"
+}
+
+# Prints how the cost of the request that bench/input.rs knows by the word $2 grows.
+growth() {
+    local title=$1 word=$2 requests=100000 few
+    each "$requests" 1 'create 10' "$word" 10 "$requests"
+    few=("$ours_each" "$theirs_each")
+    each "$requests" 1 'create 10000' "$word" 10000 "$requests"
+    print_growth "$title" "${few[@]}" "$ours_each" "$theirs_each"
+}
+
+# Prints how the cost of a Create that makes an object grows: of the first thousand, and of the last.
+growth_of_creates() {
+    local few
+    each 990 40 'create 10' create 1000
+    few=("$ours_each" "$theirs_each")
+    each 1000 5 'create 9000' create 10000
+    print_growth 'Create, a new name' "${few[@]}" "$ours_each" "$theirs_each"
+}
+
+# Prints the kilobytes that a program had resident at the most while it answered the input $1; the
+# further words name the program.
+resident() {
+    local input=$1 pid
+    shift
+    rm -f "$out/fifo"
+    mkfifo "$out/fifo"
+    "$@" < "$out/fifo" > "$out/replies" &
+    pid=$!
+    exec 3> "$out/fifo"
+    cat "$input" >&3
+    # A program writes what it holds back before it waits for input.
+    until (($(wc -l < "$out/replies") == $(wc -l < "$input"))); do sleep 0.02; done
+    awk '$1 == "VmHWM:" { print $2 }' "/proc/$pid/status"
+    exec 3>&-
+    wait "$pid"
+}
+
+# Prints the bytes that an object takes beyond its data, which are its name, its identifier and its
+# material.
+memory() {
+    local title=$1 few many data
+    shift
+    "$out/input" create 10 > "$out/few.hex"
+    "$out/input" create 10000 > "$out/many.hex"
+    few=$(resident "$out/few.hex" "$@")
+    many=$(resident "$out/many.hex" "$@")
+    # Names of nine characters, identifiers of 3.9 on the average, keys of 256 bits.
+    data=45
+    echo "$title: $(((many - few) * 1024 / 9990 - data)) bytes an object beyond its data (aim: at most $memory_aim)"
+}
+
 mkdir -p "$out"
 build baseline
 build input
 
-"$out/input" mix "$requests" "$keys" > "$out/mix.hex"
-compare "$out/mix.hex"
-measure "$out/mix.hex"
-printf '%d requests over %d keys: kmipctl %s s, baseline %s s, ratio %s (aim: at most %s)\n' \
-    "$requests" "$keys" "$(quotient "$ours" 1000 3)" "$(quotient "$theirs" 1000 3)" \
-    "$(quotient "$ours" "$theirs" 2)" "$aim"
+load '100000 requests over 100 objects' "$small_aim" mix 100000 100
+load '100000 requests over 10000 objects' "$aim" mix 100000 10000
+load '100000 Locates over 10000 objects' "$aim" locate 10000 100000
+load '10000 Creates' "$aim" create 10000
 
-echo 'microseconds a request, by the rows of the server:'
-printf '%-34s %8s %8s %9s\n' request rows kmipctl baseline
-for rows in 10 100 1000 10000; do
-    # The fewer rows there are, the less a request takes, and the more of them it needs to see it.
-    repeated=$((rows < 10000 ? 50000 : 5000))
-    "$out/input" create "$rows" > "$out/creates.hex"
-    measure "$out/creates.hex"
-    ours_before=$ours
-    theirs_before=$theirs
-    for request in locate activate; do
-        case $request in
-            locate) title='Locate of the last name' ;;
-            activate) title='Activate of an unknown identifier' ;;
-        esac
-        "$out/input" "$request" "$rows" "$repeated" > "$out/grown.hex"
-        compare "$out/grown.hex"
-        measure "$out/grown.hex"
-        printf '%-34s %8d %8s %9s\n' "$title" "$rows" \
-            "$(quotient $((1000 * (ours - ours_before))) "$repeated" 1)" \
-            "$(quotient $((1000 * (theirs - theirs_before))) "$repeated" 1)"
-    done
-done
+echo "microseconds a request with 10 objects and with 10,000, and the growth (aim: at most $growth_aim times the baseline's):"
+printf '%-26s %7s %7s %7s %9s %7s %7s %12s\n' request kmipctl 10,000 growth baseline 10,000 growth 'by baseline'
+growth 'Locate that finds' locate
+growth 'Locate that finds nothing' miss
+growth 'Get Attributes' get
+growth Activate activate
+growth 'Create, a used name' again
+growth_of_creates
+
+memory kmipctl "$program" answer
+memory baseline "$out/baseline"

@@ -5,9 +5,10 @@
 //! that is in play, and of ten such requests three are a Locate, three a Get Attributes, and one each
 //! a Create (of a used name), an Activate, a Revoke and a Destroy, drawn by a simple generator.
 //!
-//! `create ROWS` writes the Creates of so many keys. `locate ROWS REQUESTS` writes them, and then so
-//! many Locates of the last name; `activate ROWS REQUESTS` writes so many Activates of an identifier
-//! that no key has.
+//! `create ROWS` writes the Creates of so many keys. The others write them, and then so many requests
+//! about keys that are drawn among them: `locate ROWS REQUESTS` a Locate of the key's name each, `miss`
+//! a Locate of a name that no key has, `get` a Get Attributes, `activate` an Activate (only the first
+//! of a key takes effect), and `again` a Create of its name, which is used.
 
 use std::io::{self, BufWriter, Write};
 
@@ -118,10 +119,11 @@ fn mix(requests: usize, keys: usize) -> Vec<Vec<u8>> {
     messages
 }
 
-/// The Creates of so many keys, and then the same message so many times.
-fn after_creates(rows: usize, requests: usize, message: &[u8]) -> Vec<Vec<u8>> {
+/// The Creates of so many keys, and then so many messages about keys that are drawn among them.
+fn after_creates(rows: usize, requests: usize, message: fn(usize) -> Vec<u8>) -> Vec<Vec<u8>> {
+    let mut state = 1;
     let mut messages: Vec<_> = (1..=rows).map(create).collect();
-    messages.resize(rows + requests, message.to_vec());
+    messages.extend((0..requests).map(|_| message(draw(&mut state, rows) + 1)));
     messages
 }
 
@@ -131,14 +133,17 @@ fn main() -> io::Result<()> {
     let number = |word: &str| word.parse::<usize>().map_err(io::Error::other);
     let messages = match words[..] {
         ["mix", requests, keys] => mix(number(requests)?, number(keys)?),
-        ["create", rows] => after_creates(number(rows)?, 0, &[]),
-        ["locate", rows, requests] => {
-            let message = locate(number(rows)?);
-            after_creates(number(rows)?, number(requests)?, &message)
-        }
-        ["activate", rows, requests] => {
-            let message = activate(number(rows)? + 1);
-            after_creates(number(rows)?, number(requests)?, &message)
+        ["create", rows] => (1..=number(rows)?).map(create).collect(),
+        [word, rows, requests] => {
+            let message = match word {
+                "locate" => locate,
+                "miss" => |key| locate(key + 50_000),
+                "get" => get_attributes,
+                "activate" => activate,
+                "again" => create,
+                _ => return Err(io::Error::other("see the head of bench/input.rs")),
+            };
+            after_creates(number(rows)?, number(requests)?, message)
         }
         _ => return Err(io::Error::other("see the head of bench/input.rs")),
     };

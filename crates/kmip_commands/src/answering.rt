@@ -13,7 +13,7 @@ use crate::fault::CommandFault;
 use crate::finishing::finished;
 use crate::replies::push_hex;
 use crate::responding::{Respond, respond_to_bytes, respond_to_lines};
-use kmip_server::{ListStore, Server};
+use kmip_server::{IndexedStore, Server};
 use kmip_store::MOST_ROOM;
 use kmip_ttlv::NoMemory;
 use std::alloc::Global;
@@ -78,17 +78,17 @@ pub fn answer_bytes(alloc: Global, input: &[u8], output: &mut Vec<u8>) -> Result
 }
 
 /// The server that answers: without rows at first.
-pub(crate) fn new_server(alloc: Global) -> Server<ListStore>
+pub(crate) fn new_server(alloc: Global) -> Server<IndexedStore>
     ensures { result ≡ first_stock }
 {
-    let store = ListStore::new(alloc, SEED, MOST_ROOM);
+    let store = IndexedStore::new(alloc, SEED, MOST_ROOM);
     Server::new(store)
 }
 
 /// Appends the server's reply to a message.
 pub(crate) fn push_reply(
     alloc: Global,
-    server: &mut Server<ListStore>,
+    server: &mut Server<IndexedStore>,
     message: &[u8],
     text: &mut Vec<u8>,
 ) -> Result<(), NoMemory>
@@ -103,7 +103,7 @@ pub(crate) fn push_reply(
 /// Answers a message by a server's reply.
 #[derive(Drop)]
 struct Answerer {
-    server: Server<ListStore>,
+    server: Server<IndexedStore>,
 }
 
 impl Respond for Answerer {

@@ -15,7 +15,7 @@ use crate::finishing::finished;
 use crate::replies::{push_text, send};
 use crate::responding::{Respond, respond_to_bytes, respond_to_lines};
 use kmip_frames::{FrameFault, Framer};
-use kmip_server::{ListStore, Server};
+use kmip_server::{IndexedStore, Server};
 use kmip_ttlv::NoMemory;
 use std::alloc::Global;
 use std::io::{BufRead, Write};
@@ -139,7 +139,7 @@ pub fn answer_stream_bytes(
 /// Answers the messages of a stream by a server's replies.
 #[derive(Drop)]
 struct Streamer {
-    server: Server<ListStore>,
+    server: Server<IndexedStore>,
     framer: Framer,
 }
 

@@ -6,5 +6,5 @@ pub mod laws;
 mod reasons;
 mod server;
 
-pub use kmip_store::{ListStore, Records};
+pub use kmip_store::{IndexedStore, ListStore, Records};
 pub use server::Server;

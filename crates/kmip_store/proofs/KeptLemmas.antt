@@ -131,10 +131,11 @@ free_identifier place n (r ∷ rows) numbered within small =
     omega (arith, equal, within)) in
     rw other (free_identifier (place + 1) n rows numbered.1 (omega (arith, within)) small)
 
+pub next_free : (rows : List Row) (room : ℕ) → IsKept rows room → length rows < room → row_with (identifier_at (length rows)) rows ≡ None
+next_free rows room kept roomy =
+    free_identifier 0 (length rows) rows kept.numbered (omega arith) (omega (arith, kept.small, roomy))
+
 -- the identifier of the next object
 pub next_identifier : (s : Stock) → IsKept s.rows s.room → length s.rows < s.room
     → (is_identifier (identifier_at (length s.rows)) ≡ true) × (row_with (identifier_at (length s.rows)) s.rows ≡ None)
-next_identifier s kept roomy = (
-  decimal_identifier (length s.rows + 1) (omega (arith, kept.small, roomy)),
-  free_identifier 0 (length s.rows) s.rows kept.numbered (omega arith) (omega (arith, kept.small, roomy)),
-)
+next_identifier s kept roomy = (decimal_identifier (length s.rows + 1) (omega (arith, kept.small, roomy)), next_free s.rows s.room kept roomy)

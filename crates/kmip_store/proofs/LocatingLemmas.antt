@@ -1,14 +1,17 @@
 -- At most one row has the name that a Locate gives.
-use Rattle.std.proofs.Common.{◌≡◌, ℕ, Bool, false, nat_eq, ℤ, List, [], ◌∷◌, Option, Some, None, refl, sym, ap, ◌∙◌, inl, inr}
+use Rattle.std.proofs.Common.{if◌then◌else◌, ◌≡◌, ℕ, Bool, false, nat_eq, ℤ, List, [], ◌∷◌, Option, Some, None, refl, sym, ap, ◌∙◌, inl, inr}
 use Rattle.std.specs.Cmp.Lexicographic.{pointwise}
-use Rattle.std.specs.List.{find}
+use Rattle.std.specs.List.{find, position, list_any}
 use Rattle.std.specs.Option.{option_map, option_to_list, IsSome}
-use Rattle.std.proofs.lemmas.Bool.{and_right, or_parts, cases_Bool, both_ways, false≢true}
+use Rattle.std.proofs.lemmas.Bool.{and_right, or_parts, cases_Bool, both_ways, false≢true, cond-true, cond-false}
+use Rattle.std.proofs.lemmas.Option.{none-some, same_Some}
 use Rattle.std.proofs.lemmas.Slice.Eq.{bytes_eq-Decides}
 use Rattle.kmip_messages.specs.Objects.{Object}
 use Rattle.kmip_messages.specs.declared.request.Attrs.{Attrs}
 use Rattle.kmip_store.specs.declared.row.Row.{Row}
 use Rattle.kmip_store.specs.Stock.{object_of, objects_of, has_row_named, HaveOwnNames}
+use Rattle.kmip_store.proofs.PlaceLemmas.{none_passes, any_map}
+use Rattle.kmip_store.specs.Indexing.{names_of}
 use Rattle.kmip_store.specs.Locating.{is_searched, has_given, is_wanted, locate}
 
 -- the test of a row by what a Locate gives
@@ -53,3 +56,38 @@ pub located_is : (mask : Option ℤ) (given : Attrs) (rows : List Row) (found : 
 located_is mask given rows found some named is =
     let name = name_of given.name some in
     first_located mask given name.0 rows name.1 named ∙ ap (λ o. option_to_list (option_map (λ r. r.uid) o)) (sym is)
+
+-- the test of a row by its name
+abbrev pub has_name : List ℕ → Row → Bool
+has_name name r = pointwise nat_eq name r.attrs.name
+
+none_wanted : (mask : Option ℤ) (given : Attrs) (name : List ℕ) (rows : List Row) → given.name ≡ Some name
+    → has_row_named name rows ≡ false → find (wants mask given) rows ≡ None
+none_wanted mask given name [] is free = refl
+none_wanted mask given name (r ∷ rows) is free =
+    let parts = or_parts _ (has_row_named name rows) free in
+    rw (unwanted mask given name (object_of r) is parts.0) (none_wanted mask given name rows is parts.1)
+
+-- where no row has the name, none is wanted
+pub unnamed_unwanted : (mask : Option ℤ) (given : Attrs) (name : List ℕ) (rows : List Row) → given.name ≡ Some name
+    → position (has_name name) rows ≡ None → find (wants mask given) rows ≡ None
+unnamed_unwanted mask given name rows is nowhere = none_wanted mask given name rows is (none_passes (has_name name) rows nowhere)
+
+-- the row with the name is the only one that may be wanted
+pub named_wanted : (mask : Option ℤ) (given : Attrs) (name : List ℕ) (rows : List Row) (row : Row) → given.name ≡ Some name → HaveOwnNames rows
+    → find (has_name name) rows ≡ Some row → find (wants mask given) rows ≡ (if wants mask given row then Some row else None)
+named_wanted mask given name [] row is own found = absurd (none-some row found)
+named_wanted mask given name (r ∷ rows) row is own found = elim (cases_Bool (pointwise nat_eq name r.attrs.name)) [
+  | inl same ↦
+      let first : r ≡ row = same_Some r row (sym (cond-true _ (Some r) (find (has_name name) rows) same) ∙ found) in
+      let free : has_row_named name rows ≡ false = ap (λ n. has_row_named n rows) ((bytes_eq-Decides name r.attrs.name).0 same) ∙ own.0 in
+      rw (← first, none_wanted mask given name rows is free) refl
+  | inr other ↦
+      rw (unwanted mask given name (object_of r) is other)
+      (named_wanted mask given name rows row is own.1 (sym (cond-false _ (Some r) (find (has_name name) rows) other) ∙ found))
+]
+
+-- the map from the names knows which names are used
+pub has_named : (rows : List Row) (names : List (List ℕ)) (name : List ℕ) → names ≡ names_of rows
+    → list_any (pointwise nat_eq name) names ≡ has_row_named name rows
+has_named rows names name is = ap (list_any (pointwise nat_eq name)) is ∙ any_map (λ r. r.attrs.name) (pointwise nat_eq name) rows

@@ -1,12 +1,12 @@
 -- One row in another state.
-use Rattle.std.proofs.Common.{◌≡◌, ℕ, ◌+◌, ◌<◌, ◌≤◌, zero, suc, Bool, true, false, nat_eq, List, [], ◌∷◌, length, get_or, ltb, set, Option, Some, None, refl, sym, ap, ◌∙◌, inl, inr, arith}
+use Rattle.std.proofs.Common.{◌≡◌, ℕ, ◌+◌, ◌<◌, ◌≤◌, zero, suc, Bool, true, false, nat_eq, List, [], ◌∷◌, length, get_or, ltb, set, Option, Some, refl, sym, ap, ◌∙◌, arith}
 use Rattle.std.specs.Cmp.Lexicographic.{pointwise}
 use Rattle.std.specs.Fmt.{decimal}
 use Rattle.std.specs.List.{find, position, position_or_len, slice_get}
-use Rattle.std.proofs.lemmas.Bool.{cases_Bool, false_from_ne_true, cond-true, cond-false, ltb-true, ltb-false}
+use Rattle.std.proofs.lemmas.Bool.{false_from_ne_true, cond-true, cond-false, ltb-true}
 use Rattle.std.proofs.lemmas.List.Folds.{find_at}
 use Rattle.std.proofs.lemmas.List.Quantifiers.{position-Some}
-use Rattle.std.proofs.lemmas.Option.{none-some, same_Some, cond_some, slice_get_within, slice_get_past, slice_get-get_or}
+use Rattle.std.proofs.lemmas.Option.{none-some, same_Some, cond_some, slice_get_within, slice_get-get_or}
 use Rattle.std.proofs.lemmas.Fmt.{decimal_injective}
 use Rattle.std.proofs.lemmas.Slice.Eq.{bytes_eq-Decides}
 use Rattle.kmip_messages.specs.Lifecycle.{after}
@@ -14,6 +14,8 @@ use Rattle.kmip_messages.specs.declared.state.KeyState.{KeyState}
 use Rattle.kmip_messages.specs.declared.step.Step.{Step}
 use Rattle.kmip_store.specs.declared.row.Row.{Row}
 use Rattle.kmip_store.specs.Stock.{Stock, AreNumbered}
+use Rattle.kmip_store.specs.Indexing.{names_of, uids_of}
+use Rattle.kmip_store.proofs.ForCallers.{moved_uid, moved_attrs}
 use Rattle.kmip_store.specs.Stepping.{row_with, enter, row_in_state, rows_in_state, enter_state, take_step_from, take_step}
 
 -- the test of a row by its identifier
@@ -84,21 +86,28 @@ found_row test rows place row at is =
     let here = slice_get-get_or rows place row (omega (arith, ltb-true _ _ parts.0, parts.1)) in
     find_at test rows ∙ ap (slice_get rows) parts.1 ∙ here ∙ ap Some (sym is)
 
-pub no_row : (test : Row → Bool) (rows : List Row) → position test rows ≡ None → find test rows ≡ None
-no_row test rows is = elim (cases_Bool (ltb (position_or_len test rows) (length rows))) [
-  | inl inside ↦ absurd (none-some (position_or_len test rows) (sym is ∙ cond-true _ (Some (position_or_len test rows)) None inside))
-  | inr outside ↦ find_at test rows ∙ slice_get_past rows (position_or_len test rows) (ltb-false _ _ outside)
-]
+-- the row at a place in another state, its identifier being the only one
+pub stepped_is : (rows new : List Row) (state : KeyState) (place : ℕ) (row : Row) → AreNumbered 0 rows → length rows ≤ 10000
+    → slice_get rows place ≡ Some row → new ≡ set rows place (enter state row)
+    → new ≡ rows_in_state row.uid state rows
+stepped_is rows new state place row numbered small here becomes =
+    becomes ∙ sym (moved_at row.uid state 0 place rows row (numbered_at 0 place rows row numbered here) (omega (arith, small)) numbered here)
 
--- the row that has an identifier in another state
-pub moved_is : (rows new : List Row) (uid : List ℕ) (state : KeyState) (place : ℕ) (row : Row) → AreNumbered 0 rows → length rows ≤ 10000
-    → position (has_uid uid) rows ≡ Some place → row ≡ get_or rows place row → new ≡ set rows place (enter state row)
-    → new ≡ rows_in_state uid state rows
-moved_is rows new uid state place row numbered small at is becomes =
+-- the identifier that a place was found by is that of its row
+pub own_uid : (rows : List Row) (uid : List ℕ) (place : ℕ) (row : Row) → position (has_uid uid) rows ≡ Some place
+    → row ≡ get_or rows place row → uid ≡ row.uid
+own_uid rows uid place row at is =
     let found = position-Some (has_uid uid) rows place row at in
-    let own : uid ≡ row.uid = (bytes_eq-Decides uid row.uid).0 (ap (has_uid uid) is ∙ found.1) in
-    let here : slice_get rows place ≡ Some row = slice_get-get_or rows place row found.0 ∙ ap Some (sym is) in
-    becomes ∙ sym (moved_at uid state 0 place rows row (own ∙ numbered_at 0 place rows row numbered here) (omega (arith, small)) numbered here)
+    (bytes_eq-Decides uid row.uid).0 (ap (has_uid uid) is ∙ found.1)
+
+-- a step changes neither names nor identifiers
+pub names_moved : (uid : List ℕ) (state : KeyState) (rows : List Row) → names_of (rows_in_state uid state rows) ≡ names_of rows
+names_moved uid state [] = refl
+names_moved uid state (r ∷ rows) = rw (moved_attrs uid state r, names_moved uid state rows) refl
+
+pub uids_moved : (uid : List ℕ) (state : KeyState) (rows : List Row) → uids_of (rows_in_state uid state rows) ≡ uids_of rows
+uids_moved uid state [] = refl
+uids_moved uid state (r ∷ rows) = rw (moved_uid uid state r, uids_moved uid state rows) refl
 
 pub step_found : (step : Step) (uid : List ℕ) (s : Stock) (row : Row) (next : Option KeyState) → row_with uid s.rows ≡ Some row
     → next ≡ after row.state step → take_step step uid s ≡ enter_state uid s next

@@ -1,19 +1,19 @@
 //! The records as a plain list.
-ghost use Rattle.std.specs.Prelude.{◌≡◌, ◌≤◌, ◌<◌, length, IfOk};
-ghost use Rattle.kmip_store.specs.Stock.{empty_stock, new_row, material_size, most_room};
+ghost use Rattle.std.specs.Prelude.{◌≡◌, ◌≤◌};
+ghost use Rattle.kmip_store.specs.Stock.{empty_stock, most_room};
 
 use crate::fault::StoreFault;
-use crate::identifying::identifier_at;
+use crate::making::new_row;
 use crate::matching::{first_wanted, has_row_named, row_with};
-use crate::material::{draw, zeroed};
+use crate::material::draw;
 use crate::records::Records;
 use crate::row::Row;
 use crate::stepping::step;
-use kmip_messages::{Attrs, KeyAttrs, KeyState, Step};
+use kmip_messages::{Attrs, KeyAttrs, Step};
 use kmip_ttlv::Text;
 use rand_chacha::ChaCha20Rng;
 use rand_core::SeedableRng;
-use std::alloc::{AllocError, Global};
+use std::alloc::Global;
 use std::marker::Model;
 
 /// The rows in a vector, and every look-up a search through it.
@@ -104,21 +104,4 @@ impl Records for ListStore {
     fn at(&self, place: usize) -> Option<&Row> {
         self.rows.get(place)
     }
-}
-
-/// The row of a new object at a place from 0, with zeros in the place of its material.
-fn new_row(alloc: Global, place: usize, attrs: &KeyAttrs) -> Result<Row, AllocError>
-    requires { place < most_room }
-    ensures row { IfOk result (λ row. row ≡ new_row place attrs.now row.material) }
-    ensures size { IfOk result (λ row. length row.material ≡ material_size attrs.now.length) }
-{
-    let uid = identifier_at(alloc, place)?;
-    let attrs = attrs.copied(alloc)?;
-    let material = zeroed(alloc, attrs.length)?;
-    Ok(Row {
-        uid,
-        attrs,
-        state: KeyState::PreActive,
-        material,
-    })
 }

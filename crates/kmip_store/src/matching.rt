@@ -1,14 +1,17 @@
 //! Rows found by name, by identifier, and by what a Locate gives.
-ghost use Rattle.std.specs.Prelude.{◌≡◌, ◌==◌, nat_eq, true};
+ghost use Rattle.std.specs.Prelude.{◌≡◌, ◌==◌, nat_eq, true, IsSome};
 ghost use Rattle.std.specs.Cmp.Lexicographic.{pointwise};
-ghost use Rattle.std.specs.List.{find};
+ghost use Rattle.std.specs.List.{find, slice_get};
 ghost use Rattle.std.specs.Option.{option_copied, option_map_or};
 ghost use Rattle.std.specs.Ordering.{int_eq};
 ghost use Rattle.kmip_store.specs.Locating.{storage_bit, is_searched, has_given, is_wanted};
 ghost use Rattle.kmip_store.specs.Stepping.{row_with};
-ghost use Rattle.kmip_store.specs.Stock.{has_row_named, object_of};
+ghost use Rattle.kmip_store.specs.Stock.{has_row_named, object_of, HaveOwnNames};
+ghost use Rattle.kmip_store.specs.Indexing.{texts, names_of, uids_of};
 
+use crate::places::place_of;
 use crate::row::Row;
+use indexmap::IndexSet;
 use kmip_messages::standard::{OBJECT_TYPE_SYMMETRIC_KEY, STORAGE_DESTROYED, STORAGE_ON_LINE};
 use kmip_messages::{Attrs, KeyState};
 
@@ -36,6 +39,47 @@ pub(crate) fn first_wanted<'a>(
         (object_of r)) rows.now }
 {
     rows.iter().find(|row| is_wanted(row, mask, filter))
+}
+
+/// The row with the identifier, found by the map from the identifiers.
+pub(crate) fn row_by_index<'a>(
+    rows: &'a [Row],
+    uids: &IndexSet<String>,
+    uid: &str,
+) -> Option<&'a Row>
+    requires { texts uids.now ≡ uids_of rows.now }
+    ensures { option_copied result ≡ row_with uid.now rows.now }
+{
+    row_at(rows, place_of(uids, uid)?)
+}
+
+/// The row with the name that is given, found by the map from the names, if it is wanted too.
+pub(crate) fn wanted_by_index<'a>(
+    rows: &'a [Row],
+    names: &IndexSet<String>,
+    mask: Option<i32>,
+    filter: &Attrs,
+) -> Option<&'a Row>
+    requires names { texts names.now ≡ names_of rows.now }
+    requires own { HaveOwnNames rows.now }
+    requires given { IsSome filter.now.name }
+    ensures { option_copied result ≡ find (λ r. is_wanted mask filter.now
+        (object_of r)) rows.now }
+{
+    let name = filter.name.as_ref()?;
+    let row = row_at(rows, place_of(names, name.as_str())?)?;
+    if is_wanted(row, mask, filter) {
+        Some(row)
+    } else {
+        None
+    }
+}
+
+/// The row at a place.
+fn row_at(rows: &[Row], place: usize) -> Option<&Row>
+    ensures { option_copied result ≡ slice_get rows.now place }
+{
+    rows.get(place)
 }
 
 /// Whether the row is searched under the mask, and has every attribute that is given.
