@@ -52,6 +52,7 @@ impl Progress {
     pub fn write_text(&self, alloc: Global, plan: &Plan) -> Result<Text, AllocError>
         requires { Suits plan.now self.now }
         ensures text { IfOk result (λ text. text ≡ progress_text plan.now self.now) }
+        ensures says { IfOk result (λ text. IsProgressText plan.now text self.now) }
         ensures utf8 { OnOk result (IsTrue (are_texts self.now)) }
     {
         let text = progress_text(alloc, plan.keys(), self.known.as_slice())?;
