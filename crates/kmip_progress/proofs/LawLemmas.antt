@@ -70,23 +70,38 @@ all_own format (key ∷ keys) (known ∷ progress) fits suits texts =
     and_from (entry_fits format (entry_for format key known)) (list_all (entry_fits format) (entries_for format keys progress))
     (own_fits format key known f.0 suits.0 t.0) (all_own format keys progress f.1 suits.1 t.1)
 
+-- what was written for a plan says this of one that prolongs it
+abbrev says_on : (format : Format) (new old : List Key) (progress : List Known) → IsLawful old → Prolongs new old → Suits old progress
+    → are_texts progress ≡ true
+    → IsProgressText new (text_of format (entries_for format old progress)) (progress ++ map (λ key. nothing_known) (drop (length old) new))
+says_on format new old progress lawful prolongs suits texts = record {
+  format = format;
+  entries = entries_for format old progress;
+  fit = all_own format old progress lawful.fit suits texts;
+  spelt = refl;
+  tells = prolonged format new old progress prolongs suits;
+}
+
 pub read_on : (format : Format) (new old : List Key) (progress : List Known) → IsLawful old → Prolongs new old → Suits old progress
     → are_texts progress ≡ true
     → read_text new (text_of format (entries_for format old progress)) ≡ Ok (progress ++ map (λ key. nothing_known) (drop (length old) new))
 read_on format new old progress lawful prolongs suits texts =
     let many = as_many_lines format old progress suits in
     let few = lawful.few in
-    progress_read new (text_of format (entries_for format old progress)) (progress ++ map (λ key. nothing_known) (drop (length old) new)) (record {
-      format = format;
-      entries = entries_for format old progress;
-      fit = all_own format old progress lawful.fit suits texts;
-      spelt = refl;
-      tells = prolonged format new old progress prolongs suits;
-    }) (omega (arith, few, many))
+    progress_read new (text_of format (entries_for format old progress)) (progress ++ map (λ key. nothing_known) (drop (length old) new))
+    (says_on format new old progress lawful prolongs suits texts) (omega (arith, few, many))
+
+-- nothing more is known of the keys of the plan itself
+nothing_more : (keys : List Key) (progress : List Known) → progress ++ map (λ key. nothing_known) (drop (length keys) keys) ≡ progress
+nothing_more keys progress = ap (λ (ks : List Key). progress ++ map (λ key. nothing_known) ks) (drop-length keys) ∙ append-nil progress
+
+pub says_own : (keys : List Key) (text : List ℕ) (progress : List Known) → IsLawful keys → Suits keys progress → are_texts progress ≡ true
+    → text ≡ text_of Two (entries_for Two keys progress) → IsProgressText keys text progress
+says_own keys text progress lawful suits texts is =
+    subst (λ t. IsProgressText keys t progress) (sym is)
+    (subst (IsProgressText keys (text_of Two (entries_for Two keys progress))) (nothing_more keys progress)
+    (says_on Two keys keys progress lawful (itself keys) suits texts))
 
 pub read_again : (keys : List Key) (progress : List Known) → IsLawful keys → Suits keys progress → are_texts progress ≡ true
     → read_text keys (text_of Two (entries_for Two keys progress)) ≡ Ok progress
-read_again keys progress lawful suits texts =
-    let nothing : progress ++ map (λ key. nothing_known) (drop (length keys) keys) ≡ progress =
-    ap (λ (ks : List Key). progress ++ map (λ key. nothing_known) ks) (drop-length keys) ∙ append-nil progress in
-    read_on Two keys keys progress lawful (itself keys) suits texts ∙ ap Ok nothing
+read_again keys progress lawful suits texts = read_on Two keys keys progress lawful (itself keys) suits texts ∙ ap Ok (nothing_more keys progress)

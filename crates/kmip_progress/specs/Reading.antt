@@ -34,7 +34,7 @@ guard fault false = Err fault
 abbrev pub parts : ℕ → List ℕ → List (List ℕ)
 parts mark text = slice_split (λ byte. byte == mark) text
 
--- the lines before the last one, and the last one, where a line feed ends it
+-- the lines before the last one, and the last one, where nothing stands behind its line feed
 abbrev pub body_of : List (List ℕ) → Option (List (List ℕ) × List ℕ)
 body_of [] = None
 body_of (line ∷ [] ∷ []) = Some ([], line)
@@ -114,7 +114,7 @@ keys_behind (key ∷ keys) (e ∷ entries) = if speaks_of e key then keys_behind
 abbrev pub all_known : List Entry → List Key → List Known
 all_known entries behind = map (λ e. e.known) entries ++ map (λ key. nothing_known) behind
 
--- the text of a plan, by its lines
+-- what the lines of a text say of keys
 unfoldable pub entries_of_text : List ℕ → Result (List Entry) ProgressFault
 entries_of_text text = do
   body ← need Cut (body_of (parts 0x0A text))

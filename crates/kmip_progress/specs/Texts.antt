@@ -96,10 +96,11 @@ entries_for format [] progress = []
 entries_for format (key ∷ keys) [] = []
 entries_for format (key ∷ keys) (known ∷ progress) = entry_for format key known ∷ entries_for format keys progress
 
--- Private: the line of a key in format 2, and the lines of keys, each with its line feed
+-- Private: the line of a key in format 2
 abbrev pub key_line : Key → Known → List ℕ
 key_line key known = line_of (entry_words Two (entry_for Two key known))
 
+-- Private: the lines of keys in format 2, each with its line feed
 abbrev pub key_lines : List Key → List Known → List ℕ
 key_lines [] progress = []
 key_lines (key ∷ keys) [] = []

@@ -9,7 +9,7 @@ ghost use Rattle.kmip_progress.specs.Texts.{IsProgressText, progress_text};
 use crate::fault::ProgressFault;
 use crate::known::{Known, known_fits};
 use crate::reading::read_known;
-use crate::writing::written;
+use crate::writing::progress_text;
 use kmip_plan::{Key, Plan};
 use kmip_ttlv::Text;
 use std::alloc::{AllocError, Global};
@@ -52,9 +52,10 @@ impl Progress {
     pub fn write_text(&self, alloc: Global, plan: &Plan) -> Result<Text, AllocError>
         requires { Suits plan.now self.now }
         ensures text { IfOk result (λ text. text ≡ progress_text plan.now self.now) }
+        ensures says { IfOk result (λ text. IsProgressText plan.now text self.now) }
         ensures utf8 { OnOk result (IsTrue (are_texts self.now)) }
     {
-        let text = written(alloc, plan.keys(), self.known.as_slice())?;
+        let text = progress_text(alloc, plan.keys(), self.known.as_slice())?;
         Ok(Text::from_string(text))
     }
 

@@ -11,7 +11,11 @@ use kmip_plan::Key;
 use std::alloc::{AllocError, Global};
 
 /// The text of what is known of these keys.
-pub(crate) fn written(alloc: Global, keys: &[Key], known: &[Known]) -> Result<String, AllocError>
+pub(crate) fn progress_text(
+    alloc: Global,
+    keys: &[Key],
+    known: &[Known],
+) -> Result<String, AllocError>
     requires { Suits keys.now known.now }
     ensures text { IfOk result (λ text. string_bytes text ≡ progress_text keys.now known.now) }
     ensures utf8 { OnOk result (IsTrue (are_texts known.now)) }

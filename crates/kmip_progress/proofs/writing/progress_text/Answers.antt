@@ -2,7 +2,7 @@
 use Rattle.std.proofs.Common.{◌≡◌, [], ◌∷◌, ◌++◌, codes, length, string_bytes, ◌∙◌, rules}
 use Rattle.kmip_progress.specs.Texts.{key_lines, end_line}
 use Rattle.kmip_progress.proofs.WritingLemmas.{whole}
-use Rattle.kmip_progress.proofs.writing.written.Goals as goal
+use Rattle.kmip_progress.proofs.writing.progress_text.Goals as goal
 
 pub returns-clause-text : goal.returns-clause-text
 returns-clause-text c =

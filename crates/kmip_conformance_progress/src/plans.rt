@@ -1,0 +1,54 @@
+//! Plans and progresses in few words.
+
+use kmip_plan::{Plan, read_plan};
+use kmip_progress::{Known, Progress, suits};
+use kmip_ttlv::Text;
+use std::alloc::{AllocError, Global};
+use std::test::Fail;
+
+/// One key, whose name, target and reason are to be put in.
+const KEY: &str = "\
+    [[key]]\n\
+    name = \"NAME\"\n\
+    algorithm = \"AES\"\n\
+    length = 256\n\
+    usage = [\"encrypt\", \"decrypt\"]\n\
+    target = \"TARGET\"\n";
+
+/// The plan of these keys, each a name, a target and the line of its reason.
+pub fn plan_of(alloc: Global, keys: &[(&str, &str, &str)]) -> Result<Plan, Fail> {
+    let mut text = String::new(alloc);
+    for (name, target, reason) in keys {
+        let key = KEY.replace(alloc, "NAME", *name)?;
+        let key = key.as_str().replace(alloc, "TARGET", *target)?;
+        text.push_str(key.as_str())?;
+        text.push_str(reason)?;
+    }
+    Ok(read_plan(alloc, text.as_str())?)
+}
+
+/// What is known of one key.
+pub fn known(alloc: Global, identifier: Option<&str>, done: usize) -> Result<Known, AllocError> {
+    let identifier = match identifier {
+        Some(identifier) => Some(Text::copied(alloc, identifier)?),
+        None => None,
+    };
+    Ok(Known { identifier, done })
+}
+
+/// What is said of a text that is read for a plan: the text that is then written, or the fault.
+pub fn said(alloc: Global, plan: &Plan, text: &str) -> Result<String, AllocError> {
+    match Progress::read_text(alloc, plan, text) {
+        Ok(progress) => written(alloc, plan, &progress),
+        Err(fault) => format!(in alloc; "{} {}", fault.number(), fault.name()),
+    }
+}
+
+/// The text of a progress.
+pub fn written(alloc: Global, plan: &Plan, progress: &Progress) -> Result<String, AllocError> {
+    if !suits(plan, progress) {
+        return String::from_str(alloc, "it does not suit");
+    }
+    let text = progress.write_text(alloc, plan)?;
+    Ok(text.into_string())
+}
