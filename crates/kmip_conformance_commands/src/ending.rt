@@ -2,7 +2,8 @@
 
 use crate::readers::PieceReader;
 use kmip_commands::{
-    CommandFault, ExitStatus, Form, run_answer, run_answer_stream, run_check, run_show,
+    CommandFault, ExitStatus, Form, run_answer, run_answer_stream, run_check, run_check_after,
+    run_show,
 };
 use std::alloc::Global;
 use std::io::{BufRead, Write};
@@ -153,6 +154,8 @@ fn ends_where_nothing_can_be_written(rt: HostRuntime) -> Result<(), Fail> {
     }
     let mut writer = room.as_mut_slice();
     assert_eq!(rt; run_check(rt.alloc(), "", &mut writer), failed);
+    let mut writer = room.as_mut_slice();
+    assert_eq!(rt; run_check_after(rt.alloc(), "", "", &mut writer), failed);
     Ok(())
 }
 

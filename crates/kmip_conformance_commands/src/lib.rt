@@ -10,6 +10,8 @@ mod answering;
 #[cfg(test)]
 mod checking;
 #[cfg(test)]
+mod checking_after;
+#[cfg(test)]
 mod ending;
 #[cfg(test)]
 mod flushing;

@@ -11,11 +11,13 @@ enum Wanted {
     AnswerStream,
     Show(Form),
     Check(&'static str),
+    /// The path of the plan, and that of the earlier one.
+    CheckAfter(&'static str, &'static str),
     /// No command: this status, with a text that has these words.
     Text(ExitStatus, &'static str),
 }
 
-const ROWS: [(&[&str], Wanted); 17] = [
+const ROWS: [(&[&str], Wanted); 22] = [
     (&[], Wanted::Answer),
     (&["answer"], Wanted::Answer),
     (&["answer", "--stream"], Wanted::AnswerStream),
@@ -23,6 +25,14 @@ const ROWS: [(&[&str], Wanted); 17] = [
     (&["show", "--canon"], Wanted::Show(Form::Canonical)),
     (&["check", "--plan", "a.toml"], Wanted::Check("a.toml")),
     (&["check", "--plan=b"], Wanted::Check("b")),
+    (
+        &["check", "--plan", "a.toml", "--after", "b.toml"],
+        Wanted::CheckAfter("a.toml", "b.toml"),
+    ),
+    (
+        &["check", "--after=b", "--plan=a"],
+        Wanted::CheckAfter("a", "b"),
+    ),
     (
         &["--version"],
         Wanted::Text(ExitStatus::Done, "kmipctl 0.2.0\n"),
@@ -40,7 +50,19 @@ const ROWS: [(&[&str], Wanted); 17] = [
         &["help", "answer"],
         Wanted::Text(ExitStatus::Done, "--stream"),
     ),
+    (
+        &["check", "--help"],
+        Wanted::Text(ExitStatus::Done, "--after"),
+    ),
     (&["check"], Wanted::Text(ExitStatus::Usage, "--plan")),
+    (
+        &["check", "--after", "b"],
+        Wanted::Text(ExitStatus::Usage, "--plan"),
+    ),
+    (
+        &["check", "--plan", "a", "--after"],
+        Wanted::Text(ExitStatus::Usage, "--after"),
+    ),
     (
         &["answer", "--canon"],
         Wanted::Text(ExitStatus::Usage, "--canon"),
@@ -74,6 +96,11 @@ fn is_wanted(alloc: Global, words: &[&str], wanted: &Wanted) -> Result<bool, Fai
         (Wanted::Check(path), Ok(choice)) => {
             let path = String::from_str(alloc, path)?;
             Ok(choice == Choice::Check(path))
+        }
+        (Wanted::CheckAfter(plan, earlier), Ok(choice)) => {
+            let plan = String::from_str(alloc, plan)?;
+            let earlier = String::from_str(alloc, earlier)?;
+            Ok(choice == Choice::CheckAfter { plan, earlier })
         }
         (Wanted::Text(status, part), Err(error)) => {
             let text = error.to_string(alloc)?;
