@@ -68,14 +68,14 @@ quotient() {
     awk -v a="$1" -v b="$2" -v digits="$3" 'BEGIN { printf "%.*f", digits, (b > 0) ? a / b : 0 }'
 }
 
-# Compares the two programs over a whole input: what it is called, the aim, and the words for
-# bench/input.rs.
+# Compares the two programs over a whole input: what it is called, the aim, how many runs are taken at
+# a time, and the words for bench/input.rs.
 load() {
-    local title=$1 aim=$2
-    shift 2
+    local title=$1 aim=$2 repeats=$3
+    shift 3
     "$out/input" "$@" > "$out/load.hex"
     compare "$out/load.hex"
-    measure "$out/load.hex" 1
+    measure "$out/load.hex" "$repeats"
     printf '%s: kmipctl %s s, baseline %s s, ratio %s (aim: at most %s)\n' "$title" \
         "$(quotient "$ours" 1000000 3)" "$(quotient "$theirs" 1000000 3)" \
         "$(quotient "$ours" "$theirs" 2)" "$aim"
@@ -117,13 +117,14 @@ growth() {
     print_growth "$title" "${few[@]}" "$ours_each" "$theirs_each"
 }
 
-# Prints how the cost of a Create that makes an object grows: of the first thousand, and of the last.
+# Prints how the mean cost of a Create that makes an object grows: of the first thousand, and of all
+# ten thousand.
 growth_of_creates() {
     local few
     each 990 40 'create 10' create 1000
     few=("$ours_each" "$theirs_each")
-    each 1000 5 'create 9000' create 10000
-    print_growth 'Create, a new name' "${few[@]}" "$ours_each" "$theirs_each"
+    each 9990 10 'create 10' create 10000
+    print_growth 'Creates, 1,000 and 10,000' "${few[@]}" "$ours_each" "$theirs_each"
 }
 
 # Prints the kilobytes that a program had resident at the most while it answered the input $1; the
@@ -144,8 +145,7 @@ resident() {
     wait "$pid"
 }
 
-# Prints the bytes that an object takes beyond its data, which are its name, its identifier and its
-# material.
+# Prints the bytes that an object takes beyond its data.
 memory() {
     local title=$1 few many data
     shift
@@ -153,8 +153,9 @@ memory() {
     "$out/input" create 10000 > "$out/many.hex"
     few=$(resident "$out/few.hex" "$@")
     many=$(resident "$out/many.hex" "$@")
-    # Names of nine characters, identifiers of 3.9 on the average, keys of 256 bits.
-    data=45
+    # Names of nine characters, identifiers of 3.9 on the average, keys of 256 bits, and 13 bytes of
+    # algorithm, length, usage mask and state.
+    data=58
     echo "$title: $(((many - few) * 1024 / 9990 - data)) bytes an object beyond its data (aim: at most $memory_aim)"
 }
 
@@ -162,10 +163,10 @@ mkdir -p "$out"
 build baseline
 build input
 
-load '100000 requests over 100 objects' "$small_aim" mix 100000 100
-load '100000 requests over 10000 objects' "$aim" mix 100000 10000
-load '100000 Locates over 10000 objects' "$aim" locate 10000 100000
-load '10000 Creates' "$aim" create 10000
+load '100000 requests over 100 objects' "$small_aim" 1 mix 100000 100
+load '100000 requests over 10000 objects' "$aim" 1 mix 100000 10000
+load '100000 Locates over 10000 objects' "$aim" 1 locate 10000 100000
+load '10000 Creates' "$aim" 10 create 10000
 
 echo "microseconds a request with 10 objects and with 10,000, and the growth (aim: at most $growth_aim times the baseline's):"
 printf '%-26s %7s %7s %7s %9s %7s %7s %12s\n' request kmipctl 10,000 growth baseline 10,000 growth 'by baseline'
