@@ -1,0 +1,4 @@
+pub mod ChangeLemmas
+pub mod MovingLemmas
+pub mod ReplyLemmas
+pub mod KeepingLemmas
