@@ -2,3 +2,4 @@ pub mod ChangeLemmas
 pub mod MovingLemmas
 pub mod ReplyLemmas
 pub mod KeepingLemmas
+pub mod ExchangeLemmas

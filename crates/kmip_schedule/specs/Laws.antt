@@ -27,3 +27,24 @@ ObjectsGoOnward =
 abbrev pub DeliveriesKeepSound : Type 0
 DeliveriesKeepSound =
     (keys : List Key) (old new : Past) → Sound keys old → Delivered (is_planned keys) old new → Sound keys new
+
+-- so it is when a message of requests that may be asked is sent
+abbrev pub AskingKeepsSound : Type 0
+AskingKeepsSound =
+    (keys : List Key) (p : Past) (sent : List ℕ) → Sound keys p → JustifiedMessage keys p.objects sent → Sound keys (with_asked sent p)
+
+-- and by a whole exchange, whether it has an answer or not
+abbrev pub ExchangesKeepSound : Type 0
+ExchangesKeepSound =
+    (keys : List Key) (old new : Past) (sent : List ℕ) (answer : Result (Option (List ℕ)) LinkFault) → Sound keys old
+    → JustifiedMessage keys old.objects sent → Exchanged (is_planned keys) old sent answer new
+    → Sound keys new × Onward keys old.objects new.objects
+
+-- what is handed over is true
+abbrev pub AnswersAreTrue : Type 0
+AnswersAreTrue =
+    (keys : List Key) (p : Past) (given : List ℕ) → Sound keys p → AreGiven p given → TrueMessage keys p.objects given
+
+-- where nothing of the plan has happened, all is sound
+abbrev pub NothingDoneIsSound : Type 0
+NothingDoneIsSound = (keys : List Key) (p : Past) → Opening keys p → Sound keys p

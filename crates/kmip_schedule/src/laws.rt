@@ -1,7 +1,14 @@
 //! What holds of all that may happen between a client and its server, each as the contract of a
 //! function that does nothing.
 ghost use Rattle.kmip_schedule.specs.Lawbook.{Lawbook};
-ghost use Rattle.kmip_schedule.specs.Laws.{ObjectsGoOnward, DeliveriesKeepSound};
+ghost use Rattle.kmip_schedule.specs.Laws.{
+  ObjectsGoOnward,
+  DeliveriesKeepSound,
+  AskingKeepsSound,
+  ExchangesKeepSound,
+  AnswersAreTrue,
+  NothingDoneIsSound,
+};
 
 use kmip_client::laws::{onward_is_an_order, truth_is_for_good};
 use kmip_messages::laws::{added_laws, found_laws, restated_laws};
@@ -36,3 +43,26 @@ pub fn deliveries_keep_sound()
 {
     laws_below();
 }
+
+/// A message of requests that may be asked keeps what is sound.
+pub fn asking_keeps_sound()
+    ensures { AskingKeepsSound }
+{}
+
+/// An exchange of such a message keeps what is sound, whether it has an answer or not, and the
+/// objects go onward.
+pub fn exchanges_keep_sound()
+    ensures { ExchangesKeepSound }
+{
+    laws_below();
+}
+
+/// Of a sound past, each message whose replies were all given is true.
+pub fn answers_are_true()
+    ensures { AnswersAreTrue }
+{}
+
+/// Where nothing of the plan has happened, all is sound.
+pub fn nothing_done_is_sound()
+    ensures { NothingDoneIsSound }
+{}
