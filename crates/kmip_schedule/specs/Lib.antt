@@ -5,3 +5,5 @@ pub mod Sound
 pub mod Exchanges
 pub mod Safe
 pub mod Machine
+pub mod Lawbook
+pub mod Laws

@@ -3,6 +3,7 @@
 #![tactic(auto)]
 
 mod effect;
+pub mod laws;
 mod link;
 
 pub use effect::Effect;

@@ -1,0 +1,5 @@
+pub mod ChangeLemmas
+pub mod MovingLemmas
+pub mod ReplyLemmas
+pub mod KeepingLemmas
+pub mod ExchangeLemmas

@@ -1,0 +1,44 @@
+-- Private: the laws of the crates below that the laws here rest on, in one record.
+-- Source: own.
+use Rattle.kmip_messages.specs.Objects.{object_named, object_with, DistinctNames, DistinctUids}
+use Rattle.kmip_messages.specs.ObjectLaws.{
+  NamedIsOne,
+  IdentifiedIsOne,
+  NamedIsIdentified,
+  NamedIsAll,
+  NamedBeforeMore,
+  NamedAmongMore,
+  OneMore,
+  OwnIsRestated,
+  OtherIsKept,
+  NamedIsRestated,
+  StaysDistinct,
+}
+use Rattle.kmip_plan.specs.Laws.{PreActiveIsFirst, ReachedIsWithin, DueStepsAdvance, DueStepsJoinTheDone, FoundKeysStand}
+use Rattle.kmip_client.specs.Laws.{OnwardToItself, OnwardTwice, JustifiedForGood, TrueForGood}
+use Rattle.kmip_server.specs.Laws.{LocateFindsTheName}
+
+pub record Lawbook : Type 0 where
+  pub named : NamedIsOne
+  pub identified : IdentifiedIsOne
+  pub by_identifier : NamedIsIdentified
+  pub all_named : NamedIsAll
+  pub named_before : NamedBeforeMore
+  pub named_among : NamedAmongMore
+  pub names_more : OneMore DistinctNames (λ o. object_named o.attrs.name)
+  pub uids_more : OneMore DistinctUids (λ o. object_with o.uid)
+  pub own_restated : OwnIsRestated
+  pub other_kept : OtherIsKept
+  pub named_restated : NamedIsRestated
+  pub names_stay : StaysDistinct DistinctNames
+  pub uids_stay : StaysDistinct DistinctUids
+  pub first : PreActiveIsFirst
+  pub reached : ReachedIsWithin
+  pub advance : DueStepsAdvance
+  pub join : DueStepsJoinTheDone
+  pub stand : FoundKeysStand
+  pub itself : OnwardToItself
+  pub twice : OnwardTwice
+  pub asked_for_good : JustifiedForGood
+  pub told_for_good : TrueForGood
+  pub located : LocateFindsTheName

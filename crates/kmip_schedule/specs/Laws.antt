@@ -1,0 +1,50 @@
+-- What holds of all that may happen between a client and its server.
+-- Source: own: what the laws say.
+use Rattle.std.specs.Prelude.{◌≡◌, ◌≤◌, ℕ, List, Option, Result, nat_eq}
+use Rattle.std.specs.List.{All}
+use Rattle.kmip_plan.specs.Chains.{step_place}
+use Rattle.kmip_plan.specs.Plans.{IsLawful, IsPlanned}
+use Rattle.kmip_plan.specs.declared.key.Key.{Key}
+use Rattle.kmip_client.specs.Justified.{JustifiedMessage}
+use Rattle.kmip_client.specs.Places.{Onward, position}
+use Rattle.kmip_client.specs.Truth.{TrueMessage}
+use Rattle.kmip_schedule.specs.declared.effect.Effect.{Effect}
+use Rattle.kmip_schedule.specs.declared.link.LinkFault.{LinkFault}
+use Rattle.kmip_schedule.specs.Exchanges.{AreGiven, Exchanged, with_asked}
+use Rattle.kmip_schedule.specs.Machine.{IsMirrored}
+use Rattle.kmip_schedule.specs.Moves.{Delivered}
+use Rattle.kmip_schedule.specs.Past.{Past, is_planned}
+use Rattle.kmip_schedule.specs.Safe.{Safe}
+use Rattle.kmip_schedule.specs.Sound.{Sound, Opening}
+
+-- whatever happens, the objects go onward for each key
+abbrev pub ObjectsGoOnward : Type 0
+ObjectsGoOnward =
+    (keys : List Key) (old new : Past) → Sound keys old → Delivered (is_planned keys) old new
+    → Onward keys old.objects new.objects
+
+-- and what is sound stays so
+abbrev pub DeliveriesKeepSound : Type 0
+DeliveriesKeepSound =
+    (keys : List Key) (old new : Past) → Sound keys old → Delivered (is_planned keys) old new → Sound keys new
+
+-- so it is when a message of requests that may be asked is sent
+abbrev pub AskingKeepsSound : Type 0
+AskingKeepsSound =
+    (keys : List Key) (p : Past) (sent : List ℕ) → Sound keys p → JustifiedMessage keys p.objects sent → Sound keys (with_asked sent p)
+
+-- and by a whole exchange, whether it has an answer or not
+abbrev pub ExchangesKeepSound : Type 0
+ExchangesKeepSound =
+    (keys : List Key) (old new : Past) (sent : List ℕ) (answer : Result (Option (List ℕ)) LinkFault) → Sound keys old
+    → JustifiedMessage keys old.objects sent → Exchanged (is_planned keys) old sent answer new
+    → Sound keys new × Onward keys old.objects new.objects
+
+-- what is handed over is true
+abbrev pub AnswersAreTrue : Type 0
+AnswersAreTrue =
+    (keys : List Key) (p : Past) (given : List ℕ) → Sound keys p → AreGiven p given → TrueMessage keys p.objects given
+
+-- where nothing of the plan has happened, all is sound
+abbrev pub NothingDoneIsSound : Type 0
+NothingDoneIsSound = (keys : List Key) (p : Past) → Opening keys p → Sound keys p

@@ -1,0 +1,68 @@
+//! What holds of all that may happen between a client and its server, each as the contract of a
+//! function that does nothing.
+ghost use Rattle.kmip_schedule.specs.Lawbook.{Lawbook};
+ghost use Rattle.kmip_schedule.specs.Laws.{
+  ObjectsGoOnward,
+  DeliveriesKeepSound,
+  AskingKeepsSound,
+  ExchangesKeepSound,
+  AnswersAreTrue,
+  NothingDoneIsSound,
+};
+
+use kmip_client::laws::{onward_is_an_order, truth_is_for_good};
+use kmip_messages::laws::{added_laws, found_laws, restated_laws};
+use kmip_plan::laws::{due_steps_advance, keys_have_names, states_have_places};
+use kmip_server::laws::a_name_is_found;
+
+/// The laws of the crates below.
+fn laws_below()
+    ensures { Lawbook }
+{
+    found_laws();
+    added_laws();
+    restated_laws();
+    states_have_places();
+    due_steps_advance();
+    keys_have_names();
+    onward_is_an_order();
+    truth_is_for_good();
+    a_name_is_found();
+}
+
+/// Whatever happens, the objects go onward for each key.
+pub fn objects_go_onward()
+    ensures { ObjectsGoOnward }
+{
+    laws_below();
+}
+
+/// Whatever happens, what is sound stays so.
+pub fn deliveries_keep_sound()
+    ensures { DeliveriesKeepSound }
+{
+    laws_below();
+}
+
+/// A message of requests that may be asked keeps what is sound.
+pub fn asking_keeps_sound()
+    ensures { AskingKeepsSound }
+{}
+
+/// An exchange of such a message keeps what is sound, whether it has an answer or not, and the
+/// objects go onward.
+pub fn exchanges_keep_sound()
+    ensures { ExchangesKeepSound }
+{
+    laws_below();
+}
+
+/// Of a sound past, each message whose replies were all given is true.
+pub fn answers_are_true()
+    ensures { AnswersAreTrue }
+{}
+
+/// Where nothing of the plan has happened, all is sound.
+pub fn nothing_done_is_sound()
+    ensures { NothingDoneIsSound }
+{}
