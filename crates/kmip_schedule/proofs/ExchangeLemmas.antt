@@ -45,7 +45,7 @@ asked_sound keys p sent sound just = record {
   effects = record { planned = sound.effects.planned; no_others = sound.effects.no_others };
   requests = All-append (Justified keys p.objects) p.requests (requests_in sent) sound.requests just;
   replies = All-weaker (TrueAnswer keys p.objects p.requests) (TrueAnswer keys p.objects (p.requests ++ requests_in sent))
-    (λ reply answer. answer_more keys p.objects p.requests (requests_in sent) reply answer) p.replies sound.replies;
+      (λ reply answer. answer_more keys p.objects p.requests (requests_in sent) reply answer) p.replies sound.replies;
 }
 
 handed_sound : (keys : List Key) (p : Past) (answer : Option (List ℕ)) → Sound keys p → Sound keys (with_handed answer p)
@@ -77,7 +77,7 @@ exchanged_sound l keys old new sent (Err NoMemory) sound just done = elim done [
 pub given_true : (keys : List Key) (p : Past) (given : List ℕ) → Sound keys p → AreGiven p given → TrueMessage keys p.objects given
 given_true keys p given sound are =
     All-weaker (Contains p.replies) (TrueReply keys p.objects)
-      (λ reply has. (All-contains (TrueAnswer keys p.objects p.requests) p.replies reply sound.replies has).holds) (replies_in given) are
+    (λ reply has. (All-contains (TrueAnswer keys p.objects p.requests) p.replies reply sound.replies has).holds) (replies_in given) are
 
 none_done : (name : List ℕ) (effects : List Effect) → effects ≡ [] → steps_on name effects ≡ []
 none_done name effects none = ap (steps_on name) none
@@ -89,7 +89,7 @@ opening_sound keys p opening = record {
   objects = λ key o planned is. let some : None ≡ Some o = sym (opening.no_object key planned) ∙ is in absurd cc;
   effects = record {
     planned = λ key planned. none_done key.attrs.name p.effects opening.no_effect
-      ∙ ap (λ found. take (place_in key found) (chain key.target)) (sym (opening.no_object key planned));
+        ∙ ap (λ found. take (place_in key found) (chain key.target)) (sym (opening.no_object key planned));
     no_others = λ name none. none_done name p.effects opening.no_effect;
   };
   requests = subst (All (Justified keys p.objects)) (sym opening.no_request) (All-nil (Justified keys p.objects));

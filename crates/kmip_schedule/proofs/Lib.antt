@@ -3,3 +3,5 @@ pub mod MovingLemmas
 pub mod ReplyLemmas
 pub mod KeepingLemmas
 pub mod ExchangeLemmas
+pub mod ServedLemmas
+pub mod SafeLemmas

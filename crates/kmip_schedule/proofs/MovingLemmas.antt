@@ -182,7 +182,7 @@ other_named l name objects o None is apart =
     l.named_among name objects (o ∷ []) is ∙ other
 other_named l name objects o (Some x) is apart = l.named_before name objects (o ∷ []) x is
 
-apart_from : (a b : List ℕ) → a ≢ b → pointwise nat_eq a b ≡ false
+pub apart_from : (a b : List ℕ) → a ≢ b → pointwise nat_eq a b ≡ false
 apart_from a b apart = false_from_ne_true (pointwise nat_eq a b) (λ same. apart ((bytes_eq-Decides a b).0 same))
 
 pub own_named : (l : Lawbook) (objects : List Object) (o : Object) → object_named o.attrs.name objects ≡ None

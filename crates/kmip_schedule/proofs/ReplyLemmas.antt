@@ -136,7 +136,7 @@ failed_answer keys objects requests reply failed = record {
   echoes = inl failed;
 }
 
-same_name : (operation other : ℕ) (name own : List ℕ) → Some (operation ∷ name) ≡ Some (other ∷ own) → name ≡ own
+pub same_name : (operation other : ℕ) (name own : List ℕ) → Some (operation ∷ name) ≡ Some (other ∷ own) → name ≡ own
 same_name operation other name own is = cc
 
 named_one : (l : Lawbook) (keys : List Key) (key other : Key) (name : List ℕ) → IsPlanned keys key → key_named name keys ≡ Some other → name ≡ key.attrs.name → key ≡ other

@@ -48,3 +48,14 @@ AnswersAreTrue =
 -- where nothing of the plan has happened, all is sound
 abbrev pub NothingDoneIsSound : Type 0
 NothingDoneIsSound = (keys : List Key) (p : Past) → Opening keys p → Sound keys p
+
+-- the step is one of those that the key's object has come to
+abbrev pub IsReached : List Key → Past → Effect → Type 0
+IsReached keys p effect =
+    (key : Key) × IsPlanned keys key × (effect.name ≡ key.attrs.name) × (1 ≤ step_place key.target effect.step)
+    × (step_place key.target effect.step ≤ position key p.objects)
+
+-- what is sound is safe, where each step that is reported done was reached
+abbrev pub SoundIsSafe : Type 0
+SoundIsSafe =
+    (keys : List Key) (p : Past) (reported : List Effect) → Sound keys p → All (IsReached keys p) reported → Safe keys p reported
