@@ -5,3 +5,5 @@ pub mod KeepingLemmas
 pub mod ExchangeLemmas
 pub mod ServedLemmas
 pub mod SafeLemmas
+pub mod TurnLemmas
+pub mod MirrorLemmas

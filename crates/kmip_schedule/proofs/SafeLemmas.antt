@@ -32,7 +32,7 @@ in_front (y ∷ ys) zero (suc n) x is below =
     subst (Contains (y ∷ take n ys)) one (Contains-append_left (y ∷ []) (take n ys) y (Contains-push [] y))
 in_front (y ∷ ys) (suc k) (suc n) x is below = Contains-append_right (y ∷ []) (take n ys) x (in_front ys k n x is (omega (arith, below)))
 
-first_or_later : {A : Type 0} (y : A) (ys : List A) (x : A) → Contains (y ∷ ys) x → (y ≡ x) ⊎ Contains ys x
+pub first_or_later : {A : Type 0} (y : A) (ys : List A) (x : A) → Contains (y ∷ ys) x → (y ≡ x) ⊎ Contains ys x
 first_or_later y ys x has = elim (Contains-append_cases (y ∷ []) ys x has) [
   | inl first ↦ elim (Contains-push_cases [] y x first) [
     | inl none ↦ let below = none.1 in absurd (omega (arith, below))
@@ -90,7 +90,7 @@ reached_true l keys p effect sound (key, planned, named, from, within) =
     (subst (λ steps. Contains steps effect.step) (sym (sound.effects.planned key planned))
     (early l key.target effect.step (position key p.objects) from within))
 
-same_step : (a b : Step) → Some a ≡ Some b → a ≡ b
+pub same_step : (a b : Step) → Some a ≡ Some b → a ≡ b
 same_step a b is = cc
 
 pub nothing_again : (l : Lawbook) (keys : List Key) (p : Past) → Sound keys p → AgainChangesNothing p

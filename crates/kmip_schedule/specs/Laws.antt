@@ -59,3 +59,26 @@ IsReached keys p effect =
 abbrev pub SoundIsSafe : Type 0
 SoundIsSafe =
     (keys : List Key) (p : Past) (reported : List Effect) → Sound keys p → All (IsReached keys p) reported → Safe keys p reported
+
+-- where nothing of the plan has happened, the past is an image of the plan machine
+abbrev pub OpeningIsMirrored : Type 0
+OpeningIsMirrored = (keys : List Key) (p : Past) → Opening keys p → IsMirrored keys p
+
+-- it stays one when a message of requests that may be asked is sent
+abbrev pub AskingKeepsTheImage : Type 0
+AskingKeepsTheImage =
+    (keys : List Key) (p : Past) (sent : List ℕ) → IsMirrored keys p → JustifiedMessage keys p.objects sent
+    → IsMirrored keys (with_asked sent p)
+
+-- whatever happens
+abbrev pub DeliveriesKeepTheImage : Type 0
+DeliveriesKeepTheImage =
+    (keys : List Key) (old new : Past) → Sound keys old → IsMirrored keys old → Delivered (is_planned keys) old new
+    → IsMirrored keys new
+
+-- and by a whole exchange
+abbrev pub ExchangesKeepTheImage : Type 0
+ExchangesKeepTheImage =
+    (keys : List Key) (old new : Past) (sent : List ℕ) (answer : Result (Option (List ℕ)) LinkFault) → Sound keys old
+    → IsMirrored keys old → JustifiedMessage keys old.objects sent → Exchanged (is_planned keys) old sent answer new
+    → IsMirrored keys new

@@ -9,6 +9,10 @@ ghost use Rattle.kmip_schedule.specs.Laws.{
   AnswersAreTrue,
   NothingDoneIsSound,
   SoundIsSafe,
+  OpeningIsMirrored,
+  AskingKeepsTheImage,
+  DeliveriesKeepTheImage,
+  ExchangesKeepTheImage,
 };
 
 use kmip_client::laws::{onward_is_an_order, truth_is_for_good};
@@ -72,6 +76,20 @@ pub fn nothing_done_is_sound()
 /// What is sound is safe, where each step that is reported done was reached.
 pub fn sound_is_safe()
     ensures { SoundIsSafe }
+{
+    laws_below();
+}
+
+/// Where nothing of the plan has happened, the past is an image of the plan machine at its start.
+pub fn opening_is_mirrored()
+    ensures { OpeningIsMirrored }
+{}
+
+/// Asking, whatever happens and whole exchanges keep the past an image of the plan machine.
+pub fn the_image_is_kept()
+    ensures asking { AskingKeepsTheImage }
+    ensures deliveries { DeliveriesKeepTheImage }
+    ensures exchanges { ExchangesKeepTheImage }
 {
     laws_below();
 }
