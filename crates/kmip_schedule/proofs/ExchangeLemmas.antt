@@ -1,5 +1,5 @@
 -- Asking, handing over and whole exchanges keep what is sound; and where nothing was done, all is sound.
-use Rattle.std.proofs.Common.{◌≡◌, ℕ, List, [], ◌∷◌, ◌++◌, take, Option, Some, None, Result, Ok, Err, refl, sym, ap, subst, ◌∙◌, inl, inr}
+use Rattle.std.proofs.Common.{◌≡◌, ℕ, List, [], ◌++◌, take, Option, Some, None, Result, Ok, Err, sym, ap, subst, ◌∙◌, inl, inr}
 use Rattle.std.specs.List.{All, Contains}
 use Rattle.std.proofs.lemmas.List.Elements.{All-append, All-contains, All-nil, All-weaker, Contains-append_left}
 use Rattle.kmip_messages.specs.Items.{requests_in, replies_in}
@@ -17,8 +17,7 @@ use Rattle.kmip_schedule.specs.declared.link.LinkFault.TheVariants.{Io, Frame, N
 use Rattle.kmip_schedule.specs.Exchanges.{AreGiven, Exchanged, HandsOver, with_asked, with_handed}
 use Rattle.kmip_schedule.specs.Lawbook.{Lawbook}
 use Rattle.kmip_schedule.specs.Past.{Past, is_planned, steps_on}
-use Rattle.kmip_schedule.specs.Sound.{Opening, Sound, TrueAnswer, Echoes}
-use Rattle.kmip_schedule.specs.Moves.{HasFailed}
+use Rattle.kmip_schedule.specs.Sound.{Opening, Sound, TrueAnswer}
 use Rattle.kmip_schedule.proofs.ChangeLemmas.{place_in}
 use Rattle.kmip_schedule.proofs.KeepingLemmas.{delivered_keeps}
 

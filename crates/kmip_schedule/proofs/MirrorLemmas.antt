@@ -1,6 +1,5 @@
 -- Whatever happens, the past stays an image of the plan machine.
-use Rattle.std.proofs.Common.{◌≡◌, ◌+◌, ◌++◌, ℕ, List, [], ◌∷◌, filter_map, option_to_list, append-nil, Option, Some, None, Result, Ok, Err, refl, sym, ap, subst, ◌∙◌, inl, inr, ◌⊎◌}
-use Rattle.std.specs.List.{All, Contains}
+use Rattle.std.proofs.Common.{◌≡◌, ◌++◌, ℕ, List, [], ◌∷◌, filter_map, option_to_list, append-nil, Option, None, Result, Ok, Err, refl, sym, ap, subst, ◌∙◌, inl, inr}
 use Rattle.std.proofs.lemmas.List.Elements.{All-contains}
 use Rattle.kmip_messages.specs.Items.{requests_in}
 use Rattle.kmip_messages.specs.Objects.{Object, object_named}
@@ -17,7 +16,7 @@ use Rattle.kmip_schedule.specs.declared.link.LinkFault.TheVariants.{Io, Frame, N
 use Rattle.kmip_schedule.specs.Exchanges.{Exchanged, HandsOver, with_asked, with_handed}
 use Rattle.kmip_schedule.specs.Lawbook.{Lawbook}
 use Rattle.kmip_schedule.specs.Machine.{IsMirrored, pair_asked}
-use Rattle.kmip_schedule.specs.Moves.{Move, Serve, Unanswered, Refuse, Comes, Changes, after_move, MayHappen, AllMayHappen, after_moves, Delivered, Joins, Serves}
+use Rattle.kmip_schedule.specs.Moves.{Move, Serve, Unanswered, Refuse, Comes, Changes, after_move, MayHappen, AllMayHappen, after_moves, Delivered, Serves}
 use Rattle.kmip_schedule.specs.Past.{Past, is_planned, steps_on}
 use Rattle.kmip_schedule.specs.Sound.{Sound}
 use Rattle.kmip_schedule.proofs.ChangeLemmas.{KeyChange, stays, comes, advances, place_in}

@@ -1,24 +1,19 @@
 -- What is sound is safe.
-use Rattle.std.proofs.Common.{◌≡◌, ◌≢◌, ◌≤◌, ◌<◌, ◌+◌, ℕ, zero, suc, true, false, nat_eq, List, [], ◌∷◌, ◌++◌, take, length, slice_get, option_to_list, Option, Some, None, refl, sym, ap, subst, ◌∙◌, inl, inr, ◌⊎◌, arith}
+use Rattle.std.proofs.Common.{◌≡◌, ◌≤◌, ◌<◌, ◌+◌, ℕ, zero, suc, List, [], ◌∷◌, take, length, slice_get, option_to_list, Option, Some, None, refl, sym, ap, subst, ◌∙◌, inl, inr, ◌⊎◌, arith}
 use Rattle.std.specs.List.{All, Contains}
 use Rattle.std.proofs.lemmas.List.Elements.{All-contains, All-weaker, Contains-append_cases, Contains-append_left, Contains-append_right, Contains-push, Contains-push_cases}
-use Rattle.kmip_messages.specs.Objects.{Object, object_named}
-use Rattle.kmip_messages.specs.Operations.{operation_of}
-use Rattle.kmip_messages.specs.declared.reply.Outcome.{Outcome}
-use Rattle.kmip_messages.specs.declared.request.Request.{Request}
+use Rattle.kmip_messages.specs.Objects.{object_named}
 use Rattle.kmip_messages.specs.declared.step.Step.{Step}
 use Rattle.kmip_plan.specs.Chains.{chain, step_at, step_place}
-use Rattle.kmip_plan.specs.Plans.{IsPlanned}
 use Rattle.kmip_plan.specs.declared.key.Key.{Key}
 use Rattle.kmip_plan.specs.declared.target.Target.{Target}
 use Rattle.kmip_client.specs.Justified.{Justified}
 use Rattle.kmip_client.specs.Places.{position}
-use Rattle.kmip_server.specs.ServerStep.{ServerStep}
 use Rattle.kmip_schedule.specs.declared.effect.Effect.{Effect}
 use Rattle.kmip_schedule.specs.Lawbook.{Lawbook}
 use Rattle.kmip_schedule.specs.Laws.{IsReached}
 use Rattle.kmip_schedule.specs.Past.{Past, steps_on}
-use Rattle.kmip_schedule.specs.Safe.{Safe, AgainChangesNothing, all_named, step_of_ask}
+use Rattle.kmip_schedule.specs.Safe.{Safe, AgainChangesNothing, all_named}
 use Rattle.kmip_schedule.specs.Sound.{Sound}
 use Rattle.kmip_schedule.proofs.ReplyLemmas.{same_name}
 use Rattle.kmip_schedule.proofs.ServedLemmas.{serve_does}

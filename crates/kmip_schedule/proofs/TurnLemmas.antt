@@ -1,10 +1,10 @@
 -- The turns of the plan machine that asking and serving a request make.
-use Rattle.std.proofs.Common.{◌≡◌, ◌≢◌, ◌≤◌, ◌<◌, ◌+◌, ◌==◌, ℕ, true, false, nat_eq, eq-eqb, List, [], ◌∷◌, ◌++◌, map, filter_map, option_map, option_and_then, option_to_list, append_assoc, append-nil, Option, Some, None, if◌then◌else◌, refl, sym, ap, subst, ◌∙◌, inl, inr, ◌⊎◌, arith}
+use Rattle.std.proofs.Common.{◌≡◌, ◌≢◌, ◌≤◌, ◌+◌, ◌==◌, ℕ, true, false, nat_eq, eq-eqb, List, [], ◌∷◌, ◌++◌, map, filter_map, option_map, option_and_then, option_to_list, append_assoc, append-nil, Option, Some, None, if◌then◌else◌, refl, sym, ap, subst, ◌∙◌, inl, inr, arith}
 use Rattle.std.specs.Cmp.Lexicographic.{pointwise}
 use Rattle.std.specs.List.{All, Contains, cons_option}
 use Rattle.std.proofs.lemmas.Bool.{cases_Bool}
 use Rattle.std.proofs.lemmas.List.{map-append}
-use Rattle.std.proofs.lemmas.List.Elements.{All-head, All-tail, Contains-append_cases, Contains-append_left, Contains-append_right, Contains-push, Contains-push_cases, filter_map-append}
+use Rattle.std.proofs.lemmas.List.Elements.{All-head, All-tail, Contains-append_left, Contains-append_right, Contains-push, filter_map-append}
 use Rattle.std.proofs.lemmas.Slice.Eq.{bytes_eq-Decides}
 use Rattle.kmip_messages.specs.Objects.{Object, object_named}
 use Rattle.kmip_messages.specs.Operations.{operation_of}
@@ -14,14 +14,14 @@ use Rattle.kmip_messages.specs.declared.request.Request.{Request}
 use Rattle.kmip_messages.specs.declared.step.Step.{Step}
 use Rattle.kmip_messages.specs.declared.step.Step.TheVariants.{Create, Activate, Revoke, Destroy}
 use Rattle.kmip_plan.specs.Chains.{step_place}
-use Rattle.kmip_plan.specs.Plans.{IsPlanned, key_named}
+use Rattle.kmip_plan.specs.Plans.{IsPlanned}
 use Rattle.kmip_plan.specs.declared.key.Key.{Key}
 use Rattle.kmip_client.specs.Justified.{Justified, MayAsk}
 use Rattle.kmip_client.specs.Places.{position}
 use Rattle.kmip_schedule.specs.declared.effect.Effect.{Effect}
 use Rattle.kmip_schedule.specs.Machine.{IsMirrored, Machine, Mirrors, MayTurn, AllMayTurn, Pair, Turn, Add, Take, after_turn, after_turns, at_start, pair_asked, pair_by_id, pair_done, pair_of, with_place}
 use Rattle.kmip_schedule.specs.Moves.{Joins}
-use Rattle.kmip_schedule.specs.Past.{Past, change, steps_on}
+use Rattle.kmip_schedule.specs.Past.{Past, steps_on}
 use Rattle.kmip_schedule.specs.Safe.{step_of_ask}
 use Rattle.kmip_schedule.specs.Sound.{Opening}
 use Rattle.kmip_schedule.proofs.ChangeLemmas.{place_in}

@@ -1,9 +1,9 @@
 -- What holds of all that may happen between a client and its server.
 -- Source: own: what the laws say.
-use Rattle.std.specs.Prelude.{◌≡◌, ◌≤◌, ℕ, List, Option, Result, nat_eq}
+use Rattle.std.specs.Prelude.{◌≡◌, ◌≤◌, ℕ, List, Option, Result}
 use Rattle.std.specs.List.{All}
 use Rattle.kmip_plan.specs.Chains.{step_place}
-use Rattle.kmip_plan.specs.Plans.{IsLawful, IsPlanned}
+use Rattle.kmip_plan.specs.Plans.{IsPlanned}
 use Rattle.kmip_plan.specs.declared.key.Key.{Key}
 use Rattle.kmip_client.specs.Justified.{JustifiedMessage}
 use Rattle.kmip_client.specs.Places.{Onward, position}
