@@ -1,5 +1,5 @@
 -- How the object of a planned name may change: it stays, it comes, or it takes the next step of its chain.
-use Rattle.std.proofs.Common.{◌≡◌, ◌≤◌, ◌+◌, ℕ, List, [], ◌∷◌, ◌++◌, take, option_map, option_to_list, append-nil, Option, Some, None, IsTrue, MatchOption, refl, sym, ap, subst, ◌∙◌, inl, inr, arith, rules}
+use Rattle.std.proofs.Common.{◌≡◌, ◌≤◌, ◌+◌, ℕ, List, [], ◌∷◌, ◌++◌, take, option_map, append-nil, Option, Some, None, IsTrue, MatchOption, refl, sym, ap, subst, ◌∙◌, arith}
 use Rattle.std.specs.Option.{option_map_or}
 use Rattle.std.proofs.lemmas.Option.{MatchOption-at_some, same_Some}
 use Rattle.kmip_messages.specs.Lifecycle.{after}
@@ -11,11 +11,10 @@ use Rattle.kmip_messages.specs.declared.step.Step.{Step}
 use Rattle.kmip_messages.specs.declared.step.Step.TheVariants.{Create, Activate, Revoke, Destroy}
 use Rattle.kmip_plan.specs.Chains.{chain, place_reached}
 use Rattle.kmip_plan.specs.Laws.{PreActiveIsFirst}
-use Rattle.kmip_plan.specs.Plans.{IsPlanned}
 use Rattle.kmip_plan.specs.declared.key.Key.{Key}
 use Rattle.kmip_plan.specs.declared.target.Target.{Target}
 use Rattle.kmip_plan.specs.declared.target.Target.TheVariants as targets
-use Rattle.kmip_client.specs.Places.{GoesOnward, position}
+use Rattle.kmip_client.specs.Places.{GoesOnward}
 use Rattle.kmip_schedule.specs.Past.{step_between, change}
 use Rattle.kmip_schedule.specs.Sound.{IsObjectOf}
 

@@ -1,5 +1,5 @@
 -- Asking, handing over and whole exchanges keep what is sound; and where nothing was done, all is sound.
-use Rattle.std.proofs.Common.{◌≡◌, ℕ, List, [], ◌∷◌, ◌++◌, take, Option, Some, None, Result, Ok, Err, refl, sym, ap, subst, ◌∙◌, inl, inr}
+use Rattle.std.proofs.Common.{◌≡◌, ℕ, List, [], ◌++◌, take, Option, Some, None, Result, Ok, Err, sym, ap, subst, ◌∙◌, inl, inr}
 use Rattle.std.specs.List.{All, Contains}
 use Rattle.std.proofs.lemmas.List.Elements.{All-append, All-contains, All-nil, All-weaker, Contains-append_left}
 use Rattle.kmip_messages.specs.Items.{requests_in, replies_in}
@@ -17,8 +17,7 @@ use Rattle.kmip_schedule.specs.declared.link.LinkFault.TheVariants.{Io, Frame, N
 use Rattle.kmip_schedule.specs.Exchanges.{AreGiven, Exchanged, HandsOver, with_asked, with_handed}
 use Rattle.kmip_schedule.specs.Lawbook.{Lawbook}
 use Rattle.kmip_schedule.specs.Past.{Past, is_planned, steps_on}
-use Rattle.kmip_schedule.specs.Sound.{Opening, Sound, TrueAnswer, Echoes}
-use Rattle.kmip_schedule.specs.Moves.{HasFailed}
+use Rattle.kmip_schedule.specs.Sound.{Opening, Sound, TrueAnswer}
 use Rattle.kmip_schedule.proofs.ChangeLemmas.{place_in}
 use Rattle.kmip_schedule.proofs.KeepingLemmas.{delivered_keeps}
 
@@ -45,7 +44,7 @@ asked_sound keys p sent sound just = record {
   effects = record { planned = sound.effects.planned; no_others = sound.effects.no_others };
   requests = All-append (Justified keys p.objects) p.requests (requests_in sent) sound.requests just;
   replies = All-weaker (TrueAnswer keys p.objects p.requests) (TrueAnswer keys p.objects (p.requests ++ requests_in sent))
-    (λ reply answer. answer_more keys p.objects p.requests (requests_in sent) reply answer) p.replies sound.replies;
+      (λ reply answer. answer_more keys p.objects p.requests (requests_in sent) reply answer) p.replies sound.replies;
 }
 
 handed_sound : (keys : List Key) (p : Past) (answer : Option (List ℕ)) → Sound keys p → Sound keys (with_handed answer p)
@@ -77,7 +76,7 @@ exchanged_sound l keys old new sent (Err NoMemory) sound just done = elim done [
 pub given_true : (keys : List Key) (p : Past) (given : List ℕ) → Sound keys p → AreGiven p given → TrueMessage keys p.objects given
 given_true keys p given sound are =
     All-weaker (Contains p.replies) (TrueReply keys p.objects)
-      (λ reply has. (All-contains (TrueAnswer keys p.objects p.requests) p.replies reply sound.replies has).holds) (replies_in given) are
+    (λ reply has. (All-contains (TrueAnswer keys p.objects p.requests) p.replies reply sound.replies has).holds) (replies_in given) are
 
 none_done : (name : List ℕ) (effects : List Effect) → effects ≡ [] → steps_on name effects ≡ []
 none_done name effects none = ap (steps_on name) none
@@ -89,7 +88,7 @@ opening_sound keys p opening = record {
   objects = λ key o planned is. let some : None ≡ Some o = sym (opening.no_object key planned) ∙ is in absurd cc;
   effects = record {
     planned = λ key planned. none_done key.attrs.name p.effects opening.no_effect
-      ∙ ap (λ found. take (place_in key found) (chain key.target)) (sym (opening.no_object key planned));
+        ∙ ap (λ found. take (place_in key found) (chain key.target)) (sym (opening.no_object key planned));
     no_others = λ name none. none_done name p.effects opening.no_effect;
   };
   requests = subst (All (Justified keys p.objects)) (sym opening.no_request) (All-nil (Justified keys p.objects));

@@ -1,23 +1,21 @@
 -- What is sound stays so, and the objects go onward, by each move and by any number of moves.
-use Rattle.std.proofs.Common.{◌≡◌, ◌≤◌, ℕ, Bool, true, false, nat_eq, List, [], ◌∷◌, ◌++◌, take, option_to_list, append_assoc, append-nil, Option, Some, None, refl, sym, ap, subst, ◌∙◌, inl, inr, arith}
+use Rattle.std.proofs.Common.{◌≡◌, ℕ, nat_eq, List, [], ◌∷◌, ◌++◌, option_to_list, append-nil, Option, None, refl, sym, ap, subst, ◌∙◌, inl, inr}
 use Rattle.std.specs.Cmp.Lexicographic.{pointwise}
-use Rattle.std.specs.List.{All, Contains}
+use Rattle.std.specs.List.{All}
 use Rattle.std.proofs.lemmas.Bool.{cases_Bool}
 use Rattle.std.proofs.lemmas.List.Elements.{All-weaker, All-push, All-contains}
 use Rattle.kmip_messages.specs.Objects.{Object, object_named}
 use Rattle.kmip_messages.specs.declared.reply.Reply.{Reply}
 use Rattle.kmip_messages.specs.declared.request.Request.{Request}
-use Rattle.kmip_plan.specs.Chains.{chain}
-use Rattle.kmip_plan.specs.Plans.{IsPlanned, key_named}
 use Rattle.kmip_plan.specs.declared.key.Key.{Key}
 use Rattle.kmip_client.specs.Justified.{Justified}
-use Rattle.kmip_client.specs.Places.{Onward, position}
+use Rattle.kmip_client.specs.Places.{Onward}
 use Rattle.kmip_schedule.specs.declared.effect.Effect.{Effect}
 use Rattle.kmip_schedule.specs.Lawbook.{Lawbook}
 use Rattle.kmip_schedule.specs.Moves.{Move, Serve, Unanswered, Refuse, Comes, Changes, after_move, MayHappen, AllMayHappen, after_moves, Delivered, Serves}
 use Rattle.kmip_schedule.specs.Past.{Past, is_planned, steps_on}
-use Rattle.kmip_schedule.specs.Sound.{EffectsAreFirst, HasItsObjects, Sound, TrueAnswer}
-use Rattle.kmip_schedule.proofs.ChangeLemmas.{goes_onward, place_in, steps_join, stays_its_own}
+use Rattle.kmip_schedule.specs.Sound.{EffectsAreFirst, Sound, TrueAnswer}
+use Rattle.kmip_schedule.proofs.ChangeLemmas.{goes_onward, steps_join, stays_its_own}
 use Rattle.kmip_schedule.proofs.MovingLemmas.{ObjectsMove, serve_moves, comes_moves, foreign_moves}
 use Rattle.kmip_schedule.proofs.ReplyLemmas.{failed_answer, served_answer}
 

@@ -3,3 +3,7 @@ pub mod MovingLemmas
 pub mod ReplyLemmas
 pub mod KeepingLemmas
 pub mod ExchangeLemmas
+pub mod ServedLemmas
+pub mod SafeLemmas
+pub mod TurnLemmas
+pub mod MirrorLemmas

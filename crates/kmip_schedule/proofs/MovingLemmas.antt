@@ -1,5 +1,5 @@
 -- How the objects of all planned names change, when a request is served and when an object of no planned name comes or changes.
-use Rattle.std.proofs.Common.{◌≡◌, ◌≢◌, ◌≤◌, ◌<◌, ◌+◌, ℕ, Bool, true, false, nat_eq, List, [], ◌∷◌, ◌++◌, take, length, find, is_some, option_map, option_to_list, append-nil, Option, Some, None, IsTrue, MatchOption, refl, sym, ap, subst, ◌∙◌, inl, inr, arith, rules}
+use Rattle.std.proofs.Common.{◌≡◌, ◌≢◌, ◌≤◌, ◌+◌, ℕ, true, false, nat_eq, List, [], ◌∷◌, ◌++◌, take, is_some, option_map, option_to_list, Option, Some, None, IsTrue, refl, sym, ap, subst, ◌∙◌, inl, inr, arith}
 use Rattle.std.specs.Cmp.Lexicographic.{pointwise}
 use Rattle.std.specs.Option.{option_map_or}
 use Rattle.std.proofs.lemmas.Bool.{cases_Bool, false_from_ne_true}
@@ -15,7 +15,7 @@ use Rattle.kmip_messages.specs.declared.request.KeyAttrs.{KeyAttrs}
 use Rattle.kmip_messages.specs.declared.state.KeyState.{KeyState}
 use Rattle.kmip_messages.specs.declared.state.KeyState.TheVariants as states
 use Rattle.kmip_messages.specs.declared.step.Step.{Step}
-use Rattle.kmip_messages.specs.declared.step.Step.TheVariants.{Create, Activate, Revoke, Destroy}
+use Rattle.kmip_messages.specs.declared.step.Step.TheVariants.{Activate, Revoke, Destroy}
 use Rattle.kmip_plan.specs.Chains.{chain, place_reached, step_place}
 use Rattle.kmip_plan.specs.Plans.{IsPlanned, key_named}
 use Rattle.kmip_plan.specs.declared.key.Key.{Key}
@@ -182,7 +182,7 @@ other_named l name objects o None is apart =
     l.named_among name objects (o ∷ []) is ∙ other
 other_named l name objects o (Some x) is apart = l.named_before name objects (o ∷ []) x is
 
-apart_from : (a b : List ℕ) → a ≢ b → pointwise nat_eq a b ≡ false
+pub apart_from : (a b : List ℕ) → a ≢ b → pointwise nat_eq a b ≡ false
 apart_from a b apart = false_from_ne_true (pointwise nat_eq a b) (λ same. apart ((bytes_eq-Decides a b).0 same))
 
 pub own_named : (l : Lawbook) (objects : List Object) (o : Object) → object_named o.attrs.name objects ≡ None

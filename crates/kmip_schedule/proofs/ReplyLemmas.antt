@@ -1,11 +1,8 @@
 -- The reply to a request that may be asked is true.
-use Rattle.std.proofs.Common.{◌≡◌, ◌≢◌, ◌≤◌, ◌<◌, ◌+◌, ℕ, ℤ, true, false, List, [], ◌∷◌, ◌++◌, option_map, option_to_list, Option, Some, None, IsTrue, refl, sym, ap, subst, ◌∙◌, inl, inr, ◌⊎◌, arith}
-use Rattle.std.specs.List.{All, Contains}
-use Rattle.std.specs.Option.{option_map_or}
+use Rattle.std.proofs.Common.{◌≡◌, ◌≤◌, ◌<◌, ℕ, ℤ, List, [], ◌∷◌, ◌++◌, option_to_list, Option, Some, None, refl, sym, ap, subst, ◌∙◌, inl, inr, arith}
 use Rattle.std.proofs.lemmas.Option.{same_Some}
 use Rattle.kmip_messages.specs.Lifecycle.{after}
 use Rattle.kmip_messages.specs.Objects.{Object, object_named, object_with, all_restated, DistinctNames, DistinctUids}
-use Rattle.kmip_messages.specs.Operations.{operation_of}
 use Rattle.kmip_messages.specs.Searching.{by_name, every_state}
 use Rattle.kmip_messages.specs.States.{state_number}
 use Rattle.kmip_messages.specs.declared.reply.Outcome.{Outcome}
@@ -14,7 +11,6 @@ use Rattle.kmip_messages.specs.declared.reply.Reply.{Reply}
 use Rattle.kmip_messages.specs.declared.request.Ask.{Ask}
 use Rattle.kmip_messages.specs.declared.request.Ask.TheVariants as asks
 use Rattle.kmip_messages.specs.declared.request.Attrs.{Attrs}
-use Rattle.kmip_messages.specs.declared.request.KeyAttrs.{KeyAttrs}
 use Rattle.kmip_messages.specs.declared.request.Request.{Request}
 use Rattle.kmip_messages.specs.declared.state.KeyState.{KeyState}
 use Rattle.kmip_messages.specs.declared.state.KeyState.TheVariants as states
@@ -25,7 +21,7 @@ use Rattle.kmip_plan.specs.Plans.{IsPlanned, key_named}
 use Rattle.kmip_plan.specs.declared.key.Key.{Key}
 use Rattle.kmip_client.specs.Justified.{Justified, StepIsDue, MayAsk}
 use Rattle.kmip_client.specs.Places.{position, uid_of}
-use Rattle.kmip_client.specs.Truth.{AreFound, StepIsDone, TrueOutcome, TrueReply}
+use Rattle.kmip_client.specs.Truth.{AreFound, StepIsDone, TrueOutcome}
 use Rattle.kmip_server.specs.ServerStep as rows
 use Rattle.kmip_server.specs.ServerStep.{ServerStep, success_of}
 use Rattle.kmip_server.specs.Serving.{attributes_of}
@@ -33,9 +29,9 @@ use Rattle.kmip_schedule.specs.declared.effect.Effect.{Effect}
 use Rattle.kmip_schedule.specs.Lawbook.{Lawbook}
 use Rattle.kmip_schedule.specs.Moves.{HasFailed, Serves}
 use Rattle.kmip_schedule.specs.Past.{Past}
-use Rattle.kmip_schedule.specs.Sound.{HasItsObjects, TrueAnswer, Echoes}
+use Rattle.kmip_schedule.specs.Sound.{HasItsObjects, TrueAnswer}
 use Rattle.kmip_schedule.proofs.ChangeLemmas.{place_in, uid_in}
-use Rattle.kmip_schedule.proofs.MovingLemmas.{due_of, own_object, own_named, takes, same_key}
+use Rattle.kmip_schedule.proofs.MovingLemmas.{due_of, own_object, own_named, takes}
 
 own_found : (own : Option (List ℕ)) → AreFound own (option_to_list own)
 own_found None = tt
@@ -136,7 +132,7 @@ failed_answer keys objects requests reply failed = record {
   echoes = inl failed;
 }
 
-same_name : (operation other : ℕ) (name own : List ℕ) → Some (operation ∷ name) ≡ Some (other ∷ own) → name ≡ own
+pub same_name : (operation other : ℕ) (name own : List ℕ) → Some (operation ∷ name) ≡ Some (other ∷ own) → name ≡ own
 same_name operation other name own is = cc
 
 named_one : (l : Lawbook) (keys : List Key) (key other : Key) (name : List ℕ) → IsPlanned keys key → key_named name keys ≡ Some other → name ≡ key.attrs.name → key ≡ other

@@ -14,7 +14,7 @@ use Rattle.kmip_messages.specs.ObjectLaws.{
   NamedIsRestated,
   StaysDistinct,
 }
-use Rattle.kmip_plan.specs.Laws.{PreActiveIsFirst, ReachedIsWithin, DueStepsAdvance, DueStepsJoinTheDone, FoundKeysStand}
+use Rattle.kmip_plan.specs.Laws.{PlacesAndSteps, PreActiveIsFirst, ReachedIsWithin, DueStepsAdvance, DueStepsJoinTheDone, FoundKeysStand}
 use Rattle.kmip_client.specs.Laws.{OnwardToItself, OnwardTwice, JustifiedForGood, TrueForGood}
 use Rattle.kmip_server.specs.Laws.{LocateFindsTheName}
 
@@ -32,6 +32,7 @@ pub record Lawbook : Type 0 where
   pub named_restated : NamedIsRestated
   pub names_stay : StaysDistinct DistinctNames
   pub uids_stay : StaysDistinct DistinctUids
+  pub places : PlacesAndSteps
   pub first : PreActiveIsFirst
   pub reached : ReachedIsWithin
   pub advance : DueStepsAdvance

@@ -1,9 +1,9 @@
 -- What holds of all that may happen between a client and its server.
 -- Source: own: what the laws say.
-use Rattle.std.specs.Prelude.{◌≡◌, ◌≤◌, ℕ, List, Option, Result, nat_eq}
+use Rattle.std.specs.Prelude.{◌≡◌, ◌≤◌, ℕ, List, Option, Result}
 use Rattle.std.specs.List.{All}
 use Rattle.kmip_plan.specs.Chains.{step_place}
-use Rattle.kmip_plan.specs.Plans.{IsLawful, IsPlanned}
+use Rattle.kmip_plan.specs.Plans.{IsPlanned}
 use Rattle.kmip_plan.specs.declared.key.Key.{Key}
 use Rattle.kmip_client.specs.Justified.{JustifiedMessage}
 use Rattle.kmip_client.specs.Places.{Onward, position}
@@ -48,3 +48,37 @@ AnswersAreTrue =
 -- where nothing of the plan has happened, all is sound
 abbrev pub NothingDoneIsSound : Type 0
 NothingDoneIsSound = (keys : List Key) (p : Past) → Opening keys p → Sound keys p
+
+-- the step is one of those that the key's object has come to
+abbrev pub IsReached : List Key → Past → Effect → Type 0
+IsReached keys p effect =
+    (key : Key) × IsPlanned keys key × (effect.name ≡ key.attrs.name) × (1 ≤ step_place key.target effect.step)
+    × (step_place key.target effect.step ≤ position key p.objects)
+
+-- what is sound is safe, where each step that is reported done was reached
+abbrev pub SoundIsSafe : Type 0
+SoundIsSafe =
+    (keys : List Key) (p : Past) (reported : List Effect) → Sound keys p → All (IsReached keys p) reported → Safe keys p reported
+
+-- where nothing of the plan has happened, the past is an image of the plan machine
+abbrev pub OpeningIsMirrored : Type 0
+OpeningIsMirrored = (keys : List Key) (p : Past) → Opening keys p → IsMirrored keys p
+
+-- it stays one when a message of requests that may be asked is sent
+abbrev pub AskingKeepsTheImage : Type 0
+AskingKeepsTheImage =
+    (keys : List Key) (p : Past) (sent : List ℕ) → IsMirrored keys p → JustifiedMessage keys p.objects sent
+    → IsMirrored keys (with_asked sent p)
+
+-- whatever happens
+abbrev pub DeliveriesKeepTheImage : Type 0
+DeliveriesKeepTheImage =
+    (keys : List Key) (old new : Past) → Sound keys old → IsMirrored keys old → Delivered (is_planned keys) old new
+    → IsMirrored keys new
+
+-- and by a whole exchange
+abbrev pub ExchangesKeepTheImage : Type 0
+ExchangesKeepTheImage =
+    (keys : List Key) (old new : Past) (sent : List ℕ) (answer : Result (Option (List ℕ)) LinkFault) → Sound keys old
+    → IsMirrored keys old → JustifiedMessage keys old.objects sent → Exchanged (is_planned keys) old sent answer new
+    → IsMirrored keys new

@@ -1,6 +1,6 @@
 -- What holds of all that was ever asked, answered and done, for the keys of a plan; and where nothing of the plan has happened.
 -- Source: own.
-use Rattle.std.specs.Prelude.{◌≡◌, ◌⊎◌, ◌≤◌, ℕ, List, [], take, Option, Some, None, IsTrue}
+use Rattle.std.specs.Prelude.{◌≡◌, ◌⊎◌, ◌≤◌, ℕ, List, [], take, Some, None, IsTrue}
 use Rattle.std.specs.List.{All, Contains}
 use Rattle.kmip_messages.specs.Objects.{Object, object_named, DistinctNames, DistinctUids}
 use Rattle.kmip_messages.specs.Operations.{operation_of}

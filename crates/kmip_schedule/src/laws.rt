@@ -8,11 +8,16 @@ ghost use Rattle.kmip_schedule.specs.Laws.{
   ExchangesKeepSound,
   AnswersAreTrue,
   NothingDoneIsSound,
+  SoundIsSafe,
+  OpeningIsMirrored,
+  AskingKeepsTheImage,
+  DeliveriesKeepTheImage,
+  ExchangesKeepTheImage,
 };
 
 use kmip_client::laws::{onward_is_an_order, truth_is_for_good};
 use kmip_messages::laws::{added_laws, found_laws, restated_laws};
-use kmip_plan::laws::{due_steps_advance, keys_have_names, states_have_places};
+use kmip_plan::laws::{due_steps_advance, keys_have_names, states_have_places, steps_have_places};
 use kmip_server::laws::a_name_is_found;
 
 /// The laws of the crates below.
@@ -22,6 +27,7 @@ fn laws_below()
     found_laws();
     added_laws();
     restated_laws();
+    steps_have_places();
     states_have_places();
     due_steps_advance();
     keys_have_names();
@@ -66,3 +72,24 @@ pub fn answers_are_true()
 pub fn nothing_done_is_sound()
     ensures { NothingDoneIsSound }
 {}
+
+/// What is sound is safe, where each step that is reported done was reached.
+pub fn sound_is_safe()
+    ensures { SoundIsSafe }
+{
+    laws_below();
+}
+
+/// Where nothing of the plan has happened, the past is an image of the plan machine at its start.
+pub fn opening_is_mirrored()
+    ensures { OpeningIsMirrored }
+{}
+
+/// Asking, whatever happens and whole exchanges keep the past an image of the plan machine.
+pub fn the_image_is_kept()
+    ensures asking { AskingKeepsTheImage }
+    ensures deliveries { DeliveriesKeepTheImage }
+    ensures exchanges { ExchangesKeepTheImage }
+{
+    laws_below();
+}

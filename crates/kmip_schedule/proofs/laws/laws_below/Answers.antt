@@ -16,6 +16,7 @@ returns c = record {
   named_restated = c.restated_laws.ensures.named;
   names_stay = c.restated_laws.ensures.distinct_names;
   uids_stay = c.restated_laws.ensures.distinct_identifiers;
+  places = c.steps_have_places.ensures.places;
   first = c.states_have_places.ensures.first;
   reached = c.states_have_places.ensures.reached;
   advance = c.due_steps_advance.ensures.advance;
