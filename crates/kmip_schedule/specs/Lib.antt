@@ -3,6 +3,7 @@ pub mod Past
 pub mod Moves
 pub mod Sound
 pub mod Exchanges
+pub mod Calm
 pub mod Safe
 pub mod Machine
 pub mod Lawbook
