@@ -93,8 +93,9 @@ With --after it also says whether the plan prolongs an earlier one, so that all 
 earlier plan is a beginning of what this one wants. The keys of the earlier plan have to come first, in
 the same order, and each with the same algorithm, length and usage, a target whose steps begin with the
 steps to its earlier target, and, where a Revoke was among those, the same reason. New keys come after
-them. Below the lines of the keys stands `prolongs`, or `prolongs not` with the exit status 1. Both files
-are read, and then both plans judged, before anything is printed: this plan first, then the earlier one.";
+them. Below the lines of the keys stands `prolongs`, or `prolongs not` with the exit status 1. This plan
+is read and judged first, then the earlier one, before anything is printed: the first fault is printed
+alone.";
 
 const PLAN: &str = "The file of the plan";
 

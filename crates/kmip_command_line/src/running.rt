@@ -2,8 +2,8 @@
 
 use crate::{Choice, chosen, status_of};
 use kmip_commands::{
-    CommandFault, ExitStatus, Form, run_answer, run_answer_stream, run_check, run_check_after,
-    run_show,
+    CommandFault, ExitStatus, Form, check_bytes, run_answer, run_answer_stream, run_check,
+    run_check_after, run_show,
 };
 use std::io::{BufReader, BufWriter, Error, ErrorKind, Read};
 use std::process::ExitCode;
@@ -98,11 +98,22 @@ fn check_plan_after(rt: &HostRuntime, path: &str, earlier_path: &str) -> io::Res
     let Some(plan) = plan_or_why_not(rt, path)? else {
         return Ok(ExitStatus::Refused);
     };
+    if is_refused(rt, plan.as_str()) {
+        let mut writer = BufWriter::new(rt.alloc(), io::writer(rt))?;
+        return Ok(run_check(rt.alloc(), plan.as_str(), &mut writer));
+    }
     let Some(earlier) = plan_or_why_not(rt, earlier_path)? else {
         return Ok(ExitStatus::Refused);
     };
     let mut writer = BufWriter::new(rt.alloc(), io::writer(rt))?;
     Ok(run_check_after(rt.alloc(), plan.as_str(), earlier.as_str(), &mut writer))
+}
+
+/// Whether a text is no plan. Where memory runs out it is not said to be one; what is done with it
+/// then says so.
+fn is_refused(rt: &HostRuntime, plan: &str) -> bool {
+    let mut text = Vec::new(rt.alloc());
+    matches!(check_bytes(rt.alloc(), plan, &mut text), Ok(true))
 }
 
 /// The text of a plan's file; where it has none, or one that is too long, that is printed.

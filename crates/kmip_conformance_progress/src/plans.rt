@@ -37,17 +37,17 @@ pub fn known(alloc: Global, identifier: Option<&str>, done: usize) -> Result<Kno
 }
 
 /// What is said of a text that is read for a plan: the text that is then written, or the fault.
-pub fn said(alloc: Global, plan: &Plan, text: &str) -> Result<String, AllocError> {
+pub fn said(alloc: Global, plan: &Plan, text: &str) -> Result<String, Fail> {
     match Progress::read_text(alloc, plan, text) {
         Ok(progress) => written(alloc, plan, &progress),
-        Err(fault) => format!(in alloc; "{} {}", fault.number(), fault.name()),
+        Err(fault) => Ok(format!(in alloc; "{} {}", fault.number(), fault.name())?),
     }
 }
 
 /// The text of a progress.
-pub fn written(alloc: Global, plan: &Plan, progress: &Progress) -> Result<String, AllocError> {
+pub fn written(alloc: Global, plan: &Plan, progress: &Progress) -> Result<String, Fail> {
     if !suits(plan, progress) {
-        return String::from_str(alloc, "it does not suit");
+        return Ok(String::from_str(alloc, "it does not suit")?);
     }
     let text = progress.write_text(alloc, plan)?;
     Ok(text.into_string())

@@ -11,8 +11,8 @@ use crate::known::{Known, known_fits};
 use crate::reading::read_known;
 use crate::writing::progress_text;
 use kmip_plan::{Key, Plan};
-use kmip_ttlv::Text;
-use std::alloc::{AllocError, Global};
+use kmip_ttlv::{NoMemory, Text};
+use std::alloc::Global;
 use std::marker::Model;
 
 /// What is known of each key of a plan, in the plan's order. A contract sees the list of it.
@@ -49,7 +49,7 @@ impl Progress {
     ///
     /// # Errors
     /// Where there is no memory for the text.
-    pub fn write_text(&self, alloc: Global, plan: &Plan) -> Result<Text, AllocError>
+    pub fn write_text(&self, alloc: Global, plan: &Plan) -> Result<Text, NoMemory>
         requires { Suits plan.now self.now }
         ensures text { IfOk result (λ text. text ≡ progress_text plan.now self.now) }
         ensures says { IfOk result (λ text. IsProgressText plan.now text self.now) }

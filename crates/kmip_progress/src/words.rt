@@ -50,8 +50,8 @@ pub(crate) fn steps_to(target: Target) -> usize
     }
 }
 
-/// Whether the way to a target leads on to another one. (To be replaced by a call of kmip_plan that
-/// says so, once it has one.)
+/// Whether the way to a target leads on to another one. (To be replaced by `Target::leads_on` of
+/// kmip_plan.)
 pub(crate) fn leads_on(target: Target, further: Target) -> bool
     ensures { result ≡ leads_on target further }
 {
