@@ -1,6 +1,6 @@
 -- A text is its lines, and a line its words.
-use Rattle.std.proofs.Common.{◌≡◌, ◌<◌, ◌==◌, ◌⊎◌, ℕ, nat_le, Bool, true, false, not, ◌&&◌, List, [], ◌∷◌, ◌++◌, refl, sym, ap, ◌∙◌, inl, inr, arith, lit<}
-use Rattle.std.specs.List.{list_all, slice_split, onto_first, join_with_byte}
+use Rattle.std.proofs.Common.{◌≡◌, ◌<◌, ◌==◌, ◌⊎◌, ℕ, nat_le, Bool, true, not, List, [], ◌∷◌, ◌++◌, refl, sym, ap, ◌∙◌, inl, inr, arith, lit<}
+use Rattle.std.specs.List.{list_all, onto_first, join_with_byte}
 use Rattle.std.proofs.lemmas.Bool.{and_parts, and_from, leb-true, ne_eqb, eq-eqb, not-true, not_from_false}
 use Rattle.std.proofs.lemmas.List.Splits.{slice_split-cons_yes, slice_split-cons_no, join_with_byte-slice_split}
 use Rattle.kmip_messages.specs.Ranges.{is_name_byte}

@@ -1,5 +1,5 @@
 -- Which lines speak of a key, and what they tell of the keys of a plan.
-use Rattle.std.proofs.Common.{◌≡◌, ◌==◌, ◌≤◌, ℕ, nat_le, Bool, true, false, ◌&&◌, List, [], ◌∷◌, ◌++◌, length, map, take, drop, Option, Some, None, IfSome, if◌then◌else◌, subst, refl, sym, ap, ◌∙◌, inl, inr, arith}
+use Rattle.std.proofs.Common.{◌≡◌, ◌==◌, ◌≤◌, ℕ, nat_le, true, ◌&&◌, List, [], ◌∷◌, ◌++◌, length, map, drop, Option, Some, None, IfSome, subst, refl, sym, ap, ◌∙◌, inl, inr, arith}
 use Rattle.std.specs.List.{list_all}
 use Rattle.std.specs.Option.{option_map_or}
 use Rattle.std.proofs.lemmas.Bool.{cases_Bool, and_parts, and_from, leb-true, le-leb, eqb-true, eq-eqb}
@@ -16,7 +16,7 @@ use Rattle.kmip_progress.specs.declared.entry.Format.TheVariants.{One, Two}
 use Rattle.kmip_progress.specs.declared.known.Known.{Known}
 use Rattle.kmip_progress.specs.Reading.{leads_on, speaks_of, keys_behind, all_known}
 use Rattle.kmip_progress.specs.Suiting.{is_known, known_fits, nothing_known, Suits}
-use Rattle.kmip_progress.specs.Texts.{entry_fits, entry_for, entries_for, reason_for, SpeaksOf, Tells}
+use Rattle.kmip_progress.specs.Texts.{entry_fits, entries_for, reason_for, SpeaksOf, Tells}
 use Rattle.kmip_progress.proofs.EntryLemmas.{fits_so}
 use Rattle.kmip_progress.proofs.WordLemmas.{same_some, not_some, same_text, text_same}
 

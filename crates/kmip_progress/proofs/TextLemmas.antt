@@ -1,14 +1,13 @@
 -- A text is read just where it is one of a progress, and each proper front of one is cut.
-use Rattle.std.proofs.Common.{◌≡◌, ◌≢◌, ◌==◌, ◌≤◌, ◌<◌, ◌^◌, ℕ, nat_le, Bool, true, false, not, ◌&&◌, List, [], ◌∷◌, ◌++◌, length, map, drop, codes, Option, Some, None, is_some, option_map, Result, Ok, Err, IfOk, if◌then◌else◌, subst, refl, sym, ap, ◌∙◌, inl, inr, arith, lit<, append_assoc}
+use Rattle.std.proofs.Common.{◌≡◌, ◌≢◌, ◌≤◌, ◌<◌, ◌^◌, ℕ, nat_le, Bool, true, not, ◌&&◌, List, [], ◌∷◌, ◌++◌, length, map, codes, Option, Some, None, is_some, option_map, Result, Ok, Err, IfOk, subst, refl, sym, ap, ◌∙◌, inl, inr, arith, lit<, append_assoc}
 use Rattle.std.specs.Fmt.{decimal}
 use Rattle.std.specs.List.{list_all}
 use Rattle.std.specs.Option.{option_map_or}
 use Rattle.std.specs.Str.{is_utf8}
-use Rattle.std.proofs.lemmas.Bool.{cases_Bool, and_parts, and_from, not-true}
-use Rattle.std.proofs.lemmas.List.{append-nil}
+use Rattle.std.proofs.lemmas.Bool.{cases_Bool, and_parts, and_from}
 use Rattle.kmip_messages.specs.Ranges.{is_name, is_name_byte}
 use Rattle.kmip_messages.proofs.ForCallers.{Reads, reads-ok, reads-bind, reads-as}
-use Rattle.kmip_plan.specs.Plans.{key_fits, reason_fits, IsLawful}
+use Rattle.kmip_plan.specs.Plans.{IsLawful}
 use Rattle.kmip_plan.specs.Words.{is_text, target_word}
 use Rattle.kmip_plan.specs.declared.key.Key.{Key}
 use Rattle.kmip_plan.specs.declared.target.Target.{Target}
@@ -19,14 +18,14 @@ use Rattle.kmip_progress.specs.declared.entry.Format.TheVariants.{One, Two}
 use Rattle.kmip_progress.specs.declared.fault.ProgressFault.{ProgressFault}
 use Rattle.kmip_progress.specs.declared.fault.ProgressFault.TheVariants as faults
 use Rattle.kmip_progress.specs.declared.known.Known.{Known}
-use Rattle.kmip_progress.specs.Reading.{parts, body_of, format_of_head, format_in, entries_in, keys_behind, all_known, entries_of_text, read_text, GivesProgress}
+use Rattle.kmip_progress.specs.Reading.{parts, body_of, format_of_head, format_in, keys_behind, all_known, entries_of_text, read_text, GivesProgress}
 use Rattle.kmip_progress.specs.Suiting.{has_text, Suits}
 use Rattle.kmip_progress.specs.Texts.{head_line, entry_words, line_of, text_of_lines, lines_of, end_line, text_of, entry_fits, reason_stands, Tells, IsProgressText}
 use Rattle.kmip_progress.specs.Words.{is_number, number_in, reason_word, identifier_word}
 use Rattle.kmip_progress.proofs.BodyLemmas.{body_here, no_body, body_found}
 use Rattle.kmip_progress.proofs.ByteLemmas.{is_word, hex_word, utf8_bytes, digits_printable, decimal_digits, decimal_number, all_from, all_parts}
-use Rattle.kmip_progress.proofs.EntryLemmas.{AreRead, entries-law, reads-need, reads-guard, fits_so, not_ok, same_ok}
-use Rattle.kmip_progress.proofs.SplitLemmas.{is_free, IsCutShort, words_back, line_back, line_free, lines_back, text_back, cut_short}
+use Rattle.kmip_progress.proofs.EntryLemmas.{AreRead, entries-law, reads-need, reads-guard, fits_so}
+use Rattle.kmip_progress.proofs.SplitLemmas.{is_free, words_back, line_back, line_free, lines_back, text_back, cut_short}
 use Rattle.kmip_progress.proofs.TellingLemmas.{told, tells, as_few, told_suits}
 use Rattle.kmip_progress.proofs.WordLemmas.{same_some, not_some, same_text, text_same, of_reasons, stands_reason}
 

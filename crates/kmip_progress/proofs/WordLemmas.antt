@@ -1,5 +1,5 @@
 -- Words and what they stand for.
-use Rattle.std.proofs.Common.{◌≡◌, ◌==◌, ◌≤◌, ◌*◌, ℕ, zero, suc, Bool, true, false, not, ◌&&◌, ◌||◌, List, length, codes, Option, Some, None, option_map, Result, Ok, Err, IsOk, if◌then◌else◌, subst, refl, sym, ap, ◌∙◌, inl, inr, arith, lit<}
+use Rattle.std.proofs.Common.{◌≡◌, ◌==◌, ◌≤◌, ℕ, zero, suc, Bool, true, false, not, ◌&&◌, ◌||◌, List, length, codes, Option, Some, None, option_map, Result, Ok, Err, IsOk, if◌then◌else◌, subst, refl, sym, ap, ◌∙◌, inl, inr, arith, lit<}
 use Rattle.std.specs.Fmt.{decimal}
 use Rattle.std.specs.Option.{option_map_or, option_and_then}
 use Rattle.std.specs.Result.{result_ok}

@@ -1,6 +1,6 @@
 -- The words of a progress text, and what they stand for.
 -- Source: own; the reasons are Revocation Reason Codes of KMIP 2.1.
-use Rattle.std.specs.Prelude.{ℕ, ◌-◌, ◌==◌, nat_le, Bool, true, false, not, ◌&&◌, ◌||◌, List, [], ◌∷◌, length, codes, decimal, Option, Some, None, option_map, option_and_then, Result, slice_index, if◌then◌else◌}
+use Rattle.std.specs.Prelude.{ℕ, ◌==◌, nat_le, Bool, not, ◌&&◌, ◌||◌, List, [], ◌∷◌, length, codes, decimal, Option, Some, None, option_map, option_and_then, slice_index, if◌then◌else◌}
 use Rattle.std.specs.List.{list_all}
 use Rattle.std.specs.Result.{result_ok}
 use Rattle.std.specs.Str.{is_utf8}

@@ -1,5 +1,4 @@
 -- All were seen.
-use Rattle.std.proofs.Common.{rules, arith}
 use Rattle.kmip_progress.proofs.SuitingLemmas.{all_seen}
 use Rattle.kmip_progress.proofs.progress.all_fit.Goals as goal
 
