@@ -1,5 +1,5 @@
 -- Which lines speak of a key, and what they tell of the keys of a plan.
-use Rattle.std.proofs.Common.{◌≡◌, ◌==◌, ◌≤◌, ℕ, nat_le, true, ◌&&◌, List, [], ◌∷◌, ◌++◌, length, map, drop, Option, Some, None, IfSome, subst, refl, sym, ap, ◌∙◌, inl, inr, arith}
+use Rattle.std.proofs.Common.{◌≡◌, ◌==◌, ◌≤◌, ℕ, nat_le, Bool, true, false, ◌&&◌, ◌↔◌, IsTrue, List, [], ◌∷◌, ◌++◌, length, map, drop, Option, Some, None, IfSome, subst, refl, sym, ap, ◌∙◌, inl, inr, arith}
 use Rattle.std.specs.List.{list_all}
 use Rattle.std.specs.Option.{option_map_or}
 use Rattle.std.proofs.lemmas.Bool.{cases_Bool, and_parts, and_from, leb-true, le-leb, eqb-true, eq-eqb}
@@ -74,6 +74,14 @@ leads_read Discarded Active h = absurd cc
 leads_read Discarded Revoked h = absurd cc
 leads_read Discarded Destroyed h = absurd cc
 leads_read Discarded Discarded h = refl
+
+pub leads_is : (target further : Target) (b : Bool) → (IsTrue b ↔ LeadsOn target further) → b ≡ leads_on target further
+leads_is target further true h = sym (leads_read target further (h.0 refl))
+leads_is target further false h =
+    elim (cases_Bool (leads_on target further)) [
+      | inl found ↦ absurd (let so : false ≡ true = h.1 (leads_found target further found) in cc)
+      | inr none ↦ sym none
+    ]
 
 -- a further way is no shorter
 longer : (target further : Target) → LeadsOn target further → length (chain target) ≤ length (chain further)

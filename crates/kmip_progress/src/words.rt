@@ -50,19 +50,11 @@ pub(crate) fn steps_to(target: Target) -> usize
     }
 }
 
-/// Whether the way to a target leads on to another one. (To be replaced by `Target::leads_on` of
-/// kmip_plan.)
+/// Whether the way to a target leads on to another one.
 pub(crate) fn leads_on(target: Target, further: Target) -> bool
     ensures { result ≡ leads_on target further }
 {
-    match (target, further) {
-        (Target::Created, _) => true,
-        (Target::Active, Target::Active | Target::Revoked | Target::Destroyed) => true,
-        (Target::Revoked, Target::Revoked | Target::Destroyed) => true,
-        (Target::Destroyed, Target::Destroyed) => true,
-        (Target::Discarded, Target::Discarded) => true,
-        _ => false,
-    }
+    target.leads_on(further)
 }
 
 /// How many steps are done: one digit, 0 to 4.
