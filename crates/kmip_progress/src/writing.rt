@@ -86,7 +86,8 @@ fn reason_word(alloc: Global, key: &Key) -> Result<String, AllocError>
 
 /// An identifier in lower-case hexadecimal; a hyphen where none is known.
 fn identifier_word(alloc: Global, known: &Known) -> Result<String, AllocError>
-    ensures word { IfOk result (λ word. string_bytes word ≡ identifier_word known.now.identifier) }
+    ensures word { IfOk result (λ word. string_bytes word
+        ≡ identifier_word known.now.identifier) }
     ensures utf8 { OnOk result (IsTrue (has_text known.now)) }
 {
     match &known.identifier {
