@@ -1,43 +1,79 @@
-//! The answers of two stores to the same calls, one after the other.
+//! The answers of two stores, a list and one with maps, to the same calls.
 ghost use Rattle.std.specs.Prelude.{IfOk, IsTrue};
 ghost use Rattle.kmip_store.specs.Calling.{may_call};
 
 use kmip_messages::{Attrs, KeyAttrs, attrs_fit};
-use kmip_store::{Answer, Call, ListStore, call_both};
+use kmip_store::{Answer, Call, IndexedStore, ListStore, call_both};
 use kmip_ttlv::Text;
+use rand_chacha::ChaCha20Rng;
+use rand_core::{Rng, SeedableRng};
 use std::alloc::{AllocError, Global};
 use std::test::Fail;
 
 /// A call by its method and what it is given, and what it is answered.
+#[derive(Drop)]
 struct Row(&'static str, &'static str, &'static str);
 
-/// The calls of a store with room for one object.
-const ROWS: [Row; 15] = [
+/// The calls of a store with room for two objects. The material is of the stream of ChaCha20 under a
+/// key of zeros (RFC 8439, appendix A.1).
+const ROWS: [Row; 40] = [
+    Row("count", "", "counted 0"),
     Row("locate", "a", "located none"),
+    Row("find", "1", "found none"),
+    Row("activate", "1", "refused NotFound"),
+    Row("revoke", "1", "refused NotFound"),
+    Row("destroy", "1", "refused NotFound"),
     Row("create", "a", "created 1"),
     Row("create", "a", "refused SameName"),
-    Row("create", "b", "refused Full"),
-    Row("find", "1", "found 1 of 16 bytes"),
+    Row("find", "1", "found 1 with 76b8e0ada0f13d90405d6ae55386bd28"),
+    Row("locate", "a", "located 1"),
     Row("revoke", "1", "refused WrongState"),
+    Row("create", "b", "created 2"),
+    Row("create", "c", "refused Full"),
+    Row("create", "b", "refused SameName"),
+    Row("count", "", "counted 2"),
+    Row("find", "2", "found 2 with bdd219b8a08ded1aa836efcc8b770dc7"),
+    Row("find", "3", "found none"),
+    Row("find", "01", "found none"),
+    Row("locate", "c", "located none"),
+    Row("locate", "b", "located 2"),
+    Row("activate", "2", "moved"),
+    Row("activate", "2", "refused WrongState"),
+    Row("destroy", "2", "refused WrongState"),
+    Row("locate", "b", "located 2"),
+    Row("revoke", "2", "moved"),
+    Row("revoke", "2", "refused WrongState"),
+    Row("activate", "2", "refused WrongState"),
+    Row("find", "2", "found 2 with bdd219b8a08ded1aa836efcc8b770dc7"),
+    Row("destroy", "2", "moved"),
+    Row("destroy", "2", "refused WrongState"),
+    Row("find", "2", "found 2 with nothing"),
+    Row("locate", "b", "located none"),
+    Row("locate all", "b", "located 2"),
+    Row("create", "b", "refused SameName"),
+    Row("at", "1", "found 2 with nothing"),
+    Row("at", "0", "found 1 with 76b8e0ada0f13d90405d6ae55386bd28"),
+    Row("at", "2", "found none"),
     Row("activate", "1", "moved"),
     Row("destroy", "1", "refused WrongState"),
-    Row("revoke", "1", "moved"),
-    Row("locate", "a", "located 1"),
-    Row("destroy", "1", "moved"),
-    Row("locate", "a", "located none"),
-    Row("activate", "2", "refused NotFound"),
-    Row("find", "1", "found 1 of 0 bytes"),
-    Row("count", "", "counted 1"),
+    Row("count", "", "counted 2"),
 ];
 
-/// Create of an AES key with 128 bits, to encrypt and decrypt.
-fn create(alloc: Global, name: &str) -> Result<Call, Fail>
+/// What the random calls are about.
+const NAMES: [&str; 6] = ["a", "b", "c", "d", "e", "f"];
+
+const UIDS: [&str; 6] = ["1", "2", "3", "4", "5", "01"];
+
+const LENGTHS: [i32; 3] = [128, 192, 256];
+
+/// Create of an AES key with so many bits, to encrypt and decrypt.
+fn create(alloc: Global, name: &str, length: i32) -> Result<Call, Fail>
     ensures { IfOk result (λ call. IsTrue (may_call call)) }
 {
     let attrs = KeyAttrs {
         name: Text::copied(alloc, name)?,
         algorithm: 3,
-        length: 128,
+        length,
         usage: 12,
     };
     if attrs_fit(&attrs) {
@@ -47,8 +83,8 @@ fn create(alloc: Global, name: &str) -> Result<Call, Fail>
     }
 }
 
-/// Locate of whatever has the name and is not destroyed.
-fn locate(alloc: Global, name: &str) -> Result<Call, Fail>
+/// Locate of whatever has the name and is searched under the mask.
+fn locate(alloc: Global, mask: Option<i32>, name: &str) -> Result<Call, Fail>
     ensures { IfOk result (λ call. IsTrue (may_call call)) }
 {
     let filter = Attrs {
@@ -59,23 +95,43 @@ fn locate(alloc: Global, name: &str) -> Result<Call, Fail>
         usage: None,
         state: None,
     };
-    Ok(Call::Locate { mask: None, filter })
+    Ok(Call::Locate { mask, filter })
 }
 
-/// The call of a row.
-fn call_of(alloc: Global, row: &Row) -> Result<Call, Fail>
+/// The call of a method.
+fn call_of(alloc: Global, method: &str, given: &str, length: i32) -> Result<Call, Fail>
     ensures { IfOk result (λ call. IsTrue (may_call call)) }
 {
-    let Row(method, given, _) = row;
-    let uid = Text::copied(alloc, *given)?;
-    match *method {
-        "create" => create(alloc, *given),
-        "locate" => locate(alloc, *given),
+    let uid = Text::copied(alloc, given)?;
+    match method {
+        "create" => create(alloc, given, length),
+        "locate" => locate(alloc, None, given),
+        "locate all" => locate(alloc, Some(5), given),
         "find" => Ok(Call::Find(uid)),
         "activate" => Ok(Call::Activate(uid)),
         "revoke" => Ok(Call::Revoke(uid)),
         "destroy" => Ok(Call::Destroy(uid)),
+        "at" => Ok(Call::At(given.parse()?)),
         _ => Ok(Call::Count),
+    }
+}
+
+/// A random call: a step as often as all else.
+fn random_call(alloc: Global, rng: &mut ChaCha20Rng) -> Result<Call, Fail>
+    ensures { IfOk result (λ call. IsTrue (may_call call)) }
+{
+    let name = NAMES[rng.next_u32() as usize % NAMES.len()];
+    let uid = UIDS[rng.next_u32() as usize % UIDS.len()];
+    let length = LENGTHS[rng.next_u32() as usize % LENGTHS.len()];
+    match rng.next_u32() % 12 {
+        0..=2 => call_of(alloc, "create", name, length),
+        3 => call_of(alloc, "locate", name, length),
+        4 => call_of(alloc, "locate all", name, length),
+        5 => call_of(alloc, "find", uid, length),
+        6..=7 => call_of(alloc, "activate", uid, length),
+        8..=9 => call_of(alloc, "revoke", uid, length),
+        10 => call_of(alloc, "destroy", uid, length),
+        _ => call_of(alloc, "at", uid, length),
     }
 }
 
@@ -85,9 +141,12 @@ fn words_of(alloc: Global, answer: &Answer) -> Result<String, AllocError> {
         Answer::Created(uid) => format!(in alloc; "created {}", uid.as_str()),
         Answer::Located(Some(uid)) => format!(in alloc; "located {}", uid.as_str()),
         Answer::Located(None) => String::from_str(alloc, "located none"),
+        Answer::Found(Some(row)) if row.material.as_slice().is_empty() => {
+            format!(in alloc; "found {} with nothing", row.uid.as_str())
+        }
         Answer::Found(Some(row)) => {
-            let size = row.material.as_slice().len();
-            format!(in alloc; "found {} of {size} bytes", row.uid.as_str())
+            let material = hex::encode(alloc, row.material.as_slice())?;
+            format!(in alloc; "found {} with {}", row.uid.as_str(), material.as_str())
         }
         Answer::Found(None) => String::from_str(alloc, "found none"),
         Answer::Moved => String::from_str(alloc, "moved"),
@@ -96,19 +155,50 @@ fn words_of(alloc: Global, answer: &Answer) -> Result<String, AllocError> {
     }
 }
 
+/// Makes a call of both stores, and gives the answers in words.
+fn answers_of(
+    alloc: Global,
+    store: &mut ListStore,
+    other: &mut IndexedStore,
+    call: Call,
+) -> Result<(String, String), Fail>
+    requires { IsTrue (may_call call) }
+{
+    let (ours, theirs) = call_both(alloc, store, other, &[call])?;
+    let mut words = (String::new(alloc), String::new(alloc));
+    for answer in &ours {
+        words.0 = words_of(alloc, answer)?;
+    }
+    for answer in &theirs {
+        words.1 = words_of(alloc, answer)?;
+    }
+    Ok(words)
+}
+
 #[test]
 fn answers_call_by_call(rt: HostRuntime) -> Result<(), Fail> {
-    let mut store = ListStore::new(rt.alloc(), [0; 32], 1);
-    let mut other = ListStore::new(rt.alloc(), [0; 32], 1);
-    for row in &ROWS {
-        let call = call_of(rt.alloc(), row)?;
-        let (ours, theirs) = call_both(rt.alloc(), &mut store, &mut other, &[call])?;
-        for answers in [&ours, &theirs] {
-            assert_eq!(rt; answers.len(), 1, "{}", row.2);
-            for answer in answers {
-                let words = words_of(rt.alloc(), answer)?;
-                assert_eq!(rt; words.as_str(), row.2);
-            }
+    let mut store = ListStore::new(rt.alloc(), [0; 32], 2);
+    let mut other = IndexedStore::new(rt.alloc(), [0; 32], 2);
+    for (place, Row(method, given, wanted)) in ROWS.iter().enumerate() {
+        let call = call_of(rt.alloc(), *method, *given, 128)?;
+        let (ours, theirs) = answers_of(rt.alloc(), &mut store, &mut other, call)?;
+        assert_eq!(rt; ours.as_str(), *wanted, "{place}");
+        assert_eq!(rt; theirs.as_str(), *wanted, "{place}");
+    }
+    Ok(())
+}
+
+#[test]
+fn answers_random_calls_alike(rt: HostRuntime) -> Result<(), Fail> {
+    let mut rng = ChaCha20Rng::from_seed([8; 32]);
+    for seed in 0..50 {
+        let mut store = ListStore::new(rt.alloc(), [seed; 32], 4);
+        let mut other = IndexedStore::new(rt.alloc(), [seed; 32], 4);
+        for place in 0..100 {
+            let call = random_call(rt.alloc(), &mut rng)?;
+            let (ours, theirs) = answers_of(rt.alloc(), &mut store, &mut other, call)?;
+            assert!(rt; !ours.is_empty(), "{seed}, {place}");
+            assert_eq!(rt; ours.as_str(), theirs.as_str(), "{seed}, {place}");
         }
     }
     Ok(())
