@@ -3,7 +3,7 @@
 use crate::serving::{is_k1_alone, reply_to, server_of};
 use kmip_messages::{Outcome, read_reply};
 use kmip_server::Server;
-use kmip_store::{IndexedStore, Records};
+use kmip_store::{ListStore, Records};
 use kmip_vectors::{
     CREATE_K1, CREATE_K1_REPLY, INVALID_MESSAGE_REPLY, LOCATE_K1, LOCATE_K1_FOUND, changed,
 };
@@ -23,7 +23,7 @@ const MISSING_REPLY: &str = "\
     42007f0500000004000000010000000042007e05000000040000000600000000";
 
 /// A server with the object `k1` and nothing else.
-fn server_with_k1(alloc: Global) -> Result<Server<IndexedStore>, Fail> {
+fn server_with_k1(alloc: Global) -> Result<Server<ListStore>, Fail> {
     let mut server = server_of(alloc, 10_000);
     reply_to(alloc, &mut server, CREATE_K1)?;
     Ok(server)

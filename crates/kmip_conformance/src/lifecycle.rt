@@ -3,7 +3,7 @@
 use crate::serving::{reply_to, server_of};
 use kmip_messages::KeyState;
 use kmip_server::Server;
-use kmip_store::{IndexedStore, Records};
+use kmip_store::{ListStore, Records};
 use kmip_vectors::{
     ACTIVATE_1, ACTIVATE_1_REPLY, CREATE_K1, CREATE_K1_REPLY, DESTROY_1, LOCATE_K1,
     LOCATE_K1_FOUND, LOCATE_K1_NONE, NAME_USED_REPLY, WRONG_STATE_REPLY,
@@ -137,7 +137,7 @@ fn reply_of(alloc: Global, turn: &Turn) -> Result<String, AllocError> {
 }
 
 /// Checks that the one row is in the turn's state, and has its material until it is destroyed.
-fn check_row(rt: &impl Abort, records: &IndexedStore, turn: &Turn) {
+fn check_row(rt: &impl Abort, records: &ListStore, turn: &Turn) {
     let Turn(name, _, _, _, wanted) = turn;
     let size = if *wanted == KeyState::Destroyed {
         0
@@ -158,7 +158,7 @@ fn check_row(rt: &impl Abort, records: &IndexedStore, turn: &Turn) {
 fn take_turn(
     rt: &impl Abort,
     alloc: Global,
-    server: &mut Server<IndexedStore>,
+    server: &mut Server<ListStore>,
     turn: &Turn,
 ) -> Result<(), Fail> {
     let request = request_of(alloc, turn)?;

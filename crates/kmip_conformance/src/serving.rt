@@ -3,7 +3,7 @@ ghost use Rattle.std.specs.Prelude.{◌≤◌};
 
 use kmip_messages::KeyState;
 use kmip_server::Server;
-use kmip_store::{IndexedStore, Records};
+use kmip_store::{ListStore, Records};
 use kmip_vectors::{
     ALL, CREATE_K1, CREATE_K1_REPLY, INVALID_MESSAGE_REPLY, LOCATE_K1, LOCATE_K1_FOUND,
     LOCATE_K1_NONE, NAME_USED_REPLY,
@@ -32,11 +32,7 @@ pub const FULL_REPLY: &str = "\
     42007f0500000004000000010000000042007e05000000040000010000000000";
 
 /// The reply to a message, both in hexadecimal.
-pub fn reply_to(
-    alloc: Global,
-    server: &mut Server<IndexedStore>,
-    text: &str,
-) -> Result<String, Fail> {
+pub fn reply_to(alloc: Global, server: &mut Server<ListStore>, text: &str) -> Result<String, Fail> {
     let message = hex::decode(alloc, text)?;
     let reply = server.handle(alloc, message.as_slice(), 0)?;
     let text = hex::encode(alloc, reply.as_slice())?;
@@ -132,17 +128,17 @@ const LOCATED: [Row; 6] = [
 ];
 
 /// A server with room for this many objects, and without any.
-pub fn server_of(alloc: Global, room: usize) -> Server<IndexedStore>
+pub fn server_of(alloc: Global, room: usize) -> Server<ListStore>
     requires { room ≤ 10000 }
 {
-    Server::new(IndexedStore::new(alloc, [0; 32], room))
+    Server::new(ListStore::new(alloc, [0; 32], room))
 }
 
 /// Asks the server a request with the row's digits, and compares the reply.
 fn ask(
     rt: &impl Abort,
     alloc: Global,
-    server: &mut Server<IndexedStore>,
+    server: &mut Server<ListStore>,
     request: &str,
     row: &Row,
     wanted: &str,
@@ -154,7 +150,7 @@ fn ask(
 }
 
 /// Whether the records are `k1`, as it was created.
-pub fn is_k1_alone(records: &IndexedStore) -> bool {
+pub fn is_k1_alone(records: &ListStore) -> bool {
     if records.count() != 1 {
         return false;
     }
