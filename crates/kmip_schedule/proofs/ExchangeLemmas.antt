@@ -14,7 +14,7 @@ use Rattle.kmip_client.specs.Truth.{TrueMessage, TrueReply}
 use Rattle.kmip_schedule.specs.declared.effect.Effect.{Effect}
 use Rattle.kmip_schedule.specs.declared.link.LinkFault.{LinkFault}
 use Rattle.kmip_schedule.specs.declared.link.LinkFault.TheVariants.{Io, Frame, NoMemory}
-use Rattle.kmip_schedule.specs.Exchanges.{AreGiven, Exchanged, HandsOver, with_asked, with_handed}
+use Rattle.kmip_schedule.specs.Exchanges.{AreGiven, Exchanged, HandsOver, with_asked, with_exchange}
 use Rattle.kmip_schedule.specs.Lawbook.{Lawbook}
 use Rattle.kmip_schedule.specs.Past.{Past, is_planned, steps_on}
 use Rattle.kmip_schedule.specs.Sound.{Opening, Sound, TrueAnswer}
@@ -47,8 +47,8 @@ asked_sound keys p sent sound just = record {
       (λ reply answer. answer_more keys p.objects p.requests (requests_in sent) reply answer) p.replies sound.replies;
 }
 
-handed_sound : (keys : List Key) (p : Past) (answer : Option (List ℕ)) → Sound keys p → Sound keys (with_handed answer p)
-handed_sound keys p answer sound = record {
+handed_sound : (keys : List Key) (p : Past) (sent : List ℕ) (answer : Option (List ℕ)) → Sound keys p → Sound keys (with_exchange sent answer p)
+handed_sound keys p sent answer sound = record {
   names = sound.names;
   uids = sound.uids;
   objects = sound.objects;
@@ -61,7 +61,7 @@ hands_over_sound : (l : Lawbook) (keys : List Key) (old new : Past) (sent : List
     → JustifiedMessage keys old.objects sent → HandsOver (is_planned keys) old sent answer new → Sound keys new × Onward keys old.objects new.objects
 hands_over_sound l keys old new sent answer sound just hands =
     let (kept, on) = delivered_keeps l keys (with_asked sent old) hands.between (asked_sound keys old sent sound just) hands.delivered in
-    subst (λ p. Sound keys p × Onward keys old.objects p.objects) (sym hands.is) (handed_sound keys hands.between answer kept, on)
+    subst (λ p. Sound keys p × Onward keys old.objects p.objects) (sym hands.is) (handed_sound keys hands.between sent answer kept, on)
 
 pub exchanged_sound : (l : Lawbook) (keys : List Key) (old new : Past) (sent : List ℕ) (answer : Result (Option (List ℕ)) LinkFault) → Sound keys old
     → JustifiedMessage keys old.objects sent → Exchanged (is_planned keys) old sent answer new → Sound keys new × Onward keys old.objects new.objects

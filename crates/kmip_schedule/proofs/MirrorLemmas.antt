@@ -13,7 +13,7 @@ use Rattle.kmip_client.specs.Places.{position}
 use Rattle.kmip_schedule.specs.declared.effect.Effect.{Effect}
 use Rattle.kmip_schedule.specs.declared.link.LinkFault.{LinkFault}
 use Rattle.kmip_schedule.specs.declared.link.LinkFault.TheVariants.{Io, Frame, NoMemory}
-use Rattle.kmip_schedule.specs.Exchanges.{Exchanged, HandsOver, with_asked, with_handed}
+use Rattle.kmip_schedule.specs.Exchanges.{Exchanged, HandsOver, with_asked, with_exchange}
 use Rattle.kmip_schedule.specs.Lawbook.{Lawbook}
 use Rattle.kmip_schedule.specs.Machine.{IsMirrored, pair_asked}
 use Rattle.kmip_schedule.specs.Moves.{Move, Serve, Unanswered, Refuse, Comes, Changes, after_move, MayHappen, AllMayHappen, after_moves, Delivered, Serves}
@@ -81,7 +81,7 @@ mirrored_over : (l : Lawbook) (keys : List Key) (old new : Past) (sent : List �
     → JustifiedMessage keys old.objects sent → HandsOver (is_planned keys) old sent answer new → IsMirrored keys new
 mirrored_over l keys old new sent answer sound image just hands =
     let between = mirrored_delivered l keys (with_asked sent old) hands.between (asked_sound keys old sent sound just) (mirrored_asked keys old sent image just) hands.delivered in
-    subst (IsMirrored keys) (sym hands.is) (no_more keys hands.between (with_handed answer hands.between) between (λ key planned. refl) refl refl)
+    subst (IsMirrored keys) (sym hands.is) (no_more keys hands.between (with_exchange sent answer hands.between) between (λ key planned. refl) refl refl)
 
 pub mirrored_exchange : (l : Lawbook) (keys : List Key) (old new : Past) (sent : List ℕ) (answer : Result (Option (List ℕ)) LinkFault) → Sound keys old
     → IsMirrored keys old → JustifiedMessage keys old.objects sent → Exchanged (is_planned keys) old sent answer new → IsMirrored keys new

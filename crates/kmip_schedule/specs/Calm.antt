@@ -1,4 +1,4 @@
--- Private, as nothing rests on it yet: what an exchange over a calm link does to the past, one that loses and repeats nothing.
+-- What an exchange over a calm link does to the past, one that loses and repeats nothing.
 -- Source: own, over KMIP 2.1, Message Structure.
 use Rattle.std.specs.Prelude.{◌≡◌, ◌⊎◌, ℕ, Bool, true, false, ◌&&◌, List, [], ◌∷◌, Option, Some, Result, Ok, Err}
 use Rattle.kmip_messages.specs.Items.{parts_in, stops_in, replies_in}
@@ -10,7 +10,7 @@ use Rattle.kmip_server.specs.Again.{has_failed}
 use Rattle.kmip_schedule.specs.declared.effect.Effect.{Effect}
 use Rattle.kmip_schedule.specs.declared.link.LinkFault.{LinkFault}
 use Rattle.kmip_schedule.specs.declared.link.LinkFault.TheVariants.{Io, Frame, NoMemory}
-use Rattle.kmip_schedule.specs.Exchanges.{with_asked, with_handed}
+use Rattle.kmip_schedule.specs.Exchanges.{with_asked, with_exchange}
 use Rattle.kmip_schedule.specs.Moves.{Serve, Refuse, after_move, HasFailed, Serves, Delivered}
 use Rattle.kmip_schedule.specs.Past.{Past, Names}
 
@@ -46,7 +46,7 @@ pub record Calmly (old : Past) (sent : List ℕ) (answer : Option (List ℕ)) (n
   pub between : Past
   pub taken : AreTaken (stops_in sent) (parts_in sent) (replies_in given) (with_asked sent old) between
   pub answer_is : answer ≡ Some given
-  pub is : new ≡ with_handed answer between
+  pub is : new ≡ with_exchange sent answer between
 
 -- what an exchange over a calm link does
 abbrev pub CalmlyExchanged : Names → Past → List ℕ → Result (Option (List ℕ)) LinkFault → Past → Type 0
@@ -54,3 +54,10 @@ CalmlyExchanged names old sent (Ok answer) new = Calmly old sent answer new
 CalmlyExchanged names old sent (Err Io) new = ⊥
 CalmlyExchanged names old sent (Err Frame) new = ⊥
 CalmlyExchanged names old sent (Err NoMemory) new = Delivered names old new ⊎ Delivered names (with_asked sent old) new
+
+-- what the end of a run over a calm link does: nothing, unless memory ran out
+abbrev pub CalmlyEnded : {V : Type 0} → Names → Result V LinkFault → Past → Past → Type 0
+CalmlyEnded names (Ok done) old new = new ≡ old
+CalmlyEnded names (Err Io) old new = ⊥
+CalmlyEnded names (Err Frame) old new = ⊥
+CalmlyEnded names (Err NoMemory) old new = Delivered names old new

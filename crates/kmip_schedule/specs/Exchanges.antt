@@ -2,6 +2,7 @@
 -- Source: own, over KMIP 2.1, Message Structure.
 use Rattle.std.specs.Prelude.{◌≡◌, ◌⊎◌, ℕ, List, [], ◌∷◌, ◌++◌, Option, Some, None, Result, Ok, Err, IfSome}
 use Rattle.std.specs.List.{All, Contains}
+use Rattle.std.specs.Option.{option_map}
 use Rattle.kmip_messages.specs.Items.{requests_in, replies_in}
 use Rattle.kmip_schedule.specs.declared.link.LinkFault.{LinkFault}
 use Rattle.kmip_schedule.specs.declared.link.LinkFault.TheVariants.{Io, Frame, NoMemory}
@@ -12,9 +13,9 @@ use Rattle.kmip_schedule.specs.Past.{Past, Names}
 abbrev pub with_asked : List ℕ → Past → Past
 with_asked sent p = record p { requests = p.requests ++ requests_in sent }
 
--- one more answer was handed over: a message, or none for a loss
-abbrev pub with_handed : Option (List ℕ) → Past → Past
-with_handed answer p = record p { handed = p.handed ++ answer ∷ [] }
+-- one more exchange was made: these bytes were sent, and an answer was handed over, a message or none for a loss
+abbrev pub with_exchange : List ℕ → Option (List ℕ) → Past → Past
+with_exchange sent answer p = record p { sent = p.sent ++ sent ∷ []; handed = p.handed ++ answer ∷ [] }
 
 -- the replies of the message were all given some time
 abbrev pub AreGiven : Past → List ℕ → Type 0
@@ -26,7 +27,12 @@ pub record HandsOver (names : Names) (old : Past) (sent : List ℕ) (answer : Op
   pub between : Past
   pub delivered : Delivered names (with_asked sent old) between
   pub given : IfSome answer (AreGiven between)
-  pub is : new ≡ with_handed answer between
+  pub is : new ≡ with_exchange sent answer between
+
+-- what a call answered, its message as bytes
+abbrev pub answer_in : {V : Type 0} → (V → List ℕ) → Result (Option V) LinkFault → Result (Option (List ℕ)) LinkFault
+answer_in bytes (Ok answer) = Ok (option_map bytes answer)
+answer_in bytes (Err fault) = Err fault
 
 -- what an exchange over an honest link does; where memory runs out, a beginning of it
 abbrev pub Exchanged : Names → Past → List ℕ → Result (Option (List ℕ)) LinkFault → Past → Type 0

@@ -1,4 +1,4 @@
--- The number and the name of each fault of a link.
+-- The number and the name of each fault of a link, and how many there may be.
 -- Source: own.
 use Rattle.std.specs.Prelude.{ℕ, List, codes}
 use Rattle.kmip_schedule.specs.declared.link.LinkFault.{LinkFault}
@@ -13,3 +13,7 @@ abbrev pub link_fault_name : LinkFault → List ℕ
 link_fault_name Io = codes "Io"
 link_fault_name Frame = codes "Frame"
 link_fault_name NoMemory = codes "NoMemory"
+
+-- how often the network of a link may fail before it sends nothing any more: what a counter of 64 bits holds
+abbrev pub most_failures : ℕ
+most_failures = 18446744073709551615

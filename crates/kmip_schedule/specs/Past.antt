@@ -24,7 +24,8 @@ pub record Past : Type 0 where
   pub replies : List Reply
   -- what took effect, in order
   pub effects : List Effect
-  -- what each exchange handed over, in bytes; none for a loss
+  -- the bytes that each exchange sent, and what it handed over: bytes, or none for a loss
+  pub sent : List (List ℕ)
   pub handed : List (Option (List ℕ))
 
 -- the names that a plan has, as a test

@@ -7,4 +7,4 @@ pub mod laws;
 mod link;
 
 pub use effect::Effect;
-pub use link::LinkFault;
+pub use link::{Link, LinkFault};

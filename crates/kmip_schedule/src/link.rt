@@ -1,8 +1,68 @@
-//! Why a link has no answer.
-ghost use Rattle.std.specs.Prelude.{◌≡◌};
-ghost use Rattle.kmip_schedule.specs.Faults.{link_fault_number, link_fault_name};
+//! A link to a server, and why it has no answer.
+ghost use Rattle.std.specs.Prelude.{◌≡◌, ◌≤◌, ◌<◌, ℕ, List, Some, None, Ok, IfErr, OnErr, OnOk, option_map};
+ghost use Rattle.kmip_schedule.specs.Calm.{CalmlyExchanged, CalmlyEnded};
+ghost use Rattle.kmip_schedule.specs.Exchanges.{Exchanged, answer_in};
+ghost use Rattle.kmip_schedule.specs.Faults.{link_fault_number, link_fault_name, most_failures};
+ghost use Rattle.kmip_schedule.specs.Moves.{Delivered};
+ghost use Rattle.kmip_schedule.specs.Past.{Past, Names};
 
+use std::alloc::Global;
 use thiserror::Error;
+
+/// A link to a server: over it messages are exchanged, one at a time. It may lose, repeat, delay and
+/// reorder what it carries.
+pub trait Link {
+    /// All that has happened over it so far, and the objects of the server.
+    ghost past: { Self → Past };
+
+    /// It invents nothing; and beside what goes over it nothing happens to objects of these names.
+    ghost honest: { Self → Names → Type 0 };
+
+    /// The same, and from now on it loses and repeats nothing.
+    ghost calm: { Self → Names → Type 0 };
+
+    /// How often its network has failed, up to 2^64 - 1. From then on it sends nothing.
+    ghost failures: { Self → ℕ };
+
+    /// Sends the bytes of a request, and answers the bytes of a reply that came; none where it was
+    /// lost, or where the link sends nothing any more.
+    ///
+    /// # Errors
+    /// `Io` where the network failed, `Frame` where what came is no message: the request may have been
+    /// served. `NoMemory` where there is none.
+    fn exchange(&mut self, alloc: Global, request: &[u8]) -> Result<Option<Vec<u8>>, LinkFault>
+        ensures honest { (names : Names) → honest self.old names → honest self.new names
+            × Exchanged names (past self.old) request.now (answer_in (λ v. v.items) result)
+            (past self.new) }
+        ensures calm { (names : Names) → calm self.old names → calm self.new names
+            × CalmlyExchanged names (past self.old) request.now (answer_in (λ v. v.items) result)
+            (past self.new) }
+        ensures counted { failures self.old ≤ failures self.new }
+        ensures io { IfErr result (λ fault. fault ≡ LinkFault.Io
+            → failures self.old < failures self.new) }
+        ensures spent { failures self.old ≡ most_failures
+            → answer_in (λ v. v.items) result ≡ Ok None };
+
+    /// A run has ended: what is under way over the link may still arrive, or never.
+    ///
+    /// # Errors
+    /// `Io` and `Frame` as of an exchange, and `NoMemory`.
+    fn end_run(&mut self, alloc: Global) -> Result<(), LinkFault>
+        ensures honest { (names : Names) → honest self.old names → honest self.new names
+            × Delivered names (past self.old) (past self.new) }
+        ensures calm { (names : Names) → calm self.old names → calm self.new names
+            × CalmlyEnded names result (past self.old) (past self.new) }
+        ensures counted { failures self.old ≤ failures self.new }
+        ensures io { IfErr result (λ fault. fault ≡ LinkFault.Io
+            → failures self.old < failures self.new) }
+        ensures spent { failures self.old ≡ most_failures → result ≡ Ok () };
+
+    /// A calm link is honest, and its network may fail once more: laws, which do nothing.
+    fn calm_laws()
+        ensures honest { (link : Self) (names : Names) → calm link names → honest link names }
+        ensures unspent { (link : Self) (names : Names) → calm link names
+            → failures link < most_failures };
+}
 
 /// Why a link has no answer.
 #[derive(Clone, Copy, Debug, PartialEq, Eq, Error)]
