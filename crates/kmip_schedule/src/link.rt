@@ -55,7 +55,7 @@ pub trait Link {
         ensures counted { failures self.old ≤ failures self.new }
         ensures io { IfErr result (λ fault. fault ≡ LinkFault.Io
             → failures self.old < failures self.new) }
-        ensures spent { failures self.old ≡ most_failures → result ≡ Ok () };
+        ensures spent { failures self.old ≡ most_failures → result ≡ Ok tt };
 
     /// A calm link is honest, and its network may fail once more: laws, which do nothing.
     fn calm_laws()
