@@ -19,7 +19,7 @@ use Rattle.kmip_client.specs.declared.hearing.News.{News}
 use Rattle.kmip_client.specs.declared.hearing.News.TheVariants as news
 use Rattle.kmip_client.specs.declared.knowledge.Knowledge.{Knowledge}
 use Rattle.kmip_client.specs.declared.subject.Subject.{Subject}
-use Rattle.kmip_client.specs.Clients.{one_if, working_count, verdict_at, VerdictsStay}
+use Rattle.kmip_client.specs.Clients.{changed_at, changed_by, lost_working, one_if, working_count, verdict_at, VerdictsStay}
 use Rattle.kmip_client.specs.declared.knowledge.Verdict.TheVariants.{Working}
 use Rattle.kmip_client.specs.Hearing.{is_asked_of, place_named, subject_at, subject_of, is_other_operation, has_failed, news_of, with_news, teach, with_heard, heard_by, heard_about, heard_in}
 use Rattle.kmip_client.specs.Knowledge.{chain_length, is_working, verdict_of}
@@ -217,6 +217,24 @@ heard_shaped keys reply knowns heard nexts steps_in places_in fits each is =
 pub all_kept : (knowns : List Knowledge) → AllZip IsKept knowns knowns
 all_kept [] = tt
 all_kept (known ∷ knowns) = (kept_itself known, all_kept knowns)
+
+-- so it is where an answer is lost
+lost_one : (key : Key) (known : Knowledge) → IsKept known (lost_working key known)
+lost_one key known =
+    elim (cases_Bool (is_working key known)) [
+      | inl working ↦ rw working (record { identifier_kept = λ uid is. is; done_kept = omega arith })
+      | inr settled ↦ rw settled (kept_itself known)
+    ]
+
+changed_kept : (knowns : List Knowledge) (place : ℕ) (key : Option Key) (known : Option Knowledge) → slice_get knowns place ≡ known
+    → AllZip IsKept knowns (changed_by lost_working knowns place key known)
+changed_kept knowns place None known there = all_kept knowns
+changed_kept knowns place (Some key) None there = all_kept knowns
+changed_kept knowns place (Some key) (Some known) there =
+    set_both IsKept knowns knowns place known (lost_working key known) (all_kept knowns) there (lost_one key known)
+
+pub lost_kept : (keys : List Key) (knowns : List Knowledge) (place : ℕ) → AllZip IsKept knowns (changed_at lost_working keys knowns place)
+lost_kept keys knowns place = changed_kept knowns place (slice_get keys place) (slice_get knowns place) refl
 
 pub heard_kept : (keys : List Key) (reply : Reply) (knowns : List Knowledge) (heard : Heard) (nexts : List Knowledge) → StepsAreWithin → PlacesAreWithin
     → outcome_fits reply.operation reply.outcome ≡ true → AllZip IsShaped keys knowns → heard_in keys reply knowns ≡ ok (heard, nexts) → AllZip IsKept knowns nexts

@@ -80,6 +80,7 @@ about_it keys knowns place key known q at_work here there is asks = record {
   works = works_there keys knowns place key known at_work here there;
   operation_is = ap (λ (x : Question). x.operation) is;
   asks = asks;
+  written = ap (λ (x : Question). x.bytes) is;
 }
 
 pub if_ok_both : {A E : Type 0} (P Q R : A → Type 0) (r : Result A E) → ((x : A) → P x → Q x → R x) → IfOk r P → IfOk r Q → IfOk r R

@@ -5,7 +5,9 @@ use Rattle.std.specs.List.{AllZip}
 use Rattle.std.specs.Option.{option_map, option_map_or, option_and_then}
 use Rattle.kmip_messages.specs.Operations.{operation_of}
 use Rattle.kmip_messages.specs.Items.{AsksAlone}
+use Rattle.kmip_messages.specs.Written.{request_item}
 use Rattle.kmip_plan.specs.declared.key.Key.{Key}
+use Rattle.kmip_ttlv.specs.Spelling.{canon}
 use Rattle.kmip_client.specs.declared.knowledge.Knowledge.{Knowledge}
 use Rattle.kmip_client.specs.declared.knowledge.Verdict.{Verdict}
 use Rattle.kmip_client.specs.declared.question.Question.{Question}
@@ -101,7 +103,8 @@ pub record WorksAt (keys : List Key) (knowns : List Knowledge) (place : ℕ) : T
   pub known_is : slice_get knowns place ≡ Some known
   pub works : is_working key known ≡ true
 
--- A question is about a key of the plan that is worked on: its bytes ask what the key's phase asks, and nothing else.
+-- A question is about a key of the plan that is worked on: its bytes ask what the key's phase asks and nothing else, in the one
+-- written form.
 pub record IsAbout (keys : List Key) (knowns : List Knowledge) (question : Question) : Type 0 where
   pub key : Key
   pub known : Knowledge
@@ -110,6 +113,7 @@ pub record IsAbout (keys : List Key) (knowns : List Knowledge) (question : Quest
   pub works : is_working key known ≡ true
   pub operation_is : question.operation ≡ operation_of (ask_about key known)
   pub asks : AsksAlone question.bytes (request_about key known)
+  pub written : question.bytes ≡ canon (request_item (request_about key known))
 
 -- no key is worked on
 abbrev pub AreSettled : List Key → List Knowledge → Type 0

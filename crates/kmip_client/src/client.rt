@@ -235,7 +235,8 @@ impl<'p> Client<'p> {
 
     /// How many keys are worked on. Takes no memory.
     pub fn working(&self) -> usize
-        ensures { result ≡ working_count self.now.keys self.now.knowns }
+        ensures count { result ≡ working_count self.now.keys self.now.knowns }
+        ensures none { result ≡ 0 → AreSettled self.now.keys self.now.knowns }
     {
         self.working
     }
@@ -245,6 +246,7 @@ impl<'p> Client<'p> {
     pub fn lost(&mut self, key: usize)
         requires { key < length self.old.keys }
         ensures lost { self.new ≡ lost_at self.old key }
+        ensures kept { AllZip IsKept self.old.knowns self.new.knowns }
         ensures settled { VerdictsStay self.old.keys self.old.knowns self.new.knowns }
         ensures held { (objects : List Object) → Held objects self.old.keys self.old.knowns
             → Held objects self.new.keys self.new.knowns }
