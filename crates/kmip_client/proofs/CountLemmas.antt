@@ -1,7 +1,7 @@
 -- How many keys are worked on, and that a verdict stands once it is given.
-use Rattle.std.proofs.Common.{◌≡◌, ◌≢◌, ℕ, zero, suc, ◌+◌, ◌≤◌, ◌<◌, Bool, true, false, not, nat_lt, nat_le, List, [], ◌∷◌, length, map, drop, Option, Some, None, slice_set, subst, refl, sym, ap, inl, inr, arith, if◌then◌else◌}
-use Rattle.std.proofs.lemmas.Bool.{cases_Bool, and_parts, ltb-true, leb-true}
-use Rattle.std.specs.List.{slice_get}
+use Rattle.std.proofs.Common.{◌≡◌, ◌≢◌, ℕ, zero, suc, ◌+◌, ◌≤◌, ◌<◌, Bool, true, false, not, nat_lt, nat_le, List, [], ◌∷◌, length, map, drop, Option, Some, None, slice_set, subst, refl, sym, ap, inl, inr, arith, if◌then◌else◌, true≢false, ◌∙◌}
+use Rattle.std.proofs.lemmas.Bool.{cases_Bool, and_parts, ltb-true, leb-true, leb-false, lt-ltb}
+use Rattle.std.specs.List.{AllZip, slice_get}
 use Rattle.std.specs.Option.{is_some}
 use Rattle.kmip_messages.specs.Objects.{Object}
 use Rattle.kmip_plan.specs.declared.key.Key.{Key}
@@ -10,7 +10,7 @@ use Rattle.kmip_plan.specs.declared.target.Target.TheVariants.{Created, Active, 
 use Rattle.kmip_client.specs.declared.clash.Clash.{Clash}
 use Rattle.kmip_client.specs.declared.knowledge.Knowledge.{Knowledge}
 use Rattle.kmip_client.specs.declared.knowledge.Verdict.TheVariants.{Working, Finished, Conflict}
-use Rattle.kmip_client.specs.Clients.{ClientState, next_working, one_if, working_count, working_from, changed_by, changed_at, lost_working, verdict_at, VerdictsStay}
+use Rattle.kmip_client.specs.Clients.{AreSettled, ClientState, NoneWorks, SomeWorks, next_working, one_if, working_count, working_from, changed_by, changed_at, lost_working, verdict_at, VerdictsStay}
 use Rattle.kmip_client.specs.Held.{Held}
 use Rattle.kmip_client.specs.Knowledge.{chain_length, fresh_knowledge, is_working, clash_verdict, verdict_of}
 
@@ -153,6 +153,48 @@ not_working key known works =
     elim (cases_Bool (nat_le (chain_length key) known.done)) [
       | inl full ↦ absurd (omega (arith, leb-true (chain_length key) known.done full))
       | inr unfinished ↦ rw unfinished (none_clash known.clash parts.1)
+    ]
+
+-- a key that is not worked on has another one
+no_clash : (clash : Option Clash) → clash_verdict clash ≡ Working → not (is_some clash) ≡ true
+no_clash None same = refl
+no_clash (Some clash) same = absurd cc
+
+worked_on : (key : Key) (known : Knowledge) → known.done < chain_length key → not (is_some known.clash) ≡ true → is_working key known ≡ true
+worked_on key known more none = rw (lt-ltb known.done (chain_length key) more, none) refl
+
+settled_verdict : (key : Key) (known : Knowledge) → is_working key known ≡ false → verdict_of key known ≢ Working
+settled_verdict key known settled = λ same.
+    elim (cases_Bool (nat_le (chain_length key) known.done)) [
+      | inl full ↦
+          let finished : Finished ≡ Working = rw full at same in
+          absurd cc
+      | inr unfinished ↦
+          let working : is_working key known ≡ true =
+          worked_on key known (leb-false (chain_length key) known.done unfinished) (no_clash known.clash (rw unfinished at same)) in
+          true≢false (sym working ∙ settled)
+    ]
+
+pub settled_none : (keys : List Key) (knowns : List Knowledge) → AreSettled keys knowns → NoneWorks keys knowns
+settled_none [] [] settled = λ place within. absurd (omega (arith, within))
+settled_none [] (known ∷ knowns) settled = absurd settled
+settled_none (key ∷ keys) [] settled = absurd settled
+settled_none (key ∷ keys) (known ∷ knowns) settled = first_and_rest key known keys knowns (settled_verdict key known settled.0) (settled_none keys knowns settled.1)
+  where
+    first_and_rest : (key : Key) (known : Knowledge) (keys : List Key) (knowns : List Knowledge) → verdict_of key known ≢ Working → NoneWorks keys knowns
+        → NoneWorks (key ∷ keys) (known ∷ knowns)
+    first_and_rest key known keys knowns first rest zero within = first
+    first_and_rest key known keys knowns first rest (suc place) within = rest place (omega (arith, within))
+
+pub some_works : (keys : List Key) (knowns : List Knowledge) → 1 ≤ working_count keys knowns → SomeWorks keys knowns
+some_works [] knowns some = absurd (omega (arith, some))
+some_works (key ∷ keys) [] some = absurd (omega (arith, some))
+some_works (key ∷ keys) (known ∷ knowns) some =
+    elim (cases_Bool (is_working key known)) [
+      | inl works ↦ (0, omega arith, not_working key known works)
+      | inr settled ↦
+          let rest = some_works keys knowns (omega (arith, some, ap one_if settled)) in
+          (suc rest.0, omega (arith, rest.1), rest.2)
     ]
 
 -- ---- no conflict

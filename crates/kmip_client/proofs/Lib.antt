@@ -8,3 +8,4 @@ pub mod HeardLemmas
 pub mod HeldLemmas
 pub mod SavingLemmas
 pub mod OnwardLemmas
+pub mod FactLemmas

@@ -1,6 +1,6 @@
 -- What a client is to its caller: what it knows of each key of a plan, and whose turn it is.
 -- Source: own.
-use Rattle.std.specs.Prelude.{◌≡◌, ◌≢◌, ℕ, ◌+◌, Bool, true, false, cond, List, [], ◌∷◌, map, Option, Some, None, slice_get, slice_set, drop, if◌then◌else◌}
+use Rattle.std.specs.Prelude.{◌≡◌, ◌≢◌, ◌<◌, ℕ, ◌+◌, length, Bool, true, false, cond, List, [], ◌∷◌, map, Option, Some, None, slice_get, slice_set, drop, if◌then◌else◌}
 use Rattle.std.specs.List.{AllZip}
 use Rattle.std.specs.Option.{option_map, option_map_or, option_and_then}
 use Rattle.kmip_messages.specs.Operations.{operation_of}
@@ -115,6 +115,13 @@ pub record IsAbout (keys : List Key) (knowns : List Knowledge) (question : Quest
   pub asks : AsksAlone question.bytes (request_about key known)
   pub written : question.bytes ≡ canon (request_item (request_about key known))
 
--- no key is worked on
+-- some key of the plan is worked on, and none is
+abbrev pub SomeWorks : List Key → List Knowledge → Type 0
+SomeWorks keys knowns = (place : ℕ) × (place < length keys) × (verdict_at keys knowns place ≡ Working)
+
+abbrev pub NoneWorks : List Key → List Knowledge → Type 0
+NoneWorks keys knowns = (place : ℕ) → place < length keys → verdict_at keys knowns place ≢ Working
+
+-- the same, key by key
 abbrev pub AreSettled : List Key → List Knowledge → Type 0
 AreSettled keys knowns = AllZip (λ key known. is_working key known ≡ false) keys knowns

@@ -1,6 +1,6 @@
 -- What holds of objects that go onward, and of what a client asks.
 -- Source: own: what the laws say.
-use Rattle.std.specs.Prelude.{◌≡◌, ◌≢◌, ℕ, true, List, ◌++◌, length, map, drop, Ok}
+use Rattle.std.specs.Prelude.{◌≡◌, ◌≢◌, ℕ, true, List, ◌++◌, length, map, drop, Option, Ok}
 use Rattle.kmip_messages.specs.Objects.{Object}
 use Rattle.kmip_messages.specs.declared.reply.Reply.{Reply}
 use Rattle.kmip_messages.specs.declared.request.Request.{Request}
@@ -13,9 +13,10 @@ use Rattle.kmip_progress.specs.declared.known.Known.{Known}
 use Rattle.kmip_client.specs.declared.clash.Clash.{Clash}
 use Rattle.kmip_client.specs.declared.knowledge.Knowledge.{Knowledge}
 use Rattle.kmip_client.specs.declared.knowledge.Verdict.TheVariants.{Conflict}
-use Rattle.kmip_client.specs.Clients.{verdict_at}
+use Rattle.kmip_client.specs.Clients.{ClientState, lost_at, verdict_at, AreSettled, NoneWorks}
 use Rattle.kmip_client.specs.Held.{TrueProgress, IsHeld, Held}
 use Rattle.kmip_client.specs.Justified.{MayAsk, Justified}
+use Rattle.kmip_client.specs.Known.{facts, heard}
 use Rattle.kmip_client.specs.Knowledge.{is_working}
 use Rattle.kmip_client.specs.Places.{Onward}
 use Rattle.kmip_client.specs.Questions.{ask_about}
@@ -54,6 +55,20 @@ TextsStayTrue text_for =
     (objects : List Object) (new old : List Key) (saved : List Known) → IsLawful old → Prolongs new old → Suits old saved
     → are_texts saved ≡ true → TrueProgress objects old saved
     → (read : List Known) × (read_text new (text_for old saved) ≡ Ok read) × TrueProgress objects new read
+
+-- what is heard does not depend on what is to be asked next
+abbrev pub HearingIsBlind : Type 0
+HearingIsBlind =
+    (keys : List Key) (knowns others : List Knowledge) (answer : Option (List ℕ)) → facts knowns ≡ facts others
+    → facts (heard keys knowns answer) ≡ facts (heard keys others answer)
+
+-- and an answer that is lost changes nothing but that
+abbrev pub LossesTeachNothing : Type 0
+LossesTeachNothing = (c : ClientState) (place : ℕ) → facts (lost_at c place).knowns ≡ facts c.knowns
+
+-- where each key is settled none is worked on
+abbrev pub SettledIsNotWorked : Type 0
+SettledIsNotWorked = (keys : List Key) (knowns : List Knowledge) → AreSettled keys knowns → NoneWorks keys knowns
 
 -- no key is in conflict
 abbrev pub HeldIsNoConflict : Type 0

@@ -6,6 +6,7 @@ pub mod Clients
 pub mod Saving
 pub mod Shapes
 pub mod Hearing
+pub mod Known
 pub mod Places
 pub mod Justified
 pub mod Truth

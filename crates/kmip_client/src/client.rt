@@ -21,6 +21,8 @@ ghost use Rattle.kmip_client.specs.Clients.{
   AreSettled,
   VerdictsStay,
   working_count,
+  SomeWorks,
+  NoneWorks,
 };
 ghost use Rattle.kmip_client.specs.Hearing.{unheard, heard_in, hear, Refuses};
 ghost use Rattle.kmip_client.specs.Held.{Held, TrueProgress};
@@ -236,7 +238,8 @@ impl<'p> Client<'p> {
     /// How many keys are worked on. Takes no memory.
     pub fn working(&self) -> usize
         ensures count { result ≡ working_count self.now.keys self.now.knowns }
-        ensures none { result ≡ 0 → AreSettled self.now.keys self.now.knowns }
+        ensures some { 1 ≤ result → SomeWorks self.now.keys self.now.knowns }
+        ensures none { result ≡ 0 → NoneWorks self.now.keys self.now.knowns }
     {
         self.working
     }

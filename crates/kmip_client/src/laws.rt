@@ -7,7 +7,10 @@ ghost use Rattle.kmip_client.specs.Laws.{
   JustifiedForGood,
   TrueForGood,
   HeldForGood,
+  HearingIsBlind,
+  LossesTeachNothing,
   HeldIsNoConflict,
+  SettledIsNotWorked,
   TrueOfProlonged,
   TextsStayTrue,
   AsksWhatItMay,
@@ -42,6 +45,18 @@ pub fn progress_is_true_of_prolonged_plans()
     further_ways_keep_places();
     texts_are_prolonged();
 }
+
+/// What a client knows of identifiers, counts and conflicts is what it heard, whatever it asked and
+/// whichever answers were lost.
+pub fn what_is_known_was_heard()
+    ensures heard { HearingIsBlind }
+    ensures lost { LossesTeachNothing }
+{}
+
+/// Where each key is settled no verdict is that a key is worked on.
+pub fn the_settled_are_not_worked_on()
+    ensures { SettledIsNotWorked }
+{}
 
 /// Where all that is known is true, no key is in conflict.
 pub fn what_is_true_is_no_conflict()
