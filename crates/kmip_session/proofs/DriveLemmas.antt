@@ -1,0 +1,56 @@
+-- What is kept over several exchanges.
+use Rattle.std.proofs.Common.{◌≡◌, ◌≢◌, ℕ, ◌+◌, List, subst, sym, refl}
+use Rattle.kmip_client.specs.Clients.{AreSettled, ClientState}
+use Rattle.kmip_client.specs.Laws.{HeldIsNoConflict}
+use Rattle.kmip_schedule.specs.Past.{Names, Past, is_planned}
+use Rattle.kmip_session.specs.Driving.{IsGood, Keeps, Learnt, SomeClash, Stands, WentOn}
+use Rattle.kmip_session.specs.Lawbook.{Lawbook}
+use Rattle.kmip_session.specs.declared.stop.Stop.{Stop}
+use Rattle.kmip_session.specs.declared.stop.Stop.TheVariants as stops
+use Rattle.kmip_session.proofs.GoodLemmas.{keeps_itself, keeps_then, went_nowhere, went_then}
+use Rattle.kmip_session.proofs.KnownLemmas.{learnt_nothing, learnt_then}
+
+module _ {L : Type 0} (past : L → Past) (honest : L → Names → Type 0) where
+  -- after so many exchanges
+  pub record Driven (first now : ClientState) (start link : L) (made : ℕ) : Type 0 where
+    pub good : IsGood past honest first start → IsGood past honest now link
+    pub goes : IsGood past honest first start → WentOn first.keys (past start) (past link)
+    pub known : honest start (is_planned first.keys)
+        → honest link (is_planned first.keys) × Learnt first.keys (past start) (past link) first.knowns now.knowns made
+    pub keeps : Keeps first now
+
+  pub driven_none : Lawbook → (c : ClientState) (link : L) → Driven c c link link 0
+  driven_none l c link = record {
+    good = λ good. good;
+    goes = λ good. went_nowhere l c.keys (past link);
+    known = λ holds. (holds, learnt_nothing c.keys (past link) c.knowns);
+    keeps = keeps_itself c;
+  }
+
+  -- and one more turn, that asked or did not
+  pub driven_then : Lawbook → (a b c : ClientState) (x y z : L) (m n : ℕ) → Driven a b x y m → Driven b c y z n → Driven a c x z (m + n)
+  driven_then l a b c x y z m n first second = record {
+    good = λ good. second.good (first.good good);
+    goes = λ good. went_then l a.keys (past x) (past y) (past z) (first.goes good) (subst (λ ks. WentOn ks (past y) (past z)) first.keeps.keys_stay (second.goes (first.good good)));
+    known = λ holds.
+        let before = first.known holds in
+        let after = second.known (subst (λ ks. honest y (is_planned ks)) (sym first.keeps.keys_stay) before.0) in (
+          subst (λ ks. honest z (is_planned ks)) first.keeps.keys_stay after.0,
+          learnt_then l.blind a.keys (past x) (past y) (past z) a.knowns b.knowns c.knowns m n before.1
+          (subst (λ ks. Learnt ks (past y) (past z) b.knowns c.knowns n) first.keeps.keys_stay after.1),
+        );
+    keeps = keeps_then a b c first.keeps second.keeps;
+  }
+
+  -- what is good is in no conflict
+  pub good_no_conflict : Lawbook → (c : ClientState) (link : L) (stop : Stop) → IsGood past honest c link → Stands stop c.keys c.knowns → stop ≢ stops.Conflict
+  good_no_conflict l c link stop good stands = λ is. in_conflict (subst (λ s. Stands s c.keys c.knowns) is stands).1
+    where
+      in_conflict : {X : Type 0} → SomeClash c.keys c.knowns → X
+      in_conflict clash = absurd (l.no_conflict (past link).objects c.keys c.knowns good.held clash.0 clash.1 clash.3)
+
+-- where each key is settled a run does not stop at its limit
+pub settled_no_limit : Lawbook → (c : ClientState) (stop : Stop) → AreSettled c.keys c.knowns → Stands stop c.keys c.knowns → stop ≢ stops.Limit
+settled_no_limit l c stop settled stands = λ is.
+    let works = subst (λ s. Stands s c.keys c.knowns) is stands in
+    l.settled c.keys c.knowns settled works.0 works.1 works.2

@@ -1,0 +1,146 @@
+-- What exchanges ask and teach, one after the other.
+use Rattle.std.proofs.Common.{◌≡◌, ℕ, ◌+◌, List, [], ◌∷◌, ◌++◌, length, Option, Some, None, Result, Ok, Err, OnOk, sym, ap, subst, refl, ◌∙◌, inl, inr, flat_map, append_assoc, append-nil}
+use Rattle.std.specs.List.{All, slice_get}
+use Rattle.std.proofs.lemmas.List.Elements.{All-append, All-cons, All-nil}
+use Rattle.std.proofs.lemmas.List.{length-append}
+use Rattle.std.proofs.lemmas.List.Concat.{flat_map-append}
+use Rattle.kmip_messages.specs.Items.{requests_in}
+use Rattle.kmip_plan.specs.Laws.{KeysAreFound}
+use Rattle.kmip_plan.specs.Plans.{IsLawful}
+use Rattle.kmip_plan.specs.declared.key.Key.{Key}
+use Rattle.kmip_client.specs.Clients.{ClientState, IsAbout, question_at}
+use Rattle.kmip_client.specs.Laws.{HearingIsBlind, LossesTeachNothing}
+use Rattle.kmip_client.specs.declared.knowledge.Knowledge.{Knowledge}
+use Rattle.kmip_client.specs.declared.question.Question.{Question}
+use Rattle.kmip_schedule.specs.Exchanges.{Exchanged, HandsOver, with_asked, with_exchange}
+use Rattle.kmip_schedule.specs.Moves.{AllMayHappen, Delivered, Move, after_move, after_moves}
+use Rattle.kmip_schedule.specs.Past.{Names, Past}
+use Rattle.kmip_schedule.specs.declared.link.LinkFault.{LinkFault}
+use Rattle.kmip_schedule.specs.declared.link.LinkFault.TheVariants.{Io, Frame, NoMemory}
+use Rattle.kmip_session.specs.Driving.{IsQuestion, Learnt}
+use Rattle.kmip_client.specs.Known.{facts, heard, known_after}
+use Rattle.kmip_session.specs.Losses.{or_loss}
+use Rattle.kmip_session.specs.Turns.{taught}
+use Rattle.kmip_session.proofs.FactLemmas.{known_blind, taught_facts}
+
+-- ---- several exchanges
+
+known_append : (keys : List Key) (knowns : List Knowledge) (xs ys : List (Option (List ℕ)))
+    → known_after keys knowns (xs ++ ys) ≡ known_after keys (known_after keys knowns xs) ys
+known_append keys knowns [] ys = refl
+known_append keys knowns (x ∷ xs) ys = known_append keys (heard keys knowns x) xs ys
+
+pub learnt_nothing : (keys : List Key) (p : Past) (knowns : List Knowledge) → Learnt keys p p knowns knowns 0
+learnt_nothing keys p knowns = record {
+  questions = [];
+  answers = [];
+  sent_are = sym (append-nil p.sent);
+  handed_are = sym (append-nil p.handed);
+  requests_are = sym (append-nil p.requests);
+  as_many_questions = refl;
+  as_many_answers = refl;
+  each = All-nil (IsQuestion keys);
+  known_is = refl;
+}
+
+joined : {A : Type 0} (old between new xs ys : List A) → between ≡ old ++ xs → new ≡ between ++ ys → new ≡ old ++ (xs ++ ys)
+joined old between new xs ys first second = second ∙ ap (λ zs. zs ++ ys) first ∙ append_assoc old xs ys
+
+as_many : {A : Type 0} (xs ys : List A) (m n : ℕ) → length xs ≡ m → length ys ≡ n → length (xs ++ ys) ≡ m + n
+as_many xs ys m n first second = length-append xs ys ∙ ap (λ k. k + length ys) first ∙ ap (λ k. m + k) second
+
+pub learnt_then : HearingIsBlind → (keys : List Key) (old between new : Past) (knowns known nexts : List Knowledge) (m n : ℕ) → Learnt keys old between knowns known m
+    → Learnt keys between new known nexts n → Learnt keys old new knowns nexts (m + n)
+learnt_then blind keys old between new knowns known nexts m n a b = record {
+  questions = a.questions ++ b.questions;
+  answers = a.answers ++ b.answers;
+  sent_are = joined old.sent between.sent new.sent a.questions b.questions a.sent_are b.sent_are;
+  handed_are = joined old.handed between.handed new.handed a.answers b.answers a.handed_are b.handed_are;
+  requests_are =
+      joined old.requests between.requests new.requests (flat_map requests_in a.questions) (flat_map requests_in b.questions) a.requests_are b.requests_are
+      ∙ ap (λ rs. old.requests ++ rs) (sym (flat_map-append requests_in a.questions b.questions));
+  as_many_questions = as_many a.questions b.questions m n a.as_many_questions b.as_many_questions;
+  as_many_answers = as_many a.answers b.answers m n a.as_many_answers b.as_many_answers;
+  each = All-append (IsQuestion keys) a.questions b.questions a.each b.each;
+  known_is =
+      b.known_is ∙ known_blind blind keys known (known_after keys knowns a.answers) b.answers a.known_is
+      ∙ ap facts (sym (known_append keys knowns a.answers b.answers));
+}
+
+-- ---- one exchange
+
+-- deliveries add nothing to what was asked, sent and handed over
+pub record Stays (old new : Past) : Type 0 where
+  pub requests_stay : new.requests ≡ old.requests
+  pub sent_stays : new.sent ≡ old.sent
+  pub handed_stays : new.handed ≡ old.handed
+
+move_stays : (move : Move) (p : Past) → Stays p (after_move move p)
+move_stays (Move.Serve request reply objects effect) p = record { requests_stay = refl; sent_stays = refl; handed_stays = refl }
+move_stays (Move.Unanswered request reply objects effect) p = record { requests_stay = refl; sent_stays = refl; handed_stays = refl }
+move_stays (Move.Refuse reply) p = record { requests_stay = refl; sent_stays = refl; handed_stays = refl }
+move_stays (Move.Comes o) p = record { requests_stay = refl; sent_stays = refl; handed_stays = refl }
+move_stays (Move.Changes front old new back) p = record { requests_stay = refl; sent_stays = refl; handed_stays = refl }
+
+moves_stay : (moves : List Move) (p : Past) → Stays p (after_moves moves p)
+moves_stay [] p = record { requests_stay = refl; sent_stays = refl; handed_stays = refl }
+moves_stay (move ∷ moves) p =
+    let first = move_stays move p in
+    let rest = moves_stay moves (after_move move p) in
+    record {
+      requests_stay = rest.requests_stay ∙ first.requests_stay;
+      sent_stays = rest.sent_stays ∙ first.sent_stays;
+      handed_stays = rest.handed_stays ∙ first.handed_stays;
+    }
+
+pub delivered_stays : (names : Names) (old new : Past) → Delivered names old new → Stays old new
+delivered_stays names old new d = subst (λ p. Stays old p) (sym d.is) (moves_stay d.moves old)
+
+some_answer : (x y : Option (List ℕ)) → Some x ≡ Some y → x ≡ y
+some_answer x y is = cc
+
+-- where an exchange has an answer or a loss, it handed that over
+pub handed_over : (names : Names) (old new : Past) (sent : List ℕ) (answered : Result (Option (List ℕ)) LinkFault) (answer : Option (List ℕ))
+    → or_loss answered ≡ Some answer → Exchanged names old sent answered new → HandsOver names old sent answer new
+handed_over names old new sent (Ok own) answer is done = subst (λ a. HandsOver names old sent a new) (some_answer own answer is) done
+handed_over names old new sent (Err Io) answer is done = subst (λ a. HandsOver names old sent a new) (some_answer None answer is) done
+handed_over names old new sent (Err Frame) answer is done = subst (λ a. HandsOver names old sent a new) (some_answer None answer is) done
+handed_over names old new sent (Err NoMemory) answer is done = absurd cc
+
+handed_asks : (names : Names) (old new : Past) (sent : List ℕ) (answer : Option (List ℕ)) → HandsOver names old sent answer new
+    → (new.sent ≡ old.sent ++ sent ∷ []) × (new.handed ≡ old.handed ++ answer ∷ []) × (new.requests ≡ old.requests ++ requests_in sent)
+handed_asks names old new sent answer hands =
+    let stays = delivered_stays names (with_asked sent old) hands.between hands.delivered in (
+      ap (λ (p : Past). p.sent) hands.is ∙ ap (λ ss. ss ++ sent ∷ []) stays.sent_stays,
+      ap (λ (p : Past). p.handed) hands.is ∙ ap (λ hs. hs ++ answer ∷ []) stays.handed_stays,
+      ap (λ (p : Past). p.requests) hands.is ∙ stays.requests_stay,
+    )
+
+asked_one : KeysAreFound → (c : ClientState) (question : Question) → IsLawful c.keys → IsAbout c.keys c.knowns question → IsQuestion c.keys question.bytes
+asked_one found c question lawful about = record {
+  key = about.key;
+  known = about.known;
+  is_planned = found c.keys question.key about.key lawful about.key_is;
+  written = about.written;
+}
+
+pub learnt_one : KeysAreFound → LossesTeachNothing → (names : Names) (c next : ClientState) (old new : Past) (question : Question) (answer : Option (List ℕ)) → IsLawful c.keys
+    → IsAbout c.keys c.knowns question → HandsOver names old question.bytes answer new → next ≡ taught question answer c
+    → Learnt c.keys old new c.knowns next.knowns 1
+learnt_one found lost names c next old new question answer lawful about hands is =
+    let asks = handed_asks names old new question.bytes answer hands in
+    record {
+      questions = question.bytes ∷ [];
+      answers = answer ∷ [];
+      sent_are = asks.0;
+      handed_are = asks.1;
+      requests_are = asks.2 ∙ ap (λ rs. old.requests ++ rs) (sym (append-nil (requests_in question.bytes)));
+      as_many_questions = refl;
+      as_many_answers = refl;
+      each = All-cons (IsQuestion c.keys) question.bytes [] (asked_one found c question lawful about) (All-nil (IsQuestion c.keys));
+      known_is = ap (λ (s : ClientState). facts s.knowns) is ∙ taught_facts lost question answer c;
+    }
+
+pub on_ok : {V E P Q : Type 0} (r : Result V E) → (P → Q) → OnOk r P → OnOk r Q
+on_ok (Ok v) to holds = to holds
+on_ok (Err fault) to holds = tt

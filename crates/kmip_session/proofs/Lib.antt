@@ -1,0 +1,4 @@
+pub mod FactLemmas
+pub mod KnownLemmas
+pub mod GoodLemmas
+pub mod DriveLemmas

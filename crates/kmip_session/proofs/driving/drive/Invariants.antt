@@ -1,0 +1,9 @@
+-- So many exchanges were made; what was good still is.
+use Rattle.std.proofs.Common.{◌≤◌}
+use Rattle.kmip_schedule.specs.Past.{Names, Past, is_planned}
+use Rattle.kmip_client.specs.Clients.{ClientState}
+use Rattle.kmip_session.proofs.DriveLemmas.{Driven}
+use Rattle.kmip_session.proofs.driving.drive.Given as goal
+
+abbrev pub invariant-loop-made : goal.invariant-loop-made
+invariant-loop-made g l = Driven g.L.Link.past g.L.Link.honest l.fn.client l.client l.fn.link l.link l.made

@@ -1,0 +1,74 @@
+-- What a run of exchanges does: what it keeps, what it asks, what the client learns of it, and why it ends.
+-- Source: own.
+use Rattle.std.specs.Prelude.{◌≡◌, ◌≤◌, ◌<◌, ℕ, List, [], ◌∷◌, ◌++◌, length, flat_map, Option, ⊤}
+use Rattle.std.specs.List.{All, AllZip}
+use Rattle.kmip_messages.specs.Items.{requests_in}
+use Rattle.kmip_messages.specs.Objects.{Object}
+use Rattle.kmip_messages.specs.Written.{request_item}
+use Rattle.kmip_plan.specs.Plans.{IsPlanned}
+use Rattle.kmip_plan.specs.declared.key.Key.{Key}
+use Rattle.kmip_ttlv.specs.Spelling.{canon}
+use Rattle.kmip_client.specs.Clients.{ClientState, NoneWorks, SomeWorks, verdict_at}
+use Rattle.kmip_client.specs.Held.{Held}
+use Rattle.kmip_client.specs.Places.{Onward}
+use Rattle.kmip_client.specs.Questions.{request_about}
+use Rattle.kmip_client.specs.Shapes.{IsKept}
+use Rattle.kmip_client.specs.declared.clash.Clash.{Clash}
+use Rattle.kmip_client.specs.declared.knowledge.Knowledge.{Knowledge}
+use Rattle.kmip_client.specs.declared.knowledge.Verdict.TheVariants.{Finished, Conflict}
+use Rattle.kmip_schedule.specs.Machine.{IsMirrored}
+use Rattle.kmip_schedule.specs.Past.{Past, Names, is_planned}
+use Rattle.kmip_schedule.specs.Sound.{Sound}
+use Rattle.kmip_client.specs.Known.{facts, known_after}
+use Rattle.kmip_session.specs.declared.stop.Stop.{Stop}
+use Rattle.kmip_session.specs.declared.stop.Stop.TheVariants as stops
+
+-- The link is honest for the plan's names, all that has happened over it is sound, and what the client knows is true.
+pub record IsGood {L : Type 0} (past : L → Past) (honest : L → Names → Type 0) (c : ClientState) (link : L) : Type 0 where
+  pub honest_for : honest link (is_planned c.keys)
+  pub sound : Sound c.keys (past link)
+  pub held : Held (past link).objects c.keys c.knowns
+
+-- The objects have gone onward for each key, and a past that was an image of the plan machine still is.
+pub record WentOn (keys : List Key) (old new : Past) : Type 0 where
+  pub onward : Onward keys old.objects new.objects
+  pub mirrored : IsMirrored keys old → IsMirrored keys new
+
+-- The bytes ask what a phase of a key of the plan asks, in their one written form.
+pub record IsQuestion (keys : List Key) (bytes : List ℕ) : Type 0 where
+  pub key : Key
+  pub known : Knowledge
+  pub is_planned : IsPlanned keys key
+  pub written : bytes ≡ canon (request_item (request_about key known))
+
+-- So many exchanges were made, each with a question about a key of the plan; nothing else was asked. What is known now is what was
+-- known before and what they handed over.
+pub record Learnt (keys : List Key) (old new : Past) (knowns nexts : List Knowledge) (exchanges : ℕ) : Type 0 where
+  pub questions : List (List ℕ)
+  pub answers : List (Option (List ℕ))
+  pub sent_are : new.sent ≡ old.sent ++ questions
+  pub handed_are : new.handed ≡ old.handed ++ answers
+  pub requests_are : new.requests ≡ old.requests ++ flat_map requests_in questions
+  pub as_many_questions : length questions ≡ exchanges
+  pub as_many_answers : length answers ≡ exchanges
+  pub each : All (IsQuestion keys) questions
+  pub known_is : facts nexts ≡ facts (known_after keys knowns answers)
+
+-- The plan stays, and no identifier or count is taken back.
+pub record Keeps (old new : ClientState) : Type 0 where
+  pub keys_stay : new.keys ≡ old.keys
+  pub kept : AllZip IsKept old.knowns new.knowns
+
+-- some key of the plan is in conflict; each is finished
+abbrev pub SomeClash : List Key → List Knowledge → Type 0
+SomeClash keys knowns = (place : ℕ) × (clash : Clash) × (place < length keys) × (verdict_at keys knowns place ≡ Conflict clash)
+
+abbrev pub AreFinished : List Key → List Knowledge → Type 0
+AreFinished keys knowns = (place : ℕ) → place < length keys → verdict_at keys knowns place ≡ Finished
+
+-- how the keys stand where a run stops so
+abbrev pub Stands : Stop → List Key → List Knowledge → Type 0
+Stands stops.AllFinished keys knowns = AreFinished keys knowns
+Stands stops.Limit keys knowns = SomeWorks keys knowns
+Stands stops.Conflict keys knowns = NoneWorks keys knowns × SomeClash keys knowns
+Stands stops.NoMemory keys knowns = ⊤

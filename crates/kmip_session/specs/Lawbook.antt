@@ -1,0 +1,20 @@
+-- Private: the laws of the crates below that driving rests on.
+-- Source: own.
+use Rattle.kmip_plan.specs.Laws.{KeysAreFound}
+use Rattle.kmip_client.specs.Laws.{OnwardToItself, OnwardTwice, HeldForGood, HeldIsNoConflict, HearingIsBlind, LossesTeachNothing, SettledIsNotWorked}
+use Rattle.kmip_schedule.specs.Laws.{ExchangesKeepSound, AnswersAreTrue, DeliveriesKeepSound, ObjectsGoOnward, ExchangesKeepTheImage}
+
+pub record Lawbook : Type 0 where
+  pub found : KeysAreFound
+  pub itself : OnwardToItself
+  pub twice : OnwardTwice
+  pub known_for_good : HeldForGood
+  pub blind : HearingIsBlind
+  pub lost : LossesTeachNothing
+  pub settled : SettledIsNotWorked
+  pub no_conflict : HeldIsNoConflict
+  pub exchanges : ExchangesKeepSound
+  pub answers : AnswersAreTrue
+  pub deliveries : DeliveriesKeepSound
+  pub onward : ObjectsGoOnward
+  pub images : ExchangesKeepTheImage

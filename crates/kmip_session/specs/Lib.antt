@@ -1,0 +1,5 @@
+pub mod Stops
+pub mod Losses
+pub mod Turns
+pub mod Driving
+pub mod Lawbook

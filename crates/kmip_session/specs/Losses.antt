@@ -1,0 +1,12 @@
+-- Private: a failure of the network is a loss to who drives.
+-- Source: own.
+use Rattle.std.specs.Prelude.{ℕ, List, Option, Some, None, Result, Ok, Err}
+use Rattle.kmip_schedule.specs.declared.link.LinkFault.{LinkFault}
+use Rattle.kmip_schedule.specs.declared.link.LinkFault.TheVariants as faults
+
+-- what was handed over, or nothing where memory ran out
+abbrev pub or_loss : Result (Option (List ℕ)) LinkFault → Option (Option (List ℕ))
+or_loss (Ok answer) = Some answer
+or_loss (Err faults.Io) = Some None
+or_loss (Err faults.Frame) = Some None
+or_loss (Err faults.NoMemory) = None

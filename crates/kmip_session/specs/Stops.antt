@@ -1,0 +1,17 @@
+-- The number and the name of each reason to stop.
+-- Source: own.
+use Rattle.std.specs.Prelude.{ℕ, List, codes}
+use Rattle.kmip_session.specs.declared.stop.Stop.{Stop}
+use Rattle.kmip_session.specs.declared.stop.Stop.TheVariants.{AllFinished, Limit, Conflict, NoMemory}
+
+abbrev pub stop_number : Stop → ℕ
+stop_number AllFinished = 1
+stop_number Limit = 2
+stop_number Conflict = 3
+stop_number NoMemory = 4
+
+abbrev pub stop_name : Stop → List ℕ
+stop_name AllFinished = codes "AllFinished"
+stop_name Limit = codes "Limit"
+stop_name Conflict = codes "Conflict"
+stop_name NoMemory = codes "NoMemory"

@@ -1,0 +1,254 @@
+//! Runs of exchanges, until no key is worked on any more or as many were made as may be.
+ghost use Rattle.std.specs.Prelude.{◌≡◌, ◌≢◌, ◌≤◌, ◌<◌, ℕ, List, length, true, false, Some, None, Ok, Err, IfOk, IfSome, OnErr, OnOk, option_map};
+ghost use Rattle.std.specs.Result.{result_ok};
+ghost use Rattle.kmip_messages.specs.Objects.{Object};
+ghost use Rattle.kmip_client.specs.Clients.{lost_at, one_if, AreSettled, IsAbout};
+ghost use Rattle.kmip_client.specs.Held.{Held};
+ghost use Rattle.kmip_client.specs.Hearing.{hear};
+ghost use Rattle.kmip_client.specs.Justified.{JustifiedMessage};
+ghost use Rattle.kmip_client.specs.Truth.{TrueMessage};
+ghost use Rattle.kmip_schedule.specs.Past.{is_planned};
+ghost use Rattle.kmip_session.specs.Driving.{IsGood, WentOn, Learnt, Keeps, Stands};
+ghost use Rattle.kmip_session.specs.Lawbook.{Lawbook};
+ghost use Rattle.kmip_session.specs.Losses.{or_loss};
+ghost use Rattle.kmip_session.specs.Turns.{is_answer_to, taught, taught_by};
+ghost use Rattle.kmip_schedule.specs.Exchanges.{answer_in};
+
+use crate::stop::Stop;
+use kmip_plan::laws::keys_have_names;
+use kmip_client::laws::{
+    onward_is_an_order, the_settled_are_not_worked_on, truth_is_for_good,
+    what_is_known_was_heard, what_is_true_is_no_conflict,
+};
+use kmip_client::{Client, HearFault, Heard, Question, Verdict};
+use kmip_schedule::laws::{
+    answers_are_true, deliveries_keep_sound, exchanges_keep_sound, objects_go_onward,
+    the_image_is_kept,
+};
+use kmip_schedule::{Link, LinkFault};
+use kmip_ttlv::NoMemory;
+use std::alloc::Global;
+
+/// Asks one question after the other over the link, and learns from what comes back: until no key of
+/// the plan is worked on any more, or `limit` exchanges were made. Answers why it stopped, and how
+/// many exchanges were made.
+///
+/// An answer that does not come, that teaches nothing, or that is not to the question asked last,
+/// lets the key of that question be looked at again.
+pub fn drive<L: Link>(
+    alloc: Global,
+    client: &mut Client<'_>,
+    link: &mut L,
+    limit: usize,
+) -> (Stop, usize)
+    ensures good { IsGood L.past L.honest client.old link.old
+        → IsGood L.past L.honest client.new link.new }
+    ensures goes { IsGood L.past L.honest client.old link.old
+        → WentOn client.old.keys (L.past link.old) (L.past link.new) }
+    ensures known { L.honest link.old (is_planned client.old.keys)
+        → L.honest link.new (is_planned client.old.keys)
+        × (result.0 ≢ Stop.NoMemory → Learnt client.old.keys (L.past link.old) (L.past link.new)
+        client.old.knowns client.new.knowns result.1) }
+    ensures kept { Keeps client.old client.new }
+    ensures stands { Stands result.0 client.new.keys client.new.knowns }
+    ensures limit { result.0 ≡ Stop.Limit → result.1 ≡ limit }
+    ensures within { result.1 ≤ limit }
+    ensures no_conflict { IsGood L.past L.honest client.old link.old
+        → result.0 ≢ Stop.Conflict }
+{
+    laws_below();
+    for made in 0..limit {
+        match turn(alloc, client, link) {
+            Ok(true) => {}
+            Ok(false) => return (stop_of(client), made),
+            Err(NoMemory) => return (Stop::NoMemory, made),
+        }
+    }
+    (stop_of(client), limit)
+}
+
+/// The laws of the crates below.
+fn laws_below()
+    ensures { Lawbook }
+{
+    keys_have_names();
+    onward_is_an_order();
+    truth_is_for_good();
+    what_is_known_was_heard();
+    the_settled_are_not_worked_on();
+    what_is_true_is_no_conflict();
+    exchanges_keep_sound();
+    answers_are_true();
+    deliveries_keep_sound();
+    objects_go_onward();
+    the_image_is_kept();
+}
+
+/// The next question, and what comes of it; false where no key is worked on.
+///
+/// # Errors
+/// Where there is no memory; the key that was asked about is then looked at again.
+fn turn<L: Link>(
+    alloc: Global,
+    client: &mut Client<'_>,
+    link: &mut L,
+) -> Result<bool, NoMemory>
+    ensures good { IsGood L.past L.honest client.old link.old
+        → IsGood L.past L.honest client.new link.new }
+    ensures goes { IsGood L.past L.honest client.old link.old
+        → WentOn client.old.keys (L.past link.old) (L.past link.new) }
+    ensures known { L.honest link.old (is_planned client.old.keys)
+        → L.honest link.new (is_planned client.old.keys)
+        × IfOk result (λ asked. Learnt client.old.keys (L.past link.old) (L.past link.new)
+        client.old.knowns client.new.knowns (one_if asked)) }
+    ensures kept { Keeps client.old client.new }
+    ensures none { IfOk result (λ asked. asked ≡ false
+        → AreSettled client.new.keys client.new.knowns) }
+{
+    laws_below();
+    let Some(question) = client.ask(alloc)? else {
+        return Ok(false);
+    };
+    put(alloc, client, link, &question)?;
+    Ok(true)
+}
+
+/// Puts the question over the link, and learns from what comes back.
+///
+/// # Errors
+/// Where there is no memory; the key of the question is then looked at again.
+fn put<L: Link>(
+    alloc: Global,
+    client: &mut Client<'_>,
+    link: &mut L,
+    question: &Question,
+) -> Result<(), NoMemory>
+    requires { IsAbout client.old.keys client.old.knowns question.now }
+    ensures good { IsGood L.past L.honest client.old link.old
+        → JustifiedMessage client.old.keys (L.past link.old).objects question.now.bytes
+        → IsGood L.past L.honest client.new link.new
+        × WentOn client.old.keys (L.past link.old) (L.past link.new) }
+    ensures known { L.honest link.old (is_planned client.old.keys)
+        → L.honest link.new (is_planned client.old.keys)
+        × OnOk result (Learnt client.old.keys (L.past link.old) (L.past link.new)
+        client.old.knowns client.new.knowns 1) }
+    ensures kept { Keeps client.old client.new }
+{
+    laws_below();
+    let _plan = client.plan();
+    let Ok(answer) = answer_or_loss(link.exchange(alloc, question.bytes.as_slice())) else {
+        client.lost(question.key);
+        return Err(NoMemory);
+    };
+    learn(alloc, client, question, answer)
+}
+
+/// What an exchange handed over, where a failure of the network is a loss.
+fn answer_or_loss(
+    answered: Result<Option<Vec<u8>>, LinkFault>,
+) -> Result<Option<Vec<u8>>, NoMemory>
+    ensures { option_map (option_map (λ v. v.items)) (result_ok result)
+        ≡ or_loss (answer_in (λ v. v.items) answered) }
+{
+    match answered {
+        Ok(answer) => Ok(answer),
+        Err(LinkFault::Io) | Err(LinkFault::Frame) => Ok(None),
+        Err(LinkFault::NoMemory) => Err(NoMemory),
+    }
+}
+
+/// Learns from the answer to the question; where there is none, its key is looked at again.
+///
+/// # Errors
+/// Where there is no memory; the key of the question is then looked at again.
+fn learn(
+    alloc: Global,
+    client: &mut Client<'_>,
+    question: &Question,
+    answer: Option<Vec<u8>>,
+) -> Result<(), NoMemory>
+    requires { question.now.key < length client.old.keys }
+    ensures taught { OnOk result (client.new
+        ≡ taught question.now (option_map (λ v. v.items) answer) client.old) }
+    ensures lost { OnErr result (client.new ≡ lost_at client.old question.now.key) }
+    ensures kept { Keeps client.old client.new }
+    ensures held { (objects : List Object) → Held objects client.old.keys client.old.knowns
+        → IfSome answer (λ v. TrueMessage client.old.keys objects v.items)
+        → Held objects client.new.keys client.new.knowns }
+{
+    let Some(reply) = answer else {
+        client.lost(question.key);
+        return Ok(());
+    };
+    hear(alloc, client, question, reply.as_slice())
+}
+
+/// Learns from bytes that have come; where they are not the answer to the question, its key is
+/// looked at again.
+///
+/// # Errors
+/// Where there is no memory; the key of the question is then looked at again.
+fn hear(
+    alloc: Global,
+    client: &mut Client<'_>,
+    question: &Question,
+    reply: &[u8],
+) -> Result<(), NoMemory>
+    requires { question.now.key < length client.old.keys }
+    ensures taught { OnOk result (client.new
+        ≡ taught_by question.now client.old (hear client.old reply.now)) }
+    ensures lost { OnErr result (client.new ≡ lost_at client.old question.now.key) }
+    ensures kept { Keeps client.old client.new }
+    ensures held { (objects : List Object) → Held objects client.old.keys client.old.knowns
+        → TrueMessage client.old.keys objects reply.now
+        → Held objects client.new.keys client.new.knowns }
+{
+    match client.hear(alloc, reply) {
+        Ok(heard) => {
+            if !is_answer_to(question, heard) {
+                client.lost(question.key);
+            }
+            Ok(())
+        }
+        Err(fault) => {
+            client.lost(question.key);
+            unless_no_memory(fault)
+        }
+    }
+}
+
+/// Whether the reply is about the question's key, and answers its operation.
+fn is_answer_to(question: &Question, heard: Heard) -> bool
+    ensures { result ≡ is_answer_to question.now heard }
+{
+    heard.key == question.key && heard.operation == question.operation
+}
+
+/// A refusal is passed over, want of memory is not.
+///
+/// # Errors
+/// Where the fault is that there is no memory.
+fn unless_no_memory(fault: HearFault) -> Result<(), NoMemory>
+    ensures { OnOk result (fault ≢ HearFault.NoMemory) }
+{
+    match fault {
+        HearFault::NoMemory => Err(NoMemory),
+        _ => Ok(()),
+    }
+}
+
+/// Why a run stops that makes no further exchange.
+fn stop_of(client: &Client<'_>) -> Stop
+    ensures stands { Stands result client.now.keys client.now.knowns }
+    ensures in_memory { result ≢ Stop.NoMemory }
+{
+    if client.working() > 0 {
+        return Stop::Limit;
+    }
+    for place in 0..client.plan().count() {
+        if let Verdict::Conflict(_) = client.verdict(place) {
+            return Stop::Conflict;
+        }
+    }
+    Stop::AllFinished
+}

@@ -1,0 +1,9 @@
+//! A client and a server that meet over a link: runs of exchanges, and what is told of them.
+#![tactic(auto)]
+
+mod driving;
+mod stop;
+
+pub use driving::drive;
+pub use kmip_schedule::{Link, LinkFault};
+pub use stop::Stop;

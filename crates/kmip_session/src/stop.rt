@@ -1,0 +1,42 @@
+//! Why a run stops.
+ghost use Rattle.std.specs.Prelude.{◌≡◌};
+ghost use Rattle.kmip_session.specs.Stops.{stop_number, stop_name};
+
+/// Why a run stops.
+#[derive(Clone, Copy, Debug, PartialEq, Eq)]
+pub enum Stop {
+    /// Every key of the plan is finished.
+    AllFinished,
+    /// As many exchanges were made as it may make, and some key is still worked on.
+    Limit,
+    /// No key is worked on any more, and some key is in conflict.
+    Conflict,
+    /// There was no memory.
+    NoMemory,
+}
+
+impl Stop {
+    /// The number, 1 to 4. Takes no memory.
+    pub fn number(self) -> u32
+        ensures { result ≡ stop_number self }
+    {
+        match self {
+            Stop::AllFinished => 1,
+            Stop::Limit => 2,
+            Stop::Conflict => 3,
+            Stop::NoMemory => 4,
+        }
+    }
+
+    /// The name, as it is printed. Takes no memory.
+    pub fn name(self) -> &'static str
+        ensures { result.now ≡ stop_name self }
+    {
+        match self {
+            Stop::AllFinished => "AllFinished",
+            Stop::Limit => "Limit",
+            Stop::Conflict => "Conflict",
+            Stop::NoMemory => "NoMemory",
+        }
+    }
+}
