@@ -4,6 +4,7 @@ pub mod Learning
 pub mod Questions
 pub mod Clients
 pub mod Saving
+pub mod Standing
 pub mod Shapes
 pub mod Hearing
 pub mod Known

@@ -27,6 +27,7 @@ ghost use Rattle.kmip_client.specs.Clients.{
 ghost use Rattle.kmip_client.specs.Hearing.{unheard, heard_in, hear, Refuses};
 ghost use Rattle.kmip_client.specs.Held.{Held, TrueProgress};
 ghost use Rattle.kmip_client.specs.Saving.{progress, resume};
+ghost use Rattle.kmip_client.specs.Standing.{counts_of, verdicts_of};
 ghost use Rattle.kmip_progress.specs.Suiting.{Suits};
 ghost use Rattle.kmip_client.specs.Justified.{JustifiedMessage};
 ghost use Rattle.kmip_client.specs.Shapes.{IsShaped, IsKept};
@@ -39,6 +40,7 @@ use crate::hearing::{Heard, hear_about};
 use crate::knowledge::{Knowledge, Verdict};
 use crate::question::{Question, question_about};
 use crate::saving::{all_knowledge, all_known, count_working};
+use crate::standing::{all_counts, all_verdicts};
 use crate::subject::subject_of;
 use kmip_messages::{MessageFault, Reply, read_reply};
 use kmip_plan::{Key, Plan, laws};
@@ -233,6 +235,27 @@ impl<'p> Client<'p> {
         ensures { result ≡ verdict_at self.now.keys self.now.knowns key }
     {
         verdict_of(self.plan.keys(), self.knowns.as_slice(), key)
+    }
+
+    /// How many steps of each key are known to have taken effect, in the order of the plan.
+    ///
+    /// # Errors
+    /// Where there is no memory for them.
+    pub fn counts(&self, alloc: Global) -> Result<Vec<usize>, NoMemory>
+        ensures { IfOk result (λ counts. counts.items ≡ counts_of self.now.knowns) }
+    {
+        all_counts(alloc, self.knowns.as_slice())
+    }
+
+    /// The verdict on each key, in the order of the plan.
+    ///
+    /// # Errors
+    /// Where there is no memory for them.
+    pub fn verdicts(&self, alloc: Global) -> Result<Vec<Verdict>, NoMemory>
+        ensures { IfOk result (λ verdicts.
+            verdicts.items ≡ verdicts_of self.now.keys self.now.knowns) }
+    {
+        all_verdicts(alloc, self.plan.keys(), self.knowns.as_slice())
     }
 
     /// How many keys are worked on. Takes no memory.

@@ -11,6 +11,7 @@ pub mod laws;
 mod learning;
 mod question;
 mod saving;
+mod standing;
 mod subject;
 
 pub use clash::Clash;

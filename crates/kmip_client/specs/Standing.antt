@@ -1,0 +1,17 @@
+-- How it stands with each key of a plan, in the order of the plan.
+-- Source: own.
+use Rattle.std.specs.Prelude.{ℕ, List, [], ◌∷◌, map}
+use Rattle.kmip_plan.specs.declared.key.Key.{Key}
+use Rattle.kmip_client.specs.Knowledge.{verdict_of}
+use Rattle.kmip_client.specs.declared.knowledge.Knowledge.{Knowledge}
+use Rattle.kmip_client.specs.declared.knowledge.Verdict.{Verdict}
+
+-- how many steps of each are known to be done
+abbrev pub counts_of : List Knowledge → List ℕ
+counts_of knowns = map (λ known. known.done) knowns
+
+-- the verdict on each
+abbrev pub verdicts_of : List Key → List Knowledge → List Verdict
+verdicts_of [] knowns = []
+verdicts_of (key ∷ keys) [] = []
+verdicts_of (key ∷ keys) (known ∷ knowns) = verdict_of key known ∷ verdicts_of keys knowns

@@ -1,0 +1,35 @@
+//! How it stands with the keys of a plan.
+ghost use Rattle.std.specs.Prelude.{◌≡◌, length, IfOk};
+ghost use Rattle.kmip_client.specs.Standing.{counts_of, verdicts_of};
+
+use crate::knowledge::{Knowledge, Verdict};
+use kmip_plan::Key;
+use kmip_ttlv::NoMemory;
+use std::alloc::Global;
+
+/// How many steps of each key are known to be done.
+pub(crate) fn all_counts(alloc: Global, knowns: &[Knowledge]) -> Result<Vec<usize>, NoMemory>
+    ensures { IfOk result (λ counts. counts.items ≡ counts_of knowns.now) }
+{
+    let mut counts = Vec::with_capacity(alloc, knowns.len())?;
+    for known in knowns {
+        counts.push(known.done)?;
+    }
+    Ok(counts)
+}
+
+/// The verdict on each key.
+pub(crate) fn all_verdicts(
+    alloc: Global,
+    keys: &[Key],
+    knowns: &[Knowledge],
+) -> Result<Vec<Verdict>, NoMemory>
+    requires { length knowns.now ≡ length keys.now }
+    ensures { IfOk result (λ verdicts. verdicts.items ≡ verdicts_of keys.now knowns.now) }
+{
+    let mut verdicts = Vec::with_capacity(alloc, keys.len())?;
+    for place in 0..keys.len() {
+        verdicts.push(knowns[place].verdict(&keys[place]))?;
+    }
+    Ok(verdicts)
+}
