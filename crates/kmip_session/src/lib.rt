@@ -2,8 +2,10 @@
 #![tactic(auto)]
 
 mod driving;
+mod reporting;
 mod stop;
 
 pub use driving::drive;
 pub use kmip_schedule::{Link, LinkFault};
+pub use reporting::report;
 pub use stop::Stop;
