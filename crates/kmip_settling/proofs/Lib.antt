@@ -1,0 +1,4 @@
+pub mod FilterLemmas
+pub mod NeedLemmas
+pub mod SumLemmas
+pub mod ReadyLemmas
