@@ -2,3 +2,5 @@ pub mod FilterLemmas
 pub mod NeedLemmas
 pub mod SumLemmas
 pub mod ReadyLemmas
+pub mod ChangeLemmas
+pub mod PhaseLemmas
