@@ -4,3 +4,4 @@ pub mod SumLemmas
 pub mod ReadyLemmas
 pub mod ChangeLemmas
 pub mod PhaseLemmas
+pub mod StepLemmas
