@@ -5,3 +5,4 @@ pub mod ReadyLemmas
 pub mod ChangeLemmas
 pub mod PhaseLemmas
 pub mod StepLemmas
+pub mod HearLemmas
