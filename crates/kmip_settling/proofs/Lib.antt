@@ -6,3 +6,4 @@ pub mod ChangeLemmas
 pub mod PhaseLemmas
 pub mod StepLemmas
 pub mod HearLemmas
+pub mod TurnLemmas
