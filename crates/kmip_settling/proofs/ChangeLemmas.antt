@@ -1,6 +1,6 @@
 -- How the objects change when the question about a key is served: they stay, the key's comes, or it takes a step. The objects of the
 -- other names are what they were.
-use Rattle.std.proofs.Common.{◌≡◌, ◌≢◌, ◌≤◌, ◌+◌, ℕ, Bool, true, false, nat_eq, List, [], ◌∷◌, ◌++◌, map, filter, length, is_some, option_map, Option, Some, None, IsTrue, length-append, subst, refl, sym, ap, ◌∙◌, inl, inr, arith}
+use Rattle.std.proofs.Common.{◌≡◌, ◌≢◌, ◌≤◌, ◌+◌, ℕ, true, false, nat_eq, List, [], ◌∷◌, ◌++◌, map, length, option_map, Option, Some, None, IsTrue, length-append, subst, refl, sym, ap, ◌∙◌, inl, inr, arith}
 use Rattle.std.specs.Cmp.Lexicographic.{pointwise}
 use Rattle.std.specs.List.{slice_get}
 use Rattle.std.specs.Option.{is_none}
@@ -16,7 +16,6 @@ use Rattle.kmip_plan.specs.Chains.{place_reached}
 use Rattle.kmip_plan.specs.Plans.{IsLawful, IsPlanned, key_named}
 use Rattle.kmip_plan.specs.declared.key.Key.{Key}
 use Rattle.kmip_schedule.specs.Safe.{all_named}
-use Rattle.kmip_schedule.specs.Sound.{IsObjectOf}
 use Rattle.kmip_settling.specs.Lawbook.{Lawbook}
 use Rattle.kmip_settling.specs.Needs.{missing}
 use Rattle.kmip_settling.specs.Ready.{all_with, IsHere, AreHere}

@@ -1,5 +1,5 @@
 -- What a client knows after the answer to its question: what its outcome teaches, of the question's key alone.
-use Rattle.std.proofs.Common.{◌≡◌, ◌≢◌, ◌≤◌, ◌<◌, ℕ, zero, suc, ◌+◌, Bool, true, false, ◌&&◌, ◌==◌, nat_le, List, [], ◌∷◌, is_some, Option, Some, None, Result, Ok, Err, slice_set, subst, refl, sym, ap, ◌∙◌, ◌⊎◌, inl, inr, arith}
+use Rattle.std.proofs.Common.{◌≡◌, ◌<◌, ℕ, zero, suc, ◌+◌, Bool, true, false, ◌==◌, nat_le, List, [], ◌∷◌, is_some, Option, Some, None, Result, Ok, Err, slice_set, subst, refl, sym, ap, ◌∙◌, ◌⊎◌, inl, inr, arith}
 use Rattle.std.specs.List.{slice_get, position_from}
 use Rattle.std.specs.Option.{option_and_then, option_map_or}
 use Rattle.std.proofs.lemmas.Bool.{cases_Bool, eq-eqb, le-leb}
@@ -9,7 +9,6 @@ use Rattle.std.proofs.lemmas.Slice.Eq.{bytes_eq-Decides}
 use Rattle.kmip_messages.specs.Objects.{Object}
 use Rattle.kmip_messages.specs.Operations.{operation_of}
 use Rattle.kmip_messages.specs.declared.reply.Outcome.{Outcome}
-use Rattle.kmip_messages.specs.declared.reply.Outcome.TheVariants.{Failed}
 use Rattle.kmip_messages.specs.declared.reply.Reply.{Reply}
 use Rattle.kmip_messages.specs.declared.request.Ask.{Ask}
 use Rattle.kmip_messages.specs.declared.request.Ask.TheVariants as asks
@@ -25,7 +24,7 @@ use Rattle.kmip_client.specs.declared.hearing.Heard.{Heard}
 use Rattle.kmip_client.specs.declared.hearing.News.{News}
 use Rattle.kmip_client.specs.declared.knowledge.Knowledge.{Knowledge}
 use Rattle.kmip_client.specs.declared.question.Question.{Question}
-use Rattle.kmip_client.specs.Clients.{ClientState, lost_at, lost_working, changed_by, changed_at}
+use Rattle.kmip_client.specs.Clients.{ClientState, lost_at, lost_working, changed_by}
 use Rattle.kmip_client.specs.Hearing.{is_asked_of, place_named, subject_at, subject_of, is_other_operation, has_failed, news_of, with_news, teach, with_heard, heard_by, heard_at, heard_in}
 use Rattle.kmip_client.specs.Justified.{MayAsk}
 use Rattle.kmip_client.specs.Knowledge.{is_working, lose}
@@ -88,6 +87,7 @@ same_operation : (told : Option ℕ) (operation : ℕ) → (told ≡ Some operat
 same_operation told operation (inl same) = by_same ∙ not_other where
   not_other : is_other_operation (Some operation) operation ≡ false
   not_other = rw (eq-eqb operation operation refl) refl
+
   by_same : is_other_operation told operation ≡ is_other_operation (Some operation) operation
   by_same = ap (λ t. is_other_operation t operation) same
 same_operation told operation (inr none) = ap (λ t. is_other_operation t operation) none
@@ -139,6 +139,7 @@ failed_learns : (key : Key) (outcome : Outcome) (known next : Knowledge) → Has
 failed_learns key outcome known next (reason, is) learnt = same_ok (lose known) next (sym (ap (λ o. learn key o known) is) ∙ learnt) where
   ok : Knowledge → Result Knowledge HearFault
   ok x = Ok x
+
   same_ok : (x y : Knowledge) → ok x ≡ ok y → x ≡ y
   same_ok x y is = cc
 

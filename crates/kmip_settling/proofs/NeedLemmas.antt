@@ -1,5 +1,5 @@
 -- What one key needs: by its phase, at most its chain and two more, and nothing exactly where it is finished.
-use Rattle.std.proofs.Common.{◌≡◌, ◌≢◌, ◌≤◌, ◌<◌, ℕ, zero, suc, ◌+◌, ◌-◌, Bool, true, false, not, ◌&&◌, nat_eq, nat_le, nat_lt, List, [], ◌∷◌, length, Option, Some, None, is_some, subst, refl, sym, ap, ◌∙◌, inl, inr, arith, if◌then◌else◌}
+use Rattle.std.proofs.Common.{◌≡◌, ◌≤◌, ◌<◌, ℕ, ◌+◌, ◌-◌, Bool, true, false, not, nat_eq, nat_le, nat_lt, List, length, Option, Some, None, is_some, refl, sym, ap, ◌∙◌, inl, inr, arith, if◌then◌else◌}
 use Rattle.std.specs.Option.{option_map_or}
 use Rattle.std.proofs.lemmas.Bool.{cases_Bool, leb-true, leb-false, ltb-false, le-leb, eq-eqb, eqb-true}
 use Rattle.kmip_messages.specs.Objects.{Object, object_named}
@@ -8,12 +8,10 @@ use Rattle.kmip_plan.specs.Laws.{ReachedIsWithin}
 use Rattle.kmip_plan.specs.declared.key.Key.{Key}
 use Rattle.kmip_plan.specs.declared.target.Target.{Target}
 use Rattle.kmip_plan.specs.declared.target.Target.TheVariants as targets
-use Rattle.kmip_client.specs.declared.clash.Clash.{Clash}
 use Rattle.kmip_client.specs.declared.knowledge.Knowledge.{Knowledge}
 use Rattle.kmip_client.specs.declared.knowledge.Phase.{Phase}
 use Rattle.kmip_client.specs.declared.knowledge.Phase.TheVariants as phases
-use Rattle.kmip_client.specs.declared.knowledge.Verdict.{Verdict}
-use Rattle.kmip_client.specs.declared.knowledge.Verdict.TheVariants.{Working, Finished, Conflict}
+use Rattle.kmip_client.specs.declared.knowledge.Verdict.TheVariants.{Working, Finished}
 use Rattle.kmip_client.specs.Held.{IsHeld}
 use Rattle.kmip_client.specs.Knowledge.{chain_length, fresh_knowledge, clash_verdict, verdict_of, is_working}
 use Rattle.kmip_client.specs.Places.{position}
@@ -135,13 +133,23 @@ pub key_at_the_end : ReachedIsWithin → (objects : List Object) (key : Key) (kn
 key_at_the_end reached objects key known held finished =
     omega (arith, held.holds.done_true, finished_all key known held.no_clash finished, position_within reached key objects)
 
+chain_some : (target : Target) → 0 < length (chain target)
+chain_some targets.Created = omega arith
+chain_some targets.Active = omega arith
+chain_some targets.Revoked = omega arith
+chain_some targets.Destroyed = omega arith
+chain_some targets.Discarded = omega arith
+
+-- an object at the end of a chain is there
+pub end_is_there : (key : Key) (objects : List Object) → position key objects ≡ chain_length key → (o : Object) × (object_named key.attrs.name objects ≡ Some o)
+end_is_there key objects at_end = by_found (object_named key.attrs.name objects) refl where
+  by_found : (found : Option Object) → object_named key.attrs.name objects ≡ found → (o : Object) × (object_named key.attrs.name objects ≡ Some o)
+  by_found None is =
+      let none : position key objects ≡ 0 = ap (place_in key) is in
+      absurd (omega (arith, none, at_end, chain_some key.target))
+  by_found (Some o) is = (o, is)
+
 -- a key of which nothing is known, and which is not made
 pub key_fresh : (key : Key) (objects : List Object) → object_named key.attrs.name objects ≡ None → need_of key fresh_knowledge objects ≡ chain_length key + 1
 key_fresh key objects none =
-    need_found key fresh_knowledge objects None none ∙ working_needs key fresh_knowledge phases.Look None refl (chain_some key.target) where
-      chain_some : (target : Target) → 0 < length (chain target)
-      chain_some targets.Created = omega arith
-      chain_some targets.Active = omega arith
-      chain_some targets.Revoked = omega arith
-      chain_some targets.Destroyed = omega arith
-      chain_some targets.Discarded = omega arith
+    need_found key fresh_knowledge objects None none ∙ working_needs key fresh_knowledge phases.Look None refl (chain_some key.target)

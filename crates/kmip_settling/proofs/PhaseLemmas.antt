@@ -1,6 +1,5 @@
 -- What one exchange teaches about a key that is worked on, by its phase; its steps have a file of their own.
-use Rattle.std.proofs.Common.{◌≡◌, ◌≢◌, ◌≤◌, ◌<◌, ℕ, zero, suc, ◌+◌, ◌-◌, Bool, true, false, ◌&&◌, nat_eq, nat_lt, ℤ, List, [], ◌∷◌, ◌++◌, map, filter, length, is_some, option_map, Option, Some, None, Result, Ok, Err, IsSome, IsTrue, subst, refl, sym, ap, ◌∙◌, inl, inr, arith}
-use Rattle.std.specs.Option.{option_map_or}
+use Rattle.std.proofs.Common.{◌≡◌, ◌≤◌, ◌<◌, ℕ, ◌+◌, ◌-◌, true, false, nat_eq, nat_lt, List, [], ◌∷◌, ◌++◌, map, filter, length, is_some, option_map, Option, Some, None, Ok, IsSome, IsTrue, subst, refl, sym, ap, ◌∙◌, inl, inr, arith}
 use Rattle.std.specs.Ordering.{int_eq}
 use Rattle.std.proofs.lemmas.Bool.{cases_Bool, ltb-true, ltb-false, lt-ltb, le-ltb, eq-eqb}
 use Rattle.std.proofs.lemmas.Bool.Decides.{Decides-int_eq}
@@ -15,8 +14,6 @@ use Rattle.kmip_messages.specs.declared.reply.Outcome.TheVariants.{Created, Loca
 use Rattle.kmip_messages.specs.declared.request.Ask.{Ask}
 use Rattle.kmip_messages.specs.declared.request.Ask.TheVariants as asks
 use Rattle.kmip_messages.specs.declared.request.KeyAttrs.{KeyAttrs}
-use Rattle.kmip_messages.specs.declared.standard.TheConstants.{OBJECT_TYPE_SYMMETRIC_KEY}
-use Rattle.kmip_messages.specs.declared.state.KeyState.{KeyState}
 use Rattle.kmip_messages.specs.declared.state.KeyState.TheVariants.{PreActive}
 use Rattle.kmip_messages.specs.declared.step.Step.{Step}
 use Rattle.kmip_plan.specs.Chains.{or_zero, place_of, place_reached}
@@ -28,7 +25,7 @@ use Rattle.kmip_client.specs.declared.knowledge.Phase.TheVariants as phases
 use Rattle.kmip_client.specs.Held.{IsHeld}
 use Rattle.kmip_client.specs.Knowledge.{chain_length, lose, lost_phase}
 use Rattle.kmip_client.specs.Learning.{is_known, is_other, is_number, is_planned, is_named, learn}
-use Rattle.kmip_client.specs.Places.{position, uid_of}
+use Rattle.kmip_client.specs.Places.{position}
 use Rattle.kmip_client.specs.Shapes.{PhaseSuits}
 use Rattle.kmip_server.specs.ServerStep as rows
 use Rattle.kmip_server.specs.ServerStep.{ServerStep, step_asked}

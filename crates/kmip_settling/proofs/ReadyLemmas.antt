@@ -1,16 +1,12 @@
 -- Where the objects of the planned names are the plan's own, and nobody else has their names and identifiers.
-use Rattle.std.proofs.Common.{◌≡◌, ◌≢◌, ◌≤◌, ◌+◌, ℕ, Bool, true, false, nat_eq, List, [], ◌∷◌, ◌++◌, map, filter, length, option_to_list, option_map, Option, Some, None, IsTrue, subst, refl, sym, ap, ◌∙◌, inl, inr, arith}
-use Rattle.std.specs.Cmp.Lexicographic.{pointwise}
-use Rattle.std.proofs.lemmas.Bool.{cases_Bool}
-use Rattle.std.proofs.lemmas.Option.{same_Some}
-use Rattle.kmip_messages.specs.Objects.{Object, object_named, object_with, restated, all_restated}
-use Rattle.kmip_plan.specs.Plans.{IsPlanned, key_named}
+use Rattle.std.proofs.Common.{◌≡◌, List, option_to_list, Some, None, sym, ap, ◌∙◌}
+use Rattle.kmip_messages.specs.Objects.{Object}
 use Rattle.kmip_plan.specs.declared.key.Key.{Key}
 use Rattle.kmip_schedule.specs.Past.{Past}
 use Rattle.kmip_schedule.specs.Sound.{Sound}
 use Rattle.kmip_settling.specs.Laws.{NoneIsMade}
 use Rattle.kmip_settling.specs.Lawbook.{Lawbook}
-use Rattle.kmip_settling.specs.Ready.{all_with, IsHere, AreHere}
+use Rattle.kmip_settling.specs.Ready.{AreHere}
 
 pub sound_here : (l : Lawbook) (keys : List Key) (p : Past) → Sound keys p → AreHere keys p.objects
 sound_here l keys p sound = λ key o planned is. record {

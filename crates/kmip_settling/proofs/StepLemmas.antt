@@ -1,5 +1,5 @@
 -- What one exchange teaches about a key that is to take the next step of its chain.
-use Rattle.std.proofs.Common.{◌≡◌, ◌≢◌, ◌≤◌, ◌<◌, ℕ, ◌+◌, ◌-◌, Bool, true, false, nat_lt, List, [], ◌∷◌, option_map, Option, Some, None, Result, Ok, IsTrue, MatchOption, subst, refl, sym, ap, ◌∙◌, inl, inr, arith}
+use Rattle.std.proofs.Common.{◌≡◌, ◌≤◌, ◌<◌, ℕ, ◌+◌, true, false, nat_lt, List, option_map, Option, Some, None, Ok, subst, refl, sym, ap, ◌∙◌, inl, inr, arith}
 use Rattle.std.proofs.lemmas.Bool.{cases_Bool, ltb-true, ltb-false, lt-ltb}
 use Rattle.std.proofs.lemmas.Option.{MatchOption-at_some, same_Some, some_pair_parts}
 use Rattle.kmip_messages.specs.Lifecycle.{after}

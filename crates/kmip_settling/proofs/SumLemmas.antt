@@ -1,6 +1,6 @@
 -- What all keys need, how many have no object, and what is known of all, key by key.
-use Rattle.std.proofs.Common.{◌≡◌, ◌≢◌, ◌≤◌, ◌<◌, ℕ, zero, suc, ◌+◌, Bool, true, false, List, [], ◌∷◌, length, map, option_map, Option, Some, None, slice_set, subst, refl, sym, ap, ◌∙◌, arith}
-use Rattle.std.specs.List.{AllZip, slice_get}
+use Rattle.std.proofs.Common.{◌≡◌, ◌≢◌, ◌≤◌, ◌<◌, ℕ, zero, suc, ◌+◌, Bool, true, false, List, [], ◌∷◌, length, map, option_map, Some, None, slice_set, subst, refl, sym, ap, ◌∙◌, arith}
+use Rattle.std.specs.List.{slice_get}
 use Rattle.std.specs.Option.{is_none}
 use Rattle.std.proofs.lemmas.Option.{same_Some}
 use Rattle.kmip_messages.specs.Objects.{Object, object_named}
@@ -11,7 +11,7 @@ use Rattle.kmip_client.specs.declared.knowledge.Knowledge.{Knowledge}
 use Rattle.kmip_client.specs.declared.knowledge.Verdict.TheVariants.{Finished}
 use Rattle.kmip_client.specs.Clients.{one_if, verdict_at, AreSettled}
 use Rattle.kmip_client.specs.Held.{IsHeld, Held}
-use Rattle.kmip_client.specs.Knowledge.{chain_length, fresh_knowledge, verdict_of}
+use Rattle.kmip_client.specs.Knowledge.{chain_length, fresh_knowledge}
 use Rattle.kmip_client.specs.Places.{position}
 use Rattle.kmip_settling.specs.Needs.{need_of, need_all, chains_and_looks, missing}
 use Rattle.kmip_settling.proofs.NeedLemmas.{place_in, need_by, key_most, key_finished, key_settled, key_at_the_end, key_fresh}
@@ -80,8 +80,11 @@ one_nearer (k ∷ keys) (kn ∷ knowns) zero key known next old new same here th
     (subst (λ x. need_of key next new + 1 ≡ need_of key x old) (sym (same_Some kn known there)) nearer) in
     omega (arith, own, all_need keys knowns old new (rest_same k keys old new same))
 one_nearer (k ∷ keys) (kn ∷ knowns) (suc place) key known next old new same here there nearer =
-    omega (arith, same_need k kn old new (first_same k keys place old new same),
-    one_nearer keys knowns place key known next old new (later_same k keys place old new same) here there nearer)
+    omega (
+      arith,
+      same_need k kn old new (first_same k keys place old new same),
+      one_nearer keys knowns place key known next old new (later_same k keys place old new same) here there nearer,
+    )
 
 pub one_held : (keys : List Key) (knowns : List Knowledge) (place : ℕ) (key : Key) (next : Knowledge) (old new : List Object)
     → OthersSame keys place old new → slice_get keys place ≡ Some key → Held old keys knowns → IsHeld new key next
@@ -125,8 +128,11 @@ one_made (k ∷ keys) zero key old new o same here was now =
     let some : object_named k.attrs.name new ≡ Some o = subst (λ x. object_named x.attrs.name new ≡ Some o) (sym (same_Some k key here)) now in
     omega (arith, ap (λ found. one_if (is_none found)) none, ap (λ found. one_if (is_none found)) some, all_missing keys old new (rest_same k keys old new same))
 one_made (k ∷ keys) (suc place) key old new o same here was now =
-    omega (arith, ap (λ found. one_if (is_none found)) (first_same k keys place old new same),
-    one_made keys place key old new o (later_same k keys place old new same) here was now)
+    omega (
+      arith,
+      ap (λ found. one_if (is_none found)) (first_same k keys place old new same),
+      one_made keys place key old new o (later_same k keys place old new same) here was now,
+    )
 
 -- where each that had one has one
 pub none_made : (keys : List Key) (old new : List Object) → ((name : List ℕ) → is_none (object_named name new) ≡ is_none (object_named name old))
@@ -152,8 +158,12 @@ pub all_most : BoundsAddUp → (keys : List Key) (knowns : List Knowledge) (obje
 all_most add [] knowns objects from = omega arith
 all_most add (key ∷ keys) [] objects from = omega arith
 all_most add (key ∷ keys) (known ∷ knowns) objects from =
-    omega (arith, add.1 key keys, key_most key known objects (λ o is. from zero key o refl is),
-    all_most add keys knowns objects (λ j k o here is. from (suc j) k o here is))
+    omega (
+      arith,
+      add.1 key keys,
+      key_most key known objects (λ o is. from zero key o refl is),
+      all_most add keys knowns objects (λ j k o here is. from (suc j) k o here is),
+    )
 
 pub all_finished : (keys : List Key) (knowns : List Knowledge) (objects : List Object) (place : ℕ) → Held objects keys knowns → need_all keys knowns objects ≡ 0
     → place < length keys → verdict_at keys knowns place ≡ Finished

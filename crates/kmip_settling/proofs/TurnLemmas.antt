@@ -1,30 +1,25 @@
 -- One question over a calm link: it is served once, its answer teaches, and the client is one exchange nearer to its end.
-use Rattle.std.proofs.Common.{◌≡◌, ◌≢◌, ◌≤◌, ◌<◌, ℕ, ◌+◌, Bool, true, false, not, ◌&&◌, nat_lt, List, [], ◌∷◌, length, is_some, Option, Some, None, Result, Ok, slice_set, subst, refl, sym, ap, ◌∙◌, ◌⊎◌, inl, inr, arith}
+use Rattle.std.proofs.Common.{◌≡◌, ◌≢◌, ◌≤◌, ◌<◌, ℕ, ◌+◌, Bool, true, not, nat_lt, List, [], ◌∷◌, is_some, Option, Some, None, Ok, slice_set, subst, refl, sym, ap, ◌∙◌, inl, inr, arith}
 use Rattle.std.specs.List.{slice_get}
 use Rattle.std.specs.Option.{unwrap_or}
 use Rattle.std.proofs.lemmas.Bool.{and_parts, ltb-true}
-use Rattle.kmip_messages.specs.Items.{parts_in, stops_in, replies_in}
-use Rattle.kmip_messages.specs.Objects.{Object, object_named}
+use Rattle.kmip_messages.specs.Items.{stops_in, replies_in}
+use Rattle.kmip_messages.specs.Objects.{Object}
 use Rattle.kmip_messages.specs.Operations.{operation_of}
 use Rattle.kmip_messages.specs.Whole.{reply_read}
-use Rattle.kmip_messages.specs.declared.fault.Refusal.{Refusal}
 use Rattle.kmip_messages.specs.declared.reply.Outcome.{Outcome}
 use Rattle.kmip_messages.specs.declared.reply.Reply.{Reply}
 use Rattle.kmip_messages.specs.declared.request.Request.{Request}
-use Rattle.kmip_messages.specs.declared.step.Step.{Step}
 use Rattle.kmip_plan.specs.Chains.{step_at, step_place}
-use Rattle.kmip_plan.specs.Plans.{IsLawful, IsPlanned}
+use Rattle.kmip_plan.specs.Plans.{IsLawful}
 use Rattle.kmip_plan.specs.declared.key.Key.{Key}
-use Rattle.kmip_client.specs.declared.fault.HearFault.{HearFault}
 use Rattle.kmip_client.specs.declared.knowledge.Knowledge.{Knowledge}
 use Rattle.kmip_client.specs.declared.knowledge.Phase.{Phase}
 use Rattle.kmip_client.specs.declared.knowledge.Phase.TheVariants as phases
 use Rattle.kmip_client.specs.declared.question.Question.{Question}
-use Rattle.kmip_client.specs.Clients.{ClientState, IsAbout}
+use Rattle.kmip_client.specs.Clients.{IsAbout}
 use Rattle.kmip_client.specs.Hearing.{first_heard, heard_in, unreadable}
-use Rattle.kmip_client.specs.Held.{IsHeld}
 use Rattle.kmip_client.specs.Knowledge.{chain_length, is_working}
-use Rattle.kmip_client.specs.Learning.{learn}
 use Rattle.kmip_client.specs.Questions.{phase_ask, next_ask, step_ask, ask_about, request_about}
 use Rattle.kmip_client.specs.Shapes.{PhaseSuits}
 use Rattle.kmip_schedule.specs.Calm.{AreTaken, IsServed, Calmly}
@@ -35,11 +30,11 @@ use Rattle.kmip_settling.specs.Laws.{known_after_turn}
 use Rattle.kmip_settling.specs.Lawbook.{Lawbook}
 use Rattle.kmip_settling.specs.Needs.{need_all}
 use Rattle.kmip_settling.specs.Ready.{IsReady}
-use Rattle.kmip_settling.specs.Turns.{taught, taught_by}
+use Rattle.kmip_settling.specs.Turns.{taught_by}
 use Rattle.kmip_settling.proofs.ChangeLemmas.{here_after, places_same, room_after}
 use Rattle.kmip_settling.proofs.HearLemmas.{Answers, asked_of, taught_is}
 use Rattle.kmip_settling.proofs.PhaseLemmas.{IsWorked, IsNearer, look_nearer, make_nearer, check_nearer, own_uid}
-use Rattle.kmip_settling.proofs.StepLemmas.{IsNext, step_nearer, next_asked}
+use Rattle.kmip_settling.proofs.StepLemmas.{step_nearer, next_asked}
 use Rattle.kmip_settling.proofs.SumLemmas.{held_at, one_held, one_missing, one_nearer}
 
 -- ---- one key, in whichever phase

@@ -78,3 +78,10 @@ TheFinishedStandAtTheEnd =
     (keys : List Key) (objects : List Object) (knowns : List Knowledge) → IsLawful keys → Held objects keys knowns
     → (place : ℕ) (key : Key) → slice_get keys place ≡ Some key → verdict_at keys knowns place ≡ Finished
     → position key objects ≡ chain_length key
+
+-- so there is one
+abbrev pub TheFinishedAreThere : Type 0
+TheFinishedAreThere =
+    (keys : List Key) (objects : List Object) (knowns : List Knowledge) → IsLawful keys → Held objects keys knowns
+    → (place : ℕ) (key : Key) → slice_get keys place ≡ Some key → verdict_at keys knowns place ≡ Finished
+    → (o : Object) × (object_named key.attrs.name objects ≡ Some o)

@@ -9,6 +9,7 @@ ghost use Rattle.kmip_settling.specs.Laws.{
   WhoNeedsNothingIsFinished,
   WhoIsSettledNeedsNothing,
   TheFinishedStandAtTheEnd,
+  TheFinishedAreThere,
 };
 ghost use Rattle.kmip_settling.specs.Lawbook.{Lawbook};
 
@@ -76,9 +77,10 @@ pub fn who_needs_nothing_is_finished()
     ensures settled { WhoIsSettledNeedsNothing }
 {}
 
-/// The object of a key that is finished stands at the end of its chain.
+/// A key that is finished has an object, and it stands at the end of its chain.
 pub fn the_finished_stand_at_the_end()
-    ensures { TheFinishedStandAtTheEnd }
+    ensures at_end { TheFinishedStandAtTheEnd }
+    ensures there { TheFinishedAreThere }
 {
     laws_below();
 }
