@@ -1,0 +1,26 @@
+-- One by one.
+use Rattle.kmip_settling.proofs.laws.laws_below.Goals as goal
+
+pub returns : goal.returns
+returns c = record {
+  all_named = c.found_laws.ensures.all_named;
+  all_identified = c.found_laws.ensures.all_identified;
+  by_identifier = c.found_laws.ensures.by_identifier;
+  own_restated = c.restated_laws.ensures.own;
+  other_kept = c.restated_laws.ensures.other;
+  restated_keeps = c.restated_laws.ensures.keeps;
+  named_restated = c.restated_laws.ensures.named;
+  next_step = c.steps_have_places.ensures.next;
+  places_within = c.states_have_places.ensures.within;
+  reached = c.states_have_places.ensures.reached;
+  first = c.states_have_places.ensures.first;
+  advance = c.due_steps_advance.ensures.advance;
+  row = c.due_steps_advance.ensures.row;
+  found = c.keys_have_names.ensures.found;
+  distinct = c.keys_have_names.ensures.distinct;
+  fit = c.keys_fit.ensures.fit;
+  reasons = c.keys_fit.ensures.reasons;
+  bounds = c.bounds_add_up.ensures;
+  asks = c.what_is_asked_may_be.ensures;
+  located = c.a_name_is_found.ensures.all;
+}

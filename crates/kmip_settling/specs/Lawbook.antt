@@ -1,0 +1,40 @@
+-- Private: the laws of the crates below that the laws here rest on, in one record.
+-- Source: own.
+use Rattle.kmip_messages.specs.ObjectLaws.{NamedIsAll, IdentifiedIsAll, NamedIsIdentified, OwnIsRestated, OtherIsKept, RestatedKeeps, NamedIsRestated}
+use Rattle.kmip_plan.specs.Laws.{
+  NextStepsStand,
+  PlacesAreWithin,
+  ReachedIsWithin,
+  PreActiveIsFirst,
+  DueStepsAdvance,
+  NextStepsAreRows,
+  KeysAreFound,
+  NamesAreDistinct,
+  KeysFit,
+  ReasonsAreNoCompromise,
+  BoundsAddUp,
+}
+use Rattle.kmip_client.specs.Laws.{AsksWhatItMay}
+use Rattle.kmip_server.specs.Laws.{LocateFindsAllNamed}
+
+pub record Lawbook : Type 0 where
+  pub all_named : NamedIsAll
+  pub all_identified : IdentifiedIsAll
+  pub by_identifier : NamedIsIdentified
+  pub own_restated : OwnIsRestated
+  pub other_kept : OtherIsKept
+  pub restated_keeps : RestatedKeeps
+  pub named_restated : NamedIsRestated
+  pub next_step : NextStepsStand
+  pub places_within : PlacesAreWithin
+  pub reached : ReachedIsWithin
+  pub first : PreActiveIsFirst
+  pub advance : DueStepsAdvance
+  pub row : NextStepsAreRows
+  pub found : KeysAreFound
+  pub distinct : NamesAreDistinct
+  pub fit : KeysFit
+  pub reasons : ReasonsAreNoCompromise
+  pub bounds : BoundsAddUp
+  pub asks : AsksWhatItMay
+  pub located : LocateFindsAllNamed

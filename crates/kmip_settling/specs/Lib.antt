@@ -1,0 +1,5 @@
+pub mod Needs
+pub mod Ready
+pub mod Turns
+pub mod Laws
+pub mod Lawbook

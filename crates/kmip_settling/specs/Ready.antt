@@ -1,0 +1,34 @@
+-- When a client comes to an end over a calm link. Of the objects it wants only that those of the planned names are the plan's own,
+-- and room for those that are missing: nothing of what has happened before.
+-- Source: own.
+use Rattle.std.specs.Prelude.{◌≡◌, ◌≤◌, ℕ, ◌+◌, nat_eq, List, [], ◌∷◌, length, filter, Some}
+use Rattle.std.specs.Cmp.Lexicographic.{pointwise}
+use Rattle.kmip_messages.specs.Objects.{Object, object_named}
+use Rattle.kmip_plan.specs.Plans.{IsPlanned}
+use Rattle.kmip_plan.specs.declared.key.Key.{Key}
+use Rattle.kmip_client.specs.declared.knowledge.Knowledge.{Knowledge}
+use Rattle.kmip_client.specs.Held.{Held}
+use Rattle.kmip_schedule.specs.Safe.{all_named}
+use Rattle.kmip_schedule.specs.Sound.{IsObjectOf}
+use Rattle.kmip_settling.specs.Needs.{missing}
+
+-- the objects with the identifier
+abbrev pub all_with : List ℕ → List Object → List Object
+all_with uid objects = filter (λ o. pointwise nat_eq uid o.uid) objects
+
+-- This object alone has the name of the key, it alone has its identifier, and it is the plan's.
+pub record IsHere (objects : List Object) (key : Key) (o : Object) : Type 0 where
+  pub one_named : all_named key.attrs.name objects ≡ o ∷ []
+  pub one_identified : all_with o.uid objects ≡ o ∷ []
+  pub own : IsObjectOf key o
+
+-- so it is with each object of a planned name
+abbrev pub AreHere : List Key → List Object → Type 0
+AreHere keys objects =
+    (key : Key) (o : Object) → IsPlanned keys key → object_named key.attrs.name objects ≡ Some o → IsHere objects key o
+
+-- The objects of the planned names are the plan's, what is known is true of them, and there is room for those that are missing.
+pub record IsReady (room : ℕ) (keys : List Key) (objects : List Object) (knowns : List Knowledge) : Type 0 where
+  pub here : AreHere keys objects
+  pub held : Held objects keys knowns
+  pub roomy : length objects + missing keys objects ≤ room
