@@ -3,14 +3,15 @@ use Rattle.std.proofs.Common.{◌≡◌, ◌≢◌, ℕ, ◌+◌, List, subst, s
 use Rattle.kmip_client.specs.Clients.{AreSettled, ClientState}
 use Rattle.kmip_client.specs.Laws.{HeldIsNoConflict}
 use Rattle.kmip_schedule.specs.Past.{Names, Past, is_planned}
-use Rattle.kmip_session.specs.Driving.{IsGood, Keeps, Learnt, SomeClash, Stands, WentOn}
+use Rattle.kmip_session.specs.Driving.{IsGood, IsSettling, Keeps, Learnt, SomeClash, Stands, WentOn}
 use Rattle.kmip_session.specs.Lawbook.{Lawbook}
 use Rattle.kmip_session.specs.declared.stop.Stop.{Stop}
 use Rattle.kmip_session.specs.declared.stop.Stop.TheVariants as stops
 use Rattle.kmip_session.proofs.GoodLemmas.{keeps_itself, keeps_then, went_nowhere, went_then}
+use Rattle.kmip_session.proofs.SettleLemmas.{Nearer, nearer_none, nearer_then}
 use Rattle.kmip_session.proofs.KnownLemmas.{learnt_nothing, learnt_then}
 
-module _ {L : Type 0} (past : L → Past) (honest : L → Names → Type 0) where
+module _ {L : Type 0} (past : L → Past) (honest calm : L → Names → Type 0) where
   -- after so many exchanges
   pub record Driven (first now : ClientState) (start link : L) (made : ℕ) : Type 0 where
     pub good : IsGood past honest first start → IsGood past honest now link
@@ -18,6 +19,7 @@ module _ {L : Type 0} (past : L → Past) (honest : L → Names → Type 0) wher
     pub known : honest start (is_planned first.keys)
         → honest link (is_planned first.keys) × Learnt first.keys (past start) (past link) first.knowns now.knowns made
     pub keeps : Keeps first now
+    pub near : IsSettling past calm first start → Nearer past calm first now start link made
 
   pub driven_none : Lawbook → (c : ClientState) (link : L) → Driven c c link link 0
   driven_none l c link = record {
@@ -25,6 +27,7 @@ module _ {L : Type 0} (past : L → Past) (honest : L → Names → Type 0) wher
     goes = λ good. went_nowhere l c.keys (past link);
     known = λ holds. (holds, learnt_nothing c.keys (past link) c.knowns);
     keeps = keeps_itself c;
+    near = nearer_none past calm c link;
   }
 
   -- and one more turn, that asked or did not
@@ -37,9 +40,12 @@ module _ {L : Type 0} (past : L → Past) (honest : L → Names → Type 0) wher
         let after = second.known (subst (λ ks. honest y (is_planned ks)) (sym first.keeps.keys_stay) before.0) in (
           subst (λ ks. honest z (is_planned ks)) first.keeps.keys_stay after.0,
           learnt_then l.blind a.keys (past x) (past y) (past z) a.knowns b.knowns c.knowns m n before.1
-          (subst (λ ks. Learnt ks (past y) (past z) b.knowns c.knowns n) first.keeps.keys_stay after.1),
+              (subst (λ ks. Learnt ks (past y) (past z) b.knowns c.knowns n) first.keeps.keys_stay after.1),
         );
     keeps = keeps_then a b c first.keeps second.keeps;
+    near = λ settling.
+        let before = first.near settling in
+        nearer_then past calm a b c x y z m n before (second.near before.0);
   }
 
   -- what is good is in no conflict

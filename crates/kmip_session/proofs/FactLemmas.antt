@@ -10,7 +10,7 @@ use Rattle.kmip_client.specs.declared.fault.HearFault.{HearFault}
 use Rattle.kmip_client.specs.declared.hearing.Heard.{Heard}
 use Rattle.kmip_client.specs.declared.knowledge.Knowledge.{Knowledge}
 use Rattle.kmip_client.specs.declared.question.Question.{Question}
-use Rattle.kmip_session.specs.Turns.{is_answer_to, taught, taught_by}
+use Rattle.kmip_settling.specs.Turns.{is_answer_to, taught, taught_by}
 
 pub known_blind : HearingIsBlind → (keys : List Key) (xs ys : List Knowledge) (answers : List (Option (List ℕ))) → facts xs ≡ facts ys
     → facts (known_after keys xs answers) ≡ facts (known_after keys ys answers)

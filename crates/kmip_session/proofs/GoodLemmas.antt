@@ -34,11 +34,11 @@ kept_then [] (y ∷ b) c first second = absurd first
 kept_then (x ∷ a) [] c first second = absurd first
 kept_then (x ∷ a) (y ∷ b) [] first second = absurd second
 kept_then (x ∷ a) (y ∷ b) (z ∷ c) first second = (
-    record {
-      identifier_kept = λ uid is. second.0.identifier_kept uid (first.0.identifier_kept uid is);
-      done_kept = omega (arith, first.0.done_kept, second.0.done_kept);
-    },
-    kept_then a b c first.1 second.1,
+  record {
+    identifier_kept = λ uid is. second.0.identifier_kept uid (first.0.identifier_kept uid is);
+    done_kept = omega (arith, first.0.done_kept, second.0.done_kept);
+  },
+  kept_then a b c first.1 second.1,
 )
 
 pub keeps_itself : (c : ClientState) → Keeps c c
@@ -106,10 +106,10 @@ module _ {L : Type 0} (past : L → Past) (honest : L → Names → Type 0) wher
   pub good_left : (c next : ClientState) (old new : L) → Left c old new → next.keys ≡ c.keys → Held (past new).objects next.keys next.knowns
       → IsGood past honest next new × WentOn c.keys (past old) (past new)
   good_left c next old new l keys held = (
-      record {
-        honest_for = subst (λ ks. honest new (is_planned ks)) (sym keys) l.honest_for;
-        sound = subst (λ ks. Sound ks (past new)) (sym keys) l.sound;
-        held = held;
-      },
-      l.on,
+    record {
+      honest_for = subst (λ ks. honest new (is_planned ks)) (sym keys) l.honest_for;
+      sound = subst (λ ks. Sound ks (past new)) (sym keys) l.sound;
+      held = held;
+    },
+    l.on,
   )

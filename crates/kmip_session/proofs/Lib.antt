@@ -1,5 +1,6 @@
 pub mod FactLemmas
 pub mod KnownLemmas
 pub mod GoodLemmas
-pub mod DriveLemmas
 pub mod ReportLemmas
+pub mod SettleLemmas
+pub mod DriveLemmas

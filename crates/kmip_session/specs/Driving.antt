@@ -20,6 +20,8 @@ use Rattle.kmip_schedule.specs.Machine.{IsMirrored}
 use Rattle.kmip_schedule.specs.Past.{Past, Names, is_planned}
 use Rattle.kmip_schedule.specs.Sound.{Sound}
 use Rattle.kmip_client.specs.Known.{facts, known_after}
+use Rattle.kmip_settling.specs.Needs.{need_all}
+use Rattle.kmip_settling.specs.Ready.{IsReady}
 use Rattle.kmip_session.specs.declared.stop.Stop.{Stop}
 use Rattle.kmip_session.specs.declared.stop.Stop.TheVariants as stops
 
@@ -28,6 +30,15 @@ pub record IsGood {L : Type 0} (past : L → Past) (honest : L → Names → Typ
   pub honest_for : honest link (is_planned c.keys)
   pub sound : Sound c.keys (past link)
   pub held : Held (past link).objects c.keys c.knowns
+
+-- The link is calm for the plan's names, and the client is ready to settle.
+pub record IsSettling {L : Type 0} (past : L → Past) (calm : L → Names → Type 0) (c : ClientState) (link : L) : Type 0 where
+  pub calm_for : calm link (is_planned c.keys)
+  pub ready : IsReady (past link).room c.keys (past link).objects c.knowns
+
+-- how many exchanges all keys still need
+abbrev pub need : ClientState → Past → ℕ
+need c p = need_all c.keys c.knowns p.objects
 
 -- The objects have gone onward for each key, and a past that was an image of the plan machine still is.
 pub record WentOn (keys : List Key) (old new : Past) : Type 0 where

@@ -3,6 +3,7 @@
 use Rattle.kmip_plan.specs.Laws.{KeysAreFound}
 use Rattle.kmip_client.specs.Laws.{OnwardToItself, OnwardTwice, HeldForGood, HeldIsNoConflict, HearingIsBlind, LossesTeachNothing, SettledIsNotWorked}
 use Rattle.kmip_schedule.specs.Laws.{ExchangesKeepSound, AnswersAreTrue, DeliveriesKeepSound, ObjectsGoOnward, ExchangesKeepTheImage}
+use Rattle.kmip_settling.specs.Laws.{CalmTurnsAreNearer, NeedsAreBounded, WhoIsSettledNeedsNothing, WhoNeedsNothingIsFinished}
 
 pub record Lawbook : Type 0 where
   pub found : KeysAreFound
@@ -18,3 +19,7 @@ pub record Lawbook : Type 0 where
   pub deliveries : DeliveriesKeepSound
   pub onward : ObjectsGoOnward
   pub images : ExchangesKeepTheImage
+  pub nearer : CalmTurnsAreNearer
+  pub bounded : NeedsAreBounded
+  pub needless : WhoNeedsNothingIsFinished
+  pub needed : WhoIsSettledNeedsNothing

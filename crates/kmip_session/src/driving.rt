@@ -1,5 +1,5 @@
 //! Runs of exchanges, until no key is worked on any more or as many were made as may be.
-ghost use Rattle.std.specs.Prelude.{◌≡◌, ◌≢◌, ◌≤◌, ◌<◌, ℕ, List, length, true, false, Some, None, Ok, Err, IfOk, IfSome, OnErr, OnOk, option_map};
+ghost use Rattle.std.specs.Prelude.{◌≡◌, ◌≢◌, ◌≤◌, ◌<◌, ◌+◌, ℕ, List, length, true, false, Some, None, Ok, Err, IfOk, IfSome, OnErr, OnOk, option_map};
 ghost use Rattle.std.specs.Result.{result_ok};
 ghost use Rattle.kmip_messages.specs.Objects.{Object};
 ghost use Rattle.kmip_client.specs.Clients.{lost_at, one_if, AreSettled, IsAbout};
@@ -7,25 +7,29 @@ ghost use Rattle.kmip_client.specs.Held.{Held};
 ghost use Rattle.kmip_client.specs.Hearing.{hear};
 ghost use Rattle.kmip_client.specs.Justified.{JustifiedMessage};
 ghost use Rattle.kmip_client.specs.Truth.{TrueMessage};
+ghost use Rattle.kmip_plan.specs.Chains.{bound};
 ghost use Rattle.kmip_schedule.specs.Past.{is_planned};
-ghost use Rattle.kmip_session.specs.Driving.{IsGood, WentOn, Learnt, Keeps, Stands};
+ghost use Rattle.kmip_session.specs.Driving.{IsGood, IsSettling, need, WentOn, Learnt, Keeps, Stands};
 ghost use Rattle.kmip_session.specs.Lawbook.{Lawbook};
 ghost use Rattle.kmip_session.specs.Losses.{or_loss};
-ghost use Rattle.kmip_session.specs.Turns.{is_answer_to, taught, taught_by};
+ghost use Rattle.kmip_settling.specs.Turns.{is_answer_to, taught, taught_by};
 ghost use Rattle.kmip_schedule.specs.Exchanges.{answer_in};
 
 use crate::stop::Stop;
-use kmip_plan::laws::keys_have_names;
 use kmip_client::laws::{
-    onward_is_an_order, the_settled_are_not_worked_on, truth_is_for_good,
-    what_is_known_was_heard, what_is_true_is_no_conflict,
+    onward_is_an_order, the_settled_are_not_worked_on, truth_is_for_good, what_is_known_was_heard,
+    what_is_true_is_no_conflict,
 };
 use kmip_client::{Client, HearFault, Heard, Question, Verdict};
+use kmip_plan::laws::keys_have_names;
 use kmip_schedule::laws::{
     answers_are_true, deliveries_keep_sound, exchanges_keep_sound, objects_go_onward,
     the_image_is_kept,
 };
 use kmip_schedule::{Link, LinkFault};
+use kmip_settling::laws::{
+    a_calm_turn_is_nearer, needs_are_bounded, who_needs_nothing_is_finished,
+};
 use kmip_ttlv::NoMemory;
 use std::alloc::Global;
 
@@ -53,10 +57,17 @@ pub fn drive<L: Link>(
     ensures stands { Stands result.0 client.new.keys client.new.knowns }
     ensures limit { result.0 ≡ Stop.Limit → result.1 ≡ limit }
     ensures within { result.1 ≤ limit }
+    ensures settles { IsSettling L.past L.calm client.old link.old → bound client.old.keys ≤ limit
+        → result.0 ≢ Stop.NoMemory → (result.0 ≡ Stop.AllFinished)
+        × (result.1 ≡ need client.old (L.past link.old)) × (result.1 ≤ bound client.old.keys) }
+    ensures calm { IsSettling L.past L.calm client.old link.old → result.0 ≢ Stop.NoMemory
+        → IsSettling L.past L.calm client.new link.new
+        × (result.1 + need client.new (L.past link.new) ≡ need client.old (L.past link.old)) }
     ensures no_conflict { IsGood L.past L.honest client.old link.old
         → result.0 ≢ Stop.Conflict }
 {
     laws_below();
+    let _plan = client.plan();
     for made in 0..limit {
         match turn(alloc, client, link) {
             Ok(true) => {}
@@ -82,17 +93,16 @@ fn laws_below()
     deliveries_keep_sound();
     objects_go_onward();
     the_image_is_kept();
+    a_calm_turn_is_nearer();
+    needs_are_bounded();
+    who_needs_nothing_is_finished();
 }
 
 /// The next question, and what comes of it; false where no key is worked on.
 ///
 /// # Errors
 /// Where there is no memory; the key that was asked about is then looked at again.
-fn turn<L: Link>(
-    alloc: Global,
-    client: &mut Client<'_>,
-    link: &mut L,
-) -> Result<bool, NoMemory>
+fn turn<L: Link>(alloc: Global, client: &mut Client<'_>, link: &mut L) -> Result<bool, NoMemory>
     ensures good { IsGood L.past L.honest client.old link.old
         → IsGood L.past L.honest client.new link.new }
     ensures goes { IsGood L.past L.honest client.old link.old
@@ -104,8 +114,10 @@ fn turn<L: Link>(
     ensures kept { Keeps client.old client.new }
     ensures none { IfOk result (λ asked. asked ≡ false
         → AreSettled client.new.keys client.new.knowns) }
+    ensures calm { IsSettling L.past L.calm client.old link.old → IfOk result (λ asked.
+        IsSettling L.past L.calm client.new link.new × (one_if asked
+        + need client.new (L.past link.new) ≡ need client.old (L.past link.old))) }
 {
-    laws_below();
     let Some(question) = client.ask(alloc)? else {
         return Ok(false);
     };
@@ -133,6 +145,9 @@ fn put<L: Link>(
         × OnOk result (Learnt client.old.keys (L.past link.old) (L.past link.new)
         client.old.knowns client.new.knowns 1) }
     ensures kept { Keeps client.old client.new }
+    ensures calm { IsSettling L.past L.calm client.old link.old → OnOk result (
+        IsSettling L.past L.calm client.new link.new
+        × (1 + need client.new (L.past link.new) ≡ need client.old (L.past link.old))) }
 {
     laws_below();
     let _plan = client.plan();
@@ -144,9 +159,7 @@ fn put<L: Link>(
 }
 
 /// What an exchange handed over, where a failure of the network is a loss.
-fn answer_or_loss(
-    answered: Result<Option<Vec<u8>>, LinkFault>,
-) -> Result<Option<Vec<u8>>, NoMemory>
+fn answer_or_loss(answered: Result<Option<Vec<u8>>, LinkFault>) -> Result<Option<Vec<u8>>, NoMemory>
     ensures { option_map (option_map (λ v. v.items)) (result_ok result)
         ≡ or_loss (answer_in (λ v. v.items) answered) }
 {

@@ -1,13 +1,14 @@
 -- Turn by turn.
-use Rattle.std.proofs.Common.{◌≡◌, subst}
+use Rattle.std.proofs.Common.{◌≡◌, subst, arith}
 use Rattle.kmip_client.specs.Clients.{one_if}
 use Rattle.kmip_session.specs.Driving.{Learnt}
 use Rattle.kmip_session.proofs.DriveLemmas.{driven_none, driven_then}
+use Rattle.kmip_session.proofs.SettleLemmas.{Nearer, finished_stop, nearer_end, nearer_limit}
 use Rattle.kmip_session.proofs.GoodLemmas.{keeps_then}
 use Rattle.kmip_session.proofs.driving.drive.Goals as goal
 
 pub loop-made-init : goal.loop-made-init
-loop-made-init g c = driven_none g.L.Link.past g.L.Link.honest c.laws_below.ensures c.args.client.now c.args.link.now
+loop-made-init g c = driven_none g.L.Link.past g.L.Link.honest g.L.Link.calm c.laws_below.ensures c.args.client.now c.args.link.now
 
 pub returns-in-Ok-false-clause-kept : goal.returns-in-Ok-false-clause-kept
 returns-in-Ok-false-clause-kept g c =
@@ -19,7 +20,7 @@ returns-in-Err-clause-kept g c = keeps_then c.args.client.now c.loop-made.client
 pub loop-made-preserved : goal.loop-made-preserved
 loop-made-preserved g c =
     let past = g.L.Link.past in
-    driven_then past g.L.Link.honest c.laws_below.ensures c.args.client.now c.loop-made.client c.turn.new.client c.args.link.now c.loop-made.link
+    driven_then past g.L.Link.honest g.L.Link.calm c.laws_below.ensures c.args.client.now c.loop-made.client c.turn.new.client c.args.link.now c.loop-made.link
     c.turn.new.link c.loop-made.made 1 c.loop-made.invariant
     (record {
       good = c.in-Ok-true.ensures.good;
@@ -28,8 +29,48 @@ loop-made-preserved g c =
           let step = c.in-Ok-true.ensures.known honest in (
             step.0,
             subst
-            (λ asked. Learnt c.loop-made.client.keys (past c.loop-made.link) (past c.turn.new.link) c.loop-made.client.knowns c.turn.new.client.knowns (one_if asked))
-            c.in-Ok-true.field-0-test step.1,
+                (λ asked. Learnt c.loop-made.client.keys (past c.loop-made.link) (past c.turn.new.link) c.loop-made.client.knowns c.turn.new.client.knowns (one_if asked))
+                c.in-Ok-true.field-0-test step.1,
           );
       keeps = c.turn.ensures.kept;
+      near = λ settling.
+          subst
+          (λ asked. Nearer past g.L.Link.calm c.loop-made.client c.turn.new.client c.loop-made.link c.turn.new.link (one_if asked))
+          c.in-Ok-true.field-0-test (c.in-Ok-true.ensures.calm settling);
     })
+
+pub returns-in-Ok-false-clause-settles : goal.returns-in-Ok-false-clause-settles
+returns-in-Ok-false-clause-settles g c = λ settling enough memory.
+    let past = g.L.Link.past in
+    let calm = g.L.Link.calm in
+    let l = c.laws_below.ensures in
+    let client = c.args.client.now in
+    let first = c.loop-made.invariant.near settling in
+    let last =
+    subst (λ asked. Nearer past calm c.loop-made.client c.turn.new.client c.loop-made.link c.turn.new.link (one_if asked)) c.in-Ok-false.field-0-test
+    (c.in-Ok-false.ensures.calm first.0) in
+    let end =
+    nearer_end past calm l client c.loop-made.client c.turn.new.client c.args.link.now c.loop-made.link c.turn.new.link c.loop-made.made first last
+    (c.in-Ok-false.ensures.none c.in-Ok-false.field-0-test) in
+    let few = l.bounded (past c.args.link.now).room client.keys (past c.args.link.now).objects client.knowns c.plan-plan.ensures.lawful settling.ready in (
+      finished_stop c.turn.new.client.keys c.turn.new.client.knowns c.stop_of.result end.2 c.stop_of.ensures.in_memory c.stop_of.ensures.stands,
+      end.1,
+      omega (arith, end.1, few),
+    )
+
+pub returns-clause-settles : goal.returns-clause-settles
+returns-clause-settles g c = λ settling enough memory.
+    let past = g.L.Link.past in
+    let calm = g.L.Link.calm in
+    let l = c.laws_below.ensures in
+    let client = c.args.client.now in
+    let made : c.loop-made.made ≡ c.args.limit = omega (arith, c.loop-made-test.false, c.loop-made.auto.made-end) in
+    let near =
+    subst (λ n. Nearer past calm client c.loop-made.client c.args.link.now c.loop-made.link n) made (c.loop-made.invariant.near settling) in
+    let end =
+    nearer_limit past calm l client c.loop-made.client c.args.link.now c.loop-made.link c.args.limit c.plan-plan.ensures.lawful settling enough near in
+    let few = l.bounded (past c.args.link.now).room client.keys (past c.args.link.now).objects client.knowns c.plan-plan.ensures.lawful settling.ready in (
+      finished_stop c.loop-made.client.keys c.loop-made.client.knowns c.stop_of-2.result end.1 c.stop_of-2.ensures.in_memory c.stop_of-2.ensures.stands,
+      end.0,
+      omega (arith, end.0, few),
+    )

@@ -7,6 +7,7 @@ use Rattle.kmip_schedule.specs.Exchanges.{HandsOver}
 use Rattle.kmip_schedule.specs.Past.{is_planned}
 use Rattle.kmip_session.proofs.GoodLemmas.{good_left, if_handed, left, told}
 use Rattle.kmip_session.proofs.KnownLemmas.{handed_over, learnt_one, on_ok}
+use Rattle.kmip_session.proofs.SettleLemmas.{nearer_one}
 use Rattle.kmip_session.proofs.driving.put.Goals as goal
 
 pub returns-in_default-clause-good : goal.returns-in_default-clause-good
@@ -15,8 +16,8 @@ returns-in_default-clause-good g c = λ good just.
     let honest = g.L.Link.honest in
     let client = c.args.client.now in
     let l =
-        left past honest c.laws_below.ensures client c.args.link.now c.exchange.new.self c.as_slice.result.now _ c.plan-plan.ensures.lawful good
-        (subst (λ bytes. JustifiedMessage client.keys (past c.args.link.now).objects bytes) (sym c.as_slice.ensures) just) c.exchange.ensures.honest in
+    left past honest c.laws_below.ensures client c.args.link.now c.exchange.new.self c.as_slice.result.now _ c.plan-plan.ensures.lawful good
+    (subst (λ bytes. JustifiedMessage client.keys (past c.args.link.now).objects bytes) (sym c.as_slice.ensures) just) c.exchange.ensures.honest in
     good_left past honest client c.lost.new.self c.args.link.now c.exchange.new.self l (ap (λ (s : ClientState). s.keys) c.lost.ensures.lost)
     (c.lost.ensures.held (past c.exchange.new.self).objects l.held)
 
@@ -29,11 +30,11 @@ returns-clause-good g c = λ good just.
     let honest = g.L.Link.honest in
     let client = c.args.client.now in
     let l =
-        left past honest c.laws_below.ensures client c.args.link.now c.exchange.new.self c.as_slice.result.now _ c.plan-plan.ensures.lawful good
-        (subst (λ bytes. JustifiedMessage client.keys (past c.args.link.now).objects bytes) (sym c.as_slice.ensures) just) c.exchange.ensures.honest in
+    left past honest c.laws_below.ensures client c.args.link.now c.exchange.new.self c.as_slice.result.now _ c.plan-plan.ensures.lawful good
+    (subst (λ bytes. JustifiedMessage client.keys (past c.args.link.now).objects bytes) (sym c.as_slice.ensures) just) c.exchange.ensures.honest in
     let so =
-        told past honest c.laws_below.ensures client.keys (past c.args.link.now) (past c.exchange.new.self) c.as_slice.result.now _ _ l.sound (sym c.in-Ok.ensures)
-        (c.exchange.ensures.honest (is_planned client.keys) good.honest_for).1 in
+    told past honest c.laws_below.ensures client.keys (past c.args.link.now) (past c.exchange.new.self) c.as_slice.result.now _ _ l.sound (sym c.in-Ok.ensures)
+    (c.exchange.ensures.honest (is_planned client.keys) good.honest_for).1 in
     good_left past honest client c.learn.new.client c.args.link.now c.exchange.new.self l c.learn.ensures.kept.keys_stay
     (c.learn.ensures.held (past c.exchange.new.self).objects l.held (if_handed _ c.in-Ok.answer (λ v. v.items) so))
 
@@ -43,13 +44,20 @@ returns-clause-known g c = λ honest.
     let client = c.args.client.now in
     let step = c.exchange.ensures.honest (is_planned client.keys) honest in
     let hands =
-        subst (λ bytes. HandsOver (is_planned client.keys) (past c.args.link.now) bytes (option_map (λ v. v.items) c.in-Ok.answer) (past c.exchange.new.self))
-        c.as_slice.ensures
-        (handed_over (is_planned client.keys) (past c.args.link.now) (past c.exchange.new.self) c.as_slice.result.now _ _ (sym c.in-Ok.ensures) step.1) in
-    (
+    subst (λ bytes. HandsOver (is_planned client.keys) (past c.args.link.now) bytes (option_map (λ v. v.items) c.in-Ok.answer) (past c.exchange.new.self))
+    c.as_slice.ensures
+    (handed_over (is_planned client.keys) (past c.args.link.now) (past c.exchange.new.self) c.as_slice.result.now _ _ (sym c.in-Ok.ensures) step.1) in (
       step.0,
       on_ok c.learn.result
-      (learnt_one c.laws_below.ensures.found c.laws_below.ensures.lost (is_planned client.keys) client c.learn.new.client (past c.args.link.now)
-      (past c.exchange.new.self) c.args.question.now _ c.plan-plan.ensures.lawful c.requires hands)
-      c.learn.ensures.taught,
+          (learnt_one c.laws_below.ensures.found c.laws_below.ensures.lost (is_planned client.keys) client c.learn.new.client (past c.args.link.now)
+          (past c.exchange.new.self) c.args.question.now _ c.plan-plan.ensures.lawful c.requires hands)
+          c.learn.ensures.taught,
     )
+
+pub returns-clause-calm : goal.returns-clause-calm
+returns-clause-calm g c = λ settling.
+    on_ok c.learn.result
+    (nearer_one g.L.Link.past g.L.Link.calm c.laws_below.ensures c.args.client.now c.learn.new.client c.args.link.now c.exchange.new.self
+    c.as_slice.result.now _ c.args.question.now _ c.plan-plan.ensures.lawful c.requires c.as_slice.ensures c.exchange.ensures.calm
+    (sym c.in-Ok.ensures) settling c.learn.ensures.kept.keys_stay)
+    c.learn.ensures.taught

@@ -1,8 +1,9 @@
 -- Asking changes whose turn it is, and nothing else.
-use Rattle.std.proofs.Common.{◌≡◌, ap, subst, sym}
+use Rattle.std.proofs.Common.{◌≡◌, IfSome, subst, sym}
 use Rattle.kmip_client.specs.Clients.{ClientState}
-use Rattle.kmip_session.specs.Driving.{Keeps, Learnt}
-use Rattle.kmip_session.proofs.GoodLemmas.{keeps_asked, keeps_itself, keeps_then}
+use Rattle.kmip_client.specs.Justified.{JustifiedMessage}
+use Rattle.kmip_session.specs.Driving.{Keeps, Learnt, WentOn}
+use Rattle.kmip_session.proofs.GoodLemmas.{good_asked, keeps_asked, keeps_itself, keeps_then}
 use Rattle.kmip_session.proofs.KnownLemmas.{learnt_nothing}
 use Rattle.kmip_session.proofs.driving.turn.Goals as goal
 
@@ -11,11 +12,34 @@ returns-in_err-question-clause-kept g c = subst (λ s. Keeps c.args.client.now s
 
 pub returns-in_default-clause-known : goal.returns-in_default-clause-known
 returns-in_default-clause-known g c = λ honest. (
-    honest,
-    subst
-    (λ (s : ClientState). Learnt c.args.client.now.keys (g.L.Link.past c.args.link.now) (g.L.Link.past c.args.link.now) c.args.client.now.knowns s.knowns 0) (sym c.in_ok-question.ensures.turn)
-    (learnt_nothing c.args.client.now.keys (g.L.Link.past c.args.link.now) c.args.client.now.knowns),
-  )
+  honest,
+  subst
+      (λ (s : ClientState). Learnt c.args.client.now.keys (g.L.Link.past c.args.link.now) (g.L.Link.past c.args.link.now) c.args.client.now.knowns s.knowns 0) (sym c.in_ok-question.ensures.turn)
+      (learnt_nothing c.args.client.now.keys (g.L.Link.past c.args.link.now) c.args.client.now.knowns),
+)
 
 pub returns-in_default-clause-kept : goal.returns-in_default-clause-kept
 returns-in_default-clause-kept g c = keeps_asked c.args.client.now c.ask.new.self c.in_ok-question.ensures.turn
+
+pub returns-clause-good : goal.returns-clause-good
+returns-clause-good g c = λ good.
+    let past = g.L.Link.past in
+    let asked = good_asked past g.L.Link.honest c.args.client.now c.ask.new.self c.args.link.now c.in_ok-question.ensures.turn good in
+    let objects = (past c.args.link.now).objects in
+    let just =
+    subst (λ question. IfSome question (λ q. JustifiedMessage c.args.client.now.keys objects q.bytes)) c.in-Some.is
+    (c.in_ok-question.ensures.justified objects good.held) in
+    (c.put.ensures.good asked
+    (subst (λ (s : ClientState). JustifiedMessage s.keys objects c.in-Some.question.bytes) (sym c.in_ok-question.ensures.turn) just)).0
+
+pub returns-clause-goes : goal.returns-clause-goes
+returns-clause-goes g c = λ good.
+    let past = g.L.Link.past in
+    let asked = good_asked past g.L.Link.honest c.args.client.now c.ask.new.self c.args.link.now c.in_ok-question.ensures.turn good in
+    let objects = (past c.args.link.now).objects in
+    let just =
+    subst (λ question. IfSome question (λ q. JustifiedMessage c.args.client.now.keys objects q.bytes)) c.in-Some.is
+    (c.in_ok-question.ensures.justified objects good.held) in
+    subst (λ (s : ClientState). WentOn s.keys (past c.args.link.now) (past c.put.new.link)) c.in_ok-question.ensures.turn
+    (c.put.ensures.good asked
+    (subst (λ (s : ClientState). JustifiedMessage s.keys objects c.in-Some.question.bytes) (sym c.in_ok-question.ensures.turn) just)).1
