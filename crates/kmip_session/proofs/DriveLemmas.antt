@@ -1,7 +1,6 @@
 -- What is kept over several exchanges.
-use Rattle.std.proofs.Common.{◌≡◌, ◌≢◌, ℕ, ◌+◌, List, subst, sym, refl}
+use Rattle.std.proofs.Common.{◌≢◌, ℕ, ◌+◌, subst, sym}
 use Rattle.kmip_client.specs.Clients.{AreSettled, ClientState}
-use Rattle.kmip_client.specs.Laws.{HeldIsNoConflict}
 use Rattle.kmip_schedule.specs.Past.{Names, Past, is_planned}
 use Rattle.kmip_session.specs.Driving.{IsGood, IsSettling, Keeps, Learnt, SomeClash, Stands, WentOn}
 use Rattle.kmip_session.specs.Lawbook.{Lawbook}

@@ -1,18 +1,15 @@
 -- What is good stays so over an exchange.
-use Rattle.std.proofs.Common.{◌≡◌, ℕ, List, [], ◌∷◌, Option, Some, None, Result, Ok, Err, IfSome, option_map, sym, ap, subst, refl, ◌∙◌, inl, inr, ◌≤◌, arith}
+use Rattle.std.proofs.Common.{◌≡◌, ℕ, List, [], ◌∷◌, Option, Some, None, Result, IfSome, option_map, sym, subst, refl, ◌∙◌, arith}
 use Rattle.std.specs.List.{AllZip}
-use Rattle.kmip_messages.specs.Objects.{Object}
 use Rattle.kmip_plan.specs.Plans.{IsLawful}
 use Rattle.kmip_plan.specs.declared.key.Key.{Key}
 use Rattle.kmip_client.specs.Clients.{ClientState, after_ask}
 use Rattle.kmip_client.specs.Held.{Held}
 use Rattle.kmip_client.specs.Justified.{JustifiedMessage}
-use Rattle.kmip_client.specs.Places.{Onward}
 use Rattle.kmip_client.specs.Shapes.{IsKept}
 use Rattle.kmip_client.specs.Truth.{TrueMessage}
 use Rattle.kmip_client.specs.declared.knowledge.Knowledge.{Knowledge}
-use Rattle.kmip_schedule.specs.Exchanges.{AreGiven, Exchanged, HandsOver, with_exchange}
-use Rattle.kmip_schedule.specs.Machine.{IsMirrored}
+use Rattle.kmip_schedule.specs.Exchanges.{AreGiven, Exchanged}
 use Rattle.kmip_schedule.specs.Past.{Names, Past, is_planned}
 use Rattle.kmip_schedule.specs.Sound.{Sound}
 use Rattle.kmip_schedule.specs.declared.link.LinkFault.{LinkFault}

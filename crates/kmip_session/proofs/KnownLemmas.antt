@@ -1,6 +1,5 @@
 -- What exchanges ask and teach, one after the other.
-use Rattle.std.proofs.Common.{◌≡◌, ℕ, ◌+◌, List, [], ◌∷◌, ◌++◌, length, Option, Some, None, Result, Ok, Err, OnOk, sym, ap, subst, refl, ◌∙◌, inl, inr, flat_map, append_assoc, append-nil}
-use Rattle.std.specs.List.{All, slice_get}
+use Rattle.std.proofs.Common.{◌≡◌, ℕ, ◌+◌, List, [], ◌∷◌, ◌++◌, length, Option, Some, None, Result, Ok, Err, OnOk, sym, ap, subst, refl, ◌∙◌, flat_map, append_assoc, append-nil}
 use Rattle.std.proofs.lemmas.List.Elements.{All-append, All-cons, All-nil}
 use Rattle.std.proofs.lemmas.List.{length-append}
 use Rattle.std.proofs.lemmas.List.Concat.{flat_map-append}
@@ -8,12 +7,12 @@ use Rattle.kmip_messages.specs.Items.{requests_in}
 use Rattle.kmip_plan.specs.Laws.{KeysAreFound}
 use Rattle.kmip_plan.specs.Plans.{IsLawful}
 use Rattle.kmip_plan.specs.declared.key.Key.{Key}
-use Rattle.kmip_client.specs.Clients.{ClientState, IsAbout, question_at}
+use Rattle.kmip_client.specs.Clients.{ClientState, IsAbout}
 use Rattle.kmip_client.specs.Laws.{HearingIsBlind, LossesTeachNothing}
 use Rattle.kmip_client.specs.declared.knowledge.Knowledge.{Knowledge}
 use Rattle.kmip_client.specs.declared.question.Question.{Question}
-use Rattle.kmip_schedule.specs.Exchanges.{Exchanged, HandsOver, with_asked, with_exchange}
-use Rattle.kmip_schedule.specs.Moves.{AllMayHappen, Delivered, Move, after_move, after_moves}
+use Rattle.kmip_schedule.specs.Exchanges.{Exchanged, HandsOver, with_asked}
+use Rattle.kmip_schedule.specs.Moves.{Delivered, Move, after_move, after_moves}
 use Rattle.kmip_schedule.specs.Past.{Names, Past}
 use Rattle.kmip_schedule.specs.declared.link.LinkFault.{LinkFault}
 use Rattle.kmip_schedule.specs.declared.link.LinkFault.TheVariants.{Io, Frame, NoMemory}

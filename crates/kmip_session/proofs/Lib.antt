@@ -3,4 +3,5 @@ pub mod KnownLemmas
 pub mod GoodLemmas
 pub mod ReportLemmas
 pub mod SettleLemmas
+pub mod CompleteLemmas
 pub mod DriveLemmas

@@ -1,18 +1,20 @@
 -- What a run of exchanges does: what it keeps, what it asks, what the client learns of it, and why it ends.
 -- Source: own.
-use Rattle.std.specs.Prelude.{◌≡◌, ◌≤◌, ◌<◌, ℕ, List, [], ◌∷◌, ◌++◌, length, flat_map, Option, ⊤}
+use Rattle.std.specs.Prelude.{◌≡◌, ◌≤◌, ◌<◌, ◌+◌, ℕ, IsSome, map, List, ◌++◌, length, flat_map, Option, ⊤}
 use Rattle.std.specs.List.{All, AllZip}
 use Rattle.kmip_messages.specs.Items.{requests_in}
-use Rattle.kmip_messages.specs.Objects.{Object}
+use Rattle.kmip_messages.specs.Objects.{Object, object_named}
 use Rattle.kmip_messages.specs.Written.{request_item}
 use Rattle.kmip_plan.specs.Plans.{IsPlanned}
 use Rattle.kmip_plan.specs.declared.key.Key.{Key}
 use Rattle.kmip_ttlv.specs.Spelling.{canon}
-use Rattle.kmip_client.specs.Clients.{ClientState, NoneWorks, SomeWorks, verdict_at}
+use Rattle.kmip_client.specs.Clients.{ClientState, fresh, NoneWorks, SomeWorks, verdict_at}
 use Rattle.kmip_client.specs.Held.{Held}
-use Rattle.kmip_client.specs.Places.{Onward}
+use Rattle.kmip_client.specs.Places.{Onward, position}
+use Rattle.kmip_client.specs.Knowledge.{chain_length}
 use Rattle.kmip_client.specs.Questions.{request_about}
 use Rattle.kmip_client.specs.Shapes.{IsKept}
+use Rattle.kmip_client.specs.Standing.{counts_of, verdicts_of}
 use Rattle.kmip_client.specs.declared.clash.Clash.{Clash}
 use Rattle.kmip_client.specs.declared.knowledge.Knowledge.{Knowledge}
 use Rattle.kmip_client.specs.declared.knowledge.Verdict.TheVariants.{Finished, Conflict}
@@ -20,6 +22,7 @@ use Rattle.kmip_schedule.specs.Machine.{IsMirrored}
 use Rattle.kmip_schedule.specs.Past.{Past, Names, is_planned}
 use Rattle.kmip_schedule.specs.Sound.{Sound}
 use Rattle.kmip_client.specs.Known.{facts, known_after}
+use Rattle.kmip_settling.specs.Laws.{NoneIsMade}
 use Rattle.kmip_settling.specs.Needs.{need_all}
 use Rattle.kmip_settling.specs.Ready.{IsReady}
 use Rattle.kmip_session.specs.declared.stop.Stop.{Stop}
@@ -35,6 +38,19 @@ pub record IsGood {L : Type 0} (past : L → Past) (honest : L → Names → Typ
 pub record IsSettling {L : Type 0} (past : L → Past) (calm : L → Names → Type 0) (c : ClientState) (link : L) : Type 0 where
   pub calm_for : calm link (is_planned c.keys)
   pub ready : IsReady (past link).room c.keys (past link).objects c.knowns
+
+-- The link is calm for the plan's names, none of them has an object, there is room for all, and the client knows nothing yet.
+pub record IsUntouched {L : Type 0} (past : L → Past) (calm : L → Names → Type 0) (c : ClientState) (link : L) : Type 0 where
+  pub calm_for : calm link (is_planned c.keys)
+  pub fresh_is : c ≡ fresh c.keys
+  pub none_made : NoneIsMade c.keys (past link).objects
+  pub roomy : length (past link).objects + length c.keys ≤ (past link).room
+
+-- Each object stands at the end of its chain, and so it is known.
+pub record IsComplete (keys : List Key) (objects : List Object) (knowns : List Knowledge) : Type 0 where
+  pub at_end : (key : Key) → IsPlanned keys key → IsSome (object_named key.attrs.name objects) × (position key objects ≡ chain_length key)
+  pub counts : counts_of knowns ≡ map chain_length keys
+  pub verdicts : verdicts_of keys knowns ≡ map (λ key. Finished) keys
 
 -- how many exchanges all keys still need
 abbrev pub need : ClientState → Past → ℕ

@@ -1,9 +1,18 @@
 -- Private: the laws of the crates below that driving rests on.
 -- Source: own.
-use Rattle.kmip_plan.specs.Laws.{KeysAreFound}
+use Rattle.kmip_plan.specs.Laws.{FoundKeysStand, KeysAreFound, ReachedIsWithin}
 use Rattle.kmip_client.specs.Laws.{OnwardToItself, OnwardTwice, HeldForGood, HeldIsNoConflict, HearingIsBlind, LossesTeachNothing, SettledIsNotWorked}
 use Rattle.kmip_schedule.specs.Laws.{ExchangesKeepSound, AnswersAreTrue, DeliveriesKeepSound, ObjectsGoOnward, ExchangesKeepTheImage}
-use Rattle.kmip_settling.specs.Laws.{CalmTurnsAreNearer, NeedsAreBounded, WhoIsSettledNeedsNothing, WhoNeedsNothingIsFinished}
+use Rattle.kmip_settling.specs.Laws.{
+  CalmTurnsAreNearer,
+  NeedsAreBounded,
+  NothingMadeIsReady,
+  NothingMadeNeedsTheChains,
+  TheFinishedAreThere,
+  TheFinishedStandAtTheEnd,
+  WhoIsSettledNeedsNothing,
+  WhoNeedsNothingIsFinished,
+}
 
 pub record Lawbook : Type 0 where
   pub found : KeysAreFound
@@ -23,3 +32,9 @@ pub record Lawbook : Type 0 where
   pub bounded : NeedsAreBounded
   pub needless : WhoNeedsNothingIsFinished
   pub needed : WhoIsSettledNeedsNothing
+  pub untouched : NothingMadeIsReady
+  pub chains : NothingMadeNeedsTheChains
+  pub at_end : TheFinishedStandAtTheEnd
+  pub there : TheFinishedAreThere
+  pub stand : FoundKeysStand
+  pub within : ReachedIsWithin

@@ -9,9 +9,10 @@ ghost use Rattle.kmip_client.specs.Justified.{JustifiedMessage};
 ghost use Rattle.kmip_client.specs.Truth.{TrueMessage};
 ghost use Rattle.kmip_plan.specs.Chains.{bound};
 ghost use Rattle.kmip_schedule.specs.Past.{is_planned};
-ghost use Rattle.kmip_session.specs.Driving.{IsGood, IsSettling, need, WentOn, Learnt, Keeps, Stands};
+ghost use Rattle.kmip_session.specs.Driving.{IsGood, IsSettling, IsUntouched, IsComplete, need, WentOn, Learnt, Keeps, Stands};
 ghost use Rattle.kmip_session.specs.Lawbook.{Lawbook};
 ghost use Rattle.kmip_session.specs.Losses.{or_loss};
+ghost use Rattle.kmip_settling.specs.Needs.{chains_and_looks};
 ghost use Rattle.kmip_settling.specs.Turns.{is_answer_to, taught, taught_by};
 ghost use Rattle.kmip_schedule.specs.Exchanges.{answer_in};
 
@@ -21,14 +22,15 @@ use kmip_client::laws::{
     what_is_true_is_no_conflict,
 };
 use kmip_client::{Client, HearFault, Heard, Question, Verdict};
-use kmip_plan::laws::keys_have_names;
+use kmip_plan::laws::{keys_have_names, states_have_places};
 use kmip_schedule::laws::{
     answers_are_true, deliveries_keep_sound, exchanges_keep_sound, objects_go_onward,
     the_image_is_kept,
 };
 use kmip_schedule::{Link, LinkFault};
 use kmip_settling::laws::{
-    a_calm_turn_is_nearer, needs_are_bounded, who_needs_nothing_is_finished,
+    a_calm_turn_is_nearer, needs_are_bounded, nothing_made_is_ready, the_finished_stand_at_the_end,
+    who_needs_nothing_is_finished,
 };
 use kmip_ttlv::NoMemory;
 use std::alloc::Global;
@@ -63,6 +65,9 @@ pub fn drive<L: Link>(
     ensures calm { IsSettling L.past L.calm client.old link.old → result.0 ≢ Stop.NoMemory
         → IsSettling L.past L.calm client.new link.new
         × (result.1 + need client.new (L.past link.new) ≡ need client.old (L.past link.old)) }
+    ensures finishes { IsUntouched L.past L.calm client.old link.old → bound client.old.keys ≤ limit
+        → result.0 ≢ Stop.NoMemory → (result.1 ≡ chains_and_looks client.old.keys)
+        × IsComplete client.old.keys (L.past link.new).objects client.new.knowns }
     ensures no_conflict { IsGood L.past L.honest client.old link.old
         → result.0 ≢ Stop.Conflict }
 {
@@ -83,6 +88,7 @@ fn laws_below()
     ensures { Lawbook }
 {
     keys_have_names();
+    states_have_places();
     onward_is_an_order();
     truth_is_for_good();
     what_is_known_was_heard();
@@ -93,9 +99,11 @@ fn laws_below()
     deliveries_keep_sound();
     objects_go_onward();
     the_image_is_kept();
+    nothing_made_is_ready();
     a_calm_turn_is_nearer();
     needs_are_bounded();
     who_needs_nothing_is_finished();
+    the_finished_stand_at_the_end();
 }
 
 /// The next question, and what comes of it; false where no key is worked on.

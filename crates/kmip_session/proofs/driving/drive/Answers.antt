@@ -1,7 +1,8 @@
 -- Turn by turn.
-use Rattle.std.proofs.Common.{◌≡◌, subst, arith}
+use Rattle.std.proofs.Common.{◌≡◌, ◌∙◌, subst, arith}
 use Rattle.kmip_client.specs.Clients.{one_if}
 use Rattle.kmip_session.specs.Driving.{Learnt}
+use Rattle.kmip_session.proofs.CompleteLemmas.{completed, untouched_settles}
 use Rattle.kmip_session.proofs.DriveLemmas.{driven_none, driven_then}
 use Rattle.kmip_session.proofs.SettleLemmas.{Nearer, finished_stop, nearer_end, nearer_limit}
 use Rattle.kmip_session.proofs.GoodLemmas.{keeps_then}
@@ -74,3 +75,35 @@ returns-clause-settles g c = λ settling enough memory.
       end.0,
       omega (arith, end.0, few),
     )
+
+pub returns-in-Ok-false-clause-finishes : goal.returns-in-Ok-false-clause-finishes
+returns-in-Ok-false-clause-finishes g c = λ start enough memory.
+    let past = g.L.Link.past in
+    let calm = g.L.Link.calm in
+    let l = c.laws_below.ensures in
+    let client = c.args.client.now in
+    let settling = (untouched_settles past calm l client c.args.link.now c.plan-plan.ensures.lawful start).0 in
+    let first = c.loop-made.invariant.near settling in
+    let last =
+    subst (λ asked. Nearer past calm c.loop-made.client c.turn.new.client c.loop-made.link c.turn.new.link (one_if asked)) c.in-Ok-false.field-0-test
+    (c.in-Ok-false.ensures.calm first.0) in
+    let end =
+    nearer_end past calm l client c.loop-made.client c.turn.new.client c.args.link.now c.loop-made.link c.turn.new.link c.loop-made.made first last
+    (c.in-Ok-false.ensures.none c.in-Ok-false.field-0-test) in
+    completed past calm l client c.turn.new.client c.args.link.now c.turn.new.link c.loop-made.made c.plan-plan.ensures.lawful start end.0
+    (c.turn.ensures.kept.keys_stay ∙ c.loop-made.invariant.keeps.keys_stay) end.1 end.2
+
+pub returns-clause-finishes : goal.returns-clause-finishes
+returns-clause-finishes g c = λ start enough memory.
+    let past = g.L.Link.past in
+    let calm = g.L.Link.calm in
+    let l = c.laws_below.ensures in
+    let client = c.args.client.now in
+    let settling = (untouched_settles past calm l client c.args.link.now c.plan-plan.ensures.lawful start).0 in
+    let made : c.loop-made.made ≡ c.args.limit = omega (arith, c.loop-made-test.false, c.loop-made.auto.made-end) in
+    let near =
+    subst (λ n. Nearer past calm client c.loop-made.client c.args.link.now c.loop-made.link n) made (c.loop-made.invariant.near settling) in
+    let end =
+    nearer_limit past calm l client c.loop-made.client c.args.link.now c.loop-made.link c.args.limit c.plan-plan.ensures.lawful settling enough near in
+    completed past calm l client c.loop-made.client c.args.link.now c.loop-made.link c.args.limit c.plan-plan.ensures.lawful start near.0
+    c.loop-made.invariant.keeps.keys_stay end.0 end.1

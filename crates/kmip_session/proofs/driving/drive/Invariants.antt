@@ -1,7 +1,4 @@
 -- So many exchanges were made; what was good still is.
-use Rattle.std.proofs.Common.{◌≤◌}
-use Rattle.kmip_schedule.specs.Past.{Names, Past, is_planned}
-use Rattle.kmip_client.specs.Clients.{ClientState}
 use Rattle.kmip_session.proofs.DriveLemmas.{Driven}
 use Rattle.kmip_session.proofs.driving.drive.Given as goal
 

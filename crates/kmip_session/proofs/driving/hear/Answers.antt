@@ -1,5 +1,5 @@
 -- A reply that is learnt from takes nothing back, and neither does a loss.
-use Rattle.std.proofs.Common.{◌≡◌, ap}
+use Rattle.std.proofs.Common.{ap}
 use Rattle.kmip_client.specs.Clients.{ClientState}
 use Rattle.kmip_session.proofs.GoodLemmas.{keeps_then}
 use Rattle.kmip_session.proofs.driving.hear.Goals as goal

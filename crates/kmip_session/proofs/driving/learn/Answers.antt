@@ -1,5 +1,5 @@
 -- What was handed over is what is heard.
-use Rattle.std.proofs.Common.{◌≡◌, ℕ, List, IfSome, subst, sym, Some}
+use Rattle.std.proofs.Common.{IfSome, subst, sym}
 use Rattle.kmip_client.specs.Truth.{TrueMessage}
 use Rattle.kmip_session.proofs.driving.learn.Goals as goal
 

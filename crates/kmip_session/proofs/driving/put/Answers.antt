@@ -1,5 +1,5 @@
 -- Asked for good, handed over, and learnt.
-use Rattle.std.proofs.Common.{◌≡◌, ℕ, List, option_map, ap, subst, sym}
+use Rattle.std.proofs.Common.{option_map, ap, subst, sym}
 use Rattle.std.proofs.lemmas.Option.{slice_get_within}
 use Rattle.kmip_client.specs.Clients.{ClientState}
 use Rattle.kmip_client.specs.Justified.{JustifiedMessage}

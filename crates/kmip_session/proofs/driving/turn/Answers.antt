@@ -1,9 +1,9 @@
 -- Asking changes whose turn it is, and nothing else.
-use Rattle.std.proofs.Common.{◌≡◌, IfSome, subst, sym}
+use Rattle.std.proofs.Common.{IfSome, subst, sym}
 use Rattle.kmip_client.specs.Clients.{ClientState}
 use Rattle.kmip_client.specs.Justified.{JustifiedMessage}
 use Rattle.kmip_session.specs.Driving.{Keeps, Learnt, WentOn}
-use Rattle.kmip_session.proofs.GoodLemmas.{good_asked, keeps_asked, keeps_itself, keeps_then}
+use Rattle.kmip_session.proofs.GoodLemmas.{good_asked, keeps_asked, keeps_itself}
 use Rattle.kmip_session.proofs.KnownLemmas.{learnt_nothing}
 use Rattle.kmip_session.proofs.driving.turn.Goals as goal
 

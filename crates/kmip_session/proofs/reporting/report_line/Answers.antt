@@ -1,5 +1,5 @@
 -- The line is made of its parts.
-use Rattle.std.proofs.Common.{rules, ◌∙◌}
+use Rattle.std.proofs.Common.{◌∙◌}
 use Rattle.kmip_session.proofs.ReportLemmas.{line_is}
 use Rattle.kmip_session.proofs.reporting.report_line.Goals as goal
 
