@@ -14,6 +14,8 @@ mod checking_after;
 #[cfg(test)]
 mod ending;
 #[cfg(test)]
+mod filling;
+#[cfg(test)]
 mod flushing;
 #[cfg(test)]
 mod limits;

@@ -14,7 +14,7 @@ pub fn chain_length(key: &Key) -> usize
     ensures some { 1 ≤ result }
     ensures few { result ≤ 4 }
 {
-    steps_to(key.target).len()
+    key.target.chain_length()
 }
 
 /// The step of the key at a place from 1. Takes no memory.
@@ -72,13 +72,24 @@ pub fn step_place(key: &Key, step: Step) -> usize
     }
 }
 
-/// Whether a Revoke leads to the target.
-pub(crate) fn is_revoked(target: Target) -> bool
-    ensures { result ≡ is_revoked target }
-{
-    match target {
-        Target::Created | Target::Active | Target::Discarded => false,
-        Target::Revoked | Target::Destroyed => true,
+impl Target {
+    /// How many steps lead to the target. Takes no memory.
+    pub fn chain_length(self) -> usize
+        ensures steps { result ≡ length (chain self) }
+        ensures some { 1 ≤ result }
+        ensures few { result ≤ 4 }
+    {
+        steps_to(self).len()
+    }
+
+    /// Whether a Revoke is one of the steps that lead to the target. Takes no memory.
+    pub fn is_revoked(self) -> bool
+        ensures { result ≡ is_revoked self }
+    {
+        match self {
+            Target::Created | Target::Active | Target::Discarded => false,
+            Target::Revoked | Target::Destroyed => true,
+        }
     }
 }
 

@@ -6,7 +6,6 @@ ghost use Rattle.toml.specs.View.{view, array_view, table_view};
 ghost use Rattle.kmip_plan.specs.Fields.{if_so, name_of, algorithm_of, length_of, usage_in, usage_of, target_of, reason_of};
 ghost use Rattle.kmip_plan.specs.Words.{reason_of_word};
 
-use crate::chains::is_revoked;
 use crate::counts::{are_once, are_usages, mask_of};
 use crate::tables::{array_at, integer_at, text_at, value_at};
 use crate::target::Target;
@@ -99,7 +98,7 @@ pub(crate) fn target_of(table: &Table) -> Option<Target>
 pub(crate) fn reason_of(target: Target, table: &Table) -> Option<u32>
     ensures { result ≡ reason_of target (table_view table.now) }
 {
-    match (is_revoked(target), value_at(table, "reason")) {
+    match (target.is_revoked(), value_at(table, "reason")) {
         (true, None) => Some(REVOCATION_UNSPECIFIED),
         (true, Some(value)) => reason_in(value),
         (false, None) => Some(0),

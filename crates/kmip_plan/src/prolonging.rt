@@ -3,7 +3,6 @@ ghost use Rattle.std.specs.Prelude.{◌≡◌, ◌↔◌, true, IsTrue};
 ghost use Rattle.kmip_plan.specs.Chains.{is_revoked};
 ghost use Rattle.kmip_plan.specs.Prolonging.{LeadsOn, GoesOn, Prolongs};
 
-use crate::chains::is_revoked;
 use crate::key::Key;
 use crate::plan::Plan;
 use crate::target::Target;
@@ -66,7 +65,7 @@ fn has_same_reason(new: &Key, old: &Key) -> bool
     ensures { IsTrue result
         ↔ (is_revoked old.now.target ≡ true → new.now.reason ≡ old.now.reason) }
 {
-    !is_revoked(old.target) || new.reason == old.reason
+    !old.target.is_revoked() || new.reason == old.reason
 }
 
 /// Whether two keys are made with the same attributes.

@@ -10,9 +10,7 @@ ghost use Rattle.kmip_progress.specs.Suiting.{nothing_known};
 use crate::entry::{Entry, Format};
 use crate::fault::ProgressFault;
 use crate::known::{Known, is_known};
-use crate::words::{
-    done_of_word, identifier_in, leads_on, lines, number_in, reason_in, steps_to, words,
-};
+use crate::words::{done_of_word, identifier_in, leads_on, lines, number_in, reason_in, words};
 use kmip_messages::is_name;
 use kmip_plan::{Key, Target};
 use kmip_ttlv::Text;
@@ -212,7 +210,7 @@ fn speaks_of(entry: &Entry, key: &Key) -> bool
     entry.name.as_str() == key.attrs.name.as_str()
         && leads_on(entry.target, key.target)
         && is_reason(entry.reason, key.reason)
-        && entry.known.done <= steps_to(entry.target)
+        && entry.known.done <= entry.target.chain_length()
 }
 
 /// Whether this is the reason, where there is one.

@@ -1,9 +1,8 @@
 //! The words of a progress text.
-ghost use Rattle.std.specs.Prelude.{◌≡◌, IfOk, length, map, option_map};
+ghost use Rattle.std.specs.Prelude.{◌≡◌, IfOk, map, option_map};
 ghost use Rattle.std.specs.Result.{result_ok};
 ghost use Rattle.std.specs.List.{list_all};
 ghost use Rattle.hex.specs.Hex.{decode_of};
-ghost use Rattle.kmip_plan.specs.Chains.{chain, is_revoked};
 ghost use Rattle.kmip_progress.specs.Reading.{parts, leads_on, need, GivesProgress};
 ghost use Rattle.kmip_progress.specs.Words.{done_of_word, reason_of_word, reason_in, identifier_in, identifier_of_word, is_spelt, is_digit, is_number, number_in};
 
@@ -26,28 +25,6 @@ pub(crate) fn words(alloc: Global, line: &str) -> Result<Vec<&str>, AllocError>
     ensures { IfOk result (λ words. map (λ word. word.now) words.items ≡ parts 0x20 line.now) }
 {
     line.split(' ').collect(alloc)
-}
-
-/// Whether a Revoke leads to the target.
-pub(crate) fn is_revoked(target: Target) -> bool
-    ensures { result ≡ is_revoked target }
-{
-    match target {
-        Target::Created | Target::Active | Target::Discarded => false,
-        Target::Revoked | Target::Destroyed => true,
-    }
-}
-
-/// How many steps lead to a target.
-pub(crate) fn steps_to(target: Target) -> usize
-    ensures { result ≡ length (chain target) }
-{
-    match target {
-        Target::Created => 1,
-        Target::Active | Target::Discarded => 2,
-        Target::Revoked => 3,
-        Target::Destroyed => 4,
-    }
 }
 
 /// Whether the way to a target leads on to another one.
@@ -89,7 +66,7 @@ fn reason_of_word(word: &str) -> Option<u32>
 pub(crate) fn reason_in(target: Target, word: &str) -> Option<Option<u32>>
     ensures { result ≡ reason_in target word.now }
 {
-    if is_revoked(target) {
+    if target.is_revoked() {
         return reason_of_word(word).map(Some);
     }
     if word == "-" { Some(None) } else { None }

@@ -6,7 +6,6 @@ ghost use Rattle.kmip_progress.specs.Texts.{key_line, key_lines, end_line, progr
 ghost use Rattle.kmip_progress.specs.Words.{reason_word, identifier_word};
 
 use crate::known::Known;
-use crate::words::is_revoked;
 use kmip_plan::Key;
 use std::alloc::{AllocError, Global};
 
@@ -77,7 +76,7 @@ fn reason_word(alloc: Global, key: &Key) -> Result<String, AllocError>
     ensures { IfOk result (λ word.
         string_bytes word ≡ reason_word (reason_for formats.Two key.now)) }
 {
-    if is_revoked(key.target) {
+    if key.target.is_revoked() {
         key.reason.to_string(alloc)
     } else {
         String::from_str(alloc, "-")

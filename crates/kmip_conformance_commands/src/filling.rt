@@ -1,0 +1,91 @@
+//! A server that is filled: each identifier in its turn, and why a full one refuses.
+
+use crate::texts::text_of;
+use kmip_commands::answer_bytes;
+use kmip_vectors::{CREATE_K1, CREATE_K1_REPLY, NAME_USED_REPLY};
+use std::alloc::Global;
+use std::ops::Range;
+use std::str::from_utf8;
+use std::test::Fail;
+
+/// The name in `CREATE_K1`, with its tag, its type and its length.
+const NAME: &str = "42005507000000026b31000000000000";
+
+/// The identifier in `CREATE_K1_REPLY`, with its tag, its type and its length.
+const IDENTIFIER: &str = "42009407000000013100000000000000";
+
+/// A Text String of one to eight decimal digits, with zeros up to eight bytes behind them.
+fn item_of(alloc: Global, tag: &str, number: u32) -> Result<String, Fail> {
+    let decimal = number.to_string(alloc)?;
+    let len = decimal.len();
+    let mut item = format!(in alloc; "{tag}070000000{len}")?;
+    for digit in decimal.as_str().chars() {
+        item.push('3')?;
+        item.push(digit)?;
+    }
+    let padded = format!(in alloc; "{item:0<32}")?;
+    Ok(padded)
+}
+
+/// For each number a line that is the message with the number in the place of one of its items.
+fn push_lines(
+    alloc: Global,
+    lines: &mut String,
+    message: &'static str,
+    item: &'static str,
+    numbers: Range<u32>,
+) -> Result<(), Fail> {
+    let (front, back) = message.split_once(item).unwrap_or(("", ""));
+    let (tag, _) = item.split_at_checked(6).unwrap_or(("", ""));
+    for number in numbers {
+        let numbered = item_of(alloc, tag, number)?;
+        lines.push_str(front)?;
+        lines.push_str(numbered.as_str())?;
+        lines.push_str(back)?;
+        lines.push('\n')?;
+    }
+    Ok(())
+}
+
+#[test]
+fn gives_ten_thousand_identifiers(rt: HostRuntime) -> Result<(), Fail> {
+    let mut input = String::new(rt.alloc());
+    push_lines(
+        rt.alloc(),
+        &mut input,
+        CREATE_K1,
+        NAME,
+        10_000_000..10_010_000,
+    )?;
+    let mut output = String::new(rt.alloc());
+    push_lines(
+        rt.alloc(),
+        &mut output,
+        CREATE_K1_REPLY,
+        IDENTIFIER,
+        1..10_001,
+    )?;
+
+    // A name that no object has, and then the last name once more.
+    input.push_str(CREATE_K1)?;
+    input.push('\n')?;
+    push_lines(
+        rt.alloc(),
+        &mut input,
+        CREATE_K1,
+        NAME,
+        10_009_999..10_010_000,
+    )?;
+    let full = NAME_USED_REPLY.replace(rt.alloc(), "00000035", "00000100")?;
+    let refused = text_of(rt.alloc(), &[full.as_str(), NAME_USED_REPLY])?;
+    output.push_str(refused.as_str())?;
+
+    let mut written = Vec::new(rt.alloc());
+    assert_eq!(rt;
+        answer_bytes(rt.alloc(), input.as_bytes(), &mut written),
+        Ok(false)
+    );
+    assert_eq!(rt; written.len(), output.len());
+    assert!(rt; from_utf8(written.as_slice()) == Ok(output.as_str()));
+    Ok(())
+}
