@@ -7,3 +7,4 @@ pub mod ServedLemmas
 pub mod SafeLemmas
 pub mod TurnLemmas
 pub mod MirrorLemmas
+pub mod JoiningLemmas

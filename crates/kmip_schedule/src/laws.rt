@@ -13,6 +13,11 @@ ghost use Rattle.kmip_schedule.specs.Laws.{
   AskingKeepsTheImage,
   DeliveriesKeepTheImage,
   ExchangesKeepTheImage,
+  DeliveriesJoin,
+  NothingIsDelivered,
+  DeliveriesKeepTheRequests,
+  FewerNamesAreDelivered,
+  CalmExchangesAreHonest,
 };
 
 use kmip_client::laws::{onward_is_an_order, truth_is_for_good};
@@ -93,3 +98,25 @@ pub fn the_image_is_kept()
 {
     laws_below();
 }
+
+/// What happens in turn may happen in one, and nothing may happen.
+pub fn deliveries_join()
+    ensures join { DeliveriesJoin }
+    ensures nothing { NothingIsDelivered }
+{}
+
+/// Whatever happens asks, sends and hands over nothing. Replies and effects join at the end, and no
+/// reply is lost.
+pub fn deliveries_keep_the_requests()
+    ensures { DeliveriesKeepTheRequests }
+{}
+
+/// What happens beside these names happens beside fewer.
+pub fn fewer_names_are_delivered()
+    ensures { FewerNamesAreDelivered }
+{}
+
+/// What a calm link does in an exchange, an honest one may do.
+pub fn a_calm_exchange_is_honest()
+    ensures { CalmExchangesAreHonest }
+{}
