@@ -8,3 +8,4 @@ pub mod SafeLemmas
 pub mod TurnLemmas
 pub mod MirrorLemmas
 pub mod JoiningLemmas
+pub mod EffectLemmas

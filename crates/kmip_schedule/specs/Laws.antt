@@ -3,6 +3,10 @@
 use Rattle.std.specs.Prelude.{◌≡◌, ◌≤◌, ℕ, true, List, ◌++◌, Option, Result}
 use Rattle.std.specs.List.{All, Contains}
 use Rattle.kmip_messages.specs.declared.reply.Reply.{Reply}
+use Rattle.kmip_messages.specs.Objects.{Object, DistinctNames, DistinctUids}
+use Rattle.kmip_messages.specs.declared.reply.Outcome.{Outcome}
+use Rattle.kmip_messages.specs.declared.request.Ask.{Ask}
+use Rattle.kmip_server.specs.ServerStep.{ServerStep}
 use Rattle.kmip_plan.specs.Chains.{step_place}
 use Rattle.kmip_plan.specs.Plans.{IsPlanned}
 use Rattle.kmip_plan.specs.declared.key.Key.{Key}
@@ -14,7 +18,8 @@ use Rattle.kmip_schedule.specs.declared.effect.Effect.{Effect}
 use Rattle.kmip_schedule.specs.declared.link.LinkFault.{LinkFault}
 use Rattle.kmip_schedule.specs.Exchanges.{AreGiven, Exchanged, with_asked}
 use Rattle.kmip_schedule.specs.Machine.{IsMirrored}
-use Rattle.kmip_schedule.specs.Moves.{Delivered}
+use Rattle.kmip_schedule.specs.Effects.{effect_of}
+use Rattle.kmip_schedule.specs.Moves.{Delivered, Joins}
 use Rattle.kmip_schedule.specs.Past.{Past, Names, is_planned}
 use Rattle.kmip_schedule.specs.Safe.{Safe}
 use Rattle.kmip_schedule.specs.Sound.{Sound, Opening}
@@ -120,3 +125,9 @@ abbrev pub CalmExchangesAreHonest : Type 0
 CalmExchangesAreHonest =
     (names : Names) (old new : Past) (sent : List ℕ) (answer : Result (Option (List ℕ)) LinkFault)
     → CalmlyExchanged names old sent answer new → Exchanged names old sent answer new
+
+-- what a question that is served does is how the object of each name has changed
+abbrev pub WhatIsDoneJoins : Type 0
+WhatIsDoneJoins =
+    (room : ℕ) (old new : List Object) (ask : Ask) (outcome : Outcome) → DistinctNames old → DistinctUids old
+    → ServerStep room old ask outcome new → Joins old new (effect_of old ask outcome)

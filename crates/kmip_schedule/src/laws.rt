@@ -18,6 +18,7 @@ ghost use Rattle.kmip_schedule.specs.Laws.{
   DeliveriesKeepTheRequests,
   FewerNamesAreDelivered,
   CalmExchangesAreHonest,
+  WhatIsDoneJoins,
 };
 
 use kmip_client::laws::{onward_is_an_order, truth_is_for_good};
@@ -120,3 +121,11 @@ pub fn fewer_names_are_delivered()
 pub fn a_calm_exchange_is_honest()
     ensures { CalmExchangesAreHonest }
 {}
+
+/// What a question that is served does is how the object of each name has changed.
+pub fn what_is_done_joins()
+    ensures { WhatIsDoneJoins }
+{
+    found_laws();
+    laws_below();
+}
