@@ -157,9 +157,9 @@ fewer_delivered names fewer old new fall delivered = record {
 }
 
 -- what happened, its replies being among those given
-record DeliversAll (names : Names) (replies : List Reply) (old new : Past) : Type 0 where
-  delivered : Delivered names old new
-  given : All (Contains new.replies) replies
+pub record DeliversAll (names : Names) (replies : List Reply) (old new : Past) : Type 0 where
+  pub delivered : Delivered names old new
+  pub given : All (Contains new.replies) replies
 
 one_delivers : (names : Names) (move : Move) (reply : Reply) (old new : Past) → MayHappen names move old → new ≡ after_move move old
     → (after_move move old).replies ≡ old.replies ++ reply ∷ [] → DeliversAll names (reply ∷ []) old new
@@ -187,7 +187,7 @@ both_deliver names reply replies old between new early late = record {
 nothing_more : (names : Names) (p q : Past) → q ≡ p → DeliversAll names [] p q
 nothing_more names p q is = record { delivered = subst (Delivered names p) (sym is) (delivered_nothing names p); given = All-nil (Contains q.replies) }
 
-taken_delivers : (names : Names) (stops : Bool) (parts : List (Result Request Refusal)) (replies : List Reply) (old new : Past)
+pub taken_delivers : (names : Names) (stops : Bool) (parts : List (Result Request Refusal)) (replies : List Reply) (old new : Past)
     → AreTaken stops parts replies old new → DeliversAll names replies old new
 taken_delivers names stops [] [] old new taken = nothing_more names old new taken
 taken_delivers names stops [] (reply ∷ replies) old new taken = absurd taken

@@ -1,6 +1,6 @@
 -- What holds of all that may happen between a client and its server.
 -- Source: own: what the laws say.
-use Rattle.std.specs.Prelude.{◌≡◌, ◌≤◌, ℕ, true, List, ◌++◌, Option, Result}
+use Rattle.std.specs.Prelude.{◌≡◌, ◌≤◌, ℕ, Bool, true, List, ◌++◌, Option, Result}
 use Rattle.std.specs.List.{All, Contains}
 use Rattle.kmip_messages.specs.declared.reply.Reply.{Reply}
 use Rattle.kmip_messages.specs.Objects.{Object, DistinctNames, DistinctUids}
@@ -13,7 +13,9 @@ use Rattle.kmip_plan.specs.declared.key.Key.{Key}
 use Rattle.kmip_client.specs.Justified.{JustifiedMessage}
 use Rattle.kmip_client.specs.Places.{Onward, position}
 use Rattle.kmip_client.specs.Truth.{TrueMessage}
-use Rattle.kmip_schedule.specs.Calm.{CalmlyExchanged}
+use Rattle.kmip_messages.specs.declared.fault.Refusal.{Refusal}
+use Rattle.kmip_messages.specs.declared.request.Request.{Request}
+use Rattle.kmip_schedule.specs.Calm.{AreTaken, CalmlyExchanged}
 use Rattle.kmip_schedule.specs.declared.effect.Effect.{Effect}
 use Rattle.kmip_schedule.specs.declared.link.LinkFault.{LinkFault}
 use Rattle.kmip_schedule.specs.Exchanges.{AreGiven, Exchanged, with_asked}
@@ -125,6 +127,12 @@ abbrev pub CalmExchangesAreHonest : Type 0
 CalmExchangesAreHonest =
     (names : Names) (old new : Past) (sent : List ℕ) (answer : Result (Option (List ℕ)) LinkFault)
     → CalmlyExchanged names old sent answer new → Exchanged names old sent answer new
+
+-- questions that are taken in turn are things that happen
+abbrev pub TakenIsDelivered : Type 0
+TakenIsDelivered =
+    (names : Names) (stops : Bool) (parts : List (Result Request Refusal)) (replies : List Reply) (old new : Past)
+    → AreTaken stops parts replies old new → Delivered names old new
 
 -- what a question that is served does is how the object of each name has changed
 abbrev pub WhatIsDoneJoins : Type 0

@@ -18,6 +18,7 @@ ghost use Rattle.kmip_schedule.specs.Laws.{
   DeliveriesKeepTheRequests,
   FewerNamesAreDelivered,
   CalmExchangesAreHonest,
+  TakenIsDelivered,
   WhatIsDoneJoins,
 };
 
@@ -120,6 +121,11 @@ pub fn fewer_names_are_delivered()
 /// What a calm link does in an exchange, an honest one may do.
 pub fn a_calm_exchange_is_honest()
     ensures { CalmExchangesAreHonest }
+{}
+
+/// Questions that are taken in turn are things that happen.
+pub fn what_is_taken_is_delivered()
+    ensures { TakenIsDelivered }
 {}
 
 /// What a question that is served does is how the object of each name has changed.
