@@ -2,10 +2,17 @@
 //! where a run ends.
 #![tactic(auto)]
 
+mod effects;
 mod fault;
+mod following;
+mod link;
 mod reading;
 mod script;
+mod scripted;
+mod serving;
+mod words;
 
 pub use fault::ScriptFault;
 pub use reading::read_script;
 pub use script::{Script, Word};
+pub use scripted::Scripted;

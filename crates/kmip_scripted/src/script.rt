@@ -54,4 +54,11 @@ impl Script {
     {
         self.words.as_slice()
     }
+
+    /// Its words as a vector. Takes no memory.
+    pub fn into_words(self) -> Vec<Word>
+        ensures { result.items ≡ self }
+    {
+        self.words
+    }
 }
