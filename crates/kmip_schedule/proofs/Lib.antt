@@ -7,3 +7,5 @@ pub mod ServedLemmas
 pub mod SafeLemmas
 pub mod TurnLemmas
 pub mod MirrorLemmas
+pub mod JoiningLemmas
+pub mod EffectLemmas

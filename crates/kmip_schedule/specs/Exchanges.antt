@@ -1,6 +1,6 @@
 -- What an exchange over an honest link does to the past: one that loses, repeats and delays what it likes, and invents nothing.
 -- Source: own, over KMIP 2.1, Message Structure.
-use Rattle.std.specs.Prelude.{◌≡◌, ◌⊎◌, ℕ, List, [], ◌∷◌, ◌++◌, Option, Some, None, Result, Ok, Err, IfSome}
+use Rattle.std.specs.Prelude.{◌≡◌, ◌⊎◌, ℕ, List, [], ◌∷◌, ◌++◌, Option, None, Result, Ok, Err, IfSome}
 use Rattle.std.specs.List.{All, Contains}
 use Rattle.std.specs.Option.{option_map}
 use Rattle.kmip_messages.specs.Items.{requests_in, replies_in}

@@ -1,19 +1,28 @@
 -- What holds of all that may happen between a client and its server.
 -- Source: own: what the laws say.
-use Rattle.std.specs.Prelude.{◌≡◌, ◌≤◌, ℕ, List, Option, Result}
-use Rattle.std.specs.List.{All}
+use Rattle.std.specs.Prelude.{◌≡◌, ◌≤◌, ℕ, Bool, true, List, ◌++◌, Option, Result}
+use Rattle.std.specs.List.{All, Contains}
+use Rattle.kmip_messages.specs.declared.reply.Reply.{Reply}
+use Rattle.kmip_messages.specs.Objects.{Object, DistinctNames, DistinctUids}
+use Rattle.kmip_messages.specs.declared.reply.Outcome.{Outcome}
+use Rattle.kmip_messages.specs.declared.request.Ask.{Ask}
+use Rattle.kmip_server.specs.ServerStep.{ServerStep}
 use Rattle.kmip_plan.specs.Chains.{step_place}
 use Rattle.kmip_plan.specs.Plans.{IsPlanned}
 use Rattle.kmip_plan.specs.declared.key.Key.{Key}
 use Rattle.kmip_client.specs.Justified.{JustifiedMessage}
 use Rattle.kmip_client.specs.Places.{Onward, position}
 use Rattle.kmip_client.specs.Truth.{TrueMessage}
+use Rattle.kmip_messages.specs.declared.fault.Refusal.{Refusal}
+use Rattle.kmip_messages.specs.declared.request.Request.{Request}
+use Rattle.kmip_schedule.specs.Calm.{AreTaken, CalmlyExchanged}
 use Rattle.kmip_schedule.specs.declared.effect.Effect.{Effect}
 use Rattle.kmip_schedule.specs.declared.link.LinkFault.{LinkFault}
 use Rattle.kmip_schedule.specs.Exchanges.{AreGiven, Exchanged, with_asked}
 use Rattle.kmip_schedule.specs.Machine.{IsMirrored}
-use Rattle.kmip_schedule.specs.Moves.{Delivered}
-use Rattle.kmip_schedule.specs.Past.{Past, is_planned}
+use Rattle.kmip_schedule.specs.Effects.{effect_of}
+use Rattle.kmip_schedule.specs.Moves.{Delivered, Joins}
+use Rattle.kmip_schedule.specs.Past.{Past, Names, is_planned}
 use Rattle.kmip_schedule.specs.Safe.{Safe}
 use Rattle.kmip_schedule.specs.Sound.{Sound, Opening}
 
@@ -82,3 +91,51 @@ ExchangesKeepTheImage =
     (keys : List Key) (old new : Past) (sent : List ℕ) (answer : Result (Option (List ℕ)) LinkFault) → Sound keys old
     → IsMirrored keys old → JustifiedMessage keys old.objects sent → Exchanged (is_planned keys) old sent answer new
     → IsMirrored keys new
+
+-- what happens in turn may happen in one
+abbrev pub DeliveriesJoin : Type 0
+DeliveriesJoin =
+    (names : Names) (first second third : Past) → Delivered names first second → Delivered names second third
+    → Delivered names first third
+
+-- and nothing may happen
+abbrev pub NothingIsDelivered : Type 0
+NothingIsDelivered = (names : Names) (p : Past) → Delivered names p p
+
+-- Nothing is asked, sent or handed over. Replies and effects join at the end, and no reply is lost.
+pub record Grows (old new : Past) : Type 0 where
+  pub room : new.room ≡ old.room
+  pub requests : new.requests ≡ old.requests
+  pub sent : new.sent ≡ old.sent
+  pub handed : new.handed ≡ old.handed
+  pub replies : (more : List Reply) × (new.replies ≡ old.replies ++ more)
+  pub effects : (more : List Effect) × (new.effects ≡ old.effects ++ more)
+  pub given : (reply : Reply) → Contains old.replies reply → Contains new.replies reply
+
+-- so it is, whatever happens
+abbrev pub DeliveriesKeepTheRequests : Type 0
+DeliveriesKeepTheRequests = (names : Names) (old new : Past) → Delivered names old new → Grows old new
+
+-- what happens beside these names happens beside fewer
+abbrev pub FewerNamesAreDelivered : Type 0
+FewerNamesAreDelivered =
+    (names fewer : Names) (old new : Past) → ((name : List ℕ) → fewer name ≡ true → names name ≡ true)
+    → Delivered names old new → Delivered fewer old new
+
+-- what a calm link does, an honest one may do
+abbrev pub CalmExchangesAreHonest : Type 0
+CalmExchangesAreHonest =
+    (names : Names) (old new : Past) (sent : List ℕ) (answer : Result (Option (List ℕ)) LinkFault)
+    → CalmlyExchanged names old sent answer new → Exchanged names old sent answer new
+
+-- questions that are taken in turn are things that happen
+abbrev pub TakenIsDelivered : Type 0
+TakenIsDelivered =
+    (names : Names) (stops : Bool) (parts : List (Result Request Refusal)) (replies : List Reply) (old new : Past)
+    → AreTaken stops parts replies old new → Delivered names old new
+
+-- what a question that is served does is how the object of each name has changed
+abbrev pub WhatIsDoneJoins : Type 0
+WhatIsDoneJoins =
+    (room : ℕ) (old new : List Object) (ask : Ask) (outcome : Outcome) → DistinctNames old → DistinctUids old
+    → ServerStep room old ask outcome new → Joins old new (effect_of old ask outcome)

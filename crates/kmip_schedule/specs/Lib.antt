@@ -1,6 +1,7 @@
 pub mod Faults
 pub mod Past
 pub mod Moves
+pub mod Effects
 pub mod Sound
 pub mod Exchanges
 pub mod Calm

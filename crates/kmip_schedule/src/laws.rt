@@ -13,6 +13,13 @@ ghost use Rattle.kmip_schedule.specs.Laws.{
   AskingKeepsTheImage,
   DeliveriesKeepTheImage,
   ExchangesKeepTheImage,
+  DeliveriesJoin,
+  NothingIsDelivered,
+  DeliveriesKeepTheRequests,
+  FewerNamesAreDelivered,
+  CalmExchangesAreHonest,
+  TakenIsDelivered,
+  WhatIsDoneJoins,
 };
 
 use kmip_client::laws::{onward_is_an_order, truth_is_for_good};
@@ -91,5 +98,40 @@ pub fn the_image_is_kept()
     ensures deliveries { DeliveriesKeepTheImage }
     ensures exchanges { ExchangesKeepTheImage }
 {
+    laws_below();
+}
+
+/// What happens in turn may happen in one, and nothing may happen.
+pub fn deliveries_join()
+    ensures join { DeliveriesJoin }
+    ensures nothing { NothingIsDelivered }
+{}
+
+/// Whatever happens asks, sends and hands over nothing. Replies and effects join at the end, and no
+/// reply is lost.
+pub fn deliveries_keep_the_requests()
+    ensures { DeliveriesKeepTheRequests }
+{}
+
+/// What happens beside these names happens beside fewer.
+pub fn fewer_names_are_delivered()
+    ensures { FewerNamesAreDelivered }
+{}
+
+/// What a calm link does in an exchange, an honest one may do.
+pub fn a_calm_exchange_is_honest()
+    ensures { CalmExchangesAreHonest }
+{}
+
+/// Questions that are taken in turn are things that happen.
+pub fn what_is_taken_is_delivered()
+    ensures { TakenIsDelivered }
+{}
+
+/// What a question that is served does is how the object of each name has changed.
+pub fn what_is_done_joins()
+    ensures { WhatIsDoneJoins }
+{
+    found_laws();
     laws_below();
 }

@@ -35,9 +35,9 @@ use kmip_settling::laws::{
 use kmip_ttlv::NoMemory;
 use std::alloc::Global;
 
-/// Asks one question after the other over the link, and learns from what comes back: until no key of
-/// the plan is worked on any more, or `limit` exchanges were made. Answers why it stopped, and how
-/// many exchanges were made.
+/// Asks one question after the other over the link, and learns from what comes back: until no key
+/// of the plan is worked on any more, or `limit` exchanges were made. Answers why it stopped, and
+/// how many exchanges were made.
 ///
 /// An answer that does not come, that teaches nothing, or that is not to the question asked last,
 /// lets the key of that question be looked at again.
@@ -53,20 +53,22 @@ pub fn drive<L: Link>(
         → WentOn client.old.keys (L.past link.old) (L.past link.new) }
     ensures known { L.honest link.old (is_planned client.old.keys)
         → L.honest link.new (is_planned client.old.keys)
-        × (result.0 ≢ Stop.NoMemory → Learnt client.old.keys (L.past link.old) (L.past link.new)
-        client.old.knowns client.new.knowns result.1) }
+        × (result.0 ≢ Stop.NoMemory → Learnt client.old.keys (L.past link.old)
+        (L.past link.new) client.old.knowns client.new.knowns result.1) }
     ensures kept { Keeps client.old client.new }
     ensures stands { Stands result.0 client.new.keys client.new.knowns }
     ensures limit { result.0 ≡ Stop.Limit → result.1 ≡ limit }
     ensures within { result.1 ≤ limit }
-    ensures settles { IsSettling L.past L.calm client.old link.old → bound client.old.keys ≤ limit
-        → result.0 ≢ Stop.NoMemory → (result.0 ≡ Stop.AllFinished)
-        × (result.1 ≡ need client.old (L.past link.old)) × (result.1 ≤ bound client.old.keys) }
+    ensures settles { IsSettling L.past L.calm client.old link.old
+        → bound client.old.keys ≤ limit → result.0 ≢ Stop.NoMemory
+        → (result.0 ≡ Stop.AllFinished) × (result.1 ≡ need client.old (L.past link.old))
+        × (result.1 ≤ bound client.old.keys) }
     ensures calm { IsSettling L.past L.calm client.old link.old → result.0 ≢ Stop.NoMemory
         → IsSettling L.past L.calm client.new link.new
         × (result.1 + need client.new (L.past link.new) ≡ need client.old (L.past link.old)) }
-    ensures finishes { IsUntouched L.past L.calm client.old link.old → bound client.old.keys ≤ limit
-        → result.0 ≢ Stop.NoMemory → (result.1 ≡ chains_and_looks client.old.keys)
+    ensures finishes { IsUntouched L.past L.calm client.old link.old
+        → bound client.old.keys ≤ limit → result.0 ≢ Stop.NoMemory
+        → (result.1 ≡ chains_and_looks client.old.keys)
         × IsComplete client.old.keys (L.past link.new).objects client.new.knowns }
     ensures no_conflict { IsGood L.past L.honest client.old link.old
         → result.0 ≢ Stop.Conflict }

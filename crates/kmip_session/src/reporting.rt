@@ -16,8 +16,8 @@ use kmip_plan::{Key, chain_length};
 use kmip_ttlv::NoMemory;
 use std::alloc::{AllocError, Global};
 
-/// The report of what a client knows: a line a key, with its name, its target, how many of the steps
-/// to it are done and how it stands, and a last line that counts the finished keys.
+/// The report of what a client knows: a line a key, with its name, its target, how many of the
+/// steps to it are done and how it stands, and a last line that counts the finished keys.
 ///
 /// # Errors
 /// Where there is no memory for it.

@@ -1,0 +1,4 @@
+pub mod DueLemmas
+pub mod ArrivalLemmas
+pub mod WordLemmas
+pub mod FollowLemmas

@@ -1,0 +1,21 @@
+-- Word by word.
+use Rattle.std.proofs.Common.{sym, subst, ◌∙◌, rules}
+use Rattle.kmip_scripted.specs.Scenes.{past_in}
+use Rattle.kmip_scripted.specs.Words.{AreBegun}
+use Rattle.kmip_scripted.proofs.WordLemmas.{nothing_begun, on_err}
+use Rattle.kmip_scripted.proofs.scripted.Scripted.do_words.Goals as goal
+
+pub returns-in_err-step-clause-begun : goal.returns-in_err-step-clause-begun
+returns-in_err-step-clause-begun g c =
+    on_err c.from_residual.result (c.words.invariant.begun c.step.new.self
+    (subst (AreBegun c.args.at_end c.words.self.words c.words.self) (sym c.in_err-step.ensures.err) (nothing_begun c.args.at_end c.words.self.words c.words.self)))
+
+pub words-preserved : goal.words-preserved
+words-preserved g c =
+    let steps = c.in_ok-step.ensures.went (search (rules, c.if-not-branch.false)) in
+    record {
+      all = steps.all ∙ c.words.invariant.all;
+      begun = λ last begun. c.words.invariant.begun last (steps.begun last begun);
+      delivered = λ names. c.deliveries_join.ensures.join names (past_in c.args.self.now) (past_in c.words.self) (past_in c.step.new.self)
+          (c.words.invariant.delivered names) (c.step.ensures.delivered names);
+    }

@@ -1,0 +1,5 @@
+pub mod Faults
+pub mod Scenes
+pub mod Serving
+pub mod Words
+pub mod Wanting

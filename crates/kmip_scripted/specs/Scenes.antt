@@ -1,0 +1,45 @@
+-- What a link in memory holds at one time: the records of its server, the messages as bytes, and the words of its script that are
+-- left; and what that says of the past.
+-- Source: own, over KMIP 2.1, Message Structure.
+use Rattle.std.specs.Prelude.{ℕ, List, [], Option}
+use Rattle.std.specs.List.{All, Contains, flat_map}
+use Rattle.kmip_messages.specs.Items.{replies_in, requests_in}
+use Rattle.kmip_server.specs.Shown.{objects_in, room_in}
+use Rattle.kmip_store.specs.Stock.{Stock}
+use Rattle.kmip_schedule.specs.declared.effect.Effect.{Effect}
+use Rattle.kmip_schedule.specs.Past.{Past}
+use Rattle.kmip_scripted.specs.declared.script.Word.{Word}
+
+pub record Scene : Type 0 where
+  -- the records of the server
+  pub stock : Stock
+  -- the bytes of each request ever asked, and of each reply ever given
+  pub asked : List (List ℕ)
+  pub given : List (List ℕ)
+  -- what took effect
+  pub effects : List Effect
+  -- the bytes that each exchange sent, and what it handed over: bytes, or none for a loss
+  pub sent : List (List ℕ)
+  pub handed : List (Option (List ℕ))
+  -- the words that are left
+  pub words : List Word
+
+-- what has happened so far
+abbrev pub past_in : Scene → Past
+past_in s = record {
+  room = room_in s.stock;
+  objects = objects_in s.stock;
+  requests = flat_map requests_in s.asked;
+  replies = flat_map replies_in s.given;
+  effects = s.effects;
+  sent = s.sent;
+  handed = s.handed;
+}
+
+-- where nothing has happened over a server, with these words left
+abbrev pub scene_of : Stock → List Word → Scene
+scene_of stock words = record { stock = stock; asked = []; given = []; effects = []; sent = []; handed = []; words = words }
+
+-- Private: the requests of a message were all asked.
+abbrev pub WasAsked : List ℕ → Scene → Type 0
+WasAsked message s = All (Contains (past_in s).requests) (requests_in message)

@@ -1,0 +1,141 @@
+-- What each word of a script does, and so what an exchange and the end of a run do, word by word.
+-- Source: own.
+use Rattle.std.specs.Prelude.{◌≡◌, ◌⊎◌, ◌==◌, ◌-◌, ◌<◌, ℕ, nat_le, pos, Bool, true, false, not, ◌&&◌, List, [], ◌∷◌, ◌++◌, length, Option, Some, None, if◌then◌else◌}
+use Rattle.std.specs.List.{slice_get}
+use Rattle.kmip_server.specs.Serving.{reply_bytes}
+use Rattle.kmip_scripted.specs.declared.script.Word.{Word}
+use Rattle.kmip_scripted.specs.declared.script.Word.TheVariants.{Pass, LoseRequest, LoseReply, Cut, Stale, Again, Save, Restart}
+use Rattle.kmip_scripted.specs.Scenes.{Scene}
+use Rattle.kmip_scripted.specs.Serving.{with_served}
+
+-- the word ends no exchange
+abbrev pub is_again : Word → Bool
+is_again (Again number) = true
+is_again word = false
+
+-- the word starts the next run from a save or from nothing
+abbrev pub is_restart : Word → Bool
+is_restart (Restart start) = true
+is_restart word = false
+
+-- the word ends a run
+abbrev pub ends_run : Word → Bool
+ends_run Save = true
+ends_run (Restart start) = true
+ends_run word = false
+
+-- the word is of an exchange
+abbrev pub is_exchange : Word → Bool
+is_exchange word = not (is_again word) && not (ends_run word)
+
+-- the message of a number, from 1; none where there is none
+abbrev pub message_at : ℕ → List (List ℕ) → Option (List ℕ)
+message_at number messages = if number == 0 then None else slice_get messages (number - 1)
+
+abbrev pub with_words : List Word → Scene → Scene
+with_words words s = record s { words = words }
+
+-- a message is delivered, where there is one
+abbrev pub with_delivered : Option (List ℕ) → Scene → Scene
+with_delivered None s = s
+with_delivered (Some message) s = with_served message s
+
+-- what a word does between two exchanges: `again` delivers the request of its number
+abbrev pub after_word : Word → Scene → Scene
+after_word (Again number) s = with_delivered (message_at number s.asked) s
+after_word word s = s
+
+-- the words that are done without an exchange: before one, those that repeat; at the end of a run, all that are left of it
+abbrev pub goes_on : Bool → Word → Bool
+goes_on true word = not (ends_run word)
+goes_on false word = is_again word
+
+-- these words are done, as long as they go on
+abbrev pub after_words : Bool → List Word → Scene → Scene
+after_words at_end [] s = s
+after_words at_end (word ∷ words) s = if goes_on at_end word then after_words at_end words (with_words words (after_word word s)) else s
+
+-- a beginning of them is done
+abbrev pub AreBegun : Bool → List Word → Scene → Scene → Type 0
+AreBegun at_end [] s new = new ≡ s
+AreBegun at_end (word ∷ words) s new =
+    (new ≡ s) ⊎ ((goes_on at_end word ≡ true) × AreBegun at_end words (with_words words (after_word word s)) new)
+
+-- the word of the next exchange: `pass`, where none is left in the run
+abbrev pub exchange_word : List Word → Word
+exchange_word [] = Pass
+exchange_word (word ∷ words) = if is_exchange word then word else Pass
+
+abbrev pub words_after_exchange : List Word → List Word
+words_after_exchange [] = []
+words_after_exchange (word ∷ words) = if is_exchange word then words else word ∷ words
+
+-- what the word of an exchange hands over, and what it leaves
+abbrev pub play : Word → List ℕ → Scene → Option (List ℕ) × Scene
+play LoseRequest request s = (None, s)
+play LoseReply request s = (None, with_served request s)
+play (Cut size) request s = (None, if nat_le (length request) size then with_served request s else s)
+play (Stale number) request s = (message_at number s.given, s)
+play word request s = (Some (reply_bytes s.stock request (pos 0)), with_served request s)
+
+-- the request joins those asked
+abbrev pub with_request : List ℕ → Scene → Scene
+with_request request s = record s { asked = s.asked ++ request ∷ [] }
+
+-- the scene in which the word of the exchange is taken: the request was asked, and the words before it are done
+abbrev pub before_play : List ℕ → Scene → Scene
+before_play request s = after_words false s.words (with_request request s)
+
+abbrev pub played : List ℕ → Scene → Option (List ℕ) × Scene
+played request s = play (exchange_word s.words) request (with_words (words_after_exchange s.words) s)
+
+-- what was sent and what is handed over are kept
+abbrev pub with_handed : List ℕ → Option (List ℕ) × Scene → Option (List ℕ) × Scene
+with_handed request p = (p.0, record p.1 { sent = p.1.sent ++ request ∷ []; handed = p.1.handed ++ p.0 ∷ [] })
+
+-- what an exchange hands over, and what it leaves
+abbrev pub exchange : List ℕ → Scene → Option (List ℕ) × Scene
+exchange request s = with_handed request (played request (before_play request s))
+
+-- where memory runs out before the word of an exchange is taken: nothing, or the request joined, and of the words that repeat a
+-- beginning is done
+abbrev pub IsPreparing : List ℕ → Scene → Scene → Type 0
+IsPreparing request s new = (new ≡ s) ⊎ AreBegun false s.words (with_request request s) new
+
+-- where memory runs out at the word: it is taken, and done or not
+abbrev pub IsPlaying : List ℕ → Scene → Scene → Type 0
+IsPlaying request s new = (new ≡ with_words (words_after_exchange s.words) s) ⊎ (new ≡ (played request s).1)
+
+-- where memory runs out
+abbrev pub IsBegun : List ℕ → Scene → Scene → Type 0
+IsBegun request s new = IsPreparing request s new ⊎ IsPlaying request (before_play request s) new
+
+-- the words of the runs to come: parts without words that end in `restart` are no runs
+abbrev pub next_words : List Word → List Word
+next_words [] = []
+next_words (word ∷ words) = if is_restart word then next_words words else word ∷ words
+
+-- the words after the one that ends the run
+abbrev pub words_after_run : List Word → List Word
+words_after_run [] = []
+words_after_run (word ∷ words) = next_words words
+
+-- what the end of a run leaves
+abbrev pub after_run : Scene → Scene
+after_run s = with_words (words_after_run (after_words true s.words s).words) (after_words true s.words s)
+
+-- Private: the first word, where there is one.
+abbrev pub first_of : List Word → Option Word
+first_of [] = None
+first_of (word ∷ words) = Some word
+
+-- Private: one more word was done, and what the others will do is the same.
+pub record StepsOn (at_end : Bool) (old new : Scene) : Type 0 where
+  pub all : after_words at_end new.words new ≡ after_words at_end old.words old
+  pub begun : (last : Scene) → AreBegun at_end new.words new last → AreBegun at_end old.words old last
+  pub shorter : length new.words < length old.words
+
+-- Private: no word goes on.
+pub record HasStopped (at_end : Bool) (old new : Scene) : Type 0 where
+  pub same : new ≡ old
+  pub is : new ≡ after_words at_end old.words old

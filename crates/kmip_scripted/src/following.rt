@@ -1,0 +1,238 @@
+//! What an exchange and the end of a run do, word by word.
+ghost use Rattle.std.specs.Prelude.{◌≡◌, ◌⊎◌, [], pos, true, false, Some, None, IfOk, OnErr, OnOk, option_map};
+ghost use Rattle.kmip_messages.specs.Items.{parts_in, replies_in, stops_in};
+ghost use Rattle.kmip_server.specs.Serving.{reply_bytes};
+ghost use Rattle.kmip_schedule.specs.Calm.{AreTaken, Calmly};
+ghost use Rattle.kmip_schedule.specs.Moves.{Delivered};
+ghost use Rattle.kmip_schedule.specs.Past.{Names};
+ghost use Rattle.kmip_scripted.specs.declared.script.Word.TheVariants.{Pass};
+ghost use Rattle.kmip_scripted.specs.Scenes.{WasAsked, past_in};
+ghost use Rattle.kmip_scripted.specs.Serving.{with_served};
+ghost use Rattle.kmip_scripted.specs.Words.{AreBegun, HasStopped, IsBegun, IsPlaying, IsPreparing, StepsOn, after_word, after_run, after_words, before_play, exchange, message_at, play, played, with_delivered};
+ghost use Rattle.kmip_scripted.specs.Wanting.{IsWanting};
+ghost use Rattle.kmip_schedule.specs.Exchanges.{HandsOver, with_asked};
+
+use crate::script::Word;
+use crate::scripted::Scripted;
+use crate::words::goes_on;
+use kmip_schedule::laws::{deliveries_join, deliveries_keep_the_requests};
+use kmip_server::Records;
+use kmip_ttlv::NoMemory;
+use std::alloc::Global;
+
+impl<S: Records> Scripted<S> {
+    /// Delivers the request of a number again, where there is one.
+    fn repeat(&mut self, alloc: Global, number: usize) -> Result<(), NoMemory>
+        ensures ok { OnOk result (self.new
+            ≡ with_delivered (message_at number self.old.asked) self.old) }
+        ensures err { OnErr result (self.new ≡ self.old) }
+        ensures delivered { (names : Names) → Delivered names (past_in self.old) (past_in self.new) }
+    {
+        deliveries_join();
+        let Some(message) = self.copied_request(alloc, number)? else {
+            return Ok(());
+        };
+        self.serve(alloc, message.as_slice())?;
+        Ok(())
+    }
+
+    /// What a word does between two exchanges.
+    fn do_word(&mut self, alloc: Global, word: Word) -> Result<(), NoMemory>
+        ensures ok { OnOk result (self.new ≡ after_word word self.old) }
+        ensures err { OnErr result (self.new ≡ self.old) }
+        ensures delivered { (names : Names) → Delivered names (past_in self.old) (past_in self.new) }
+    {
+        deliveries_join();
+        match word {
+            Word::Again(number) => self.repeat(alloc, number),
+            Word::Pass | Word::LoseRequest | Word::LoseReply => Ok(()),
+            Word::Cut(_) | Word::Stale(_) | Word::Save | Word::Restart(_) => Ok(()),
+        }
+    }
+
+    /// Does the next word and takes it, where it goes on; answers whether it did.
+    fn step(&mut self, alloc: Global, at_end: bool) -> Result<bool, NoMemory>
+        ensures went { IfOk result (λ went. went ≡ true → StepsOn at_end self.old self.new) }
+        ensures stopped { IfOk result (λ went. went ≡ false
+            → HasStopped at_end self.old self.new) }
+        ensures err { OnErr result (self.new ≡ self.old) }
+        ensures delivered { (names : Names) → Delivered names (past_in self.old) (past_in self.new) }
+    {
+        deliveries_join();
+        let Some(word) = self.first_word() else {
+            return Ok(false);
+        };
+        if !goes_on(at_end, word) {
+            return Ok(false);
+        }
+        self.do_word(alloc, word)?;
+        self.take_first();
+        Ok(true)
+    }
+
+    /// Does the words that go on, and takes them.
+    pub(crate) fn do_words(&mut self, alloc: Global, at_end: bool) -> Result<(), NoMemory>
+        ensures ok { OnOk result (self.new ≡ after_words at_end self.old.words self.old) }
+        ensures begun { OnErr result (AreBegun at_end self.old.words self.old self.new) }
+        ensures delivered { (names : Names) → Delivered names (past_in self.old) (past_in self.new) }
+    {
+        deliveries_join();
+        'words: loop {
+            if !self.step(alloc, at_end)? {
+                return Ok(());
+            }
+        }
+    }
+
+    /// What the word of an exchange does, and what it hands over.
+    pub(crate) fn play(
+        &mut self,
+        alloc: Global,
+        word: Word,
+        request: &[u8],
+    ) -> Result<Option<Vec<u8>>, NoMemory>
+        ensures answer { IfOk result (λ answer. option_map (λ v. v.items) answer
+            ≡ (play word request.now self.old).0) }
+        ensures ok { OnOk result (self.new ≡ (play word request.now self.old).1) }
+        ensures err { OnErr result ((self.new ≡ self.old)
+            ⊎ (self.new ≡ (play word request.now self.old).1)) }
+        ensures taken { OnOk result (word ≡ Pass → WasAsked request.now self.old
+            → AreTaken (stops_in request.now) (parts_in request.now)
+            (replies_in (reply_bytes self.old.stock request.now (pos 0)))
+            (past_in self.old) (past_in self.new)) }
+        ensures delivered { (names : Names) → WasAsked request.now self.old
+            → Delivered names (past_in self.old) (past_in self.new) }
+    {
+        deliveries_join();
+        match word {
+            Word::LoseRequest => Ok(None),
+            Word::LoseReply => self.lose_reply(alloc, request),
+            Word::Cut(size) => {
+                if request.len() <= size {
+                    return self.lose_reply(alloc, request);
+                }
+                Ok(None)
+            }
+            Word::Stale(number) => self.copied_reply(alloc, number),
+            Word::Pass | Word::Again(_) | Word::Save | Word::Restart(_) => {
+                self.pass(alloc, request)
+            }
+        }
+    }
+
+    /// Serves the request, and hands nothing over.
+    fn lose_reply(&mut self, alloc: Global, request: &[u8]) -> Result<Option<Vec<u8>>, NoMemory>
+        ensures answer { IfOk result (λ answer. option_map (λ v. v.items) answer ≡ None) }
+        ensures ok { OnOk result (self.new ≡ with_served request.now self.old) }
+        ensures err { OnErr result (self.new ≡ self.old) }
+        ensures delivered { (names : Names) → WasAsked request.now self.old
+            → Delivered names (past_in self.old) (past_in self.new) }
+    {
+        self.serve(alloc, request)?;
+        Ok(None)
+    }
+
+    /// Serves the request, and hands its reply over.
+    fn pass(&mut self, alloc: Global, request: &[u8]) -> Result<Option<Vec<u8>>, NoMemory>
+        ensures answer { IfOk result (λ answer. option_map (λ v. v.items) answer
+            ≡ Some (reply_bytes self.old.stock request.now (pos 0))) }
+        ensures ok { OnOk result (self.new ≡ with_served request.now self.old) }
+        ensures err { OnErr result ((self.new ≡ self.old)
+            ⊎ (self.new ≡ with_served request.now self.old)) }
+        ensures taken { OnOk result (WasAsked request.now self.old
+            → AreTaken (stops_in request.now) (parts_in request.now)
+            (replies_in (reply_bytes self.old.stock request.now (pos 0)))
+            (past_in self.old) (past_in self.new)) }
+        ensures delivered { (names : Names) → WasAsked request.now self.old
+            → Delivered names (past_in self.old) (past_in self.new) }
+    {
+        self.serve(alloc, request)?;
+        let reply = self.copied_reply(alloc, self.count_replies())?;
+        Ok(reply)
+    }
+
+    /// The request joins those asked, and the words that stand before its exchange are done.
+    fn prepare(&mut self, alloc: Global, request: &[u8]) -> Result<(), NoMemory>
+        ensures ok { OnOk result (self.new ≡ before_play request.now self.old) }
+        ensures begun { OnErr result (IsPreparing request.now self.old self.new) }
+        ensures asked { OnOk result (WasAsked request.now self.new) }
+        ensures joined { OnOk result ((names : Names)
+            → Delivered names (with_asked request.now (past_in self.old)) (past_in self.new)) }
+        ensures want { OnErr result ((names : Names) → IsWanting names request.now
+            (past_in self.old) (past_in self.new)) }
+    {
+        deliveries_join();
+        deliveries_keep_the_requests();
+        self.ask(alloc, request)?;
+        self.do_words(alloc, false)?;
+        Ok(())
+    }
+
+    /// Takes the word of the exchange, and does it.
+    fn take_and_play(&mut self, alloc: Global, request: &[u8]) -> Result<Option<Vec<u8>>, NoMemory>
+        ensures answer { IfOk result (λ answer. option_map (λ v. v.items) answer
+            ≡ (played request.now self.old).0) }
+        ensures ok { OnOk result (self.new ≡ (played request.now self.old).1) }
+        ensures begun { OnErr result (IsPlaying request.now self.old self.new) }
+        ensures taken { OnOk result (self.old.words ≡ [] → WasAsked request.now self.old
+            → AreTaken (stops_in request.now) (parts_in request.now)
+            (replies_in (reply_bytes self.old.stock request.now (pos 0)))
+            (past_in self.old) (past_in self.new)) }
+        ensures delivered { (names : Names) → WasAsked request.now self.old
+            → Delivered names (past_in self.old) (past_in self.new) }
+    {
+        let word = self.take_word();
+        let answer = self.play(alloc, word, request)?;
+        Ok(answer)
+    }
+
+    /// Exchanges a message: what each word of the script does that stands next, up to that of an
+    /// exchange.
+    ///
+    /// # Errors
+    /// Where there is no memory; a beginning of the steps was done.
+    pub fn follow(&mut self, alloc: Global, request: &[u8]) -> Result<Option<Vec<u8>>, NoMemory>
+        ensures answer { IfOk result (λ answer. option_map (λ v. v.items) answer
+            ≡ (exchange request.now self.old).0) }
+        ensures exact { OnOk result (self.new ≡ (exchange request.now self.old).1) }
+        ensures begun { OnErr result (IsBegun request.now self.old self.new) }
+        ensures hands { IfOk result (λ answer. (names : Names) → HandsOver names (past_in self.old)
+            request.now (option_map (λ v. v.items) answer) (past_in self.new)) }
+        ensures want { OnErr result ((names : Names) → IsWanting names request.now
+            (past_in self.old) (past_in self.new)) }
+        ensures calmly { IfOk result (λ answer. self.old.words ≡ [] → Calmly (past_in self.old)
+            request.now (option_map (λ v. v.items) answer) (past_in self.new)) }
+        ensures stays { self.old.words ≡ [] → self.new.words ≡ [] }
+    {
+        deliveries_join();
+        self.prepare(alloc, request)?;
+        let answer = self.take_and_play(alloc, request)?;
+        self.hand_over(alloc, request, bytes_of(&answer))?;
+        Ok(answer)
+    }
+
+    /// Ends a run: what is left of its words is done or dropped, and the word that ends it is taken.
+    ///
+    /// # Errors
+    /// Where there is no memory; a beginning of the steps was done.
+    pub fn finish_run(&mut self, alloc: Global) -> Result<(), NoMemory>
+        ensures exact { OnOk result (self.new ≡ after_run self.old) }
+        ensures begun { OnErr result (AreBegun true self.old.words self.old self.new) }
+        ensures delivered { (names : Names) → Delivered names (past_in self.old) (past_in self.new) }
+        ensures calm { self.old.words ≡ [] → self.new ≡ self.old }
+    {
+        self.do_words(alloc, true)?;
+        self.take_ending();
+        Ok(())
+    }
+}
+
+/// The bytes of a message, where there is one.
+fn bytes_of(message: &Option<Vec<u8>>) -> Option<&[u8]>
+    ensures { option_map (λ b. b.now) result ≡ option_map (λ v. v.items) message.now }
+{
+    match message {
+        Some(message) => Some(message.as_slice()),
+        None => None,
+    }
+}

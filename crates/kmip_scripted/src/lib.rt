@@ -1,0 +1,18 @@
+//! A link to a server in memory, which follows a script: what is lost, delayed and repeated, and
+//! where a run ends.
+#![tactic(auto)]
+
+mod effects;
+mod fault;
+mod following;
+mod link;
+mod reading;
+mod script;
+mod scripted;
+mod serving;
+mod words;
+
+pub use fault::ScriptFault;
+pub use reading::read_script;
+pub use script::{Script, Word};
+pub use scripted::Scripted;

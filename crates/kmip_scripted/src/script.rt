@@ -1,0 +1,64 @@
+//! A script, word by word.
+ghost use Rattle.std.specs.Prelude.{◌≡◌};
+
+use std::marker::Model;
+
+/// What a word of a script makes of an exchange, or between two of them. A number is of 1 to 6 digits
+/// where it was read; requests, replies and saves are counted from 1.
+#[derive(Clone, Copy, Debug, PartialEq, Eq)]
+pub enum Word {
+    /// The request is delivered, and its reply handed over.
+    Pass,
+    /// The request is lost before it is delivered.
+    LoseRequest,
+    /// The request is delivered, and its reply lost.
+    LoseReply,
+    /// Only so many bytes of the request arrive, and then the connection ends.
+    Cut(usize),
+    /// The request is not delivered, and the reply of this number is handed over.
+    Stale(usize),
+    /// The request of this number is delivered again, and its reply kept. Ends no exchange.
+    Again(usize),
+    /// The run ends and is saved; the next one goes on from there.
+    Save,
+    /// The run ends unsaved; the next one starts from the save of this number, or from nothing.
+    Restart(Option<usize>),
+}
+
+/// What a link is to do, in order. A contract sees the list of its words.
+#[derive(Debug, Drop)]
+pub struct Script {
+    words: Vec<Word>,
+}
+
+impl Model for Script {
+    ghost use Rattle.std.specs.Prelude.{List};
+    ghost use Rattle.kmip_scripted.specs.declared.script.Word.{Word as WordLem};
+
+    ghost Value = { List WordLem };
+
+    ghost view = { λ s. s.words.items };
+}
+
+impl Script {
+    /// A script of these words. Takes no memory.
+    pub fn new(words: Vec<Word>) -> Self
+        ensures { result ≡ words.items }
+    {
+        Script { words }
+    }
+
+    /// Its words, in order.
+    pub fn words(&self) -> &[Word]
+        ensures { result.now ≡ self.now }
+    {
+        self.words.as_slice()
+    }
+
+    /// Its words as a vector. Takes no memory.
+    pub fn into_words(self) -> Vec<Word>
+        ensures { result.items ≡ self }
+    {
+        self.words
+    }
+}

@@ -1,0 +1,262 @@
+//! A link in memory that follows a script.
+ghost use Rattle.std.specs.Prelude.{◌≡◌, ◌++◌, [], ◌∷◌, pos, drop, length, IfOk, OnErr, OnOk, option_map};
+ghost use Rattle.kmip_messages.specs.Items.{parts_in, replies_in, stops_in};
+ghost use Rattle.kmip_messages.specs.Whole.{request_read};
+ghost use Rattle.kmip_server.specs.Messages.{AreServed};
+ghost use Rattle.kmip_server.specs.Serving.{reply_bytes, reply_to};
+ghost use Rattle.kmip_server.specs.Shown.{HasLawfulObjects};
+ghost use Rattle.kmip_schedule.specs.Calm.{AreTaken};
+ghost use Rattle.kmip_schedule.specs.Moves.{Delivered};
+ghost use Rattle.kmip_schedule.specs.Past.{Names};
+ghost use Rattle.kmip_scripted.specs.Scenes.{WasAsked, past_in, scene_of};
+ghost use Rattle.kmip_scripted.specs.Serving.{with_served};
+ghost use Rattle.kmip_scripted.specs.Words.{exchange_word, first_of, message_at, next_words, with_request, with_words, words_after_exchange, words_after_run};
+
+use crate::script::{Script, Word};
+use crate::serving::serve_logged;
+use crate::words::{first_word, take_ending_word, take_exchange_word, take_restarts};
+use kmip_messages::laws::question_laws;
+use kmip_schedule::Effect;
+use kmip_schedule::laws::{deliveries_join, what_is_done_joins, what_is_taken_is_delivered};
+use kmip_server::{Records, Server};
+use kmip_ttlv::{Bytes, NoMemory};
+use std::alloc::Global;
+use std::collections::VecDeque;
+use std::marker::Model;
+
+/// A server in memory and the link to it, which follows a script. A contract sees the records of the
+/// server, all that was asked, given, done, sent and handed over, and the words that are left.
+#[derive(Drop)]
+pub struct Scripted<S: Records> {
+    server: Server<S>,
+    asked: Vec<Bytes>,
+    given: Vec<Bytes>,
+    effects: Vec<Effect>,
+    sent: Vec<Bytes>,
+    handed: Vec<Option<Bytes>>,
+    words: VecDeque<Word>,
+}
+
+impl<S: Records> Model for Scripted<S> {
+    ghost use Rattle.kmip_scripted.specs.Scenes.{Scene};
+
+    ghost Value = { Scene };
+
+    ghost view = { λ s. record {
+      stock = s.server;
+      asked = s.asked.items;
+      given = s.given.items;
+      effects = s.effects.items;
+      sent = s.sent.items;
+      handed = s.handed.items;
+      words = s.words.items;
+    } };
+}
+
+impl<S: Records> Scripted<S> {
+    /// A link to this server, over which nothing has happened yet. Takes no memory.
+    pub fn new(alloc: Global, server: Server<S>, script: Script) -> Self
+        ensures { result ≡ scene_of server (next_words script) }
+    {
+        let mut words = VecDeque::from_vec(script.into_words());
+        take_restarts(&mut words);
+        Scripted {
+            server,
+            asked: Vec::new(alloc),
+            given: Vec::new(alloc),
+            effects: Vec::new(alloc),
+            sent: Vec::new(alloc),
+            handed: Vec::new(alloc),
+            words,
+        }
+    }
+
+    /// The bytes of the request of this number, from 1, among those ever asked.
+    pub fn request(&self, number: usize) -> Option<&[u8]>
+        ensures { option_map (λ message. message.now) result ≡ message_at number self.now.asked }
+    {
+        message_at(self.asked.as_slice(), number)
+    }
+
+    /// The bytes of the reply of this number, from 1, among those ever given.
+    pub fn reply(&self, number: usize) -> Option<&[u8]>
+        ensures { option_map (λ message. message.now) result ≡ message_at number self.now.given }
+    {
+        message_at(self.given.as_slice(), number)
+    }
+
+    /// The server.
+    pub fn server(&self) -> &Server<S>
+        ensures { result.now ≡ self.now.stock }
+    {
+        &self.server
+    }
+
+    /// The request joins those asked.
+    pub(crate) fn ask(&mut self, alloc: Global, request: &[u8]) -> Result<(), NoMemory>
+        ensures ok { OnOk result (self.new ≡ with_request request.now self.old) }
+        ensures err { OnErr result (self.new ≡ self.old) }
+    {
+        let request = Bytes::copied(alloc, request)?;
+        self.asked.push(request)?;
+        Ok(())
+    }
+
+    /// Serves a message.
+    ///
+    /// # Errors
+    /// Where there is no memory; all is then as it was.
+    pub(crate) fn serve(&mut self, alloc: Global, message: &[u8]) -> Result<(), NoMemory>
+        ensures ok { OnOk result (self.new ≡ with_served message.now self.old) }
+        ensures err { OnErr result (self.new ≡ self.old) }
+        ensures taken { OnOk result (WasAsked message.now self.old
+            → AreTaken (stops_in message.now) (parts_in message.now)
+            (replies_in (reply_bytes self.old.stock message.now (pos 0)))
+            (past_in self.old) (past_in self.new)) }
+        ensures delivered { (names : Names) → WasAsked message.now self.old
+            → Delivered names (past_in self.old) (past_in self.new) }
+    {
+        question_laws();
+        what_is_done_joins();
+        what_is_taken_is_delivered();
+        deliveries_join();
+        self.log(alloc, message)?;
+        Ok(())
+    }
+
+    /// The same, by the records and the lists alone.
+    fn log(&mut self, alloc: Global, message: &[u8]) -> Result<(), NoMemory>
+        ensures ok { OnOk result (self.new ≡ with_served message.now self.old) }
+        ensures err { OnErr result (self.new ≡ self.old) }
+        ensures served { OnOk result (AreServed (stops_in message.now) (parts_in message.now)
+            (replies_in (reply_bytes self.old.stock message.now (pos 0)))
+            self.old.stock self.new.stock) }
+        ensures says { OnOk result (replies_in (reply_bytes self.old.stock message.now (pos 0))
+            ≡ reply_to self.old.stock (request_read message.now) ∷ []) }
+        ensures lawful { OnOk result (HasLawfulObjects self.old.stock) }
+    {
+        serve_logged(
+            alloc,
+            &mut self.server,
+            &mut self.given,
+            &mut self.effects,
+            message,
+        )?;
+        Ok(())
+    }
+
+    /// How many replies were ever given.
+    pub(crate) fn count_replies(&self) -> usize
+        ensures { result ≡ length self.now.given }
+    {
+        self.given.as_slice().len()
+    }
+
+    /// The first of the words that are left.
+    pub(crate) fn first_word(&self) -> Option<Word>
+        ensures { result ≡ first_of self.now.words }
+    {
+        first_word(&self.words)
+    }
+
+    /// Takes the first word.
+    pub(crate) fn take_first(&mut self)
+        ensures { self.new ≡ with_words (drop 1 self.old.words) self.old }
+    {
+        let _taken = self.words.pop_front();
+    }
+
+    /// Takes the word of the next exchange.
+    pub(crate) fn take_word(&mut self) -> Word
+        ensures word { result ≡ exchange_word self.old.words }
+        ensures rest { self.new ≡ with_words (words_after_exchange self.old.words) self.old }
+    {
+        take_exchange_word(&mut self.words)
+    }
+
+    /// Takes the word that ends the run.
+    pub(crate) fn take_ending(&mut self)
+        ensures { self.new ≡ with_words (words_after_run self.old.words) self.old }
+    {
+        take_ending_word(&mut self.words);
+    }
+
+    /// A copy of the request of this number.
+    pub(crate) fn copied_request(
+        &self,
+        alloc: Global,
+        number: usize,
+    ) -> Result<Option<Vec<u8>>, NoMemory>
+        ensures { IfOk result (λ m. option_map (λ v. v.items) m ≡ message_at number self.now.asked) }
+    {
+        copied(alloc, self.request(number))
+    }
+
+    /// A copy of the reply of this number.
+    pub(crate) fn copied_reply(
+        &self,
+        alloc: Global,
+        number: usize,
+    ) -> Result<Option<Vec<u8>>, NoMemory>
+        ensures { IfOk result (λ m. option_map (λ v. v.items) m ≡ message_at number self.now.given) }
+    {
+        copied(alloc, self.reply(number))
+    }
+
+    /// Keeps what was sent and what is handed over.
+    pub(crate) fn hand_over(
+        &mut self,
+        alloc: Global,
+        request: &[u8],
+        answer: Option<&[u8]>,
+    ) -> Result<(), NoMemory>
+        ensures ok { OnOk result (self.new ≡ record self.old {
+          sent = self.old.sent ++ request.now ∷ [];
+          handed = self.old.handed ++ option_map (λ m. m.now) answer.entry ∷ [];
+        }) }
+        ensures err { OnErr result (self.new ≡ self.old) }
+    {
+        let sent = Bytes::copied(alloc, request)?;
+        let handed = copied_bytes(alloc, answer)?;
+        self.sent.reserve(1)?;
+        self.handed.reserve(1)?;
+        self.sent.push_reserved(sent);
+        self.handed.push_reserved(handed);
+        Ok(())
+    }
+}
+
+/// The message of a number, from 1.
+fn message_at(messages: &[Bytes], number: usize) -> Option<&[u8]>
+    ensures { option_map (λ message. message.now) result ≡ message_at number messages.now }
+{
+    if number == 0 {
+        return None;
+    }
+    let Some(message) = messages.get(number - 1) else {
+        return None;
+    };
+    Some(message.as_slice())
+}
+
+/// A copy of a message, where there is one.
+fn copied(alloc: Global, message: Option<&[u8]>) -> Result<Option<Vec<u8>>, NoMemory>
+    ensures { IfOk result (λ m. option_map (λ v. v.items) m ≡ option_map (λ b. b.now) message.entry) }
+{
+    let Some(message) = message else {
+        return Ok(None);
+    };
+    let copy = Vec::from_slice(alloc, message)?;
+    Ok(Some(copy))
+}
+
+/// The same, as bytes.
+fn copied_bytes(alloc: Global, message: Option<&[u8]>) -> Result<Option<Bytes>, NoMemory>
+    ensures { IfOk result (λ m. m ≡ option_map (λ b. b.now) message.entry) }
+{
+    let Some(message) = message else {
+        return Ok(None);
+    };
+    let copy = Bytes::copied(alloc, message)?;
+    Ok(Some(copy))
+}

@@ -1,0 +1,84 @@
+//! The words of a script that are left, as they are taken.
+ghost use Rattle.std.specs.Prelude.{◌≡◌};
+ghost use Rattle.kmip_scripted.specs.Words.{exchange_word, first_of, goes_on, is_exchange, is_restart, next_words, words_after_exchange, words_after_run};
+
+use crate::script::Word;
+use std::collections::VecDeque;
+
+/// Whether the word starts the next run from a save or from nothing.
+fn is_restart(word: Word) -> bool
+    ensures { result ≡ is_restart word }
+{
+    match word {
+        Word::Restart(_) => true,
+        Word::Pass | Word::LoseRequest | Word::LoseReply | Word::Save => false,
+        Word::Cut(_) | Word::Stale(_) | Word::Again(_) => false,
+    }
+}
+
+/// Whether the word is of an exchange.
+fn is_exchange(word: Word) -> bool
+    ensures { result ≡ is_exchange word }
+{
+    match word {
+        Word::Pass | Word::LoseRequest | Word::LoseReply => true,
+        Word::Cut(_) | Word::Stale(_) => true,
+        Word::Again(_) | Word::Save | Word::Restart(_) => false,
+    }
+}
+
+/// Whether the word is done without an exchange: before one, or at the end of a run.
+pub(crate) fn goes_on(at_end: bool, word: Word) -> bool
+    ensures { result ≡ goes_on at_end word }
+{
+    match word {
+        Word::Pass | Word::LoseRequest | Word::LoseReply => at_end,
+        Word::Cut(_) | Word::Stale(_) => at_end,
+        Word::Again(_) => true,
+        Word::Save | Word::Restart(_) => false,
+    }
+}
+
+/// The first word.
+pub(crate) fn first_word(words: &VecDeque<Word>) -> Option<Word>
+    ensures { result ≡ first_of words.now.items }
+{
+    words.front().copied()
+}
+
+/// Takes the word of the next exchange, which is `pass` where none is left in the run.
+pub(crate) fn take_exchange_word(words: &mut VecDeque<Word>) -> Word
+    ensures word { result ≡ exchange_word words.old.items }
+    ensures rest { words.new.items ≡ words_after_exchange words.old.items }
+{
+    let Some(word) = first_word(words) else {
+        return Word::Pass;
+    };
+    if !is_exchange(word) {
+        return Word::Pass;
+    }
+    let _taken = words.pop_front();
+    word
+}
+
+/// Takes the word that ends the run, and those of parts that are no runs.
+pub(crate) fn take_ending_word(words: &mut VecDeque<Word>)
+    ensures { words.new.items ≡ words_after_run words.old.items }
+{
+    let Some(_word) = words.pop_front() else {
+        return;
+    };
+    take_restarts(words);
+}
+
+/// Takes the words of parts that are no runs.
+pub(crate) fn take_restarts(words: &mut VecDeque<Word>)
+    ensures { words.new.items ≡ next_words words.old.items }
+{
+    while let Some(word) = first_word(words) {
+        if !is_restart(word) {
+            return;
+        }
+        let _taken = words.pop_front();
+    }
+}
