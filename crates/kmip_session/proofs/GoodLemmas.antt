@@ -1,6 +1,7 @@
 -- What is good stays so over an exchange.
 use Rattle.std.proofs.Common.{◌≡◌, ℕ, List, [], ◌∷◌, Option, Some, None, Result, IfSome, option_map, sym, subst, refl, ◌∙◌, arith}
 use Rattle.std.specs.List.{AllZip}
+use Rattle.kmip_messages.specs.Objects.{Object}
 use Rattle.kmip_plan.specs.Plans.{IsLawful}
 use Rattle.kmip_plan.specs.declared.key.Key.{Key}
 use Rattle.kmip_client.specs.Clients.{ClientState, after_ask}
@@ -9,6 +10,7 @@ use Rattle.kmip_client.specs.Justified.{JustifiedMessage}
 use Rattle.kmip_client.specs.Shapes.{IsKept}
 use Rattle.kmip_client.specs.Truth.{TrueMessage}
 use Rattle.kmip_client.specs.declared.knowledge.Knowledge.{Knowledge}
+use Rattle.kmip_client.specs.declared.question.Question.{Question}
 use Rattle.kmip_schedule.specs.Exchanges.{AreGiven, Exchanged}
 use Rattle.kmip_schedule.specs.Past.{Names, Past, is_planned}
 use Rattle.kmip_schedule.specs.Sound.{Sound}
@@ -65,9 +67,15 @@ if_handed P None bytes so = tt
 if_handed P (Some x) bytes so = so
 
 module _ {L : Type 0} (past : L → Past) (honest : L → Names → Type 0) where
-  pub good_asked : (c next : ClientState) (link : L) → next ≡ after_ask c → IsGood past honest c link → IsGood past honest next link
-  good_asked c next link is good =
-      subst (λ n. IsGood past honest n link) (sym is) (record { honest_for = good.honest_for; sound = good.sound; held = good.held })
+  -- what is good is good once the question is asked, and the question may be
+  pub good_asked : (c next : ClientState) (link : L) (asked : Option Question) (question : Question) → next ≡ after_ask c → asked ≡ Some question
+      → ((objects : List Object) → Held objects c.keys c.knowns → IfSome asked (λ q. JustifiedMessage c.keys objects q.bytes)) → IsGood past honest c link
+      → IsGood past honest next link × JustifiedMessage next.keys (past link).objects question.bytes
+  good_asked c next link asked question is some may good =
+      let objects = (past link).objects in
+      let just = subst (λ o. IfSome o (λ q. JustifiedMessage c.keys objects q.bytes)) some (may objects good.held) in
+      subst (λ n. IsGood past honest n link × JustifiedMessage n.keys objects question.bytes) (sym is)
+      (record { honest_for = good.honest_for; sound = good.sound; held = good.held }, just)
 
   -- what an exchange leaves: all is sound still, and what was known is true still
   pub record Left (c : ClientState) (old new : L) : Type 0 where

@@ -1,7 +1,6 @@
 -- Asking changes whose turn it is, and nothing else.
 use Rattle.std.proofs.Common.{IfSome, subst, sym}
 use Rattle.kmip_client.specs.Clients.{ClientState}
-use Rattle.kmip_client.specs.Justified.{JustifiedMessage}
 use Rattle.kmip_session.specs.Driving.{Keeps, Learnt, WentOn}
 use Rattle.kmip_session.proofs.GoodLemmas.{good_asked, keeps_asked, keeps_itself}
 use Rattle.kmip_session.proofs.KnownLemmas.{learnt_nothing}
@@ -23,23 +22,16 @@ returns-in_default-clause-kept g c = keeps_asked c.args.client.now c.ask.new.sel
 
 pub returns-clause-good : goal.returns-clause-good
 returns-clause-good g c = λ good.
-    let past = g.L.Link.past in
-    let asked = good_asked past g.L.Link.honest c.args.client.now c.ask.new.self c.args.link.now c.in_ok-question.ensures.turn good in
-    let objects = (past c.args.link.now).objects in
-    let just =
-    subst (λ question. IfSome question (λ q. JustifiedMessage c.args.client.now.keys objects q.bytes)) c.in-Some.is
-    (c.in_ok-question.ensures.justified objects good.held) in
-    (c.put.ensures.good asked
-    (subst (λ (s : ClientState). JustifiedMessage s.keys objects c.in-Some.question.bytes) (sym c.in_ok-question.ensures.turn) just)).0
+    let asked =
+        good_asked g.L.Link.past g.L.Link.honest c.args.client.now c.ask.new.self c.args.link.now _ c.in-Some.question c.in_ok-question.ensures.turn
+        c.in-Some.is c.in_ok-question.ensures.justified good in
+    (c.put.ensures.good asked.0 asked.1).0
 
 pub returns-clause-goes : goal.returns-clause-goes
 returns-clause-goes g c = λ good.
     let past = g.L.Link.past in
-    let asked = good_asked past g.L.Link.honest c.args.client.now c.ask.new.self c.args.link.now c.in_ok-question.ensures.turn good in
-    let objects = (past c.args.link.now).objects in
-    let just =
-    subst (λ question. IfSome question (λ q. JustifiedMessage c.args.client.now.keys objects q.bytes)) c.in-Some.is
-    (c.in_ok-question.ensures.justified objects good.held) in
+    let asked =
+        good_asked past g.L.Link.honest c.args.client.now c.ask.new.self c.args.link.now _ c.in-Some.question c.in_ok-question.ensures.turn c.in-Some.is
+        c.in_ok-question.ensures.justified good in
     subst (λ (s : ClientState). WentOn s.keys (past c.args.link.now) (past c.put.new.link)) c.in_ok-question.ensures.turn
-    (c.put.ensures.good asked
-    (subst (λ (s : ClientState). JustifiedMessage s.keys objects c.in-Some.question.bytes) (sym c.in_ok-question.ensures.turn) just)).1
+    (c.put.ensures.good asked.0 asked.1).1
