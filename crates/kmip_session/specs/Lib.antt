@@ -4,3 +4,5 @@ pub mod Turns
 pub mod Driving
 pub mod Reporting
 pub mod Lawbook
+pub mod Campaign
+pub mod CampaignParts
