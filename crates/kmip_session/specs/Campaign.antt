@@ -1,6 +1,6 @@
 -- Runs in turn: what their ends report, and what is to hold of each end.
 -- Source: own.
-use Rattle.std.specs.Prelude.{◌≡◌, ◌≢◌, ◌≤◌, ℕ, Bool, List, [], ◌∷◌, ◌++◌, map, take, flat_map, ⊥, string_bytes}
+use Rattle.std.specs.Prelude.{◌≡◌, ◌≢◌, ◌≤◌, ℕ, Bool, List, [], ◌∷◌, ◌++◌, map, take, flat_map, string_bytes}
 use Rattle.std.specs.List.{All}
 use Rattle.kmip_plan.specs.Chains.{chain}
 use Rattle.kmip_plan.specs.declared.key.Key.{Key}

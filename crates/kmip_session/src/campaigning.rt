@@ -1,10 +1,9 @@
 //! Runs in turn over one link, each from nothing, from the run before it or from a saved progress.
 ghost use Rattle.std.specs.Prelude.{◌≡◌, ◌≢◌, ◌≤◌, ◌⊎◌, ℕ, List, [], length, filter, take, None, Ok, IfOk, OnErr, OnOk, IfSome, false};
-ghost use Rattle.std.specs.List.{All, AllZip};
+ghost use Rattle.std.specs.List.{All, AllZip, Contains};
 ghost use Rattle.kmip_messages.specs.Objects.{Object};
 ghost use Rattle.kmip_client.specs.Held.{Held, TrueProgress};
 ghost use Rattle.kmip_progress.specs.Suiting.{Suits};
-ghost use Rattle.kmip_progress.specs.declared.known.Known.{Known};
 ghost use Rattle.kmip_schedule.specs.Machine.{IsMirrored};
 ghost use Rattle.kmip_schedule.specs.Moves.{Delivered};
 ghost use Rattle.kmip_schedule.specs.Past.{Past, Names, is_planned};
@@ -204,19 +203,18 @@ fn begin<'p>(
         → Held objects client.old.keys client.old.knowns
         → Held objects client.new.keys client.new.knowns }
 {
-    let restarted = match start {
+    let number = match start {
         Start::Same => return Ok(()),
-        Start::Fresh => client_for(alloc, plan, None),
-        Start::Saved(number) => client_for(alloc, plan, saved_at(saved, number)),
+        Start::Fresh => 0,
+        Start::Saved(number) => number,
     };
-    *client = restarted?;
+    *client = client_from(alloc, plan, saved, number)?;
     Ok(())
 }
 
 /// The saved progress of a number, from 1.
 fn saved_at(saved: &[Progress], number: usize) -> Option<&Progress>
-    ensures { (P : List Known → Type 0) → All P saved.now
-        → IfSome result (λ progress. P progress.now) }
+    ensures { IfSome result (λ progress. Contains saved.now progress.now) }
 {
     if number == 0 {
         return None;
@@ -224,22 +222,23 @@ fn saved_at(saved: &[Progress], number: usize) -> Option<&Progress>
     saved.get(number - 1)
 }
 
-/// A client that begins with a saved progress, or with nothing.
+/// A client that begins with the saved progress of a number, from 1, or with nothing where there is
+/// none.
 ///
 /// # Errors
 /// Where there is no memory for it.
-fn client_for<'p>(
+fn client_from<'p>(
     alloc: Global,
     plan: &'p Plan,
-    saved: Option<&Progress>,
+    saved: &[Progress],
+    number: usize,
 ) -> Result<Client<'p>, NoMemory>
-    requires { IfSome saved (λ progress. Suits plan.now progress.now) }
+    requires { All (Suits plan.now) saved.now }
     ensures keys { IfOk result (λ client. client.keys ≡ plan.now) }
-    ensures held { (objects : List Object)
-        → IfSome saved (λ progress. TrueProgress objects plan.now progress.now)
+    ensures held { (objects : List Object) → All (TrueProgress objects plan.now) saved.now
         → IfOk result (λ client. Held objects client.keys client.knowns) }
 {
-    match saved {
+    match saved_at(saved, number) {
         Some(progress) => Client::resume(alloc, plan, progress),
         None => Client::fresh(alloc, plan),
     }
