@@ -1,8 +1,8 @@
 -- What is noted at the ends of runs was reached, and stays so.
-use Rattle.std.proofs.Common.{◌≡◌, ◌≢◌, ◌≤◌, ◌<◌, ℕ, zero, suc, ◌+◌, List, [], ◌∷◌, ◌++◌, Bool, map, take, length, flat_map, slice_get, Option, Some, None, IfSome, nat_le, sym, ap, subst, refl, ◌∙◌, inl, inr, arith}
-use Rattle.std.specs.List.{All, AllZip, Contains}
+use Rattle.std.proofs.Common.{◌≡◌, ◌≢◌, ◌≤◌, ◌<◌, ℕ, zero, suc, List, [], ◌∷◌, ◌++◌, map, take, flat_map, slice_get, Some, None, nat_le, sym, subst, refl, ◌∙◌, inl, inr, arith}
+use Rattle.std.specs.List.{All, AllZip}
 use Rattle.std.proofs.lemmas.Bool.{cases_Bool}
-use Rattle.std.proofs.lemmas.List.Elements.{All-append, All-cons, All-contains, All-head, All-nil, All-push, All-tail, All-weaker}
+use Rattle.std.proofs.lemmas.List.Elements.{All-append, All-cons, All-head, All-nil, All-push, All-tail, All-weaker}
 use Rattle.kmip_messages.specs.Objects.{Object}
 use Rattle.kmip_messages.specs.declared.step.Step.{Step}
 use Rattle.kmip_plan.specs.Chains.{chain, step_at, step_place}
@@ -12,10 +12,9 @@ use Rattle.kmip_plan.specs.declared.target.Target.{Target}
 use Rattle.kmip_progress.specs.declared.known.Known.{Known}
 use Rattle.kmip_client.specs.Clients.{ClientState}
 use Rattle.kmip_client.specs.Held.{Held, TrueOf, TrueProgress}
-use Rattle.kmip_client.specs.Knowledge.{chain_length, clash_verdict, verdict_of}
+use Rattle.kmip_client.specs.Knowledge.{chain_length, verdict_of}
 use Rattle.kmip_client.specs.Places.{Onward, position}
 use Rattle.kmip_client.specs.Standing.{counts_of, verdicts_of}
-use Rattle.kmip_client.specs.declared.clash.Clash.{Clash}
 use Rattle.kmip_client.specs.declared.knowledge.Knowledge.{Knowledge}
 use Rattle.kmip_schedule.specs.Laws.{IsReached}
 use Rattle.kmip_schedule.specs.Moves.{Delivered}
@@ -213,20 +212,20 @@ module _ {L : Type 0} (past : L → Past) (honest : L → Names → Type 0) wher
       → Held (past x).objects c.keys c.knowns → ends ≡ [] → saved ≡ [] → GoodLink past honest keys x
       → Standing past honest keys c x ends saved × WentOn keys (past x) (past x)
   opened l keys c x ends saved c_keys held no_end none_saved good = (
-      record {
-        good = record {
-          honest_for = subst (λ ks. honest x (is_planned ks)) (sym c_keys) good.honest_for;
-          sound = subst (λ ks. Sound ks (past x)) (sym c_keys) good.sound;
-          held = held;
-        };
-        noted = rw (no_end, none_saved) (record {
-          reached = All-nil (λ (e : RunEnd). AllZip (Reaches (past x).objects) keys e.counts.items);
-          no_conflict = All-nil HasNoConflict;
-          true_saved = All-nil (TrueProgress (past x).objects keys);
-        });
-      },
-      record { onward = l.itself keys (past x).objects; mirrored = λ image. image },
-    )
+    record {
+      good = record {
+        honest_for = subst (λ ks. honest x (is_planned ks)) (sym c_keys) good.honest_for;
+        sound = subst (λ ks. Sound ks (past x)) (sym c_keys) good.sound;
+        held = held;
+      };
+      noted = rw (no_end, none_saved) (record {
+        reached = All-nil (λ (e : RunEnd). AllZip (Reaches (past x).objects) keys e.counts.items);
+        no_conflict = All-nil HasNoConflict;
+        true_saved = All-nil (TrueProgress (past x).objects keys);
+      });
+    },
+    record { onward = l.itself keys (past x).objects; mirrored = λ image. image },
+  )
 
   pub campaigned : (keys : List Key) (c : ClientState) (x y : L) (ends : List RunEnd) (saved : List (List Known)) → c.keys ≡ keys
       → Standing past honest keys c y ends saved × WentOn keys (past x) (past y) → Campaigned past honest keys x y ends saved

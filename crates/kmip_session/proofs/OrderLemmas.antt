@@ -1,11 +1,11 @@
 -- The ends of runs, one for each run in turn.
-use Rattle.std.proofs.Common.{◌≡◌, ◌≢◌, ◌≤◌, ◌<◌, ℕ, zero, suc, ◌+◌, ◌⊎◌, Bool, true, false, List, [], ◌∷◌, ◌++◌, take, filter, length, slice_get, Option, Some, sym, ap, subst, refl, ◌∙◌, inl, inr, arith, cond}
+use Rattle.std.proofs.Common.{◌≡◌, ◌≢◌, ◌≤◌, ◌<◌, ℕ, zero, suc, ◌+◌, Bool, true, false, List, [], ◌∷◌, ◌++◌, take, filter, length, slice_get, Some, sym, ap, subst, refl, ◌∙◌, inl, inr, arith}
 use Rattle.std.specs.List.{All, AllZip}
 use Rattle.std.proofs.lemmas.Bool.{cases_Bool}
 use Rattle.std.proofs.lemmas.List.{length-append}
 use Rattle.std.proofs.lemmas.List.Elements.{All-cons, All-nil, filter-append}
 use Rattle.kmip_plan.specs.declared.key.Key.{Key}
-use Rattle.kmip_client.specs.Clients.{AreSettled, NoneWorks, one_if, verdict_at}
+use Rattle.kmip_client.specs.Clients.{one_if, verdict_at}
 use Rattle.kmip_client.specs.Knowledge.{verdict_of}
 use Rattle.kmip_client.specs.Standing.{verdicts_of}
 use Rattle.kmip_client.specs.declared.knowledge.Knowledge.{Knowledge}
@@ -13,7 +13,7 @@ use Rattle.kmip_client.specs.declared.knowledge.Verdict.{Verdict}
 use Rattle.kmip_client.specs.declared.knowledge.Verdict.TheVariants.{Working, Finished}
 use Rattle.kmip_session.specs.Campaign.{IsEnd, StopsSo, saves}
 use Rattle.kmip_session.specs.CampaignParts.{IsEndOf, IsNoted, MayHaveEnded}
-use Rattle.kmip_session.specs.Driving.{AreFinished, Stands}
+use Rattle.kmip_session.specs.Driving.{Stands}
 use Rattle.kmip_session.specs.declared.campaigning.Run.{Run}
 use Rattle.kmip_session.specs.declared.campaigning.RunEnd.{RunEnd}
 use Rattle.kmip_session.specs.declared.stop.Stop.{Stop}

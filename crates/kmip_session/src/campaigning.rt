@@ -11,7 +11,14 @@ ghost use Rattle.kmip_schedule.specs.Safe.{Safe};
 ghost use Rattle.kmip_schedule.specs.Sound.{Opening};
 ghost use Rattle.kmip_session.specs.Campaign.{GoodLink, HasNoConflict, IsEnd, reported, saves};
 ghost use Rattle.kmip_session.specs.CampaignParts.{
-  CampaignLaws, Campaigned, HasEnded, IsEndOf, IsNoted, MayHaveEnded, Noted, Standing,
+  CampaignLaws,
+  Campaigned,
+  HasEnded,
+  IsEndOf,
+  IsNoted,
+  MayHaveEnded,
+  Noted,
+  Standing,
 };
 ghost use Rattle.kmip_session.specs.Driving.{Stands, WentOn};
 
@@ -24,8 +31,7 @@ use kmip_plan::Plan;
 use kmip_plan::laws::{keys_have_names, steps_have_places};
 use kmip_progress::Progress;
 use kmip_schedule::laws::{
-    deliveries_keep_sound, objects_go_onward, opening_is_mirrored, sound_is_safe,
-    the_image_is_kept,
+    deliveries_keep_sound, objects_go_onward, opening_is_mirrored, sound_is_safe, the_image_is_kept,
 };
 use kmip_schedule::{Link, LinkFault};
 use kmip_ttlv::NoMemory;
@@ -280,11 +286,7 @@ fn finish(
 ///
 /// # Errors
 /// Where there is no memory, or was none in the run.
-fn end_of(
-    alloc: Global,
-    client: &Client<'_>,
-    driven: (Stop, usize),
-) -> Result<RunEnd, NoMemory>
+fn end_of(alloc: Global, client: &Client<'_>, driven: (Stop, usize)) -> Result<RunEnd, NoMemory>
     ensures { IfOk result (IsEndOf client.now.keys client.now.knowns driven.0 driven.1) }
 {
     let (stop, exchanges) = driven;

@@ -1,5 +1,5 @@
 -- The end is noted, and then what is saved.
-use Rattle.std.proofs.Common.{◌≡◌, subst, sym, inr}
+use Rattle.std.proofs.Common.{subst, sym, inr}
 use Rattle.kmip_session.specs.CampaignParts.{Noted}
 use Rattle.kmip_session.proofs.CampaignLemmas.{noted_end, noted_saved}
 use Rattle.kmip_session.proofs.OrderLemmas.{as_many_more, as_many_still, is_end}

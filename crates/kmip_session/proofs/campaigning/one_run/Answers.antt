@@ -1,7 +1,7 @@
 -- Begun, driven, noted and closed.
-use Rattle.std.proofs.Common.{◌≡◌, ◌∙◌, subst, sym}
+use Rattle.std.proofs.Common.{◌∙◌, subst, sym}
 use Rattle.std.specs.List.{All}
-use Rattle.kmip_client.specs.Held.{Held, TrueProgress}
+use Rattle.kmip_client.specs.Held.{TrueProgress}
 use Rattle.kmip_session.proofs.CampaignLemmas.{closed, stood}
 use Rattle.kmip_session.proofs.campaigning.one_run.Goals as goal
 

@@ -1,5 +1,5 @@
 -- Run by run.
-use Rattle.std.proofs.Common.{rules, ◌≡◌, ◌<◌, length}
+use Rattle.std.proofs.Common.{rules, ◌<◌, length}
 use Rattle.std.proofs.lemmas.Option.{slice_get-get_or}
 use Rattle.kmip_session.proofs.OrderLemmas.{ends_all, ends_front}
 use Rattle.kmip_session.proofs.RunLemmas.{running_more}
