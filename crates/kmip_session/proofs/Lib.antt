@@ -5,3 +5,6 @@ pub mod ReportLemmas
 pub mod SettleLemmas
 pub mod CompleteLemmas
 pub mod DriveLemmas
+pub mod CampaignLemmas
+pub mod OrderLemmas
+pub mod RunLemmas

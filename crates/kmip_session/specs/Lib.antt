@@ -3,3 +3,5 @@ pub mod Losses
 pub mod Driving
 pub mod Reporting
 pub mod Lawbook
+pub mod Campaign
+pub mod CampaignParts

@@ -1,10 +1,12 @@
 //! A client and a server that meet over a link: runs of exchanges, and what is told of them.
 #![tactic(auto)]
 
+mod campaigning;
 mod driving;
 mod reporting;
 mod stop;
 
+pub use campaigning::{CampaignEnd, Run, RunEnd, Start, campaign};
 pub use driving::drive;
 pub use kmip_schedule::{Link, LinkFault};
 pub use reporting::report;

@@ -1,0 +1,64 @@
+-- Runs in turn: what their ends report, and what is to hold of each end.
+-- Source: own.
+use Rattle.std.specs.Prelude.{◌≡◌, ◌≢◌, ◌≤◌, ℕ, Bool, List, [], ◌∷◌, ◌++◌, map, take, flat_map, string_bytes}
+use Rattle.std.specs.List.{All}
+use Rattle.kmip_plan.specs.Chains.{chain}
+use Rattle.kmip_plan.specs.declared.key.Key.{Key}
+use Rattle.kmip_progress.specs.declared.known.Known.{Known}
+use Rattle.kmip_client.specs.declared.clash.Clash.{Clash}
+use Rattle.kmip_client.specs.declared.knowledge.Verdict.{Verdict}
+use Rattle.kmip_client.specs.declared.knowledge.Verdict.TheVariants.{Working, Finished, Conflict}
+use Rattle.kmip_schedule.specs.Past.{Past, Names, is_planned}
+use Rattle.kmip_schedule.specs.Sound.{Sound}
+use Rattle.kmip_schedule.specs.declared.effect.Effect.{Effect}
+use Rattle.kmip_session.specs.Reporting.{report_text}
+use Rattle.kmip_session.specs.declared.campaigning.Run.{Run}
+use Rattle.kmip_session.specs.declared.campaigning.RunEnd.{RunEnd}
+use Rattle.kmip_session.specs.declared.stop.Stop.{Stop}
+use Rattle.kmip_session.specs.declared.stop.Stop.TheVariants as stops
+
+-- The link is honest for the plan's names, and all that has happened over it is sound.
+pub record GoodLink {L : Type 0} (past : L → Past) (honest : L → Names → Type 0) (keys : List Key) (link : L) : Type 0 where
+  pub honest_for : honest link (is_planned keys)
+  pub sound : Sound keys (past link)
+
+-- the first steps of a key's chain, as many as are counted
+abbrev pub steps_counted : Key → ℕ → List Effect
+steps_counted key count = map (λ step. record { name = key.attrs.name; step = step }) (take count (chain key.target))
+
+-- the same of each key
+abbrev pub reported_by : List Key → List ℕ → List Effect
+reported_by [] counts = []
+reported_by (key ∷ keys) [] = []
+reported_by (key ∷ keys) (count ∷ counts) = steps_counted key count ++ reported_by keys counts
+
+-- the steps that are reported done, by the ends of runs and by what was saved
+abbrev pub reported : List Key → List RunEnd → List (List Known) → List Effect
+reported keys ends saved =
+    flat_map (λ (end : RunEnd). reported_by keys end.counts.items) ends ++ flat_map (λ progress. reported_by keys (map (λ known. known.done) progress)) saved
+
+-- the verdict is no conflict
+abbrev pub IsNoClash : Verdict → Type 0
+IsNoClash verdict = (clash : Clash) → verdict ≢ Conflict clash
+
+-- the run did not stop in conflict, and no key is in conflict
+abbrev pub HasNoConflict : RunEnd → Type 0
+HasNoConflict end = (end.stop ≢ stops.Conflict) × All IsNoClash end.verdicts.items
+
+-- how a run stands that stopped so; none stops for want of memory
+abbrev pub StopsSo : Stop → Run → RunEnd → Type 0
+StopsSo stops.AllFinished run end = All (λ verdict. verdict ≡ Finished) end.verdicts.items
+StopsSo stops.Limit run end = end.exchanges ≡ run.limit
+StopsSo stops.Conflict run end = All (λ verdict. verdict ≢ Working) end.verdicts.items
+StopsSo stops.NoMemory run end = ⊥
+
+-- The end is one of this run: a report of its own counts and verdicts, a reason to stop that they bear out, and no more
+-- exchanges than the run may make.
+pub record IsEnd (keys : List Key) (run : Run) (end : RunEnd) : Type 0 where
+  pub report_is : string_bytes end.report ≡ report_text keys end.counts.items end.verdicts.items
+  pub stops : StopsSo end.stop run end
+  pub within : end.exchanges ≤ run.limit
+
+-- what is known at the end of the run is saved
+abbrev pub saves : Run → Bool
+saves run = run.save

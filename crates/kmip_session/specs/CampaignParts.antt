@@ -1,0 +1,82 @@
+-- Private: what the parts of a campaign keep.
+-- Source: own.
+use Rattle.std.specs.Prelude.{◌≡◌, ◌≢◌, ◌≤◌, ◌⊎◌, ℕ, ◌+◌, List, [], ◌∷◌, ◌++◌, length, string_bytes}
+use Rattle.std.specs.List.{All, AllZip}
+use Rattle.kmip_messages.specs.Objects.{Object}
+use Rattle.kmip_plan.specs.Laws.{KeysAreFound, PlacesAndSteps}
+use Rattle.kmip_plan.specs.declared.key.Key.{Key}
+use Rattle.kmip_progress.specs.declared.known.Known.{Known}
+use Rattle.kmip_client.specs.Clients.{ClientState, one_if}
+use Rattle.kmip_client.specs.Held.{TrueProgress}
+use Rattle.kmip_client.specs.Laws.{OnwardToItself, OnwardTwice, HeldForGood}
+use Rattle.kmip_client.specs.Places.{position}
+use Rattle.kmip_client.specs.Standing.{counts_of, verdicts_of}
+use Rattle.kmip_client.specs.declared.knowledge.Knowledge.{Knowledge}
+use Rattle.kmip_schedule.specs.Laws.{DeliveriesKeepSound, DeliveriesKeepTheImage, ObjectsGoOnward, OpeningIsMirrored, SoundIsSafe}
+use Rattle.kmip_schedule.specs.Past.{Past, Names}
+use Rattle.kmip_session.specs.Campaign.{GoodLink, HasNoConflict, IsEnd, saves}
+use Rattle.kmip_session.specs.Driving.{IsGood, WentOn}
+use Rattle.kmip_session.specs.Reporting.{report_text}
+use Rattle.kmip_session.specs.declared.campaigning.CampaignEnd.{CampaignEnd}
+use Rattle.kmip_session.specs.declared.campaigning.Run.{Run}
+use Rattle.kmip_session.specs.declared.campaigning.RunEnd.{RunEnd}
+use Rattle.kmip_session.specs.declared.stop.Stop.{Stop}
+use Rattle.kmip_session.specs.declared.stop.Stop.TheVariants as stops
+
+-- the laws of the crates below
+pub record CampaignLaws : Type 0 where
+  pub found : KeysAreFound
+  pub places : PlacesAndSteps
+  pub itself : OnwardToItself
+  pub twice : OnwardTwice
+  pub known_for_good : HeldForGood
+  pub deliveries : DeliveriesKeepSound
+  pub onward : ObjectsGoOnward
+  pub images : DeliveriesKeepTheImage
+  pub opening : OpeningIsMirrored
+  pub safe : SoundIsSafe
+
+-- each key has come at least as far as is counted
+abbrev pub Reaches : List Object → Key → ℕ → Type 0
+Reaches objects key count = count ≤ position key objects
+
+-- No end counts a step that its key has not come to, or has a conflict; and what was saved is true.
+pub record Noted (objects : List Object) (keys : List Key) (ends : List RunEnd) (saved : List (List Known)) : Type 0 where
+  pub reached : All (λ (end : RunEnd). AllZip (Reaches objects) keys end.counts.items) ends
+  pub no_conflict : All HasNoConflict ends
+  pub true_saved : All (TrueProgress objects keys) saved
+
+-- all is good between two runs
+pub record Standing {L : Type 0} (past : L → Past) (honest : L → Names → Type 0) (keys : List Key) (c : ClientState) (link : L) (ends : List RunEnd) (saved : List (List Known)) : Type 0 where
+  pub good : IsGood past honest c link
+  pub noted : Noted (past link).objects keys ends saved
+
+-- so it is after several runs, whatever the client knows
+pub record Campaigned {L : Type 0} (past : L → Past) (honest : L → Names → Type 0) (keys : List Key) (old new : L) (ends : List RunEnd) (saved : List (List Known)) : Type 0 where
+  pub good : GoodLink past honest keys new
+  pub on : WentOn keys (past old) (past new)
+  pub noted : Noted (past new).objects keys ends saved
+
+-- the end says what is known, why the run stopped and how many exchanges it made
+pub record IsEndOf (keys : List Key) (knowns : List Knowledge) (stop : Stop) (exchanges : ℕ) (end : RunEnd) : Type 0 where
+  pub stop_is : end.stop ≡ stop
+  pub exchanges_is : end.exchanges ≡ exchanges
+  pub counts_are : end.counts.items ≡ counts_of knowns
+  pub verdicts_are : end.verdicts.items ≡ verdicts_of keys knowns
+  pub report_is : string_bytes end.report ≡ report_text keys end.counts.items end.verdicts.items
+  pub in_memory : stop ≢ stops.NoMemory
+
+-- one more end is noted, of this run
+pub record IsNoted (keys : List Key) (run : Run) (old new : List RunEnd) : Type 0 where
+  pub end : RunEnd
+  pub joined : new ≡ old ++ end ∷ []
+  pub is_end : IsEnd keys run end
+
+-- or none yet
+abbrev pub MayHaveEnded : List Key → Run → List RunEnd → List RunEnd → Type 0
+MayHaveEnded keys run old new = (new ≡ old) ⊎ IsNoted keys run old new
+
+-- the run has ended, and was saved if it says so
+pub record HasEnded (keys : List Key) (run : Run) (old new : CampaignEnd) : Type 0 where
+  pub noted : IsNoted keys run old.runs.items new.runs.items
+  pub as_many : length new.saved.items ≡ length old.saved.items + one_if (saves run)

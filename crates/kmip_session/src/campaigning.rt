@@ -1,0 +1,330 @@
+//! Runs in turn over one link, each from nothing, from the run before it or from a saved progress.
+ghost use Rattle.std.specs.Prelude.{◌≡◌, ◌≢◌, ◌≤◌, ◌⊎◌, ℕ, List, [], length, filter, take, None, Ok, IfOk, OnErr, OnOk, IfSome, false};
+ghost use Rattle.std.specs.List.{All, AllZip, Contains};
+ghost use Rattle.kmip_messages.specs.Objects.{Object};
+ghost use Rattle.kmip_client.specs.Held.{Held, TrueProgress};
+ghost use Rattle.kmip_progress.specs.Suiting.{Suits};
+ghost use Rattle.kmip_schedule.specs.Machine.{IsMirrored};
+ghost use Rattle.kmip_schedule.specs.Moves.{Delivered};
+ghost use Rattle.kmip_schedule.specs.Past.{Past, Names, is_planned};
+ghost use Rattle.kmip_schedule.specs.Safe.{Safe};
+ghost use Rattle.kmip_schedule.specs.Sound.{Opening};
+ghost use Rattle.kmip_session.specs.Campaign.{GoodLink, HasNoConflict, IsEnd, reported, saves};
+ghost use Rattle.kmip_session.specs.CampaignParts.{
+  CampaignLaws,
+  Campaigned,
+  HasEnded,
+  IsEndOf,
+  IsNoted,
+  MayHaveEnded,
+  Noted,
+  Standing,
+};
+ghost use Rattle.kmip_session.specs.Driving.{Stands, WentOn};
+
+use crate::driving::drive;
+use crate::reporting::report_of;
+use crate::stop::Stop;
+use kmip_client::laws::{onward_is_an_order, truth_is_for_good};
+use kmip_client::{Client, Verdict};
+use kmip_plan::Plan;
+use kmip_plan::laws::{keys_have_names, steps_have_places};
+use kmip_progress::Progress;
+use kmip_schedule::laws::{
+    deliveries_keep_sound, objects_go_onward, opening_is_mirrored, sound_is_safe, the_image_is_kept,
+};
+use kmip_schedule::{Link, LinkFault};
+use kmip_ttlv::NoMemory;
+use std::alloc::Global;
+
+/// What a run begins with.
+#[derive(Clone, Copy, Debug, PartialEq, Eq)]
+pub enum Start {
+    /// Nothing is known.
+    Fresh,
+    /// What was known at the end of the run before; nothing in the first run.
+    Same,
+    /// The saved progress of this number, from 1; nothing where there is none.
+    Saved(usize),
+}
+
+/// A run: what it begins with, how many exchanges it may make at most, and whether what is known
+/// at its end is saved.
+#[derive(Clone, Copy, Debug, PartialEq, Eq)]
+pub struct Run {
+    pub start: Start,
+    pub limit: usize,
+    pub save: bool,
+}
+
+/// How a run ended.
+#[derive(Debug, Drop)]
+pub struct RunEnd {
+    /// Why it stopped; never by want of memory.
+    pub stop: Stop,
+    /// How many exchanges it made.
+    pub exchanges: usize,
+    /// How many steps of each key are known to be done, in the order of the plan.
+    pub counts: Vec<usize>,
+    /// The verdict on each key, in the order of the plan.
+    pub verdicts: Vec<Verdict>,
+    /// The report of these counts and verdicts.
+    pub report: String,
+}
+
+/// How a campaign ended: the ends of its runs and what was saved, in order, and whether it ended for
+/// want of memory.
+#[derive(Debug, Drop)]
+pub struct CampaignEnd {
+    pub runs: Vec<RunEnd>,
+    pub saved: Vec<Progress>,
+    pub fault: Option<NoMemory>,
+}
+
+/// Makes the runs in turn, and ends each over the link. Want of memory ends the campaign, and keeps
+/// what was done: a run that it stopped has no end, `fault` says that it did.
+pub fn campaign<L: Link>(alloc: Global, plan: &Plan, link: &mut L, runs: &[Run]) -> CampaignEnd
+    ensures safe { GoodLink L.past L.honest plan.now link.old
+        → Safe plan.now (L.past link.new)
+        (reported plan.now result.runs.items result.saved.items) }
+    ensures machine { GoodLink L.past L.honest plan.now link.old
+        → (Opening plan.now (L.past link.old) → IsMirrored plan.now (L.past link.new))
+        × (IsMirrored plan.now (L.past link.old) → IsMirrored plan.now (L.past link.new)) }
+    ensures no_conflict { GoodLink L.past L.honest plan.now link.old
+        → All HasNoConflict result.runs.items }
+    ensures sound { GoodLink L.past L.honest plan.now link.old
+        → GoodLink L.past L.honest plan.now link.new }
+    ensures true_saved { GoodLink L.past L.honest plan.now link.old
+        → All (TrueProgress (L.past link.new).objects plan.now) result.saved.items }
+    ensures goes { GoodLink L.past L.honest plan.now link.old
+        → WentOn plan.now (L.past link.old) (L.past link.new) }
+    ensures order { AllZip (IsEnd plan.now) (take (length result.runs.items) runs.now)
+        result.runs.items }
+    ensures complete { result.fault ≡ None → AllZip (IsEnd plan.now) runs.now result.runs.items
+        × (length result.saved.items ≡ length (filter saves runs.now)) }
+{
+    laws_below();
+    plan.keys();
+    let mut end = CampaignEnd {
+        runs: Vec::new(alloc),
+        saved: Vec::new(alloc),
+        fault: None,
+    };
+    let fault = run_all(alloc, plan, link, runs, &mut end).err();
+    end.fault = fault;
+    end
+}
+
+/// The laws of the crates below.
+fn laws_below()
+    ensures { CampaignLaws }
+{
+    keys_have_names();
+    steps_have_places();
+    onward_is_an_order();
+    truth_is_for_good();
+    deliveries_keep_sound();
+    objects_go_onward();
+    the_image_is_kept();
+    opening_is_mirrored();
+    sound_is_safe();
+}
+
+/// Makes the runs in turn, and notes how each ended.
+///
+/// # Errors
+/// Where there is no memory; what was done is noted.
+fn run_all<L: Link>(
+    alloc: Global,
+    plan: &Plan,
+    link: &mut L,
+    runs: &[Run],
+    end: &mut CampaignEnd,
+) -> Result<(), NoMemory>
+    requires no_end { end.old.runs.items ≡ [] }
+    requires none_saved { end.old.saved.items ≡ [] }
+    ensures stands { GoodLink L.past L.honest plan.now link.old
+        → Campaigned L.past L.honest plan.now link.old link.new end.new.runs.items
+        end.new.saved.items }
+    ensures order { AllZip (IsEnd plan.now) (take (length end.new.runs.items) runs.now)
+        end.new.runs.items }
+    ensures complete { OnOk result (AllZip (IsEnd plan.now) runs.now end.new.runs.items
+        × (length end.new.saved.items ≡ length (filter saves runs.now))) }
+{
+    laws_below();
+    plan.keys();
+    let mut client = Client::fresh(alloc, plan)?;
+    for place in 0..runs.len() {
+        one_run(alloc, plan, &mut client, link, runs[place], end)?;
+    }
+    Ok(())
+}
+
+/// Makes a run, and notes how it ended.
+///
+/// # Errors
+/// Where there is no memory; what was done is noted.
+fn one_run<'p, L: Link>(
+    alloc: Global,
+    plan: &'p Plan,
+    client: &mut Client<'p>,
+    link: &mut L,
+    run: Run,
+    end: &mut CampaignEnd,
+) -> Result<(), NoMemory>
+    requires keys { client.old.keys ≡ plan.now }
+    requires suits { All (Suits plan.now) end.old.saved.items }
+    ensures keys { client.new.keys ≡ plan.now }
+    ensures suits { All (Suits plan.now) end.new.saved.items }
+    ensures stands { Standing L.past L.honest plan.now client.old link.old end.old.runs.items
+        end.old.saved.items
+        → Standing L.past L.honest plan.now client.new link.new end.new.runs.items
+        end.new.saved.items × WentOn plan.now (L.past link.old) (L.past link.new) }
+    ensures ended { OnOk result (HasEnded plan.now run end.old end.new) }
+    ensures noted { MayHaveEnded plan.now run end.old.runs.items end.new.runs.items }
+{
+    laws_below();
+    plan.keys();
+    begin(alloc, plan, client, end.saved.as_slice(), run.start)?;
+    let driven = drive(alloc, client, link, run.limit);
+    finish(alloc, client, run, driven, end)?;
+    close(alloc, link)
+}
+
+/// Gives the client what its run begins with.
+///
+/// # Errors
+/// Where there is no memory; the client is then as it was.
+fn begin<'p>(
+    alloc: Global,
+    plan: &'p Plan,
+    client: &mut Client<'p>,
+    saved: &[Progress],
+    start: Start,
+) -> Result<(), NoMemory>
+    requires keys { client.old.keys ≡ plan.now }
+    requires suits { All (Suits plan.now) saved.now }
+    ensures keys { client.new.keys ≡ plan.now }
+    ensures held { (objects : List Object) → All (TrueProgress objects plan.now) saved.now
+        → Held objects client.old.keys client.old.knowns
+        → Held objects client.new.keys client.new.knowns }
+{
+    let number = match start {
+        Start::Same => return Ok(()),
+        Start::Fresh => 0,
+        Start::Saved(number) => number,
+    };
+    *client = client_from(alloc, plan, saved, number)?;
+    Ok(())
+}
+
+/// The saved progress of a number, from 1.
+fn saved_at(saved: &[Progress], number: usize) -> Option<&Progress>
+    ensures { IfSome result (λ progress. Contains saved.now progress.now) }
+{
+    if number == 0 {
+        return None;
+    }
+    saved.get(number - 1)
+}
+
+/// A client that begins with the saved progress of a number, from 1, or with nothing where there is
+/// none.
+///
+/// # Errors
+/// Where there is no memory for it.
+fn client_from<'p>(
+    alloc: Global,
+    plan: &'p Plan,
+    saved: &[Progress],
+    number: usize,
+) -> Result<Client<'p>, NoMemory>
+    requires { All (Suits plan.now) saved.now }
+    ensures keys { IfOk result (λ client. client.keys ≡ plan.now) }
+    ensures held { (objects : List Object) → All (TrueProgress objects plan.now) saved.now
+        → IfOk result (λ client. Held objects client.keys client.knowns) }
+{
+    match saved_at(saved, number) {
+        Some(progress) => Client::resume(alloc, plan, progress),
+        None => Client::fresh(alloc, plan),
+    }
+}
+
+/// Notes how a run has ended, and saves what is known where the run says so.
+///
+/// # Errors
+/// Where there is no memory, or was none in the run; what was noted stays so.
+fn finish(
+    alloc: Global,
+    client: &Client<'_>,
+    run: Run,
+    driven: (Stop, usize),
+    end: &mut CampaignEnd,
+) -> Result<(), NoMemory>
+    requires stands { Stands driven.0 client.now.keys client.now.knowns }
+    requires limit { driven.0 ≡ Stop.Limit → driven.1 ≡ run.limit }
+    requires within { driven.1 ≤ run.limit }
+    requires suits { All (Suits client.now.keys) end.old.saved.items }
+    ensures suits { All (Suits client.now.keys) end.new.saved.items }
+    ensures true_of { (objects : List Object) → driven.0 ≢ Stop.Conflict
+        → Held objects client.now.keys client.now.knowns
+        → Noted objects client.now.keys end.old.runs.items end.old.saved.items
+        → Noted objects client.now.keys end.new.runs.items end.new.saved.items }
+    ensures ended { OnOk result (HasEnded client.now.keys run end.old end.new) }
+    ensures noted { MayHaveEnded client.now.keys run end.old.runs.items end.new.runs.items }
+{
+    let run_end = end_of(alloc, client, driven)?;
+    end.runs.push(run_end)?;
+    if run.save {
+        let progress = client.progress(alloc)?;
+        end.saved.push(progress)?;
+    }
+    Ok(())
+}
+
+/// How a run has ended.
+///
+/// # Errors
+/// Where there is no memory, or was none in the run.
+fn end_of(alloc: Global, client: &Client<'_>, driven: (Stop, usize)) -> Result<RunEnd, NoMemory>
+    ensures { IfOk result (IsEndOf client.now.keys client.now.knowns driven.0 driven.1) }
+{
+    let (stop, exchanges) = driven;
+    if is_no_memory(stop) {
+        return Err(NoMemory);
+    }
+    let counts = client.counts(alloc)?;
+    let verdicts = client.verdicts(alloc)?;
+    let keys = client.plan().keys();
+    let report = report_of(alloc, keys, counts.as_slice(), verdicts.as_slice())?;
+    Ok(RunEnd {
+        stop,
+        exchanges,
+        counts,
+        verdicts,
+        report,
+    })
+}
+
+fn is_no_memory(stop: Stop) -> bool
+    ensures { result ≡ false → stop ≢ Stop.NoMemory }
+{
+    match stop {
+        Stop::NoMemory => true,
+        Stop::AllFinished | Stop::Limit | Stop::Conflict => false,
+    }
+}
+
+/// Ends a run over the link; a failure of the network is passed over.
+///
+/// # Errors
+/// Where there is no memory.
+fn close<L: Link>(alloc: Global, link: &mut L) -> Result<(), NoMemory>
+    ensures { (names : Names) → L.honest link.old names → L.honest link.new names
+        × Delivered names (L.past link.old) (L.past link.new) }
+{
+    match link.end_run(alloc) {
+        Ok(()) | Err(LinkFault::Io) | Err(LinkFault::Frame) => Ok(()),
+        Err(LinkFault::NoMemory) => Err(NoMemory),
+    }
+}
