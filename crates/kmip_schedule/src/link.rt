@@ -9,8 +9,8 @@ ghost use Rattle.kmip_schedule.specs.Past.{Past, Names};
 use std::alloc::Global;
 use thiserror::Error;
 
-/// A link to a server: over it messages are exchanged, one at a time. It may lose, repeat, delay and
-/// reorder what it carries.
+/// A link to a server: over it messages are exchanged, one at a time. It may lose, repeat, delay
+/// and reorder what it carries.
 pub trait Link {
     /// All that has happened over it so far, and the objects of the server.
     ghost past: { Self → Past };
@@ -28,8 +28,8 @@ pub trait Link {
     /// lost, or where the link sends nothing any more.
     ///
     /// # Errors
-    /// `Io` where the network failed, `Frame` where what came is no message: the request may have been
-    /// served. `NoMemory` where there is none.
+    /// `Io` where the network failed, `Frame` where what came is no message: the request may have
+    /// been served. `NoMemory` where there is none.
     fn exchange(&mut self, alloc: Global, request: &[u8]) -> Result<Option<Vec<u8>>, LinkFault>
         ensures honest { (names : Names) → honest self.old names → honest self.new names
             × Exchanged names (past self.old) request.now (answer_in (λ v. v.items) result)

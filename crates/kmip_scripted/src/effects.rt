@@ -16,7 +16,8 @@ pub(crate) fn effect_due<S: Records>(
     records: &S,
     ask: &Ask,
 ) -> Result<Option<Effect>, NoMemory>
-    ensures { IfOk result (λ effect. effect ≡ effect_due (objects_in (S.stock records.now)) ask.now) }
+    ensures { IfOk result (λ effect.
+        effect ≡ effect_due (objects_in (S.stock records.now)) ask.now) }
 {
     match ask {
         Ask::Create(attrs) => {

@@ -26,7 +26,8 @@ impl<S: Records> Scripted<S> {
         ensures ok { OnOk result (self.new
             ≡ with_delivered (message_at number self.old.asked) self.old) }
         ensures err { OnErr result (self.new ≡ self.old) }
-        ensures delivered { (names : Names) → Delivered names (past_in self.old) (past_in self.new) }
+        ensures delivered { (names : Names)
+            → Delivered names (past_in self.old) (past_in self.new) }
     {
         deliveries_join();
         let Some(message) = self.copied_request(alloc, number)? else {
@@ -40,7 +41,8 @@ impl<S: Records> Scripted<S> {
     fn do_word(&mut self, alloc: Global, word: Word) -> Result<(), NoMemory>
         ensures ok { OnOk result (self.new ≡ after_word word self.old) }
         ensures err { OnErr result (self.new ≡ self.old) }
-        ensures delivered { (names : Names) → Delivered names (past_in self.old) (past_in self.new) }
+        ensures delivered { (names : Names)
+            → Delivered names (past_in self.old) (past_in self.new) }
     {
         deliveries_join();
         match word {
@@ -56,7 +58,8 @@ impl<S: Records> Scripted<S> {
         ensures stopped { IfOk result (λ went. went ≡ false
             → HasStopped at_end self.old self.new) }
         ensures err { OnErr result (self.new ≡ self.old) }
-        ensures delivered { (names : Names) → Delivered names (past_in self.old) (past_in self.new) }
+        ensures delivered { (names : Names)
+            → Delivered names (past_in self.old) (past_in self.new) }
     {
         deliveries_join();
         let Some(word) = self.first_word() else {
@@ -74,7 +77,8 @@ impl<S: Records> Scripted<S> {
     pub(crate) fn do_words(&mut self, alloc: Global, at_end: bool) -> Result<(), NoMemory>
         ensures ok { OnOk result (self.new ≡ after_words at_end self.old.words self.old) }
         ensures begun { OnErr result (AreBegun at_end self.old.words self.old self.new) }
-        ensures delivered { (names : Names) → Delivered names (past_in self.old) (past_in self.new) }
+        ensures delivered { (names : Names)
+            → Delivered names (past_in self.old) (past_in self.new) }
     {
         deliveries_join();
         'words: loop {
@@ -211,14 +215,16 @@ impl<S: Records> Scripted<S> {
         Ok(answer)
     }
 
-    /// Ends a run: what is left of its words is done or dropped, and the word that ends it is taken.
+    /// Ends a run: what is left of its words is done or dropped, and the word that ends it is
+    /// taken.
     ///
     /// # Errors
     /// Where there is no memory; a beginning of the steps was done.
     pub fn finish_run(&mut self, alloc: Global) -> Result<(), NoMemory>
         ensures exact { OnOk result (self.new ≡ after_run self.old) }
         ensures begun { OnErr result (AreBegun true self.old.words self.old self.new) }
-        ensures delivered { (names : Names) → Delivered names (past_in self.old) (past_in self.new) }
+        ensures delivered { (names : Names)
+            → Delivered names (past_in self.old) (past_in self.new) }
         ensures calm { self.old.words ≡ [] → self.new ≡ self.old }
     {
         self.do_words(alloc, true)?;

@@ -3,8 +3,8 @@ ghost use Rattle.std.specs.Prelude.{◌≡◌};
 
 use std::marker::Model;
 
-/// What a word of a script makes of an exchange, or between two of them. A number is of 1 to 6 digits
-/// where it was read; requests, replies and saves are counted from 1.
+/// What a word of a script makes of an exchange, or between two of them. A number is of 1 to 6
+/// digits where it was read; requests, replies and saves are counted from 1.
 #[derive(Clone, Copy, Debug, PartialEq, Eq)]
 pub enum Word {
     /// The request is delivered, and its reply handed over.

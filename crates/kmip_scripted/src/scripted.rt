@@ -24,8 +24,8 @@ use std::alloc::Global;
 use std::collections::VecDeque;
 use std::marker::Model;
 
-/// A server in memory and the link to it, which follows a script. A contract sees the records of the
-/// server, all that was asked, given, done, sent and handed over, and the words that are left.
+/// A server in memory and the link to it, which follows a script. A contract sees the records of
+/// the server, all that was asked, given, done, sent and handed over, and the words that are left.
 #[derive(Drop)]
 pub struct Scripted<S: Records> {
     server: Server<S>,
@@ -187,7 +187,8 @@ impl<S: Records> Scripted<S> {
         alloc: Global,
         number: usize,
     ) -> Result<Option<Vec<u8>>, NoMemory>
-        ensures { IfOk result (λ m. option_map (λ v. v.items) m ≡ message_at number self.now.asked) }
+        ensures { IfOk result (λ m.
+            option_map (λ v. v.items) m ≡ message_at number self.now.asked) }
     {
         copied(alloc, self.request(number))
     }
@@ -198,7 +199,8 @@ impl<S: Records> Scripted<S> {
         alloc: Global,
         number: usize,
     ) -> Result<Option<Vec<u8>>, NoMemory>
-        ensures { IfOk result (λ m. option_map (λ v. v.items) m ≡ message_at number self.now.given) }
+        ensures { IfOk result (λ m.
+            option_map (λ v. v.items) m ≡ message_at number self.now.given) }
     {
         copied(alloc, self.reply(number))
     }
@@ -241,7 +243,8 @@ fn message_at(messages: &[Bytes], number: usize) -> Option<&[u8]>
 
 /// A copy of a message, where there is one.
 fn copied(alloc: Global, message: Option<&[u8]>) -> Result<Option<Vec<u8>>, NoMemory>
-    ensures { IfOk result (λ m. option_map (λ v. v.items) m ≡ option_map (λ b. b.now) message.entry) }
+    ensures { IfOk result (λ m.
+        option_map (λ v. v.items) m ≡ option_map (λ b. b.now) message.entry) }
 {
     let Some(message) = message else {
         return Ok(None);

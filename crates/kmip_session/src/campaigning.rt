@@ -72,8 +72,8 @@ pub struct RunEnd {
     pub report: String,
 }
 
-/// How a campaign ended: the ends of its runs and what was saved, in order, and whether it ended for
-/// want of memory.
+/// How a campaign ended: the ends of its runs and what was saved, in order, and whether it ended
+/// for want of memory.
 #[derive(Debug, Drop)]
 pub struct CampaignEnd {
     pub runs: Vec<RunEnd>,

@@ -23,15 +23,15 @@ returns-in_default-clause-kept g c = keeps_asked c.args.client.now c.ask.new.sel
 pub returns-clause-good : goal.returns-clause-good
 returns-clause-good g c = λ good.
     let asked =
-        good_asked g.L.Link.past g.L.Link.honest c.args.client.now c.ask.new.self c.args.link.now _ c.in-Some.question c.in_ok-question.ensures.turn
-        c.in-Some.is c.in_ok-question.ensures.justified good in
+    good_asked g.L.Link.past g.L.Link.honest c.args.client.now c.ask.new.self c.args.link.now _ c.in-Some.question c.in_ok-question.ensures.turn
+    c.in-Some.is c.in_ok-question.ensures.justified good in
     (c.put.ensures.good asked.0 asked.1).0
 
 pub returns-clause-goes : goal.returns-clause-goes
 returns-clause-goes g c = λ good.
     let past = g.L.Link.past in
     let asked =
-        good_asked past g.L.Link.honest c.args.client.now c.ask.new.self c.args.link.now _ c.in-Some.question c.in_ok-question.ensures.turn c.in-Some.is
-        c.in_ok-question.ensures.justified good in
+    good_asked past g.L.Link.honest c.args.client.now c.ask.new.self c.args.link.now _ c.in-Some.question c.in_ok-question.ensures.turn c.in-Some.is
+    c.in_ok-question.ensures.justified good in
     subst (λ (s : ClientState). WentOn s.keys (past c.args.link.now) (past c.put.new.link)) c.in_ok-question.ensures.turn
     (c.put.ensures.good asked.0 asked.1).1
