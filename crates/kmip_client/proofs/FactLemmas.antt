@@ -1,5 +1,5 @@
 -- What is learnt does not depend on what is asked next, and an answer that is lost changes nothing else.
-use Rattle.std.proofs.Common.{◌≡◌, ℕ, zero, suc, Bool, true, false, nat_lt, List, [], ◌∷◌, map, Option, Some, None, Result, Ok, Err, slice_set, option_map, sym, ap, subst, refl, ◌∙◌, inl, inr, if◌then◌else◌}
+use Rattle.std.proofs.Common.{◌≡◌, ℕ, zero, suc, Bool, nat_lt, List, [], ◌∷◌, map, Option, Some, None, Result, Ok, Err, slice_set, option_map, sym, ap, refl, ◌∙◌, inl, inr}
 use Rattle.std.proofs.lemmas.Bool.{cases_Bool}
 use Rattle.std.specs.List.{slice_get}
 use Rattle.std.specs.Option.{is_some}
@@ -13,17 +13,16 @@ use Rattle.kmip_messages.specs.declared.step.Step.{Step}
 use Rattle.kmip_messages.specs.declared.step.Step.TheVariants as steps
 use Rattle.kmip_plan.specs.Chains.{place_of, step_place}
 use Rattle.kmip_plan.specs.declared.key.Key.{Key}
-use Rattle.kmip_client.specs.Clients.{ClientState, changed_at, changed_by, lost_at, lost_working}
-use Rattle.kmip_client.specs.Hearing.{first_heard, has_failed, hear, heard_about, heard_at, heard_by, heard_in, is_other_operation, subject_of, teach, unreadable, with_heard, with_news}
+use Rattle.kmip_client.specs.Clients.{ClientState, changed_by, lost_at, lost_working}
+use Rattle.kmip_client.specs.Hearing.{first_heard, has_failed, heard_about, heard_by, is_other_operation, subject_of, teach, unreadable, with_heard, with_news}
 use Rattle.kmip_client.specs.Knowledge.{is_working}
 use Rattle.kmip_client.specs.Learning.{attributes_learnt, created_learnt, enter, is_known, is_named, is_other, is_planned, learn, located_learnt, place_learnt, raise, state_learnt, step_learnt}
 use Rattle.kmip_client.specs.declared.fault.HearFault.{HearFault}
-use Rattle.kmip_client.specs.declared.hearing.Heard.{Heard}
 use Rattle.kmip_client.specs.declared.hearing.News.{News}
 use Rattle.kmip_client.specs.declared.knowledge.Knowledge.{Knowledge}
 use Rattle.kmip_client.specs.declared.knowledge.Phase.{Phase}
 use Rattle.kmip_client.specs.declared.subject.Subject.{Subject}
-use Rattle.kmip_client.specs.Known.{Fact, fact_of, facts, heard, known_after, knowns_heard}
+use Rattle.kmip_client.specs.Known.{Fact, fact_of, facts, heard, knowns_heard}
 
 -- ---- one key
 

@@ -1,5 +1,5 @@
 -- Asking changes whose turn it is, and nothing else.
-use Rattle.std.proofs.Common.{IfSome, subst, sym}
+use Rattle.std.proofs.Common.{subst, sym}
 use Rattle.kmip_client.specs.Clients.{ClientState}
 use Rattle.kmip_session.specs.Driving.{Keeps, Learnt, WentOn}
 use Rattle.kmip_session.proofs.GoodLemmas.{good_asked, keeps_asked, keeps_itself}
