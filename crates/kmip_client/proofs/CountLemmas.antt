@@ -1,7 +1,7 @@
 -- How many keys are worked on, and that a verdict stands once it is given.
 use Rattle.std.proofs.Common.{◌≡◌, ◌≢◌, ℕ, zero, suc, ◌+◌, ◌≤◌, ◌<◌, Bool, true, false, not, nat_lt, nat_le, List, [], ◌∷◌, length, map, drop, Option, Some, None, slice_set, subst, refl, sym, ap, inl, inr, arith, if◌then◌else◌, true≢false, ◌∙◌}
 use Rattle.std.proofs.lemmas.Bool.{cases_Bool, and_parts, ltb-true, leb-true, leb-false, lt-ltb}
-use Rattle.std.specs.List.{slice_get}
+use Rattle.std.specs.List.{AllZip, slice_get}
 use Rattle.std.specs.Option.{is_some}
 use Rattle.kmip_messages.specs.Objects.{Object}
 use Rattle.kmip_plan.specs.declared.key.Key.{Key}
@@ -12,6 +12,8 @@ use Rattle.kmip_client.specs.declared.knowledge.Knowledge.{Knowledge}
 use Rattle.kmip_client.specs.declared.knowledge.Verdict.TheVariants.{Working, Finished, Conflict}
 use Rattle.kmip_client.specs.Clients.{AreSettled, ClientState, NoneWorks, SomeWorks, next_working, one_if, working_count, working_from, changed_by, changed_at, lost_working, verdict_at, VerdictsStay}
 use Rattle.kmip_client.specs.Held.{Held}
+use Rattle.kmip_client.specs.Shapes.{IsShaped}
+use Rattle.kmip_client.specs.Standing.{AreWithin, counts_of}
 use Rattle.kmip_client.specs.Knowledge.{chain_length, fresh_knowledge, is_working, clash_verdict, verdict_of}
 
 -- ---- the count
@@ -211,3 +213,12 @@ held_no_conflict objects (key ∷ keys) [] held place clash = absurd held
 held_no_conflict objects (key ∷ keys) (known ∷ knowns) held zero clash =
     not_conflict (nat_le (chain_length key) known.done) known.clash clash held.0.no_clash
 held_no_conflict objects (key ∷ keys) (known ∷ knowns) held (suc place) clash = held_no_conflict objects keys knowns held.1 place clash
+
+-- ---- the counts of a client
+
+-- no more steps are counted than lead to the targets
+pub shaped_within : (keys : List Key) (knowns : List Knowledge) → AllZip IsShaped keys knowns → AreWithin keys (counts_of knowns)
+shaped_within [] [] each = tt
+shaped_within [] (known ∷ knowns) each = absurd each
+shaped_within (key ∷ keys) [] each = absurd each
+shaped_within (key ∷ keys) (known ∷ knowns) each = (each.0.few, shaped_within keys knowns each.1)

@@ -1,14 +1,19 @@
 -- How it stands with each key of a plan, in the order of the plan.
 -- Source: own.
-use Rattle.std.specs.Prelude.{ℕ, List, [], ◌∷◌, map}
+use Rattle.std.specs.Prelude.{◌≤◌, ℕ, List, [], ◌∷◌, map}
+use Rattle.std.specs.List.{AllZip}
 use Rattle.kmip_plan.specs.declared.key.Key.{Key}
-use Rattle.kmip_client.specs.Knowledge.{verdict_of}
+use Rattle.kmip_client.specs.Knowledge.{chain_length, verdict_of}
 use Rattle.kmip_client.specs.declared.knowledge.Knowledge.{Knowledge}
 use Rattle.kmip_client.specs.declared.knowledge.Verdict.{Verdict}
 
 -- how many steps of each are known to be done
 abbrev pub counts_of : List Knowledge → List ℕ
 counts_of knowns = map (λ known. known.done) knowns
+
+-- no more steps of each are counted than lead to its target
+abbrev pub AreWithin : List Key → List ℕ → Type 0
+AreWithin keys counts = AllZip (λ key count. count ≤ chain_length key) keys counts
 
 -- the verdict on each
 abbrev pub verdicts_of : List Key → List Knowledge → List Verdict

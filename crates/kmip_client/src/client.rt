@@ -27,7 +27,7 @@ ghost use Rattle.kmip_client.specs.Clients.{
 ghost use Rattle.kmip_client.specs.Hearing.{unheard, heard_in, hear, Refuses};
 ghost use Rattle.kmip_client.specs.Held.{Held, TrueProgress};
 ghost use Rattle.kmip_client.specs.Saving.{progress, resume};
-ghost use Rattle.kmip_client.specs.Standing.{counts_of, verdicts_of};
+ghost use Rattle.kmip_client.specs.Standing.{AreWithin, counts_of, verdicts_of};
 ghost use Rattle.kmip_progress.specs.Suiting.{Suits};
 ghost use Rattle.kmip_client.specs.Justified.{JustifiedMessage};
 ghost use Rattle.kmip_client.specs.Shapes.{IsShaped, IsKept};
@@ -242,7 +242,8 @@ impl<'p> Client<'p> {
     /// # Errors
     /// Where there is no memory for them.
     pub fn counts(&self, alloc: Global) -> Result<Vec<usize>, NoMemory>
-        ensures { IfOk result (λ counts. counts.items ≡ counts_of self.now.knowns) }
+        ensures counts { IfOk result (λ counts. counts.items ≡ counts_of self.now.knowns) }
+        ensures within { IfOk result (λ counts. AreWithin self.now.keys counts.items) }
     {
         all_counts(alloc, self.knowns.as_slice())
     }
