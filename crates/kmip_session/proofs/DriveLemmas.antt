@@ -1,14 +1,14 @@
 -- What is kept over several exchanges.
-use Rattle.std.proofs.Common.{◌≢◌, ℕ, ◌+◌, subst, sym}
+use Rattle.std.proofs.Common.{◌≡◌, ◌≢◌, ℕ, ◌+◌, subst, sym, arith}
 use Rattle.kmip_client.specs.Clients.{AreSettled, ClientState}
 use Rattle.kmip_schedule.specs.Past.{Names, Past, is_planned}
-use Rattle.kmip_session.specs.Driving.{IsGood, IsSettling, Keeps, Learnt, SomeClash, Stands, WentOn}
+use Rattle.kmip_session.specs.Driving.{Grown, IsGood, IsSettling, Keeps, Learnt, SomeClash, Stands, WentOn}
 use Rattle.kmip_session.specs.Lawbook.{Lawbook}
 use Rattle.kmip_session.specs.declared.stop.Stop.{Stop}
 use Rattle.kmip_session.specs.declared.stop.Stop.TheVariants as stops
 use Rattle.kmip_session.proofs.GoodLemmas.{keeps_itself, keeps_then, went_nowhere, went_then}
 use Rattle.kmip_session.proofs.SettleLemmas.{Nearer, nearer_none, nearer_then}
-use Rattle.kmip_session.proofs.KnownLemmas.{learnt_nothing, learnt_then}
+use Rattle.kmip_session.proofs.KnownLemmas.{grown_itself, grown_then, learnt_nothing, learnt_then}
 
 module _ {L : Type 0} (past : L → Past) (honest calm : L → Names → Type 0) where
   -- after so many exchanges
@@ -17,6 +17,7 @@ module _ {L : Type 0} (past : L → Past) (honest calm : L → Names → Type 0)
     pub goes : IsGood past honest first start → WentOn first.keys (past start) (past link)
     pub known : honest start (is_planned first.keys)
         → honest link (is_planned first.keys) × Learnt first.keys (past start) (past link) first.knowns now.knowns made
+    pub grown : honest start (is_planned first.keys) → Grown (past start) (past link)
     pub keeps : Keeps first now
     pub near : IsSettling past calm first start → Nearer past calm first now start link made
 
@@ -25,6 +26,7 @@ module _ {L : Type 0} (past : L → Past) (honest calm : L → Names → Type 0)
     good = λ good. good;
     goes = λ good. went_nowhere l c.keys (past link);
     known = λ holds. (holds, learnt_nothing c.keys (past link) c.knowns);
+    grown = λ holds. grown_itself (past link);
     keeps = keeps_itself c;
     near = nearer_none past calm c link;
   }
@@ -41,11 +43,28 @@ module _ {L : Type 0} (past : L → Past) (honest calm : L → Names → Type 0)
           learnt_then l.blind a.keys (past x) (past y) (past z) a.knowns b.knowns c.knowns m n before.1
               (subst (λ ks. Learnt ks (past y) (past z) b.knowns c.knowns n) first.keeps.keys_stay after.1),
         );
+    grown = λ holds.
+        grown_then (past x) (past y) (past z) (first.grown holds)
+        (second.grown (subst (λ ks. honest y (is_planned ks)) (sym first.keeps.keys_stay) (first.known holds).0));
     keeps = keeps_then a b c first.keeps second.keeps;
     near = λ settling.
         let before = first.near settling in
         nearer_then past calm a b c x y z m n before (second.near before.0);
   }
+
+  -- and a last turn that asked nothing
+  pub known_end : Lawbook → (a b c : ClientState) (x y z : L) (m : ℕ) → Driven a b x y m
+      → (honest y (is_planned b.keys) → honest z (is_planned b.keys) × Learnt b.keys (past y) (past z) b.knowns c.knowns 0)
+      → honest x (is_planned a.keys) → honest z (is_planned a.keys) × Learnt a.keys (past x) (past z) a.knowns c.knowns m
+  known_end l a b c x y z m first last holds =
+      let before = first.known holds in
+      let after = last (subst (λ ks. honest y (is_planned ks)) (sym first.keeps.keys_stay) before.0) in
+      let none : m + 0 ≡ m = omega arith in (
+        subst (λ ks. honest z (is_planned ks)) first.keeps.keys_stay after.0,
+        subst (λ n. Learnt a.keys (past x) (past z) a.knowns c.knowns n) none
+            (learnt_then l.blind a.keys (past x) (past y) (past z) a.knowns b.knowns c.knowns m 0 before.1
+            (subst (λ ks. Learnt ks (past y) (past z) b.knowns c.knowns 0) first.keeps.keys_stay after.1)),
+      )
 
   -- what is good is in no conflict
   pub good_no_conflict : Lawbook → (c : ClientState) (link : L) (stop : Stop) → IsGood past honest c link → Stands stop c.keys c.knowns → stop ≢ stops.Conflict

@@ -1,5 +1,5 @@
 -- What exchanges ask and teach, one after the other.
-use Rattle.std.proofs.Common.{◌≡◌, ℕ, ◌+◌, List, [], ◌∷◌, ◌++◌, length, Option, Some, None, Result, Ok, Err, OnOk, sym, ap, subst, refl, ◌∙◌, flat_map, append_assoc, append-nil}
+use Rattle.std.proofs.Common.{◌≡◌, ℕ, ◌+◌, List, [], ◌∷◌, ◌++◌, length, Option, Some, None, Result, Ok, Err, OnOk, sym, ap, subst, refl, ◌∙◌, flat_map, append_assoc, append-nil, inl, inr}
 use Rattle.std.proofs.lemmas.List.Elements.{All-append, All-cons, All-nil}
 use Rattle.std.proofs.lemmas.List.{length-append}
 use Rattle.std.proofs.lemmas.List.Concat.{flat_map-append}
@@ -16,7 +16,7 @@ use Rattle.kmip_schedule.specs.Moves.{Delivered, Move, after_move, after_moves}
 use Rattle.kmip_schedule.specs.Past.{Names, Past}
 use Rattle.kmip_schedule.specs.declared.link.LinkFault.{LinkFault}
 use Rattle.kmip_schedule.specs.declared.link.LinkFault.TheVariants.{Io, Frame, NoMemory}
-use Rattle.kmip_session.specs.Driving.{IsQuestion, Learnt}
+use Rattle.kmip_session.specs.Driving.{Grown, IsQuestion, Learnt}
 use Rattle.kmip_client.specs.Known.{facts, heard, known_after}
 use Rattle.kmip_session.specs.Losses.{or_loss}
 use Rattle.kmip_settling.specs.Turns.{taught}
@@ -143,3 +143,46 @@ learnt_one found lost names c next old new question answer lawful about hands is
 pub on_ok : {V E P Q : Type 0} (r : Result V E) → (P → Q) → OnOk r P → OnOk r Q
 on_ok (Ok v) to holds = to holds
 on_ok (Err fault) to holds = tt
+
+-- ---- nothing is taken back
+
+grown_by : {A : Type 0} (old between new : List A) → (xs : List A) × (between ≡ old ++ xs) → (ys : List A) × (new ≡ between ++ ys) → (zs : List A) × (new ≡ old ++ zs)
+grown_by old between new first second = (first.0 ++ second.0, joined old between new first.0 second.0 first.1 second.1)
+
+still : {A : Type 0} (old new : List A) → new ≡ old → (more : List A) × (new ≡ old ++ more)
+still old new same = ([], same ∙ sym (append-nil old))
+
+pub grown_itself : (p : Past) → Grown p p
+grown_itself p = record { requests = still p.requests p.requests refl; sent = still p.sent p.sent refl; handed = still p.handed p.handed refl }
+
+pub grown_then : (old between new : Past) → Grown old between → Grown between new → Grown old new
+grown_then old between new first second = record {
+  requests = grown_by old.requests between.requests new.requests first.requests second.requests;
+  sent = grown_by old.sent between.sent new.sent first.sent second.sent;
+  handed = grown_by old.handed between.handed new.handed first.handed second.handed;
+}
+
+stays_grown : (old new : Past) → Stays old new → Grown old new
+stays_grown old new stays =
+    record { requests = still old.requests new.requests stays.requests_stay; sent = still old.sent new.sent stays.sent_stays; handed = still old.handed new.handed stays.handed_stays }
+
+pub delivered_grown : (names : Names) (old new : Past) → Delivered names old new → Grown old new
+delivered_grown names old new d = stays_grown old new (delivered_stays names old new d)
+
+asked_grown : (sent : List ℕ) (p : Past) → Grown p (with_asked sent p)
+asked_grown sent p = record { requests = (requests_in sent, refl); sent = still p.sent p.sent refl; handed = still p.handed p.handed refl }
+
+hands_grown : (names : Names) (old new : Past) (sent : List ℕ) (answer : Option (List ℕ)) → HandsOver names old sent answer new → Grown old new
+hands_grown names old new sent answer hands =
+    let asks = handed_asks names old new sent answer hands in
+    record { requests = (requests_in sent, asks.2); sent = (sent ∷ [], asks.0); handed = (answer ∷ [], asks.1) }
+
+-- by an exchange, whether it has an answer or not
+pub exchanged_grown : (names : Names) (old new : Past) (sent : List ℕ) (answered : Result (Option (List ℕ)) LinkFault) → Exchanged names old sent answered new → Grown old new
+exchanged_grown names old new sent (Ok answer) done = hands_grown names old new sent answer done
+exchanged_grown names old new sent (Err Io) done = hands_grown names old new sent None done
+exchanged_grown names old new sent (Err Frame) done = hands_grown names old new sent None done
+exchanged_grown names old new sent (Err NoMemory) done = elim done [
+  | inl before ↦ delivered_grown names old new before
+  | inr after ↦ grown_then old (with_asked sent old) new (asked_grown sent old) (delivered_grown names (with_asked sent old) new after)
+]

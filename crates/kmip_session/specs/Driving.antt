@@ -5,6 +5,7 @@ use Rattle.std.specs.List.{All, AllZip}
 use Rattle.kmip_messages.specs.Items.{requests_in}
 use Rattle.kmip_messages.specs.Objects.{Object, object_named}
 use Rattle.kmip_messages.specs.Written.{request_item}
+use Rattle.kmip_messages.specs.declared.request.Request.{Request}
 use Rattle.kmip_plan.specs.Plans.{IsPlanned}
 use Rattle.kmip_plan.specs.declared.key.Key.{Key}
 use Rattle.kmip_ttlv.specs.Spelling.{canon}
@@ -80,6 +81,12 @@ pub record Learnt (keys : List Key) (old new : Past) (knowns nexts : List Knowle
   pub as_many_answers : length answers ≡ exchanges
   pub each : All (IsQuestion keys) questions
   pub known_is : facts nexts ≡ facts (known_after keys knowns answers)
+
+-- Nothing that was asked, sent or handed over is taken back.
+pub record Grown (old new : Past) : Type 0 where
+  pub requests : (more : List Request) × (new.requests ≡ old.requests ++ more)
+  pub sent : (more : List (List ℕ)) × (new.sent ≡ old.sent ++ more)
+  pub handed : (more : List (Option (List ℕ))) × (new.handed ≡ old.handed ++ more)
 
 -- The plan stays, and no identifier or count is taken back.
 pub record Keeps (old new : ClientState) : Type 0 where

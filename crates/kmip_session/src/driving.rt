@@ -9,7 +9,7 @@ ghost use Rattle.kmip_client.specs.Justified.{JustifiedMessage};
 ghost use Rattle.kmip_client.specs.Truth.{TrueMessage};
 ghost use Rattle.kmip_plan.specs.Chains.{bound};
 ghost use Rattle.kmip_schedule.specs.Past.{is_planned};
-ghost use Rattle.kmip_session.specs.Driving.{IsGood, IsSettling, IsUntouched, IsComplete, need, WentOn, Learnt, Keeps, Stands};
+ghost use Rattle.kmip_session.specs.Driving.{IsGood, IsSettling, IsUntouched, IsComplete, need, WentOn, Learnt, Grown, Keeps, Stands};
 ghost use Rattle.kmip_session.specs.Lawbook.{Lawbook};
 ghost use Rattle.kmip_session.specs.Losses.{or_loss};
 ghost use Rattle.kmip_settling.specs.Needs.{chains_and_looks};
@@ -55,6 +55,8 @@ pub fn drive<L: Link>(
         → L.honest link.new (is_planned client.old.keys)
         × (result.0 ≢ Stop.NoMemory → Learnt client.old.keys (L.past link.old)
         (L.past link.new) client.old.knowns client.new.knowns result.1) }
+    ensures grown { L.honest link.old (is_planned client.old.keys)
+        → Grown (L.past link.old) (L.past link.new) }
     ensures kept { Keeps client.old client.new }
     ensures stands { Stands result.0 client.new.keys client.new.knowns }
     ensures limit { result.0 ≡ Stop.Limit → result.1 ≡ limit }
@@ -121,6 +123,8 @@ fn turn<L: Link>(alloc: Global, client: &mut Client<'_>, link: &mut L) -> Result
         → L.honest link.new (is_planned client.old.keys)
         × IfOk result (λ asked. Learnt client.old.keys (L.past link.old) (L.past link.new)
         client.old.knowns client.new.knowns (one_if asked)) }
+    ensures grown { L.honest link.old (is_planned client.old.keys)
+        → Grown (L.past link.old) (L.past link.new) }
     ensures kept { Keeps client.old client.new }
     ensures none { IfOk result (λ asked. asked ≡ false
         → AreSettled client.new.keys client.new.knowns) }
@@ -154,6 +158,8 @@ fn put<L: Link>(
         → L.honest link.new (is_planned client.old.keys)
         × OnOk result (Learnt client.old.keys (L.past link.old) (L.past link.new)
         client.old.knowns client.new.knowns 1) }
+    ensures grown { L.honest link.old (is_planned client.old.keys)
+        → Grown (L.past link.old) (L.past link.new) }
     ensures kept { Keeps client.old client.new }
     ensures calm { IsSettling L.past L.calm client.old link.old → OnOk result (
         IsSettling L.past L.calm client.new link.new

@@ -3,13 +3,28 @@ use Rattle.std.proofs.Common.{◌≡◌, ◌∙◌, subst, arith}
 use Rattle.kmip_client.specs.Clients.{one_if}
 use Rattle.kmip_session.specs.Driving.{Learnt}
 use Rattle.kmip_session.proofs.CompleteLemmas.{completed, untouched_settles}
-use Rattle.kmip_session.proofs.DriveLemmas.{driven_none, driven_then}
+use Rattle.kmip_session.proofs.DriveLemmas.{driven_none, driven_then, known_end}
 use Rattle.kmip_session.proofs.SettleLemmas.{Nearer, finished_stop, nearer_end, nearer_limit}
 use Rattle.kmip_session.proofs.GoodLemmas.{keeps_then}
 use Rattle.kmip_session.proofs.driving.drive.Goals as goal
 
 pub loop-made-init : goal.loop-made-init
 loop-made-init g c = driven_none g.L.Link.past g.L.Link.honest g.L.Link.calm c.laws_below.ensures c.args.client.now c.args.link.now
+
+pub returns-in-Ok-false-clause-known : goal.returns-in-Ok-false-clause-known
+returns-in-Ok-false-clause-known g c = λ honest.
+    let past = g.L.Link.past in
+    let ended =
+    known_end past g.L.Link.honest g.L.Link.calm c.laws_below.ensures c.args.client.now c.loop-made.client c.turn.new.client c.args.link.now c.loop-made.link
+    c.turn.new.link c.loop-made.made c.loop-made.invariant
+    (λ holds.
+    let step = c.in-Ok-false.ensures.known holds in (
+      step.0,
+      subst
+          (λ asked. Learnt c.loop-made.client.keys (past c.loop-made.link) (past c.turn.new.link) c.loop-made.client.knowns c.turn.new.client.knowns (one_if asked))
+          c.in-Ok-false.field-0-test step.1,
+    )) honest in
+    (ended.0, λ memory. ended.1)
 
 pub returns-in-Ok-false-clause-kept : goal.returns-in-Ok-false-clause-kept
 returns-in-Ok-false-clause-kept g c =
@@ -33,6 +48,7 @@ loop-made-preserved g c =
                 (λ asked. Learnt c.loop-made.client.keys (past c.loop-made.link) (past c.turn.new.link) c.loop-made.client.knowns c.turn.new.client.knowns (one_if asked))
                 c.in-Ok-true.field-0-test step.1,
           );
+      grown = c.turn.ensures.grown;
       keeps = c.turn.ensures.kept;
       near = λ settling.
           subst

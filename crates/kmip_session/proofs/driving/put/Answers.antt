@@ -6,7 +6,7 @@ use Rattle.kmip_client.specs.Justified.{JustifiedMessage}
 use Rattle.kmip_schedule.specs.Exchanges.{HandsOver}
 use Rattle.kmip_schedule.specs.Past.{is_planned}
 use Rattle.kmip_session.proofs.GoodLemmas.{good_left, if_handed, left, told}
-use Rattle.kmip_session.proofs.KnownLemmas.{handed_over, learnt_one, on_ok}
+use Rattle.kmip_session.proofs.KnownLemmas.{exchanged_grown, handed_over, learnt_one, on_ok}
 use Rattle.kmip_session.proofs.SettleLemmas.{nearer_one}
 use Rattle.kmip_session.proofs.driving.put.Goals as goal
 
@@ -61,3 +61,13 @@ returns-clause-calm g c = λ settling.
     c.as_slice.result.now _ c.args.question.now _ c.plan-plan.ensures.lawful c.requires c.as_slice.ensures c.exchange.ensures.calm
     (sym c.in-Ok.ensures) settling c.learn.ensures.kept.keys_stay)
     c.learn.ensures.taught
+
+pub returns-in_default-clause-grown : goal.returns-in_default-clause-grown
+returns-in_default-clause-grown g c = λ honest.
+    let names = is_planned c.args.client.now.keys in
+    exchanged_grown names (g.L.Link.past c.args.link.now) (g.L.Link.past c.exchange.new.self) c.as_slice.result.now _ (c.exchange.ensures.honest names honest).1
+
+pub returns-clause-grown : goal.returns-clause-grown
+returns-clause-grown g c = λ honest.
+    let names = is_planned c.args.client.now.keys in
+    exchanged_grown names (g.L.Link.past c.args.link.now) (g.L.Link.past c.exchange.new.self) c.as_slice.result.now _ (c.exchange.ensures.honest names honest).1

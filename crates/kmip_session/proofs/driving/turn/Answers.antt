@@ -3,7 +3,7 @@ use Rattle.std.proofs.Common.{subst, sym}
 use Rattle.kmip_client.specs.Clients.{ClientState}
 use Rattle.kmip_session.specs.Driving.{Keeps, Learnt, WentOn}
 use Rattle.kmip_session.proofs.GoodLemmas.{good_asked, keeps_asked, keeps_itself}
-use Rattle.kmip_session.proofs.KnownLemmas.{learnt_nothing}
+use Rattle.kmip_session.proofs.KnownLemmas.{grown_itself, learnt_nothing}
 use Rattle.kmip_session.proofs.driving.turn.Goals as goal
 
 pub returns-in_err-question-clause-kept : goal.returns-in_err-question-clause-kept
@@ -35,3 +35,9 @@ returns-clause-goes g c = λ good.
     c.in_ok-question.ensures.justified good in
     subst (λ (s : ClientState). WentOn s.keys (past c.args.link.now) (past c.put.new.link)) c.in_ok-question.ensures.turn
     (c.put.ensures.good asked.0 asked.1).1
+
+pub returns-in_err-question-clause-grown : goal.returns-in_err-question-clause-grown
+returns-in_err-question-clause-grown g c = λ honest. grown_itself (g.L.Link.past c.args.link.now)
+
+pub returns-in_default-clause-grown : goal.returns-in_default-clause-grown
+returns-in_default-clause-grown g c = λ honest. grown_itself (g.L.Link.past c.args.link.now)
