@@ -1,6 +1,6 @@
 -- A client that began with nothing and is finished knows that each object stands at the end of its chain.
 use Rattle.std.proofs.Common.{◌≡◌, ◌≤◌, ℕ, zero, suc, nat_le, List, [], ◌∷◌, map, Option, Some, None, is_some, sym, ap, subst, refl, ◌∙◌, inl, inr, arith}
-use Rattle.std.proofs.lemmas.Bool.{cases_Bool, leb-true}
+use Rattle.std.proofs.lemmas.Bool.{cases_Bool, leb-true, le-leb}
 use Rattle.std.proofs.lemmas.Option.{slice_get_within}
 use Rattle.std.specs.Option.{option_map_or}
 use Rattle.kmip_messages.specs.Objects.{Object, object_named}
@@ -25,12 +25,16 @@ clash_unfinished : {X : Type 0} (clash : Option Clash) → clash_verdict clash �
 clash_unfinished None is = absurd cc
 clash_unfinished (Some clash) is = absurd cc
 
-finished_done : (key : Key) (known : Knowledge) → verdict_of key known ≡ Finished → chain_length key ≤ known.done
+pub finished_done : (key : Key) (known : Knowledge) → verdict_of key known ≡ Finished → chain_length key ≤ known.done
 finished_done key known is =
     elim (cases_Bool (nat_le (chain_length key) known.done)) [
       | inl full ↦ leb-true (chain_length key) known.done full
       | inr unfinished ↦ clash_unfinished known.clash (rw unfinished at is)
     ]
+
+-- and where all are done it is finished
+pub done_finished : (key : Key) (known : Knowledge) → chain_length key ≤ known.done → verdict_of key known ≡ Finished
+done_finished key known full = rw (le-leb (chain_length key) known.done full) refl
 
 found_within : ReachedIsWithin → (key : Key) (o : Option Object) → option_map_or (λ (x : Object). place_reached key.target x.state) o 0 ≤ chain_length key
 found_within within key None = omega arith

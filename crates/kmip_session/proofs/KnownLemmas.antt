@@ -42,7 +42,7 @@ learnt_nothing keys p knowns = record {
   known_is = refl;
 }
 
-joined : {A : Type 0} (old between new xs ys : List A) → between ≡ old ++ xs → new ≡ between ++ ys → new ≡ old ++ (xs ++ ys)
+pub joined : {A : Type 0} (old between new xs ys : List A) → between ≡ old ++ xs → new ≡ between ++ ys → new ≡ old ++ (xs ++ ys)
 joined old between new xs ys first second = second ∙ ap (λ zs. zs ++ ys) first ∙ append_assoc old xs ys
 
 as_many : {A : Type 0} (xs ys : List A) (m n : ℕ) → length xs ≡ m → length ys ≡ n → length (xs ++ ys) ≡ m + n

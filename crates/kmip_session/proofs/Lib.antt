@@ -7,4 +7,5 @@ pub mod CompleteLemmas
 pub mod DriveLemmas
 pub mod CampaignLemmas
 pub mod OrderLemmas
+pub mod RememberLemmas
 pub mod RunLemmas

@@ -1,10 +1,11 @@
 -- Runs in turn: what their ends report, and what is to hold of each end.
 -- Source: own.
-use Rattle.std.specs.Prelude.{◌≡◌, ◌≢◌, ◌≤◌, ℕ, Bool, List, [], ◌∷◌, ◌++◌, map, take, flat_map, string_bytes}
-use Rattle.std.specs.List.{All}
+use Rattle.std.specs.Prelude.{◌≡◌, ◌≢◌, ◌≤◌, ℕ, ⊤, Bool, List, [], ◌∷◌, ◌++◌, map, take, flat_map, string_bytes}
+use Rattle.std.specs.List.{All, Contains}
 use Rattle.kmip_plan.specs.Chains.{chain}
 use Rattle.kmip_plan.specs.declared.key.Key.{Key}
 use Rattle.kmip_progress.specs.declared.known.Known.{Known}
+use Rattle.kmip_client.specs.Knowledge.{chain_length}
 use Rattle.kmip_client.specs.declared.clash.Clash.{Clash}
 use Rattle.kmip_client.specs.declared.knowledge.Verdict.{Verdict}
 use Rattle.kmip_client.specs.declared.knowledge.Verdict.TheVariants.{Working, Finished, Conflict}
@@ -45,12 +46,28 @@ IsNoClash verdict = (clash : Clash) → verdict ≢ Conflict clash
 abbrev pub HasNoConflict : RunEnd → Type 0
 HasNoConflict end = (end.stop ≢ stops.Conflict) × All IsNoClash end.verdicts.items
 
+-- some key is in conflict
+abbrev pub HasClash : RunEnd → Type 0
+HasClash end = (clash : Clash) × Contains end.verdicts.items (Conflict clash)
+
 -- how a run stands that stopped so; none stops for want of memory
 abbrev pub StopsSo : Stop → Run → RunEnd → Type 0
 StopsSo stops.AllFinished run end = All (λ verdict. verdict ≡ Finished) end.verdicts.items
-StopsSo stops.Limit run end = end.exchanges ≡ run.limit
-StopsSo stops.Conflict run end = All (λ verdict. verdict ≢ Working) end.verdicts.items
+StopsSo stops.Limit run end = (end.exchanges ≡ run.limit) × Contains end.verdicts.items Working
+StopsSo stops.Conflict run end = All (λ verdict. verdict ≢ Working) end.verdicts.items × HasClash end
 StopsSo stops.NoMemory run end = ⊥
+
+-- No more steps are counted than lead to the target, and the key is finished exactly where all are.
+pub record IsFull (key : Key) (count : ℕ) (verdict : Verdict) : Type 0 where
+  pub few : count ≤ chain_length key
+  pub done : verdict ≡ Finished → count ≡ chain_length key
+  pub finished : count ≡ chain_length key → verdict ≡ Finished
+
+-- so it is with each key
+abbrev pub AreFull : List Key → List ℕ → List Verdict → Type 0
+AreFull [] [] [] = ⊤
+AreFull (key ∷ keys) (count ∷ counts) (verdict ∷ verdicts) = IsFull key count verdict × AreFull keys counts verdicts
+AreFull keys counts verdicts = ⊥
 
 -- The end is one of this run: a report of its own counts and verdicts, a reason to stop that they bear out, and no more
 -- exchanges than the run may make.
@@ -58,6 +75,7 @@ pub record IsEnd (keys : List Key) (run : Run) (end : RunEnd) : Type 0 where
   pub report_is : string_bytes end.report ≡ report_text keys end.counts.items end.verdicts.items
   pub stops : StopsSo end.stop run end
   pub within : end.exchanges ≤ run.limit
+  pub full : AreFull keys end.counts.items end.verdicts.items
 
 -- what is known at the end of the run is saved
 abbrev pub saves : Run → Bool

@@ -1,21 +1,23 @@
 -- Private: what the parts of a campaign keep.
 -- Source: own.
-use Rattle.std.specs.Prelude.{◌≡◌, ◌≢◌, ◌≤◌, ◌⊎◌, ℕ, ◌+◌, List, [], ◌∷◌, ◌++◌, length, string_bytes}
+use Rattle.std.specs.Prelude.{◌≡◌, ◌≢◌, ◌≤◌, ℕ, List, [], ◌∷◌, ◌++◌, string_bytes}
 use Rattle.std.specs.List.{All, AllZip}
 use Rattle.kmip_messages.specs.Objects.{Object}
 use Rattle.kmip_plan.specs.Laws.{KeysAreFound, PlacesAndSteps}
 use Rattle.kmip_plan.specs.declared.key.Key.{Key}
 use Rattle.kmip_progress.specs.declared.known.Known.{Known}
-use Rattle.kmip_client.specs.Clients.{ClientState, one_if}
+use Rattle.kmip_client.specs.Clients.{ClientState}
 use Rattle.kmip_client.specs.Held.{TrueProgress}
 use Rattle.kmip_client.specs.Laws.{OnwardToItself, OnwardTwice, HeldForGood}
 use Rattle.kmip_client.specs.Places.{position}
-use Rattle.kmip_client.specs.Standing.{counts_of, verdicts_of}
+use Rattle.kmip_client.specs.Shapes.{IsKept}
+use Rattle.kmip_client.specs.Standing.{AreWithin, counts_of, verdicts_of}
 use Rattle.kmip_client.specs.declared.knowledge.Knowledge.{Knowledge}
 use Rattle.kmip_schedule.specs.Laws.{DeliveriesKeepSound, DeliveriesKeepTheImage, ObjectsGoOnward, OpeningIsMirrored, SoundIsSafe}
-use Rattle.kmip_schedule.specs.Past.{Past, Names}
-use Rattle.kmip_session.specs.Campaign.{GoodLink, HasNoConflict, IsEnd, saves}
-use Rattle.kmip_session.specs.Driving.{IsGood, WentOn}
+use Rattle.kmip_schedule.specs.Past.{Past, Names, is_planned}
+use Rattle.kmip_session.specs.Campaign.{GoodLink, HasNoConflict, IsEnd}
+use Rattle.kmip_session.specs.Driving.{Grown, IsGood, Learnt, WentOn}
+use Rattle.kmip_session.specs.Remembering.{Shows, saved_after, start_knowns}
 use Rattle.kmip_session.specs.Reporting.{report_text}
 use Rattle.kmip_session.specs.declared.campaigning.CampaignEnd.{CampaignEnd}
 use Rattle.kmip_session.specs.declared.campaigning.Run.{Run}
@@ -63,20 +65,37 @@ pub record IsEndOf (keys : List Key) (knowns : List Knowledge) (stop : Stop) (ex
   pub exchanges_is : end.exchanges ≡ exchanges
   pub counts_are : end.counts.items ≡ counts_of knowns
   pub verdicts_are : end.verdicts.items ≡ verdicts_of keys knowns
+  pub few : AreWithin keys end.counts.items
   pub report_is : string_bytes end.report ≡ report_text keys end.counts.items end.verdicts.items
   pub in_memory : stop ≢ stops.NoMemory
 
--- one more end is noted, of this run
-pub record IsNoted (keys : List Key) (run : Run) (old new : List RunEnd) : Type 0 where
+-- One more end is noted, of this run, that shows what is known.
+pub record IsNoted (keys : List Key) (run : Run) (knowns : List Knowledge) (exchanges : ℕ) (old new : List RunEnd) : Type 0 where
   pub end : RunEnd
   pub joined : new ≡ old ++ end ∷ []
   pub is_end : IsEnd keys run end
+  pub shows : Shows keys knowns end
+  pub exchanges_is : end.exchanges ≡ exchanges
 
--- or none yet
-abbrev pub MayHaveEnded : List Key → Run → List RunEnd → List RunEnd → Type 0
-MayHaveEnded keys run old new = (new ≡ old) ⊎ IsNoted keys run old new
+-- the run has ended, and what is known was saved if it says so
+pub record HasEnded (keys : List Key) (run : Run) (knowns : List Knowledge) (exchanges : ℕ) (old new : CampaignEnd) : Type 0 where
+  pub noted : IsNoted keys run knowns exchanges old.runs.items new.runs.items
+  pub saved_are : new.saved.items ≡ saved_after run knowns old.saved.items
 
--- the run has ended, and was saved if it says so
-pub record HasEnded (keys : List Key) (run : Run) (old new : CampaignEnd) : Type 0 where
-  pub noted : IsNoted keys run old.runs.items new.runs.items
-  pub as_many : length new.saved.items ≡ length old.saved.items + one_if (saves run)
+-- nothing more is noted
+pub record AreSame (old new : CampaignEnd) : Type 0 where
+  pub same_runs : new.runs.items ≡ old.runs.items
+  pub same_saved : new.saved.items ≡ old.saved.items
+
+-- The run was made and has ended: nothing of what it began with is taken back, and over an honest link its answers taught the rest.
+pub record HasRun {L : Type 0} (past : L → Past) (honest : L → Names → Type 0) (keys : List Key) (run : Run) (a b : ClientState) (x y : L) (old new : CampaignEnd) : Type 0 where
+  pub exchanges : ℕ
+  pub ended : HasEnded keys run b.knowns exchanges old new
+  pub kept : AllZip IsKept (start_knowns keys run.start a.knowns old.saved.items) b.knowns
+  pub learnt : honest x (is_planned keys) → honest y (is_planned keys)
+      × Learnt keys (past x) (past y) (start_knowns keys run.start a.knowns old.saved.items) b.knowns exchanges
+
+-- or it was broken off, and nothing is noted of it
+pub record IsBroken {L : Type 0} (past : L → Past) (honest : L → Names → Type 0) (keys : List Key) (x y : L) (old new : CampaignEnd) : Type 0 where
+  pub same : AreSame old new
+  pub grown : honest x (is_planned keys) → Grown (past x) (past y)

@@ -5,3 +5,4 @@ pub mod Reporting
 pub mod Lawbook
 pub mod Campaign
 pub mod CampaignParts
+pub mod Remembering

@@ -1,26 +1,29 @@
 //! Runs in turn over one link, each from nothing, from the run before it or from a saved progress.
-ghost use Rattle.std.specs.Prelude.{◌≡◌, ◌≢◌, ◌≤◌, ◌⊎◌, ℕ, List, [], length, filter, take, None, Ok, IfOk, OnErr, OnOk, IfSome, false};
+ghost use Rattle.std.specs.Prelude.{◌≡◌, ◌≢◌, ◌≤◌, ◌⊎◌, ℕ, List, [], length, filter, map, take, Some, None, Ok, IfOk, OnErr, OnOk, IfSome, option_map, false, if◌then◌else◌};
 ghost use Rattle.std.specs.List.{All, AllZip, Contains};
 ghost use Rattle.kmip_messages.specs.Objects.{Object};
 ghost use Rattle.kmip_client.specs.Held.{Held, TrueProgress};
 ghost use Rattle.kmip_progress.specs.Suiting.{Suits};
 ghost use Rattle.kmip_schedule.specs.Machine.{IsMirrored};
 ghost use Rattle.kmip_schedule.specs.Moves.{Delivered};
+ghost use Rattle.kmip_client.specs.Saving.{known_of};
 ghost use Rattle.kmip_schedule.specs.Past.{Past, Names, is_planned};
 ghost use Rattle.kmip_schedule.specs.Safe.{Safe};
 ghost use Rattle.kmip_schedule.specs.Sound.{Opening};
 ghost use Rattle.kmip_session.specs.Campaign.{GoodLink, HasNoConflict, IsEnd, reported, saves};
 ghost use Rattle.kmip_session.specs.CampaignParts.{
+  AreSame,
   CampaignLaws,
   Campaigned,
   HasEnded,
+  HasRun,
+  IsBroken,
   IsEndOf,
-  IsNoted,
-  MayHaveEnded,
   Noted,
   Standing,
 };
 ghost use Rattle.kmip_session.specs.Driving.{Stands, WentOn};
+ghost use Rattle.kmip_session.specs.Remembering.{AreKnown, resumed, saved_numbered, start_knowns};
 
 use crate::driving::drive;
 use crate::reporting::report_of;
@@ -102,6 +105,9 @@ pub fn campaign<L: Link>(alloc: Global, plan: &Plan, link: &mut L, runs: &[Run])
         result.runs.items }
     ensures complete { result.fault ≡ None → AllZip (IsEnd plan.now) runs.now result.runs.items
         × (length result.saved.items ≡ length (filter saves runs.now)) }
+    ensures known { AreKnown plan.now runs.now result.runs.items result.saved.items
+        (L.honest link.old (is_planned plan.now)) (result.fault ≡ None)
+        (L.past link.old) (L.past link.new) }
 {
     laws_below();
     plan.keys();
@@ -150,6 +156,9 @@ fn run_all<L: Link>(
         end.new.runs.items }
     ensures complete { OnOk result (AllZip (IsEnd plan.now) runs.now end.new.runs.items
         × (length end.new.saved.items ≡ length (filter saves runs.now))) }
+    ensures known { AreKnown plan.now runs.now end.new.runs.items end.new.saved.items
+        (L.honest link.old (is_planned plan.now)) (result ≡ Ok tt)
+        (L.past link.old) (L.past link.new) }
 {
     laws_below();
     plan.keys();
@@ -180,8 +189,11 @@ fn one_run<'p, L: Link>(
         end.old.saved.items
         → Standing L.past L.honest plan.now client.new link.new end.new.runs.items
         end.new.saved.items × WentOn plan.now (L.past link.old) (L.past link.new) }
-    ensures ended { OnOk result (HasEnded plan.now run end.old end.new) }
-    ensures noted { MayHaveEnded plan.now run end.old.runs.items end.new.runs.items }
+    ensures ran { OnOk result (HasRun L.past L.honest plan.now run client.old client.new
+        link.old link.new end.old end.new) }
+    ensures broken { OnErr result (IsBroken L.past L.honest plan.now link.old link.new
+        end.old end.new ⊎ HasRun L.past L.honest plan.now run client.old client.new
+        link.old link.new end.old end.new) }
 {
     laws_below();
     plan.keys();
@@ -208,6 +220,8 @@ fn begin<'p>(
     ensures held { (objects : List Object) → All (TrueProgress objects plan.now) saved.now
         → Held objects client.old.keys client.old.knowns
         → Held objects client.new.keys client.new.knowns }
+    ensures begun { OnOk result (client.new.knowns
+        ≡ start_knowns plan.now start client.old.knowns saved.now) }
 {
     let number = match start {
         Start::Same => return Ok(()),
@@ -220,7 +234,9 @@ fn begin<'p>(
 
 /// The saved progress of a number, from 1.
 fn saved_at(saved: &[Progress], number: usize) -> Option<&Progress>
-    ensures { IfSome result (λ progress. Contains saved.now progress.now) }
+    ensures value { option_map (λ progress. progress.now) result
+        ≡ saved_numbered number saved.now }
+    ensures member { IfSome result (λ progress. Contains saved.now progress.now) }
 {
     if number == 0 {
         return None;
@@ -243,6 +259,8 @@ fn client_from<'p>(
     ensures keys { IfOk result (λ client. client.keys ≡ plan.now) }
     ensures held { (objects : List Object) → All (TrueProgress objects plan.now) saved.now
         → IfOk result (λ client. Held objects client.keys client.knowns) }
+    ensures known { IfOk result (λ client. client.knowns
+        ≡ resumed plan.now (saved_numbered number saved.now)) }
 {
     match saved_at(saved, number) {
         Some(progress) => Client::resume(alloc, plan, progress),
@@ -253,7 +271,7 @@ fn client_from<'p>(
 /// Notes how a run has ended, and saves what is known where the run says so.
 ///
 /// # Errors
-/// Where there is no memory, or was none in the run; what was noted stays so.
+/// Where there is no memory, or was none in the run; nothing is then noted.
 fn finish(
     alloc: Global,
     client: &Client<'_>,
@@ -270,16 +288,38 @@ fn finish(
         → Held objects client.now.keys client.now.knowns
         → Noted objects client.now.keys end.old.runs.items end.old.saved.items
         → Noted objects client.now.keys end.new.runs.items end.new.saved.items }
-    ensures ended { OnOk result (HasEnded client.now.keys run end.old end.new) }
-    ensures noted { MayHaveEnded client.now.keys run end.old.runs.items end.new.runs.items }
+    ensures ended { OnOk result (HasEnded client.now.keys run client.now.knowns driven.1
+        end.old end.new × (driven.0 ≢ Stop.NoMemory)) }
+    ensures same { OnErr result (AreSame end.old end.new) }
 {
     let run_end = end_of(alloc, client, driven)?;
-    end.runs.push(run_end)?;
-    if run.save {
-        let progress = client.progress(alloc)?;
-        end.saved.push(progress)?;
-    }
+    let saved = saved_of(alloc, client, run.save)?;
+    end.runs.reserve(1)?;
+    end.saved.reserve(1)?;
+    end.runs.push_reserved(run_end);
+    let Some(progress) = saved else {
+        return Ok(());
+    };
+    end.saved.push_reserved(progress);
     Ok(())
+}
+
+/// What is known, where it is to be saved.
+///
+/// # Errors
+/// Where there is no memory for it.
+fn saved_of(alloc: Global, client: &Client<'_>, save: bool) -> Result<Option<Progress>, NoMemory>
+    ensures saved { IfOk result (λ saved. saved
+        ≡ (if save then Some (map known_of client.now.knowns) else None)) }
+    ensures suits { IfOk result (λ saved. IfSome saved (Suits client.now.keys)) }
+    ensures held { (objects : List Object) → Held objects client.now.keys client.now.knowns
+        → IfOk result (λ saved. IfSome saved (TrueProgress objects client.now.keys)) }
+{
+    if !save {
+        return Ok(None);
+    }
+    let progress = client.progress(alloc)?;
+    Ok(Some(progress))
 }
 
 /// How a run has ended.

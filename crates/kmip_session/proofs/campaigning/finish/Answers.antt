@@ -1,85 +1,62 @@
--- The end is noted, and then what is saved.
-use Rattle.std.proofs.Common.{subst, sym, inr}
+-- The end is noted, and what is saved.
+use Rattle.std.proofs.Common.{◌≡◌, ◌∙◌, [], ◌∷◌, ◌++◌, IfSome, None, Some, ap, rules, subst, sym}
+use Rattle.kmip_client.specs.Held.{TrueProgress}
 use Rattle.kmip_session.specs.CampaignParts.{Noted}
 use Rattle.kmip_session.proofs.CampaignLemmas.{noted_end, noted_saved}
-use Rattle.kmip_session.proofs.OrderLemmas.{as_many_more, as_many_still, is_end}
+use Rattle.kmip_session.proofs.OrderLemmas.{is_noted, saved_more, saved_still}
 use Rattle.kmip_session.proofs.campaigning.finish.Goals as goal
 
-pub returns-in_err-progress-clause-true_of : goal.returns-in_err-progress-clause-true_of
-returns-in_err-progress-clause-true_of c = λ objects none held noted.
+pub returns-in_default-clause-true_of : goal.returns-in_default-clause-true_of
+returns-in_default-clause-true_of c = λ objects none held noted.
     let client = c.args.client.now in
-    subst (λ ends. Noted objects client.keys ends c.args.end.now.saved.items) (sym c.in_ok-push.ensures.items)
-    (noted_end objects client.keys client.knowns c.args.driven.0 c.args.driven.1 c.in_ok-run_end.run_end c.args.end.now.runs.items c.args.end.now.saved.items
-    c.in_ok-run_end.ensures none held noted)
-
-pub returns-in_err-progress-clause-noted : goal.returns-in_err-progress-clause-noted
-returns-in_err-progress-clause-noted c = inr (record {
-  end = c.in_ok-run_end.run_end;
-  joined = c.in_ok-push.ensures.items;
-  is_end = is_end c.args.client.now.keys c.args.client.now.knowns c.args.run c.args.driven.0 c.args.driven.1 c.in_ok-run_end.run_end c.in_ok-run_end.ensures c.requires.stands c.requires.limit c.requires.within;
-})
-
-pub returns-in_err-push-2-clause-true_of : goal.returns-in_err-push-2-clause-true_of
-returns-in_err-push-2-clause-true_of c = λ objects none held noted.
-    let client = c.args.client.now in
-    subst (λ saved. Noted objects client.keys c.push.new.self.items saved) (sym c.in_err-push-2.ensures.items)
-    (subst (λ ends. Noted objects client.keys ends c.args.end.now.saved.items) (sym c.in_ok-push.ensures.items)
+    let joined = c.push_reserved.ensures.items ∙ ap (λ ends. ends ++ c.in_ok-run_end.run_end ∷ []) c.reserve.ensures.items in
+    subst (λ ends. Noted objects client.keys ends c.reserve-2.new.self.items) (sym joined)
+    (subst (λ saved. Noted objects client.keys (c.args.end.now.runs.items ++ c.in_ok-run_end.run_end ∷ []) saved) (sym c.reserve-2.ensures.items)
     (noted_end objects client.keys client.knowns c.args.driven.0 c.args.driven.1 c.in_ok-run_end.run_end c.args.end.now.runs.items c.args.end.now.saved.items
     c.in_ok-run_end.ensures none held noted))
 
-pub returns-in_err-push-2-clause-noted : goal.returns-in_err-push-2-clause-noted
-returns-in_err-push-2-clause-noted c = inr (record {
-  end = c.in_ok-run_end.run_end;
-  joined = c.in_ok-push.ensures.items;
-  is_end = is_end c.args.client.now.keys c.args.client.now.knowns c.args.run c.args.driven.0 c.args.driven.1 c.in_ok-run_end.run_end c.in_ok-run_end.ensures c.requires.stands c.requires.limit c.requires.within;
-})
-
-pub returns-in_ok-push-2-clause-true_of : goal.returns-in_ok-push-2-clause-true_of
-returns-in_ok-push-2-clause-true_of c = λ objects none held noted.
+pub returns-in_default-clause-ended : goal.returns-in_default-clause-ended
+returns-in_default-clause-ended c =
     let client = c.args.client.now in
-    subst (λ saved. Noted objects client.keys c.push.new.self.items saved) (sym c.in_ok-push-2.ensures.items)
-    (noted_saved objects client.keys c.in_ok-progress.progress c.push.new.self.items c.args.end.now.saved.items (c.in_ok-progress.ensures.held objects held)
-    (subst (λ ends. Noted objects client.keys ends c.args.end.now.saved.items) (sym c.in_ok-push.ensures.items)
+    let none : c.in_ok-saved.saved ≡ None = search rules in (
+      record {
+        noted =
+            is_noted client.keys client.knowns c.args.run c.args.driven.0 c.args.driven.1 c.in_ok-run_end.run_end c.args.end.now.runs.items
+            c.push_reserved.new.self.items c.in_ok-run_end.ensures c.requires.stands c.requires.limit c.requires.within
+            (c.push_reserved.ensures.items ∙ ap (λ ends. ends ++ c.in_ok-run_end.run_end ∷ []) c.reserve.ensures.items);
+        saved_are =
+            saved_still c.args.run client.knowns c.args.end.now.saved.items c.reserve-2.new.self.items (sym none ∙ c.in_ok-saved.ensures.saved)
+            c.reserve-2.ensures.items;
+      },
+      c.in_ok-run_end.ensures.in_memory,
+    )
+
+pub returns-clause-true_of : goal.returns-clause-true_of
+returns-clause-true_of c = λ objects none held noted.
+    let client = c.args.client.now in
+    let joined = c.push_reserved.ensures.items ∙ ap (λ ends. ends ++ c.in_ok-run_end.run_end ∷ []) c.reserve.ensures.items in
+    let saved = c.push_reserved-2.ensures.items ∙ ap (λ ps. ps ++ c.in-Some.progress ∷ []) c.reserve-2.ensures.items in
+    let there : c.in_ok-saved.saved ≡ Some c.in-Some.progress = search rules in
+    let holds = subst (λ o. IfSome o (TrueProgress objects client.keys)) there (c.in_ok-saved.ensures.held objects held) in
+    subst (λ ends. Noted objects client.keys ends c.push_reserved-2.new.self.items) (sym joined)
+    (subst (λ ps. Noted objects client.keys (c.args.end.now.runs.items ++ c.in_ok-run_end.run_end ∷ []) ps) (sym saved)
+    (noted_saved objects client.keys c.in-Some.progress (c.args.end.now.runs.items ++ c.in_ok-run_end.run_end ∷ []) c.args.end.now.saved.items holds
     (noted_end objects client.keys client.knowns c.args.driven.0 c.args.driven.1 c.in_ok-run_end.run_end c.args.end.now.runs.items c.args.end.now.saved.items
     c.in_ok-run_end.ensures none held noted)))
 
-pub returns-in_ok-push-2-clause-ended : goal.returns-in_ok-push-2-clause-ended
-returns-in_ok-push-2-clause-ended c = record {
-  noted = record {
-    end = c.in_ok-run_end.run_end;
-    joined = c.in_ok-push.ensures.items;
-    is_end = is_end c.args.client.now.keys c.args.client.now.knowns c.args.run c.args.driven.0 c.args.driven.1 c.in_ok-run_end.run_end c.in_ok-run_end.ensures c.requires.stands c.requires.limit c.requires.within;
-  };
-  as_many = as_many_more c.args.end.now.saved.items c.push-then-run.new.self.items c.in_ok-progress.progress c.args.run.save c.in_ok-push-2.ensures.items (search c.if-run.true);
-}
-
-pub returns-in_ok-push-2-clause-noted : goal.returns-in_ok-push-2-clause-noted
-returns-in_ok-push-2-clause-noted c = inr (record {
-  end = c.in_ok-run_end.run_end;
-  joined = c.in_ok-push.ensures.items;
-  is_end = is_end c.args.client.now.keys c.args.client.now.knowns c.args.run c.args.driven.0 c.args.driven.1 c.in_ok-run_end.run_end c.in_ok-run_end.ensures c.requires.stands c.requires.limit c.requires.within;
-})
-
-pub returns-else-run-clause-true_of : goal.returns-else-run-clause-true_of
-returns-else-run-clause-true_of c = λ objects none held noted.
+pub returns-clause-ended : goal.returns-clause-ended
+returns-clause-ended c =
     let client = c.args.client.now in
-    subst (λ ends. Noted objects client.keys ends c.args.end.now.saved.items) (sym c.in_ok-push.ensures.items)
-    (noted_end objects client.keys client.knowns c.args.driven.0 c.args.driven.1 c.in_ok-run_end.run_end c.args.end.now.runs.items c.args.end.now.saved.items
-    c.in_ok-run_end.ensures none held noted)
-
-pub returns-else-run-clause-ended : goal.returns-else-run-clause-ended
-returns-else-run-clause-ended c = record {
-  noted = record {
-    end = c.in_ok-run_end.run_end;
-    joined = c.in_ok-push.ensures.items;
-    is_end = is_end c.args.client.now.keys c.args.client.now.knowns c.args.run c.args.driven.0 c.args.driven.1 c.in_ok-run_end.run_end c.in_ok-run_end.ensures c.requires.stands c.requires.limit c.requires.within;
-  };
-  as_many = as_many_still c.args.end.now.saved.items c.args.run.save (search c.if-run.false);
-}
-
-pub returns-else-run-clause-noted : goal.returns-else-run-clause-noted
-returns-else-run-clause-noted c = inr (record {
-  end = c.in_ok-run_end.run_end;
-  joined = c.in_ok-push.ensures.items;
-  is_end = is_end c.args.client.now.keys c.args.client.now.knowns c.args.run c.args.driven.0 c.args.driven.1 c.in_ok-run_end.run_end c.in_ok-run_end.ensures c.requires.stands c.requires.limit c.requires.within;
-})
+    let there : c.in_ok-saved.saved ≡ Some c.in-Some.progress = search rules in (
+      record {
+        noted =
+            is_noted client.keys client.knowns c.args.run c.args.driven.0 c.args.driven.1 c.in_ok-run_end.run_end c.args.end.now.runs.items
+            c.push_reserved.new.self.items c.in_ok-run_end.ensures c.requires.stands c.requires.limit c.requires.within
+            (c.push_reserved.ensures.items ∙ ap (λ ends. ends ++ c.in_ok-run_end.run_end ∷ []) c.reserve.ensures.items);
+        saved_are =
+            saved_more c.args.run client.knowns c.in-Some.progress c.args.end.now.saved.items c.push_reserved-2.new.self.items
+            (sym there ∙ c.in_ok-saved.ensures.saved)
+            (c.push_reserved-2.ensures.items ∙ ap (λ ps. ps ++ c.in-Some.progress ∷ []) c.reserve-2.ensures.items);
+      },
+      c.in_ok-run_end.ensures.in_memory,
+    )

@@ -1,8 +1,11 @@
 -- Begun, driven, noted and closed.
-use Rattle.std.proofs.Common.{◌∙◌, subst, sym}
+use Rattle.std.proofs.Common.{◌≡◌, ◌∙◌, inl, inr, refl, subst, sym}
 use Rattle.std.specs.List.{All}
 use Rattle.kmip_client.specs.Held.{TrueProgress}
+use Rattle.kmip_session.specs.Remembering.{start_knowns}
 use Rattle.kmip_session.proofs.CampaignLemmas.{closed, stood}
+use Rattle.kmip_session.proofs.KnownLemmas.{grown_itself}
+use Rattle.kmip_session.proofs.RememberLemmas.{always_err, always_ok, broken_off, ran_closed}
 use Rattle.kmip_session.proofs.campaigning.one_run.Goals as goal
 
 pub returns-in_err-finish-clause-stands : goal.returns-in_err-finish-clause-stands
@@ -22,3 +25,36 @@ returns-clause-stands g c = λ standing.
     c.keys.ensures.lawful c.requires.keys c.begin.ensures.keys (c.drive-driven.ensures.kept.keys_stay ∙ c.begin.ensures.keys)
     (λ objects saved. c.begin.ensures.held objects (subst (λ ps. All (TrueProgress objects c.args.plan.now) ps) (sym c.as_slice.ensures.value) saved))
     c.drive-driven.ensures.good c.drive-driven.ensures.goes c.drive-driven.ensures.no_conflict c.finish.ensures.true_of standing)
+
+pub returns-in_err-begin-clause-broken : goal.returns-in_err-begin-clause-broken
+returns-in_err-begin-clause-broken g c =
+    always_err c.from_residual.result
+    (inl (record { same = record { same_runs = refl; same_saved = refl }; grown = λ honest. grown_itself (g.L.Link.past c.args.link.now) }))
+
+pub returns-in_err-finish-clause-broken : goal.returns-in_err-finish-clause-broken
+returns-in_err-finish-clause-broken g c =
+    always_err c.from_residual-in_err-finish.result
+    (inl (broken_off g.L.Link.past g.L.Link.honest c.args.plan.now c.begin.new.client c.args.link.now c.drive-driven.new.link c.args.end.now c.finish.new.end
+    c.begin.ensures.keys c.drive-driven.ensures.grown c.in_err-finish.ensures.same))
+
+pub returns-clause-ran : goal.returns-clause-ran
+returns-clause-ran g c =
+    always_ok c.close.result
+    (ran_closed g.L.Link.past g.L.Link.honest c.args.plan.now c.args.run c.args.client.now c.begin.new.client c.drive-driven.new.client c.args.link.now
+    c.drive-driven.new.link c.close.new.link c.drive-driven.result.1 c.args.end.now c.finish.new.end c.begin.ensures.keys
+    (subst (λ ps. c.begin.new.client.knowns ≡ start_knowns c.args.plan.now c.args.run.start c.args.client.now.knowns ps) c.as_slice.ensures.value
+    c.in_ok-begin.ensures.begun)
+    c.drive-driven.ensures.kept
+    (λ honest. let known = c.drive-driven.ensures.known honest in (known.0, known.1 c.in_ok-finish.ensures.ended.1))
+    c.in_ok-finish.ensures.ended.0 c.close.ensures)
+
+pub returns-clause-broken : goal.returns-clause-broken
+returns-clause-broken g c =
+    always_err c.close.result
+    (inr (ran_closed g.L.Link.past g.L.Link.honest c.args.plan.now c.args.run c.args.client.now c.begin.new.client c.drive-driven.new.client c.args.link.now
+    c.drive-driven.new.link c.close.new.link c.drive-driven.result.1 c.args.end.now c.finish.new.end c.begin.ensures.keys
+    (subst (λ ps. c.begin.new.client.knowns ≡ start_knowns c.args.plan.now c.args.run.start c.args.client.now.knowns ps) c.as_slice.ensures.value
+    c.in_ok-begin.ensures.begun)
+    c.drive-driven.ensures.kept
+    (λ honest. let known = c.drive-driven.ensures.known honest in (known.0, known.1 c.in_ok-finish.ensures.ended.1))
+    c.in_ok-finish.ensures.ended.0 c.close.ensures))

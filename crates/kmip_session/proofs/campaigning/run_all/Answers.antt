@@ -1,22 +1,71 @@
 -- Run by run.
-use Rattle.std.proofs.Common.{rules, ◌<◌, length}
+use Rattle.std.proofs.Common.{◌≡◌, ◌<◌, Ok, Err, length, rules, refl, sym, subst, slice_get, Some, inl, inr}
 use Rattle.std.proofs.lemmas.Option.{slice_get-get_or}
-use Rattle.kmip_session.proofs.OrderLemmas.{ends_all, ends_front}
-use Rattle.kmip_session.proofs.RunLemmas.{running_more}
+use Rattle.kmip_client.specs.Clients.{fresh}
+use Rattle.kmip_session.proofs.OrderLemmas.{ends_all, ends_more, ends_same}
+use Rattle.kmip_session.proofs.RememberLemmas.{broken_known, recalled_known, recalled_more, recalled_none}
+use Rattle.kmip_session.proofs.RunLemmas.{running_more, running_none}
 use Rattle.kmip_session.proofs.campaigning.run_all.Goals as goal
+
+pub returns-in_err-client-clause-known : goal.returns-in_err-client-clause-known
+returns-in_err-client-clause-known g c =
+    let past = g.L.Link.past in
+    let honest = g.L.Link.honest in
+    let keys = c.args.plan.now in
+    let end = c.args.end.now in
+    recalled_known past honest keys c.args.runs.now (fresh keys) c.args.link.now c.args.link.now end.runs.items end.saved.items _
+    (recalled_none past honest keys c.args.runs.now (fresh keys) c.args.link.now end.runs.items end.saved.items refl c.requires.no_end c.requires.none_saved)
+
+pub loop-place-init : goal.loop-place-init
+loop-place-init g c =
+    running_none g.L.Link.past g.L.Link.honest c.laws_below.ensures c.args.plan.now c.in_ok-client.client c.args.link.now c.args.runs.now c.args.end.now.runs.items
+    c.args.end.now.saved.items c.in_ok-client.ensures.fresh c.in_ok-client.ensures.held c.requires.no_end c.requires.none_saved
 
 pub returns-in_err-one_run-clause-order : goal.returns-in_err-one_run-clause-order
 returns-in_err-one_run-clause-order g c =
     let below : c.loop-place.place < length c.args.runs.now = search rules in
-    ends_front c.args.plan.now c.args.runs.now c.loop-place.place _ c.loop-place.end.runs.items c.one_run.new.end.runs.items
-    (slice_get-get_or c.args.runs.now c.loop-place.place _ below) c.loop-place.invariant.each c.one_run.ensures.noted
+    let keys = c.args.plan.now in
+    let runs = c.args.runs.now in
+    let before = c.loop-place.invariant in
+    elim c.in_err-one_run.ensures.broken [
+      | inl broken ↦
+          ends_same keys runs c.loop-place.place c.loop-place.end.runs.items c.one_run.new.end.runs.items broken.same.same_runs before.each
+      | inr ran ↦
+          ends_all keys runs _ c.one_run.new.end.runs.items
+              (ends_more keys runs c.loop-place.place _ c.loop-place.end.runs.items c.one_run.new.end.runs.items
+              (slice_get-get_or runs c.loop-place.place _ below) before.each c.one_run.new.client.knowns ran.exchanges ran.ended.noted)
+    ]
+
+pub returns-in_err-one_run-clause-known : goal.returns-in_err-one_run-clause-known
+returns-in_err-one_run-clause-known g c =
+    let below : c.loop-place.place < length c.args.runs.now = search rules in
+    let past = g.L.Link.past in
+    let honest = g.L.Link.honest in
+    let keys = c.args.plan.now in
+    let runs = c.args.runs.now in
+    let before = c.loop-place.invariant in
+    elim c.in_err-one_run.ensures.broken [
+      | inl broken ↦
+          broken_known past honest keys runs c.loop-place.client c.args.link.now c.loop-place.link c.one_run.new.link c.loop-place.end c.one_run.new.end _
+              (λ is. absurd cc) before.recalled broken
+      | inr ran ↦
+          recalled_known past honest keys runs c.one_run.new.client c.args.link.now c.one_run.new.link c.one_run.new.end.runs.items c.one_run.new.end.saved.items _
+              (recalled_more past honest keys runs c.loop-place.client c.one_run.new.client c.args.link.now c.loop-place.link c.one_run.new.link _ c.loop-place.end
+              c.one_run.new.end
+              (subst (λ n. slice_get runs n ≡ Some _) (sym before.as_many_ends) (slice_get-get_or runs c.loop-place.place _ below)) before.recalled ran)
+    ]
 
 pub loop-place-preserved : goal.loop-place-preserved
 loop-place-preserved g c =
     let below : c.loop-place.place < length c.args.runs.now = search rules in
     running_more g.L.Link.past g.L.Link.honest c.laws_below.ensures c.args.plan.now c.loop-place.client c.one_run.new.client c.args.link.now c.loop-place.link
     c.one_run.new.link c.args.runs.now c.loop-place.place _ c.loop-place.end c.one_run.new.end (slice_get-get_or c.args.runs.now c.loop-place.place _ below)
-    c.loop-place.invariant c.one_run.ensures.keys c.one_run.ensures.suits c.one_run.ensures.stands c.in_ok-one_run.ensures.ended
+    c.loop-place.invariant c.one_run.ensures.keys c.one_run.ensures.suits c.one_run.ensures.stands c.in_ok-one_run.ensures.ran
 
 pub returns-clause-order : goal.returns-clause-order
 returns-clause-order g c = ends_all c.args.plan.now c.args.runs.now c.loop-place.place c.loop-place.end.runs.items c.loop-place.invariant.each
+
+pub returns-clause-known : goal.returns-clause-known
+returns-clause-known g c =
+    recalled_known g.L.Link.past g.L.Link.honest c.args.plan.now c.args.runs.now c.loop-place.client c.args.link.now c.loop-place.link c.loop-place.end.runs.items
+    c.loop-place.end.saved.items _ c.loop-place.invariant.recalled

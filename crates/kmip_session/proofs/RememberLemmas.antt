@@ -1,0 +1,254 @@
+-- What was known at the ends of some runs, and one run more.
+use Rattle.std.proofs.Common.{◌≡◌, ℕ, ◌+◌, List, [], ◌∷◌, ◌++◌, length, slice_get, flat_map, Some, Result, Ok, Err, OnErr, OnOk, sym, ap, subst, refl, ◌∙◌, append_assoc, append-nil, arith}
+use Rattle.std.specs.List.{AllZip}
+use Rattle.std.proofs.lemmas.List.{length-append}
+use Rattle.std.proofs.lemmas.List.Concat.{flat_map-append}
+use Rattle.std.proofs.lemmas.Slice.Zip.{AllZip-long}
+use Rattle.kmip_messages.specs.Items.{requests_in}
+use Rattle.kmip_plan.specs.declared.key.Key.{Key}
+use Rattle.kmip_progress.specs.declared.known.Known.{Known}
+use Rattle.kmip_client.specs.Clients.{ClientState, fresh}
+use Rattle.kmip_client.specs.Known.{facts, known_after}
+use Rattle.kmip_client.specs.Shapes.{IsKept}
+use Rattle.kmip_client.specs.declared.knowledge.Knowledge.{Knowledge}
+use Rattle.kmip_schedule.specs.Moves.{Delivered}
+use Rattle.kmip_schedule.specs.Past.{Names, Past, is_planned}
+use Rattle.kmip_session.specs.CampaignParts.{AreSame, HasEnded, HasRun, IsBroken}
+use Rattle.kmip_session.specs.Driving.{Grown, Keeps, Learnt}
+use Rattle.kmip_session.specs.Remembering.{AreHeard, AreKnown, AreTaught, IsTalkOf, Shows, Talk, saved_after, saved_from, start_knowns, starts, starts_from}
+use Rattle.kmip_session.specs.declared.campaigning.CampaignEnd.{CampaignEnd}
+use Rattle.kmip_session.specs.declared.campaigning.Run.{Run}
+use Rattle.kmip_session.specs.declared.campaigning.RunEnd.{RunEnd}
+use Rattle.kmip_session.proofs.KnownLemmas.{Stays, delivered_stays, grown_itself, joined}
+use Rattle.kmip_session.proofs.OrderLemmas.{zip_push}
+
+-- what is known at the end of the last of them
+abbrev pub last_of : List (List Knowledge) → List Knowledge → List Knowledge
+last_of [] last = last
+last_of (knowns ∷ ends) last = last_of ends knowns
+
+last_more : (ends : List (List Knowledge)) (knowns last : List Knowledge) → last_of (ends ++ knowns ∷ []) last ≡ knowns
+last_more [] knowns last = refl
+last_more (first ∷ ends) knowns last = last_more ends knowns first
+
+starts_none : (keys : List Key) (last : List Knowledge) (saved : List (List Known)) (runs : List Run) → starts_from keys last saved runs [] ≡ []
+starts_none keys last saved [] = refl
+starts_none keys last saved (run ∷ runs) = refl
+
+saved_none : (saved : List (List Known)) (runs : List Run) → saved_from saved runs [] ≡ saved
+saved_none saved [] = refl
+saved_none saved (run ∷ runs) = refl
+
+starts_more : (keys : List Key) (last : List Knowledge) (saved : List (List Known)) (runs : List Run) (ends : List (List Knowledge)) (run : Run) (knowns : List Knowledge)
+    → slice_get runs (length ends) ≡ Some run
+    → starts_from keys last saved runs (ends ++ knowns ∷ [])
+    ≡ starts_from keys last saved runs ends ++ start_knowns keys run.start (last_of ends last) (saved_from saved runs ends) ∷ []
+starts_more keys last saved [] ends run knowns is = absurd cc
+starts_more keys last saved (first ∷ runs) [] run knowns is =
+    let same : first ≡ run = cc in
+    ap (λ r. start_knowns keys r.start last saved ∷ starts_from keys knowns (saved_after first knowns saved) runs []) same
+    ∙ ap (λ rest. start_knowns keys run.start last saved ∷ rest) (starts_none keys knowns (saved_after first knowns saved) runs)
+starts_more keys last saved (first ∷ runs) (known ∷ ends) run knowns is =
+    ap (λ rest. start_knowns keys first.start last saved ∷ rest) (starts_more keys known (saved_after first known saved) runs ends run knowns is)
+
+saves_more : (saved : List (List Known)) (runs : List Run) (ends : List (List Knowledge)) (run : Run) (knowns : List Knowledge) → slice_get runs (length ends) ≡ Some run
+    → saved_from saved runs (ends ++ knowns ∷ []) ≡ saved_after run knowns (saved_from saved runs ends)
+saves_more saved [] ends run knowns is = absurd cc
+saves_more saved (first ∷ runs) [] run knowns is =
+    let same : first ≡ run = cc in saved_none (saved_after first knowns saved) runs ∙ ap (λ r. saved_after r knowns saved) same
+saves_more saved (first ∷ runs) (known ∷ ends) run knowns is = saves_more (saved_after first known saved) runs ends run knowns is
+
+taught_push : (keys : List Key) (begun : List (List Knowledge)) (talks : List Talk) (ends : List (List Knowledge)) (start : List Knowledge) (talk : Talk) (knowns : List Knowledge)
+    → AreTaught keys begun talks ends → facts knowns ≡ facts (known_after keys start talk.answers)
+    → AreTaught keys (begun ++ start ∷ []) (talks ++ talk ∷ []) (ends ++ knowns ∷ [])
+taught_push keys [] [] [] start talk knowns taught is = (is, tt)
+taught_push keys [] [] (k ∷ ends) start talk knowns taught is = absurd taught
+taught_push keys [] (t ∷ talks) [] start talk knowns taught is = absurd taught
+taught_push keys [] (t ∷ talks) (k ∷ ends) start talk knowns taught is = absurd taught
+taught_push keys (s ∷ begun) [] [] start talk knowns taught is = absurd taught
+taught_push keys (s ∷ begun) [] (k ∷ ends) start talk knowns taught is = absurd taught
+taught_push keys (s ∷ begun) (t ∷ talks) [] start talk knowns taught is = absurd taught
+taught_push keys (s ∷ begun) (t ∷ talks) (k ∷ ends) start talk knowns taught is = (taught.0, taught_push keys begun talks ends start talk knowns taught.1 is)
+
+flat_push : {A B : Type 0} (f : A → List B) (xs : List A) (x : A) → flat_map f xs ++ f x ≡ flat_map f (xs ++ x ∷ [])
+flat_push f xs x = ap (λ ys. flat_map f xs ++ ys) (sym (append-nil (f x))) ∙ sym (flat_map-append f xs (x ∷ []))
+
+heard_more : (keys : List Key) (begun known : List (List Knowledge)) (ends : List RunEnd) (old between new : Past) (start knowns : List Knowledge) (exchanges : ℕ) (end : RunEnd)
+    → end.exchanges ≡ exchanges → AreHeard keys begun known ends old between → Learnt keys between new start knowns exchanges
+    → AreHeard keys (begun ++ start ∷ []) (known ++ knowns ∷ []) (ends ++ end ∷ []) old new
+heard_more keys begun known ends old between new start knowns exchanges end is heard learnt =
+    let talk : Talk = record { questions = learnt.questions; answers = learnt.answers } in
+    let asked = flat_push (λ (t : Talk). t.questions) heard.talks talk in
+    record {
+      talks = heard.talks ++ talk ∷ [];
+      taught = taught_push keys begun heard.talks known start talk knowns heard.taught learnt.known_is;
+      talks_are = zip_push (IsTalkOf keys) heard.talks ends talk end heard.talks_are
+          (record {
+            as_many_questions = learnt.as_many_questions ∙ sym is;
+            as_many_answers = learnt.as_many_answers ∙ sym is;
+            each = learnt.each;
+          });
+      sent_are =
+          joined old.sent between.sent new.sent (flat_map (λ (t : Talk). t.questions) heard.talks) learnt.questions heard.sent_are learnt.sent_are
+          ∙ ap (λ sent. old.sent ++ sent) asked;
+      handed_are =
+          joined old.handed between.handed new.handed (flat_map (λ (t : Talk). t.answers) heard.talks) learnt.answers heard.handed_are learnt.handed_are
+          ∙ ap (λ handed. old.handed ++ handed) (flat_push (λ (t : Talk). t.answers) heard.talks talk);
+      requests_are =
+          joined old.requests between.requests new.requests (flat_map requests_in (flat_map (λ (t : Talk). t.questions) heard.talks))
+          (flat_map requests_in learnt.questions) heard.requests_are learnt.requests_are
+          ∙ ap (λ requests. old.requests ++ requests)
+          (sym (flat_map-append requests_in (flat_map (λ (t : Talk). t.questions) heard.talks) learnt.questions) ∙ ap (λ sent. flat_map requests_in sent) asked);
+    }
+
+-- what happens at the end of a run asks and teaches nothing
+pub learnt_closed : (keys : List Key) (old between new : Past) (start knowns : List Knowledge) (exchanges : ℕ) → Learnt keys old between start knowns exchanges → Stays between new
+    → Learnt keys old new start knowns exchanges
+learnt_closed keys old between new start knowns exchanges learnt stays = record {
+  questions = learnt.questions;
+  answers = learnt.answers;
+  sent_are = stays.sent_stays ∙ learnt.sent_are;
+  handed_are = stays.handed_stays ∙ learnt.handed_are;
+  requests_are = stays.requests_stay ∙ learnt.requests_are;
+  as_many_questions = learnt.as_many_questions;
+  as_many_answers = learnt.as_many_answers;
+  each = learnt.each;
+  known_is = learnt.known_is;
+}
+
+-- what holds always holds of each answer
+pub always_ok : {A E P : Type 0} (r : Result A E) → P → OnOk r P
+always_ok (Ok a) holds = holds
+always_ok (Err e) holds = tt
+
+pub always_err : {A E P : Type 0} (r : Result A E) → P → OnErr r P
+always_err (Ok a) holds = tt
+always_err (Err e) holds = holds
+
+-- ---- several runs
+
+module _ {L : Type 0} (past : L → Past) (honest : L → Names → Type 0) (keys : List Key) (runs : List Run) where
+  -- so much was known at the ends, and the client knows what was known at the last
+  pub record Recalled (c : ClientState) (x y : L) (ends : List RunEnd) (saved : List (List Known)) : Type 0 where
+    pub known : List (List Knowledge)
+    pub shown : AllZip (Shows keys) known ends
+    pub kept : AllZip (AllZip IsKept) (starts keys runs known) known
+    pub saved_are : saved ≡ saved_from [] runs known
+    pub last_is : c.knowns ≡ last_of known (fresh keys).knowns
+    pub heard : honest x (is_planned keys) → honest y (is_planned keys) × AreHeard keys (starts keys runs known) known ends (past x) (past y)
+
+  pub recalled_none : (c : ClientState) (x : L) (ends : List RunEnd) (saved : List (List Known)) → c.knowns ≡ (fresh keys).knowns → ends ≡ [] → saved ≡ []
+      → Recalled c x x ends saved
+  recalled_none c x ends saved is no_end none_saved =
+      let none = starts_none keys (fresh keys).knowns [] runs in
+      rw (no_end, none_saved)
+      (record {
+        known = [];
+        shown = tt;
+        kept = subst (λ begun. AllZip (AllZip IsKept) begun []) (sym none) tt;
+        saved_are = sym (saved_none [] runs);
+        last_is = is;
+        heard = λ holds. (
+          holds,
+          subst (λ begun. AreHeard keys begun [] [] (past x) (past x)) (sym none)
+              (record {
+                talks = [];
+                taught = tt;
+                talks_are = tt;
+                sent_are = sym (append-nil (past x).sent);
+                handed_are = sym (append-nil (past x).handed);
+                requests_are = sym (append-nil (past x).requests);
+              }),
+        );
+      })
+
+  pub recalled_more : (a b : ClientState) (x y z : L) (run : Run) (old new : CampaignEnd) → slice_get runs (length old.runs.items) ≡ Some run
+      → Recalled a x y old.runs.items old.saved.items → HasRun past honest keys run a b y z old new → Recalled b x z new.runs.items new.saved.items
+  recalled_more a b x y z run old new is before ran =
+      let noted = ran.ended.noted in
+      let long = AllZip-long (Shows keys) before.known old.runs.items before.shown in
+      let at = subst (λ n. slice_get runs n ≡ Some run) long is in
+      let start = start_knowns keys run.start a.knowns old.saved.items in
+      let begun : start ≡ start_knowns keys run.start (last_of before.known (fresh keys).knowns) (saved_from [] runs before.known) =
+      ap (λ last. start_knowns keys run.start last old.saved.items) before.last_is
+      ∙ ap (λ saved. start_knowns keys run.start (last_of before.known (fresh keys).knowns) saved) before.saved_are in
+      let further : starts keys runs (before.known ++ b.knowns ∷ []) ≡ starts keys runs before.known ++ start ∷ [] =
+      starts_more keys (fresh keys).knowns [] runs before.known run b.knowns at
+      ∙ ap (λ s. starts keys runs before.known ++ s ∷ []) (sym begun) in
+      subst (λ ends. Recalled b x z ends new.saved.items) (sym noted.joined)
+      (record {
+        known = before.known ++ b.knowns ∷ [];
+        shown = zip_push (Shows keys) before.known old.runs.items b.knowns noted.end before.shown noted.shows;
+        kept = subst (λ s. AllZip (AllZip IsKept) s (before.known ++ b.knowns ∷ [])) (sym further)
+            (zip_push (AllZip IsKept) (starts keys runs before.known) before.known start b.knowns before.kept ran.kept);
+        saved_are =
+            ran.ended.saved_are ∙ ap (λ saved. saved_after run b.knowns saved) before.saved_are
+            ∙ sym (saves_more [] runs before.known run b.knowns at);
+        last_is = sym (last_more before.known b.knowns (fresh keys).knowns);
+        heard = λ holds.
+            let first = before.heard holds in
+            let second = ran.learnt first.0 in (
+              second.0,
+              subst (λ s. AreHeard keys s (before.known ++ b.knowns ∷ []) (old.runs.items ++ noted.end ∷ []) (past x) (past z)) (sym further)
+                  (heard_more keys (starts keys runs before.known) before.known old.runs.items (past x) (past y) (past z) start b.knowns ran.exchanges noted.end
+                  noted.exchanges_is first.1 second.1),
+            );
+      })
+
+  pub recalled_known : (c : ClientState) (x y : L) (ends : List RunEnd) (saved : List (List Known)) (whole : Type 0) → Recalled c x y ends saved
+      → AreKnown keys runs ends saved (honest x (is_planned keys)) whole (past x) (past y)
+  recalled_known c x y ends saved whole recalled = record {
+    known = recalled.known;
+    shown = recalled.shown;
+    kept = recalled.kept;
+    saved_are = recalled.saved_are;
+    until = past y;
+    heard = λ holds. (recalled.heard holds).1;
+    grown = λ holds. grown_itself (past y);
+    no_more = λ is. refl;
+  }
+
+  -- the next run was broken off
+  pub broken_known : (c : ClientState) (x y z : L) (old new : CampaignEnd) (whole : Type 0) → (whole → past y ≡ past z)
+      → Recalled c x y old.runs.items old.saved.items → IsBroken past honest keys y z old new
+      → AreKnown keys runs new.runs.items new.saved.items (honest x (is_planned keys)) whole (past x) (past z)
+  broken_known c x y z old new whole no_more recalled broken =
+      rw (broken.same.same_runs, broken.same.same_saved)
+      (record {
+        known = recalled.known;
+        shown = recalled.shown;
+        kept = recalled.kept;
+        saved_are = recalled.saved_are;
+        until = past y;
+        heard = λ holds. (recalled.heard holds).1;
+        grown = λ holds. broken.grown (recalled.heard holds).0;
+        no_more = no_more;
+      })
+
+module _ {L : Type 0} (past : L → Past) (honest : L → Names → Type 0) (keys : List Key) where
+  -- a run is begun, driven, noted and closed
+  pub ran_closed : (run : Run) (a b c : ClientState) (x y z : L) (exchanges : ℕ) (old new : CampaignEnd) → b.keys ≡ keys
+      → b.knowns ≡ start_knowns keys run.start a.knowns old.saved.items → Keeps b c
+      → (honest x (is_planned b.keys) → honest y (is_planned b.keys) × Learnt b.keys (past x) (past y) b.knowns c.knowns exchanges)
+      → HasEnded c.keys run c.knowns exchanges old new → ((names : Names) → honest y names → honest z names × Delivered names (past y) (past z))
+      → HasRun past honest keys run a c x z old new
+  ran_closed run a b c x y z exchanges old new b_keys begun keeps learnt ended closes = record {
+    exchanges = exchanges;
+    ended = subst (λ ks. HasEnded ks run c.knowns exchanges old new) (keeps.keys_stay ∙ b_keys) ended;
+    kept = subst (λ start. AllZip IsKept start c.knowns) begun keeps.kept;
+    learnt = λ holds.
+        let driven = learnt (subst (λ ks. honest x (is_planned ks)) (sym b_keys) holds) in
+        let close = closes (is_planned keys) (subst (λ ks. honest y (is_planned ks)) b_keys driven.0) in (
+          close.0,
+          learnt_closed keys (past x) (past y) (past z) (start_knowns keys run.start a.knowns old.saved.items) c.knowns exchanges
+              (subst (λ start. Learnt keys (past x) (past y) start c.knowns exchanges) begun
+              (subst (λ ks. Learnt ks (past x) (past y) b.knowns c.knowns exchanges) b_keys driven.1))
+              (delivered_stays (is_planned keys) (past y) (past z) close.1),
+        );
+  }
+
+  -- or begun, driven and broken off
+  pub broken_off : (b : ClientState) (x y : L) (old new : CampaignEnd) → b.keys ≡ keys → (honest x (is_planned b.keys) → Grown (past x) (past y)) → AreSame old new
+      → IsBroken past honest keys x y old new
+  broken_off b x y old new b_keys grown same =
+      record { same = same; grown = λ holds. grown (subst (λ ks. honest x (is_planned ks)) (sym b_keys) holds) }

@@ -1,0 +1,100 @@
+-- What is known at the ends of runs: what each of them began with, and what its answers taught.
+-- Source: own.
+use Rattle.std.specs.Prelude.{◌≡◌, ℕ, ◌-◌, ◌==◌, List, [], ◌∷◌, ◌++◌, length, map, flat_map, slice_get, Option, Some, None, ⊤, if◌then◌else◌}
+use Rattle.std.specs.List.{All, AllZip}
+use Rattle.kmip_messages.specs.Items.{requests_in}
+use Rattle.kmip_plan.specs.declared.key.Key.{Key}
+use Rattle.kmip_progress.specs.declared.known.Known.{Known}
+use Rattle.kmip_client.specs.Clients.{fresh}
+use Rattle.kmip_client.specs.Known.{facts, known_after}
+use Rattle.kmip_client.specs.Saving.{known_of, resume}
+use Rattle.kmip_client.specs.Shapes.{IsKept}
+use Rattle.kmip_client.specs.Standing.{counts_of, verdicts_of}
+use Rattle.kmip_client.specs.declared.knowledge.Knowledge.{Knowledge}
+use Rattle.kmip_schedule.specs.Past.{Past}
+use Rattle.kmip_session.specs.Driving.{Grown, IsQuestion}
+use Rattle.kmip_session.specs.declared.campaigning.Run.{Run}
+use Rattle.kmip_session.specs.declared.campaigning.RunEnd.{RunEnd}
+use Rattle.kmip_session.specs.declared.campaigning.Start.{Start}
+use Rattle.kmip_session.specs.declared.campaigning.Start.TheVariants.{Fresh, Same, Saved}
+
+-- the saved progress of a number, from 1
+abbrev pub saved_numbered : ℕ → List (List Known) → Option (List Known)
+saved_numbered number saved = if number == 0 then None else slice_get saved (number - 1)
+
+-- what is known from a saved progress, and nothing where there is none
+abbrev pub resumed : List Key → Option (List Known) → List Knowledge
+resumed keys None = (fresh keys).knowns
+resumed keys (Some progress) = (resume keys progress).knowns
+
+-- what a run begins with: nothing, what was known at the end before it, or what was saved under a number; nothing where there is none
+abbrev pub start_knowns : List Key → Start → List Knowledge → List (List Known) → List Knowledge
+start_knowns keys Fresh last saved = (fresh keys).knowns
+start_knowns keys Same last saved = last
+start_knowns keys (Saved number) last saved = resumed keys (saved_numbered number saved)
+
+-- what is saved once a run has ended that knows so much
+abbrev pub saved_after : Run → List Knowledge → List (List Known) → List (List Known)
+saved_after run knowns saved = if run.save then saved ++ map known_of knowns ∷ [] else saved
+
+-- what each run begins with, where so much is known at the end before the first, so much was saved, and so much is known at the ends
+abbrev pub starts_from : List Key → List Knowledge → List (List Known) → List Run → List (List Knowledge) → List (List Knowledge)
+starts_from keys last saved [] ends = []
+starts_from keys last saved (run ∷ runs) [] = []
+starts_from keys last saved (run ∷ runs) (knowns ∷ ends) =
+    start_knowns keys run.start last saved ∷ starts_from keys knowns (saved_after run knowns saved) runs ends
+
+-- the same from nothing
+abbrev pub starts : List Key → List Run → List (List Knowledge) → List (List Knowledge)
+starts keys runs ends = starts_from keys (fresh keys).knowns [] runs ends
+
+-- all that is saved by runs, where so much is known at their ends
+abbrev pub saved_from : List (List Known) → List Run → List (List Knowledge) → List (List Known)
+saved_from saved [] ends = saved
+saved_from saved (run ∷ runs) [] = saved
+saved_from saved (run ∷ runs) (knowns ∷ ends) = saved_from (saved_after run knowns saved) runs ends
+
+-- The end shows what is known: how many steps of each key are done, and how it stands.
+pub record Shows (keys : List Key) (knowns : List Knowledge) (end : RunEnd) : Type 0 where
+  pub counts_are : end.counts.items ≡ counts_of knowns
+  pub verdicts_are : end.verdicts.items ≡ verdicts_of keys knowns
+
+-- what was asked in a run, and what was handed over
+pub record Talk : Type 0 where
+  pub questions : List (List ℕ)
+  pub answers : List (Option (List ℕ))
+
+-- at the end of each run is known what was known at its start and what the answers of its exchanges taught
+abbrev pub AreTaught : List Key → List (List Knowledge) → List Talk → List (List Knowledge) → Type 0
+AreTaught keys [] [] [] = ⊤
+AreTaught keys (start ∷ starts) (talk ∷ talks) (knowns ∷ ends) =
+    (facts knowns ≡ facts (known_after keys start talk.answers)) × AreTaught keys starts talks ends
+AreTaught keys starts talks ends = ⊥
+
+-- as many were asked, and as many handed over, as the end says, each a question about a key of the plan
+pub record IsTalkOf (keys : List Key) (talk : Talk) (end : RunEnd) : Type 0 where
+  pub as_many_questions : length talk.questions ≡ end.exchanges
+  pub as_many_answers : length talk.answers ≡ end.exchanges
+  pub each : All (IsQuestion keys) talk.questions
+
+-- Between two pasts this was asked and handed over, run by run, and nothing else; and it is what the ends know.
+pub record AreHeard (keys : List Key) (begun known : List (List Knowledge)) (ends : List RunEnd) (old new : Past) : Type 0 where
+  pub talks : List Talk
+  pub taught : AreTaught keys begun talks known
+  pub talks_are : AllZip (IsTalkOf keys) talks ends
+  pub sent_are : new.sent ≡ old.sent ++ flat_map (λ talk. talk.questions) talks
+  pub handed_are : new.handed ≡ old.handed ++ flat_map (λ talk. talk.answers) talks
+  pub requests_are : new.requests ≡ old.requests ++ flat_map requests_in (flat_map (λ talk. talk.questions) talks)
+
+-- There is a knowledge for each end that the end shows, that takes back nothing of what its run began with, and that is saved where
+-- its run says so. Over an honest link it is what was heard until the last end; and nothing was asked later, unless a run was broken
+-- off.
+pub record AreKnown (keys : List Key) (runs : List Run) (ends : List RunEnd) (saved : List (List Known)) (honest whole : Type 0) (old new : Past) : Type 0 where
+  pub known : List (List Knowledge)
+  pub shown : AllZip (Shows keys) known ends
+  pub kept : AllZip (AllZip IsKept) (starts keys runs known) known
+  pub saved_are : saved ≡ saved_from [] runs known
+  pub until : Past
+  pub heard : honest → AreHeard keys (starts keys runs known) known ends old until
+  pub grown : honest → Grown until new
+  pub no_more : whole → until ≡ new
