@@ -1,5 +1,5 @@
 -- What was known at the ends of some runs, and one run more.
-use Rattle.std.proofs.Common.{◌≡◌, ℕ, ◌+◌, List, [], ◌∷◌, ◌++◌, length, slice_get, flat_map, Some, Result, Ok, Err, OnErr, OnOk, sym, ap, subst, refl, ◌∙◌, append_assoc, append-nil, arith}
+use Rattle.std.proofs.Common.{◌≡◌, ℕ, ◌+◌, List, [], ◌∷◌, ◌++◌, length, slice_get, flat_map, Some, Result, Ok, Err, IsErr, OnErr, OnOk, sym, ap, subst, refl, ◌∙◌, append_assoc, append-nil, arith}
 use Rattle.std.specs.List.{AllZip}
 use Rattle.std.proofs.lemmas.List.{length-append}
 use Rattle.std.proofs.lemmas.List.Concat.{flat_map-append}
@@ -125,6 +125,10 @@ pub always_err : {A E P : Type 0} (r : Result A E) → P → OnErr r P
 always_err (Ok a) holds = tt
 always_err (Err e) holds = holds
 
+pub no_ok : {A E X : Type 0} (r : Result A E) (a : A) → IsErr r → r ≡ Ok a → X
+no_ok (Ok b) a failed is = absurd cc
+no_ok (Err e) a failed is = absurd cc
+
 -- ---- several runs
 
 module _ {L : Type 0} (past : L → Past) (honest : L → Names → Type 0) (keys : List Key) (runs : List Run) where
@@ -162,12 +166,12 @@ module _ {L : Type 0} (past : L → Past) (honest : L → Names → Type 0) (key
         );
       })
 
-  pub recalled_more : (a b : ClientState) (x y z : L) (run : Run) (old new : CampaignEnd) → slice_get runs (length old.runs.items) ≡ Some run
-      → Recalled a x y old.runs.items old.saved.items → HasRun past honest keys run a b y z old new → Recalled b x z new.runs.items new.saved.items
-  recalled_more a b x y z run old new is before ran =
+  pub recalled_more : (a b : ClientState) (x y z : L) (run : Run) (old new : CampaignEnd) (place : ℕ) → slice_get runs place ≡ Some run
+      → length old.runs.items ≡ place → Recalled a x y old.runs.items old.saved.items → HasRun past honest keys run a b y z old new → Recalled b x z new.runs.items new.saved.items
+  recalled_more a b x y z run old new place is long before ran =
       let noted = ran.ended.noted in
-      let long = AllZip-long (Shows keys) before.known old.runs.items before.shown in
-      let at = subst (λ n. slice_get runs n ≡ Some run) long is in
+      let many = AllZip-long (Shows keys) before.known old.runs.items before.shown in
+      let at = subst (λ n. slice_get runs n ≡ Some run) (sym long ∙ many) is in
       let start = start_knowns keys run.start a.knowns old.saved.items in
       let begun : start ≡ start_knowns keys run.start (last_of before.known (fresh keys).knowns) (saved_from [] runs before.known) =
       ap (λ last. start_knowns keys run.start last old.saved.items) before.last_is

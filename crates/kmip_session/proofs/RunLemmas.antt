@@ -59,7 +59,7 @@ module _ {L : Type 0} (past : L → Past) (honest : L → Names → Type 0) wher
             );
         each = ends_more keys runs at run old.runs.items new.runs.items is before.each b.knowns ran.exchanges ran.ended.noted;
         as_many_ends = one_longer old.runs.items new.runs.items ran.ended.noted.end at before.as_many_ends ran.ended.noted.joined;
-        recalled = recalled_more past honest keys runs a b start x y run old new (subst (λ n. slice_get runs n ≡ Some run) (sym before.as_many_ends) is) before.recalled ran;
+        recalled = recalled_more past honest keys runs a b start x y run old new at is before.as_many_ends before.recalled ran;
         as_many = saves_more runs at run (length old.saved.items) (length new.saved.items) is before.as_many
             (saved_long run b.knowns old.saved.items new.saved.items ran.ended.saved_are);
       })
