@@ -157,7 +157,7 @@ noted_saved objects keys progress ends saved holds noted = record {
 -- ---- one run
 
 module _ {L : Type 0} (past : L → Past) (honest : L → Names → Type 0) where
-  good_with : (a b : ClientState) (x : L) → b.keys ≡ a.keys → IsGood past honest a x → Held (past x).objects b.keys b.knowns → IsGood past honest b x
+  pub good_with : (a b : ClientState) (x : L) → b.keys ≡ a.keys → IsGood past honest a x → Held (past x).objects b.keys b.knowns → IsGood past honest b x
   good_with a b x same good held = record {
     honest_for = subst (λ ks. honest x (is_planned ks)) (sym same) good.honest_for;
     sound = subst (λ ks. Sound ks (past x)) (sym same) good.sound;

@@ -8,4 +8,5 @@ pub mod DriveLemmas
 pub mod CampaignLemmas
 pub mod OrderLemmas
 pub mod RememberLemmas
+pub mod CalmLemmas
 pub mod RunLemmas

@@ -81,12 +81,13 @@ is_end keys knowns run stop exchanges end is stands limit within =
       full = rw (is.counts_are, is.verdicts_are) (are_full keys knowns few);
     }
 
-pub is_noted : (keys : List Key) (knowns : List Knowledge) (run : Run) (stop : Stop) (exchanges : ℕ) (end : RunEnd) (old new : List RunEnd) → IsEndOf keys knowns stop exchanges end
-    → Stands stop keys knowns → (stop ≡ stops.Limit → exchanges ≡ run.limit) → exchanges ≤ run.limit → new ≡ old ++ end ∷ [] → IsNoted keys run knowns exchanges old new
-is_noted keys knowns run stop exchanges end old new is stands limit within joined = record {
+pub is_noted : (keys : List Key) (knowns : List Knowledge) (run : Run) (driven : Stop × ℕ) (end : RunEnd) (old new : List RunEnd) → IsEndOf keys knowns driven.0 driven.1 end
+    → Stands driven.0 keys knowns → (driven.0 ≡ stops.Limit → driven.1 ≡ run.limit) → driven.1 ≤ run.limit → new ≡ old ++ end ∷ [] → IsNoted keys run knowns driven old new
+is_noted keys knowns run driven end old new is stands limit within joined = record {
   end = end;
   joined = joined;
-  is_end = is_end keys knowns run stop exchanges end is stands limit within;
+  is_end = is_end keys knowns run driven.0 driven.1 end is stands limit within;
+  stop_is = is.stop_is;
   shows = record { counts_are = is.counts_are; verdicts_are = is.verdicts_are };
   exchanges_is = is.exchanges_is;
 }
@@ -143,11 +144,16 @@ zip_front R (x ∷ xs) zero (y ∷ ys) zipped = absurd zipped
 zip_front R (x ∷ xs) (suc at) [] zipped = tt
 zip_front R (x ∷ xs) (suc at) (y ∷ ys) zipped = (zipped.0, zip_front R xs at ys zipped.1)
 
+-- what holds of the first runs and their ends, and of one more
+pub zip_more : (R : Run → RunEnd → Type 0) (runs : List Run) (at : ℕ) (run : Run) (old new : List RunEnd) (end : RunEnd) → slice_get runs at ≡ Some run
+    → AllZip R (take at runs) old → new ≡ old ++ end ∷ [] → R run end → AllZip R (take (suc at) runs) new
+zip_more R runs at run old new end is each joined holds =
+    subst (λ front. AllZip R front new) (sym (one_further runs at run is))
+    (subst (λ ends. AllZip R (take at runs ++ run ∷ []) ends) (sym joined) (zip_push R (take at runs) old run end each holds))
+
 pub ends_more : (keys : List Key) (runs : List Run) (at : ℕ) (run : Run) (old new : List RunEnd) → slice_get runs at ≡ Some run → AllZip (IsEnd keys) (take at runs) old
-    → (knowns : List Knowledge) (exchanges : ℕ) → IsNoted keys run knowns exchanges old new → AllZip (IsEnd keys) (take (suc at) runs) new
-ends_more keys runs at run old new is each knowns exchanges noted =
-    subst (λ front. AllZip (IsEnd keys) front new) (sym (one_further runs at run is))
-    (subst (λ ends. AllZip (IsEnd keys) (take at runs ++ run ∷ []) ends) (sym noted.joined) (zip_push (IsEnd keys) (take at runs) old run noted.end each noted.is_end))
+    → (knowns : List Knowledge) (driven : Stop × ℕ) → IsNoted keys run knowns driven old new → AllZip (IsEnd keys) (take (suc at) runs) new
+ends_more keys runs at run old new is each knowns driven noted = zip_more (IsEnd keys) runs at run old new noted.end is each noted.joined noted.is_end
 
 pub ends_same : (keys : List Key) (runs : List Run) (at : ℕ) (old new : List RunEnd) → new ≡ old → AllZip (IsEnd keys) (take at runs) old
     → AllZip (IsEnd keys) (take (length new) runs) new

@@ -19,6 +19,7 @@ use Rattle.kmip_session.specs.Remembering.{AreHeard, AreKnown, AreTaught, IsTalk
 use Rattle.kmip_session.specs.declared.campaigning.CampaignEnd.{CampaignEnd}
 use Rattle.kmip_session.specs.declared.campaigning.Run.{Run}
 use Rattle.kmip_session.specs.declared.campaigning.RunEnd.{RunEnd}
+use Rattle.kmip_session.specs.declared.stop.Stop.{Stop}
 use Rattle.kmip_session.proofs.KnownLemmas.{Stays, delivered_stays, grown_itself, joined}
 use Rattle.kmip_session.proofs.OrderLemmas.{zip_push}
 
@@ -194,7 +195,7 @@ module _ {L : Type 0} (past : L → Past) (honest : L → Names → Type 0) (key
             let second = ran.learnt first.0 in (
               second.0,
               subst (λ s. AreHeard keys s (before.known ++ b.knowns ∷ []) (old.runs.items ++ noted.end ∷ []) (past x) (past z)) (sym further)
-                  (heard_more keys (starts keys runs before.known) before.known old.runs.items (past x) (past y) (past z) start b.knowns ran.exchanges noted.end
+                  (heard_more keys (starts keys runs before.known) before.known old.runs.items (past x) (past y) (past z) start b.knowns ran.driven.1 noted.end
                   noted.exchanges_is first.1 second.1),
             );
       })
@@ -231,22 +232,22 @@ module _ {L : Type 0} (past : L → Past) (honest : L → Names → Type 0) (key
 
 module _ {L : Type 0} (past : L → Past) (honest : L → Names → Type 0) (keys : List Key) where
   -- a run is begun, driven, noted and closed
-  pub ran_closed : (run : Run) (a b c : ClientState) (x y z : L) (exchanges : ℕ) (old new : CampaignEnd) → b.keys ≡ keys
+  pub ran_closed : (run : Run) (a b c : ClientState) (x y z : L) (driven : Stop × ℕ) (old new : CampaignEnd) → b.keys ≡ keys
       → b.knowns ≡ start_knowns keys run.start a.knowns old.saved.items → Keeps b c
-      → (honest x (is_planned b.keys) → honest y (is_planned b.keys) × Learnt b.keys (past x) (past y) b.knowns c.knowns exchanges)
-      → HasEnded c.keys run c.knowns exchanges old new → ((names : Names) → honest y names → honest z names × Delivered names (past y) (past z))
+      → (honest x (is_planned b.keys) → honest y (is_planned b.keys) × Learnt b.keys (past x) (past y) b.knowns c.knowns driven.1)
+      → HasEnded c.keys run c.knowns driven old new → ((names : Names) → honest y names → honest z names × Delivered names (past y) (past z))
       → HasRun past honest keys run a c x z old new
-  ran_closed run a b c x y z exchanges old new b_keys begun keeps learnt ended closes = record {
-    exchanges = exchanges;
-    ended = subst (λ ks. HasEnded ks run c.knowns exchanges old new) (keeps.keys_stay ∙ b_keys) ended;
+  ran_closed run a b c x y z driven old new b_keys begun keeps learnt ended closes = record {
+    driven = driven;
+    ended = subst (λ ks. HasEnded ks run c.knowns driven old new) (keeps.keys_stay ∙ b_keys) ended;
     kept = subst (λ start. AllZip IsKept start c.knowns) begun keeps.kept;
     learnt = λ holds.
-        let driven = learnt (subst (λ ks. honest x (is_planned ks)) (sym b_keys) holds) in
-        let close = closes (is_planned keys) (subst (λ ks. honest y (is_planned ks)) b_keys driven.0) in (
+        let taught = learnt (subst (λ ks. honest x (is_planned ks)) (sym b_keys) holds) in
+        let close = closes (is_planned keys) (subst (λ ks. honest y (is_planned ks)) b_keys taught.0) in (
           close.0,
-          learnt_closed keys (past x) (past y) (past z) (start_knowns keys run.start a.knowns old.saved.items) c.knowns exchanges
-              (subst (λ start. Learnt keys (past x) (past y) start c.knowns exchanges) begun
-              (subst (λ ks. Learnt ks (past x) (past y) b.knowns c.knowns exchanges) b_keys driven.1))
+          learnt_closed keys (past x) (past y) (past z) (start_knowns keys run.start a.knowns old.saved.items) c.knowns driven.1
+              (subst (λ start. Learnt keys (past x) (past y) start c.knowns driven.1) begun
+              (subst (λ ks. Learnt ks (past x) (past y) b.knowns c.knowns driven.1) b_keys taught.1))
               (delivered_stays (is_planned keys) (past y) (past z) close.1),
         );
   }

@@ -1,8 +1,8 @@
 -- Runs in turn: what their ends report, and what is to hold of each end.
 -- Source: own.
-use Rattle.std.specs.Prelude.{◌≡◌, ◌≢◌, ◌≤◌, ℕ, ⊤, Bool, List, [], ◌∷◌, ◌++◌, map, take, flat_map, string_bytes}
+use Rattle.std.specs.Prelude.{◌≡◌, ◌≢◌, ◌≤◌, ℕ, ⊤, Bool, List, [], ◌∷◌, ◌++◌, ◌+◌, length, map, take, flat_map, string_bytes}
 use Rattle.std.specs.List.{All, Contains}
-use Rattle.kmip_plan.specs.Chains.{chain}
+use Rattle.kmip_plan.specs.Chains.{bound, chain}
 use Rattle.kmip_plan.specs.declared.key.Key.{Key}
 use Rattle.kmip_progress.specs.declared.known.Known.{Known}
 use Rattle.kmip_client.specs.Knowledge.{chain_length}
@@ -12,6 +12,7 @@ use Rattle.kmip_client.specs.declared.knowledge.Verdict.TheVariants.{Working, Fi
 use Rattle.kmip_schedule.specs.Past.{Past, Names, is_planned}
 use Rattle.kmip_schedule.specs.Sound.{Sound}
 use Rattle.kmip_schedule.specs.declared.effect.Effect.{Effect}
+use Rattle.kmip_settling.specs.Needs.{missing}
 use Rattle.kmip_session.specs.Reporting.{report_text}
 use Rattle.kmip_session.specs.declared.campaigning.Run.{Run}
 use Rattle.kmip_session.specs.declared.campaigning.RunEnd.{RunEnd}
@@ -76,6 +77,16 @@ pub record IsEnd (keys : List Key) (run : Run) (end : RunEnd) : Type 0 where
   pub stops : StopsSo end.stop run end
   pub within : end.exchanges ≤ run.limit
   pub full : AreFull keys end.counts.items end.verdicts.items
+
+-- The link is calm for the plan's names, all that has happened over it is sound, and there is room for the objects that are missing.
+pub record CalmLink {L : Type 0} (past : L → Past) (calm : L → Names → Type 0) (keys : List Key) (link : L) : Type 0 where
+  pub calm_for : calm link (is_planned keys)
+  pub sound : Sound keys (past link)
+  pub roomy : length (past link).objects + missing keys (past link).objects ≤ (past link).room
+
+-- a run that may make as many exchanges as the plan is bounded by finishes all keys within that bound
+abbrev pub Settles : List Key → Run → RunEnd → Type 0
+Settles keys run end = bound keys ≤ run.limit → (end.stop ≡ stops.AllFinished) × (end.exchanges ≤ bound keys)
 
 -- what is known at the end of the run is saved
 abbrev pub saves : Run → Bool

@@ -15,7 +15,8 @@ use Rattle.kmip_client.specs.Standing.{AreWithin, counts_of, verdicts_of}
 use Rattle.kmip_client.specs.declared.knowledge.Knowledge.{Knowledge}
 use Rattle.kmip_schedule.specs.Laws.{DeliveriesKeepSound, DeliveriesKeepTheImage, ObjectsGoOnward, OpeningIsMirrored, SoundIsSafe}
 use Rattle.kmip_schedule.specs.Past.{Past, Names, is_planned}
-use Rattle.kmip_session.specs.Campaign.{GoodLink, HasNoConflict, IsEnd}
+use Rattle.kmip_settling.specs.Laws.{SoundIsReady}
+use Rattle.kmip_session.specs.Campaign.{GoodLink, HasNoConflict, IsEnd, Settles}
 use Rattle.kmip_session.specs.Driving.{Grown, IsGood, Learnt, WentOn}
 use Rattle.kmip_session.specs.Remembering.{Shows, saved_after, start_knowns}
 use Rattle.kmip_session.specs.Reporting.{report_text}
@@ -37,6 +38,7 @@ pub record CampaignLaws : Type 0 where
   pub images : DeliveriesKeepTheImage
   pub opening : OpeningIsMirrored
   pub safe : SoundIsSafe
+  pub ready : SoundIsReady
 
 -- each key has come at least as far as is counted
 abbrev pub Reaches : List Object → Key → ℕ → Type 0
@@ -70,16 +72,17 @@ pub record IsEndOf (keys : List Key) (knowns : List Knowledge) (stop : Stop) (ex
   pub in_memory : stop ≢ stops.NoMemory
 
 -- One more end is noted, of this run, that shows what is known.
-pub record IsNoted (keys : List Key) (run : Run) (knowns : List Knowledge) (exchanges : ℕ) (old new : List RunEnd) : Type 0 where
+pub record IsNoted (keys : List Key) (run : Run) (knowns : List Knowledge) (driven : Stop × ℕ) (old new : List RunEnd) : Type 0 where
   pub end : RunEnd
   pub joined : new ≡ old ++ end ∷ []
   pub is_end : IsEnd keys run end
   pub shows : Shows keys knowns end
-  pub exchanges_is : end.exchanges ≡ exchanges
+  pub stop_is : end.stop ≡ driven.0
+  pub exchanges_is : end.exchanges ≡ driven.1
 
 -- the run has ended, and what is known was saved if it says so
-pub record HasEnded (keys : List Key) (run : Run) (knowns : List Knowledge) (exchanges : ℕ) (old new : CampaignEnd) : Type 0 where
-  pub noted : IsNoted keys run knowns exchanges old.runs.items new.runs.items
+pub record HasEnded (keys : List Key) (run : Run) (knowns : List Knowledge) (driven : Stop × ℕ) (old new : CampaignEnd) : Type 0 where
+  pub noted : IsNoted keys run knowns driven old.runs.items new.runs.items
   pub saved_are : new.saved.items ≡ saved_after run knowns old.saved.items
 
 -- nothing more is noted
@@ -89,11 +92,17 @@ pub record AreSame (old new : CampaignEnd) : Type 0 where
 
 -- The run was made and has ended: nothing of what it began with is taken back, and over an honest link its answers taught the rest.
 pub record HasRun {L : Type 0} (past : L → Past) (honest : L → Names → Type 0) (keys : List Key) (run : Run) (a b : ClientState) (x y : L) (old new : CampaignEnd) : Type 0 where
-  pub exchanges : ℕ
-  pub ended : HasEnded keys run b.knowns exchanges old new
+  pub driven : Stop × ℕ
+  pub ended : HasEnded keys run b.knowns driven old new
   pub kept : AllZip IsKept (start_knowns keys run.start a.knowns old.saved.items) b.knowns
   pub learnt : honest x (is_planned keys) → honest y (is_planned keys)
-      × Learnt keys (past x) (past y) (start_knowns keys run.start a.knowns old.saved.items) b.knowns exchanges
+      × Learnt keys (past x) (past y) (start_knowns keys run.start a.knowns old.saved.items) b.knowns driven.1
+
+-- the run that was noted last, if it was allowed so many exchanges, has finished all keys
+pub record HasSettled (keys : List Key) (run : Run) (old new : List RunEnd) : Type 0 where
+  pub end : RunEnd
+  pub joined : new ≡ old ++ end ∷ []
+  pub settles : Settles keys run end
 
 -- or it was broken off, and nothing is noted of it
 pub record IsBroken {L : Type 0} (past : L → Past) (honest : L → Names → Type 0) (keys : List Key) (x y : L) (old new : CampaignEnd) : Type 0 where

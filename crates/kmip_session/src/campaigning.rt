@@ -10,13 +10,14 @@ ghost use Rattle.kmip_client.specs.Saving.{known_of};
 ghost use Rattle.kmip_schedule.specs.Past.{Past, Names, is_planned};
 ghost use Rattle.kmip_schedule.specs.Safe.{Safe};
 ghost use Rattle.kmip_schedule.specs.Sound.{Opening};
-ghost use Rattle.kmip_session.specs.Campaign.{GoodLink, HasNoConflict, IsEnd, reported, saves};
+ghost use Rattle.kmip_session.specs.Campaign.{CalmLink, GoodLink, HasNoConflict, IsEnd, Settles, reported, saves};
 ghost use Rattle.kmip_session.specs.CampaignParts.{
   AreSame,
   CampaignLaws,
   Campaigned,
   HasEnded,
   HasRun,
+  HasSettled,
   IsBroken,
   IsEndOf,
   Noted,
@@ -37,6 +38,7 @@ use kmip_schedule::laws::{
     deliveries_keep_sound, objects_go_onward, opening_is_mirrored, sound_is_safe, the_image_is_kept,
 };
 use kmip_schedule::{Link, LinkFault};
+use kmip_settling::laws::sound_is_ready;
 use kmip_ttlv::NoMemory;
 use std::alloc::Global;
 
@@ -108,6 +110,9 @@ pub fn campaign<L: Link>(alloc: Global, plan: &Plan, link: &mut L, runs: &[Run])
     ensures known { AreKnown plan.now runs.now result.runs.items result.saved.items
         (L.honest link.old (is_planned plan.now)) (result.fault ≡ None)
         (L.past link.old) (L.past link.new) }
+    ensures settles { CalmLink L.past L.calm plan.now link.old → result.fault ≡ None
+        → AllZip (Settles plan.now) runs.now result.runs.items
+        × CalmLink L.past L.calm plan.now link.new }
 {
     laws_below();
     plan.keys();
@@ -134,6 +139,7 @@ fn laws_below()
     the_image_is_kept();
     opening_is_mirrored();
     sound_is_safe();
+    sound_is_ready();
 }
 
 /// Makes the runs in turn, and notes how each ended.
@@ -159,8 +165,12 @@ fn run_all<L: Link>(
     ensures known { AreKnown plan.now runs.now end.new.runs.items end.new.saved.items
         (L.honest link.old (is_planned plan.now)) (result ≡ Ok tt)
         (L.past link.old) (L.past link.new) }
+    ensures settles { CalmLink L.past L.calm plan.now link.old
+        → OnOk result (AllZip (Settles plan.now) runs.now end.new.runs.items
+        × CalmLink L.past L.calm plan.now link.new) }
 {
     laws_below();
+    L::calm_laws();
     plan.keys();
     let mut client = Client::fresh(alloc, plan)?;
     for place in 0..runs.len() {
@@ -194,6 +204,10 @@ fn one_run<'p, L: Link>(
     ensures broken { OnErr result (IsBroken L.past L.honest plan.now link.old link.new
         end.old end.new ⊎ HasRun L.past L.honest plan.now run client.old client.new
         link.old link.new end.old end.new) }
+    ensures settles { Standing L.past L.honest plan.now client.old link.old end.old.runs.items
+        end.old.saved.items → CalmLink L.past L.calm plan.now link.old
+        → OnOk result (HasSettled plan.now run end.old.runs.items end.new.runs.items
+        × CalmLink L.past L.calm plan.now link.new) }
 {
     laws_below();
     plan.keys();
@@ -288,7 +302,7 @@ fn finish(
         → Held objects client.now.keys client.now.knowns
         → Noted objects client.now.keys end.old.runs.items end.old.saved.items
         → Noted objects client.now.keys end.new.runs.items end.new.saved.items }
-    ensures ended { OnOk result (HasEnded client.now.keys run client.now.knowns driven.1
+    ensures ended { OnOk result (HasEnded client.now.keys run client.now.knowns driven
         end.old end.new × (driven.0 ≢ Stop.NoMemory)) }
     ensures same { OnErr result (AreSame end.old end.new) }
 {
@@ -360,8 +374,10 @@ fn is_no_memory(stop: Stop) -> bool
 /// # Errors
 /// Where there is no memory.
 fn close<L: Link>(alloc: Global, link: &mut L) -> Result<(), NoMemory>
-    ensures { (names : Names) → L.honest link.old names → L.honest link.new names
+    ensures honest { (names : Names) → L.honest link.old names → L.honest link.new names
         × Delivered names (L.past link.old) (L.past link.new) }
+    ensures calm { (names : Names) → L.calm link.old names → L.calm link.new names
+        × OnOk result (L.past link.new ≡ L.past link.old) }
 {
     match link.end_run(alloc) {
         Ok(()) | Err(LinkFault::Io) | Err(LinkFault::Frame) => Ok(()),

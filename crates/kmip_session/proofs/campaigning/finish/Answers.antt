@@ -21,7 +21,7 @@ returns-in_default-clause-ended c =
     let none : c.in_ok-saved.saved ≡ None = search rules in (
       record {
         noted =
-            is_noted client.keys client.knowns c.args.run c.args.driven.0 c.args.driven.1 c.in_ok-run_end.run_end c.args.end.now.runs.items
+            is_noted client.keys client.knowns c.args.run c.args.driven c.in_ok-run_end.run_end c.args.end.now.runs.items
             c.push_reserved.new.self.items c.in_ok-run_end.ensures c.requires.stands c.requires.limit c.requires.within
             (c.push_reserved.ensures.items ∙ ap (λ ends. ends ++ c.in_ok-run_end.run_end ∷ []) c.reserve.ensures.items);
         saved_are =
@@ -50,7 +50,7 @@ returns-clause-ended c =
     let there : c.in_ok-saved.saved ≡ Some c.in-Some.progress = search rules in (
       record {
         noted =
-            is_noted client.keys client.knowns c.args.run c.args.driven.0 c.args.driven.1 c.in_ok-run_end.run_end c.args.end.now.runs.items
+            is_noted client.keys client.knowns c.args.run c.args.driven c.in_ok-run_end.run_end c.args.end.now.runs.items
             c.push_reserved.new.self.items c.in_ok-run_end.ensures c.requires.stands c.requires.limit c.requires.within
             (c.push_reserved.ensures.items ∙ ap (λ ends. ends ++ c.in_ok-run_end.run_end ∷ []) c.reserve.ensures.items);
         saved_are =

@@ -3,6 +3,7 @@ use Rattle.std.proofs.Common.{◌≡◌, ◌∙◌, inl, inr, refl, subst, sym}
 use Rattle.std.specs.List.{All}
 use Rattle.kmip_client.specs.Held.{TrueProgress}
 use Rattle.kmip_session.specs.Remembering.{start_knowns}
+use Rattle.kmip_session.proofs.CalmLemmas.{settled_run}
 use Rattle.kmip_session.proofs.CampaignLemmas.{closed, stood}
 use Rattle.kmip_session.proofs.KnownLemmas.{grown_itself}
 use Rattle.kmip_session.proofs.RememberLemmas.{always_err, always_ok, broken_off, ran_closed}
@@ -19,7 +20,7 @@ returns-in_err-finish-clause-stands g c =
 pub returns-clause-stands : goal.returns-clause-stands
 returns-clause-stands g c = λ standing.
     closed g.L.Link.past g.L.Link.honest c.laws_below.ensures c.args.plan.now c.drive-driven.new.client c.args.link.now c.drive-driven.new.link c.close.new.link
-    c.finish.new.end.runs.items c.finish.new.end.saved.items c.keys.ensures.lawful (c.drive-driven.ensures.kept.keys_stay ∙ c.begin.ensures.keys) c.close.ensures
+    c.finish.new.end.runs.items c.finish.new.end.saved.items c.keys.ensures.lawful (c.drive-driven.ensures.kept.keys_stay ∙ c.begin.ensures.keys) c.close.ensures.honest
     (stood g.L.Link.past g.L.Link.honest c.laws_below.ensures c.args.plan.now c.args.client.now c.begin.new.client c.drive-driven.new.client c.args.link.now
     c.drive-driven.new.link c.drive-driven.result.0 c.args.end.now.runs.items c.finish.new.end.runs.items c.args.end.now.saved.items c.finish.new.end.saved.items
     c.keys.ensures.lawful c.requires.keys c.begin.ensures.keys (c.drive-driven.ensures.kept.keys_stay ∙ c.begin.ensures.keys)
@@ -41,20 +42,29 @@ pub returns-clause-ran : goal.returns-clause-ran
 returns-clause-ran g c =
     always_ok c.close.result
     (ran_closed g.L.Link.past g.L.Link.honest c.args.plan.now c.args.run c.args.client.now c.begin.new.client c.drive-driven.new.client c.args.link.now
-    c.drive-driven.new.link c.close.new.link c.drive-driven.result.1 c.args.end.now c.finish.new.end c.begin.ensures.keys
+    c.drive-driven.new.link c.close.new.link c.drive-driven.result c.args.end.now c.finish.new.end c.begin.ensures.keys
     (subst (λ ps. c.begin.new.client.knowns ≡ start_knowns c.args.plan.now c.args.run.start c.args.client.now.knowns ps) c.as_slice.ensures.value
     c.in_ok-begin.ensures.begun)
     c.drive-driven.ensures.kept
     (λ honest. let known = c.drive-driven.ensures.known honest in (known.0, known.1 c.in_ok-finish.ensures.ended.1))
-    c.in_ok-finish.ensures.ended.0 c.close.ensures)
+    c.in_ok-finish.ensures.ended.0 c.close.ensures.honest)
 
 pub returns-clause-broken : goal.returns-clause-broken
 returns-clause-broken g c =
     always_err c.close.result
     (inr (ran_closed g.L.Link.past g.L.Link.honest c.args.plan.now c.args.run c.args.client.now c.begin.new.client c.drive-driven.new.client c.args.link.now
-    c.drive-driven.new.link c.close.new.link c.drive-driven.result.1 c.args.end.now c.finish.new.end c.begin.ensures.keys
+    c.drive-driven.new.link c.close.new.link c.drive-driven.result c.args.end.now c.finish.new.end c.begin.ensures.keys
     (subst (λ ps. c.begin.new.client.knowns ≡ start_knowns c.args.plan.now c.args.run.start c.args.client.now.knowns ps) c.as_slice.ensures.value
     c.in_ok-begin.ensures.begun)
     c.drive-driven.ensures.kept
     (λ honest. let known = c.drive-driven.ensures.known honest in (known.0, known.1 c.in_ok-finish.ensures.ended.1))
-    c.in_ok-finish.ensures.ended.0 c.close.ensures))
+    c.in_ok-finish.ensures.ended.0 c.close.ensures.honest))
+
+pub returns-clause-settles : goal.returns-clause-settles
+returns-clause-settles g c =
+    settled_run g.L.Link.past g.L.Link.honest g.L.Link.calm c.args.plan.now c.laws_below.ensures c.args.run c.args.client.now c.begin.new.client c.drive-driven.new.client
+    c.args.link.now c.drive-driven.new.link c.close.new.link c.drive-driven.result c.args.end.now.runs.items c.finish.new.end.runs.items c.args.end.now.saved.items
+    c.close.result c.requires.keys c.begin.ensures.keys (c.drive-driven.ensures.kept.keys_stay ∙ c.begin.ensures.keys)
+    (λ objects saved. c.begin.ensures.held objects (subst (λ ps. All (TrueProgress objects c.args.plan.now) ps) (sym c.as_slice.ensures.value) saved))
+    c.drive-driven.ensures.good c.drive-driven.ensures.settles c.drive-driven.ensures.calm c.in_ok-finish.ensures.ended.1 c.in_ok-finish.ensures.ended.0.noted
+    c.close.ensures.calm

@@ -18,7 +18,7 @@ returns-in_err-client-clause-known g c =
 
 pub loop-place-init : goal.loop-place-init
 loop-place-init g c =
-    running_none g.L.Link.past g.L.Link.honest c.laws_below.ensures c.args.plan.now c.in_ok-client.client c.args.link.now c.args.runs.now c.args.end.now.runs.items
+    running_none g.L.Link.past g.L.Link.honest g.L.Link.calm c.laws_below.ensures c.args.plan.now c.in_ok-client.client c.args.link.now c.args.runs.now c.args.end.now.runs.items
     c.args.end.now.saved.items c.in_ok-client.ensures.fresh c.in_ok-client.ensures.held c.requires.no_end c.requires.none_saved
 
 pub returns-in_err-one_run-clause-order : goal.returns-in_err-one_run-clause-order
@@ -33,7 +33,7 @@ returns-in_err-one_run-clause-order g c =
       | inr ran ↦
           ends_all keys runs (suc c.loop-place.place) c.one_run.new.end.runs.items
               (ends_more keys runs c.loop-place.place _ c.loop-place.end.runs.items c.one_run.new.end.runs.items
-              (slice_get-get_or runs c.loop-place.place _ below) before.each c.one_run.new.client.knowns ran.exchanges ran.ended.noted)
+              (slice_get-get_or runs c.loop-place.place _ below) before.each c.one_run.new.client.knowns ran.driven ran.ended.noted)
     ]
 
 pub returns-in_err-one_run-clause-known : goal.returns-in_err-one_run-clause-known
@@ -57,9 +57,10 @@ returns-in_err-one_run-clause-known g c =
 pub loop-place-preserved : goal.loop-place-preserved
 loop-place-preserved g c =
     let below : c.loop-place.place < length c.args.runs.now = search rules in
-    running_more g.L.Link.past g.L.Link.honest c.laws_below.ensures c.args.plan.now c.loop-place.client c.one_run.new.client c.args.link.now c.loop-place.link
+    running_more g.L.Link.past g.L.Link.honest g.L.Link.calm c.laws_below.ensures c.args.plan.now c.loop-place.client c.one_run.new.client c.args.link.now c.loop-place.link
     c.one_run.new.link c.args.runs.now c.loop-place.place _ c.loop-place.end c.one_run.new.end (slice_get-get_or c.args.runs.now c.loop-place.place _ below)
     c.loop-place.invariant c.one_run.ensures.keys c.one_run.ensures.suits c.one_run.ensures.stands c.in_ok-one_run.ensures.ran
+    c.calm_laws.ensures.honest c.in_ok-one_run.ensures.settles
 
 pub returns-clause-order : goal.returns-clause-order
 returns-clause-order g c = ends_all c.args.plan.now c.args.runs.now c.loop-place.place c.loop-place.end.runs.items c.loop-place.invariant.each

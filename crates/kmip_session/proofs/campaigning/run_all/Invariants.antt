@@ -4,4 +4,4 @@ use Rattle.kmip_session.proofs.campaigning.run_all.Given as goal
 
 abbrev pub invariant-loop-place : goal.invariant-loop-place
 invariant-loop-place g l =
-    Running g.L.Link.past g.L.Link.honest l.fn.plan l.client l.fn.link l.link l.runs l.end.runs.items l.end.saved.items l.place
+    Running g.L.Link.past g.L.Link.honest g.L.Link.calm l.fn.plan l.client l.fn.link l.link l.runs l.end.runs.items l.end.saved.items l.place
