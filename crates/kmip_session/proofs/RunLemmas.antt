@@ -63,7 +63,7 @@ module _ {L : Type 0} (past : L → Past) (honest calm : L → Names → Type 0)
         each = ends_more keys runs at run old.runs.items new.runs.items is before.each b.knowns ran.driven ran.ended.noted;
         settled = λ calmly.
             let first = before.settled calmly in
-            let good = record { honest_for = calm_honest start (is_planned keys) calmly.calm_for; sound = calmly.sound } in
+            let good : GoodLink past honest keys start = record { honest_for = calm_honest start (is_planned keys) calmly.calm_for; sound = calmly.sound } in
             let second = settles (before.stands good).0 first.1 in (
               zip_more (Settles keys) runs at run old.runs.items new.runs.items second.0.end is first.0 second.0.joined second.0.settles,
               second.1,
