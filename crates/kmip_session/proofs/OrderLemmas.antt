@@ -1,5 +1,5 @@
 -- The ends of runs, one for each run in turn.
-use Rattle.std.proofs.Common.{◌≡◌, ◌≢◌, ◌≤◌, ◌<◌, ℕ, zero, suc, ◌+◌, Bool, true, false, List, [], ◌∷◌, ◌++◌, take, filter, length, map, slice_get, Some, None, if◌then◌else◌, sym, ap, subst, refl, ◌∙◌, inl, inr, arith}
+use Rattle.std.proofs.Common.{◌≡◌, ◌≢◌, ◌≤◌, ◌<◌, ℕ, zero, suc, ◌+◌, List, [], ◌∷◌, ◌++◌, take, filter, length, map, slice_get, Some, None, if◌then◌else◌, sym, ap, subst, refl, ◌∙◌, inl, inr, arith}
 use Rattle.std.specs.List.{All, AllZip, Contains}
 use Rattle.std.proofs.lemmas.Bool.{cases_Bool}
 use Rattle.std.proofs.lemmas.List.{length-append}
@@ -101,6 +101,7 @@ saved_more run knowns progress old new is joined = elim (cases_Bool run.save) [
   where
     the_one : Some progress ≡ Some (map known_of knowns) → progress ≡ map known_of knowns
     the_one so = cc
+
     absurd_some : {X : Type 0} → Some progress ≡ None → X
     absurd_some so = absurd cc
 

@@ -1,7 +1,6 @@
 -- What was known at the ends of some runs, and one run more.
-use Rattle.std.proofs.Common.{◌≡◌, ℕ, ◌+◌, List, [], ◌∷◌, ◌++◌, length, slice_get, flat_map, Some, Result, Ok, Err, IsErr, OnErr, OnOk, sym, ap, subst, refl, ◌∙◌, append_assoc, append-nil, arith}
+use Rattle.std.proofs.Common.{◌≡◌, ℕ, List, [], ◌∷◌, ◌++◌, length, slice_get, flat_map, Some, Result, Ok, Err, IsErr, OnErr, OnOk, sym, ap, subst, refl, ◌∙◌, append-nil}
 use Rattle.std.specs.List.{AllZip}
-use Rattle.std.proofs.lemmas.List.{length-append}
 use Rattle.std.proofs.lemmas.List.Concat.{flat_map-append}
 use Rattle.std.proofs.lemmas.Slice.Zip.{AllZip-long}
 use Rattle.kmip_messages.specs.Items.{requests_in}

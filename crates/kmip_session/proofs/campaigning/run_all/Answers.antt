@@ -1,5 +1,5 @@
 -- Run by run.
-use Rattle.std.proofs.Common.{◌≡◌, ◌<◌, Ok, Err, length, suc, rules, refl, inl, inr}
+use Rattle.std.proofs.Common.{◌<◌, length, suc, rules, refl, inl, inr}
 use Rattle.std.proofs.lemmas.Option.{slice_get-get_or}
 use Rattle.kmip_client.specs.Clients.{fresh}
 use Rattle.kmip_session.proofs.OrderLemmas.{ends_all, ends_more, ends_same}
@@ -32,8 +32,8 @@ returns-in_err-one_run-clause-order g c =
           ends_same keys runs c.loop-place.place c.loop-place.end.runs.items c.one_run.new.end.runs.items broken.same.same_runs before.each
       | inr ran ↦
           ends_all keys runs (suc c.loop-place.place) c.one_run.new.end.runs.items
-              (ends_more keys runs c.loop-place.place _ c.loop-place.end.runs.items c.one_run.new.end.runs.items
-              (slice_get-get_or runs c.loop-place.place _ below) before.each c.one_run.new.client.knowns ran.driven ran.ended.noted)
+          (ends_more keys runs c.loop-place.place _ c.loop-place.end.runs.items c.one_run.new.end.runs.items
+          (slice_get-get_or runs c.loop-place.place _ below) before.each c.one_run.new.client.knowns ran.driven ran.ended.noted)
     ]
 
 pub returns-in_err-one_run-clause-known : goal.returns-in_err-one_run-clause-known
@@ -47,11 +47,11 @@ returns-in_err-one_run-clause-known g c =
     elim c.in_err-one_run.ensures.broken [
       | inl broken ↦
           broken_known past honest keys runs c.loop-place.client c.args.link.now c.loop-place.link c.one_run.new.link c.loop-place.end c.one_run.new.end _
-              (λ is. no_ok c.from_residual-in_err-one_run.result tt c.from_residual-in_err-one_run.ensures.0 is) before.recalled broken
+          (λ is. no_ok c.from_residual-in_err-one_run.result tt c.from_residual-in_err-one_run.ensures.0 is) before.recalled broken
       | inr ran ↦
           recalled_known past honest keys runs c.one_run.new.client c.args.link.now c.one_run.new.link c.one_run.new.end.runs.items c.one_run.new.end.saved.items _
-              (recalled_more past honest keys runs c.loop-place.client c.one_run.new.client c.args.link.now c.loop-place.link c.one_run.new.link _ c.loop-place.end
-              c.one_run.new.end c.loop-place.place (slice_get-get_or runs c.loop-place.place _ below) before.as_many_ends before.recalled ran)
+          (recalled_more past honest keys runs c.loop-place.client c.one_run.new.client c.args.link.now c.loop-place.link c.one_run.new.link _ c.loop-place.end
+          c.one_run.new.end c.loop-place.place (slice_get-get_or runs c.loop-place.place _ below) before.as_many_ends before.recalled ran)
     ]
 
 pub loop-place-preserved : goal.loop-place-preserved
