@@ -7,7 +7,7 @@ use Rattle.kmip_commands.specs.declared.exit_status.ExitStatus.{ExitStatus}
 use Rattle.kmip_commands.specs.declared.exit_status.ExitStatus.TheVariants.{Done, Failed, Usage}
 use Rattle.kmip_commands.specs.declared.fault.CommandFault.TheVariants.{NoMemory}
 use Rattle.kmip_command_line.specs.declared.Choice.{Choice}
-use Rattle.kmip_command_line.specs.declared.Choice.TheVariants.{Check, CheckAfter}
+use Rattle.kmip_command_line.specs.declared.Choice.TheVariants.{Check, CheckAfter, Simulate}
 
 -- by the kind of the error: help and the version are no fault
 abbrev pub status_of : ErrorKind → ExitStatus
@@ -21,3 +21,8 @@ abbrev pub IsCheckOf : List ℕ → Option (List ℕ) → Choice → Type 0
 IsCheckOf plan None (Check path) = string_bytes path ≡ plan
 IsCheckOf plan (Some earlier) (CheckAfter path other) = (string_bytes path ≡ plan) × (string_bytes other ≡ earlier)
 IsCheckOf plan earlier choice = ⊥
+
+-- Private: the choice is to simulate the plan at this path over the script at the other
+abbrev pub IsSimulationOf : List ℕ → List ℕ → Choice → Type 0
+IsSimulationOf plan script (Simulate path other) = (string_bytes path ≡ plan) × (string_bytes other ≡ script)
+IsSimulationOf plan script choice = ⊥

@@ -3,14 +3,14 @@
 use crate::{Choice, chosen, status_of};
 use kmip_commands::{
     CommandFault, ExitStatus, Form, check_bytes, run_answer, run_answer_stream, run_check,
-    run_check_after, run_show,
+    run_check_after, run_show, run_sim,
 };
 use std::io::{BufReader, BufWriter, Error, ErrorKind, Read};
 use std::process::ExitCode;
 use std::{env, fs, io};
 
-/// No more is read of a plan's file: its 1,000 keys take less than a tenth of it.
-const MOST_PLAN_BYTES: u64 = 16_777_216;
+/// No more is read of a file: a plan of 1,000 keys or a script of 10,000 lines takes less than a tenth.
+const MOST_FILE_BYTES: u64 = 16_777_216;
 
 /// Runs the program: reads its command line, does what that asks for over standard input, files and
 /// standard output, and answers the code to end with. Everything is printed on standard output,
@@ -52,6 +52,9 @@ fn run_command(rt: &HostRuntime) -> io::Result<ExitStatus> {
         Ok(Choice::CheckAfter { plan, earlier }) => {
             check_plan_after(rt, plan.as_str(), earlier.as_str())
         }
+        Ok(Choice::Simulate { plan, script }) => {
+            simulate_plan(rt, plan.as_str(), script.as_str())
+        }
         Err(error) => {
             let status = status_of(&error);
             if status == ExitStatus::Failed(CommandFault::NoMemory) {
@@ -86,7 +89,7 @@ fn show_input(rt: &HostRuntime, form: Form) -> io::Result<ExitStatus> {
 
 /// The command `check` from a file to standard output.
 fn check_plan(rt: &HostRuntime, path: &str) -> io::Result<ExitStatus> {
-    let Some(plan) = plan_or_why_not(rt, path)? else {
+    let Some(plan) = text_or_why_not(rt, path)? else {
         return Ok(ExitStatus::Refused);
     };
     let mut writer = BufWriter::new(rt.alloc(), io::writer(rt))?;
@@ -95,18 +98,42 @@ fn check_plan(rt: &HostRuntime, path: &str) -> io::Result<ExitStatus> {
 
 /// The command `check --after` from two files to standard output.
 fn check_plan_after(rt: &HostRuntime, path: &str, earlier_path: &str) -> io::Result<ExitStatus> {
-    let Some(plan) = plan_or_why_not(rt, path)? else {
-        return Ok(ExitStatus::Refused);
-    };
-    if is_refused(rt, plan.as_str()) {
-        let mut writer = BufWriter::new(rt.alloc(), io::writer(rt))?;
-        return Ok(run_check(rt.alloc(), plan.as_str(), &mut writer));
-    }
-    let Some(earlier) = plan_or_why_not(rt, earlier_path)? else {
-        return Ok(ExitStatus::Refused);
+    let (plan, earlier) = match plan_and_other(rt, path, earlier_path)? {
+        Ok(texts) => texts,
+        Err(status) => return Ok(status),
     };
     let mut writer = BufWriter::new(rt.alloc(), io::writer(rt))?;
     Ok(run_check_after(rt.alloc(), plan.as_str(), earlier.as_str(), &mut writer))
+}
+
+/// The command `sim` from two files to standard output.
+fn simulate_plan(rt: &HostRuntime, path: &str, script_path: &str) -> io::Result<ExitStatus> {
+    let (plan, script) = match plan_and_other(rt, path, script_path)? {
+        Ok(texts) => texts,
+        Err(status) => return Ok(status),
+    };
+    let mut writer = BufWriter::new(rt.alloc(), io::writer(rt))?;
+    Ok(run_sim(rt.alloc(), plan.as_str(), script.as_str(), &mut writer))
+}
+
+/// The texts of a plan's file and of another. Where the first is no plan, or a file has no text, that
+/// is printed, and the answer is how the program ends.
+fn plan_and_other(
+    rt: &HostRuntime,
+    path: &str,
+    other_path: &str,
+) -> io::Result<Result<(String, String), ExitStatus>> {
+    let Some(plan) = text_or_why_not(rt, path)? else {
+        return Ok(Err(ExitStatus::Refused));
+    };
+    if is_refused(rt, plan.as_str()) {
+        let mut writer = BufWriter::new(rt.alloc(), io::writer(rt))?;
+        return Ok(Err(run_check(rt.alloc(), plan.as_str(), &mut writer)));
+    }
+    let Some(other) = text_or_why_not(rt, other_path)? else {
+        return Ok(Err(ExitStatus::Refused));
+    };
+    Ok(Ok((plan, other)))
 }
 
 /// Whether a text is no plan. Where memory runs out it is not said to be one; what is done with it
@@ -116,12 +143,12 @@ fn is_refused(rt: &HostRuntime, plan: &str) -> bool {
     matches!(check_bytes(rt.alloc(), plan, &mut text), Ok(true))
 }
 
-/// The text of a plan's file; where it has none, or one that is too long, that is printed.
-fn plan_or_why_not(rt: &HostRuntime, path: &str) -> io::Result<Option<String>> {
-    match plan_text(rt, path) {
-        Ok(Some(plan)) => Ok(Some(plan)),
+/// The text of a file; where it has none, or one that is too long, that is printed.
+fn text_or_why_not(rt: &HostRuntime, path: &str) -> io::Result<Option<String>> {
+    match text_of(rt, path) {
+        Ok(Some(text)) => Ok(Some(text)),
         Ok(None) => {
-            rt.println(format_args!("longer than {MOST_PLAN_BYTES} bytes: {path}"))?;
+            rt.println(format_args!("longer than {MOST_FILE_BYTES} bytes: {path}"))?;
             Ok(None)
         }
         Err(error) => {
@@ -134,11 +161,11 @@ fn plan_or_why_not(rt: &HostRuntime, path: &str) -> io::Result<Option<String>> {
     }
 }
 
-/// The text of a plan's file, unless it is longer than a plan may be.
-fn plan_text(rt: &HostRuntime, path: &str) -> io::Result<Option<String>> {
+/// The text of a file, unless it is longer than is read.
+fn text_of(rt: &HostRuntime, path: &str) -> io::Result<Option<String>> {
     let file = fs::open(rt, path)?;
-    let text = io::read_to_string(rt.alloc(), file.take(MOST_PLAN_BYTES + 1))?;
-    if text.len() as u64 > MOST_PLAN_BYTES {
+    let text = io::read_to_string(rt.alloc(), file.take(MOST_FILE_BYTES + 1))?;
+    if text.len() as u64 > MOST_FILE_BYTES {
         return Ok(None);
     }
     Ok(Some(text))

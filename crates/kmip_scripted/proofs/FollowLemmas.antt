@@ -54,13 +54,13 @@ play_given (Again number) request s = last_is_said replies_in s.given (reply_byt
 play_given Save request s = last_is_said replies_in s.given (reply_bytes s.stock request (pos 0))
 play_given (Restart start) request s = last_is_said replies_in s.given (reply_bytes s.stock request (pos 0))
 
-abbrev pub handed : List ℕ → Option (List ℕ) → Scene → Scene
-handed request answer s = record s { sent = s.sent ++ request ∷ []; handed = s.handed ++ answer ∷ [] }
+abbrev pub handed : List ℕ → Word → Option (List ℕ) → Scene → Scene
+handed request word answer s = record s { sent = s.sent ++ request ∷ []; followed = s.followed ++ word ∷ []; handed = s.handed ++ answer ∷ [] }
 
-pub hands_over : (names : Names) (request : List ℕ) (old prepared mid new : Scene) (answer : Option (List ℕ))
+pub hands_over : (names : Names) (request : List ℕ) (old prepared mid new : Scene) (word : Word) (answer : Option (List ℕ))
     → Delivered names (with_asked request (past_in old)) (past_in mid) → mid ≡ (played request prepared).1 → answer ≡ (played request prepared).0
-    → new ≡ handed request answer mid → HandsOver names (past_in old) request answer (past_in new)
-hands_over names request old prepared mid new answer delivered was is now = record {
+    → new ≡ handed request word answer mid → HandsOver names (past_in old) request answer (past_in new)
+hands_over names request old prepared mid new word answer delivered was is now = record {
   between = past_in mid;
   delivered = delivered;
   given = subst (λ a. IfSome a (AreGiven (past_in mid))) (sym is)
@@ -69,11 +69,13 @@ hands_over names request old prepared mid new answer delivered was is now = reco
   is = ap past_in now;
 }
 
-pub exact_is : (request : List ℕ) (old prepared mid new : Scene) (answer : Option (List ℕ)) → prepared ≡ before_play request old → mid ≡ (played request prepared).1
-    → answer ≡ (played request prepared).0 → new ≡ handed request answer mid → new ≡ (exchange request old).1
-exact_is request old prepared mid new answer was then is now =
-    now ∙ ap (λ m. handed request answer m) then ∙ ap (λ a. handed request a (played request prepared).1) is
-    ∙ ap (λ s. handed request (played request s).0 (played request s).1) was
+pub exact_is : (request : List ℕ) (old prepared mid new : Scene) (word : Word) (answer : Option (List ℕ)) → prepared ≡ before_play request old
+    → word ≡ exchange_word prepared.words → mid ≡ (played request prepared).1
+    → answer ≡ (played request prepared).0 → new ≡ handed request word answer mid → new ≡ (exchange request old).1
+exact_is request old prepared mid new word answer was next then is now =
+    now ∙ ap (λ m. handed request word answer m) then ∙ ap (λ a. handed request word a (played request prepared).1) is
+    ∙ ap (λ w. handed request w (played request prepared).0 (played request prepared).1) next
+    ∙ ap (λ s. handed request (exchange_word s.words) (played request s).0 (played request s).1) was
 
 pub answer_is : (request : List ℕ) (old prepared : Scene) (answer : Option (List ℕ)) → prepared ≡ before_play request old
     → answer ≡ (played request prepared).0 → answer ≡ (exchange request old).0
@@ -90,10 +92,10 @@ calm_answer request s none = ap (λ words. (play (exchange_word words) request (
 calm_words : (request : List ℕ) (s : Scene) → s.words ≡ [] → (played request s).1.words ≡ []
 calm_words request s none = ap (λ words. (play (exchange_word words) request (with_words (words_after_exchange words) s)).1.words) none
 
-pub calmly_done : (request : List ℕ) (old prepared mid new : Scene) (answer : Option (List ℕ)) → old.words ≡ [] → prepared ≡ before_play request old
+pub calmly_done : (request : List ℕ) (old prepared mid new : Scene) (word : Word) (answer : Option (List ℕ)) → old.words ≡ [] → prepared ≡ before_play request old
     → (prepared.words ≡ [] → AreTaken (stops_in request) (parts_in request) (replies_in (reply_bytes prepared.stock request (pos 0))) (past_in prepared) (past_in mid))
-    → answer ≡ (played request prepared).0 → new ≡ handed request answer mid → Calmly (past_in old) request answer (past_in new)
-calmly_done request old prepared mid new answer none was taken is now =
+    → answer ≡ (played request prepared).0 → new ≡ handed request word answer mid → Calmly (past_in old) request answer (past_in new)
+calmly_done request old prepared mid new word answer none was taken is now =
     let ready : prepared ≡ with_request request old = was ∙ calm_prepared request old none in
     let empty : prepared.words ≡ [] = ap (λ s. s.words) ready ∙ none in
     let from = subst (λ s. AreTaken (stops_in request) (parts_in request) (replies_in (reply_bytes s.stock request (pos 0))) (past_in s) (past_in mid)) ready (taken empty) in

@@ -18,8 +18,9 @@ pub record Scene : Type 0 where
   pub given : List (List ℕ)
   -- what took effect
   pub effects : List Effect
-  -- the bytes that each exchange sent, and what it handed over: bytes, or none for a loss
+  -- the bytes that each exchange sent, the word that it followed, and what it handed over: bytes, or none for a loss
   pub sent : List (List ℕ)
+  pub followed : List Word
   pub handed : List (Option (List ℕ))
   -- the words that are left
   pub words : List Word
@@ -38,7 +39,7 @@ past_in s = record {
 
 -- where nothing has happened over a server, with these words left
 abbrev pub scene_of : Stock → List Word → Scene
-scene_of stock words = record { stock = stock; asked = []; given = []; effects = []; sent = []; handed = []; words = words }
+scene_of stock words = record { stock = stock; asked = []; given = []; effects = []; sent = []; followed = []; handed = []; words = words }
 
 -- Private: the requests of a message were all asked.
 abbrev pub WasAsked : List ℕ → Scene → Type 0

@@ -2,6 +2,7 @@
 -- Source: own.
 use Rattle.std.specs.Prelude.{◌≡◌, ◌⊎◌, ◌==◌, ◌-◌, ◌<◌, ℕ, nat_le, pos, Bool, true, false, not, ◌&&◌, List, [], ◌∷◌, ◌++◌, length, Option, Some, None, if◌then◌else◌}
 use Rattle.std.specs.List.{slice_get}
+use Rattle.std.specs.Option.{option_flatten}
 use Rattle.kmip_server.specs.Serving.{reply_bytes}
 use Rattle.kmip_scripted.specs.declared.script.Word.{Word}
 use Rattle.kmip_scripted.specs.declared.script.Word.TheVariants.{Pass, LoseRequest, LoseReply, Cut, Stale, Again, Save, Restart}
@@ -31,6 +32,13 @@ is_exchange word = not (is_again word) && not (ends_run word)
 -- the message of a number, from 1; none where there is none
 abbrev pub message_at : ℕ → List (List ℕ) → Option (List ℕ)
 message_at number messages = if number == 0 then None else slice_get messages (number - 1)
+
+-- the word that the exchange of a number followed, from 1, and what it handed over; none where there is no such exchange
+abbrev pub word_at : ℕ → List Word → Option Word
+word_at number words = if number == 0 then None else slice_get words (number - 1)
+
+abbrev pub answer_at : ℕ → List (Option (List ℕ)) → Option (List ℕ)
+answer_at number answers = if number == 0 then None else option_flatten (slice_get answers (number - 1))
 
 abbrev pub with_words : List Word → Scene → Scene
 with_words words s = record s { words = words }
@@ -89,13 +97,14 @@ before_play request s = after_words false s.words (with_request request s)
 abbrev pub played : List ℕ → Scene → Option (List ℕ) × Scene
 played request s = play (exchange_word s.words) request (with_words (words_after_exchange s.words) s)
 
--- what was sent and what is handed over are kept
-abbrev pub with_handed : List ℕ → Option (List ℕ) × Scene → Option (List ℕ) × Scene
-with_handed request p = (p.0, record p.1 { sent = p.1.sent ++ request ∷ []; handed = p.1.handed ++ p.0 ∷ [] })
+-- what was sent, the word that was followed and what is handed over are kept
+abbrev pub with_handed : List ℕ → Word → Option (List ℕ) × Scene → Option (List ℕ) × Scene
+with_handed request word p =
+    (p.0, record p.1 { sent = p.1.sent ++ request ∷ []; followed = p.1.followed ++ word ∷ []; handed = p.1.handed ++ p.0 ∷ [] })
 
 -- what an exchange hands over, and what it leaves
 abbrev pub exchange : List ℕ → Scene → Option (List ℕ) × Scene
-exchange request s = with_handed request (played request (before_play request s))
+exchange request s = with_handed request (exchange_word (before_play request s).words) (played request (before_play request s))
 
 -- where memory runs out before the word of an exchange is taken: nothing, or the request joined, and of the words that repeat a
 -- beginning is done

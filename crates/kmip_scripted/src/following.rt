@@ -210,8 +210,9 @@ impl<S: Records> Scripted<S> {
     {
         deliveries_join();
         self.prepare(alloc, request)?;
+        let word = self.next_word();
         let answer = self.take_and_play(alloc, request)?;
-        self.hand_over(alloc, request, bytes_of(&answer))?;
+        self.hand_over(alloc, request, word, bytes_of(&answer))?;
         Ok(answer)
     }
 

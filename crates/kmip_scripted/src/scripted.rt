@@ -10,11 +10,13 @@ ghost use Rattle.kmip_schedule.specs.Moves.{Delivered};
 ghost use Rattle.kmip_schedule.specs.Past.{Names};
 ghost use Rattle.kmip_scripted.specs.Scenes.{WasAsked, past_in, scene_of};
 ghost use Rattle.kmip_scripted.specs.Serving.{with_served};
-ghost use Rattle.kmip_scripted.specs.Words.{exchange_word, first_of, message_at, next_words, with_request, with_words, words_after_exchange, words_after_run};
+ghost use Rattle.kmip_scripted.specs.Words.{answer_at, exchange_word, first_of, message_at, word_at, next_words, with_request, with_words, words_after_exchange, words_after_run};
 
 use crate::script::{Script, Word};
 use crate::serving::serve_logged;
-use crate::words::{first_word, take_ending_word, take_exchange_word, take_restarts};
+use crate::words::{
+    first_word, next_exchange_word, take_ending_word, take_exchange_word, take_restarts,
+};
 use kmip_messages::laws::question_laws;
 use kmip_schedule::Effect;
 use kmip_schedule::laws::{deliveries_join, what_is_done_joins, what_is_taken_is_delivered};
@@ -33,6 +35,7 @@ pub struct Scripted<S: Records> {
     given: Vec<Bytes>,
     effects: Vec<Effect>,
     sent: Vec<Bytes>,
+    followed: Vec<Word>,
     handed: Vec<Option<Bytes>>,
     words: VecDeque<Word>,
 }
@@ -48,6 +51,7 @@ impl<S: Records> Model for Scripted<S> {
       given = s.given.items;
       effects = s.effects.items;
       sent = s.sent.items;
+      followed = s.followed.items;
       handed = s.handed.items;
       words = s.words.items;
     } };
@@ -66,6 +70,7 @@ impl<S: Records> Scripted<S> {
             given: Vec::new(alloc),
             effects: Vec::new(alloc),
             sent: Vec::new(alloc),
+            followed: Vec::new(alloc),
             handed: Vec::new(alloc),
             words,
         }
@@ -83,6 +88,29 @@ impl<S: Records> Scripted<S> {
         ensures { option_map (λ message. message.now) result ≡ message_at number self.now.given }
     {
         message_at(self.given.as_slice(), number)
+    }
+
+    /// The word that the exchange of this number followed, from 1.
+    pub fn followed(&self, number: usize) -> Option<Word>
+        ensures { result ≡ word_at number self.now.followed }
+    {
+        if number == 0 {
+            return None;
+        }
+        self.followed.get(number - 1).copied()
+    }
+
+    /// What the exchange of this number handed over, from 1: the bytes of a message, or none.
+    pub fn handed(&self, number: usize) -> Option<&[u8]>
+        ensures { option_map (λ message. message.now) result ≡ answer_at number self.now.handed }
+    {
+        if number == 0 {
+            return None;
+        }
+        match self.handed.get(number - 1) {
+            Some(Some(message)) => Some(message.as_slice()),
+            Some(None) | None => None,
+        }
     }
 
     /// The server.
@@ -205,15 +233,24 @@ impl<S: Records> Scripted<S> {
         copied(alloc, self.reply(number))
     }
 
-    /// Keeps what was sent and what is handed over.
+    /// The word of the next exchange.
+    pub(crate) fn next_word(&self) -> Word
+        ensures { result ≡ exchange_word self.now.words }
+    {
+        next_exchange_word(&self.words)
+    }
+
+    /// Keeps what was sent, the word that was followed, and what is handed over.
     pub(crate) fn hand_over(
         &mut self,
         alloc: Global,
         request: &[u8],
+        word: Word,
         answer: Option<&[u8]>,
     ) -> Result<(), NoMemory>
         ensures ok { OnOk result (self.new ≡ record self.old {
           sent = self.old.sent ++ request.now ∷ [];
+          followed = self.old.followed ++ word ∷ [];
           handed = self.old.handed ++ option_map (λ m. m.now) answer.entry ∷ [];
         }) }
         ensures err { OnErr result (self.new ≡ self.old) }
@@ -221,8 +258,10 @@ impl<S: Records> Scripted<S> {
         let sent = Bytes::copied(alloc, request)?;
         let handed = copied_bytes(alloc, answer)?;
         self.sent.reserve(1)?;
+        self.followed.reserve(1)?;
         self.handed.reserve(1)?;
         self.sent.push_reserved(sent);
+        self.followed.push_reserved(word);
         self.handed.push_reserved(handed);
         Ok(())
     }

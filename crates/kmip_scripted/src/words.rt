@@ -46,6 +46,16 @@ pub(crate) fn first_word(words: &VecDeque<Word>) -> Option<Word>
     words.front().copied()
 }
 
+/// The word of the next exchange, which is `pass` where none is left in the run.
+pub(crate) fn next_exchange_word(words: &VecDeque<Word>) -> Word
+    ensures { result ≡ exchange_word words.now.items }
+{
+    match first_word(words) {
+        Some(word) if is_exchange(word) => word,
+        Some(_) | None => Word::Pass,
+    }
+}
+
 /// Takes the word of the next exchange, which is `pass` where none is left in the run.
 pub(crate) fn take_exchange_word(words: &mut VecDeque<Word>) -> Word
     ensures word { result ≡ exchange_word words.old.items }

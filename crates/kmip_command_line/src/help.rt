@@ -1,0 +1,125 @@
+//! The texts of the help.
+
+pub(crate) const ABOUT: &str = "\
+Messages of the Key Management Interoperability Protocol (KMIP) 2.1 in lines of hexadecimal digits:
+answered by a test server that holds its keys in memory, or shown as text. Plans of keys, checked
+before anything is asked of a server, and carried out over a simulated network that loses, repeats and
+delays messages as a script says.";
+
+pub(crate) const AFTER_HELP: &str = "\
+Without words it does `answer`. Everything is printed on standard output.
+
+Exit status:
+  0  nothing was refused, and the last run of a simulation finished all keys
+  1  a line, a stream, a plan or a script was refused, a plan does not prolong the earlier one, the last
+     run of a simulation left keys unfinished, or reading, writing or memory failed
+  2  the command line is wrong
+
+Example, bytes that are no message, and the reply Invalid Message as text:
+  echo 00 | kmipctl answer | kmipctl show";
+
+pub(crate) const ANSWER: &str = "Replies to messages: a line of hexadecimal digits in, a line out";
+
+pub(crate) const ANSWER_LONG: &str = "\
+Replies to each line of standard input, a message in hexadecimal digits of either case, by a line of
+standard output, the reply in lower-case digits. One server replies to all of them in turn: it starts
+with no object, has room for 10,000, and tells the time 0.
+
+An empty line is skipped. A line of more than 16,384 digits prints `refused: length`, and one that is
+no hexadecimal prints `refused: hex`; neither ends the command. The last line may lack its line feed.
+Where reading fails it prints `cannot read input`, and where there is no memory `no memory`, and ends.
+
+With --stream the lines are pieces of one stream of messages, cut anywhere, and each message is answered
+as soon as it is whole; a line that is refused adds nothing. Eight bytes that should begin a message and
+do not print `stream refused: 1 BadHead`, with the fault's number and name, and end the command; where the
+stream ends inside a message, `stream cut: 100` says how many bytes of it came.";
+
+pub(crate) const STREAM: &str = "Take the lines as pieces of one stream of messages";
+
+pub(crate) const SHOW: &str = "Shows items: a line of hexadecimal digits in, lines of text out";
+
+pub(crate) const SHOW_LONG: &str = "\
+Shows the item that each line of standard input spells in hexadecimal digits of either case: a line
+for the item with its tag, its type and its value, and below a Structure's line those of its items,
+two spaces further to the right.
+
+A line that spells no item prints its first fault, as `refused: 1 Short at 0`, with the fault's number,
+its name and the offset of the item at fault; bytes after the item print `refused: extra at 16`. Empty,
+long and wrong lines are treated as by `answer`.";
+
+pub(crate) const CHECK: &str = "Judges a plan of keys, and prints a line for each key";
+
+pub(crate) const CHECK_LONG: &str = "\
+Judges the plan in a file, and prints for each of its keys the name, the algorithm, the length in bits,
+the usage mask in hexadecimal, the target, and the steps that lead there:
+  k1 AES 256 0000000c active: Create Activate
+
+A plan is TOML with 1 to 1,000 tables `[[key]]`:
+  [[key]]
+  name = \"k1\"                    # of one key alone: 1 to 64 printable ASCII characters, no space
+  algorithm = \"AES\"              # or \"HMAC-SHA256\"
+  length = 256                   # for AES also 128 and 192
+  usage = [\"encrypt\", \"decrypt\"]
+  target = \"active\"
+
+A usage is sign, verify, encrypt, decrypt, wrap-key, unwrap-key, mac-generate or mac-verify. A target is
+created, active, revoked, destroyed or discarded. A key that is revoked or destroyed may have a `reason`:
+unspecified, affiliation-changed, superseded, cessation-of-operation or privilege-withdrawn.
+
+The whole plan is judged before anything is printed. One with a fault prints its first one alone, as
+`plan refused: 4 Missing length at key 1`: the fault's number, its name, the field where there is one,
+and the place of the key, where 0 is beside the keys. Of a field that plans do not have, a byte that is
+no plain character is printed as a backslash and two digits. A file that cannot be read as text prints
+`cannot read PATH`, and one of more than 16,777,216 bytes `longer than 16777216 bytes: PATH`.
+
+With --after it also says whether the plan prolongs an earlier one, so that all that was done by the
+earlier plan is a beginning of what this one wants. The keys of the earlier plan have to come first, in
+the same order, and each with the same algorithm, length and usage, a target whose steps begin with the
+steps to its earlier target, and, where a Revoke was among those, the same reason. New keys come after
+them. Below the lines of the keys stands `prolongs`, or `prolongs not` with the exit status 1. This plan
+is read and judged first, then the earlier one, before anything is printed: the first fault is printed
+alone.";
+
+pub(crate) const SIM: &str = "Carries out a plan over a simulated network that follows a script";
+
+pub(crate) const SIM_LONG: &str = "\
+Carries out the plan in a file (see `check --help`) against a test server in this program, which starts
+with no object and has room for 10,000, over a network that does to each message what the script says.
+It prints for each run `run I STOP EXCHANGES` and its report, a line for each key and one that counts the
+finished ones; then `ask N OPERATION NAME` for each request that was asked, and `record UID NAME STATE` for
+each object of the server:
+  run 1 AllFinished 3
+  k1 active 2/2 finished
+  finished 1 of 1
+  ask 1 Locate k1
+  ask 2 Create k1
+  ask 3 Activate k1
+  record 1 k1 Active
+
+A script has a word a line, at most 10,000 lines; an empty line is skipped. For one exchange each:
+  pass          the request is delivered, and its reply handed over
+  lose-request  the request is lost
+  lose-reply    the request is delivered, and its reply lost
+  cut N         only the first N bytes of the request arrive
+  stale N       the request is lost, and the reply of number N is handed over, an old one perhaps
+Before an exchange:
+  again N       the request of number N is delivered again, and its reply kept back
+To end a run:
+  save          what is known is saved, and the next run goes on from there
+  restart N     the next run starts from the save of number N
+  restart none  the next run starts from nothing
+A run makes as many exchanges as it has words for them. The last one goes on, with a network that loses
+nothing, for as many as the plan can need then: two more for each key than its target has steps. STOP is
+AllFinished, Limit or Conflict. Where there is no memory the runs that were made are printed, and then
+`no memory`.
+
+The plan is read and judged first, then the script; the first fault is printed alone: the plan's as by
+`check`, the script's as `script refused: line 3`.";
+
+pub(crate) const PLAN: &str = "The file of the plan";
+
+pub(crate) const SCRIPT: &str = "The file of the script: what the network does, a word a line";
+
+pub(crate) const AFTER: &str = "The file of an earlier plan, which the plan is to prolong";
+
+pub(crate) const CANON: &str = "Print the item's one written form, the padding zero, in lower-case digits";
