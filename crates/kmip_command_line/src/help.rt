@@ -122,4 +122,5 @@ pub(crate) const SCRIPT: &str = "The file of the script: what the network does, 
 
 pub(crate) const AFTER: &str = "The file of an earlier plan, which the plan is to prolong";
 
-pub(crate) const CANON: &str = "Print the item's one written form, the padding zero, in lower-case digits";
+pub(crate) const CANON: &str =
+    "Print the item's one written form, the padding zero, in lower-case digits";

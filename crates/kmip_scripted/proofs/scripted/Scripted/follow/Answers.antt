@@ -21,8 +21,8 @@ returns-in_err-hand_over-clause-want g c = on_err c.from_residual-in_err-hand_ov
 
 pub returns-clause-hands : goal.returns-clause-hands
 returns-clause-hands g c = λ names.
-    hands_over names c.args.request.now c.args.self.now c.prepare.new.self c.take_and_play.new.self c.hand_over.new.self c.next_word.result (option_map (λ v. v.items) c.in_ok-answer.answer)
+    hands_over names c.args.request.now c.args.self.now c.prepare.new.self c.take_and_play.new.self c.hand_over.new.self c.next_word-word.result (option_map (λ v. v.items) c.in_ok-answer.answer)
     (c.deliveries_join.ensures.join names (with_asked c.args.request.now (past_in c.args.self.now)) (past_in c.prepare.new.self) (past_in c.take_and_play.new.self)
     (c.in_ok-prepare.ensures.joined names) (c.take_and_play.ensures.delivered names c.in_ok-prepare.ensures.asked))
     c.in_ok-answer.ensures.ok c.in_ok-answer.ensures.answer
-    (c.in_ok-hand_over.ensures.ok ∙ ap (λ answer. handed c.args.request.now c.next_word.result answer c.take_and_play.new.self) c.bytes_of.ensures)
+    (c.in_ok-hand_over.ensures.ok ∙ ap (λ answer. handed c.args.request.now c.next_word-word.result answer c.take_and_play.new.self) c.bytes_of.ensures)
