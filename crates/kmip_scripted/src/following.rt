@@ -200,8 +200,9 @@ impl<S: Records> Scripted<S> {
             ≡ (exchange request.now self.old).0) }
         ensures exact { OnOk result (self.new ≡ (exchange request.now self.old).1) }
         ensures begun { OnErr result (IsBegun request.now self.old self.new) }
-        ensures hands { IfOk result (λ answer. (names : Names) → HandsOver names (past_in self.old)
-            request.now (option_map (λ v. v.items) answer) (past_in self.new)) }
+        ensures hands { IfOk result (λ answer. (names : Names)
+            → HandsOver names (past_in self.old) request.now (option_map (λ v. v.items) answer)
+            (past_in self.new)) }
         ensures want { OnErr result ((names : Names) → IsWanting names request.now
             (past_in self.old) (past_in self.new)) }
         ensures calmly { IfOk result (λ answer. self.old.words ≡ [] → Calmly (past_in self.old)

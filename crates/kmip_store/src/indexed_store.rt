@@ -1,4 +1,4 @@
-//! The records as rows under two maps.
+//! The records as rows under a map of their names.
 ghost use Rattle.std.specs.Prelude.{◌≡◌, ◌≤◌};
 ghost use Rattle.kmip_store.specs.Stock.{empty_stock, most_room};
 
@@ -18,27 +18,27 @@ use rand_core::SeedableRng;
 use std::alloc::Global;
 use std::marker::Model;
 
-/// The rows in a vector, and two maps that lead to their places: from the names, and from the
-/// identifiers. Every look-up goes by a map.
+/// The rows in a vector, and a map that leads from their names to their places. A look-up by name goes
+/// by the map, and one by identifier to the place whose number the identifier is.
 #[derive(Debug, Drop)]
 pub struct IndexedStore {
     rows: Vec<Row>,
     names: IndexSet<String>,
-    uids: IndexSet<String>,
     room: usize,
     stream: ChaCha20Rng,
 }
 
 impl Model for IndexedStore {
+    ghost use Rattle.std.specs.Prelude.{◌≡◌};
     ghost use Rattle.kmip_store.specs.Stock.{Stock, IsKept};
-    ghost use Rattle.kmip_store.specs.Indexing.{AreIndexed, texts};
+    ghost use Rattle.kmip_store.specs.Indexing.{names_of, texts};
 
     ghost Value = { Stock };
 
     ghost view = { λ s. record { rows = s.rows.items; room = s.room; stream = s.stream } };
 
     ghost invariant = { λ s. IsKept s.rows.items s.room
-        × AreIndexed s.rows.items (texts s.names) (texts s.uids) };
+        × (texts s.names ≡ names_of s.rows.items) };
 }
 
 impl IndexedStore {
@@ -51,7 +51,6 @@ impl IndexedStore {
         IndexedStore {
             rows: Vec::new(alloc),
             names: IndexSet::new(alloc),
-            uids: IndexSet::new(alloc),
             room,
             stream: ChaCha20Rng::from_seed(seed),
         }
@@ -73,12 +72,9 @@ impl Records for IndexedStore {
         let row = new_row(alloc, self.rows.len(), attrs)?;
         let uid = Text::copied(alloc, row.uid.as_str())?;
         let name_key = String::from_str(alloc, attrs.name.as_str())?;
-        let uid_key = String::from_str(alloc, row.uid.as_str())?;
         self.rows.reserve(1)?;
         self.names.reserve(1)?;
-        self.uids.reserve(1)?;
         note(&mut self.names, name_key);
-        note(&mut self.uids, uid_key);
         let row = draw(&mut self.stream, row);
         self.rows.push_reserved(row);
         Ok(uid)
@@ -98,19 +94,19 @@ impl Records for IndexedStore {
     }
 
     fn find(&self, uid: &str) -> Option<&Row> {
-        row_by_index(self.rows.as_slice(), &self.uids, uid)
+        row_by_index(self.rows.as_slice(), uid)
     }
 
     fn activate(&mut self, uid: &str) -> Result<(), StoreFault> {
-        step_by_index(&mut self.rows, &self.uids, uid, Step::Activate)
+        step_by_index(&mut self.rows, uid, Step::Activate)
     }
 
     fn revoke(&mut self, uid: &str) -> Result<(), StoreFault> {
-        step_by_index(&mut self.rows, &self.uids, uid, Step::Revoke)
+        step_by_index(&mut self.rows, uid, Step::Revoke)
     }
 
     fn destroy(&mut self, uid: &str) -> Result<(), StoreFault> {
-        step_by_index(&mut self.rows, &self.uids, uid, Step::Destroy)
+        step_by_index(&mut self.rows, uid, Step::Destroy)
     }
 
     fn count(&self) -> usize {

@@ -1,5 +1,5 @@
 //! The objects of the test server: the trait `Records`, two stores that keep them, a plain list and
-//! rows under maps, and the law that any two stores answer alike.
+//! rows under a map of their names, and the law that any two stores answer alike.
 #![tactic(auto)]
 
 mod calling;
@@ -11,6 +11,7 @@ mod list_store;
 mod making;
 mod matching;
 mod material;
+mod numbering;
 mod places;
 mod records;
 mod row;

@@ -1,14 +1,15 @@
 //! Rows found by name, by identifier, and by what a Locate gives.
-ghost use Rattle.std.specs.Prelude.{◌≡◌, ◌==◌, nat_eq, true, IsSome};
+ghost use Rattle.std.specs.Prelude.{◌≡◌, ◌≤◌, ◌==◌, nat_eq, length, true, IsSome};
 ghost use Rattle.std.specs.Cmp.Lexicographic.{pointwise};
-ghost use Rattle.std.specs.List.{find, slice_get};
+ghost use Rattle.std.specs.List.{find};
 ghost use Rattle.std.specs.Option.{option_copied, option_map_or};
 ghost use Rattle.std.specs.Ordering.{int_eq};
 ghost use Rattle.kmip_store.specs.Locating.{storage_bit, is_searched, has_given, is_wanted};
 ghost use Rattle.kmip_store.specs.Stepping.{row_with};
-ghost use Rattle.kmip_store.specs.Stock.{has_row_named, object_of, HaveOwnNames};
-ghost use Rattle.kmip_store.specs.Indexing.{texts, names_of, uids_of};
+ghost use Rattle.kmip_store.specs.Stock.{has_row_named, object_of, AreNumbered, HaveOwnNames, most_room};
+ghost use Rattle.kmip_store.specs.Indexing.{texts, names_of};
 
+use crate::numbering::{place_of_uid, row_at};
 use crate::places::place_of;
 use crate::row::Row;
 use indexmap::IndexSet;
@@ -41,16 +42,12 @@ pub(crate) fn first_wanted<'a>(
     rows.iter().find(|row| is_wanted(row, mask, filter))
 }
 
-/// The row with the identifier, found by the map from the identifiers.
-pub(crate) fn row_by_index<'a>(
-    rows: &'a [Row],
-    uids: &IndexSet<String>,
-    uid: &str,
-) -> Option<&'a Row>
-    requires { texts uids.now ≡ uids_of rows.now }
+/// The row with the identifier, found at the place that it names.
+pub(crate) fn row_by_index<'a>(rows: &'a [Row], uid: &str) -> Option<&'a Row>
+    requires { AreNumbered 0 rows.now × (length rows.now ≤ most_room) }
     ensures { option_copied result ≡ row_with uid.now rows.now }
 {
-    row_at(rows, place_of(uids, uid)?)
+    row_at(rows, place_of_uid(rows, uid)?)
 }
 
 /// The row with the name that is given, found by the map from the names, if it is wanted too.
@@ -73,13 +70,6 @@ pub(crate) fn wanted_by_index<'a>(
     } else {
         None
     }
-}
-
-/// The row at a place.
-fn row_at(rows: &[Row], place: usize) -> Option<&Row>
-    ensures { option_copied result ≡ slice_get rows.now place }
-{
-    rows.get(place)
 }
 
 /// Whether the row is searched under the mask, and has every attribute that is given.

@@ -1,5 +1,5 @@
-//! Maps from texts to places: the rows' names, or their identifiers, in the order of the rows. As no
-//! row ever goes, the place of a text in the map is the place of its row.
+//! The map from the rows' names to their places: the names in the order of the rows. As no row ever
+//! goes, the place of a name in the map is the place of its row.
 ghost use Rattle.std.specs.Prelude.{◌≡◌, ◌<◌, ◌++◌, [], ◌∷◌, false, nat_eq, string_bytes};
 ghost use Rattle.std.specs.Cmp.Lexicographic.{pointwise};
 ghost use Rattle.std.specs.List.{list_any, position};
