@@ -1,10 +1,10 @@
-//! A link that fails at one exchange: how many exchanges a run then takes, and what is asked after.
+//! A link that fails at one exchange: how many exchanges a run then takes, and what is asked next.
 //!
-//! A key goes from Look (Locate) over Make (Create) to Go (its next step). After a loss it is looked
-//! at again: in Look where its identifier is unknown, else in Check (Get Attributes), which says how
-//! many steps are done.
+//! A key goes from Look (Locate) over Make (Create) to Go (its next step). After a loss it is
+//! looked at again: in Look where its identifier is unknown, else in Check (Get Attributes), which
+//! says how many steps are done.
 
-use crate::faulty::{Fault, Faulty};
+use crate::faulty::{Failure, Fault, Faulty};
 use crate::telling::{plan_of, server_of};
 use kmip_client::Client;
 use kmip_plan::Plan;
@@ -17,12 +17,12 @@ use std::test::Fail;
 
 /// A failure at one exchange of a run that makes `k1` active, before the request is delivered or
 /// after it.
-struct Failure {
+struct Loss {
     at: usize,
     is_delivered: bool,
     /// The operation that is asked next.
     next: u32,
-    /// How many exchanges the run takes in all.
+    /// How many exchanges the run takes in all, with the one that failed.
     total: usize,
 }
 
@@ -31,16 +31,16 @@ const LOCATE: u32 = 8;
 const GET_ATTRIBUTES: u32 = 0xb;
 
 /// Without a failure the run asks Locate, Create and Activate.
-const FAILURES: [Failure; 6] = [
+const LOSSES: [Loss; 6] = [
     // Locate fails; then Locate, Create and Activate.
-    Failure {
+    Loss {
         at: 1,
         is_delivered: false,
         next: LOCATE,
         total: 4,
     },
     // The same: a Locate changes nothing.
-    Failure {
+    Loss {
         at: 1,
         is_delivered: true,
         next: LOCATE,
@@ -48,7 +48,7 @@ const FAILURES: [Failure; 6] = [
     },
     // Locate, and Create fails with no object made; then Locate, which finds none, Create and
     // Activate.
-    Failure {
+    Loss {
         at: 2,
         is_delivered: false,
         next: LOCATE,
@@ -56,28 +56,37 @@ const FAILURES: [Failure; 6] = [
     },
     // Locate, and Create fails with the object made; then Locate, which finds it, Get Attributes,
     // which says that it is Pre-Active, and Activate.
-    Failure {
+    Loss {
         at: 2,
         is_delivered: true,
         next: LOCATE,
         total: 5,
     },
-    // Locate, Create, and Activate fails with nothing done; then Get Attributes, which says that the
-    // object is Pre-Active, and Activate.
-    Failure {
+    // Locate, Create, and Activate fails with nothing done; then Get Attributes, which says that
+    // the object is Pre-Active, and Activate.
+    Loss {
         at: 3,
         is_delivered: false,
         next: GET_ATTRIBUTES,
         total: 5,
     },
-    // Locate, Create, and Activate fails with the object Active; then Get Attributes, which says so.
-    Failure {
+    // Locate, Create, and Activate fails with the object Active; then Get Attributes says so.
+    Loss {
         at: 3,
         is_delivered: true,
         next: GET_ATTRIBUTES,
         total: 4,
     },
 ];
+
+/// The failure of this loss, by this fault.
+fn failure_of(loss: &Loss, fault: Fault) -> Failure {
+    Failure {
+        at: loss.at,
+        fault,
+        is_delivered: loss.is_delivered,
+    }
+}
 
 /// A link to an empty server, which loses nothing.
 fn calm_link(alloc: Global) -> Faulty<ListStore> {
@@ -97,24 +106,39 @@ fn told_records(alloc: Global, link: &Faulty<ListStore>) -> Result<String, Alloc
     Ok(text)
 }
 
-/// A loss of this kind, and how many exchanges the run takes.
+/// A run from nothing finishes all keys, with this failure and so many exchanges in all.
+fn finishes(
+    rt: &impl Abort,
+    alloc: Global,
+    plan: &Plan,
+    link: &mut Faulty<ListStore>,
+    failure: Failure,
+    total: usize,
+) -> Result<(), Fail> {
+    link.fail(failure);
+    let mut client = Client::fresh(alloc, plan)?;
+    let driven = drive(alloc, &mut client, link, 10);
+    assert_eq!(rt; driven, (Stop::AllFinished, total), "{failure:?}");
+    Ok(())
+}
+
+/// A loss of this kind.
 fn loses(
     rt: &impl Abort,
     alloc: Global,
     plan: &Plan,
-    failure: &Failure,
+    loss: &Loss,
     fault: Fault,
 ) -> Result<(), Fail> {
     let mut link = calm_link(alloc);
-    link.fail_at(failure.at, fault, failure.is_delivered);
-    let mut client = Client::fresh(alloc, plan)?;
-    let driven = drive(alloc, &mut client, &mut link, 10);
-    assert_eq!(rt;
-        driven,
-        (Stop::AllFinished, failure.total),
-        "{fault:?} at {}",
-        failure.at
-    );
+    finishes(
+        rt,
+        alloc,
+        plan,
+        &mut link,
+        failure_of(loss, fault),
+        loss.total,
+    )?;
     assert_eq!(rt; link.failures(), u64::from(fault == Fault::Io));
     let records = told_records(alloc, &link)?;
     assert_eq!(rt; records.as_str(), "k1 Active\n");
@@ -124,9 +148,9 @@ fn loses(
 #[test]
 fn finishes_after_each_loss(rt: HostRuntime) -> Result<(), Fail> {
     let plan = plan_of(rt.alloc(), &["k1"], "active")?;
-    for failure in &FAILURES {
+    for loss in &LOSSES {
         for fault in [Fault::Io, Fault::Frame, Fault::Lost, Fault::Rubbish] {
-            loses(&rt, rt.alloc(), &plan, failure, fault)?;
+            loses(&rt, rt.alloc(), &plan, loss, fault)?;
         }
     }
     Ok(())
@@ -134,23 +158,18 @@ fn finishes_after_each_loss(rt: HostRuntime) -> Result<(), Fail> {
 
 /// Want of memory stops the run, and its exchange does not count; a second run goes on with what is
 /// known.
-fn wants_memory(
-    rt: &impl Abort,
-    alloc: Global,
-    plan: &Plan,
-    failure: &Failure,
-) -> Result<(), Fail> {
+fn wants_memory(rt: &impl Abort, alloc: Global, plan: &Plan, loss: &Loss) -> Result<(), Fail> {
     let mut link = calm_link(alloc);
-    link.fail_at(failure.at, Fault::NoMemory, failure.is_delivered);
+    link.fail(failure_of(loss, Fault::NoMemory));
     let mut client = Client::fresh(alloc, plan)?;
     let (stop, made) = drive(alloc, &mut client, &mut link, 10);
     assert_eq!(rt; stop, Stop::NoMemory);
-    assert_eq!(rt; made + 1, failure.at);
+    assert_eq!(rt; made + 1, loss.at);
     let question = client.ask(alloc)?.ok_or("no question")?;
-    assert_eq!(rt; question.operation, failure.next, "at {}", failure.at);
+    assert_eq!(rt; question.operation, loss.next, "at {}", loss.at);
     let (stop, rest) = drive(alloc, &mut client, &mut link, 10);
     assert_eq!(rt; stop, Stop::AllFinished);
-    assert_eq!(rt; failure.at + rest, failure.total, "at {}", failure.at);
+    assert_eq!(rt; loss.at + rest, loss.total, "at {}", loss.at);
     let records = told_records(alloc, &link)?;
     assert_eq!(rt; records.as_str(), "k1 Active\n");
     Ok(())
@@ -159,16 +178,67 @@ fn wants_memory(
 #[test]
 fn goes_on_after_want_of_memory(rt: HostRuntime) -> Result<(), Fail> {
     let plan = plan_of(rt.alloc(), &["k1"], "active")?;
-    for failure in &FAILURES {
-        wants_memory(&rt, rt.alloc(), &plan, failure)?;
+    for loss in &LOSSES {
+        wants_memory(&rt, rt.alloc(), &plan, loss)?;
     }
     Ok(())
 }
 
-/// A reply that comes in the place of another: at which exchange, its number, whether the request is
-/// delivered first, and how many exchanges the run takes in all.
+/// A run that asks Locate and Create, and no more. Their replies are the first two.
+fn run_earlier(
+    rt: &impl Abort,
+    alloc: Global,
+    plan: &Plan,
+    link: &mut Faulty<ListStore>,
+) -> Result<(), Fail> {
+    let mut client = Client::fresh(alloc, plan)?;
+    let (_, made) = drive(alloc, &mut client, link, 2);
+    assert_eq!(rt; made, 2);
+    Ok(())
+}
+
+/// A reply about a key that the plan does not have is like any other loss.
+fn hears_of_a_stranger(
+    rt: &impl Abort,
+    alloc: Global,
+    plan: &Plan,
+    loss: &Loss,
+    number: usize,
+) -> Result<(), Fail> {
+    let strangers = plan_of(alloc, &["z"], "created")?;
+    let mut link = calm_link(alloc);
+    run_earlier(rt, alloc, &strangers, &mut link)?;
+    let failure = failure_of(loss, Fault::Reply(number));
+    finishes(rt, alloc, plan, &mut link, failure, loss.total)?;
+    let records = told_records(alloc, &link)?;
+    assert_eq!(rt; records.as_str(), "z PreActive\nk1 Active\n");
+    Ok(())
+}
+
+#[test]
+fn finishes_after_a_reply_about_a_stranger(rt: HostRuntime) -> Result<(), Fail> {
+    let plan = plan_of(rt.alloc(), &["k1"], "active")?;
+    for loss in &LOSSES {
+        hears_of_a_stranger(&rt, rt.alloc(), &plan, loss, 1)?;
+        hears_of_a_stranger(&rt, rt.alloc(), &plan, loss, 2)?;
+    }
+    Ok(())
+}
+
+/// A reply that comes in the place of another: at which exchange, its number, whether the request
+/// is delivered first, and how many exchanges the run takes in all.
 #[derive(Clone, Copy)]
 struct Stale(usize, usize, bool, usize);
+
+/// The failure of this row.
+fn stale_failure(stale: Stale) -> Failure {
+    let Stale(at, number, is_delivered, _) = stale;
+    Failure {
+        at,
+        fault: Fault::Reply(number),
+        is_delivered,
+    }
+}
 
 /// Replies about `a` where `b` was asked about, both to be created. Without them the run asks
 /// Locate a, Locate b, Create a and Create b.
@@ -182,65 +252,48 @@ const OTHER_KEY: [Stale; 4] = [
     Stale(4, 3, true, 6),
 ];
 
-/// Replies of an earlier run, which asked Locate and Create, and was told of the object, in a run that
-/// knows nothing and makes it active. Without them it asks Locate, Get Attributes and Activate.
-const EARLIER: [Stale; 5] = [
-    // Locate is told that there is no object; then Create, which is refused, Locate, which finds it,
-    // Get Attributes and Activate.
-    Stale(1, 1, false, 5),
-    Stale(1, 1, true, 5),
-    // Locate is told that the object was made; then Get Attributes and Activate.
-    Stale(1, 2, false, 3),
-    // Get Attributes is told that there is no object; then Get Attributes and Activate.
-    Stale(2, 1, false, 4),
-    // Get Attributes is told that the object was made; then Get Attributes and Activate.
-    Stale(2, 2, true, 4),
-];
-
-/// A run over the link in which a stale reply comes.
-fn finishes(
-    rt: &impl Abort,
-    alloc: Global,
-    plan: &Plan,
-    link: &mut Faulty<ListStore>,
-    stale: Stale,
-) -> Result<(), Fail> {
-    let Stale(at, number, is_delivered, total) = stale;
-    link.fail_at(at, Fault::Reply(number), is_delivered);
-    let mut client = Client::fresh(alloc, plan)?;
-    let driven = drive(alloc, &mut client, link, 10);
-    assert_eq!(rt;
-        driven,
-        (Stop::AllFinished, total),
-        "{number} at {at}, {is_delivered}"
-    );
-    Ok(())
-}
-
 #[test]
-fn finishes_after_a_reply_of_another_key(rt: HostRuntime) -> Result<(), Fail> {
+fn finishes_after_a_reply_about_another_key(rt: HostRuntime) -> Result<(), Fail> {
     let plan = plan_of(rt.alloc(), &["a", "b"], "created")?;
     for stale in OTHER_KEY {
         let mut link = calm_link(rt.alloc());
-        finishes(&rt, rt.alloc(), &plan, &mut link, stale)?;
+        finishes(
+            &rt,
+            rt.alloc(),
+            &plan,
+            &mut link,
+            stale_failure(stale),
+            stale.3,
+        )?;
         let records = told_records(rt.alloc(), &link)?;
         assert_eq!(rt; records.as_str(), "a PreActive\nb PreActive\n");
     }
     Ok(())
 }
 
-/// A run that asks Locate and Create, and no more.
-fn run_earlier(
-    rt: &impl Abort,
-    alloc: Global,
-    plan: &Plan,
-    link: &mut Faulty<ListStore>,
-) -> Result<(), Fail> {
-    let mut client = Client::fresh(alloc, plan)?;
-    let driven = drive(alloc, &mut client, link, 2);
-    assert_eq!(rt; driven, (Stop::Limit, 2));
-    Ok(())
-}
+/// Replies of an earlier run, which asked Locate and Create, in a run that knows nothing and makes
+/// the object active. Without them it asks Locate, Get Attributes and Activate.
+const EARLIER: [Stale; 12] = [
+    // Locate is told that there is no object; then Create, which is refused, Locate, which finds
+    // it, Get Attributes and Activate.
+    Stale(1, 1, false, 5),
+    Stale(1, 1, true, 5),
+    // Locate is told that the object was made; then Get Attributes and Activate.
+    Stale(1, 2, false, 3),
+    Stale(1, 2, true, 3),
+    // Get Attributes is told that there is no object; then Get Attributes and Activate.
+    Stale(2, 1, false, 4),
+    Stale(2, 1, true, 4),
+    // Get Attributes is told that the object was made; then Get Attributes and Activate.
+    Stale(2, 2, false, 4),
+    Stale(2, 2, true, 4),
+    // Activate is told either, with nothing done; then Get Attributes and Activate.
+    Stale(3, 1, false, 5),
+    Stale(3, 2, false, 5),
+    // The same with the object Active; then Get Attributes says so.
+    Stale(3, 1, true, 4),
+    Stale(3, 2, true, 4),
+];
 
 #[test]
 fn finishes_after_a_reply_of_an_earlier_run(rt: HostRuntime) -> Result<(), Fail> {
@@ -248,7 +301,14 @@ fn finishes_after_a_reply_of_an_earlier_run(rt: HostRuntime) -> Result<(), Fail>
     for stale in EARLIER {
         let mut link = calm_link(rt.alloc());
         run_earlier(&rt, rt.alloc(), &plan, &mut link)?;
-        finishes(&rt, rt.alloc(), &plan, &mut link, stale)?;
+        finishes(
+            &rt,
+            rt.alloc(),
+            &plan,
+            &mut link,
+            stale_failure(stale),
+            stale.3,
+        )?;
         let records = told_records(rt.alloc(), &link)?;
         assert_eq!(rt; records.as_str(), "k1 Active\n");
     }

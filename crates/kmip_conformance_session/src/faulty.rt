@@ -24,17 +24,24 @@ pub enum Fault {
     Reply(usize),
 }
 
-/// A link that does something else at one exchange, and hands on all others.
+/// A failure of one exchange.
+#[derive(Clone, Copy, Debug)]
+pub struct Failure {
+    /// The number of the exchange, from 1.
+    pub at: usize,
+    pub fault: Fault,
+    /// Whether the request is delivered first.
+    pub is_delivered: bool,
+}
+
+/// A link that fails at one exchange, and hands on all others.
 #[derive(Drop)]
 pub struct Faulty<S: Records> {
     link: Scripted<S>,
-    /// The number of that exchange, from 1, and what is done there.
-    at: usize,
-    fault: Fault,
-    /// Whether the request is delivered first.
-    is_delivered: bool,
-    /// How many exchanges were made, and how many of them the network failed.
+    failure: Option<Failure>,
+    /// How many exchanges were made since the failure was set.
     made: usize,
+    /// How often the network failed.
     failures: u64,
 }
 
@@ -43,19 +50,15 @@ impl<S: Records> Faulty<S> {
     pub fn new(link: Scripted<S>) -> Faulty<S> {
         Faulty {
             link,
-            at: 0,
-            fault: Fault::Lost,
-            is_delivered: false,
+            failure: None,
             made: 0,
             failures: 0,
         }
     }
 
-    /// From now on the exchange of this number, from 1, fails; those made before count no more.
-    pub fn fail_at(&mut self, at: usize, fault: Fault, is_delivered: bool) {
-        self.at = at;
-        self.fault = fault;
-        self.is_delivered = is_delivered;
+    /// From now on this failure is to come; the exchanges made before count no more.
+    pub fn fail(&mut self, failure: Failure) {
+        self.failure = Some(failure);
         self.made = 0;
     }
 
@@ -82,17 +85,31 @@ impl<S: Records> Faulty<S> {
         }
     }
 
+    /// The failure, where it comes at the exchange that is being made.
+    fn failure_due(&self) -> Option<Failure> {
+        let failure = self.failure?;
+        if failure.at == self.made {
+            return Some(failure);
+        }
+        None
+    }
+
     /// The exchange that fails.
-    fn fail(&mut self, alloc: Global, request: &[u8]) -> Result<Option<Vec<u8>>, LinkFault>
+    fn break_off(
+        &mut self,
+        alloc: Global,
+        request: &[u8],
+        failure: Failure,
+    ) -> Result<Option<Vec<u8>>, LinkFault>
         requires { self.old.failures < most_failures }
         ensures counted { self.old.failures ≤ self.new.failures }
         ensures io { IfErr result (λ fault. fault ≡ LinkFault.Io
             → self.old.failures < self.new.failures) }
     {
-        if self.is_delivered {
+        if failure.is_delivered {
             let _reply = self.hand_on(alloc, request)?;
         }
-        match self.fault {
+        match failure.fault {
             Fault::Io => {
                 self.failures += 1;
                 Err(LinkFault::Io)
@@ -148,10 +165,10 @@ impl<S: Records> Link for Faulty<S> {
             return Ok(None);
         }
         self.made = self.made.saturating_add(1);
-        if self.made == self.at {
-            return self.fail(alloc, request);
+        match self.failure_due() {
+            Some(failure) => self.break_off(alloc, request, failure),
+            None => self.hand_on(alloc, request),
         }
-        self.hand_on(alloc, request)
     }
 
     fn end_run(&mut self, alloc: Global) -> Result<(), LinkFault> {

@@ -109,7 +109,7 @@ const OWN_STALE: Row = Row {
 };
 
 /// The other rows: a second run from nothing, runs that are saved and a restart, requests that are
-/// cut, and what is repeated, stale or cut where there is nothing; two keys, of which one loses all.
+/// cut, what is repeated, stale or cut where there is nothing, and two keys, of which one loses all.
 const ROWS: [Row; 7] = [
     Row {
         keys: &["k1"],
@@ -276,7 +276,7 @@ fn refuses_a_create_that_comes_again(rt: HostRuntime) -> Result<(), Fail> {
     Ok(())
 }
 
-/// A script that begins with restarts, where nothing is saved yet: the first run begins with nothing.
+/// Scripts that begin with restarts, where nothing is saved yet: the first run begins with nothing.
 const BEGUN: [Row; 3] = [
     Row {
         keys: &["k1"],

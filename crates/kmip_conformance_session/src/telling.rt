@@ -1,5 +1,5 @@
-//! Runs over a link in memory, told as a text: how they ended, what was asked, and the records of the
-//! server.
+//! Runs over a link in memory, told as a text: how they ended, what was asked, and the records of
+//! the server.
 
 use kmip_client::Client;
 use kmip_messages::{Ask, read_request};
@@ -55,9 +55,8 @@ fn start_of(number: Option<usize>) -> Start {
     }
 }
 
-/// The runs that a script has room for. A run may make an exchange for each of its words of one, and
-/// the last run as many more as its plan takes at most. A part with no word that ends in `restart` is
-/// no run.
+/// The runs of a script. A run may make as many exchanges as it has words of one, and the last run
+/// as many more as its plan takes at most. What has no word before its `restart` is no run.
 pub fn runs_of(alloc: Global, plan: &Plan, words: &[Word]) -> Result<Vec<Run>, AllocError> {
     let mut runs = Vec::new(alloc);
     let mut run = run_from(Start::Fresh);
