@@ -1,0 +1,185 @@
+//! A link in memory that fails at one exchange.
+ghost use Rattle.std.specs.Prelude.{◌≡◌, ◌≤◌, ◌<◌, IfErr};
+ghost use Rattle.kmip_schedule.specs.Faults.{most_failures};
+
+use kmip_scripted::Scripted;
+use kmip_server::Records;
+use kmip_session::{Link, LinkFault};
+use std::alloc::Global;
+
+/// What the link does in the place of handing a reply over.
+#[derive(Clone, Copy, Debug, PartialEq, Eq)]
+pub enum Fault {
+    /// The network fails.
+    Io,
+    /// What comes is no message.
+    Frame,
+    /// Nothing comes.
+    Lost,
+    /// There is no memory.
+    NoMemory,
+    /// Bytes come that are no message of KMIP.
+    Rubbish,
+    /// The reply of this number comes, from 1, among those ever given.
+    Reply(usize),
+}
+
+/// A failure of one exchange.
+#[derive(Clone, Copy, Debug)]
+pub struct Failure {
+    /// The number of the exchange, from 1.
+    pub at: usize,
+    pub fault: Fault,
+    /// Whether the request is delivered first.
+    pub is_delivered: bool,
+}
+
+/// A link that fails at one exchange, and hands on all others.
+#[derive(Drop)]
+pub struct Faulty<S: Records> {
+    link: Scripted<S>,
+    failure: Option<Failure>,
+    /// How many exchanges were made since the failure was set.
+    made: usize,
+    /// How often the network failed.
+    failures: u64,
+}
+
+impl<S: Records> Faulty<S> {
+    /// Over this link, where no exchange is to fail yet.
+    pub fn new(link: Scripted<S>) -> Faulty<S> {
+        Faulty {
+            link,
+            failure: None,
+            made: 0,
+            failures: 0,
+        }
+    }
+
+    /// From now on this failure is to come; the exchanges made before count no more.
+    pub fn fail(&mut self, failure: Failure) {
+        self.failure = Some(failure);
+        self.made = 0;
+    }
+
+    /// The link that is handed on to.
+    pub fn link(&self) -> &Scripted<S> {
+        &self.link
+    }
+
+    /// How often its network failed.
+    pub fn failures(&self) -> u64 {
+        self.failures
+    }
+}
+
+impl<S: Records> Faulty<S> {
+    /// Hands the request on; a network in memory never fails.
+    fn hand_on(&mut self, alloc: Global, request: &[u8]) -> Result<Option<Vec<u8>>, LinkFault>
+        ensures failures { self.new.failures ≡ self.old.failures }
+        ensures want { IfErr result (λ fault. fault ≡ LinkFault.NoMemory) }
+    {
+        match self.link.exchange(alloc, request) {
+            Ok(answer) => Ok(answer),
+            Err(_) => Err(LinkFault::NoMemory),
+        }
+    }
+
+    /// The failure, where it comes at the exchange that is being made.
+    fn failure_due(&self) -> Option<Failure> {
+        let failure = self.failure?;
+        if failure.at == self.made {
+            return Some(failure);
+        }
+        None
+    }
+
+    /// The exchange that fails.
+    fn break_off(
+        &mut self,
+        alloc: Global,
+        request: &[u8],
+        failure: Failure,
+    ) -> Result<Option<Vec<u8>>, LinkFault>
+        requires { self.old.failures < most_failures }
+        ensures counted { self.old.failures ≤ self.new.failures }
+        ensures io { IfErr result (λ fault. fault ≡ LinkFault.Io
+            → self.old.failures < self.new.failures) }
+    {
+        if failure.is_delivered {
+            let _reply = self.hand_on(alloc, request)?;
+        }
+        match failure.fault {
+            Fault::Io => {
+                self.failures += 1;
+                Err(LinkFault::Io)
+            }
+            Fault::Frame => Err(LinkFault::Frame),
+            Fault::Lost => Ok(None),
+            Fault::NoMemory => Err(LinkFault::NoMemory),
+            Fault::Rubbish => copied(alloc, RUBBISH),
+            Fault::Reply(number) => match self.link.reply(number) {
+                Some(reply) => copied(alloc, reply),
+                None => Ok(None),
+            },
+        }
+    }
+}
+
+/// The head of a reply, of which all else is missing.
+const RUBBISH: &[u8] = b"\x42\x00\x7b\x01\x00\x00\x00\x90";
+
+/// A copy of some bytes.
+fn copied(alloc: Global, bytes: &[u8]) -> Result<Option<Vec<u8>>, LinkFault>
+    ensures { IfErr result (λ fault. fault ≡ LinkFault.NoMemory) }
+{
+    match Vec::from_slice(alloc, bytes) {
+        Ok(copy) => Ok(Some(copy)),
+        Err(_) => Err(LinkFault::NoMemory),
+    }
+}
+
+/// Neither honest nor calm, and its past is empty: nothing is claimed of it but that its failures
+/// are counted.
+impl<S: Records> Link for Faulty<S> {
+    ghost use Rattle.std.specs.Prelude.{[]};
+
+    ghost past = { λ link. record {
+      room = 0;
+      objects = [];
+      requests = [];
+      replies = [];
+      effects = [];
+      sent = [];
+      handed = [];
+    } };
+
+    ghost honest = { λ link names. ⊥ };
+
+    ghost calm = { λ link names. ⊥ };
+
+    ghost failures = { λ link. link.failures };
+
+    fn exchange(&mut self, alloc: Global, request: &[u8]) -> Result<Option<Vec<u8>>, LinkFault> {
+        if self.failures == u64::MAX {
+            return Ok(None);
+        }
+        self.made = self.made.saturating_add(1);
+        match self.failure_due() {
+            Some(failure) => self.break_off(alloc, request, failure),
+            None => self.hand_on(alloc, request),
+        }
+    }
+
+    fn end_run(&mut self, alloc: Global) -> Result<(), LinkFault> {
+        if self.failures == u64::MAX {
+            return Ok(());
+        }
+        match self.link.end_run(alloc) {
+            Ok(()) => Ok(()),
+            Err(_) => Err(LinkFault::NoMemory),
+        }
+    }
+
+    fn calm_laws() {}
+}

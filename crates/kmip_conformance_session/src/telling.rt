@@ -1,0 +1,184 @@
+//! Runs over a link in memory, told as a text: how they ended, what was asked, and the records of
+//! the server.
+
+use kmip_client::Client;
+use kmip_messages::{Ask, read_request};
+use kmip_plan::{Plan, bound, read_plan};
+use kmip_scripted::{Scripted, Word};
+use kmip_server::{ListStore, Records, Server};
+use kmip_session::{Run, RunEnd, Start, campaign, drive, report};
+use std::alloc::{AllocError, Global};
+use std::process::Abort;
+use std::str::from_utf8;
+use std::test::Fail;
+
+/// One key of a plan, AES with 256 bits, to encrypt and decrypt.
+const KEY: &str = "\
+    [[key]]\n\
+    name = \"NAME\"\n\
+    algorithm = \"AES\"\n\
+    length = 256\n\
+    usage = [\"encrypt\", \"decrypt\"]\n\
+    target = \"TARGET\"\n";
+
+/// The plan of keys with these names and one target.
+pub fn plan_of(alloc: Global, names: &[&str], target: &str) -> Result<Plan, Fail> {
+    let mut text = String::new(alloc);
+    for name in names {
+        let key = KEY.replace(alloc, "NAME", *name)?;
+        let key = key.as_str().replace(alloc, "TARGET", target)?;
+        text.push_str(key.as_str())?;
+    }
+    let plan = read_plan(alloc, text.as_str())?;
+    Ok(plan)
+}
+
+/// A server with room for 10,000 objects, and without any.
+pub fn server_of(alloc: Global) -> Server<ListStore> {
+    Server::new(ListStore::new(alloc, [0; 32], 10_000))
+}
+
+/// The run that begins with this, and has no exchange yet.
+fn run_from(start: Start) -> Run {
+    Run {
+        start,
+        limit: 0,
+        save: false,
+    }
+}
+
+/// What the first run after a `restart` begins with.
+fn start_of(number: Option<usize>) -> Start {
+    match number {
+        Some(number) => Start::Saved(number),
+        None => Start::Fresh,
+    }
+}
+
+/// The runs of a script. A run may make as many exchanges as it has words of one, and the last run
+/// as many more as its plan takes at most. What has no word before its `restart` is no run.
+pub fn runs_of(alloc: Global, plan: &Plan, words: &[Word]) -> Result<Vec<Run>, AllocError> {
+    let mut runs = Vec::new(alloc);
+    let mut run = run_from(Start::Fresh);
+    let mut is_begun = false;
+    for word in words {
+        match *word {
+            Word::Save => {
+                run.save = true;
+                runs.push(run)?;
+                run = run_from(Start::Same);
+                is_begun = false;
+            }
+            Word::Restart(number) => {
+                if is_begun {
+                    runs.push(run)?;
+                }
+                run = run_from(start_of(number));
+                is_begun = false;
+            }
+            Word::Again(_) => is_begun = true,
+            Word::Pass | Word::LoseRequest | Word::LoseReply | Word::Cut(_) | Word::Stale(_) => {
+                run.limit = run.limit.saturating_add(1);
+                is_begun = true;
+            }
+        }
+    }
+    run.limit = run.limit.saturating_add(bound(plan));
+    runs.push(run)?;
+    Ok(runs)
+}
+
+/// What a campaign of these runs over the link tells.
+pub fn told<S: Records>(
+    rt: &impl Abort,
+    alloc: Global,
+    plan: &Plan,
+    link: &mut Scripted<S>,
+    runs: &[Run],
+) -> Result<String, Fail> {
+    let end = campaign(alloc, plan, link, runs);
+    assert_eq!(rt; end.fault, None);
+    let mut text = told_runs(alloc, end.runs.as_slice())?;
+    push_asks(rt, alloc, &mut text, link)?;
+    push_records(&mut text, link.server().records())?;
+    Ok(text)
+}
+
+/// What a single run over the link tells, from nothing and with this limit.
+pub fn told_of_drive<S: Records>(
+    rt: &impl Abort,
+    alloc: Global,
+    plan: &Plan,
+    link: &mut Scripted<S>,
+    limit: usize,
+) -> Result<String, Fail> {
+    let mut client = Client::fresh(alloc, plan)?;
+    let (stop, exchanges) = drive(alloc, &mut client, link, limit);
+    let told = report(alloc, &client)?;
+    let mut text = format!(in alloc; "run 1 {} {exchanges}\n{}", stop.name(), told.as_str())?;
+    push_asks(rt, alloc, &mut text, link)?;
+    push_records(&mut text, link.server().records())?;
+    Ok(text)
+}
+
+/// How each run ended, and its report.
+fn told_runs(alloc: Global, runs: &[RunEnd]) -> Result<String, AllocError> {
+    let mut text = String::new(alloc);
+    for (place, run) in runs.iter().enumerate() {
+        let number = place + 1;
+        writeln!(text, "run {number} {} {}", run.stop.name(), run.exchanges)?;
+        text.push_str(run.report.as_str())?;
+    }
+    Ok(text)
+}
+
+/// Writes what was asked over the link at the end of a text, a line a request.
+fn push_asks<S: Records>(
+    rt: &impl Abort,
+    alloc: Global,
+    text: &mut String,
+    link: &Scripted<S>,
+) -> Result<(), Fail> {
+    for number in 1..usize::MAX {
+        let Some(bytes) = link.request(number) else {
+            return Ok(());
+        };
+        let told = told_request(rt, alloc, bytes)?;
+        writeln!(text, "ask {number} {}", told.as_str())?;
+    }
+    Ok(())
+}
+
+/// The operation of a request, and the name of the key that it is about, which is its id behind the
+/// byte of the operation.
+fn told_request(rt: &impl Abort, alloc: Global, bytes: &[u8]) -> Result<String, Fail> {
+    let request = read_request(alloc, bytes)?;
+    let id = request.id.as_ref().ok_or("a request without an id")?;
+    let (operation, name) = id.as_slice().split_first().ok_or("an empty id")?;
+    assert_eq!(rt; u32::from(*operation), request.ask.operation());
+    let name = from_utf8(name)?;
+    let text = format!(in alloc; "{} {name}", operation_name(&request.ask))?;
+    Ok(text)
+}
+
+fn operation_name(ask: &Ask) -> &'static str {
+    match ask {
+        Ask::Create(_) => "Create",
+        Ask::Locate { .. } => "Locate",
+        Ask::GetAttributes(_) => "GetAttributes",
+        Ask::Activate(_) => "Activate",
+        Ask::Revoke(..) => "Revoke",
+        Ask::Destroy(_) => "Destroy",
+    }
+}
+
+/// Writes the records of a server at the end of a text, a line an object.
+fn push_records<S: Records>(text: &mut String, records: &S) -> Result<(), AllocError> {
+    for place in 0..records.count() {
+        if let Some(row) = records.at(place) {
+            let (uid, name) = (row.uid.as_str(), row.attrs.name.as_str());
+            writeln!(text, "record {uid} {name} {:?}", row.state)?;
+        }
+    }
+    Ok(())
+}
