@@ -2,3 +2,4 @@ pub mod DueLemmas
 pub mod ArrivalLemmas
 pub mod WordLemmas
 pub mod FollowLemmas
+pub mod RunsLemmas

@@ -3,3 +3,4 @@ pub mod Scenes
 pub mod Serving
 pub mod Words
 pub mod Wanting
+pub mod Runs

@@ -7,6 +7,7 @@ mod fault;
 mod following;
 mod link;
 mod reading;
+mod runs;
 mod script;
 mod scripted;
 mod serving;

@@ -1,0 +1,44 @@
+-- The runs that a script's words make: what each begins with, how many exchanges it may make, and whether it is saved.
+-- Source: own: the table of a script's words.
+use Rattle.std.specs.Prelude.{ℕ, ◌+◌, Bool, true, false, List, [], ◌∷◌, Option, Some, None, if◌then◌else◌}
+use Rattle.kmip_plan.specs.Chains.{bound}
+use Rattle.kmip_plan.specs.declared.key.Key.{Key}
+use Rattle.kmip_session.specs.declared.campaigning.Run.{Run}
+use Rattle.kmip_session.specs.declared.campaigning.Start.{Start}
+use Rattle.kmip_session.specs.declared.campaigning.Start.TheVariants.{Fresh, Same, Saved}
+use Rattle.kmip_scripted.specs.declared.runs.Part.{Part}
+use Rattle.kmip_scripted.specs.declared.script.Word.{Word}
+use Rattle.kmip_scripted.specs.declared.script.Word.TheVariants.{Save, Restart}
+use Rattle.kmip_scripted.specs.Words.{is_exchange}
+
+-- what a run begins with after `restart`: nothing, or the save of a number
+abbrev pub start_at : Option ℕ → Start
+start_at None = Fresh
+start_at (Some number) = Saved number
+
+-- the first run has one more word: where that is of an exchange, it may make one more
+abbrev pub with_word : Word → List Run → List Run
+with_word word [] = []
+with_word word (run ∷ runs) = record run { limit = (if is_exchange word then 1 else 0) + run.limit } ∷ runs
+
+-- The runs of words, where the first begins with `start`; it is begun where words of its own stand before these. A `restart` that ends
+-- no run only says what the next one begins with. No word ends the last run, which may make `more` exchanges than it has words for.
+abbrev pub runs_from : ℕ → Bool → Start → List Word → List Run
+runs_from more begun start [] = record { start = start; limit = more; save = false } ∷ []
+runs_from more begun start (Save ∷ words) = record { start = start; limit = 0; save = true } ∷ runs_from more false Same words
+runs_from more true start (Restart next ∷ words) = record { start = start; limit = 0; save = false } ∷ runs_from more false (start_at next) words
+runs_from more false start (Restart next ∷ words) = runs_from more false (start_at next) words
+runs_from more begun start (word ∷ words) = with_word word (runs_from more true start words)
+
+-- the runs of a script for a plan: the last goes on as long as the plan may need
+abbrev pub runs_of : List Key → List Word → List Run
+runs_of keys words = runs_from (bound keys) false Fresh words
+
+-- Private: the first run may make so many exchanges more.
+abbrev pub grown : ℕ → List Run → List Run
+grown count [] = []
+grown count (run ∷ runs) = record run { limit = count + run.limit } ∷ runs
+
+-- Private: the runs of the words that are left, where some of the first run's are taken.
+abbrev pub left_of : ℕ → Part → List Word → List Run
+left_of more part words = grown part.limit (runs_from more part.begun part.start words)

@@ -1,0 +1,103 @@
+-- What is written of a simulation: its runs, all that was asked, and the objects at the end.
+-- Source: own: what the program prints.
+use Rattle.std.specs.Prelude.{ℕ, ◌+◌, ◌-◌, Bool, true, false, List, [], ◌∷◌, ◌++◌, drop, length, codes, string_bytes, Option, Some, None}
+use Rattle.std.specs.Fmt.{decimal}
+use Rattle.std.specs.List.{flat_map, slice_get}
+use Rattle.std.specs.Option.{option_map_or, unwrap_or}
+use Rattle.kmip_messages.specs.Items.{requests_in}
+use Rattle.kmip_messages.specs.Objects.{Object}
+use Rattle.kmip_messages.specs.declared.request.Ask.{Ask}
+use Rattle.kmip_messages.specs.declared.request.Ask.TheVariants.{Create, Locate, GetAttributes, Activate, Revoke, Destroy}
+use Rattle.kmip_messages.specs.declared.request.Request.{Request}
+use Rattle.kmip_messages.specs.declared.state.KeyState.{KeyState}
+use Rattle.kmip_messages.specs.declared.state.KeyState.TheVariants as states
+use Rattle.kmip_server.specs.Shown.{objects_in}
+use Rattle.kmip_scripted.specs.Scenes.{Scene}
+use Rattle.kmip_session.specs.Stops.{stop_name}
+use Rattle.kmip_session.specs.declared.campaigning.CampaignEnd.{CampaignEnd}
+use Rattle.kmip_session.specs.declared.campaigning.RunEnd.{RunEnd}
+use Rattle.kmip_session.specs.declared.stop.Stop.{Stop}
+use Rattle.kmip_session.specs.declared.stop.Stop.TheVariants.{AllFinished}
+use Rattle.kmip_ttlv.specs.declared.fault.NoMemory.{NoMemory as Want}
+
+-- the texts of things one after the other, each with its number, from this one on
+abbrev pub numbered_text : {X : Type 0} → (ℕ → X → List ℕ) → ℕ → List X → List ℕ
+numbered_text text number [] = []
+numbered_text text number (x ∷ xs) = text number x ++ numbered_text text (number + 1) xs
+
+-- the line of a run: why it stopped and after how many exchanges
+abbrev pub run_line : ℕ → RunEnd → List ℕ
+run_line number end =
+    codes "run " ++ decimal number ++ codes " " ++ stop_name end.stop ++ codes " " ++ decimal end.exchanges ++ codes "\n"
+
+-- that line, and the report of the run, whose lines end each by a line feed
+abbrev pub run_text : ℕ → RunEnd → List ℕ
+run_text number end = run_line number end ++ string_bytes end.report
+
+-- the runs that have ended, from 1
+abbrev pub runs_text : List RunEnd → List ℕ
+runs_text ends = numbered_text run_text 1 ends
+
+-- the name of the operation that is asked
+abbrev pub ask_word : Ask → List ℕ
+ask_word (Create attrs) = codes "Create"
+ask_word (Locate mask wanted) = codes "Locate"
+ask_word (GetAttributes uid) = codes "GetAttributes"
+ask_word (Activate uid) = codes "Activate"
+ask_word (Revoke uid code) = codes "Revoke"
+ask_word (Destroy uid) = codes "Destroy"
+
+-- the key that a request is about: its id is the operation in one byte, and the key's name
+abbrev pub name_asked : Request → List ℕ
+name_asked request = drop 1 (unwrap_or request.id [])
+
+-- the front of the line of a request
+abbrev pub ask_line : ℕ → Ask → List ℕ
+ask_line number ask = codes "ask " ++ decimal number ++ codes " " ++ ask_word ask ++ codes " "
+
+-- the line of a request
+abbrev pub ask_text : ℕ → Request → List ℕ
+ask_text number request = ask_line number request.ask ++ name_asked request ++ codes "\n"
+
+-- the request in a message that was asked; a message that asks nothing has no line
+abbrev pub message_text : ℕ → List ℕ → List ℕ
+message_text number message = flat_map (ask_text number) (requests_in message)
+
+-- the messages that were ever asked, from 1
+abbrev pub asks_text : List (List ℕ) → List ℕ
+asks_text asked = numbered_text message_text 1 asked
+
+-- the standard's name of a state
+abbrev pub state_word : KeyState → List ℕ
+state_word states.PreActive = codes "PreActive"
+state_word states.Active = codes "Active"
+state_word states.Deactivated = codes "Deactivated"
+state_word states.Compromised = codes "Compromised"
+state_word states.Destroyed = codes "Destroyed"
+state_word states.DestroyedCompromised = codes "DestroyedCompromised"
+
+-- the line of an object
+abbrev pub record_text : Object → List ℕ
+record_text o = codes "record " ++ o.uid ++ codes " " ++ o.attrs.name ++ codes " " ++ state_word o.state ++ codes "\n"
+
+-- the objects of the server, in the order in which they were made
+abbrev pub records_text : List Object → List ℕ
+records_text objects = flat_map record_text objects
+
+-- what is written behind the runs: nothing where memory ran out in one
+abbrev pub link_text : Option Want → Scene → List ℕ
+link_text None link = asks_text link.asked ++ records_text (objects_in link.stock)
+link_text (Some fault) link = []
+
+-- all that is written of a campaign that ended so over a link
+abbrev pub sim_text : CampaignEnd → Scene → List ℕ
+sim_text end link = runs_text end.runs.items ++ link_text end.fault link
+
+-- a run stopped since each key of the plan was finished
+abbrev pub is_all_finished : Stop → Bool
+is_all_finished AllFinished = true
+is_all_finished stop = false
+
+-- the last of the runs stopped so
+abbrev pub is_last_finished : List RunEnd → Bool
+is_last_finished ends = option_map_or (λ (end : RunEnd). is_all_finished end.stop) (slice_get ends (length ends - 1)) false

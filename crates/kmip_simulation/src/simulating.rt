@@ -1,0 +1,70 @@
+//! A campaign over a link in memory that follows a script.
+ghost use Rattle.std.specs.Prelude.{◌≡◌, List, IfOk};
+ghost use Rattle.kmip_plan.specs.declared.key.Key.{Key};
+ghost use Rattle.kmip_schedule.specs.Sound.{Opening};
+ghost use Rattle.kmip_scripted.specs.Scenes.{past_in};
+ghost use Rattle.kmip_simulation.specs.Simulating.{IsSimulated};
+ghost use Rattle.kmip_simulation.specs.SimText.{is_all_finished, is_last_finished};
+
+use kmip_plan::Plan;
+use kmip_schedule::laws::nothing_done_is_sound;
+use kmip_scripted::{Script, Scripted};
+use kmip_server::{IndexedStore, Server};
+use kmip_session::{CampaignEnd, Stop, campaign};
+use kmip_store::MOST_ROOM;
+use kmip_ttlv::NoMemory;
+use std::alloc::Global;
+
+/// The server's seed of key material (own).
+const SEED: [u8; 32] = [0; 32];
+
+/// How the runs of a script went, and the link that they went over.
+#[derive(Drop)]
+pub struct Simulation {
+    pub end: CampaignEnd,
+    pub link: Scripted<IndexedStore>,
+}
+
+/// Makes the runs of a script for a plan, over a link to a new server that follows the script. Where
+/// memory runs out in a run, the end says so and has the runs before it.
+///
+/// # Errors
+/// Where there is no memory for the list of the runs.
+pub fn simulate(alloc: Global, plan: &Plan, script: Script) -> Result<Simulation, NoMemory>
+    ensures { IfOk result (λ s. IsSimulated plan.now script s.end (past_in s.link)) }
+{
+    nothing_done_is_sound();
+    let runs = script.runs(alloc, plan)?;
+    let mut link = new_link(alloc, script);
+    let end = campaign(alloc, plan, &mut link, runs.as_slice());
+    Ok(Simulation { end, link })
+}
+
+/// A link to a new server, over which nothing has happened yet.
+fn new_link(alloc: Global, script: Script) -> Scripted<IndexedStore>
+    ensures { (keys : List Key) → Opening keys (past_in result) }
+{
+    let store = IndexedStore::new(alloc, SEED, MOST_ROOM);
+    Scripted::new(alloc, Server::new(store), script)
+}
+
+impl Simulation {
+    /// Whether the last run stopped since each key of the plan was finished.
+    pub fn is_finished(&self) -> bool
+        ensures { result ≡ is_last_finished self.now.end.runs.items }
+    {
+        match self.end.runs.as_slice().last() {
+            Some(end) => is_all_finished(end.stop),
+            None => false,
+        }
+    }
+}
+
+fn is_all_finished(stop: Stop) -> bool
+    ensures { result ≡ is_all_finished stop }
+{
+    match stop {
+        Stop::AllFinished => true,
+        Stop::Limit | Stop::Conflict | Stop::NoMemory => false,
+    }
+}

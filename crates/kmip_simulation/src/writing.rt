@@ -1,0 +1,233 @@
+//! What is written of a simulation.
+ghost use Rattle.std.specs.Prelude.{◌≡◌, ◌++◌, ◌+◌, IfOk, OnOk, string_bytes};
+ghost use Rattle.std.specs.List.{flat_map};
+ghost use Rattle.kmip_messages.specs.Items.{requests_in};
+ghost use Rattle.kmip_server.specs.Shown.{objects_in};
+ghost use Rattle.kmip_store.specs.Stock.{object_of};
+ghost use Rattle.kmip_simulation.specs.SimText.{
+  ask_line,
+  ask_text,
+  ask_word,
+  asks_text,
+  message_text,
+  name_asked,
+  record_text,
+  records_text,
+  run_line,
+  run_text,
+  runs_text,
+  sim_text,
+  state_word,
+};
+
+use crate::simulating::Simulation;
+use kmip_messages::{Ask, KeyState, Request, read_request};
+use kmip_scripted::Scripted;
+use kmip_server::{IndexedStore, Records};
+use kmip_session::RunEnd;
+use kmip_store::Row;
+use kmip_ttlv::NoMemory;
+use std::alloc::Global;
+
+/// Appends what is written of a simulation: each run that has ended with its report, and then, unless
+/// memory ran out in a run, each request that was ever asked and each object at the end.
+///
+/// # Errors
+/// Where there is no memory for it.
+pub fn push_simulation(
+    alloc: Global,
+    simulation: &Simulation,
+    text: &mut Vec<u8>,
+) -> Result<(), NoMemory>
+    ensures { OnOk result (text.new.items
+        ≡ text.old.items ++ sim_text simulation.now.end simulation.now.link) }
+{
+    push_runs(alloc, simulation.end.runs.as_slice(), text)?;
+    if simulation.end.fault.is_some() {
+        return Ok(());
+    }
+    push_asks(alloc, &simulation.link, text)?;
+    push_records(alloc, &simulation.link, text)
+}
+
+/// Appends the runs that have ended, from 1: a line with why each stopped and after how many
+/// exchanges, and its report.
+///
+/// # Errors
+/// Where there is no memory for them.
+pub fn push_runs(alloc: Global, ends: &[RunEnd], text: &mut Vec<u8>) -> Result<(), NoMemory>
+    ensures { OnOk result (text.new.items ≡ text.old.items ++ runs_text ends.now) }
+{
+    for (place, end) in ends.iter().enumerate() {
+        push_run(alloc, place + 1, end, text)?;
+    }
+    Ok(())
+}
+
+/// Appends the line of a run, and its report.
+fn push_run(alloc: Global, number: usize, end: &RunEnd, text: &mut Vec<u8>) -> Result<(), NoMemory>
+    ensures { OnOk result (text.new.items ≡ text.old.items ++ run_text number end.now) }
+{
+    let line = run_line(alloc, number, end)?;
+    text.extend_from_slice(line.as_bytes())?;
+    text.extend_from_slice(end.report.as_bytes())?;
+    Ok(())
+}
+
+/// The line of a run.
+fn run_line(alloc: Global, number: usize, end: &RunEnd) -> Result<String, NoMemory>
+    ensures { IfOk result (λ line. string_bytes line ≡ run_line number end.now) }
+{
+    let stop = end.stop.name();
+    let exchanges = end.exchanges;
+    let line = format!(in alloc; "run {number} {stop} {exchanges}\n")?;
+    Ok(line)
+}
+
+/// Appends a line for each request that was ever asked over the link, with its number from 1.
+///
+/// # Errors
+/// Where there is no memory for them.
+pub fn push_asks(
+    alloc: Global,
+    link: &Scripted<IndexedStore>,
+    text: &mut Vec<u8>,
+) -> Result<(), NoMemory>
+    ensures { OnOk result (text.new.items ≡ text.old.items ++ asks_text link.now.asked) }
+{
+    for place in 0..usize::MAX {
+        let Some(message) = link.request(place + 1) else {
+            return Ok(());
+        };
+        push_message(alloc, place + 1, message, text)?;
+    }
+    Err(NoMemory) // no memory holds so many requests
+}
+
+/// Appends the line of the request in a message that was asked.
+fn push_message(
+    alloc: Global,
+    number: usize,
+    message: &[u8],
+    text: &mut Vec<u8>,
+) -> Result<(), NoMemory>
+    ensures { OnOk result (text.new.items ≡ text.old.items ++ message_text number message.now) }
+{
+    match read_request(alloc, message) {
+        Ok(request) => push_ask(alloc, number, &request, text),
+        Err(refusal) => {
+            if refusal.fault.is_no_memory() {
+                return Err(NoMemory);
+            }
+            Ok(())
+        }
+    }
+}
+
+/// Appends the line of a request.
+fn push_ask(
+    alloc: Global,
+    number: usize,
+    request: &Request,
+    text: &mut Vec<u8>,
+) -> Result<(), NoMemory>
+    ensures { OnOk result (text.new.items ≡ text.old.items ++ ask_text number request.now) }
+{
+    let line = ask_line(alloc, number, &request.ask)?;
+    text.extend_from_slice(line.as_bytes())?;
+    text.extend_from_slice(name_asked(request))?;
+    text.push(b'\n')?;
+    Ok(())
+}
+
+/// The line of a request, up to the name.
+fn ask_line(alloc: Global, number: usize, ask: &Ask) -> Result<String, NoMemory>
+    ensures { IfOk result (λ line. string_bytes line ≡ ask_line number ask.now) }
+{
+    let word = ask_word(ask);
+    let line = format!(in alloc; "ask {number} {word} ")?;
+    Ok(line)
+}
+
+/// The name of the operation that is asked.
+fn ask_word(ask: &Ask) -> &'static str
+    ensures { result.now ≡ ask_word ask.now }
+{
+    match ask {
+        Ask::Create(_) => "Create",
+        Ask::Locate { mask: _, filter: _ } => "Locate",
+        Ask::GetAttributes(_) => "GetAttributes",
+        Ask::Activate(_) => "Activate",
+        Ask::Revoke(_, _) => "Revoke",
+        Ask::Destroy(_) => "Destroy",
+    }
+}
+
+/// The key that a request is about: what stands in its id behind the operation.
+fn name_asked(request: &Request) -> &[u8]
+    ensures { result.now ≡ name_asked request.now }
+{
+    let Some(id) = &request.id else {
+        return &[];
+    };
+    let Some((_operation, name)) = id.as_slice().split_first() else {
+        return &[];
+    };
+    name
+}
+
+/// Appends a line for each object of the link's server, in the order in which they were made.
+///
+/// # Errors
+/// Where there is no memory for them.
+pub fn push_records(
+    alloc: Global,
+    link: &Scripted<IndexedStore>,
+    text: &mut Vec<u8>,
+) -> Result<(), NoMemory>
+    ensures { OnOk result (text.new.items
+        ≡ text.old.items ++ records_text (objects_in link.now.stock)) }
+{
+    let records = link.server().records();
+    for place in 0..records.count() {
+        let Some(row) = records.at(place) else {
+            return Ok(());
+        };
+        push_record(alloc, row, text)?;
+    }
+    Ok(())
+}
+
+/// Appends the line of an object.
+fn push_record(alloc: Global, row: &Row, text: &mut Vec<u8>) -> Result<(), NoMemory>
+    ensures { OnOk result (text.new.items ≡ text.old.items ++ record_text (object_of row.now)) }
+{
+    let line = record_line(alloc, row)?;
+    text.extend_from_slice(line.as_bytes())?;
+    Ok(())
+}
+
+/// The line of an object.
+fn record_line(alloc: Global, row: &Row) -> Result<String, NoMemory>
+    ensures { IfOk result (λ line. string_bytes line ≡ record_text (object_of row.now)) }
+{
+    let uid = row.uid.as_str();
+    let name = row.attrs.name.as_str();
+    let state = state_word(row.state);
+    let line = format!(in alloc; "record {uid} {name} {state}\n")?;
+    Ok(line)
+}
+
+/// The standard's name of a state.
+fn state_word(state: KeyState) -> &'static str
+    ensures { result.now ≡ state_word state }
+{
+    match state {
+        KeyState::PreActive => "PreActive",
+        KeyState::Active => "Active",
+        KeyState::Deactivated => "Deactivated",
+        KeyState::Compromised => "Compromised",
+        KeyState::Destroyed => "Destroyed",
+        KeyState::DestroyedCompromised => "DestroyedCompromised",
+    }
+}
