@@ -1,0 +1,10 @@
+//! Tests of kmip_simulation: random scripts, and long ones, after each of which every key is to be at
+//! its target, with one object.
+#![tactic(auto)]
+
+#[cfg(test)]
+mod long;
+#[cfg(test)]
+mod making;
+#[cfg(test)]
+mod random;

@@ -1,0 +1,45 @@
+//! Long scripts: many keys, many words, and many runs.
+
+use crate::making::{check_at_targets, plan_of, random_message_word};
+use kmip_scripted::{Script, Word};
+use kmip_simulation::simulate;
+use rand_chacha::ChaCha20Rng;
+use rand_core::SeedableRng;
+use std::test::Fail;
+
+#[test]
+fn a_thousand_keys_and_ten_thousand_words(rt: HostRuntime) -> Result<(), Fail> {
+    let alloc = rt.alloc();
+    let plan = plan_of(alloc, 1_000)?;
+    let mut rng = ChaCha20Rng::from_seed([19; 32]);
+    let mut words = Vec::new(alloc);
+    for _ in 0..10_000 {
+        words.push(random_message_word(&mut rng))?;
+    }
+    let simulation = simulate(alloc, &plan, Script::new(words))?;
+    assert_eq!(rt; simulation.end.runs.len(), 1);
+    assert!(rt; simulation.is_finished());
+    check_at_targets(&rt, &plan, simulation.link.server().records())
+}
+
+#[test]
+fn fifty_runs_from_nothing_from_before_and_from_saves(rt: HostRuntime) -> Result<(), Fail> {
+    let alloc = rt.alloc();
+    let plan = plan_of(alloc, 10)?;
+    let mut rng = ChaCha20Rng::from_seed([20; 32]);
+    let mut words = Vec::new(alloc);
+    for number in 0..49 {
+        words.push(Word::LoseReply)?;
+        words.push(random_message_word(&mut rng))?;
+        match number % 3 {
+            0 => words.push(Word::Save)?,
+            1 => words.push(Word::Restart(None))?,
+            _ => words.push(Word::Restart(Some(number / 3)))?,
+        }
+    }
+    let simulation = simulate(alloc, &plan, Script::new(words))?;
+    assert_eq!(rt; simulation.end.runs.len(), 50);
+    assert_eq!(rt; simulation.end.saved.len(), 17);
+    assert!(rt; simulation.is_finished());
+    check_at_targets(&rt, &plan, simulation.link.server().records())
+}

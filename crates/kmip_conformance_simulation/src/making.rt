@@ -1,0 +1,75 @@
+//! Plans and words for the tests, and how far the objects are to have come.
+
+use kmip_messages::KeyState;
+use kmip_plan::{Plan, Target, read_plan};
+use kmip_scripted::Word;
+use kmip_server::Records;
+use rand_chacha::ChaCha20Rng;
+use rand_core::RngCore;
+use std::alloc::{AllocError, Global};
+use std::process::Abort;
+use std::test::Fail;
+
+/// The words of targets.
+pub const TARGETS: [&str; 5] = ["created", "active", "revoked", "destroyed", "discarded"];
+
+/// Writes a key of a plan at the end of its text: `k` and the number are its name.
+pub fn push_key(text: &mut String, number: usize, target: &str) -> Result<(), AllocError> {
+    writeln!(text, "[[key]]\nname = \"k{number}\"\nalgorithm = \"AES\"\nlength = 256")?;
+    writeln!(text, "usage = [\"encrypt\", \"decrypt\"]\ntarget = \"{target}\"")
+}
+
+/// A plan of so many keys, whose targets come in turn.
+pub fn plan_of(alloc: Global, keys: usize) -> Result<Plan, Fail> {
+    let mut text = String::new(alloc);
+    for number in 0..keys {
+        push_key(&mut text, number, TARGETS[number % TARGETS.len()])?;
+    }
+    let plan = read_plan(alloc, text.as_str())?;
+    Ok(plan)
+}
+
+/// A random word of an exchange, or one that repeats a request.
+pub fn random_message_word(rng: &mut ChaCha20Rng) -> Word {
+    let number = rng.next_u32() as usize % 24;
+    match rng.next_u32() % 8 {
+        0 => Word::LoseRequest,
+        1 => Word::LoseReply,
+        2 => Word::Cut(number * 12),
+        3 => Word::Stale(number),
+        4 | 5 => Word::Again(number),
+        _ => Word::Pass,
+    }
+}
+
+/// Whether each key of the plan has exactly one object, at the key's target, and nothing else has one.
+pub fn check_at_targets<R: Records>(rt: &impl Abort, plan: &Plan, records: &R) -> Result<(), Fail> {
+    assert_eq!(rt; records.count(), plan.count());
+    for key in plan.keys() {
+        let state = state_named(records, key.attrs.name.as_str());
+        assert_eq!(rt; state, Some(state_at(key.target)));
+    }
+    Ok(())
+}
+
+/// The state of the object with the name, the first where there are several.
+fn state_named<R: Records>(records: &R, name: &str) -> Option<KeyState> {
+    for place in 0..records.count() {
+        if let Some(row) = records.at(place) {
+            if row.attrs.name.as_str() == name {
+                return Some(row.state);
+            }
+        }
+    }
+    None
+}
+
+/// The state of an object that is at the target.
+fn state_at(target: Target) -> KeyState {
+    match target {
+        Target::Created => KeyState::PreActive,
+        Target::Active => KeyState::Active,
+        Target::Revoked => KeyState::Deactivated,
+        Target::Destroyed | Target::Discarded => KeyState::Destroyed,
+    }
+}
