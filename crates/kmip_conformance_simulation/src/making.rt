@@ -5,7 +5,7 @@ use kmip_plan::{Plan, Target, read_plan};
 use kmip_scripted::Word;
 use kmip_server::Records;
 use rand_chacha::ChaCha20Rng;
-use rand_core::RngCore;
+use rand_core::Rng;
 use std::alloc::{AllocError, Global};
 use std::process::Abort;
 use std::test::Fail;

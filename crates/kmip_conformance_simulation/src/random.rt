@@ -5,19 +5,24 @@ use kmip_plan::{Plan, read_plan};
 use kmip_scripted::{Script, Word};
 use kmip_simulation::simulate;
 use rand_chacha::ChaCha20Rng;
-use rand_core::{RngCore, SeedableRng};
+use rand_core::{Rng, SeedableRng};
 use std::alloc::{AllocError, Global};
+use std::process::Abort;
 use std::test::Fail;
 
-/// A plan of one to four keys with random targets.
-fn random_plan(alloc: Global, rng: &mut ChaCha20Rng) -> Result<Plan, Fail> {
-    let keys = 1 + rng.next_u32() as usize % 4;
-    let mut text = String::new(alloc);
-    for number in 0..keys {
-        push_key(&mut text, number, TARGETS[rng.next_u32() as usize % TARGETS.len()])?;
+/// A plan of two keys with each two targets.
+fn all_plans(alloc: Global) -> Result<Vec<Plan>, Fail> {
+    let mut plans = Vec::new(alloc);
+    for first in TARGETS {
+        for second in TARGETS {
+            let mut text = String::new(alloc);
+            push_key(&mut text, 0, first)?;
+            push_key(&mut text, 1, second)?;
+            let plan = read_plan(alloc, text.as_str())?;
+            plans.push(plan)?;
+        }
     }
-    let plan = read_plan(alloc, text.as_str())?;
-    Ok(plan)
+    Ok(plans)
 }
 
 /// A random word of any kind.
@@ -31,26 +36,46 @@ fn random_word(rng: &mut ChaCha20Rng) -> Word {
     }
 }
 
-/// A script of at most 31 random words.
+/// A script of at most 15 random words.
 fn random_script(alloc: Global, rng: &mut ChaCha20Rng) -> Result<Script, AllocError> {
     let mut words = Vec::new(alloc);
-    for _ in 0..rng.next_u32() % 32 {
+    for _ in 0..rng.next_u32() % 16 {
         words.push(random_word(rng))?;
     }
     Ok(Script::new(words))
 }
 
-#[test]
-fn each_random_script_ends_at_the_targets(rt: HostRuntime) -> Result<(), Fail> {
-    let alloc = rt.alloc();
-    let mut rng = ChaCha20Rng::from_seed([18; 32]);
-    for _ in 0..2_000 {
-        let plan = random_plan(alloc, &mut rng)?;
+/// Carries out 500 random scripts, each over the next of the plans.
+fn try_scripts(rt: &impl Abort, alloc: Global, seed: u8) -> Result<(), Fail> {
+    let plans = all_plans(alloc)?;
+    let mut rng = ChaCha20Rng::from_seed([seed; 32]);
+    for number in 0..500 {
+        let plan = &plans[number % plans.len()];
         let script = random_script(alloc, &mut rng)?;
-        let simulation = simulate(alloc, &plan, script)?;
+        let simulation = simulate(alloc, plan, script)?;
         assert_eq!(rt; simulation.end.fault, None);
         assert!(rt; simulation.is_finished());
-        check_at_targets(&rt, &plan, simulation.link.server().records())?;
+        check_at_targets(rt, plan, simulation.link.server().records())?;
     }
     Ok(())
+}
+
+#[test]
+fn the_first_scripts_end_at_the_targets(rt: HostRuntime) -> Result<(), Fail> {
+    try_scripts(&rt, rt.alloc(), 1)
+}
+
+#[test]
+fn the_second_scripts_end_at_the_targets(rt: HostRuntime) -> Result<(), Fail> {
+    try_scripts(&rt, rt.alloc(), 2)
+}
+
+#[test]
+fn the_third_scripts_end_at_the_targets(rt: HostRuntime) -> Result<(), Fail> {
+    try_scripts(&rt, rt.alloc(), 3)
+}
+
+#[test]
+fn the_last_scripts_end_at_the_targets(rt: HostRuntime) -> Result<(), Fail> {
+    try_scripts(&rt, rt.alloc(), 4)
 }
