@@ -10,7 +10,8 @@ use kmip_client::Client;
 use kmip_plan::Plan;
 use kmip_scripted::{Script, Scripted};
 use kmip_server::{ListStore, Records};
-use kmip_session::{Stop, drive};
+use kmip_session::{Run, Start, Stop, campaign, drive};
+use kmip_ttlv::NoMemory;
 use std::alloc::{AllocError, Global};
 use std::process::Abort;
 use std::test::Fail;
@@ -184,6 +185,39 @@ fn goes_on_after_want_of_memory(rt: HostRuntime) -> Result<(), Fail> {
     Ok(())
 }
 
+/// The first run makes the object and is saved; in the second one there is no memory for the third
+/// exchange.
+const RUNS: [Run; 2] = [
+    Run {
+        start: Start::Fresh,
+        limit: 2,
+        save: true,
+    },
+    Run {
+        start: Start::Same,
+        limit: 10,
+        save: true,
+    },
+];
+
+#[test]
+fn notes_the_runs_before_want_of_memory(rt: HostRuntime) -> Result<(), Fail> {
+    let plan = plan_of(rt.alloc(), &["k1"], "active")?;
+    let mut link = calm_link(rt.alloc());
+    link.fail(Failure {
+        at: 3,
+        fault: Fault::NoMemory,
+        is_delivered: false,
+    });
+    let end = campaign(rt.alloc(), &plan, &mut link, &RUNS);
+    assert_eq!(rt; end.fault, Some(NoMemory));
+    assert_eq!(rt; end.saved.len(), 1);
+    assert_eq!(rt; end.runs.len(), 1);
+    assert_eq!(rt; end.runs[0].stop, Stop::Limit);
+    assert_eq!(rt; end.runs[0].exchanges, 2);
+    Ok(())
+}
+
 /// A run that asks Locate and Create, and no more. Their replies are the first two.
 fn run_earlier(
     rt: &impl Abort,
@@ -230,14 +264,21 @@ fn finishes_after_a_reply_about_a_stranger(rt: HostRuntime) -> Result<(), Fail> 
 #[derive(Clone, Copy)]
 struct Stale(usize, usize, bool, usize);
 
-/// The failure of this row.
-fn stale_failure(stale: Stale) -> Failure {
-    let Stale(at, number, is_delivered, _) = stale;
-    Failure {
+/// A run from nothing finishes all keys, where this reply comes.
+fn finishes_with(
+    rt: &impl Abort,
+    alloc: Global,
+    plan: &Plan,
+    link: &mut Faulty<ListStore>,
+    stale: Stale,
+) -> Result<(), Fail> {
+    let Stale(at, number, is_delivered, total) = stale;
+    let failure = Failure {
         at,
         fault: Fault::Reply(number),
         is_delivered,
-    }
+    };
+    finishes(rt, alloc, plan, link, failure, total)
 }
 
 /// Replies about `a` where `b` was asked about, both to be created. Without them the run asks
@@ -257,14 +298,7 @@ fn finishes_after_a_reply_about_another_key(rt: HostRuntime) -> Result<(), Fail>
     let plan = plan_of(rt.alloc(), &["a", "b"], "created")?;
     for stale in OTHER_KEY {
         let mut link = calm_link(rt.alloc());
-        finishes(
-            &rt,
-            rt.alloc(),
-            &plan,
-            &mut link,
-            stale_failure(stale),
-            stale.3,
-        )?;
+        finishes_with(&rt, rt.alloc(), &plan, &mut link, stale)?;
         let records = told_records(rt.alloc(), &link)?;
         assert_eq!(rt; records.as_str(), "a PreActive\nb PreActive\n");
     }
@@ -301,14 +335,7 @@ fn finishes_after_a_reply_of_an_earlier_run(rt: HostRuntime) -> Result<(), Fail>
     for stale in EARLIER {
         let mut link = calm_link(rt.alloc());
         run_earlier(&rt, rt.alloc(), &plan, &mut link)?;
-        finishes(
-            &rt,
-            rt.alloc(),
-            &plan,
-            &mut link,
-            stale_failure(stale),
-            stale.3,
-        )?;
+        finishes_with(&rt, rt.alloc(), &plan, &mut link, stale)?;
         let records = told_records(rt.alloc(), &link)?;
         assert_eq!(rt; records.as_str(), "k1 Active\n");
     }

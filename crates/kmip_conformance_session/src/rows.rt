@@ -109,7 +109,7 @@ const OWN_STALE: Row = Row {
 };
 
 /// The other rows: a second run from nothing, runs that are saved and a restart, requests that are
-/// cut, what is repeated, stale or cut where there is nothing, and two keys, of which one loses all.
+/// cut, what is repeated, stale or cut where there is nothing, and two keys of which one loses all.
 const ROWS: [Row; 7] = [
     Row {
         keys: &["k1"],
