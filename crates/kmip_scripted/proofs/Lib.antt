@@ -3,3 +3,4 @@ pub mod ArrivalLemmas
 pub mod WordLemmas
 pub mod FollowLemmas
 pub mod RunsLemmas
+pub mod SplitLemmas

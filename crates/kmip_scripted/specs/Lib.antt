@@ -1,4 +1,5 @@
 pub mod Faults
+pub mod Laws
 pub mod Scenes
 pub mod Serving
 pub mod Words

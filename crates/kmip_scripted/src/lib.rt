@@ -5,6 +5,7 @@
 mod effects;
 mod fault;
 mod following;
+pub mod laws;
 mod link;
 mod reading;
 mod runs;
