@@ -15,8 +15,14 @@ pub const TARGETS: [&str; 5] = ["created", "active", "revoked", "destroyed", "di
 
 /// Writes a key of a plan at the end of its text: `k` and the number are its name.
 pub fn push_key(text: &mut String, number: usize, target: &str) -> Result<(), AllocError> {
-    writeln!(text, "[[key]]\nname = \"k{number}\"\nalgorithm = \"AES\"\nlength = 256")?;
-    writeln!(text, "usage = [\"encrypt\", \"decrypt\"]\ntarget = \"{target}\"")
+    writeln!(
+        text,
+        "[[key]]\nname = \"k{number}\"\nalgorithm = \"AES\"\nlength = 256"
+    )?;
+    writeln!(
+        text,
+        "usage = [\"encrypt\", \"decrypt\"]\ntarget = \"{target}\""
+    )
 }
 
 /// A plan of so many keys, whose targets come in turn.

@@ -10,6 +10,9 @@ use std::alloc::{AllocError, Global};
 use std::process::Abort;
 use std::test::Fail;
 
+/// How many plans of two keys there are, by their targets.
+const PLANS: usize = 25;
+
 /// A plan of two keys with each two targets.
 fn all_plans(alloc: Global) -> Result<Vec<Plan>, Fail> {
     let mut plans = Vec::new(alloc);
@@ -50,7 +53,7 @@ fn try_scripts(rt: &impl Abort, alloc: Global, seed: u8) -> Result<(), Fail> {
     let plans = all_plans(alloc)?;
     let mut rng = ChaCha20Rng::from_seed([seed; 32]);
     for number in 0..500 {
-        let plan = &plans[number % plans.len()];
+        let plan = plans.get(number % PLANS).ok_or("no such plan")?;
         let script = random_script(alloc, &mut rng)?;
         let simulation = simulate(alloc, plan, script)?;
         assert_eq!(rt; simulation.end.fault, None);
