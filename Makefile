@@ -1,7 +1,7 @@
 # make            builds the program (a clean clone is proved first, which takes minutes)
-# make demo       answers the example requests, and prints only the replies
+# make demo       answers the example requests, and carries out a plan over a network that loses a reply
 # make test       the gate: every proof from nothing, the wrong bodies, the tests and the program
-# make bench      compares the program with a baseline in plain Rust (needs rustc)
+# make bench      compares the program with a baseline in plain Rust, and times simulations (needs rustc)
 # make refuse     refuses each growth of memory of the program in turn (needs cc)
 # make hostile    gives the program lines of ten megabytes, under limits of memory
 # make reading    lists the public functions; with FUNCTION=crate::name, what its contract rests on (needs python3)
@@ -22,6 +22,7 @@ $(program): $(sources)
 
 demo: $(program)
 	@$(program) answer < examples/answer-first.hex
+	@$(program) sim --plan examples/lost-create.toml --script examples/lost-create.script
 
 test:
 	@rt ci

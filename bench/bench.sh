@@ -8,8 +8,9 @@
 # runs, which the two programs take in turn; a short one is the mean of several runs at a time. It is
 # processor time, the system's included, so other work on the machine disturbs it little. First come
 # whole loads, then how the cost of a request grows from 10 objects of the server to 10,000, and then
-# the memory that an object takes. The exit status is 1 where the outputs differ, and 0 whatever the
-# times are.
+# the memory that an object takes, and last how the time of `kmipctl sim` grows with the keys of a plan.
+# The exit status is 1 where the outputs differ, or a simulation takes another number of exchanges than
+# its plan needs, and 0 whatever the times are.
 set -euo pipefail
 export LC_ALL=C
 
@@ -24,6 +25,8 @@ aim=1.5
 growth_aim=1.3
 small_aim=2
 memory_aim=300
+# How much longer a simulation of 1,000 keys may take than one of 100.
+sim_aim=11
 
 TIMEFORMAT='%3U %3S'
 
@@ -159,6 +162,46 @@ memory() {
     echo "$title: $(((many - few) * 1024 / 9990 - data)) bytes an object beyond its data (aim: at most $memory_aim)"
 }
 
+# Writes a plan of $1 keys, which are all to become active: a look and two steps each.
+write_plan() {
+    for ((key = 1; key <= $1; key++)); do
+        printf '[[key]]\nname = "k%d"\nalgorithm = "AES"\nlength = 256\n' "$key"
+        printf 'usage = ["encrypt", "decrypt"]\ntarget = "active"\n\n'
+    done
+}
+
+# Sets `ours` to the least microseconds that a simulation of $1 keys takes with a script without words,
+# of $2 runs at a time. Ends with exit status 1 where it does not make three exchanges a key.
+measure_simulation() {
+    local keys=$1 repeats=$2 time
+    write_plan "$keys" > "$out/plan.toml"
+    : > "$out/empty.script"
+    local words=("$program" sim --plan "$out/plan.toml" --script "$out/empty.script")
+    "${words[@]}" > "$out/simulated"
+    if [[ $(head -n 1 "$out/simulated") != "run 1 AllFinished $((3 * keys))" ]]; then
+        echo "a simulation of $keys keys: $(head -n 1 "$out/simulated")"
+        exit 1
+    fi
+    ours=
+    for ((run = 0; run < runs; run++)); do
+        time=$(microseconds /dev/null "$repeats" "${words[@]}")
+        if [[ -z $ours || $time -lt $ours ]]; then ours=$time; fi
+    done
+}
+
+# Prints how the time of a simulation grows with the keys of its plan.
+growth_of_simulations() {
+    local ten hundred
+    measure_simulation 10 50
+    ten=$ours
+    measure_simulation 100 10
+    hundred=$ours
+    measure_simulation 1000 1
+    printf 'sim of 10, 100 and 1,000 keys, 3 exchanges a key: %s, %s and %s ms, growth from 100 to 1,000 %s (aim: at most %s)\n' \
+        "$(quotient "$ten" 1000 2)" "$(quotient "$hundred" 1000 2)" "$(quotient "$ours" 1000 2)" \
+        "$(quotient "$ours" "$hundred" 2)" "$sim_aim"
+}
+
 mkdir -p "$out"
 build baseline
 build input
@@ -179,3 +222,5 @@ growth_of_creates
 
 memory kmipctl "$program" answer
 memory baseline "$out/baseline"
+
+growth_of_simulations
