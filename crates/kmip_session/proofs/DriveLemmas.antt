@@ -1,14 +1,15 @@
 -- What is kept over several exchanges.
-use Rattle.std.proofs.Common.{◌≡◌, ◌≢◌, ℕ, ◌+◌, subst, sym, arith}
+use Rattle.std.proofs.Common.{◌≡◌, ◌≢◌, ◌∙◌, ℕ, ◌+◌, subst, sym, arith}
 use Rattle.kmip_client.specs.Clients.{AreSettled, ClientState}
+use Rattle.kmip_client.specs.Known.{facts}
 use Rattle.kmip_schedule.specs.Past.{Names, Past, is_planned}
-use Rattle.kmip_session.specs.Driving.{Grown, IsGood, IsSettling, Keeps, Learnt, SomeClash, Stands, WentOn}
+use Rattle.kmip_session.specs.Driving.{Grown, IsBrokenOff, IsGood, IsSettling, Keeps, Learnt, SomeClash, Stands, WentOn}
 use Rattle.kmip_session.specs.Lawbook.{Lawbook}
 use Rattle.kmip_session.specs.declared.stop.Stop.{Stop}
 use Rattle.kmip_session.specs.declared.stop.Stop.TheVariants as stops
 use Rattle.kmip_session.proofs.GoodLemmas.{keeps_itself, keeps_then, went_nowhere, went_then}
 use Rattle.kmip_session.proofs.SettleLemmas.{Nearer, nearer_none, nearer_then}
-use Rattle.kmip_session.proofs.KnownLemmas.{grown_itself, grown_then, learnt_nothing, learnt_then}
+use Rattle.kmip_session.proofs.KnownLemmas.{grown_itself, grown_then, learnt_nothing, learnt_still, learnt_then, stays_itself}
 
 module _ {L : Type 0} (past : L → Past) (honest calm : L → Names → Type 0) where
   -- after so many exchanges
@@ -64,6 +65,18 @@ module _ {L : Type 0} (past : L → Past) (honest calm : L → Names → Type 0)
         subst (λ n. Learnt a.keys (past x) (past z) a.knowns c.knowns n) none
             (learnt_then l.blind a.keys (past x) (past y) (past z) a.knowns b.knowns c.knowns m 0 before.1
             (subst (λ ks. Learnt ks (past y) (past z) b.knowns c.knowns 0) first.keeps.keys_stay after.1)),
+      )
+
+  -- and a last exchange in which memory ran out
+  pub broken_end : (a b c : ClientState) (x y z : L) (m : ℕ) → Driven a b x y m
+      → (honest y (is_planned b.keys) → (facts c.knowns ≡ facts b.knowns) × IsBrokenOff b.keys (past y) (past z)) → honest x (is_planned a.keys)
+      → (between : Past) × Learnt a.keys (past x) between a.knowns c.knowns m × IsBrokenOff a.keys between (past z)
+  broken_end a b c x y z m first last holds =
+      let before = first.known holds in
+      let off = last (subst (λ ks. honest y (is_planned ks)) (sym first.keeps.keys_stay) before.0) in (
+        past y,
+        learnt_still a.keys (past x) (past y) (past y) a.knowns b.knowns c.knowns m before.1 (stays_itself (past y)) off.0,
+        subst (λ ks. IsBrokenOff ks (past y) (past z)) first.keeps.keys_stay off.1,
       )
 
   -- what is good is in no conflict

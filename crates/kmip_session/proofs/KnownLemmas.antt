@@ -1,5 +1,5 @@
 -- What exchanges ask and teach, one after the other.
-use Rattle.std.proofs.Common.{◌≡◌, ℕ, ◌+◌, List, [], ◌∷◌, ◌++◌, length, Option, Some, None, Result, Ok, Err, OnOk, sym, ap, subst, refl, ◌∙◌, flat_map, append_assoc, append-nil, inl, inr}
+use Rattle.std.proofs.Common.{◌≡◌, ℕ, ◌+◌, List, [], ◌∷◌, ◌++◌, length, Option, Some, None, Result, Ok, Err, OnErr, OnOk, sym, ap, subst, refl, ◌∙◌, flat_map, append_assoc, append-nil, inl, inr}
 use Rattle.std.proofs.lemmas.List.Elements.{All-append, All-cons, All-nil}
 use Rattle.std.proofs.lemmas.List.{length-append}
 use Rattle.std.proofs.lemmas.List.Concat.{flat_map-append}
@@ -7,7 +7,7 @@ use Rattle.kmip_messages.specs.Items.{requests_in}
 use Rattle.kmip_plan.specs.Laws.{KeysAreFound}
 use Rattle.kmip_plan.specs.Plans.{IsLawful}
 use Rattle.kmip_plan.specs.declared.key.Key.{Key}
-use Rattle.kmip_client.specs.Clients.{ClientState, IsAbout}
+use Rattle.kmip_client.specs.Clients.{ClientState, IsAbout, lost_at}
 use Rattle.kmip_client.specs.Laws.{HearingIsBlind, LossesTeachNothing}
 use Rattle.kmip_client.specs.declared.knowledge.Knowledge.{Knowledge}
 use Rattle.kmip_client.specs.declared.question.Question.{Question}
@@ -16,7 +16,7 @@ use Rattle.kmip_schedule.specs.Moves.{Delivered, Move, after_move, after_moves}
 use Rattle.kmip_schedule.specs.Past.{Names, Past}
 use Rattle.kmip_schedule.specs.declared.link.LinkFault.{LinkFault}
 use Rattle.kmip_schedule.specs.declared.link.LinkFault.TheVariants.{Io, Frame, NoMemory}
-use Rattle.kmip_session.specs.Driving.{Grown, IsQuestion, Learnt}
+use Rattle.kmip_session.specs.Driving.{Grown, IsBrokenOff, IsQuestion, Learnt}
 use Rattle.kmip_client.specs.Known.{facts, heard, known_after}
 use Rattle.kmip_session.specs.Losses.{or_loss}
 use Rattle.kmip_settling.specs.Turns.{taught}
@@ -81,8 +81,11 @@ move_stays (Move.Refuse reply) p = record { requests_stay = refl; sent_stays = r
 move_stays (Move.Comes o) p = record { requests_stay = refl; sent_stays = refl; handed_stays = refl }
 move_stays (Move.Changes front old new back) p = record { requests_stay = refl; sent_stays = refl; handed_stays = refl }
 
+pub stays_itself : (p : Past) → Stays p p
+stays_itself p = record { requests_stay = refl; sent_stays = refl; handed_stays = refl }
+
 moves_stay : (moves : List Move) (p : Past) → Stays p (after_moves moves p)
-moves_stay [] p = record { requests_stay = refl; sent_stays = refl; handed_stays = refl }
+moves_stay [] p = stays_itself p
 moves_stay (move ∷ moves) p =
     let first = move_stays move p in
     let rest = moves_stay moves (after_move move p) in
@@ -140,9 +143,72 @@ learnt_one found lost names c next old new question answer lawful about hands is
       known_is = ap (λ (s : ClientState). facts s.knowns) is ∙ taught_facts lost question answer c;
     }
 
+-- what is neither asked, sent nor handed over, and teaches no fact, changes nothing of it
+pub learnt_still : (keys : List Key) (old between new : Past) (knowns known next : List Knowledge) (exchanges : ℕ) → Learnt keys old between knowns known exchanges
+    → Stays between new → facts next ≡ facts known → Learnt keys old new knowns next exchanges
+learnt_still keys old between new knowns known next exchanges learnt stays same = record {
+  questions = learnt.questions;
+  answers = learnt.answers;
+  sent_are = stays.sent_stays ∙ learnt.sent_are;
+  handed_are = stays.handed_stays ∙ learnt.handed_are;
+  requests_are = stays.requests_stay ∙ learnt.requests_are;
+  as_many_questions = learnt.as_many_questions;
+  as_many_answers = learnt.as_many_answers;
+  each = learnt.each;
+  known_is = same ∙ learnt.known_is;
+}
+
 pub on_ok : {V E P Q : Type 0} (r : Result V E) → (P → Q) → OnOk r P → OnOk r Q
 on_ok (Ok v) to holds = to holds
 on_ok (Err fault) to holds = tt
+
+pub on_err : {V E P Q : Type 0} (r : Result V E) → (P → Q) → OnErr r P → OnErr r Q
+on_err (Ok v) to holds = tt
+on_err (Err fault) to holds = to holds
+
+pub always_err : {V E P : Type 0} (r : Result V E) → P → OnErr r P
+always_err (Ok v) holds = tt
+always_err (Err fault) holds = holds
+
+-- ---- an exchange that broke off
+
+pub lost_facts : LossesTeachNothing → (c next : ClientState) (place : ℕ) → next ≡ lost_at c place → facts next.knowns ≡ facts c.knowns
+lost_facts lost c next place is = ap (λ (s : ClientState). facts s.knowns) is ∙ lost c place
+
+pub broken_nowhere : (keys : List Key) (p : Past) → IsBrokenOff keys p p
+broken_nowhere keys p = inl (refl, (refl, refl))
+
+-- before it came to its end
+pub broken_asked : KeysAreFound → (names : Names) (c : ClientState) (old new : Past) (question : Question) (answered : Result (Option (List ℕ)) LinkFault)
+    → IsLawful c.keys → IsAbout c.keys c.knowns question → or_loss answered ≡ None → Exchanged names old question.bytes answered new → IsBrokenOff c.keys old new
+broken_asked found names c old new question (Ok answer) lawful about none done = absurd cc
+broken_asked found names c old new question (Err Io) lawful about none done = absurd cc
+broken_asked found names c old new question (Err Frame) lawful about none done = absurd cc
+broken_asked found names c old new question (Err NoMemory) lawful about none done = elim done [
+  | inl before ↦
+    let stays = delivered_stays names old new before in
+    inl (stays.requests_stay, (stays.sent_stays, stays.handed_stays))
+  | inr after ↦
+    let stays = delivered_stays names (with_asked question.bytes old) new after in
+    inr (record {
+      question = question.bytes;
+      is_question = asked_one found c question lawful about;
+      requests_are = stays.requests_stay;
+      ended = inl (stays.sent_stays, stays.handed_stays);
+    })
+]
+
+-- and behind it
+pub broken_handed : KeysAreFound → (names : Names) (c : ClientState) (old new : Past) (question : Question) (answer : Option (List ℕ)) → IsLawful c.keys
+    → IsAbout c.keys c.knowns question → HandsOver names old question.bytes answer new → IsBrokenOff c.keys old new
+broken_handed found names c old new question answer lawful about hands =
+    let asks = handed_asks names old new question.bytes answer hands in
+    inr (record {
+      question = question.bytes;
+      is_question = asked_one found c question lawful about;
+      requests_are = asks.2;
+      ended = inr (answer, asks.0, asks.1);
+    })
 
 -- ---- nothing is taken back
 

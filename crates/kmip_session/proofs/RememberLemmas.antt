@@ -19,7 +19,7 @@ use Rattle.kmip_session.specs.declared.campaigning.CampaignEnd.{CampaignEnd}
 use Rattle.kmip_session.specs.declared.campaigning.Run.{Run}
 use Rattle.kmip_session.specs.declared.campaigning.RunEnd.{RunEnd}
 use Rattle.kmip_session.specs.declared.stop.Stop.{Stop}
-use Rattle.kmip_session.proofs.KnownLemmas.{Stays, delivered_stays, grown_itself, joined}
+use Rattle.kmip_session.proofs.KnownLemmas.{Stays, delivered_stays, grown_itself, joined, learnt_still}
 use Rattle.kmip_session.proofs.OrderLemmas.{zip_push}
 
 -- what is known at the end of the last of them
@@ -101,29 +101,10 @@ heard_more keys begun known ends old between new start knowns exchanges end is h
           (sym (flat_map-append requests_in (flat_map (λ (t : Talk). t.questions) heard.talks) learnt.questions) ∙ ap (λ sent. flat_map requests_in sent) asked);
     }
 
--- what happens at the end of a run asks and teaches nothing
-pub learnt_closed : (keys : List Key) (old between new : Past) (start knowns : List Knowledge) (exchanges : ℕ) → Learnt keys old between start knowns exchanges → Stays between new
-    → Learnt keys old new start knowns exchanges
-learnt_closed keys old between new start knowns exchanges learnt stays = record {
-  questions = learnt.questions;
-  answers = learnt.answers;
-  sent_are = stays.sent_stays ∙ learnt.sent_are;
-  handed_are = stays.handed_stays ∙ learnt.handed_are;
-  requests_are = stays.requests_stay ∙ learnt.requests_are;
-  as_many_questions = learnt.as_many_questions;
-  as_many_answers = learnt.as_many_answers;
-  each = learnt.each;
-  known_is = learnt.known_is;
-}
-
 -- what holds always holds of each answer
 pub always_ok : {A E P : Type 0} (r : Result A E) → P → OnOk r P
 always_ok (Ok a) holds = holds
 always_ok (Err e) holds = tt
-
-pub always_err : {A E P : Type 0} (r : Result A E) → P → OnErr r P
-always_err (Ok a) holds = tt
-always_err (Err e) holds = holds
 
 pub no_ok : {A E X : Type 0} (r : Result A E) (a : A) → IsErr r → r ≡ Ok a → X
 no_ok (Ok b) a failed is = absurd cc
@@ -244,10 +225,10 @@ module _ {L : Type 0} (past : L → Past) (honest : L → Names → Type 0) (key
         let taught = learnt (subst (λ ks. honest x (is_planned ks)) (sym b_keys) holds) in
         let close = closes (is_planned keys) (subst (λ ks. honest y (is_planned ks)) b_keys taught.0) in (
           close.0,
-          learnt_closed keys (past x) (past y) (past z) (start_knowns keys run.start a.knowns old.saved.items) c.knowns driven.1
+          learnt_still keys (past x) (past y) (past z) (start_knowns keys run.start a.knowns old.saved.items) c.knowns c.knowns driven.1
               (subst (λ start. Learnt keys (past x) (past y) start c.knowns driven.1) begun
               (subst (λ ks. Learnt ks (past x) (past y) b.knowns c.knowns driven.1) b_keys taught.1))
-              (delivered_stays (is_planned keys) (past y) (past z) close.1),
+              (delivered_stays (is_planned keys) (past y) (past z) close.1) refl,
         );
   }
 

@@ -1,6 +1,6 @@
 -- What a run of exchanges does: what it keeps, what it asks, what the client learns of it, and why it ends.
 -- Source: own.
-use Rattle.std.specs.Prelude.{◌≡◌, ◌≤◌, ◌<◌, ◌+◌, ℕ, IsSome, map, List, ◌++◌, length, flat_map, Option, ⊤}
+use Rattle.std.specs.Prelude.{◌≡◌, ◌⊎◌, ◌≤◌, ◌<◌, ◌+◌, ℕ, IsSome, map, List, [], ◌∷◌, ◌++◌, length, flat_map, Option, ⊤}
 use Rattle.std.specs.List.{All, AllZip}
 use Rattle.kmip_messages.specs.Items.{requests_in}
 use Rattle.kmip_messages.specs.Objects.{Object, object_named}
@@ -87,6 +87,25 @@ pub record Grown (old new : Past) : Type 0 where
   pub requests : (more : List Request) × (new.requests ≡ old.requests ++ more)
   pub sent : (more : List (List ℕ)) × (new.sent ≡ old.sent ++ more)
   pub handed : (more : List (Option (List ℕ))) × (new.handed ≡ old.handed ++ more)
+
+-- no exchange came to its end; one did, with this question
+abbrev pub EndsNoExchange : Past → Past → Type 0
+EndsNoExchange old new = (new.sent ≡ old.sent) × (new.handed ≡ old.handed)
+
+abbrev pub EndsOneExchange : List ℕ → Past → Past → Type 0
+EndsOneExchange question old new =
+    (answer : Option (List ℕ)) × (new.sent ≡ old.sent ++ question ∷ []) × (new.handed ≡ old.handed ++ answer ∷ [])
+
+-- A question about a key of the plan joined those asked, and its exchange came to its end or not.
+pub record IsCutShort (keys : List Key) (old new : Past) : Type 0 where
+  pub question : List ℕ
+  pub is_question : IsQuestion keys question
+  pub requests_are : new.requests ≡ old.requests ++ requests_in question
+  pub ended : EndsNoExchange old new ⊎ EndsOneExchange question old new
+
+-- What memory that ran out leaves of the exchange in which it did: nothing that was asked, sent or handed over, or one question.
+abbrev pub IsBrokenOff : List Key → Past → Past → Type 0
+IsBrokenOff keys old new = ((new.requests ≡ old.requests) × EndsNoExchange old new) ⊎ IsCutShort keys old new
 
 -- The plan stays, and no identifier or count is taken back.
 pub record Keeps (old new : ClientState) : Type 0 where

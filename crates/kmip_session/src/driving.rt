@@ -9,7 +9,9 @@ ghost use Rattle.kmip_client.specs.Justified.{JustifiedMessage};
 ghost use Rattle.kmip_client.specs.Truth.{TrueMessage};
 ghost use Rattle.kmip_plan.specs.Chains.{bound};
 ghost use Rattle.kmip_schedule.specs.Past.{is_planned};
-ghost use Rattle.kmip_session.specs.Driving.{IsGood, IsSettling, IsUntouched, IsComplete, need, WentOn, Learnt, Grown, Keeps, Stands};
+ghost use Rattle.kmip_session.specs.Driving.{IsBrokenOff, IsGood, IsSettling, IsUntouched, IsComplete, need, WentOn, Learnt, Grown, Keeps, Stands};
+ghost use Rattle.kmip_client.specs.Known.{facts};
+ghost use Rattle.kmip_schedule.specs.Past.{Past};
 ghost use Rattle.kmip_session.specs.Lawbook.{Lawbook};
 ghost use Rattle.kmip_session.specs.Losses.{or_loss};
 ghost use Rattle.kmip_settling.specs.Needs.{chains_and_looks};
@@ -55,6 +57,10 @@ pub fn drive<L: Link>(
         → L.honest link.new (is_planned client.old.keys)
         × (result.0 ≢ Stop.NoMemory → Learnt client.old.keys (L.past link.old)
         (L.past link.new) client.old.knowns client.new.knowns result.1) }
+    ensures broken { L.honest link.old (is_planned client.old.keys) → result.0 ≡ Stop.NoMemory
+        → (between : Past) × Learnt client.old.keys (L.past link.old) between
+        client.old.knowns client.new.knowns result.1
+        × IsBrokenOff client.old.keys between (L.past link.new) }
     ensures grown { L.honest link.old (is_planned client.old.keys)
         → Grown (L.past link.old) (L.past link.new) }
     ensures kept { Keeps client.old client.new }
@@ -123,6 +129,9 @@ fn turn<L: Link>(alloc: Global, client: &mut Client<'_>, link: &mut L) -> Result
         → L.honest link.new (is_planned client.old.keys)
         × IfOk result (λ asked. Learnt client.old.keys (L.past link.old) (L.past link.new)
         client.old.knowns client.new.knowns (one_if asked)) }
+    ensures broken { L.honest link.old (is_planned client.old.keys) → OnErr result (
+        (facts client.new.knowns ≡ facts client.old.knowns)
+        × IsBrokenOff client.old.keys (L.past link.old) (L.past link.new)) }
     ensures grown { L.honest link.old (is_planned client.old.keys)
         → Grown (L.past link.old) (L.past link.new) }
     ensures kept { Keeps client.old client.new }
@@ -158,6 +167,9 @@ fn put<L: Link>(
         → L.honest link.new (is_planned client.old.keys)
         × OnOk result (Learnt client.old.keys (L.past link.old) (L.past link.new)
         client.old.knowns client.new.knowns 1) }
+    ensures broken { L.honest link.old (is_planned client.old.keys) → OnErr result (
+        (facts client.new.knowns ≡ facts client.old.knowns)
+        × IsBrokenOff client.old.keys (L.past link.old) (L.past link.new)) }
     ensures grown { L.honest link.old (is_planned client.old.keys)
         → Grown (L.past link.old) (L.past link.new) }
     ensures kept { Keeps client.old client.new }

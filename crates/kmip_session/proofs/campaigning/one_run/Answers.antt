@@ -5,8 +5,8 @@ use Rattle.kmip_client.specs.Held.{TrueProgress}
 use Rattle.kmip_session.specs.Remembering.{start_knowns}
 use Rattle.kmip_session.proofs.CalmLemmas.{settled_run}
 use Rattle.kmip_session.proofs.CampaignLemmas.{closed, stood}
-use Rattle.kmip_session.proofs.KnownLemmas.{grown_itself}
-use Rattle.kmip_session.proofs.RememberLemmas.{always_err, always_ok, broken_off, ran_closed}
+use Rattle.kmip_session.proofs.KnownLemmas.{always_err, grown_itself}
+use Rattle.kmip_session.proofs.RememberLemmas.{always_ok, broken_off, ran_closed}
 use Rattle.kmip_session.proofs.campaigning.one_run.Goals as goal
 
 pub returns-in_err-finish-clause-stands : goal.returns-in_err-finish-clause-stands

@@ -3,7 +3,7 @@ use Rattle.std.proofs.Common.{◌≡◌, ◌∙◌, subst, arith}
 use Rattle.kmip_client.specs.Clients.{one_if}
 use Rattle.kmip_session.specs.Driving.{Learnt}
 use Rattle.kmip_session.proofs.CompleteLemmas.{completed, untouched_settles}
-use Rattle.kmip_session.proofs.DriveLemmas.{driven_none, driven_then, known_end}
+use Rattle.kmip_session.proofs.DriveLemmas.{broken_end, driven_none, driven_then, known_end}
 use Rattle.kmip_session.proofs.SettleLemmas.{Nearer, finished_stop, nearer_end, nearer_limit}
 use Rattle.kmip_session.proofs.GoodLemmas.{keeps_then}
 use Rattle.kmip_session.proofs.driving.drive.Goals as goal
@@ -123,3 +123,14 @@ returns-clause-finishes g c = λ start enough memory.
     nearer_limit past calm l client c.loop-made.client c.args.link.now c.loop-made.link c.args.limit c.plan-plan.ensures.lawful settling enough near in
     completed past calm l client c.loop-made.client c.args.link.now c.loop-made.link c.args.limit c.plan-plan.ensures.lawful start near.0
     c.loop-made.invariant.keeps.keys_stay end.0 end.1
+
+pub returns-in-Ok-false-clause-broken : goal.returns-in-Ok-false-clause-broken
+returns-in-Ok-false-clause-broken g c = λ honest is. absurd (c.stop_of.ensures.in_memory is)
+
+pub returns-in-Err-clause-broken : goal.returns-in-Err-clause-broken
+returns-in-Err-clause-broken g c = λ honest is.
+    broken_end g.L.Link.past g.L.Link.honest g.L.Link.calm c.args.client.now c.loop-made.client c.turn.new.client c.args.link.now c.loop-made.link c.turn.new.link
+    c.loop-made.made c.loop-made.invariant c.in-Err.ensures.broken honest
+
+pub returns-clause-broken : goal.returns-clause-broken
+returns-clause-broken g c = λ honest is. absurd (c.stop_of-2.ensures.in_memory is)

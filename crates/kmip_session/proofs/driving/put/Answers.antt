@@ -1,12 +1,13 @@
 -- Asked for good, handed over, and learnt.
-use Rattle.std.proofs.Common.{option_map, ap, subst, sym}
+use Rattle.std.proofs.Common.{◌≡◌, None, rules, option_map, ap, subst, sym}
 use Rattle.std.proofs.lemmas.Option.{slice_get_within}
 use Rattle.kmip_client.specs.Clients.{ClientState}
 use Rattle.kmip_client.specs.Justified.{JustifiedMessage}
-use Rattle.kmip_schedule.specs.Exchanges.{HandsOver}
+use Rattle.kmip_schedule.specs.Exchanges.{Exchanged, HandsOver, answer_in}
 use Rattle.kmip_schedule.specs.Past.{is_planned}
+use Rattle.kmip_session.specs.Losses.{or_loss}
 use Rattle.kmip_session.proofs.GoodLemmas.{good_left, if_handed, left, told}
-use Rattle.kmip_session.proofs.KnownLemmas.{exchanged_grown, handed_over, learnt_one, on_ok}
+use Rattle.kmip_session.proofs.KnownLemmas.{broken_asked, broken_handed, exchanged_grown, handed_over, learnt_one, lost_facts, on_err, on_ok}
 use Rattle.kmip_session.proofs.SettleLemmas.{nearer_one}
 use Rattle.kmip_session.proofs.driving.put.Goals as goal
 
@@ -71,3 +72,36 @@ pub returns-clause-grown : goal.returns-clause-grown
 returns-clause-grown g c = λ honest.
     let names = is_planned c.args.client.now.keys in
     exchanged_grown names (g.L.Link.past c.args.link.now) (g.L.Link.past c.exchange.new.self) c.as_slice.result.now _ (c.exchange.ensures.honest names honest).1
+
+pub returns-in_default-clause-broken : goal.returns-in_default-clause-broken
+returns-in_default-clause-broken g c = λ honest.
+    let past = g.L.Link.past in
+    let client = c.args.client.now in
+    let l = c.laws_below.ensures in
+    let names = is_planned client.keys in
+    let answered = answer_in (λ v. v.items) c.exchange.result in
+    let none : or_loss answered ≡ None = search rules in
+    let step =
+    subst (λ bytes. Exchanged names (past c.args.link.now) bytes answered (past c.exchange.new.self)) c.as_slice.ensures
+    (c.exchange.ensures.honest names honest).1 in (
+      lost_facts l.lost client c.lost.new.self c.args.question.now.key c.lost.ensures.lost,
+      broken_asked l.found names client (past c.args.link.now) (past c.exchange.new.self) c.args.question.now answered c.plan-plan.ensures.lawful c.requires none
+          step,
+    )
+
+pub returns-clause-broken : goal.returns-clause-broken
+returns-clause-broken g c = λ honest.
+    let past = g.L.Link.past in
+    let client = c.args.client.now in
+    let l = c.laws_below.ensures in
+    let names = is_planned client.keys in
+    let hands =
+    subst (λ bytes. HandsOver names (past c.args.link.now) bytes (option_map (λ v. v.items) c.in-Ok.answer) (past c.exchange.new.self)) c.as_slice.ensures
+    (handed_over names (past c.args.link.now) (past c.exchange.new.self) c.as_slice.result.now _ _ (sym c.in-Ok.ensures)
+    (c.exchange.ensures.honest names honest).1) in
+    on_err c.learn.result
+    (λ lost. (
+      lost_facts l.lost client c.learn.new.client c.args.question.now.key lost,
+      broken_handed l.found names client (past c.args.link.now) (past c.exchange.new.self) c.args.question.now _ c.plan-plan.ensures.lawful c.requires hands,
+    ))
+    c.learn.ensures.lost

@@ -1,9 +1,11 @@
 -- Asking changes whose turn it is, and nothing else.
-use Rattle.std.proofs.Common.{subst, sym}
+use Rattle.std.proofs.Common.{◌≡◌, ap, subst, sym}
 use Rattle.kmip_client.specs.Clients.{ClientState}
-use Rattle.kmip_session.specs.Driving.{Keeps, Learnt, WentOn}
+use Rattle.kmip_client.specs.Known.{facts}
+use Rattle.kmip_schedule.specs.Past.{is_planned}
+use Rattle.kmip_session.specs.Driving.{IsBrokenOff, Keeps, Learnt, WentOn}
 use Rattle.kmip_session.proofs.GoodLemmas.{good_asked, keeps_asked, keeps_itself}
-use Rattle.kmip_session.proofs.KnownLemmas.{grown_itself, learnt_nothing}
+use Rattle.kmip_session.proofs.KnownLemmas.{always_err, broken_nowhere, grown_itself, learnt_nothing}
 use Rattle.kmip_session.proofs.driving.turn.Goals as goal
 
 pub returns-in_err-question-clause-kept : goal.returns-in_err-question-clause-kept
@@ -41,3 +43,19 @@ returns-in_err-question-clause-grown g c = λ honest. grown_itself (g.L.Link.pas
 
 pub returns-in_default-clause-grown : goal.returns-in_default-clause-grown
 returns-in_default-clause-grown g c = λ honest. grown_itself (g.L.Link.past c.args.link.now)
+
+pub returns-in_err-question-clause-broken : goal.returns-in_err-question-clause-broken
+returns-in_err-question-clause-broken g c = λ honest.
+    always_err c.from_residual.result
+    (
+      ap (λ (s : ClientState). facts s.knowns) c.in_err-question.ensures.same,
+      broken_nowhere c.args.client.now.keys (g.L.Link.past c.args.link.now),
+    )
+
+pub returns-in_err-put-clause-broken : goal.returns-in_err-put-clause-broken
+returns-in_err-put-clause-broken g c = λ honest.
+    let past = g.L.Link.past in
+    let asked = c.in_ok-question.ensures.turn in
+    always_err c.from_residual-in_err-put.result
+    (subst (λ (s : ClientState). (facts c.put.new.client.knowns ≡ facts s.knowns) × IsBrokenOff s.keys (past c.args.link.now) (past c.put.new.link)) asked
+    (c.in_err-put.ensures.broken (subst (λ (s : ClientState). g.L.Link.honest c.args.link.now (is_planned s.keys)) (sym asked) honest)))
