@@ -1,0 +1,116 @@
+//! What stands in the file.
+
+use crate::failing::FailingDisk;
+use kmip_progress_file::{LockFault, ProgressFile};
+use std::cell::Cell;
+use std::fs::{self, Files};
+use std::io::{self, ErrorKind};
+use std::test::Fail;
+
+const BEFORE: &str = "kmip-progress 1\nk1 active 1 31\nend 1\n";
+
+const AFTER: &str = "kmip-progress 1\nk1 active 2 31\nend 1\n";
+
+/// A folder for one test, with nothing in it.
+fn folder(rt: &HostRuntime, name: &str) -> io::Result<String> {
+    let path = format!(in rt.alloc(); "/tmp/kmip_conformance_files_{name}")?;
+    match fs::remove_dir_all(rt, path.as_str()) {
+        Err(error) if error.kind() != ErrorKind::NotFound => return Err(error),
+        _ => {}
+    }
+    fs::create_dir(rt, path.as_str())?;
+    Ok(path)
+}
+
+/// Writes a text while the disk fails after so many steps; whether it could be written.
+fn writes(rt: &HostRuntime, path: &str, steps: usize, text: &str) -> io::Result<bool> {
+    let left = Cell::new(steps);
+    let disk = FailingDisk { rt, left: &left };
+    let file = ProgressFile::at(&disk, path)?;
+    Ok(file.write(text.as_bytes()).is_ok())
+}
+
+/// The text in a file, if there is one.
+fn text_in(rt: &HostRuntime, path: &str) -> io::Result<Option<String>> {
+    ProgressFile::at(rt, path)?.read()
+}
+
+#[test]
+fn is_whole_wherever_the_disk_fails(rt: HostRuntime) -> Result<(), Fail> {
+    let folder = folder(&rt, "whole")?;
+    let path = format!(in rt.alloc(); "{folder}/progress")?;
+    for steps in 0..20 {
+        ProgressFile::at(&rt, path.as_str())?.write(BEFORE.as_bytes())?;
+        let is_written = writes(&rt, path.as_str(), steps, AFTER)?;
+        let text = text_in(&rt, path.as_str())?.unwrap_or(String::new(rt.alloc()));
+        if is_written {
+            assert_eq!(rt; text.as_str(), AFTER, "after {steps} steps");
+            assert!(rt; steps > 4, "written after {steps} steps");
+        } else {
+            assert!(rt;
+                text.as_str() == BEFORE || text.as_str() == AFTER,
+                "after {steps} steps"
+            );
+            assert!(rt; steps < 10, "not written after {steps} steps");
+        }
+    }
+    Ok(())
+}
+
+#[test]
+fn is_absent_or_whole_at_first(rt: HostRuntime) -> Result<(), Fail> {
+    let folder = folder(&rt, "first")?;
+    for steps in 0..10 {
+        let path = format!(in rt.alloc(); "{folder}/progress{steps}")?;
+        assert_eq!(rt; text_in(&rt, path.as_str())?, None);
+        let is_written = writes(&rt, path.as_str(), steps, AFTER)?;
+        match text_in(&rt, path.as_str())? {
+            Some(text) => assert_eq!(rt; text.as_str(), AFTER, "after {steps} steps"),
+            None => assert!(rt; !is_written, "after {steps} steps"),
+        }
+    }
+    Ok(())
+}
+
+#[test]
+fn a_link_stays_and_its_file_gets_the_text(rt: HostRuntime) -> Result<(), Fail> {
+    let folder = folder(&rt, "link")?;
+    let path = format!(in rt.alloc(); "{folder}/progress")?;
+    let link = format!(in rt.alloc(); "{folder}/link")?;
+    ProgressFile::at(&rt, path.as_str())?.write(BEFORE.as_bytes())?;
+    rt.symlink(path.as_str(), link.as_str())?;
+    ProgressFile::at(&rt, link.as_str())?.write(AFTER.as_bytes())?;
+    assert!(rt; rt.symlink_metadata(link.as_str())?.is_symlink());
+    let text = text_in(&rt, path.as_str())?.unwrap_or(String::new(rt.alloc()));
+    assert_eq!(rt; text.as_str(), AFTER);
+    Ok(())
+}
+
+#[test]
+fn is_of_one_run_at_a_time(rt: HostRuntime) -> Result<(), Fail> {
+    let folder = folder(&rt, "lock")?;
+    let path = format!(in rt.alloc(); "{folder}/progress")?;
+    let file = ProgressFile::at(&rt, path.as_str())?;
+    let Ok(lock) = file.lock() else {
+        assert!(rt; false, "the first run has no lock");
+        return Ok(());
+    };
+    file.write(BEFORE.as_bytes())?;
+    assert!(rt; matches!(file.lock(), Err(LockFault::InUse)));
+    drop(lock);
+    assert!(rt; file.lock().is_ok());
+    let missing = format!(in rt.alloc(); "{folder}/missing/progress")?;
+    let missing = ProgressFile::at(&rt, missing.as_str())?;
+    assert!(rt; matches!(missing.lock(), Err(LockFault::Io(_))));
+    Ok(())
+}
+
+#[test]
+fn is_no_text(rt: HostRuntime) -> Result<(), Fail> {
+    let folder = folder(&rt, "no_text")?;
+    let path = format!(in rt.alloc(); "{folder}/progress")?;
+    let file = ProgressFile::at(&rt, path.as_str())?;
+    file.write(&[0xff, 0xfe])?;
+    assert!(rt; file.read().is_err());
+    Ok(())
+}

@@ -1,0 +1,108 @@
+//! The file of a progress.
+
+use crate::lock::{LockFault, ProgressLock};
+use std::alloc::{AllocError, Global};
+use std::fs::{self, File, Files, OpenFile, OpenOptions};
+use std::io::{self, Error, ErrorKind, Read, Write};
+use std::os::unix::fs::OpenOptionsExt;
+use std::path::Path;
+
+/// The file's owner may read and write it, and nobody else.
+pub(crate) const OWNER_ALONE: u32 = 0o600;
+
+/// No more is read of a progress: one of a thousand keys takes less than a hundredth.
+const MOST_BYTES: u64 = 16_777_216;
+
+/// The file that a run keeps its progress in.
+///
+/// At any instant, also where the program is killed or the disk is full, it is absent or whole: each
+/// text is written to a file beside it and takes its place once it is on the disk.
+#[derive(Drop)]
+pub struct ProgressFile<'a, R> {
+    rt: &'a R,
+    path: String,
+}
+
+impl<'a, R: Files + AllocGlobal> ProgressFile<'a, R> {
+    /// The file at this path; where a symbolic link stands there, the file that it leads to.
+    ///
+    /// # Errors
+    ///
+    /// Where there is no memory, or the link leads in a circle.
+    pub fn at(rt: &'a R, path: &str) -> io::Result<Self> {
+        let path = match fs::canonicalize(rt, path) {
+            Ok(path) => String::from_str(rt.alloc(), path.as_str())?,
+            Err(error) if error.kind() == ErrorKind::NotFound => {
+                String::from_str(rt.alloc(), path)?
+            }
+            Err(error) => return Err(error),
+        };
+        Ok(ProgressFile { rt, path })
+    }
+
+    /// The text of the file; `None` where there is no file.
+    ///
+    /// # Errors
+    ///
+    /// Where it cannot be read, is longer than 16,777,216 bytes, or is no UTF-8.
+    pub fn read(&self) -> io::Result<Option<String>> {
+        let file = match fs::open(self.rt, self.path.as_str()) {
+            Ok(file) => file,
+            Err(error) if error.kind() == ErrorKind::NotFound => return Ok(None),
+            Err(error) => return Err(error),
+        };
+        let text = io::read_to_string(self.rt.alloc(), file.take(MOST_BYTES + 1))?;
+        if text.len() as u64 > MOST_BYTES {
+            return Err(Error::from(ErrorKind::InvalidData));
+        }
+        Ok(Some(text))
+    }
+
+    /// Gives the file this text, and returns once it is on the disk.
+    ///
+    /// # Errors
+    ///
+    /// Where it cannot be written: the file is as it was before, or, where only the folder could not
+    /// be brought to the disk, has the new text.
+    pub fn write(&self, text: &[u8]) -> io::Result<()> {
+        let beside = format!(in self.rt.alloc(); "{}.new", self.path)?;
+        self.write_beside(beside.as_str(), text)?;
+        fs::rename(self.rt, beside.as_str(), self.path.as_str())?;
+        fs::open(self.rt, folder_of(self.path.as_str()))?.sync_all()
+    }
+
+    /// Writes the text to a new file at this path, and brings it to the disk.
+    fn write_beside(&self, path: &str, text: &[u8]) -> io::Result<()> {
+        match fs::remove_file(self.rt, path) {
+            Err(error) if error.kind() != ErrorKind::NotFound => return Err(error),
+            _ => {}
+        }
+        let mut options = OpenOptions::new();
+        options.write(true).create_new(true).mode(OWNER_ALONE);
+        let mut file = options.open(self.rt, path)?;
+        file.write_all(text)?;
+        file.sync_all()
+    }
+}
+
+impl<'a, R: Files<File = File> + AllocGlobal> ProgressFile<'a, R> {
+    /// Takes the file for one run, as long as the lock is held.
+    ///
+    /// # Errors
+    ///
+    /// As of `ProgressLock::take`.
+    pub fn lock(&self) -> Result<ProgressLock, LockFault> {
+        match format!(in self.rt.alloc(); "{}.lock", self.path) {
+            Ok(path) => ProgressLock::take(self.rt, path.as_str()),
+            Err(AllocError) => Err(LockFault::Io(Error::from(ErrorKind::OutOfMemory))),
+        }
+    }
+}
+
+/// The folder that the file at this path stands in.
+fn folder_of(path: &str) -> Path<'_> {
+    match Path::new(path).parent() {
+        Some(folder) if !folder.as_os_str().is_empty() => folder,
+        _ => Path::new("."),
+    }
+}
