@@ -1,4 +1,11 @@
 //! The link in memory as a link.
+ghost use Rattle.std.specs.Prelude.{◌≡◌, ◌≢◌, [], Err, IfOk, OnOk, option_map};
+ghost use Rattle.kmip_schedule.specs.Calm.{CalmlyEnded, CalmlyExchanged};
+ghost use Rattle.kmip_schedule.specs.Exchanges.{Exchanged, answer_in};
+ghost use Rattle.kmip_schedule.specs.Moves.{Delivered};
+ghost use Rattle.kmip_schedule.specs.Past.{Names};
+ghost use Rattle.kmip_scripted.specs.Scenes.{past_in};
+ghost use Rattle.kmip_scripted.specs.Words.{after_run, exchange};
 
 use crate::scripted::Scripted;
 use kmip_schedule::{Link, LinkFault};
@@ -19,14 +26,31 @@ impl<S: Records> Link for Scripted<S> {
 
     ghost failures = { λ link. 0 };
 
-    fn exchange(&mut self, alloc: Global, request: &[u8]) -> Result<Option<Vec<u8>>, LinkFault> {
+    fn exchange(&mut self, alloc: Global, request: &[u8]) -> Result<Option<Vec<u8>>, LinkFault>
+        ensures answer { IfOk result (λ answer. option_map (λ v. v.items) answer
+            ≡ (exchange request.now self.old).0) }
+        ensures exact { OnOk result (self.new ≡ (exchange request.now self.old).1) }
+        ensures honest { (names : Names) → Exchanged names (past_in self.old) request.now
+            (answer_in (λ v. v.items) result) (past_in self.new) }
+        ensures calm { (names : Names) → self.old.words ≡ [] → (self.new.words ≡ [])
+            × CalmlyExchanged names (past_in self.old) request.now
+            (answer_in (λ v. v.items) result) (past_in self.new) }
+        ensures never_io { result ≢ Err LinkFault.Io }
+    {
         match self.follow(alloc, request) {
             Ok(answer) => Ok(answer),
             Err(NoMemory) => Err(LinkFault::NoMemory),
         }
     }
 
-    fn end_run(&mut self, alloc: Global) -> Result<(), LinkFault> {
+    fn end_run(&mut self, alloc: Global) -> Result<(), LinkFault>
+        ensures exact { OnOk result (self.new ≡ after_run self.old) }
+        ensures honest { (names : Names)
+            → Delivered names (past_in self.old) (past_in self.new) }
+        ensures calm { (names : Names) → self.old.words ≡ [] → (self.new.words ≡ [])
+            × CalmlyEnded names result (past_in self.old) (past_in self.new) }
+        ensures never_io { result ≢ Err LinkFault.Io }
+    {
         match self.finish_run(alloc) {
             Ok(()) => Ok(()),
             Err(NoMemory) => Err(LinkFault::NoMemory),

@@ -1,0 +1,33 @@
+//! What a run begins with.
+ghost use Rattle.std.specs.Prelude.{◌≡◌, IfOk, option_map};
+ghost use Rattle.kmip_client.specs.Clients.{ClientState};
+ghost use Rattle.kmip_progress.specs.Reading.{GivesProgress};
+ghost use Rattle.kmip_run.specs.RunText.{begin_knowns};
+
+use kmip_client::Client;
+use kmip_plan::Plan;
+use kmip_progress::{Progress, ProgressFault};
+use std::alloc::Global;
+
+/// A client that knows what the text of a saved progress says, or nothing where there is none.
+///
+/// # Errors
+/// Why the text is no progress of the plan; want of memory otherwise.
+pub fn begin<'p>(
+    alloc: Global,
+    plan: &'p Plan,
+    saved: Option<&str>,
+) -> Result<Client<'p>, ProgressFault>
+    ensures exact { GivesProgress (λ (client : ClientState). client.knowns) result
+        (begin_knowns plan.now (option_map (λ text. text.now) saved.entry)) }
+    ensures keys { IfOk result (λ client. client.keys ≡ plan.now) }
+{
+    let begun = match saved {
+        None => Client::fresh(alloc, plan),
+        Some(text) => {
+            let progress = Progress::read_text(alloc, plan, text)?;
+            Client::resume(alloc, plan, &progress)
+        }
+    };
+    begun.map_err(|_want| ProgressFault::NoMemory)
+}

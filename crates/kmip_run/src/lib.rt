@@ -1,0 +1,7 @@
+//! The command `run`: a plan is carried out over a link, and what is known is saved after each exchange.
+#![tactic(auto)]
+
+mod beginning;
+mod telling;
+
+pub use beginning::begin;
