@@ -258,3 +258,55 @@ module _ {L : Type 0} (past : L → Past) (honest calm : L → Names → Type 0)
                     (same_unsaved closed result ended same stop fault) memory (λ done. (whole done).0) before.1,
               );
         }
+
+-- ---- how it ends
+
+pub stands_last : (c : ClientState) → {V E : Type 0} (closed : Result V E) (result last : Result Stop SaveFault) → OnOk closed (last ≡ result)
+    → OnErr closed (OnOk result (last ≡ Ok stops.NoMemory)) → OnErr result (last ≡ result) → IfOk result (λ stop. Stands stop c.keys c.knowns)
+    → IfOk last (λ stop. Stands stop c.keys c.knowns)
+stands_last c (Ok v) result last same stop fault stands = subst (λ r. IfOk r (λ s. Stands s c.keys c.knowns)) (sym same) stands
+stands_last c (Err e) (Ok s) last same stop fault stands = subst (λ r. IfOk r (λ s. Stands s c.keys c.knowns)) (sym stop) tt
+stands_last c (Err e) (Err f) last same stop fault stands = subst (λ r. IfOk r (λ s. Stands s c.keys c.knowns)) (sym fault) tt
+
+pub limit_last : {V E : Type 0} (closed : Result V E) (result last : Result Stop SaveFault) → OnOk closed (last ≡ result) → OnErr closed (OnOk result (last ≡ Ok stops.NoMemory))
+    → OnErr result (last ≡ result) → last ≡ Ok stops.Limit → result ≡ Ok stops.Limit
+limit_last (Ok v) result last same stop fault is = sym same ∙ is
+limit_last (Err e) (Ok s) last same stop fault is = let both = stop_is stops.NoMemory stops.Limit (sym stop ∙ is) in absurd cc
+limit_last (Err e) (Err f) last same stop fault is = sym fault ∙ is
+
+module _ {L : Type 0} (past : L → Past) (honest calm : L → Names → Type 0) where
+  -- over a calm link, with as many exchanges as the plan is bounded by, all keys are finished
+  settled_stop : CarryingLaws → (a b : ClientState) (x y : L) (stop : Stop) (made limit : ℕ) → IsLawful a.keys → IsSettling past calm a x → IsSettling past calm b y
+      → made + need b (past y) ≡ need a (past x) → stop ≢ stops.NoMemory → Stands stop b.keys b.knowns → (stop ≡ stops.Limit → made ≡ limit) → bound a.keys ≤ limit
+      → (stop ≡ stops.AllFinished) × (made ≡ need a (past x)) × (made ≤ bound a.keys)
+  settled_stop l a b x y stops.AllFinished made limit lawful first last sum memory stands at enough =
+      let held = last.ready.held in
+      let few = l.bounded (past x).room a.keys (past x).objects a.knowns lawful first.ready in
+      let nothing = l.needed b.keys (past y).objects b.knowns held (finished_settled (past y).objects b.keys b.knowns held stands) in
+      (refl, omega (arith, sum, nothing), omega (arith, sum, nothing, few))
+  settled_stop l a b x y stops.Limit made limit lawful first last sum memory stands at enough =
+      let few = l.bounded (past x).room a.keys (past x).objects a.knowns lawful first.ready in
+      let all = at refl in
+      let nothing : need b (past y) ≡ 0 = omega (arith, sum, few, enough, all) in
+      let both : Working ≡ Finished = sym stands.2 ∙ l.needless b.keys (past y).objects b.knowns last.ready.held nothing stands.0 stands.1 in
+      absurd cc
+  settled_stop l a b x y stops.Conflict made limit lawful first last sum memory stands at enough =
+      let clash = stands.1 in
+      absurd (l.no_conflict (past y).objects b.keys b.knowns last.ready.held clash.0 clash.1 clash.3)
+  settled_stop l a b x y stops.NoMemory made limit lawful first last sum memory stands at enough = absurd (memory refl)
+
+  pub settled_end : CarryingLaws → (a b : ClientState) (x y : L) (result : Result Stop SaveFault) (made limit : ℕ) → IsLawful a.keys
+      → Went past honest calm a b x y result made → IfOk result (λ stop. Stands stop b.keys b.knowns) → (result ≡ Ok stops.Limit → made ≡ limit)
+      → IsSettling past calm a x → bound a.keys ≤ limit → IsWhole result → (result ≡ Ok stops.AllFinished) × (made ≡ need a (past x)) × (made ≤ bound a.keys)
+  settled_end l a b x y (Err fault) made limit lawful went stands at settling enough whole = absurd whole
+  settled_end l a b x y (Ok stop) made limit lawful went stands at settling enough whole =
+      let near = went.near settling whole in
+      let end = settled_stop l a b x y stop made limit lawful settling near.0 near.1 whole stands (λ is. at (ap Ok is)) enough in
+      (ap Ok end.0, end.1, end.2)
+
+  -- what is true is in no conflict
+  pub good_end : CarryingLaws → (a b : ClientState) (x y : L) (result : Result Stop SaveFault) (made : ℕ) → Went past honest calm a b x y result made
+      → IfOk result (λ stop. Stands stop b.keys b.knowns) → IsGood past honest a x → result ≢ Ok stops.Conflict
+  good_end l a b x y result made went stands good = λ is.
+      let clash = (subst (λ r. IfOk r (λ stop. Stands stop b.keys b.knowns)) is stands).1 in
+      l.no_conflict (past y).objects b.keys b.knowns (went.good good).held clash.0 clash.1 clash.3

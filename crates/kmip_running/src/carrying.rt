@@ -72,9 +72,7 @@ pub fn carry_out<L: Link, K: Keeper>(
 {
     laws_below();
     let _plan = client.plan();
-    let (carried, made) = exchange_in_turn(alloc, client, link, keeper, limit);
-    let closed = close(alloc, link);
-    (after_close(carried, closed), made)
+    exchange_to_the_end(alloc, client, link, keeper, limit)
 }
 
 /// The laws of the crates below.
@@ -91,6 +89,30 @@ fn laws_below()
     the_image_is_kept();
     needs_are_bounded();
     who_needs_nothing_is_finished();
+}
+
+/// Makes exchanges and saves what is known after each, and ends the run over the link.
+///
+/// # Errors
+/// Why the text of the last exchange was not saved.
+fn exchange_to_the_end<L: Link, K: Keeper>(
+    alloc: Global,
+    client: &mut Client<'_>,
+    link: &mut L,
+    keeper: &mut K,
+    limit: usize,
+) -> (Result<Stop, SaveFault>, usize)
+    ensures carried { Carried L.past L.honest L.calm K.keeps K.saved client.old client.new
+        link.old link.new keeper.old keeper.new result.0 result.1 }
+    ensures stands { IfOk result.0 (λ stop. Stands stop client.new.keys client.new.knowns) }
+    ensures limit { result.0 ≡ Ok Stop.Limit → result.1 ≡ limit }
+    ensures within { result.1 ≤ limit }
+{
+    laws_below();
+    let _plan = client.plan();
+    let (carried, made) = exchange_in_turn(alloc, client, link, keeper, limit);
+    let closed = close(alloc, link);
+    (after_close(carried, closed), made)
 }
 
 /// Makes exchanges and saves what is known after each, until no key is worked on any more or
