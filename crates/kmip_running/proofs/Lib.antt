@@ -1,0 +1,3 @@
+pub mod WentLemmas
+pub mod SavedLemmas
+pub mod CarryLemmas

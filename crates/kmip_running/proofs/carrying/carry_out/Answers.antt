@@ -1,0 +1,15 @@
+-- All of it, clause by clause.
+use Rattle.kmip_running.proofs.CarryLemmas.{good_end, settled_end}
+use Rattle.kmip_running.proofs.carrying.carry_out.Goals as goal
+
+pub returns-clause-settles : goal.returns-clause-settles
+returns-clause-settles g c =
+    let done = c.exchange_to_the_end in
+    settled_end g.L.Link.past g.L.Link.honest g.L.Link.calm c.laws_below.ensures c.args.client.now done.new.client c.args.link.now done.new.link done.result.0
+    done.result.1 c.args.limit c.plan-plan.ensures.lawful done.ensures.carried.went done.ensures.stands done.ensures.limit
+
+pub returns-clause-no_conflict : goal.returns-clause-no_conflict
+returns-clause-no_conflict g c =
+    let done = c.exchange_to_the_end in
+    good_end g.L.Link.past g.L.Link.honest g.L.Link.calm c.laws_below.ensures c.args.client.now done.new.client c.args.link.now done.new.link done.result.0
+    done.result.1 done.ensures.carried.went done.ensures.stands

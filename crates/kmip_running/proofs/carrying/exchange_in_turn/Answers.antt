@@ -1,0 +1,36 @@
+-- Exchange by exchange.
+use Rattle.std.proofs.Common.{◌≡◌, Ok, rules, arith}
+use Rattle.kmip_session.specs.declared.stop.Stop.TheVariants as stops
+use Rattle.kmip_running.proofs.CarryLemmas.{carried_none, carried_then, carrying_more, carrying_none, drove}
+use Rattle.kmip_running.proofs.carrying.exchange_in_turn.Goals as goal
+
+pub returns-then-limit-eq0-clause-carried : goal.returns-then-limit-eq0-clause-carried
+returns-then-limit-eq0-clause-carried g c =
+    let past = g.L.Link.past in
+    let honest = g.L.Link.honest in
+    let calm = g.L.Link.calm in
+    let e = c.drive-stop.ensures in
+    let none : c.drive-stop.result.1 ≡ 0 = omega (arith, e.within) in
+    carried_none past honest calm g.K.Keeper.keeps g.K.Keeper.saved c.args.client.now c.drive-stop.new.client c.args.link.now c.drive-stop.new.link
+    c.args.keeper.now c.drive-stop.result none
+    (drove past honest calm c.args.client.now c.drive-stop.new.client c.args.link.now c.drive-stop.new.link c.drive-stop.result e.good e.goes e.known e.grown e.kept
+    e.calm)
+
+pub loop-made-init : goal.loop-made-init
+loop-made-init g c =
+    carrying_none g.L.Link.past g.L.Link.honest g.L.Link.calm g.K.Keeper.keeps g.K.Keeper.saved c.laws_below.ensures c.args.client.now c.args.link.now c.args.keeper.now
+
+pub returns-then-not-is_at_limit-clause-carried : goal.returns-then-not-is_at_limit-clause-carried
+returns-then-not-is_at_limit-clause-carried g c =
+    let step = c.exchange_once-carried in
+    carried_then g.L.Link.past g.L.Link.honest g.L.Link.calm g.K.Keeper.keeps g.K.Keeper.saved c.laws_below.ensures c.args.client.now c.loop-made.client
+    step.new.client c.args.link.now c.loop-made.link step.new.link c.args.keeper.now c.loop-made.keeper step.new.keeper step.result.0 c.loop-made.made step.result.1
+    c.loop-made.invariant.carried step.ensures.carried
+
+pub loop-made-preserved : goal.loop-made-preserved
+loop-made-preserved g c =
+    let step = c.exchange_once-carried in
+    let limit : step.result.0 ≡ Ok stops.Limit = search rules in
+    carrying_more g.L.Link.past g.L.Link.honest g.L.Link.calm g.K.Keeper.keeps g.K.Keeper.saved c.laws_below.ensures c.args.client.now c.loop-made.client
+    step.new.client c.args.link.now c.loop-made.link step.new.link c.args.keeper.now c.loop-made.keeper step.new.keeper step.result.0 c.loop-made.made step.result.1
+    c.loop-made.invariant step.ensures.carried limit (step.ensures.limit limit) step.ensures.stands

@@ -1,0 +1,53 @@
+-- One exchange, saved or not.
+use Rattle.std.proofs.Common.{◌≡◌, rules, arith, refl}
+use Rattle.kmip_running.proofs.CarryLemmas.{carried_none, carried_not, carried_one, carried_without, drove}
+use Rattle.kmip_running.proofs.carrying.exchange_once.Goals as goal
+
+pub returns-then-is_no_memory-clause-carried : goal.returns-then-is_no_memory-clause-carried
+returns-then-is_no_memory-clause-carried g c =
+    let past = g.L.Link.past in
+    let honest = g.L.Link.honest in
+    let calm = g.L.Link.calm in
+    let e = c.drive-stop.ensures in
+    carried_without past honest calm g.K.Keeper.keeps g.K.Keeper.saved c.args.client.now c.drive-stop.new.client c.args.link.now c.drive-stop.new.link
+    c.args.keeper.now c.drive-stop.result
+    (drove past honest calm c.args.client.now c.drive-stop.new.client c.args.link.now c.drive-stop.new.link c.drive-stop.result e.good e.goes e.known e.grown e.kept
+    e.calm)
+
+pub returns-then-exchanges-eq0-clause-carried : goal.returns-then-exchanges-eq0-clause-carried
+returns-then-exchanges-eq0-clause-carried g c =
+    let past = g.L.Link.past in
+    let honest = g.L.Link.honest in
+    let calm = g.L.Link.calm in
+    let e = c.drive-stop.ensures in
+    let none : c.drive-stop.result.1 ≡ 0 = search rules in
+    carried_none past honest calm g.K.Keeper.keeps g.K.Keeper.saved c.args.client.now c.drive-stop.new.client c.args.link.now c.drive-stop.new.link
+    c.args.keeper.now c.drive-stop.result none
+    (drove past honest calm c.args.client.now c.drive-stop.new.client c.args.link.now c.drive-stop.new.link c.drive-stop.result e.good e.goes e.known e.grown e.kept
+    e.calm)
+
+pub returns-in-Ok-clause-carried : goal.returns-in-Ok-clause-carried
+returns-in-Ok-clause-carried g c =
+    let past = g.L.Link.past in
+    let honest = g.L.Link.honest in
+    let calm = g.L.Link.calm in
+    let e = c.drive-stop.ensures in
+    let one : c.drive-stop.result.1 ≡ 1 = omega (arith, e.within, c.if-exchanges-eq0.false) in
+    carried_one past honest calm g.K.Keeper.keeps g.K.Keeper.saved c.args.client.now c.drive-stop.new.client c.args.link.now c.drive-stop.new.link
+    c.args.keeper.now c.save_progress.new.keeper c.drive-stop.result one (c.if-is_no_memory.ensures refl)
+    (λ keeping. let so = c.in-Ok.ensures keeping in (so.0, so.1))
+    (drove past honest calm c.args.client.now c.drive-stop.new.client c.args.link.now c.drive-stop.new.link c.drive-stop.result e.good e.goes e.known e.grown e.kept
+    e.calm)
+
+pub returns-in-Err-clause-carried : goal.returns-in-Err-clause-carried
+returns-in-Err-clause-carried g c =
+    let past = g.L.Link.past in
+    let honest = g.L.Link.honest in
+    let calm = g.L.Link.calm in
+    let e = c.drive-stop.ensures in
+    let one : c.drive-stop.result.1 ≡ 1 = omega (arith, e.within, c.if-exchanges-eq0.false) in
+    carried_not past honest calm g.K.Keeper.keeps g.K.Keeper.saved c.args.client.now c.drive-stop.new.client c.args.link.now c.drive-stop.new.link
+    c.args.keeper.now c.save_progress.new.keeper c.drive-stop.result c.in-Err.fault one (c.if-is_no_memory.ensures refl)
+    (λ keeping. let so = c.in-Err.ensures keeping in (so.0, so.2))
+    (drove past honest calm c.args.client.now c.drive-stop.new.client c.args.link.now c.drive-stop.new.link c.drive-stop.result e.good e.goes e.known e.grown e.kept
+    e.calm)

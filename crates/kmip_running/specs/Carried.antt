@@ -1,0 +1,47 @@
+-- Private: what the parts of carrying out a plan keep.
+-- Source: own.
+use Rattle.std.specs.Prelude.{◌≡◌, ◌+◌, ℕ, List, Result}
+use Rattle.kmip_client.specs.Clients.{ClientState}
+use Rattle.kmip_client.specs.Laws.{OnwardToItself, OnwardTwice, HeldForGood, HeldIsNoConflict, HearingIsBlind}
+use Rattle.kmip_schedule.specs.Laws.{DeliveriesKeepSound, DeliveriesKeepTheImage, DeliveriesKeepTheRequests, ObjectsGoOnward}
+use Rattle.kmip_schedule.specs.Past.{Past, Names, is_planned}
+use Rattle.kmip_settling.specs.Laws.{NeedsAreBounded, WhoIsSettledNeedsNothing, WhoNeedsNothingIsFinished}
+use Rattle.kmip_session.specs.Driving.{Grown, IsGood, IsSettling, Keeps, Learnt, WentOn, need}
+use Rattle.kmip_session.specs.declared.stop.Stop.{Stop}
+use Rattle.kmip_running.specs.Saved.{AreSaved, IsInMemory, IsWhole, Moment}
+use Rattle.kmip_running.specs.declared.keeper.SaveFault.{SaveFault}
+
+-- the laws of the crates below
+pub record CarryingLaws : Type 0 where
+  pub itself : OnwardToItself
+  pub twice : OnwardTwice
+  pub known_for_good : HeldForGood
+  pub no_conflict : HeldIsNoConflict
+  pub blind : HearingIsBlind
+  pub deliveries : DeliveriesKeepSound
+  pub onward : ObjectsGoOnward
+  pub images : DeliveriesKeepTheImage
+  pub requests : DeliveriesKeepTheRequests
+  pub bounded : NeedsAreBounded
+  pub needless : WhoNeedsNothingIsFinished
+  pub needed : WhoIsSettledNeedsNothing
+
+-- what is known by a client, and what has happened over its link
+abbrev pub moment : {L : Type 0} → (L → Past) → ClientState → L → Moment
+moment past c link = record { knowns = c.knowns; past = past link }
+
+-- what so many exchanges keep of what is good, and what they teach
+pub record Went {L : Type 0} (past : L → Past) (honest calm : L → Names → Type 0) (a b : ClientState) (x y : L) (result : Result Stop SaveFault) (made : ℕ) : Type 0 where
+  pub good : IsGood past honest a x → IsGood past honest b y
+  pub goes : IsGood past honest a x → WentOn a.keys (past x) (past y)
+  pub known : honest x (is_planned a.keys)
+      → honest y (is_planned a.keys) × (IsInMemory result → Learnt a.keys (past x) (past y) a.knowns b.knowns made)
+  pub grown : honest x (is_planned a.keys) → Grown (past x) (past y)
+  pub keeps : Keeps a b
+  pub near : IsSettling past calm a x → IsWhole result → IsSettling past calm b y × (made + need b (past y) ≡ need a (past x))
+
+-- so many exchanges were made, and what was known after each was saved
+pub record Carried {L K : Type 0} (past : L → Past) (honest calm : L → Names → Type 0) (keeps : K → Type 0) (saved : K → List (List ℕ)) (a b : ClientState) (x y : L) (i j : K) (result : Result Stop SaveFault) (made : ℕ) : Type 0 where
+  pub went : Went past honest calm a b x y result made
+  pub kept : keeps i
+      → keeps j × AreSaved a.keys (honest x (is_planned a.keys)) (moment past a x) (moment past b y) result made (saved i) (saved j)

@@ -1,0 +1,65 @@
+-- What is saved while a plan is carried out: after each exchange a text of what is then known.
+-- Source: own.
+use Rattle.std.specs.Prelude.{◌≡◌, ◌≢◌, ◌+◌, ℕ, ⊤, List, [], ◌∷◌, ◌++◌, length, map, Result, Ok, Err}
+use Rattle.std.specs.List.{AllZip}
+use Rattle.kmip_plan.specs.declared.key.Key.{Key}
+use Rattle.kmip_progress.specs.Texts.{progress_text}
+use Rattle.kmip_client.specs.Saving.{known_of}
+use Rattle.kmip_client.specs.Shapes.{IsKept}
+use Rattle.kmip_client.specs.declared.knowledge.Knowledge.{Knowledge}
+use Rattle.kmip_schedule.specs.Past.{Past}
+use Rattle.kmip_session.specs.Driving.{Learnt}
+use Rattle.kmip_session.specs.declared.stop.Stop.{Stop}
+use Rattle.kmip_session.specs.declared.stop.Stop.TheVariants as stops
+use Rattle.kmip_running.specs.declared.keeper.SaveFault.{SaveFault}
+
+-- What is known at a moment, and all that has happened by then.
+pub record Moment : Type 0 where
+  pub knowns : List Knowledge
+  pub past : Past
+
+-- the text of what is then known
+abbrev pub text_at : List Key → Moment → List ℕ
+text_at keys moment = progress_text keys (map known_of moment.knowns)
+
+-- the last of these moments, or the one before them where there is none
+abbrev pub last_moment : Moment → List Moment → Moment
+last_moment before [] = before
+last_moment before (moment ∷ moments) = last_moment moment moments
+
+-- each moment is one exchange later than the one before it, and what is new was taught by its answer
+abbrev pub AreTaught : List Key → Moment → List Moment → Type 0
+AreTaught keys before [] = ⊤
+AreTaught keys before (moment ∷ moments) =
+    Learnt keys before.past moment.past before.knowns moment.knowns 1 × AreTaught keys moment moments
+
+-- at no moment is taken back what was known before
+abbrev pub AreKept : List Knowledge → List Moment → Type 0
+AreKept knowns [] = ⊤
+AreKept knowns (moment ∷ moments) = AllZip IsKept knowns moment.knowns × AreKept moment.knowns moments
+
+-- memory did not run out on the way
+abbrev pub IsInMemory : Result Stop SaveFault → Type 0
+IsInMemory result = result ≢ Ok stops.NoMemory
+
+-- and all is saved
+abbrev pub IsWhole : Result Stop SaveFault → Type 0
+IsWhole (Ok stop) = stop ≢ stops.NoMemory
+IsWhole (Err fault) = ⊥
+
+-- how many exchanges have no text: the last one, where its text was not saved
+abbrev pub unsaved : Result Stop SaveFault → ℕ
+unsaved (Ok stop) = 0
+unsaved (Err fault) = 1
+
+-- Between two moments these texts were saved: one after each exchange, of what was then known. Over an honest link each of them has
+-- what the one before it had and what one more answer taught, and the last one says all that is known at the end.
+pub record AreSaved (keys : List Key) (honest : Type 0) (begun ended : Moment) (result : Result Stop SaveFault) (exchanges : ℕ) (old new : List (List ℕ)) : Type 0 where
+  pub moments : List Moment
+  pub texts_are : new ≡ old ++ map (text_at keys) moments
+  pub as_many : length moments + unsaved result ≡ exchanges
+  pub kept : AreKept begun.knowns (moments ++ ended ∷ [])
+  pub taught : honest → AreTaught keys begun moments
+  pub rest : honest → IsInMemory result
+      → Learnt keys (last_moment begun moments).past ended.past (last_moment begun moments).knowns ended.knowns (unsaved result)
+  pub last_is : honest → IsWhole result → text_at keys ended ≡ text_at keys (last_moment begun moments)

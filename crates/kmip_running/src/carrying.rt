@@ -1,0 +1,251 @@
+//! A plan carried out over a link, and saved after each exchange.
+ghost use Rattle.std.specs.Prelude.{◌≡◌, ◌≢◌, ◌≤◌, ◌+◌, ◌++◌, ◌∷◌, [], ℕ, Ok, IfOk, IsTrue, OnErr, OnOk, false};
+ghost use Rattle.kmip_client.specs.Clients.{SomeWorks};
+ghost use Rattle.kmip_client.specs.Saving.{progress};
+ghost use Rattle.kmip_plan.specs.Chains.{bound};
+ghost use Rattle.kmip_progress.specs.Texts.{progress_text};
+ghost use Rattle.kmip_schedule.specs.Moves.{Delivered};
+ghost use Rattle.kmip_schedule.specs.Past.{Names, is_planned};
+ghost use Rattle.kmip_session.specs.Driving.{IsGood, IsSettling, need, WentOn, Learnt, Grown, Keeps, Stands};
+ghost use Rattle.kmip_running.specs.Carried.{Carried, CarryingLaws, moment};
+ghost use Rattle.kmip_running.specs.Saved.{AreSaved, IsInMemory, IsWhole};
+
+use crate::keeper::{Keeper, SaveFault};
+use kmip_client::Client;
+use kmip_client::laws::{
+    onward_is_an_order, truth_is_for_good, what_is_known_was_heard, what_is_true_is_no_conflict,
+};
+use kmip_schedule::laws::{
+    deliveries_keep_sound, deliveries_keep_the_requests, objects_go_onward, the_image_is_kept,
+};
+use kmip_schedule::{Link, LinkFault};
+use kmip_session::{Stop, drive};
+use kmip_settling::laws::{needs_are_bounded, who_needs_nothing_is_finished};
+use kmip_ttlv::NoMemory;
+use std::alloc::Global;
+
+/// Asks one question after the other over the link and learns from what comes back, until no key of
+/// the plan is worked on any more, or `limit` exchanges were made; after each exchange the keeper is
+/// given the text of what is then known. Where no exchange is made nothing is saved. Then the run
+/// is ended over the link, whose failures are passed over.
+///
+/// Answers why it stopped, and how many exchanges were made.
+///
+/// # Errors
+/// Why the text of the last exchange was not saved; no further exchange is then made. Want of
+/// memory in an exchange, or at the end of the run, is the reason to stop `Stop::NoMemory`.
+pub fn carry_out<L: Link, K: Keeper>(
+    alloc: Global,
+    client: &mut Client<'_>,
+    link: &mut L,
+    keeper: &mut K,
+    limit: usize,
+) -> (Result<Stop, SaveFault>, usize)
+    ensures good { IsGood L.past L.honest client.old link.old
+        → IsGood L.past L.honest client.new link.new }
+    ensures goes { IsGood L.past L.honest client.old link.old
+        → WentOn client.old.keys (L.past link.old) (L.past link.new) }
+    ensures known { L.honest link.old (is_planned client.old.keys)
+        → L.honest link.new (is_planned client.old.keys)
+        × (IsInMemory result.0 → Learnt client.old.keys (L.past link.old)
+        (L.past link.new) client.old.knowns client.new.knowns result.1) }
+    ensures grown { L.honest link.old (is_planned client.old.keys)
+        → Grown (L.past link.old) (L.past link.new) }
+    ensures kept { Keeps client.old client.new }
+    ensures saved { K.keeps keeper.old → K.keeps keeper.new
+        × AreSaved client.old.keys (L.honest link.old (is_planned client.old.keys))
+        (moment L.past client.old link.old) (moment L.past client.new link.new)
+        result.0 result.1 (K.saved keeper.old) (K.saved keeper.new) }
+    ensures stands { IfOk result.0 (λ stop. Stands stop client.new.keys client.new.knowns) }
+    ensures limit { result.0 ≡ Ok Stop.Limit → result.1 ≡ limit }
+    ensures within { result.1 ≤ limit }
+    ensures calm { IsSettling L.past L.calm client.old link.old → IsWhole result.0
+        → IsSettling L.past L.calm client.new link.new
+        × (result.1 + need client.new (L.past link.new) ≡ need client.old (L.past link.old)) }
+    ensures settles { IsSettling L.past L.calm client.old link.old
+        → bound client.old.keys ≤ limit → IsWhole result.0
+        → (result.0 ≡ Ok Stop.AllFinished)
+        × (result.1 ≡ need client.old (L.past link.old))
+        × (result.1 ≤ bound client.old.keys) }
+    ensures no_conflict { IsGood L.past L.honest client.old link.old
+        → result.0 ≢ Ok Stop.Conflict }
+{
+    laws_below();
+    let _plan = client.plan();
+    exchange_to_the_end(alloc, client, link, keeper, limit)
+}
+
+/// The laws of the crates below.
+fn laws_below()
+    ensures { CarryingLaws }
+{
+    onward_is_an_order();
+    truth_is_for_good();
+    what_is_known_was_heard();
+    what_is_true_is_no_conflict();
+    deliveries_keep_sound();
+    deliveries_keep_the_requests();
+    objects_go_onward();
+    the_image_is_kept();
+    needs_are_bounded();
+    who_needs_nothing_is_finished();
+}
+
+/// Makes exchanges and saves what is known after each, and ends the run over the link.
+///
+/// # Errors
+/// Why the text of the last exchange was not saved.
+fn exchange_to_the_end<L: Link, K: Keeper>(
+    alloc: Global,
+    client: &mut Client<'_>,
+    link: &mut L,
+    keeper: &mut K,
+    limit: usize,
+) -> (Result<Stop, SaveFault>, usize)
+    ensures carried { Carried L.past L.honest L.calm K.keeps K.saved client.old client.new
+        link.old link.new keeper.old keeper.new result.0 result.1 }
+    ensures stands { IfOk result.0 (λ stop. Stands stop client.new.keys client.new.knowns) }
+    ensures limit { result.0 ≡ Ok Stop.Limit → result.1 ≡ limit }
+    ensures within { result.1 ≤ limit }
+{
+    laws_below();
+    let _plan = client.plan();
+    let (carried, made) = exchange_in_turn(alloc, client, link, keeper, limit);
+    let closed = close(alloc, link);
+    (after_close(carried, closed), made)
+}
+
+/// Makes exchanges and saves what is known after each, until no key is worked on any more or
+/// `limit` were made.
+///
+/// # Errors
+/// Why the text of the last exchange was not saved.
+fn exchange_in_turn<L: Link, K: Keeper>(
+    alloc: Global,
+    client: &mut Client<'_>,
+    link: &mut L,
+    keeper: &mut K,
+    limit: usize,
+) -> (Result<Stop, SaveFault>, usize)
+    ensures carried { Carried L.past L.honest L.calm K.keeps K.saved client.old client.new
+        link.old link.new keeper.old keeper.new result.0 result.1 }
+    ensures stands { IfOk result.0 (λ stop. Stands stop client.new.keys client.new.knowns) }
+    ensures limit { result.0 ≡ Ok Stop.Limit → result.1 ≡ limit }
+    ensures within { result.1 ≤ limit }
+{
+    laws_below();
+    if limit == 0 {
+        let (stop, _) = drive(alloc, client, link, 0);
+        return (Ok(stop), 0);
+    }
+    for made in 0..limit {
+        let (carried, exchanges) = exchange_once(alloc, client, link, keeper);
+        if !is_at_limit(&carried) {
+            return (carried, made + exchanges);
+        }
+    }
+    (Ok(Stop::Limit), limit)
+}
+
+/// Makes one exchange, if any key is worked on, and saves what is then known.
+///
+/// # Errors
+/// Why its text was not saved.
+fn exchange_once<L: Link, K: Keeper>(
+    alloc: Global,
+    client: &mut Client<'_>,
+    link: &mut L,
+    keeper: &mut K,
+) -> (Result<Stop, SaveFault>, usize)
+    ensures carried { Carried L.past L.honest L.calm K.keeps K.saved client.old client.new
+        link.old link.new keeper.old keeper.new result.0 result.1 }
+    ensures stands { IfOk result.0 (λ stop. Stands stop client.new.keys client.new.knowns) }
+    ensures limit { result.0 ≡ Ok Stop.Limit → result.1 ≡ 1 }
+    ensures within { result.1 ≤ 1 }
+{
+    laws_below();
+    let (stop, exchanges) = drive(alloc, client, link, 1);
+    if is_no_memory(stop) {
+        return (Ok(Stop::NoMemory), 0);
+    }
+    if exchanges == 0 {
+        return (Ok(stop), 0);
+    }
+    match save_progress(alloc, client, keeper) {
+        Ok(()) => (Ok(stop), 1),
+        Err(fault) => (Err(fault), 1),
+    }
+}
+
+/// Saves the text of what the client knows.
+///
+/// # Errors
+/// Why it was not saved.
+fn save_progress<K: Keeper>(
+    alloc: Global,
+    client: &Client<'_>,
+    keeper: &mut K,
+) -> Result<(), SaveFault>
+    ensures { K.keeps keeper.old → K.keeps keeper.new
+        × OnOk result (K.saved keeper.new ≡ K.saved keeper.old
+        ++ progress_text client.now.keys (progress client.now) ∷ [])
+        × OnErr result (K.saved keeper.new ≡ K.saved keeper.old) }
+{
+    let progress = client.progress(alloc)?;
+    let text = progress.write_text(alloc, client.plan())?;
+    keeper.save(alloc, text.as_str().as_bytes())
+}
+
+fn is_no_memory(stop: Stop) -> bool
+    ensures { result ≡ false → stop ≢ Stop.NoMemory }
+{
+    match stop {
+        Stop::NoMemory => true,
+        Stop::AllFinished | Stop::Limit | Stop::Conflict => false,
+    }
+}
+
+/// Whether as many exchanges were made as were allowed, and all is saved.
+fn is_at_limit(carried: &Result<Stop, SaveFault>) -> bool
+    ensures at { IsTrue result → carried.now ≡ Ok Stop.Limit }
+    ensures not { result ≡ false → carried.now ≢ Ok Stop.Limit }
+{
+    match carried {
+        Ok(Stop::Limit) => true,
+        _ => false,
+    }
+}
+
+/// Ends a run over the link; a failure of the network is passed over.
+///
+/// # Errors
+/// Where there is no memory.
+fn close<L: Link>(alloc: Global, link: &mut L) -> Result<(), NoMemory>
+    ensures honest { (names : Names) → L.honest link.old names → L.honest link.new names
+        × Delivered names (L.past link.old) (L.past link.new) }
+    ensures calm { (names : Names) → L.calm link.old names → L.calm link.new names
+        × OnOk result (L.past link.new ≡ L.past link.old) }
+{
+    match link.end_run(alloc) {
+        Ok(()) | Err(LinkFault::Io) | Err(LinkFault::Frame) => Ok(()),
+        Err(LinkFault::NoMemory) => Err(NoMemory),
+    }
+}
+
+/// Why it stopped, once the run is ended.
+fn after_close(
+    carried: Result<Stop, SaveFault>,
+    closed: Result<(), NoMemory>,
+) -> Result<Stop, SaveFault>
+    ensures whole { OnOk closed (result ≡ carried) }
+    ensures stop { OnErr closed (OnOk carried (result ≡ Ok Stop.NoMemory)) }
+    ensures fault { OnErr carried (result ≡ carried) }
+{
+    match closed {
+        Ok(()) => carried,
+        Err(NoMemory) => match carried {
+            Ok(_) => Ok(Stop::NoMemory),
+            Err(fault) => Err(fault),
+        },
+    }
+}

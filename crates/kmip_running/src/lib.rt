@@ -1,0 +1,9 @@
+//! A plan that is carried out over a link, one exchange at a time, where what is known is saved
+//! after each.
+#![tactic(auto)]
+
+mod carrying;
+mod keeper;
+
+pub use carrying::carry_out;
+pub use keeper::{Keeper, SaveFault};
