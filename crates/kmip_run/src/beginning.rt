@@ -1,8 +1,10 @@
 //! What a run begins with.
-ghost use Rattle.std.specs.Prelude.{◌≡◌, IfOk, option_map};
+ghost use Rattle.std.specs.Prelude.{◌≡◌, List, IfOk, option_map};
+ghost use Rattle.kmip_messages.specs.Objects.{Object};
 ghost use Rattle.kmip_client.specs.Clients.{ClientState};
+ghost use Rattle.kmip_client.specs.Held.{Held};
 ghost use Rattle.kmip_progress.specs.Reading.{GivesProgress};
-ghost use Rattle.kmip_run.specs.RunText.{begin_knowns};
+ghost use Rattle.kmip_run.specs.RunText.{IsTrueText, begin_knowns};
 
 use kmip_client::Client;
 use kmip_plan::Plan;
@@ -21,6 +23,9 @@ pub fn begin<'p>(
     ensures exact { GivesProgress (λ (client : ClientState). client.knowns) result
         (begin_knowns plan.now (option_map (λ text. text.now) saved.entry)) }
     ensures keys { IfOk result (λ client. client.keys ≡ plan.now) }
+    ensures held { (objects : List Object)
+        → IsTrueText objects plan.now (option_map (λ text. text.now) saved.entry)
+        → IfOk result (λ client. Held objects client.keys client.knowns) }
 {
     let begun = match saved {
         None => Client::fresh(alloc, plan),

@@ -2,6 +2,8 @@
 #![tactic(auto)]
 
 mod beginning;
+mod running;
 mod telling;
 
 pub use beginning::begin;
+pub use running::RunInput;

@@ -11,7 +11,6 @@ use kmip_ttlv::NoMemory;
 use std::alloc::Global;
 
 /// The line of a progress that is refused.
-#[tactic(auto, unfolding(crate::specs::RunText::progress_refusal_text))]
 pub(crate) fn progress_refusal_text(
     alloc: Global,
     fault: ProgressFault,

@@ -1,6 +1,6 @@
--- The number and the name of each reason to stop.
+-- The number and the name of each reason to stop, and whether nothing is left to do.
 -- Source: own.
-use Rattle.std.specs.Prelude.{ℕ, List, codes}
+use Rattle.std.specs.Prelude.{ℕ, Bool, true, false, List, codes}
 use Rattle.kmip_session.specs.declared.stop.Stop.{Stop}
 use Rattle.kmip_session.specs.declared.stop.Stop.TheVariants.{AllFinished, Limit, Conflict, NoMemory}
 
@@ -15,3 +15,8 @@ stop_name AllFinished = codes "AllFinished"
 stop_name Limit = codes "Limit"
 stop_name Conflict = codes "Conflict"
 stop_name NoMemory = codes "NoMemory"
+
+-- each key of the plan is finished
+abbrev pub is_all_finished : Stop → Bool
+is_all_finished AllFinished = true
+is_all_finished stop = false

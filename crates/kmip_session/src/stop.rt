@@ -1,6 +1,6 @@
 //! Why a run stops.
 ghost use Rattle.std.specs.Prelude.{◌≡◌};
-ghost use Rattle.kmip_session.specs.Stops.{stop_number, stop_name};
+ghost use Rattle.kmip_session.specs.Stops.{is_all_finished, stop_number, stop_name};
 
 /// Why a run stops.
 #[derive(Clone, Copy, Debug, PartialEq, Eq)]
@@ -37,6 +37,16 @@ impl Stop {
             Stop::Limit => "Limit",
             Stop::Conflict => "Conflict",
             Stop::NoMemory => "NoMemory",
+        }
+    }
+
+    /// Whether each key of the plan is finished, so that nothing is left to do.
+    pub fn is_all_finished(self) -> bool
+        ensures { result ≡ is_all_finished self }
+    {
+        match self {
+            Stop::AllFinished => true,
+            Stop::Limit | Stop::Conflict | Stop::NoMemory => false,
         }
     }
 }

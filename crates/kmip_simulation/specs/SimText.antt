@@ -13,11 +13,9 @@ use Rattle.kmip_messages.specs.declared.state.KeyState.{KeyState}
 use Rattle.kmip_messages.specs.declared.state.KeyState.TheVariants as states
 use Rattle.kmip_server.specs.Shown.{objects_in}
 use Rattle.kmip_scripted.specs.Scenes.{Scene}
-use Rattle.kmip_session.specs.Stops.{stop_name}
+use Rattle.kmip_session.specs.Stops.{is_all_finished, stop_name}
 use Rattle.kmip_session.specs.declared.campaigning.CampaignEnd.{CampaignEnd}
 use Rattle.kmip_session.specs.declared.campaigning.RunEnd.{RunEnd}
-use Rattle.kmip_session.specs.declared.stop.Stop.{Stop}
-use Rattle.kmip_session.specs.declared.stop.Stop.TheVariants.{AllFinished}
 use Rattle.kmip_ttlv.specs.declared.fault.NoMemory.{NoMemory as Want}
 
 -- the texts of things one after the other, each with its number, from this one on
@@ -93,11 +91,6 @@ link_text (Some fault) link = []
 abbrev pub sim_text : CampaignEnd → Scene → List ℕ
 sim_text end link = runs_text end.runs.items ++ link_text end.fault link
 
--- a run stopped since each key of the plan was finished
-abbrev pub is_all_finished : Stop → Bool
-is_all_finished AllFinished = true
-is_all_finished stop = false
-
--- the last of the runs stopped so
+-- the last of the runs stopped since each key of the plan was finished
 abbrev pub is_last_finished : List RunEnd → Bool
 is_last_finished ends = option_map_or (λ (end : RunEnd). is_all_finished end.stop) (slice_get ends (length ends - 1)) false

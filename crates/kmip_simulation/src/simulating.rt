@@ -4,13 +4,13 @@ ghost use Rattle.kmip_plan.specs.declared.key.Key.{Key};
 ghost use Rattle.kmip_schedule.specs.Sound.{Opening};
 ghost use Rattle.kmip_scripted.specs.Scenes.{past_in};
 ghost use Rattle.kmip_simulation.specs.Simulating.{IsSimulated};
-ghost use Rattle.kmip_simulation.specs.SimText.{is_all_finished, is_last_finished};
+ghost use Rattle.kmip_simulation.specs.SimText.{is_last_finished};
 
 use kmip_plan::Plan;
 use kmip_schedule::laws::nothing_done_is_sound;
 use kmip_scripted::{Script, Scripted};
 use kmip_server::{IndexedStore, Server};
-use kmip_session::{CampaignEnd, Stop, campaign};
+use kmip_session::{CampaignEnd, campaign};
 use kmip_store::MOST_ROOM;
 use kmip_ttlv::NoMemory;
 use std::alloc::Global;
@@ -54,17 +54,8 @@ impl Simulation {
         ensures { result ≡ is_last_finished self.now.end.runs.items }
     {
         match self.end.runs.as_slice().last() {
-            Some(end) => is_all_finished(end.stop),
+            Some(end) => end.stop.is_all_finished(),
             None => false,
         }
-    }
-}
-
-fn is_all_finished(stop: Stop) -> bool
-    ensures { result ≡ is_all_finished stop }
-{
-    match stop {
-        Stop::AllFinished => true,
-        Stop::Limit | Stop::Conflict | Stop::NoMemory => false,
     }
 }
