@@ -1,5 +1,5 @@
 -- The waits double.
-use Rattle.std.proofs.Common.{◌≡◌, ◌≢◌, ◌≤◌, ◌<◌, ℕ, zero, suc, ◌+◌, ◌*◌, ◌^◌, min, max, ap, refl, sym, ◌∙◌, arith}
+use Rattle.std.proofs.Common.{◌≡◌, ◌≢◌, ◌≤◌, ◌<◌, ℕ, zero, suc, ◌+◌, ◌*◌, ◌^◌, min, max, ap, sym, ◌∙◌, arith}
 use Rattle.std.proofs.Math.Nat.{le-mul_of_pos_right, mul_assoc, one-le-pow, pow-suc}
 use Rattle.kmip_running.specs.Waits.{longest_wait, wait_after}
 
@@ -27,4 +27,4 @@ next first wait twice zero fits some two is = absurd (some is)
 next first wait twice (suc count) fits some two is =
     let e : suc count + 1 ≡ suc (suc count) = omega arith in
     rw (e, twice_more first count)
-        (doubled (first * 2 ^ count) (longest_wait first) wait twice 18446744073709551615 (omega (arith, fits)) is two)
+    (doubled (first * 2 ^ count) (longest_wait first) wait twice 18446744073709551615 (omega (arith, fits)) is two)

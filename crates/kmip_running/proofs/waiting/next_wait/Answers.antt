@@ -1,5 +1,5 @@
 -- The waits double.
-use Rattle.std.proofs.Common.{◌≡◌, ◌∙◌, ap, min, rules, arith}
+use Rattle.std.proofs.Common.{◌∙◌, ap, min}
 use Rattle.kmip_running.proofs.WaitLemmas.{first_wait, next}
 use Rattle.kmip_running.proofs.waiting.next_wait.Goals as goal
 
