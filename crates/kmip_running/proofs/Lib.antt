@@ -1,3 +1,4 @@
 pub mod WentLemmas
 pub mod SavedLemmas
 pub mod CarryLemmas
+pub mod WaitLemmas

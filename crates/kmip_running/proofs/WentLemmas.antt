@@ -1,5 +1,5 @@
 -- What exchanges keep and teach, one after the other.
-use Rattle.std.proofs.Common.{◌≡◌, ◌≢◌, ◌≤◌, ℕ, suc, ◌+◌, List, [], ◌∷◌, ◌++◌, length, flat_map, Option, Result, Ok, Err, OnOk, sym, ap, subst, refl, ◌∙◌, append_assoc, append-nil, arith}
+use Rattle.std.proofs.Common.{◌≡◌, ◌≢◌, ℕ, ◌+◌, List, [], ◌∷◌, ◌++◌, length, flat_map, Option, Result, Ok, OnOk, sym, ap, subst, refl, ◌∙◌, append_assoc, append-nil, arith}
 use Rattle.std.proofs.lemmas.List.{length-append}
 use Rattle.std.proofs.lemmas.List.Concat.{flat_map-append}
 use Rattle.std.proofs.lemmas.List.Elements.{All-append, All-nil}
@@ -8,18 +8,15 @@ use Rattle.kmip_messages.specs.Items.{requests_in}
 use Rattle.kmip_plan.specs.Plans.{IsLawful}
 use Rattle.kmip_plan.specs.declared.key.Key.{Key}
 use Rattle.kmip_client.specs.Clients.{ClientState}
-use Rattle.kmip_client.specs.Held.{Held}
 use Rattle.kmip_client.specs.Known.{facts, heard, known_after}
 use Rattle.kmip_client.specs.Laws.{HearingIsBlind}
-use Rattle.kmip_client.specs.Places.{Onward}
 use Rattle.kmip_client.specs.Shapes.{IsKept}
 use Rattle.kmip_client.specs.declared.knowledge.Knowledge.{Knowledge}
 use Rattle.kmip_schedule.specs.Laws.{DeliveriesKeepTheRequests}
 use Rattle.kmip_schedule.specs.Moves.{Delivered}
 use Rattle.kmip_schedule.specs.Past.{Names, Past, is_planned}
-use Rattle.kmip_schedule.specs.Sound.{Sound}
 use Rattle.kmip_settling.specs.Ready.{IsReady}
-use Rattle.kmip_session.specs.Driving.{Grown, IsGood, IsQuestion, IsSettling, Keeps, Learnt, WentOn, need}
+use Rattle.kmip_session.specs.Driving.{Grown, IsGood, IsQuestion, Keeps, Learnt, WentOn, need}
 use Rattle.kmip_session.specs.declared.stop.Stop.{Stop}
 use Rattle.kmip_session.specs.declared.stop.Stop.TheVariants as stops
 use Rattle.kmip_running.specs.Carried.{CarryingLaws, Went}
@@ -196,6 +193,7 @@ module _ {L : Type 0} (past : L → Past) (honest calm : L → Names → Type 0)
             let after = second.near before.0 whole in
             (after.0, omega (arith, before.1, after.1));
       }
+
   -- the end of the run, after these exchanges
   pub went_closed : {V E : Type 0} → CarryingLaws → (a b : ClientState) (x y z : L) (result ended : Result Stop SaveFault) (closed : Result V E) (m : ℕ) → IsLawful a.keys
       → ((names : Names) → honest y names → honest z names × Delivered names (past y) (past z))

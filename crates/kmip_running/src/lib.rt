@@ -4,6 +4,10 @@
 
 mod carrying;
 mod keeper;
+mod observing;
+mod waiting;
 
 pub use carrying::carry_out;
 pub use keeper::{Keeper, SaveFault};
+pub use observing::{Observed, Observer};
+pub use waiting::{Paced, next_wait};

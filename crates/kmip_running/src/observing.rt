@@ -1,0 +1,71 @@
+//! Exchanges that are told as they are made.
+ghost use Rattle.std.specs.Prelude.{◌≡◌};
+
+use kmip_schedule::{Link, LinkFault};
+use std::alloc::Global;
+
+/// Is told of exchanges.
+pub trait Observer {
+    /// An exchange was made: the bytes that were sent, and what came of it, a reply, none for a
+    /// loss, or why there is no answer.
+    fn exchanged(&mut self, request: &[u8], answered: Result<Option<&[u8]>, LinkFault>);
+}
+
+/// A link that tells an observer of each exchange once it is made. What is proved over a link holds
+/// over this one: it carries what the link within carries.
+#[derive(Debug, Drop)]
+pub struct Observed<L, O> {
+    link: L,
+    observer: O,
+}
+
+impl<L: Link, O: Observer> Observed<L, O> {
+    /// The link, and who is told of its exchanges. Takes no memory.
+    pub fn new(link: L, observer: O) -> Self
+        ensures link { result.link ≡ link }
+    {
+        Observed { link, observer }
+    }
+
+    /// The link within. Takes no memory.
+    pub fn link(&self) -> &L
+        ensures { result.now ≡ self.now.link }
+    {
+        &self.link
+    }
+
+    /// Who is told. Takes no memory.
+    pub fn observer(&self) -> &O
+        ensures { result.now ≡ self.now.observer }
+    {
+        &self.observer
+    }
+}
+
+impl<L: Link, O: Observer> Link for Observed<L, O> {
+    ghost past = { λ observed. L.past observed.link };
+
+    ghost honest = { λ observed. L.honest observed.link };
+
+    ghost calm = { λ observed. L.calm observed.link };
+
+    ghost failures = { λ observed. L.failures observed.link };
+
+    fn exchange(&mut self, alloc: Global, request: &[u8]) -> Result<Option<Vec<u8>>, LinkFault> {
+        let answered = self.link.exchange(alloc, request);
+        match &answered {
+            Ok(Some(reply)) => self.observer.exchanged(request, Ok(Some(reply.as_slice()))),
+            Ok(None) => self.observer.exchanged(request, Ok(None)),
+            Err(fault) => self.observer.exchanged(request, Err(*fault)),
+        }
+        answered
+    }
+
+    fn end_run(&mut self, alloc: Global) -> Result<(), LinkFault> {
+        self.link.end_run(alloc)
+    }
+
+    fn calm_laws() {
+        L::calm_laws();
+    }
+}
