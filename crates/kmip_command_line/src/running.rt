@@ -53,11 +53,13 @@ fn run_command(rt: &HostRuntime) -> io::Result<ExitStatus> {
         Ok(Choice::CheckAfter { plan, earlier }) => {
             check_plan_after(rt, plan.as_str(), earlier.as_str())
         }
-        Ok(Choice::Simulate {
-            plan,
-            script,
-            detail,
-        }) => simulate_plan(rt, detail, plan.as_str(), script.as_str()),
+        Ok(
+            Choice::Simulate {
+                plan,
+                script,
+                detail,
+            },
+        ) => simulate_plan(rt, detail, plan.as_str(), script.as_str()),
         Err(error) => {
             let status = status_of(&error);
             if status == ExitStatus::Failed(CommandFault::NoMemory) {
