@@ -6,6 +6,7 @@ use Rattle.clap.specs.declared.error.kind.ErrorKind.TheVariants as kind
 use Rattle.kmip_commands.specs.declared.exit_status.ExitStatus.{ExitStatus}
 use Rattle.kmip_commands.specs.declared.exit_status.ExitStatus.TheVariants.{Done, Failed, Usage}
 use Rattle.kmip_commands.specs.declared.fault.CommandFault.TheVariants.{NoMemory}
+use Rattle.kmip_sim.specs.declared.detail.Detail.{Detail}
 use Rattle.kmip_command_line.specs.declared.Choice.{Choice}
 use Rattle.kmip_command_line.specs.declared.Choice.TheVariants.{Check, CheckAfter, Simulate}
 
@@ -22,7 +23,7 @@ IsCheckOf plan None (Check path) = string_bytes path ≡ plan
 IsCheckOf plan (Some earlier) (CheckAfter path other) = (string_bytes path ≡ plan) × (string_bytes other ≡ earlier)
 IsCheckOf plan earlier choice = ⊥
 
--- Private: the choice is to simulate the plan at this path over the script at the other
-abbrev pub IsSimulationOf : List ℕ → List ℕ → Choice → Type 0
-IsSimulationOf plan script (Simulate path other) = (string_bytes path ≡ plan) × (string_bytes other ≡ script)
-IsSimulationOf plan script choice = ⊥
+-- Private: the choice is to simulate the plan at this path over the script at the other, and to tell so much of it
+abbrev pub IsSimulationOf : List ℕ → List ℕ → Detail → Choice → Type 0
+IsSimulationOf plan script detail (Simulate path other told) = (string_bytes path ≡ plan) × (string_bytes other ≡ script) × (told ≡ detail)
+IsSimulationOf plan script detail choice = ⊥

@@ -113,12 +113,21 @@ nothing, for as many as the plan can need then: two more for each key than its t
 AllFinished, Limit or Conflict. Where there is no memory the runs that were made are printed, and then
 `no memory`.
 
+With --trace a line for each exchange comes before all else, `exchange N OPERATION NAME, WORD: OUTCOME`: what
+was asked, the word of the script that the exchange followed, and what came back. Where that is the reply
+to another question, the outcome begins with `answers OPERATION NAME`:
+  exchange 1 Locate k1, pass: found none
+  exchange 2 Create k1, lose-reply: no reply
+Where there is no memory in a run, no exchange is printed.
+
 The plan is read and judged first, then the script; the first fault is printed alone: the plan's as by
 `check`, the script's as `script refused: line 3`.";
 
 pub(crate) const PLAN: &str = "The file of the plan";
 
 pub(crate) const SCRIPT: &str = "The file of the script: what the network does, a word a line";
+
+pub(crate) const TRACE: &str = "Print each exchange first: what was asked, and what came back";
 
 pub(crate) const AFTER: &str = "The file of an earlier plan, which the plan is to prolong";
 

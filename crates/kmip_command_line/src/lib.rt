@@ -6,6 +6,7 @@ ghost use Rattle.clap.specs.Words.{kind_of};
 ghost use Rattle.kmip_commands.specs.declared.showing.Form.TheVariants.{Text, Canonical};
 ghost use Rattle.kmip_command_line.specs.declared.Choice.TheVariants.{Answer, AnswerStream};
 ghost use Rattle.kmip_command_line.specs.Choices.{IsCheckOf, IsSimulationOf, status_of};
+ghost use Rattle.kmip_sim.specs.declared.detail.Detail.TheVariants.{Runs, Exchanges};
 
 mod help;
 mod running;
@@ -14,9 +15,10 @@ use clap::error::ErrorKind;
 use clap::{Arg, ArgAction, Command, Error};
 use help::{
     ABOUT, AFTER, AFTER_HELP, ANSWER, ANSWER_LONG, CANON, CHECK, CHECK_LONG, PLAN, SCRIPT, SHOW,
-    SHOW_LONG, SIM, SIM_LONG, STREAM,
+    SHOW_LONG, SIM, SIM_LONG, STREAM, TRACE,
 };
 use kmip_commands::{CommandFault, ExitStatus, Form};
+use kmip_sim::Detail;
 pub use running::run;
 use std::alloc::{AllocError, Global};
 
@@ -46,6 +48,8 @@ pub enum Choice {
         plan: String,
         /// The path of the script.
         script: String,
+        /// How much is told of it.
+        detail: Detail,
     },
 }
 
@@ -65,7 +69,9 @@ pub fn chosen(alloc: Global, words: &[String]) -> Result<Choice, Error> {
         }
         Some(("sim", options)) => {
             let plan = options.get_str("plan").unwrap_or("");
-            Ok(simulation_of(alloc, plan, options.get_str("script").unwrap_or(""))?)
+            let script = options.get_str("script").unwrap_or("");
+            let detail = detail_of(options.get_flag("trace"));
+            Ok(simulation_of(alloc, plan, script, detail)?)
         }
         _ => Ok(Choice::Answer),
     }
@@ -108,13 +114,33 @@ fn check_of(alloc: Global, plan: &str, earlier: Option<&str>) -> Result<Choice, 
     }
 }
 
-/// What to simulate: the plan at a path, over the script at another.
-fn simulation_of(alloc: Global, plan: &str, script: &str) -> Result<Choice, AllocError>
-    ensures { IfOk result (IsSimulationOf plan.now script.now) }
+/// How much to tell of a simulation, by whether it was asked for each exchange.
+fn detail_of(is_traced: bool) -> Detail
+    ensures { result ≡ (if is_traced then Exchanges else Runs) }
+{
+    if is_traced {
+        Detail::Exchanges
+    } else {
+        Detail::Runs
+    }
+}
+
+/// What to simulate: the plan at a path, over the script at another, and how much to tell of it.
+fn simulation_of(
+    alloc: Global,
+    plan: &str,
+    script: &str,
+    detail: Detail,
+) -> Result<Choice, AllocError>
+    ensures { IfOk result (IsSimulationOf plan.now script.now detail) }
 {
     let plan = String::from_str(alloc, plan)?;
     let script = String::from_str(alloc, script)?;
-    Ok(Choice::Simulate { plan, script })
+    Ok(Choice::Simulate {
+        plan,
+        script,
+        detail,
+    })
 }
 
 /// How the program ends after it printed the text of `error`: `Done` for help and the version, and
@@ -156,11 +182,16 @@ fn command<'a>(alloc: Global) -> Result<Command<'a>, AllocError> {
         .long_about(CHECK_LONG)
         .arg(path(alloc, "plan", PLAN))?
         .arg(after)?;
+    let trace = Arg::new(alloc, "trace")
+        .long("trace")
+        .help(TRACE)
+        .action(ArgAction::SetTrue);
     let sim = Command::new(alloc, "sim")
         .about(SIM)
         .long_about(SIM_LONG)
         .arg(path(alloc, "plan", PLAN))?
-        .arg(path(alloc, "script", SCRIPT))?;
+        .arg(path(alloc, "script", SCRIPT))?
+        .arg(trace)?;
     Command::new(alloc, "kmipctl")
         .version(VERSION)
         .about(ABOUT)

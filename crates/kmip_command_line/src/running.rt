@@ -3,8 +3,9 @@
 use crate::{Choice, chosen, status_of};
 use kmip_commands::{
     CommandFault, ExitStatus, Form, check_bytes, run_answer, run_answer_stream, run_check,
-    run_check_after, run_show, run_sim,
+    run_check_after, run_show,
 };
+use kmip_sim::{Detail, run_sim};
 use std::io::{BufReader, BufWriter, Error, ErrorKind, Read};
 use std::process::ExitCode;
 use std::{env, fs, io};
@@ -52,9 +53,13 @@ fn run_command(rt: &HostRuntime) -> io::Result<ExitStatus> {
         Ok(Choice::CheckAfter { plan, earlier }) => {
             check_plan_after(rt, plan.as_str(), earlier.as_str())
         }
-        Ok(Choice::Simulate { plan, script }) => {
-            simulate_plan(rt, plan.as_str(), script.as_str())
-        }
+        Ok(
+            Choice::Simulate {
+                plan,
+                script,
+                detail,
+            },
+        ) => simulate_plan(rt, detail, plan.as_str(), script.as_str()),
         Err(error) => {
             let status = status_of(&error);
             if status == ExitStatus::Failed(CommandFault::NoMemory) {
@@ -107,13 +112,19 @@ fn check_plan_after(rt: &HostRuntime, path: &str, earlier_path: &str) -> io::Res
 }
 
 /// The command `sim` from two files to standard output.
-fn simulate_plan(rt: &HostRuntime, path: &str, script_path: &str) -> io::Result<ExitStatus> {
+fn simulate_plan(
+    rt: &HostRuntime,
+    detail: Detail,
+    path: &str,
+    script_path: &str,
+) -> io::Result<ExitStatus> {
     let (plan, script) = match plan_and_other(rt, path, script_path)? {
         Ok(texts) => texts,
         Err(status) => return Ok(status),
     };
     let mut writer = BufWriter::new(rt.alloc(), io::writer(rt))?;
-    Ok(run_sim(rt.alloc(), plan.as_str(), script.as_str(), &mut writer))
+    let (plan, script) = (plan.as_str(), script.as_str());
+    Ok(run_sim(rt.alloc(), detail, plan, script, &mut writer))
 }
 
 /// The texts of a plan's file and of another. Where the first is no plan, or a file has no text, that

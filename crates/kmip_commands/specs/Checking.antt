@@ -100,7 +100,7 @@ IsRefusedAfter (Err fault) earlier = ⊤
 IsRefusedAfter (Ok keys) (Err fault) = ⊤
 IsRefusedAfter (Ok keys) (Ok earlier) = ¬ Prolongs keys earlier
 
--- Private: want of memory is no refusal
+-- want of memory is no refusal
 abbrev pub is_memory : PlanFault → Bool
 is_memory NoMemory = true
 is_memory fault = false

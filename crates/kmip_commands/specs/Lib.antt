@@ -6,5 +6,4 @@ pub mod LineText
 pub mod Lines
 pub mod Printing
 pub mod Showing
-pub mod Simulating
 pub mod StreamText

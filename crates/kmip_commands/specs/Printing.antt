@@ -54,7 +54,7 @@ code_of Refused = 1
 code_of (Failed fault) = 1
 code_of Usage = 2
 
--- Private: how the program ends after a command that says whether it refused something
+-- how the program ends after a command that says whether it refused something
 abbrev pub status_of : Bool → ExitStatus
 status_of false = Done
 status_of true = Refused
@@ -73,14 +73,14 @@ IfFailed Refused P = Unit {0}
 IfFailed (Failed fault) P = P fault
 IfFailed Usage P = ⊥
 
--- Private: a command broke off, and this holds of the fault
+-- a command broke off, and this holds of the fault
 abbrev pub FailsBy : ExitStatus → (CommandFault → Type 0) → Type 0
 FailsBy Done P = ⊥
 FailsBy Refused P = ⊥
 FailsBy (Failed fault) P = P fault
 FailsBy Usage P = ⊥
 
--- Private: how the program ends after a command, and what it prints then: the line of a fault, unless that cannot be written either
+-- how the program ends after a command, and what it prints then: the line of a fault, unless that cannot be written either
 abbrev pub Finishes : Result Bool CommandFault → ExitStatus → Option (List ℕ) → Option (List ℕ) → Type 0
 Finishes (Ok refused) status old new = (status ≡ status_of refused) × (new ≡ old)
 Finishes (Err fault) status old new =

@@ -157,12 +157,13 @@ fn push_step(text: &mut String, step: Step) -> Result<(), NoMemory>
     Ok(())
 }
 
-/// Appends why a text is no plan; want of memory is no reason.
-pub(crate) fn push_refusal(
-    alloc: Global,
-    fault: &PlanFault,
-    text: &mut Vec<u8>,
-) -> Result<(), NoMemory>
+/// Appends why a text is no plan, as a line: the number, the name, the field and the place of the
+/// fault; want of memory is no reason.
+///
+/// # Errors
+///
+/// Where there is no memory for the line, or the fault is want of memory.
+pub fn push_refusal(alloc: Global, fault: &PlanFault, text: &mut Vec<u8>) -> Result<(), NoMemory>
     ensures known { OnOk result (is_memory fault.now ≡ false) }
     ensures text { OnOk result (text.new.items ≡ text.old.items ++ plan_refusal_text fault.now) }
 {

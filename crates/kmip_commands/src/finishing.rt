@@ -9,8 +9,9 @@ use crate::fault::CommandFault;
 use crate::replies::{send, write_text};
 use std::io::Write;
 
-/// How the program ends after a command, whose fault is printed where there is one to print.
-pub(crate) fn finished<W: Write>(ended: Result<bool, CommandFault>, writer: &mut W) -> ExitStatus
+/// How the program ends after a command: `Refused` where the command says so, and `Failed` with its
+/// fault, which is printed as a line unless it is one of the writer.
+pub fn finished<W: Write>(ended: Result<bool, CommandFault>, writer: &mut W) -> ExitStatus
     ensures { Finishes ended result (W.contents writer.old) (W.contents writer.new) }
 {
     match ended {

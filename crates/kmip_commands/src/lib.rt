@@ -1,10 +1,11 @@
 //! The commands of `kmipctl`, each a public function over a reader and a writer.
 //!
-//! `answer`, `answer_stream`, `show_lines`, `check`, `check_after` and `sim` do the work of their
-//! commands and return a fault as a value; `run_answer`, `run_answer_stream`, `run_show`, `run_check`,
-//! `run_check_after` and `run_sim` also print the fault and say how the program ends. `answer_bytes`,
-//! `answer_stream_bytes`, `show_bytes`, `check_bytes`, `check_after_bytes` and `sim_bytes` do the same
-//! work in memory, where nothing but memory can fail.
+//! `answer`, `answer_stream`, `show_lines`, `check` and `check_after` do the work of their commands and
+//! return a fault as a value; `run_answer`, `run_answer_stream`, `run_show`, `run_check` and
+//! `run_check_after` also print the fault and say how the program ends. `answer_bytes`,
+//! `answer_stream_bytes`, `show_bytes`, `check_bytes` and `check_after_bytes` do the same work in memory,
+//! where nothing but memory can fail. `finished`, `push_refusal`, `push_text` and `send` are for the
+//! commands of other crates.
 #![tactic(auto)]
 
 mod answering;
@@ -18,16 +19,16 @@ mod lines;
 mod replies;
 mod responding;
 mod showing;
-mod simulating;
 mod streaming;
 
 pub use answering::{answer, answer_bytes, run_answer};
-pub use checking::{check, check_bytes, run_check};
+pub use checking::{check, check_bytes, push_refusal, run_check};
 pub use checking_after::{check_after, check_after_bytes, run_check_after};
 pub use exit_status::ExitStatus;
 pub use fault::CommandFault;
+pub use finishing::finished;
+pub use replies::{push_text, send};
 pub use showing::{Form, run_show, show_bytes, show_lines};
-pub use simulating::{run_sim, sim, sim_bytes};
 pub use streaming::{
     InputEnd, StreamOutcome, answer_stream, answer_stream_bytes, run_answer_stream,
 };

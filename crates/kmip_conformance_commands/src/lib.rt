@@ -1,4 +1,4 @@
-//! Tests of kmip_commands and kmip_command_line, against messages and values that are known from
+//! Tests of kmip_commands, kmip_sim and kmip_command_line, against messages and values that are known from
 //! outside.
 //!
 //! The expected values come from the Key Management Interoperability Protocol Specification Version
@@ -23,6 +23,8 @@ mod limits;
 mod readers;
 #[cfg(test)]
 mod showing;
+#[cfg(test)]
+mod simulating;
 #[cfg(test)]
 mod streaming;
 #[cfg(test)]

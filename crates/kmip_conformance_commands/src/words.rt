@@ -2,6 +2,7 @@
 
 use kmip_command_line::{Choice, chosen, status_of};
 use kmip_commands::{ExitStatus, Form};
+use kmip_sim::Detail;
 use std::alloc::Global;
 use std::test::Fail;
 
@@ -13,11 +14,13 @@ enum Wanted {
     Check(&'static str),
     /// The path of the plan, and that of the earlier one.
     CheckAfter(&'static str, &'static str),
+    /// The path of the plan, that of the script, and how much is told.
+    Simulate(&'static str, &'static str, Detail),
     /// No command: this status, with a text that has these words.
     Text(ExitStatus, &'static str),
 }
 
-const ROWS: [(&[&str], Wanted); 22] = [
+const ROWS: [(&[&str], Wanted); 26] = [
     (&[], Wanted::Answer),
     (&["answer"], Wanted::Answer),
     (&["answer", "--stream"], Wanted::AnswerStream),
@@ -32,6 +35,14 @@ const ROWS: [(&[&str], Wanted); 22] = [
     (
         &["check", "--after=b", "--plan=a"],
         Wanted::CheckAfter("a", "b"),
+    ),
+    (
+        &["sim", "--plan", "a.toml", "--script", "b"],
+        Wanted::Simulate("a.toml", "b", Detail::Runs),
+    ),
+    (
+        &["sim", "--trace", "--script=b", "--plan=a"],
+        Wanted::Simulate("a", "b", Detail::Exchanges),
     ),
     (
         &["--version"],
@@ -53,6 +64,14 @@ const ROWS: [(&[&str], Wanted); 22] = [
     (
         &["check", "--help"],
         Wanted::Text(ExitStatus::Done, "--after"),
+    ),
+    (
+        &["sim", "--help"],
+        Wanted::Text(ExitStatus::Done, "--trace"),
+    ),
+    (
+        &["sim", "--trace", "--plan", "a"],
+        Wanted::Text(ExitStatus::Usage, "--script"),
     ),
     (&["check"], Wanted::Text(ExitStatus::Usage, "--plan")),
     (
@@ -101,6 +120,19 @@ fn is_wanted(alloc: Global, words: &[&str], wanted: &Wanted) -> Result<bool, Fai
             let plan = String::from_str(alloc, plan)?;
             let earlier = String::from_str(alloc, earlier)?;
             Ok(choice == Choice::CheckAfter { plan, earlier })
+        }
+        (Wanted::Simulate(plan, script, detail), Ok(choice)) => {
+            let plan = String::from_str(alloc, plan)?;
+            let script = String::from_str(alloc, script)?;
+            let detail = *detail;
+            Ok(
+                choice
+                    == Choice::Simulate {
+                        plan,
+                        script,
+                        detail,
+                    },
+            )
         }
         (Wanted::Text(status, part), Err(error)) => {
             let text = error.to_string(alloc)?;

@@ -1,2 +1,3 @@
 pub mod Simulating
 pub mod SimText
+pub mod Tracing

@@ -1,22 +1,21 @@
 -- What is written of a simulation: its runs, all that was asked, and the objects at the end.
 -- Source: own: what the program prints.
-use Rattle.std.specs.Prelude.{ℕ, ◌+◌, ◌-◌, Bool, true, false, List, [], ◌∷◌, ◌++◌, drop, length, codes, string_bytes, Option, Some, None}
+use Rattle.std.specs.Prelude.{ℕ, ◌+◌, ◌-◌, Bool, true, false, List, [], ◌∷◌, ◌++◌, length, codes, string_bytes, Option, Some, None}
 use Rattle.std.specs.Fmt.{decimal}
 use Rattle.std.specs.List.{flat_map, slice_get}
-use Rattle.std.specs.Option.{option_map_or, unwrap_or}
+use Rattle.std.specs.Option.{option_map_or}
 use Rattle.kmip_messages.specs.Items.{requests_in}
 use Rattle.kmip_messages.specs.Objects.{Object}
 use Rattle.kmip_messages.specs.declared.request.Ask.{Ask}
-use Rattle.kmip_messages.specs.declared.request.Ask.TheVariants.{Create, Locate, GetAttributes, Activate, Revoke, Destroy}
 use Rattle.kmip_messages.specs.declared.request.Request.{Request}
-use Rattle.kmip_messages.specs.declared.state.KeyState.{KeyState}
-use Rattle.kmip_messages.specs.declared.state.KeyState.TheVariants as states
 use Rattle.kmip_server.specs.Shown.{objects_in}
 use Rattle.kmip_scripted.specs.Scenes.{Scene}
 use Rattle.kmip_session.specs.Stops.{is_all_finished, stop_name}
 use Rattle.kmip_session.specs.declared.campaigning.CampaignEnd.{CampaignEnd}
 use Rattle.kmip_session.specs.declared.campaigning.RunEnd.{RunEnd}
 use Rattle.kmip_ttlv.specs.declared.fault.NoMemory.{NoMemory as Want}
+use Rattle.kmip_wording.specs.Names.{ask_word, state_word}
+use Rattle.kmip_wording.specs.Questions.{name_asked}
 
 -- the texts of things one after the other, each with its number, from this one on
 abbrev pub numbered_text : {X : Type 0} → (ℕ → X → List ℕ) → ℕ → List X → List ℕ
@@ -36,19 +35,6 @@ run_text number end = run_line number end ++ string_bytes end.report
 abbrev pub runs_text : List RunEnd → List ℕ
 runs_text ends = numbered_text run_text 1 ends
 
--- the name of the operation that is asked
-abbrev pub ask_word : Ask → List ℕ
-ask_word (Create attrs) = codes "Create"
-ask_word (Locate mask wanted) = codes "Locate"
-ask_word (GetAttributes uid) = codes "GetAttributes"
-ask_word (Activate uid) = codes "Activate"
-ask_word (Revoke uid code) = codes "Revoke"
-ask_word (Destroy uid) = codes "Destroy"
-
--- the key that a request is about: its id is the operation in one byte, and the key's name
-abbrev pub name_asked : Request → List ℕ
-name_asked request = drop 1 (unwrap_or request.id [])
-
 -- the front of the line of a request
 abbrev pub ask_line : ℕ → Ask → List ℕ
 ask_line number ask = codes "ask " ++ decimal number ++ codes " " ++ ask_word ask ++ codes " "
@@ -64,15 +50,6 @@ message_text number message = flat_map (ask_text number) (requests_in message)
 -- the messages that were ever asked, from 1
 abbrev pub asks_text : List (List ℕ) → List ℕ
 asks_text asked = numbered_text message_text 1 asked
-
--- the standard's name of a state
-abbrev pub state_word : KeyState → List ℕ
-state_word states.PreActive = codes "PreActive"
-state_word states.Active = codes "Active"
-state_word states.Deactivated = codes "Deactivated"
-state_word states.Compromised = codes "Compromised"
-state_word states.Destroyed = codes "Destroyed"
-state_word states.DestroyedCompromised = codes "DestroyedCompromised"
 
 -- the line of an object
 abbrev pub record_text : Object → List ℕ

@@ -3,7 +3,9 @@
 #![tactic(auto)]
 
 mod simulating;
+mod tracing;
 mod writing;
 
 pub use simulating::{Simulation, simulate};
+pub use tracing::push_trace;
 pub use writing::{push_asks, push_records, push_runs, push_simulation};

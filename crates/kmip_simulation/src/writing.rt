@@ -7,26 +7,24 @@ ghost use Rattle.kmip_store.specs.Stock.{object_of};
 ghost use Rattle.kmip_simulation.specs.SimText.{
   ask_line,
   ask_text,
-  ask_word,
   asks_text,
   message_text,
-  name_asked,
   record_text,
   records_text,
   run_line,
   run_text,
   runs_text,
   sim_text,
-  state_word,
 };
 
 use crate::simulating::Simulation;
-use kmip_messages::{Ask, KeyState, Request, read_request};
+use kmip_messages::{Ask, Request, read_request};
 use kmip_scripted::Scripted;
 use kmip_server::{IndexedStore, Records};
 use kmip_session::RunEnd;
 use kmip_store::Row;
 use kmip_ttlv::NoMemory;
+use kmip_wording::{ask_word, name_asked, state_word};
 use std::alloc::Global;
 
 /// Appends what is written of a simulation: each run that has ended with its report, and then, unless
@@ -149,33 +147,6 @@ fn ask_line(alloc: Global, number: usize, ask: &Ask) -> Result<String, NoMemory>
     Ok(line)
 }
 
-/// The name of the operation that is asked.
-fn ask_word(ask: &Ask) -> &'static str
-    ensures { result.now ≡ ask_word ask.now }
-{
-    match ask {
-        Ask::Create(_) => "Create",
-        Ask::Locate { mask: _, filter: _ } => "Locate",
-        Ask::GetAttributes(_) => "GetAttributes",
-        Ask::Activate(_) => "Activate",
-        Ask::Revoke(_, _) => "Revoke",
-        Ask::Destroy(_) => "Destroy",
-    }
-}
-
-/// The key that a request is about: what stands in its id behind the operation.
-fn name_asked(request: &Request) -> &[u8]
-    ensures { result.now ≡ name_asked request.now }
-{
-    let Some(id) = &request.id else {
-        return &[];
-    };
-    let Some((_operation, name)) = id.as_slice().split_first() else {
-        return &[];
-    };
-    name
-}
-
 /// Appends a line for each object of the link's server, in the order in which they were made.
 ///
 /// # Errors
@@ -216,18 +187,4 @@ fn record_line(alloc: Global, row: &Row) -> Result<String, NoMemory>
     let state = state_word(row.state);
     let line = format!(in alloc; "record {uid} {name} {state}\n")?;
     Ok(line)
-}
-
-/// The standard's name of a state.
-fn state_word(state: KeyState) -> &'static str
-    ensures { result.now ≡ state_word state }
-{
-    match state {
-        KeyState::PreActive => "PreActive",
-        KeyState::Active => "Active",
-        KeyState::Deactivated => "Deactivated",
-        KeyState::Compromised => "Compromised",
-        KeyState::Destroyed => "Destroyed",
-        KeyState::DestroyedCompromised => "DestroyedCompromised",
-    }
 }

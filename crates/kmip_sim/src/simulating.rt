@@ -1,62 +1,67 @@
-//! The command `sim`: a plan is carried out over a link in memory that follows a script.
-ghost use Rattle.std.specs.Prelude.{◌≡◌, [], Some, Ok, IfOk, IfErr, OnErr, string_bytes};
+//! The command `sim`, over a writer and in memory.
+ghost use Rattle.std.specs.Prelude.{◌≡◌, ◌++◌, [], Some, Ok, IfOk, IfErr, OnErr, OnOk, string_bytes};
 ghost use Rattle.kmip_plan.specs.Reading.{plan_read};
 ghost use Rattle.kmip_commands.specs.Printing.{IfFailed, IfWhole, UnlessOutput, fault_line};
-ghost use Rattle.kmip_commands.specs.Simulating.{
+ghost use Rattle.kmip_sim.specs.Simulating.{
   BreaksOffSim,
   TellsScriptFault,
   TellsSim,
   TellsSimulation,
   WritesSim,
   campaign_ended,
+  exchanges_text,
   script_refusal_text,
 };
 
-use crate::checking::push_refusal;
-use crate::exit_status::ExitStatus;
-use crate::fault::CommandFault;
-use crate::finishing::finished;
-use crate::replies::{push_text, send};
+use crate::detail::Detail;
+use kmip_commands::{CommandFault, ExitStatus, finished, push_refusal, push_text, send};
 use kmip_plan::{Plan, read_plan};
 use kmip_scripted::{Script, ScriptFault, read_script};
-use kmip_simulation::{Simulation, push_simulation, simulate};
+use kmip_simulation::{Simulation, push_simulation, push_trace, simulate};
 use kmip_ttlv::NoMemory;
 use std::alloc::Global;
 use std::io::Write;
 
 /// Runs `sim`, and prints a line for want of memory.
-pub fn run_sim<W: Write>(alloc: Global, plan: &str, script: &str, writer: &mut W) -> ExitStatus
-    ensures text { IfWhole result (λ r. WritesSim (plan_read plan.now) r
+pub fn run_sim<W: Write>(
+    alloc: Global,
+    detail: Detail,
+    plan: &str,
+    script: &str,
+    writer: &mut W,
+) -> ExitStatus
+    ensures text { IfWhole result (λ r. WritesSim detail (plan_read plan.now) r
         (W.contents writer.old) (W.contents writer.new)) }
-    ensures broken { IfFailed result (λ fault. UnlessOutput fault (BreaksOffSim
+    ensures broken { IfFailed result (λ fault. UnlessOutput fault (BreaksOffSim detail
         (plan_read plan.now) (fault_line fault) (W.contents writer.old) (W.contents writer.new))) }
 {
-    let ended = sim(alloc, plan, script, writer);
+    let ended = sim(alloc, detail, plan, script, writer);
     finished(ended, writer)
 }
 
 /// Carries out the text of a plan over a link to a server in memory that follows the text of a
-/// script, and writes how the runs of the script ended, what was asked, and the objects at the end;
-/// or one line where the plan is refused, else where the script is. Says whether one of them was
-/// refused, or the last run left a key of the plan unfinished. Nothing is written before all of it
-/// is made.
+/// script, and writes in this detail how the runs of the script ended, what was asked, and the
+/// objects at the end; or one line where the plan is refused, else where the script is. Says whether
+/// one of them was refused, or the last run left a key of the plan unfinished. Nothing is written
+/// before all of it is made.
 ///
 /// # Errors
 ///
 /// `Output` where the writer fails, and `NoMemory`: where a run ended for it, the runs before it are
-/// written, and else nothing.
+/// written, in no other detail, and else nothing.
 pub fn sim<W: Write>(
     alloc: Global,
+    detail: Detail,
     plan: &str,
     script: &str,
     writer: &mut W,
 ) -> Result<bool, CommandFault>
-    ensures text { IfOk result (λ r. WritesSim (plan_read plan.now) r
+    ensures text { IfOk result (λ r. WritesSim detail (plan_read plan.now) r
         (W.contents writer.old) (W.contents writer.new)) }
-    ensures broken { IfErr result (λ fault. UnlessOutput fault (BreaksOffSim
+    ensures broken { IfErr result (λ fault. UnlessOutput fault (BreaksOffSim detail
         (plan_read plan.now) [] (W.contents writer.old) (W.contents writer.new))) }
 {
-    let told = told_of(alloc, plan, script)?;
+    let told = told_of(alloc, detail, plan, script)?;
     send(told.text.as_slice(), false, writer)?;
     Ok(told.ended?)
 }
@@ -69,16 +74,17 @@ pub fn sim<W: Write>(
 /// nothing.
 pub fn sim_bytes(
     alloc: Global,
+    detail: Detail,
     plan: &str,
     script: &str,
     output: &mut Vec<u8>,
 ) -> Result<bool, NoMemory>
-    ensures text { IfOk result (λ r. WritesSim (plan_read plan.now) r
+    ensures text { IfOk result (λ r. WritesSim detail (plan_read plan.now) r
         (Some output.old.items) (Some output.new.items)) }
-    ensures broken { OnErr result (BreaksOffSim (plan_read plan.now) []
+    ensures broken { OnErr result (BreaksOffSim detail (plan_read plan.now) []
         (Some output.old.items) (Some output.new.items)) }
 {
-    let told = told_of(alloc, plan, script)?;
+    let told = told_of(alloc, detail, plan, script)?;
     push_text(told.text.as_slice(), output)?;
     told.ended
 }
@@ -96,11 +102,11 @@ struct Told {
 /// # Errors
 ///
 /// Where there is no memory for the text or for what is read.
-fn told_of(alloc: Global, plan: &str, script: &str) -> Result<Told, NoMemory>
-    ensures { IfOk result (λ told. TellsSim (plan_read plan.now) told.ended told.text.items) }
+fn told_of(alloc: Global, detail: Detail, plan: &str, script: &str) -> Result<Told, NoMemory>
+    ensures { IfOk result (λ told. TellsSim detail (plan_read plan.now) told.ended told.text.items) }
 {
     match read_plan(alloc, plan) {
-        Ok(plan) => told_of_script(alloc, &plan, script),
+        Ok(plan) => told_of_script(alloc, detail, &plan, script),
         Err(fault) => {
             let mut text = Vec::new(alloc);
             push_refusal(alloc, &fault, &mut text)?;
@@ -113,11 +119,16 @@ fn told_of(alloc: Global, plan: &str, script: &str) -> Result<Told, NoMemory>
 }
 
 /// The same of a plan that is read already.
-fn told_of_script(alloc: Global, plan: &Plan, script: &str) -> Result<Told, NoMemory>
-    ensures { IfOk result (λ told. TellsSim (Ok plan.now) told.ended told.text.items) }
+fn told_of_script(
+    alloc: Global,
+    detail: Detail,
+    plan: &Plan,
+    script: &str,
+) -> Result<Told, NoMemory>
+    ensures { IfOk result (λ told. TellsSim detail (Ok plan.now) told.ended told.text.items) }
 {
     match read_script(alloc, script) {
-        Ok(script) => told_of_simulation(alloc, plan, script),
+        Ok(script) => told_of_simulation(alloc, detail, plan, script),
         Err(ScriptFault::Line(line)) => told_of_line(alloc, line),
         Err(ScriptFault::NoMemory) => Err(NoMemory),
     }
@@ -144,14 +155,36 @@ fn script_refusal_text(alloc: Global, line: usize) -> Result<String, NoMemory>
 }
 
 /// What is told of a script that is simulated for a plan.
-fn told_of_simulation(alloc: Global, plan: &Plan, script: Script) -> Result<Told, NoMemory>
-    ensures { IfOk result (λ told. TellsSimulation plan.now told.ended told.text.items) }
+fn told_of_simulation(
+    alloc: Global,
+    detail: Detail,
+    plan: &Plan,
+    script: Script,
+) -> Result<Told, NoMemory>
+    ensures { IfOk result (λ told. TellsSimulation detail plan.now told.ended told.text.items) }
 {
     let simulation = simulate(alloc, plan, script)?;
     let mut text = Vec::new(alloc);
+    push_exchanges(alloc, detail, &simulation, &mut text)?;
     push_simulation(alloc, &simulation, &mut text)?;
     let ended = campaign_ended(&simulation);
     Ok(Told { text, ended })
+}
+
+/// Appends a line for each exchange, where these are to be told and memory did not run out in a run.
+fn push_exchanges(
+    alloc: Global,
+    detail: Detail,
+    simulation: &Simulation,
+    text: &mut Vec<u8>,
+) -> Result<(), NoMemory>
+    ensures { OnOk result (text.new.items ≡ text.old.items
+        ++ exchanges_text detail simulation.now.end.fault simulation.now.link) }
+{
+    match (detail, simulation.end.fault) {
+        (Detail::Exchanges, None) => push_trace(alloc, &simulation.link, text),
+        (Detail::Runs, _) | (Detail::Exchanges, Some(NoMemory)) => Ok(()),
+    }
 }
 
 /// How the campaign of a simulation ended.

@@ -1,0 +1,10 @@
+//! How much is told of a simulation.
+
+/// How much `sim` writes of a simulation.
+#[derive(Clone, Copy, Debug, PartialEq, Eq)]
+pub enum Detail {
+    /// How the runs ended, what was asked, and the objects at the end.
+    Runs,
+    /// Before these each exchange, unless memory ran out in a run.
+    Exchanges,
+}

@@ -1,0 +1,11 @@
+//! The command `sim` of `kmipctl`: a plan is carried out over a link in memory that follows a script.
+//!
+//! `sim` does the work and returns a fault as a value; `run_sim` also prints the fault and says how the
+//! program ends. `sim_bytes` does the same work in memory, where nothing but memory can fail.
+#![tactic(auto)]
+
+mod detail;
+mod simulating;
+
+pub use detail::Detail;
+pub use simulating::{run_sim, sim, sim_bytes};

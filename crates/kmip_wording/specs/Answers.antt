@@ -1,0 +1,75 @@
+-- What came back for a question, in words. Whatever a reply names is written in plain characters, so that it forges no line.
+-- Source: own: what the program prints.
+use Rattle.std.specs.Prelude.{ℕ, nat_eq, Bool, true, false, List, [], ◌∷◌, ◌++◌, codes, Option, Some, None, option_and_then, if◌then◌else◌}
+use Rattle.std.specs.Cmp.Lexicographic.{pointwise}
+use Rattle.std.specs.Fmt.{decimal}
+use Rattle.std.specs.List.{flat_map, list_all}
+use Rattle.kmip_ttlv.specs.Showing.{plain_text}
+use Rattle.kmip_messages.specs.Items.{replies_in}
+use Rattle.kmip_messages.specs.Ranges.{is_name_byte}
+use Rattle.kmip_messages.specs.declared.reply.Outcome.{Outcome}
+use Rattle.kmip_messages.specs.declared.reply.Outcome.TheVariants.{Created, Located, Attributes, Activated, Revoked, Destroyed, Failed}
+use Rattle.kmip_messages.specs.declared.reply.Reply.{Reply}
+use Rattle.kmip_messages.specs.declared.state.KeyState.{KeyState}
+use Rattle.kmip_wording.specs.Names.{operation_word, state_of, state_word}
+use Rattle.kmip_wording.specs.Questions.{id_asked}
+
+-- a space and an identifier
+abbrev pub spaced_text : List ℕ → List ℕ
+spaced_text uid = codes " " ++ plain_text uid
+
+-- the objects that were found
+abbrev pub found_text : List (List ℕ) → List ℕ
+found_text [] = codes "found none"
+found_text (uid ∷ uids) = codes "found" ++ flat_map spaced_text (uid ∷ uids)
+
+-- an object is in a state, where the reply tells one
+abbrev pub told_text : List ℕ → Option KeyState → List ℕ
+told_text uid None = plain_text uid ++ codes " told"
+told_text uid (Some state) = plain_text uid ++ codes " is " ++ state_word state
+
+-- a failure, with the number of its Result Reason where there is one
+abbrev pub failure_text : Option ℕ → List ℕ
+failure_text None = codes "refused"
+failure_text (Some reason) = codes "refused, reason " ++ decimal reason
+
+-- how an operation went
+abbrev pub outcome_text : Outcome → List ℕ
+outcome_text (Created uid) = codes "created as " ++ plain_text uid
+outcome_text (Located uids) = found_text uids
+outcome_text (Attributes uid attrs) = told_text uid (option_and_then state_of attrs.state)
+outcome_text (Activated uid) = codes "activated " ++ plain_text uid
+outcome_text (Revoked uid) = codes "revoked " ++ plain_text uid
+outcome_text (Destroyed uid) = codes "destroyed " ++ plain_text uid
+outcome_text (Failed reason) = failure_text reason
+
+-- an operation and a name, where there is such an operation
+abbrev pub named_text : Option (List ℕ) → List ℕ → List ℕ
+named_text None name = codes "no question"
+named_text (Some word) name = word ++ codes " " ++ name
+
+-- the question that an id names: an operation in one byte, and a name of plain characters
+abbrev pub id_text : Option (List ℕ) → List ℕ
+id_text None = codes "no question"
+id_text (Some []) = codes "no question"
+id_text (Some (number ∷ name)) = if list_all is_name_byte name then named_text (operation_word number) name else codes "no question"
+
+-- the two ids are one, or there is neither
+abbrev pub is_same_id : Option (List ℕ) → Option (List ℕ) → Bool
+is_same_id None None = true
+is_same_id (Some id) (Some other) = pointwise nat_eq id other
+is_same_id id other = false
+
+-- which question a reply answers, where it is not the one that was asked
+abbrev pub whose_text : Option (List ℕ) → Option (List ℕ) → List ℕ
+whose_text asked id = if is_same_id asked id then [] else codes "answers " ++ id_text id ++ codes ", "
+
+-- the first of these replies to the question of this id, in words
+abbrev pub first_reply_text : Option (List ℕ) → List Reply → List ℕ
+first_reply_text asked [] = codes "an unreadable reply"
+first_reply_text asked (reply ∷ others) = whose_text asked reply.id ++ outcome_text reply.outcome
+
+-- what came back for what some bytes ask: other bytes, or nothing
+abbrev pub answer_text : List ℕ → Option (List ℕ) → List ℕ
+answer_text request None = codes "no reply"
+answer_text request (Some reply) = first_reply_text (id_asked request) (replies_in reply)

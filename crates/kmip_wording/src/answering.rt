@@ -1,0 +1,135 @@
+//! What came back for a question, in words.
+ghost use Rattle.std.specs.Prelude.{◌≡◌, ◌++◌, OnOk, option_map};
+ghost use Rattle.std.specs.List.{list_all};
+ghost use Rattle.kmip_messages.specs.Items.{replies_in};
+ghost use Rattle.kmip_messages.specs.Ranges.{is_name_byte};
+ghost use Rattle.kmip_wording.specs.Names.{operation_word};
+ghost use Rattle.kmip_wording.specs.Questions.{id_asked};
+ghost use Rattle.kmip_wording.specs.Answers.{first_reply_text, id_text, is_same_id, named_text, answer_text, whose_text};
+
+use crate::asking::id_asked;
+use crate::names::operation_word;
+use crate::outcomes::push_outcome;
+use kmip_messages::read_reply;
+use kmip_ttlv::{Bytes, NoMemory};
+use std::alloc::Global;
+
+/// Appends what came back for the bytes of a request: how the operation went by the bytes of the
+/// reply, `an unreadable reply` where they are none, and `no reply` where none came. Where the reply
+/// has another id than the request, `answers` and the question that its id names stand before it.
+///
+/// # Errors
+/// Where there is no memory for it.
+pub fn push_answer(
+    alloc: Global,
+    request: &[u8],
+    reply: Option<&[u8]>,
+    text: &mut Vec<u8>,
+) -> Result<(), NoMemory>
+    ensures { OnOk result (text.new.items ≡ text.old.items
+        ++ answer_text request.now (option_map (λ bytes. bytes.now) reply.entry)) }
+{
+    let Some(reply) = reply else {
+        text.extend_from_slice(b"no reply")?;
+        return Ok(());
+    };
+    push_reply(alloc, request, reply, text)
+}
+
+/// Appends what the bytes of a reply say to those of a request.
+fn push_reply(
+    alloc: Global,
+    request: &[u8],
+    reply: &[u8],
+    text: &mut Vec<u8>,
+) -> Result<(), NoMemory>
+    ensures { OnOk result (text.new.items ≡ text.old.items
+        ++ first_reply_text (id_asked request.now) (replies_in reply.now)) }
+{
+    match read_reply(alloc, reply) {
+        Ok(reply) => {
+            push_whose(alloc, request, &reply.id, text)?;
+            push_outcome(alloc, &reply.outcome, text)
+        }
+        Err(fault) => {
+            if fault.is_no_memory() {
+                return Err(NoMemory);
+            }
+            text.extend_from_slice(b"an unreadable reply")?;
+            Ok(())
+        }
+    }
+}
+
+/// Appends which question a reply with this id answers, where it is not the one in the bytes of the
+/// request.
+fn push_whose(
+    alloc: Global,
+    request: &[u8],
+    id: &Option<Bytes>,
+    text: &mut Vec<u8>,
+) -> Result<(), NoMemory>
+    ensures { OnOk result (text.new.items ≡ text.old.items
+        ++ whose_text (id_asked request.now) id.now) }
+{
+    let asked = id_asked(alloc, request)?;
+    if is_same_id(&asked, id) {
+        return Ok(());
+    }
+    text.extend_from_slice(b"answers ")?;
+    push_id(id, text)?;
+    text.extend_from_slice(b", ")?;
+    Ok(())
+}
+
+/// Whether the two ids are one, or there is neither.
+fn is_same_id(id: &Option<Bytes>, other: &Option<Bytes>) -> bool
+    ensures { result ≡ is_same_id id.now other.now }
+{
+    match (id, other) {
+        (None, None) => true,
+        (Some(id), Some(other)) => id.as_slice() == other.as_slice(),
+        (None, Some(_)) | (Some(_), None) => false,
+    }
+}
+
+/// Appends the question that an id names.
+fn push_id(id: &Option<Bytes>, text: &mut Vec<u8>) -> Result<(), NoMemory>
+    ensures { OnOk result (text.new.items ≡ text.old.items ++ id_text id.now) }
+{
+    let Some(id) = id else {
+        text.extend_from_slice(b"no question")?;
+        return Ok(());
+    };
+    let Some((number, name)) = id.as_slice().split_first() else {
+        text.extend_from_slice(b"no question")?;
+        return Ok(());
+    };
+    if !is_plain(name) {
+        text.extend_from_slice(b"no question")?;
+        return Ok(());
+    }
+    push_named(operation_word(u32::from(*number)), name, text)
+}
+
+/// Appends an operation and a name, where there is such an operation.
+fn push_named(word: Option<&str>, name: &[u8], text: &mut Vec<u8>) -> Result<(), NoMemory>
+    ensures { OnOk result (text.new.items ≡ text.old.items
+        ++ named_text (option_map (λ word. word.now) word.entry) name.now) }
+{
+    let Some(word) = word else {
+        text.extend_from_slice(b"no question")?;
+        return Ok(());
+    };
+    text.extend_from_slice(word.as_bytes())?;
+    text.push(b' ')?;
+    text.extend_from_slice(name)?;
+    Ok(())
+}
+
+/// Whether each byte is of a printing ASCII character other than the space.
+fn is_plain(name: &[u8]) -> bool
+    ensures { result ≡ list_all is_name_byte name.now }
+{
+    name.iter().all(|byte| 0x21 <= *byte && *byte <= 0x7E)
+}

@@ -1,0 +1,13 @@
+//! An exchange in words: what was asked, and what came back. The texts are for a reader's eye, and
+//! each is a part of a line: whatever a reply names in it stands in plain characters.
+#![tactic(auto)]
+
+mod answering;
+mod asking;
+mod names;
+mod outcomes;
+
+pub use answering::push_answer;
+pub use asking::{name_asked, push_question};
+pub use names::{ask_word, state_word};
+pub use outcomes::push_outcome;
