@@ -1,5 +1,5 @@
 -- What one read adds to what is held.
-use Rattle.std.proofs.Common.{◌≡◌, ℕ, ◌+◌, ◌-◌, ◌<◌, ◌≤◌, min, List, [], ◌++◌, length, take, None, Some, Option, inl, inr, refl, sym, ap, ◌∙◌, arith}
+use Rattle.std.proofs.Common.{◌≡◌, ℕ, ◌+◌, ◌-◌, ◌<◌, ◌≤◌, min, List, [], ◌++◌, length, take, None, Some, Option, Err, inl, inr, refl, sym, ap, subst, ◌∙◌, arith}
 use Rattle.std.specs.Io.KnownBytes.{Consumes, Keeps}
 use Rattle.std.proofs.KnownBytes.{Consumes-nil, Consumes-trans, Consumes-kept}
 use Rattle.std.proofs.lemmas.Bool.{cases_lt}
@@ -10,7 +10,9 @@ use Rattle.kmip_frames.specs.Framing.{fault_in, size_needed, wants, held_after, 
 use Rattle.kmip_frames.specs.declared.fault.FrameFault.{FrameFault}
 use Rattle.kmip_frames.specs.Laws.{ShortBytesLackAHead, SizesAreBounded, MessagesAreWhole, MoreChangesNothing}
 use Rattle.kmip_frames.specs.Streams.{IsMessage, BeginsWithNoMessage}
-use Rattle.kmip_transport.specs.Receiving.{Takes}
+use Rattle.kmip_schedule.specs.declared.link.LinkFault.{LinkFault}
+use Rattle.kmip_schedule.specs.declared.link.LinkFault.TheVariants.{Io}
+use Rattle.kmip_transport.specs.Receiving.{Takes, IsUnfinished, Receives}
 
 -- a piece that is no longer than what is lacking is taken whole
 pub whole_piece : ShortBytesLackAHead → SizesAreBounded → MoreChangesNothing
@@ -84,3 +86,19 @@ Takes-kept a b x y same kept = record {
   consumed = Consumes-kept x x y [] (Consumes-nil x) kept;
   joined = same ∙ sym (append-nil a);
 }
+
+-- one more piece, where what was held still is
+pub takes_on : (a b c d : List ℕ) (x y z : Option (List ℕ)) → Takes a b x y → c ≡ b → Takes c d y z → Takes a d x z
+takes_on a b c d x y z one same two = Takes-trans a b d x y z one (subst (λ held. Takes held d y z) same two)
+
+-- reading broke off
+pub received_no_more : {M : Type 0} (bytes : M → List ℕ) (fault : LinkFault) (a b c d : List ℕ) (x y z : Option (List ℕ)) → Takes a b x y
+    → IsUnfinished b × (c ≡ b) → Takes c d y z → (fault ≡ Io) × (d ≡ c) → Receives bytes (Err fault) a d x z
+received_no_more bytes fault a b c d x y z one unfinished two (io, kept) =
+    let same : d ≡ b = kept ∙ unfinished.1 in
+    let whole = takes_on a b c d x y z one unfinished.1 two in
+    rw io (record {
+      read = whole.read;
+      consumed = whole.consumed;
+      answered = rw (← whole.joined) (rw (← same) at unfinished.0, refl);
+    })

@@ -33,14 +33,20 @@ pub fn receive_message<R: Read>(
         (R.remaining reader.old) (R.remaining reader.new) }
 {
     for _ in 0..u64::MAX {
-        if let Some(message) = hand_over(alloc, framer)? {
-            return Ok(Some(message));
+        match hand_over(alloc, framer) {
+            Ok(None) => {}
+            answer => return answer,
         }
-        if !take_piece(reader, framer)? {
-            return Ok(None);
+        match take_piece(reader, framer) {
+            Ok(true) => {}
+            Ok(false) => return Ok(None),
+            Err(fault) => return Err(fault),
         }
     }
-    Err(LinkFault::Io)
+    match hand_over(alloc, framer) {
+        Ok(None) => Err(LinkFault::Io),
+        answer => answer,
+    }
 }
 
 /// The message that waits, where one does.
