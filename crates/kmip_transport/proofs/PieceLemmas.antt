@@ -1,15 +1,13 @@
 -- What one read adds to what is held.
-use Rattle.std.proofs.Common.{◌≡◌, ℕ, ◌+◌, ◌-◌, ◌<◌, ◌≤◌, min, List, [], ◌++◌, length, take, None, Some, Option, Err, inl, inr, refl, sym, ap, subst, ◌∙◌, arith}
+use Rattle.std.proofs.Common.{◌≡◌, ℕ, ◌+◌, ◌≤◌, List, [], ◌++◌, length, take, Option, Err, inl, inr, refl, sym, ap, subst, ◌∙◌, arith}
 use Rattle.std.specs.Io.KnownBytes.{Consumes, Keeps}
 use Rattle.std.proofs.KnownBytes.{Consumes-nil, Consumes-trans, Consumes-kept}
 use Rattle.std.proofs.lemmas.Bool.{cases_lt}
 use Rattle.std.proofs.lemmas.List.{length-append, append-nil, take_all}
 use Rattle.std.proofs.Common.{append_assoc}
 use Rattle.kmip_ttlv.specs.Limits.{head_size}
-use Rattle.kmip_frames.specs.Framing.{fault_in, size_needed, wants, held_after, count_taken, IsHeldAfter, IsHeld}
-use Rattle.kmip_frames.specs.declared.fault.FrameFault.{FrameFault}
-use Rattle.kmip_frames.specs.Laws.{ShortBytesLackAHead, SizesAreBounded, MessagesAreWhole, MoreChangesNothing}
-use Rattle.kmip_frames.specs.Streams.{IsMessage, BeginsWithNoMessage}
+use Rattle.kmip_frames.specs.Framing.{size_needed, wants, held_after, count_taken}
+use Rattle.kmip_frames.specs.Laws.{ShortBytesLackAHead, SizesAreBounded, MoreChangesNothing}
 use Rattle.kmip_schedule.specs.declared.link.LinkFault.{LinkFault}
 use Rattle.kmip_schedule.specs.declared.link.LinkFault.TheVariants.{Io}
 use Rattle.kmip_transport.specs.Receiving.{Takes, IsUnfinished, Receives}
@@ -21,8 +19,8 @@ whole_piece short bounds more held piece fits =
     let size : length (held ++ piece) ≡ length held + length piece = length-append held piece in
     let least : head_size ≤ size_needed (held ++ piece) = (bounds (held ++ piece)).0 in
     elim (cases_lt (length held) head_size) [
-    | inl few ↦ (let needed : size_needed held ≡ head_size = (short held few).1 in omega arith)
-    | inr many ↦ (let needed : size_needed (held ++ piece) ≡ size_needed held = (more held piece many).1 in omega arith)
+      | inl few ↦ (let needed : size_needed held ≡ head_size = (short held few).1 in omega arith)
+      | inr many ↦ (let needed : size_needed (held ++ piece) ≡ size_needed held = (more held piece many).1 in omega arith)
     ]
 
 -- so all of it joins what was held
@@ -30,32 +28,6 @@ pub piece_held : ShortBytesLackAHead → SizesAreBounded → MoreChangesNothing
     → (held piece : List ℕ) → length piece ≤ wants held → held_after held piece ≡ held ++ piece
 piece_held short bounds more held piece fits =
     ap (λ n. held ++ take n piece) (whole_piece short bounds more held piece fits) ∙ ap (λ p. held ++ p) (take_all (length piece) piece (omega arith))
-
--- what is held without a fault is no more than is needed
-held_within : MessagesAreWhole → MoreChangesNothing → (held : List ℕ) (o : Option FrameFault) → IsHeldAfter o held → o ≡ None
-    → head_size ≤ length held → length held ≤ size_needed held
-held_within whole more held (Some fault) is none many = absurd cc
-held_within whole more held None is none many = elim is [
-    | inl few ↦ absurd (omega arith)
-    | inr one ↦ (
-        let all : length (held ++ one.0) ≡ size_needed (held ++ one.0) = ((whole (held ++ one.0)).0 one.1).1 in
-        let same : size_needed (held ++ one.0) ≡ size_needed held = (more held one.0 many).1 in
-        let size : length (held ++ one.0) ≡ length held + length one.0 = length-append held one.0 in
-        omega arith)
-    ]
-
--- what is held and neither faulty nor a message lacks some bytes
-pub still_wants : ShortBytesLackAHead → MessagesAreWhole → MoreChangesNothing
-    → (held : List ℕ) → IsHeld held → fault_in held ≡ None → BeginsWithNoMessage held → 0 < wants held
-still_wants short whole more held is lawful begun = elim (cases_lt (length held) head_size) [
-    | inl few ↦ (let needed : size_needed held ≡ head_size = (short held few).1 in omega arith)
-    | inr many ↦ (
-        let within : length held ≤ size_needed held = held_within whole more held (fault_in held) is lawful many in
-        elim (cases_lt (length held) (size_needed held)) [
-        | inl lacks ↦ omega arith
-        | inr least ↦ absurd (begun held [] (sym (append-nil held)) ((whole held).1 lawful (omega arith)))
-        ])
-    ]
 
 -- a read that gave these bytes, which were all taken
 pub takes_piece : ShortBytesLackAHead → SizesAreBounded → MoreChangesNothing

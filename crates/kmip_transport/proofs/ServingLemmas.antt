@@ -1,5 +1,5 @@
 -- Messages that are served in turn, and how a stream of them ends.
-use Rattle.std.proofs.Common.{◌≡◌, ◌+◌, ◌<◌, ◌≤◌, ◌⊎◌, ℕ, ℤ, Result, List, [], ◌∷◌, ◌++◌, length, Option, None, Some, IfSome, IsSome, Ok, Err, inl, inr, refl, sym, ap, subst, ◌∙◌, append_assoc, arith}
+use Rattle.std.proofs.Common.{◌≡◌, ◌+◌, ◌≤◌, ℕ, ℤ, Result, List, [], ◌∷◌, ◌++◌, length, Option, None, Some, IfSome, IsSome, Ok, Err, inl, inr, refl, sym, ap, subst, ◌∙◌, append_assoc, arith}
 use Rattle.std.specs.Io.KnownBytes.{Consumes, Appends}
 use Rattle.std.specs.List.{AllByRecursion}
 use Rattle.std.proofs.KnownBytes.{Consumes-nil, Consumes-trans, Appends-nil, Appends-trans}
@@ -8,14 +8,14 @@ use Rattle.std.proofs.lemmas.List.Concat.{flat_map-append}
 use Rattle.kmip_frames.specs.declared.fault.FrameFault.{FrameFault}
 use Rattle.kmip_frames.specs.Framing.{fault_in}
 use Rattle.kmip_frames.specs.Laws.{ShortBytesLackAHead, FaultsNeedNoMore}
-use Rattle.kmip_frames.specs.Streams.{IsMessage, BeginsWithNoMessage, joined}
+use Rattle.kmip_frames.specs.Streams.{IsMessage, joined}
 use Rattle.kmip_schedule.specs.declared.link.LinkFault.{LinkFault}
 use Rattle.kmip_schedule.specs.declared.link.LinkFault.TheVariants as faults
 use Rattle.kmip_server.specs.Serving.{reply_bytes, stock_after}
 use Rattle.kmip_store.specs.Stock.{Stock}
 use Rattle.kmip_ttlv.specs.Limits.{head_size}
 use Rattle.kmip_transport.specs.Receiving.{IsUnfinished, Receives}
-use Rattle.kmip_transport.specs.Serving.{stock_after_messages, replies_to, EndsWith, IsWritten, Serves, ServesOne, EndsBy}
+use Rattle.kmip_transport.specs.Serving.{stock_after_messages, replies_to, IsWritten, Serves, ServesOne, EndsBy}
 use Rattle.kmip_transport.specs.declared.serving.StreamEnd.{StreamEnd}
 use Rattle.kmip_transport.specs.declared.serving.StreamEnd.TheVariants as ends
 
@@ -28,10 +28,13 @@ fresh bytes result held new x y none r = subst (λ h. Receives bytes result h ne
 
 -- no bytes are neither a message nor a head that is no message's
 pub nothing_unfinished : ShortBytesLackAHead → IsUnfinished []
-nothing_unfinished short = ((short [] (omega arith)).0, λ message more is whole.
-    let size : 0 ≡ length message + length more = ap length is ∙ length-append message more in
-    let head : head_size ≤ length message = whole.head in
-    omega arith)
+nothing_unfinished short = (
+  (short [] (omega arith)).0,
+  λ message more is whole.
+      let size : 0 ≡ length message + length more = ap length is ∙ length-append message more in
+      let head : head_size ≤ length message = whole.head in
+      omega arith,
+)
 
 -- the stream ended
 pub stream_ended : {M : Type 0} (bytes : M → List ℕ) (now : ℤ) (s : Stock) (held new : List ℕ) (size : ℕ) (x y w : Option (List ℕ)) → held ≡ []

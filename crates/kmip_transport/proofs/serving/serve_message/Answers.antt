@@ -1,5 +1,4 @@
 -- The ends of a stream, at one message.
-use Rattle.std.proofs.Common.{sym, ◌∙◌}
 use Rattle.kmip_transport.proofs.ServingLemmas.{stream_ended, stream_failed, not_served, not_written}
 use Rattle.kmip_transport.proofs.serving.serve_message.Goals as goal
 
