@@ -1,0 +1,229 @@
+-- Messages that are served in turn, and how a stream of them ends.
+use Rattle.std.proofs.Common.{◌≡◌, ◌+◌, ◌≤◌, ℕ, ℤ, Result, List, [], ◌∷◌, ◌++◌, length, Option, None, Some, IfSome, IsSome, Ok, Err, inl, inr, refl, sym, ap, subst, ◌∙◌, append_assoc, arith}
+use Rattle.std.specs.Io.KnownBytes.{Consumes, Appends}
+use Rattle.std.specs.List.{AllByRecursion}
+use Rattle.std.proofs.KnownBytes.{Consumes-nil, Consumes-trans, Appends-nil, Appends-trans}
+use Rattle.std.proofs.lemmas.List.{append-nil, length-append}
+use Rattle.std.proofs.lemmas.List.Concat.{flat_map-append}
+use Rattle.kmip_frames.specs.declared.fault.FrameFault.{FrameFault}
+use Rattle.kmip_frames.specs.Framing.{fault_in}
+use Rattle.kmip_frames.specs.Laws.{ShortBytesLackAHead, FaultsNeedNoMore}
+use Rattle.kmip_frames.specs.Streams.{IsMessage, joined}
+use Rattle.kmip_schedule.specs.declared.link.LinkFault.{LinkFault}
+use Rattle.kmip_schedule.specs.declared.link.LinkFault.TheVariants as faults
+use Rattle.kmip_server.specs.Serving.{reply_bytes, stock_after}
+use Rattle.kmip_store.specs.Stock.{Stock}
+use Rattle.kmip_ttlv.specs.Limits.{head_size}
+use Rattle.kmip_transport.specs.Receiving.{IsUnfinished, Receives}
+use Rattle.kmip_transport.specs.Serving.{stock_after_messages, replies_to, IsWritten, Serves, ServesOne, EndsBy}
+use Rattle.kmip_transport.specs.declared.serving.StreamEnd.{StreamEnd}
+use Rattle.kmip_transport.specs.declared.serving.StreamEnd.TheVariants as ends
+
+-- ---- one message
+
+-- a framer that held nothing
+fresh : {M : Type 0} (bytes : M → List ℕ) (result : Result (Option M) LinkFault) (held new : List ℕ) (x y : Option (List ℕ)) → held ≡ []
+    → Receives bytes result held new x y → Receives bytes result [] new x y
+fresh bytes result held new x y none r = subst (λ h. Receives bytes result h new x y) none r
+
+-- no bytes are neither a message nor a head that is no message's
+pub nothing_unfinished : ShortBytesLackAHead → IsUnfinished []
+nothing_unfinished short = (
+  (short [] (omega arith)).0,
+  λ message more is whole.
+      let size : 0 ≡ length message + length more = ap length is ∙ length-append message more in
+      let head : head_size ≤ length message = whole.head in
+      omega arith,
+)
+
+-- the stream ended
+pub stream_ended : {M : Type 0} (bytes : M → List ℕ) (now : ℤ) (s : Stock) (held new : List ℕ) (size : ℕ) (x y w : Option (List ℕ)) → held ≡ []
+    → Receives bytes (Ok None) held new x y → size ≡ length new → Serves now (ends.Ended size) s s x y w w
+stream_ended bytes now s held new size x y w none received is =
+    let r = fresh bytes (Ok None) held new x y none received in
+    record {
+      messages = [];
+      rest = r.read;
+      read = r.consumed;
+      each = tt;
+      ends = (r.answered.0, is ∙ ap length r.answered.1, r.answered.2);
+      records = refl;
+      written = Appends-nil w;
+    }
+
+-- a head that is no message's
+no_head : (now : ℤ) (end : StreamEnd) (s : Stock) (read : List ℕ) (o : Option FrameFault) (x y w : Option (List ℕ)) → FaultsNeedNoMore → fault_in read ≡ o
+    → IsSome o → IfSome o (λ fault. end ≡ ends.Frame fault) → Consumes x y read → Serves now end s s x y w w
+no_head now end s read None x y w law is some ended consumed = absurd cc
+no_head now end s read (Some fault) x y w law is some ended consumed = rw ended (record {
+  messages = [];
+  rest = read;
+  read = consumed;
+  each = tt;
+  ends = (is, (law read fault is).2);
+  records = refl;
+  written = Appends-nil w;
+})
+
+-- no message could be received
+pub stream_failed : {M : Type 0} (bytes : M → List ℕ) (fault : LinkFault) (now : ℤ) (end : StreamEnd) (s : Stock) (held new : List ℕ) (x y w : Option (List ℕ))
+    → FaultsNeedNoMore → held ≡ [] → Receives bytes (Err fault) held new x y → EndsBy fault (fault_in new) end → Serves now end s s x y w w
+stream_failed bytes faults.Io now end s held new x y w law none received is =
+    let r = fresh bytes (Err faults.Io) held new x y none received in
+    rw is (record {
+      messages = [];
+      rest = r.read;
+      read = r.consumed;
+      each = tt;
+      ends = r.answered.0;
+      records = refl;
+      written = inl (Appends-nil w);
+    })
+stream_failed bytes faults.Frame now end s held new x y w law none received is =
+    let r = fresh bytes (Err faults.Frame) held new x y none received in
+    no_head now end s r.read (fault_in r.read) x y w law refl r.answered.0.0
+    (subst (λ b. IfSome (fault_in b) (λ fault. end ≡ ends.Frame fault)) r.answered.1 is) r.consumed
+stream_failed bytes faults.NoMemory now end s held new x y w law none received is =
+    let r = fresh bytes (Err faults.NoMemory) held new x y none received in
+    rw is (record {
+      messages = [];
+      rest = r.read;
+      read = r.consumed;
+      each = tt;
+      ends = inr r.answered.0;
+      records = refl;
+      written = Appends-nil w;
+    })
+
+-- a message was received, and there was no memory to serve it
+pub not_served : {M : Type 0} (bytes : M → List ℕ) (message : M) (now : ℤ) (s t : Stock) (held new : List ℕ) (x y w : Option (List ℕ)) → held ≡ []
+    → Receives bytes (Ok (Some message)) held new x y → t ≡ s → Serves now ends.NoMemory s t x y w w
+not_served bytes message now s t held new x y w none received same =
+    let r = fresh bytes (Ok (Some message)) held new x y none received in
+    record {
+      messages = [];
+      rest = r.read;
+      read = r.consumed;
+      each = tt;
+      ends = inr r.answered.0;
+      records = same;
+      written = Appends-nil w;
+    }
+
+-- a message was served, and its reply could not be written
+pub not_written : {M : Type 0} (bytes : M → List ℕ) (message : M) (sent : List ℕ) (now : ℤ) (s t : Stock) (held new : List ℕ) (x y w v : Option (List ℕ))
+    → ShortBytesLackAHead → held ≡ [] → Receives bytes (Ok (Some message)) held new x y → sent ≡ bytes message → t ≡ stock_after s sent
+    → Serves now ends.Io s t x y w v
+not_written bytes message sent now s t held new x y w v short none received is served =
+    let r = fresh bytes (Ok (Some message)) held new x y none received in
+    record {
+      messages = r.read ∷ [];
+      rest = [];
+      read = subst (Consumes x y) (sym (append-nil r.read) ∙ sym (append-nil (r.read ++ []))) r.consumed;
+      each = (r.answered.0, tt);
+      ends = nothing_unfinished short;
+      records = served ∙ ap (stock_after s) (is ∙ r.answered.1);
+      written = inr (omega arith);
+    }
+
+-- ---- messages in turn
+
+pub stock_after_messages-append : (s : Stock) (a b : List (List ℕ)) → stock_after_messages s (a ++ b) ≡ stock_after_messages (stock_after_messages s a) b
+stock_after_messages-append s [] b = refl
+stock_after_messages-append s (m ∷ a) b = stock_after_messages-append (stock_after s m) a b
+
+pub replies_to-append : (now : ℤ) (s : Stock) (a b : List (List ℕ)) → replies_to now s (a ++ b) ≡ replies_to now s a ++ replies_to now (stock_after_messages s a) b
+replies_to-append now s [] b = refl
+replies_to-append now s (m ∷ a) b =
+    ap (λ t. reply_bytes s m now ++ t) (replies_to-append now (stock_after s m) a b)
+    ∙ sym (append_assoc (reply_bytes s m now) (replies_to now (stock_after s m) a) (replies_to now (stock_after_messages (stock_after s m) a) b))
+
+each_append : (a b : List (List ℕ)) → AllByRecursion IsMessage a → AllByRecursion IsMessage b → AllByRecursion IsMessage (a ++ b)
+each_append [] b each every = every
+each_append (m ∷ a) b each every = (each.0, each_append a b each.1 every)
+
+-- the messages that were served so far
+pub record HasServed (now : ℤ) (old new : Stock) (unread left before after : Option (List ℕ)) : Type 0 where
+  pub messages : List (List ℕ)
+  pub read : Consumes unread left (joined messages)
+  pub each : AllByRecursion IsMessage messages
+  pub records : new ≡ stock_after_messages old messages
+  pub written : Appends before after (replies_to now old messages)
+
+pub HasServed-none : (now : ℤ) (s : Stock) (x w : Option (List ℕ)) → HasServed now s s x x w w
+HasServed-none now s x w = record { messages = []; read = Consumes-nil x; each = tt; records = refl; written = Appends-nil w }
+
+pub HasServed-one : (now : ℤ) (s t u : Stock) (x y z w v k : Option (List ℕ)) → HasServed now s t x y w v → ServesOne now t u y z v k → HasServed now s u x z w k
+HasServed-one now s t u x y z w v k so one =
+    let last = one.message ∷ [] in
+    let more : joined (so.messages ++ last) ≡ joined so.messages ++ one.message =
+    flat_map-append (λ m. m) so.messages last ∙ ap (λ b. joined so.messages ++ b) (append-nil one.message) in
+    let replies : replies_to now s (so.messages ++ last) ≡ replies_to now s so.messages ++ reply_bytes t one.message now =
+    replies_to-append now s so.messages last
+    ∙ ap (λ b. replies_to now s so.messages ++ b) (append-nil (reply_bytes (stock_after_messages s so.messages) one.message now)
+    ∙ ap (λ r. reply_bytes r one.message now) (sym so.records)) in
+    record {
+      messages = so.messages ++ last;
+      read = subst (Consumes x z) (sym more) (Consumes-trans x y z (joined so.messages) one.message so.read one.read);
+      each = each_append so.messages last so.each (one.is, tt);
+      records = one.records ∙ ap (λ r. stock_after r one.message) so.records ∙ sym (stock_after_messages-append s so.messages last);
+      written = subst (Appends w k) (sym replies) (Appends-trans w v k (replies_to now s so.messages) (reply_bytes t one.message now) so.written one.written);
+    }
+
+-- what is written by the messages so far, and then by others
+written_more : (now : ℤ) (end : StreamEnd) (s t : Stock) (a b : List (List ℕ)) (w v k : Option (List ℕ)) → t ≡ stock_after_messages s a
+    → Appends w v (replies_to now s a) → IsWritten end b (Appends v k (replies_to now t b)) → IsWritten end (a ++ b) (Appends w k (replies_to now s (a ++ b)))
+written_more now end s t a b w v k records one two =
+    let all : Appends v k (replies_to now t b) → Appends w k (replies_to now s (a ++ b)) = λ (last : Appends v k (replies_to now t b)).
+    let same : replies_to now s a ++ replies_to now t b ≡ replies_to now s (a ++ b) =
+    ap (λ r. replies_to now s a ++ replies_to now r b) records ∙ sym (replies_to-append now s a b) in
+    subst (Appends w k) same (Appends-trans w v k (replies_to now s a) (replies_to now t b) one last) in
+    in_case end a b _ _ all two
+  where
+    in_case : (end : StreamEnd) (a b : List (List ℕ)) (P Q : Type 0) → (P → Q) → IsWritten end b P → IsWritten end (a ++ b) Q
+    in_case (ends.Ended size) a b P Q all two = all two
+    in_case (ends.Frame fault) a b P Q all two = all two
+    in_case ends.Io a b P Q all (inl p) = inl (all p)
+    in_case ends.Io a b P Q all (inr some) = inr (let size = length-append a b in omega arith)
+    in_case ends.NoMemory a b P Q all two = all two
+
+-- and then the end
+pub served_then : (now : ℤ) (end : StreamEnd) (s t u : Stock) (x y z w v k : Option (List ℕ)) → HasServed now s t x y w v → Serves now end t u y z v k
+    → Serves now end s u x z w k
+served_then now end s t u x y z w v k so last =
+    let all : joined so.messages ++ (joined last.messages ++ last.rest) ≡ joined (so.messages ++ last.messages) ++ last.rest =
+    sym (append_assoc (joined so.messages) (joined last.messages) last.rest)
+    ∙ ap (λ b. b ++ last.rest) (sym (flat_map-append (λ m. m) so.messages last.messages)) in
+    record {
+      messages = so.messages ++ last.messages;
+      rest = last.rest;
+      read = subst (Consumes x z) all (Consumes-trans x y z (joined so.messages) (joined last.messages ++ last.rest) so.read last.read);
+      each = each_append so.messages last.messages so.each last.each;
+      ends = last.ends;
+      records = last.records ∙ ap (λ r. stock_after_messages r last.messages) so.records ∙ sym (stock_after_messages-append s so.messages last.messages);
+      written = written_more now end s t so.messages last.messages w v k so.records so.written last.written;
+    }
+
+-- nothing was read
+pub no_framer : (now : ℤ) (s : Stock) (x w : Option (List ℕ)) → Serves now ends.NoMemory s s x x w w
+no_framer now s x w = record {
+  messages = [];
+  rest = [];
+  read = Consumes-nil x;
+  each = tt;
+  ends = inl refl;
+  records = refl;
+  written = Appends-nil w;
+}
+
+-- there were too many messages
+pub too_many : (now : ℤ) (s t : Stock) (x y w v : Option (List ℕ)) → ShortBytesLackAHead → HasServed now s t x y w v → Serves now ends.Io s t x y w v
+too_many now s t x y w v short so = record {
+  messages = so.messages;
+  rest = [];
+  read = subst (Consumes x y) (sym (append-nil (joined so.messages))) so.read;
+  each = so.each;
+  ends = nothing_unfinished short;
+  records = so.records;
+  written = inl so.written;
+}

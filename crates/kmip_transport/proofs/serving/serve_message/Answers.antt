@@ -1,0 +1,18 @@
+-- The ends of a stream, at one message.
+use Rattle.kmip_transport.proofs.ServingLemmas.{stream_ended, stream_failed, not_served, not_written}
+use Rattle.kmip_transport.proofs.serving.serve_message.Goals as goal
+
+pub returns-in-Ok-None-clause-ended : goal.returns-in-Ok-None-clause-ended
+returns-in-Ok-None-clause-ended g c =
+    stream_ended _ _ _ _ _ _ _ _ _ c.requires (rw c.in-Ok-None.field-0-is at c.in-Ok-None.ensures) c.pending.ensures.value
+
+pub returns-in-Err-clause-ended : goal.returns-in-Err-clause-ended
+returns-in-Err-clause-ended g c = stream_failed _ _ _ _ _ _ _ _ _ _ c.sizes.ensures.fault c.requires c.in-Err.ensures c.end_by.ensures
+
+pub returns-in_default-clause-ended : goal.returns-in_default-clause-ended
+returns-in_default-clause-ended g c =
+    not_served _ _ _ _ _ _ _ _ _ _ c.requires (rw c.in-Ok-Some.field-0-is at c.in-Ok-Some.ensures) c.in_default.ensures.same
+
+pub returns-clause-ended : goal.returns-clause-ended
+returns-clause-ended g c =
+    not_written _ _ _ _ _ _ _ _ _ _ _ _ c.sizes.ensures.short c.requires (rw c.in-Ok-Some.field-0-is at c.in-Ok-Some.ensures) c.as_slice.ensures.value c.in-Ok.ensures.after

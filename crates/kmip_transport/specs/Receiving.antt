@@ -1,0 +1,46 @@
+-- What one call of `receive_message` takes from a reader, what it answers, and what is left in the framer.
+-- Source: own, over KMIP 2.1, Message Structure: how a contract sees the code.
+use Rattle.std.specs.Prelude.{◌≡◌, ℕ, List, [], ◌++◌, length, Option, Some, None, IsSome, Result, Ok, Err}
+use Rattle.std.specs.Io.KnownBytes.{Consumes, IsAtEnd}
+use Rattle.kmip_ttlv.specs.Limits.{head_size}
+use Rattle.kmip_frames.specs.Framing.{fault_in}
+use Rattle.kmip_frames.specs.Streams.{IsMessage, BeginsWithNoMessage}
+use Rattle.kmip_schedule.specs.declared.link.LinkFault.{LinkFault}
+use Rattle.kmip_schedule.specs.declared.link.LinkFault.TheVariants.{Io, Frame, NoMemory}
+
+-- neither a message nor a head that is no message's
+abbrev pub IsUnfinished : List ℕ → Type 0
+IsUnfinished bytes = (fault_in bytes ≡ None) × BeginsWithNoMessage bytes
+
+-- a head that is no message's, and nothing behind it
+abbrev pub IsNoHead : List ℕ → Type 0
+IsNoHead bytes = IsSome (fault_in bytes) × (length bytes ≡ head_size)
+
+-- some bytes were read and joined those held; a reader that tells its bytes began with them, and has lost them
+pub record Takes (old new : List ℕ) (unread left : Option (List ℕ)) : Type 0 where
+  pub read : List ℕ
+  pub consumed : Consumes unread left read
+  pub joined : new ≡ old ++ read
+
+-- What is answered by all that was held or read, by what is held after it, and by what the reader has left: a message,
+-- which all of it is; or none, since the stream has ended. But for a message all of it stays.
+abbrev pub Answers : {M : Type 0} → (M → List ℕ) → Result (Option M) LinkFault → List ℕ → List ℕ → Option (List ℕ) → Type 0
+Answers bytes (Ok (Some message)) all held left = IsMessage all × (bytes message ≡ all) × (held ≡ [])
+Answers bytes (Ok None) all held left = IsUnfinished all × (held ≡ all) × IsAtEnd left
+Answers bytes (Err Io) all held left = IsUnfinished all × (held ≡ all)
+Answers bytes (Err Frame) all held left = IsNoHead all × (held ≡ all)
+Answers bytes (Err NoMemory) all held left = IsMessage all × (held ≡ all)
+
+-- the bytes that were read, and what is answered by those held before and them
+pub record Receives {M : Type 0} (bytes : M → List ℕ) (result : Result (Option M) LinkFault) (old new : List ℕ) (unread left : Option (List ℕ)) : Type 0 where
+  pub read : List ℕ
+  pub consumed : Consumes unread left read
+  pub answered : Answers bytes result (old ++ read) new left
+
+-- Private: the message that waits is handed over, where one does
+abbrev pub IsHandedOver : {M : Type 0} → (M → List ℕ) → Result (Option M) LinkFault → List ℕ → List ℕ → Type 0
+IsHandedOver bytes (Ok (Some message)) old new = IsMessage old × (bytes message ≡ old) × (new ≡ [])
+IsHandedOver bytes (Ok None) old new = IsUnfinished old × (new ≡ old)
+IsHandedOver bytes (Err Io) old new = ⊥
+IsHandedOver bytes (Err Frame) old new = IsNoHead old × (new ≡ old)
+IsHandedOver bytes (Err NoMemory) old new = IsMessage old × (new ≡ old)

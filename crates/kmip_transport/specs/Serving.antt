@@ -1,0 +1,77 @@
+-- What a server does to a stream of messages, and how that ends.
+-- Source: own, over KMIP 2.1, Message Structure.
+use Rattle.std.specs.Prelude.{◌≡◌, ◌<◌, ◌⊎◌, ℕ, ℤ, List, [], ◌∷◌, ◌++◌, length, codes, Option, Some, IfSome}
+use Rattle.std.specs.Io.KnownBytes.{Consumes, Appends, IsAtEnd}
+use Rattle.std.specs.List.{AllByRecursion}
+use Rattle.kmip_frames.specs.declared.fault.FrameFault.{FrameFault}
+use Rattle.kmip_frames.specs.Framing.{fault_in}
+use Rattle.kmip_frames.specs.Streams.{IsMessage, BeginsWithNoMessage, joined}
+use Rattle.kmip_schedule.specs.declared.link.LinkFault.{LinkFault}
+use Rattle.kmip_schedule.specs.declared.link.LinkFault.TheVariants as faults
+use Rattle.kmip_server.specs.Serving.{reply_bytes, stock_after}
+use Rattle.kmip_store.specs.Stock.{Stock}
+use Rattle.kmip_transport.specs.Receiving.{IsUnfinished}
+use Rattle.kmip_transport.specs.declared.serving.StreamEnd.{StreamEnd}
+use Rattle.kmip_transport.specs.declared.serving.StreamEnd.TheVariants.{Ended, Frame, Io, NoMemory}
+
+abbrev pub stream_end_number : StreamEnd → ℕ
+stream_end_number (Ended left) = 1
+stream_end_number (Frame fault) = 2
+stream_end_number Io = 3
+stream_end_number NoMemory = 4
+
+abbrev pub stream_end_name : StreamEnd → List ℕ
+stream_end_name (Ended left) = codes "Ended"
+stream_end_name (Frame fault) = codes "Frame"
+stream_end_name Io = codes "Io"
+stream_end_name NoMemory = codes "NoMemory"
+
+-- the records after messages in turn
+abbrev pub stock_after_messages : Stock → List (List ℕ) → Stock
+stock_after_messages stock [] = stock
+stock_after_messages stock (m ∷ messages) = stock_after_messages (stock_after stock m) messages
+
+-- the replies at a time, joined, each to a message as the messages before it left the records
+abbrev pub replies_to : ℤ → Stock → List (List ℕ) → List ℕ
+replies_to now stock [] = []
+replies_to now stock (m ∷ messages) = reply_bytes stock m now ++ replies_to now (stock_after stock m) messages
+
+-- How the stream ends, by the rest of what was read behind the messages that were served, and by what the reader has left.
+-- Where there is no memory the rest may be a message, which was not served.
+abbrev pub EndsWith : StreamEnd → List ℕ → Option (List ℕ) → Type 0
+EndsWith (Ended size) rest left = IsUnfinished rest × (size ≡ length rest) × IsAtEnd left
+EndsWith (Frame fault) rest left = (fault_in rest ≡ Some fault) × BeginsWithNoMessage rest
+EndsWith Io rest left = IsUnfinished rest
+EndsWith NoMemory rest left = (rest ≡ []) ⊎ IsMessage rest
+
+-- The replies to the messages were written. A writer that failed may have taken anything, but failed at a reply.
+abbrev pub IsWritten : StreamEnd → List (List ℕ) → Type 0 → Type 0
+IsWritten (Ended size) messages Written = Written
+IsWritten (Frame fault) messages Written = Written
+IsWritten Io messages Written = Written ⊎ (0 < length messages)
+IsWritten NoMemory messages Written = Written
+
+-- The messages that were served in turn at a time, which with the rest are all that was read: the records before and after them,
+-- what the reader had and has left, and what the writer held and holds.
+pub record Serves (now : ℤ) (end : StreamEnd) (old new : Stock) (unread left before after : Option (List ℕ)) : Type 0 where
+  pub messages : List (List ℕ)
+  pub rest : List ℕ
+  pub read : Consumes unread left (joined messages ++ rest)
+  pub each : AllByRecursion IsMessage messages
+  pub ends : EndsWith end rest left
+  pub records : new ≡ stock_after_messages old messages
+  pub written : IsWritten end messages (Appends before after (replies_to now old messages))
+
+-- Private: one message was read and served, and its reply written
+pub record ServesOne (now : ℤ) (old new : Stock) (unread left before after : Option (List ℕ)) : Type 0 where
+  pub message : List ℕ
+  pub read : Consumes unread left message
+  pub is : IsMessage message
+  pub records : new ≡ stock_after old message
+  pub written : Appends before after (reply_bytes old message now)
+
+-- Private: how a stream ends by the fault of a call that receives, and by that of the head that is held
+abbrev pub EndsBy : LinkFault → Option FrameFault → StreamEnd → Type 0
+EndsBy faults.Io held end = end ≡ Io
+EndsBy faults.Frame held end = IfSome held (λ fault. end ≡ Frame fault)
+EndsBy faults.NoMemory held end = end ≡ NoMemory

@@ -1,0 +1,93 @@
+//! How streams to one server are opened.
+
+use std::io;
+use std::io::{Read, Write};
+use std::net::{Net, OpenStream, SocketAddr};
+use std::os::unix::net;
+use std::os::unix::net::UnixStream;
+use std::time::{Clock, Duration, Instant};
+
+/// Opens streams to one server, and limits how long they wait.
+pub trait Dial {
+    type Stream: Read + Write + Drop;
+
+    /// What the clock says.
+    ///
+    /// # Errors
+    /// Those of the clock.
+    fn now(&self) -> io::Result<Instant>;
+
+    /// A new stream to the server, in this time where that can be limited.
+    ///
+    /// # Errors
+    /// Those of the network.
+    fn dial(&self, left: Duration) -> io::Result<Self::Stream>;
+
+    /// From now on a read or a write of the stream waits no longer than this.
+    ///
+    /// # Errors
+    /// Those of the network, and where no time is left.
+    fn limit(&self, stream: &Self::Stream, left: Duration) -> io::Result<()>;
+}
+
+/// A server behind a TCP port.
+#[derive(Drop)]
+pub struct Tcp<R: Net + Clock + Drop> {
+    rt: R,
+    address: SocketAddr,
+}
+
+impl<R: Net + Clock + Drop> Tcp<R> {
+    /// The server at this address.
+    pub fn new(rt: R, address: SocketAddr) -> Self {
+        Tcp { rt, address }
+    }
+}
+
+impl<R: Net + Clock + Drop> Dial for Tcp<R> {
+    type Stream = R::Stream;
+
+    fn now(&self) -> io::Result<Instant> {
+        Instant::now(&self.rt)
+    }
+
+    fn dial(&self, left: Duration) -> io::Result<R::Stream> {
+        self.rt.connect_timeout(self.address, left)
+    }
+
+    fn limit(&self, stream: &R::Stream, left: Duration) -> io::Result<()> {
+        stream.set_read_timeout(Some(left))?;
+        stream.set_write_timeout(Some(left))
+    }
+}
+
+/// A server behind a Unix socket. How long it takes to connect is not limited.
+#[derive(Drop)]
+pub struct Unix<R: Net + Clock + Drop> {
+    rt: R,
+    address: net::SocketAddr,
+}
+
+impl<R: Net + Clock + Drop> Unix<R> {
+    /// The server at this address, which is a path.
+    pub fn new(rt: R, address: net::SocketAddr) -> Self {
+        Unix { rt, address }
+    }
+}
+
+impl<R: Net + Clock + Drop> Dial for Unix<R> {
+    type Stream = UnixStream;
+
+    fn now(&self) -> io::Result<Instant> {
+        Instant::now(&self.rt)
+    }
+
+    fn dial(&self, _left: Duration) -> io::Result<UnixStream> {
+        UnixStream::connect_addr(&self.rt, &self.address)
+    }
+
+    fn limit(&self, stream: &UnixStream, left: Duration) -> io::Result<()> {
+        stream.set_read_timeout(Some(left))?;
+        stream.set_write_timeout(Some(left))
+    }
+}

@@ -1,0 +1,120 @@
+//! One message from a stream.
+ghost use Rattle.std.specs.Prelude.{◌≡◌, ◌<◌, ◌≤◌, length, true, false, Ok, None, IfOk, IfErr};
+ghost use Rattle.std.specs.Io.KnownBytes.{IsAtEnd};
+ghost use Rattle.kmip_frames.specs.Framing.{fault_in, wants};
+ghost use Rattle.kmip_frames.specs.Streams.{BeginsWithNoMessage};
+ghost use Rattle.kmip_transport.specs.Receiving.{Takes, Receives, IsHandedOver};
+
+use kmip_frames::laws::sizes;
+use kmip_frames::{FrameFault, Framer};
+use kmip_schedule::LinkFault;
+use std::alloc::Global;
+use std::io::{Error, ErrorKind, Read};
+
+/// The most bytes that one read asks for: own.
+const PIECE: usize = 1024;
+
+/// Reads the message that the framer has begun, or the next one, and no byte behind it. `None` where
+/// the stream ends before the message is whole; the framer says by `pending` how much of it came.
+/// But for a message that is answered, all that is read stays in the framer.
+///
+/// A read that was interrupted is tried again.
+///
+/// # Errors
+/// `Io` where the reader fails, or after 2^64 - 1 reads: a later call goes on where this one ended.
+/// `Frame` where the next eight bytes are no head of a message: so it is from then on. `NoMemory`:
+/// the message waits in the framer.
+pub fn receive_message<R: Read>(
+    alloc: Global,
+    reader: &mut R,
+    framer: &mut Framer,
+) -> Result<Option<Vec<u8>>, LinkFault>
+    ensures { Receives (λ message. message.items) result framer.old framer.new
+        (R.remaining reader.old) (R.remaining reader.new) }
+{
+    for _ in 0..u64::MAX {
+        match hand_over(alloc, framer) {
+            Ok(None) => {}
+            answer => return answer,
+        }
+        match take_piece(reader, framer) {
+            Ok(true) => {}
+            Ok(false) => return Ok(None),
+            Err(fault) => return Err(fault),
+        }
+    }
+    match hand_over(alloc, framer) {
+        Ok(None) => Err(LinkFault::Io),
+        answer => answer,
+    }
+}
+
+/// The message that waits, where one does.
+fn hand_over(alloc: Global, framer: &mut Framer) -> Result<Option<Vec<u8>>, LinkFault>
+    ensures { IsHandedOver (λ message. message.items) result framer.old framer.new }
+{
+    let _held = framer.pending();
+    match framer.next(alloc) {
+        Ok(message) => Ok(message),
+        Err(FrameFault::NoMemory) => Err(LinkFault::NoMemory),
+        Err(_) => Err(LinkFault::Frame),
+    }
+}
+
+/// Reads once, at most what the framer lacks, and says whether the stream goes on. A head that is no
+/// message's stays in the framer.
+fn take_piece<R: Read>(reader: &mut R, framer: &mut Framer) -> Result<bool, LinkFault>
+    requires lawful { fault_in framer.old ≡ None }
+    requires begun { BeginsWithNoMessage framer.old }
+    ensures taken { Takes framer.old framer.new
+        (R.remaining reader.old) (R.remaining reader.new) }
+    ensures end { result ≡ Ok false
+        → (framer.new ≡ framer.old) × IsAtEnd (R.remaining reader.new) }
+    ensures refused { IfErr result (λ fault.
+        (fault ≡ LinkFault.Io) × (framer.new ≡ framer.old)) }
+{
+    sizes();
+    let _held = framer.pending();
+    let mut piece = [0u8; PIECE];
+    let size = framer.wants().min(PIECE);
+    read_into(reader, framer, &mut piece[..size])
+}
+
+/// The same, over room for the piece that is read.
+fn read_into<R: Read>(
+    reader: &mut R,
+    framer: &mut Framer,
+    room: &mut [u8],
+) -> Result<bool, LinkFault>
+    requires some { 0 < length room.old }
+    requires fits { length room.old ≤ wants framer.old }
+    ensures taken { Takes framer.old framer.new
+        (R.remaining reader.old) (R.remaining reader.new) }
+    ensures end { result ≡ Ok false
+        → (framer.new ≡ framer.old) × IsAtEnd (R.remaining reader.new) }
+    ensures refused { IfErr result (λ fault.
+        (fault ≡ LinkFault.Io) × (framer.new ≡ framer.old)) }
+{
+    sizes();
+    match reader.read(room) {
+        Ok(0) => Ok(false),
+        Ok(count) => {
+            // A fault of the head stays in the framer, which answers it when it is asked next.
+            let _fault = framer.feed(&room[..count]);
+            Ok(true)
+        }
+        Err(error) => after_failure(&error),
+    }
+}
+
+/// A read that was interrupted is tried again: the stream goes on.
+fn after_failure(error: &Error) -> Result<bool, LinkFault>
+    ensures interrupted { IfOk result (λ goes_on. goes_on ≡ true) }
+    ensures refused { IfErr result (λ fault. fault ≡ LinkFault.Io) }
+{
+    if error.kind() == ErrorKind::Interrupted {
+        Ok(true)
+    } else {
+        Err(LinkFault::Io)
+    }
+}

@@ -1,0 +1,177 @@
+//! A link over streams: one is held from exchange to exchange, as long as each has a reply.
+ghost use Rattle.std.specs.Prelude.{◌≡◌, ◌<◌, ◌≤◌, false, Ok, None, OnOk, IfErr};
+ghost use Rattle.kmip_schedule.specs.Faults.{most_failures};
+ghost use Rattle.kmip_transport.specs.Links.{opened, closed, failed, link_after};
+
+use crate::dial::{Dial, Tcp, Unix};
+use crate::receiving::receive_message;
+use crate::sending::send_message;
+use crate::timed::Timed;
+use kmip_frames::Framer;
+use kmip_schedule::LinkFault;
+use std::alloc::Global;
+use std::marker::Model;
+use std::time::{Duration, Instant};
+
+/// A link to a server over TCP.
+pub type TcpLink<R> = StreamLink<Tcp<R>>;
+
+/// A link to a server over a Unix socket.
+pub type UnixLink<R> = StreamLink<Unix<R>>;
+
+/// A link to a server over streams that are opened as they are needed. It connects at the next
+/// exchange, and closes the stream behind each exchange without a reply, so that no later one gets
+/// the reply to an earlier request. An exchange takes no longer than the limit, from connecting to the
+/// last byte of the reply; a peer that is later has failed.
+#[derive(Drop)]
+pub struct StreamLink<D: Dial + Drop> {
+    dial: D,
+    limit: Duration,
+    stream: Option<D::Stream>,
+    end: Option<Instant>,
+    failures: u64,
+}
+
+impl<D: Dial + Drop> Model for StreamLink<D> {
+    ghost use Rattle.std.specs.Prelude.{is_some};
+    ghost use Rattle.kmip_transport.specs.Links.{LinkState};
+
+    ghost Value = { LinkState };
+
+    ghost view = { λ l. record { failures = l.failures; is_connected = is_some l.stream } };
+}
+
+impl<D: Dial + Drop> StreamLink<D> {
+    /// A link that is not connected yet. An exchange takes no longer than `limit`.
+    pub fn new(dial: D, limit: Duration) -> Self
+        ensures { result ≡ record { failures = 0; is_connected = false } }
+    {
+        StreamLink {
+            dial,
+            limit,
+            stream: None,
+            end: None,
+            failures: 0,
+        }
+    }
+
+    /// Whether a stream is held.
+    pub fn is_connected(&self) -> bool
+        ensures { result ≡ self.now.is_connected }
+    {
+        self.stream.is_some()
+    }
+
+    /// How often the network has failed.
+    pub fn failures(&self) -> u64
+        ensures { result ≡ self.now.failures }
+    {
+        self.failures
+    }
+
+    /// Closes the stream, if one is held.
+    pub fn close(&mut self)
+        ensures { self.new ≡ closed self.old }
+    {
+        self.stream = None;
+    }
+
+    /// Sends the bytes of a request, over the stream that is held, else over a new one. After 2^64 - 1
+    /// failures it sends nothing, and holds no stream.
+    ///
+    /// # Errors
+    /// `Io` where the network failed: no stream is held then.
+    pub fn send(&mut self, request: &[u8]) -> Result<(), LinkFault>
+        ensures sent { OnOk result (self.old.failures < most_failures
+            → self.new ≡ opened self.old) }
+        ensures same { OnOk result (self.new.failures ≡ self.old.failures) }
+        ensures refused { IfErr result (λ fault. (fault ≡ LinkFault.Io)
+            × (self.new ≡ failed self.old)) }
+        ensures spent { self.old.failures ≡ most_failures
+            → (result ≡ Ok tt) × (self.new ≡ closed self.old) }
+    {
+        if self.failures == u64::MAX {
+            self.close();
+            return Ok(());
+        }
+        match self.stream_with(request) {
+            Some(stream) => {
+                self.stream = Some(stream);
+                Ok(())
+            }
+            None => Err(self.fail()),
+        }
+    }
+
+    /// Receives the bytes of a reply over the stream that is held, in what is left of the exchange's
+    /// time. `None` where no stream is held, or it ends before a whole message came.
+    ///
+    /// # Errors
+    /// `Io` where the network failed, `Frame` where what came is no message, and `NoMemory`.
+    pub fn receive(&mut self, alloc: Global) -> Result<Option<Vec<u8>>, LinkFault>
+        ensures after { self.new ≡ link_after result self.old }
+        ensures counted { self.old.failures ≤ self.new.failures }
+        ensures io { IfErr result (λ fault. fault ≡ LinkFault.Io
+            → self.old.failures < self.new.failures) }
+        ensures unconnected { self.old.is_connected ≡ false → result ≡ Ok None }
+        ensures spent { self.old.failures ≡ most_failures → result ≡ Ok None }
+    {
+        let Some(mut stream) = self.stream.take() else {
+            return Ok(None);
+        };
+        if self.failures == u64::MAX {
+            return Ok(None);
+        }
+        match self.received_from(alloc, &mut stream) {
+            Ok(Some(reply)) => {
+                self.stream = Some(stream);
+                Ok(Some(reply))
+            }
+            Err(LinkFault::Io) => Err(self.fail()),
+            lost => lost,
+        }
+    }
+
+    /// The stream that is held or a new one, over which the request was sent; none where the network
+    /// failed. The time of the exchange begins here.
+    fn stream_with(&mut self, request: &[u8]) -> Option<D::Stream>
+        ensures { self.new ≡ closed self.old }
+    {
+        let held = self.stream.take();
+        let end = self.dial.now().ok()?.checked_add(self.limit)?;
+        self.end = Some(end);
+        let mut stream = match held {
+            Some(stream) => stream,
+            None => self.dial.dial(self.limit).ok()?,
+        };
+        send_message(&mut Timed::new(&self.dial, &mut stream, end), request).ok()?;
+        Some(stream)
+    }
+
+    /// The reply that comes over the stream. A new framer each time: nothing is left of an earlier
+    /// exchange.
+    fn received_from(
+        &self,
+        alloc: Global,
+        stream: &mut D::Stream,
+    ) -> Result<Option<Vec<u8>>, LinkFault> {
+        let Some(end) = self.end else {
+            return Ok(None);
+        };
+        let Ok(mut framer) = Framer::new(alloc) else {
+            return Err(LinkFault::NoMemory);
+        };
+        receive_message(alloc, &mut Timed::new(&self.dial, stream, end), &mut framer)
+    }
+
+    /// The network failed: no stream is held, and one more failure is counted.
+    fn fail(&mut self) -> LinkFault
+        requires { self.old.failures < most_failures }
+        ensures after { self.new ≡ failed self.old }
+        ensures fault { result ≡ LinkFault.Io }
+    {
+        self.close();
+        self.failures += 1;
+        LinkFault::Io
+    }
+}
