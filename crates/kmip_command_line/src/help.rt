@@ -133,3 +133,65 @@ pub(crate) const AFTER: &str = "The file of an earlier plan, which the plan is t
 
 pub(crate) const CANON: &str =
     "Print the item's one written form, the padding zero, in lower-case digits";
+
+pub(crate) const RUN: &str = "Carries out a plan against a server, and keeps what is known in a file";
+
+pub(crate) const RUN_LONG: &str = "\
+Carries out the plan in a file (see `check --help`) against a server: it asks for what each key lacks, one
+message at a time, until every key stands where the plan wants it, in conflict with what is there, or as
+many exchanges were made as it may make. Where a reply is lost it looks at the key before it asks for
+anything again, so that no key is made twice and no step is taken twice.
+
+After each exchange it writes what is known to the progress file, which is at any instant absent or whole.
+Where that file is there, it goes on from it; where it is lost or older, nothing is lost: it looks first.
+Two runs on one progress file do not meet: the second prints `progress in use: PATH`.
+
+At the end it prints the report, a line for each key and one that counts the finished ones, and why it
+stopped after how many exchanges:
+  k1 active 2/2 finished
+  finished 1 of 1
+  stop AllFinished 3
+STOP is AllFinished, Limit or Conflict. A conflict is `conflict attributes` or `conflict state`, where the
+object of that name is not what the plan wants or stands beyond it, or `conflict two-objects`.
+
+The plan is read and judged first (its first fault is printed as by `check`), then the progress
+(`progress refused: 2 Cut`), before anything is asked. A progress file that cannot be written prints
+`cannot write PATH`: what was asked last has taken effect, and a later run finds it.
+
+With `--loopback` the server is one in this process with no object, so it suits a first run.";
+
+pub(crate) const SERVE: &str = "Answers connections on this machine by a server that keeps its keys in memory";
+
+pub(crate) const SERVE_LONG: &str = "\
+Listens on 127.0.0.1, prints `listening PORT`, and serves connections one after the other by one server,
+which starts with no object and has room for 10,000. Each connection is served until it ends, breaks the
+framing of messages or waits longer than the timeout; then the next one is. A port that cannot be had
+prints `cannot listen`.";
+
+pub(crate) const PROGRESS: &str = "The file that what is known is kept in";
+
+pub(crate) const CONNECT: &str = "The server's IPv4 address and port, as 127.0.0.1:5696";
+
+pub(crate) const SOCKET: &str = "The path of a Unix socket that the server, or a tunnel to it, is behind";
+
+pub(crate) const LOOPBACK: &str = "Have a new server in this process, over a port of this machine";
+
+pub(crate) const LIMIT: &str = "How many exchanges are made at most";
+
+pub(crate) const TIMEOUT: &str = "The longest that an exchange takes, with connecting";
+
+pub(crate) const WAIT: &str =
+    "The wait after an exchange without a reply, twice as long each time up to 10 seconds; 0 for none";
+
+pub(crate) const VERBOSE: &str = "Tell each exchange on standard error";
+
+pub(crate) const PORT: &str = "The port, or 0 for one that the system picks";
+
+pub(crate) const CONNECTIONS: &str = "How many connections are served";
+
+pub(crate) const NOW: &str = "What the replies give as the time, in seconds since the start of 1970";
+
+pub(crate) const SERVE_TIMEOUT: &str = "The longest that a read or a write of a connection waits";
+
+pub(crate) const WRONG_ADDRESS: &str =
+    "the value of '--connect <ADDRESS>' is no IPv4 address and port, as 127.0.0.1:5696\n";

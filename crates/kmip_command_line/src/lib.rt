@@ -8,17 +8,23 @@ ghost use Rattle.kmip_command_line.specs.declared.Choice.TheVariants.{Answer, An
 ghost use Rattle.kmip_command_line.specs.Choices.{IsCheckOf, IsSimulationOf, status_of};
 ghost use Rattle.kmip_sim.specs.declared.detail.Detail.TheVariants.{Runs, Exchanges};
 
+mod carrying;
 mod help;
+mod network;
 mod running;
+mod serving;
+mod telling;
 
 use clap::error::ErrorKind;
-use clap::{Arg, ArgAction, Command, Error};
+use clap::{Arg, Command, Error};
 use help::{
     ABOUT, AFTER, AFTER_HELP, ANSWER, ANSWER_LONG, CANON, CHECK, CHECK_LONG, PLAN, SCRIPT, SHOW,
-    SHOW_LONG, SIM, SIM_LONG, STREAM, TRACE,
+    SHOW_LONG, SIM, SIM_LONG, STREAM, TRACE, WRONG_ADDRESS,
 };
 use kmip_commands::{CommandFault, ExitStatus, Form};
 use kmip_sim::Detail;
+use network::{flag, run_command, run_options, serve_command, serve_options};
+pub use network::{Peer, RunOptions, ServeOptions};
 pub use running::run;
 use std::alloc::{AllocError, Global};
 
@@ -51,6 +57,10 @@ pub enum Choice {
         /// How much is told of it.
         detail: Detail,
     },
+    /// Carry out a plan over a network.
+    Run(RunOptions),
+    /// Serve connections.
+    Serve(ServeOptions),
 }
 
 /// What the words ask for; the first is the program's name.
@@ -73,8 +83,19 @@ pub fn chosen(alloc: Global, words: &[String]) -> Result<Choice, Error> {
             let detail = detail_of(options.get_flag("trace"));
             Ok(simulation_of(alloc, plan, script, detail)?)
         }
+        Some(("run", options)) => match run_options(alloc, options)? {
+            Some(options) => Ok(Choice::Run(options)),
+            None => Err(wrong_address(alloc)?),
+        },
+        Some(("serve", options)) => Ok(Choice::Serve(serve_options(options))),
         _ => Ok(Choice::Answer),
     }
+}
+
+/// The usage fault of an address that is none.
+fn wrong_address(alloc: Global) -> Result<Error, AllocError> {
+    let mut command = run_command(alloc)?;
+    command.error(ErrorKind::ValueValidation, WRONG_ADDRESS)
 }
 
 /// How to answer, by whether the lines are pieces of a stream.
@@ -157,22 +178,14 @@ pub fn status_of(error: &Error) -> ExitStatus
 
 /// The commands, their options and their help.
 fn command<'a>(alloc: Global) -> Result<Command<'a>, AllocError> {
-    let stream = Arg::new(alloc, "stream")
-        .long("stream")
-        .help(STREAM)
-        .action(ArgAction::SetTrue);
     let answer = Command::new(alloc, "answer")
         .about(ANSWER)
         .long_about(ANSWER_LONG)
-        .arg(stream)?;
-    let canon = Arg::new(alloc, "canon")
-        .long("canon")
-        .help(CANON)
-        .action(ArgAction::SetTrue);
+        .arg(flag(alloc, "stream", STREAM))?;
     let show = Command::new(alloc, "show")
         .about(SHOW)
         .long_about(SHOW_LONG)
-        .arg(canon)?;
+        .arg(flag(alloc, "canon", CANON))?;
     let after = Arg::new(alloc, "after")
         .long("after")
         .value_name("PATH")
@@ -182,16 +195,12 @@ fn command<'a>(alloc: Global) -> Result<Command<'a>, AllocError> {
         .long_about(CHECK_LONG)
         .arg(path(alloc, "plan", PLAN))?
         .arg(after)?;
-    let trace = Arg::new(alloc, "trace")
-        .long("trace")
-        .help(TRACE)
-        .action(ArgAction::SetTrue);
     let sim = Command::new(alloc, "sim")
         .about(SIM)
         .long_about(SIM_LONG)
         .arg(path(alloc, "plan", PLAN))?
         .arg(path(alloc, "script", SCRIPT))?
-        .arg(trace)?;
+        .arg(flag(alloc, "trace", TRACE))?;
     Command::new(alloc, "kmipctl")
         .version(VERSION)
         .about(ABOUT)
@@ -199,7 +208,9 @@ fn command<'a>(alloc: Global) -> Result<Command<'a>, AllocError> {
         .subcommand(answer)?
         .subcommand(show)?
         .subcommand(check)?
-        .subcommand(sim)
+        .subcommand(sim)?
+        .subcommand(run_command(alloc)?)?
+        .subcommand(serve_command(alloc)?)
 }
 
 /// The option for the path of a file that has to be named.

@@ -1,5 +1,7 @@
 //! The program, over standard input, files and standard output.
 
+use crate::carrying::run_plan;
+use crate::serving::serve;
 use crate::{Choice, chosen, status_of};
 use kmip_commands::{
     CommandFault, ExitStatus, Form, check_bytes, run_answer, run_answer_stream, run_check,
@@ -60,6 +62,8 @@ fn run_command(rt: &HostRuntime) -> io::Result<ExitStatus> {
                 detail,
             },
         ) => simulate_plan(rt, detail, plan.as_str(), script.as_str()),
+        Ok(Choice::Run(options)) => run_plan(rt, &options),
+        Ok(Choice::Serve(options)) => serve(rt, &options),
         Err(error) => {
             let status = status_of(&error);
             if status == ExitStatus::Failed(CommandFault::NoMemory) {
@@ -137,14 +141,22 @@ fn plan_and_other(
     let Some(plan) = text_or_why_not(rt, path)? else {
         return Ok(Err(ExitStatus::Refused));
     };
-    if is_refused(rt, plan.as_str()) {
-        let mut writer = BufWriter::new(rt.alloc(), io::writer(rt))?;
-        return Ok(Err(run_check(rt.alloc(), plan.as_str(), &mut writer)));
+    if let Some(status) = refusal_of(rt, plan.as_str())? {
+        return Ok(Err(status));
     }
     let Some(other) = text_or_why_not(rt, other_path)? else {
         return Ok(Err(ExitStatus::Refused));
     };
     Ok(Ok((plan, other)))
+}
+
+/// How the program ends where a text is no plan, which is printed; none where it is one.
+pub(crate) fn refusal_of(rt: &HostRuntime, plan: &str) -> io::Result<Option<ExitStatus>> {
+    if !is_refused(rt, plan) {
+        return Ok(None);
+    }
+    let mut writer = BufWriter::new(rt.alloc(), io::writer(rt))?;
+    Ok(Some(run_check(rt.alloc(), plan, &mut writer)))
 }
 
 /// Whether a text is no plan. Where memory runs out it is not said to be one; what is done with it
@@ -155,7 +167,7 @@ fn is_refused(rt: &HostRuntime, plan: &str) -> bool {
 }
 
 /// The text of a file; where it has none, or one that is too long, that is printed.
-fn text_or_why_not(rt: &HostRuntime, path: &str) -> io::Result<Option<String>> {
+pub(crate) fn text_or_why_not(rt: &HostRuntime, path: &str) -> io::Result<Option<String>> {
     match text_of(rt, path) {
         Ok(Some(text)) => Ok(Some(text)),
         Ok(None) => {

@@ -22,6 +22,7 @@ use Rattle.kmip_session.specs.Reporting.{report_text}
 use Rattle.kmip_session.specs.Stops.{is_all_finished, stop_name}
 use Rattle.kmip_session.specs.declared.stop.Stop.{Stop}
 use Rattle.kmip_session.specs.declared.stop.Stop.TheVariants as stops
+use Rattle.kmip_commands.specs.Checking.{plan_refusal_text}
 
 -- why a text is no progress of the plan
 unfoldable pub progress_refusal_text : ProgressFault → List ℕ
@@ -69,7 +70,7 @@ TellsRunFrom keys path limit (Err fault) refused text = (refused ≡ true) × (t
 -- for what was read of a plan: the same of a run that begins with the text of a progress, else why the plan is refused
 abbrev pub TellsRun : Result (List Key) PlanFault → Option (List ℕ) → List ℕ → ℕ → Bool → List ℕ → Type 0
 TellsRun (Ok keys) saved path limit refused text = TellsRunFrom keys path limit (begin_knowns keys saved) refused text
-TellsRun (Err fault) saved path limit refused text = (refused ≡ true)
+TellsRun (Err fault) saved path limit refused text = (refused ≡ true) × (text ≡ plan_refusal_text fault)
 
 -- such a text was written
 pub record WritesRun (read : Result (List Key) PlanFault) (saved : Option (List ℕ)) (path : List ℕ) (limit : ℕ) (refused : Bool) (old new : Option (List ℕ)) : Type 0 where

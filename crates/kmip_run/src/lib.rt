@@ -6,4 +6,4 @@ mod running;
 mod telling;
 
 pub use beginning::begin;
-pub use running::RunInput;
+pub use running::{RunInput, run, run_run};

@@ -1,7 +1,9 @@
 //! The command `run`: a plan is carried out over a link, and what is known is kept after each exchange.
-ghost use Rattle.std.specs.Prelude.{◌≡◌, ◌⊎◌, Ok, IfOk, option_map, string_bytes};
+ghost use Rattle.std.specs.Prelude.{◌≡◌, ◌⊎◌, List, [], Ok, IfErr, IfOk, option_map};
+ghost use Rattle.std.specs.Io.KnownBytes.{Appends};
 ghost use Rattle.kmip_plan.specs.Reading.{plan_read};
 ghost use Rattle.kmip_plan.specs.declared.key.Key.{Key};
+ghost use Rattle.kmip_commands.specs.Printing.{IfFailed, IfWhole, UnlessOutput, fault_line};
 ghost use Rattle.kmip_session.specs.Campaign.{GoodLink};
 ghost use Rattle.kmip_session.specs.Driving.{IsGood};
 ghost use Rattle.kmip_run.specs.RunText.{
@@ -11,6 +13,7 @@ ghost use Rattle.kmip_run.specs.RunText.{
   TellsRun,
   TellsRunFrom,
   TellsUnwritten,
+  WritesRun,
   begin_knowns,
 };
 
@@ -18,6 +21,7 @@ use crate::beginning::begin;
 use crate::telling::{progress_refusal_text, run_text, unwritten_text};
 use kmip_client::Client;
 use kmip_client::laws::onward_is_an_order;
+use kmip_commands::{CommandFault, ExitStatus, finished, push_refusal, send};
 use kmip_plan::{Plan, read_plan};
 use kmip_progress::ProgressFault;
 use kmip_running::{Keeper, SaveFault, carry_out};
@@ -25,6 +29,7 @@ use kmip_schedule::Link;
 use kmip_session::Stop;
 use kmip_ttlv::NoMemory;
 use std::alloc::Global;
+use std::io::Write;
 
 /// What a run is given.
 #[derive(Clone, Copy, Debug)]
@@ -42,8 +47,97 @@ pub struct RunInput<'a> {
 /// The text of a run, and whether something was refused, not written or left unfinished.
 #[derive(Drop)]
 struct Told {
-    text: String,
+    text: Vec<u8>,
     refused: bool,
+}
+
+/// Runs `run`, and prints a line for want of memory.
+pub fn run_run<L: Link, K: Keeper, W: Write>(
+    alloc: Global,
+    input: &RunInput<'_>,
+    link: &mut L,
+    keeper: &mut K,
+    writer: &mut W,
+) -> ExitStatus
+    ensures text { IfWhole result (λ r. WritesRun (plan_read input.now.plan.now)
+        (option_map (λ text. text.now) input.now.saved) input.now.path.now input.now.limit r
+        (W.contents writer.old) (W.contents writer.new)) }
+    ensures broken { IfFailed result (λ fault. UnlessOutput fault
+        (Appends (W.contents writer.old) (W.contents writer.new) (fault_line fault))) }
+    ensures safe { (keys : List Key) → plan_read input.now.plan.now ≡ Ok keys
+        → GoodLink L.past L.honest keys link.old
+        → IsTrueText (L.past link.old).objects keys
+        (option_map (λ text. text.now) input.now.saved)
+        → KeepsSafe L.past L.honest keys link.old link.new }
+{
+    let ended = run(alloc, input, link, keeper, writer);
+    finished(ended, writer)
+}
+
+/// Carries out the text of a plan over the link, from nothing or from what the text of a progress
+/// says, and gives the keeper the text of what is known after each exchange. Writes the report of the
+/// keys and a line that says why it stopped and after how many exchanges; or one line where the plan
+/// is refused, else where the progress is, and one where what is known could not be kept. Says whether
+/// something was refused, not kept, or left unfinished. Nothing is written before the run has ended.
+///
+/// # Errors
+///
+/// `Output` where the writer fails, and `NoMemory`: nothing is written then. What the keeper was
+/// given stays.
+pub fn run<L: Link, K: Keeper, W: Write>(
+    alloc: Global,
+    input: &RunInput<'_>,
+    link: &mut L,
+    keeper: &mut K,
+    writer: &mut W,
+) -> Result<bool, CommandFault>
+    ensures text { IfOk result (λ r. WritesRun (plan_read input.now.plan.now)
+        (option_map (λ text. text.now) input.now.saved) input.now.path.now input.now.limit r
+        (W.contents writer.old) (W.contents writer.new)) }
+    ensures broken { IfErr result (λ fault. UnlessOutput fault
+        (Appends (W.contents writer.old) (W.contents writer.new) [])) }
+    ensures safe { (keys : List Key) → plan_read input.now.plan.now ≡ Ok keys
+        → GoodLink L.past L.honest keys link.old
+        → IsTrueText (L.past link.old).objects keys
+        (option_map (λ text. text.now) input.now.saved)
+        → KeepsSafe L.past L.honest keys link.old link.new }
+{
+    let told = told_of(alloc, input, link, keeper)?;
+    send(told.text.as_slice(), false, writer)?;
+    Ok(told.refused)
+}
+
+/// What is told of a run of the text of a plan.
+///
+/// # Errors
+/// Where there is no memory.
+fn told_of<L: Link, K: Keeper>(
+    alloc: Global,
+    input: &RunInput<'_>,
+    link: &mut L,
+    keeper: &mut K,
+) -> Result<Told, NoMemory>
+    ensures text { IfOk result (λ told. TellsRun (plan_read input.now.plan.now)
+        (option_map (λ text. text.now) input.now.saved) input.now.path.now input.now.limit
+        told.refused told.text.items) }
+    ensures safe { (keys : List Key) → plan_read input.now.plan.now ≡ Ok keys
+        → GoodLink L.past L.honest keys link.old
+        → IsTrueText (L.past link.old).objects keys
+        (option_map (λ text. text.now) input.now.saved)
+        → KeepsSafe L.past L.honest keys link.old link.new }
+{
+    onward_is_an_order();
+    match read_plan(alloc, input.plan) {
+        Ok(plan) => told_of_plan(alloc, &plan, input, link, keeper),
+        Err(fault) => {
+            let mut text = Vec::new(alloc);
+            push_refusal(alloc, &fault, &mut text)?;
+            Ok(Told {
+                text,
+                refused: true,
+            })
+        }
+    }
 }
 
 /// What is told of a run of this plan.
@@ -59,7 +153,7 @@ fn told_of_plan<L: Link, K: Keeper>(
 ) -> Result<Told, NoMemory>
     ensures text { IfOk result (λ told. TellsRunFrom plan.now input.now.path.now input.now.limit
         (begin_knowns plan.now (option_map (λ text. text.now) input.now.saved))
-        told.refused (string_bytes told.text)) }
+        told.refused told.text.items) }
     ensures safe { GoodLink L.past L.honest plan.now link.old
         → IsTrueText (L.past link.old).objects plan.now
         (option_map (λ text. text.now) input.now.saved)
@@ -74,7 +168,10 @@ fn told_of_plan<L: Link, K: Keeper>(
         Err(ProgressFault::NoMemory) => Err(NoMemory),
         Err(fault) => {
             let text = progress_refusal_text(alloc, fault)?;
-            Ok(Told { text, refused: true })
+            Ok(Told {
+                text: text.into_bytes(),
+                refused: true,
+            })
         }
     }
 }
@@ -91,8 +188,8 @@ fn told_of_exchanges<L: Link, K: Keeper>(
     keeper: &mut K,
 ) -> Result<Told, NoMemory>
     ensures text { IfOk result (λ told. TellsExchanges client.old.keys input.now.limit
-        told.refused (string_bytes told.text)
-        ⊎ TellsUnwritten input.now.path.now told.refused (string_bytes told.text)) }
+        told.refused told.text.items
+        ⊎ TellsUnwritten input.now.path.now told.refused told.text.items) }
     ensures safe { IsGood L.past L.honest client.old link.old
         → KeepsSafe L.past L.honest client.old.keys link.old link.new }
 {
@@ -102,11 +199,17 @@ fn told_of_exchanges<L: Link, K: Keeper>(
         Ok(stop) => {
             let text = run_text(alloc, client, stop, exchanges)?;
             let refused = !stop.is_all_finished();
-            Ok(Told { text, refused })
+            Ok(Told {
+                text: text.into_bytes(),
+                refused,
+            })
         }
         Err(SaveFault::Output) => {
             let text = unwritten_text(alloc, input.path)?;
-            Ok(Told { text, refused: true })
+            Ok(Told {
+                text: text.into_bytes(),
+                refused: true,
+            })
         }
     }
 }

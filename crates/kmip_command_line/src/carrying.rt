@@ -1,0 +1,152 @@
+//! The program `run`, over sockets and a file.
+
+use crate::network::{Peer, RunOptions};
+use crate::running::{refusal_of, text_or_why_not};
+use crate::serving::new_server;
+use crate::telling::Teller;
+use kmip_commands::ExitStatus;
+use kmip_progress_file::{LockFault, ProgressFile, ProgressLock};
+use kmip_run::{RunInput, run_run};
+use kmip_running::{Keeper, Observed, Paced, SaveFault};
+use kmip_schedule::Link;
+use kmip_transport::{Loopback, Tcp, TcpLink, Unix, UnixLink};
+use std::alloc::Global;
+use std::io;
+use std::io::{BufWriter, ErrorKind};
+use std::net::SocketAddr;
+use std::os::unix::net;
+use std::time::Duration;
+
+/// Keeps what is known in a file. No clause speaks of a file's bytes.
+#[derive(Drop)]
+struct FileKeeper<'a> {
+    file: ProgressFile<'a, HostRuntime>,
+}
+
+impl<'a> Keeper for FileKeeper<'a> {
+    ghost use Rattle.std.specs.Prelude.{[]};
+
+    ghost saved = { λ keeper. [] };
+
+    ghost keeps = { λ keeper. ⊥ };
+
+    fn save(&mut self, _alloc: Global, text: &[u8]) -> Result<(), SaveFault> {
+        match self.file.write(text) {
+            Ok(()) => Ok(()),
+            Err(error) if error.kind() == ErrorKind::OutOfMemory => Err(SaveFault::NoMemory),
+            Err(_) => Err(SaveFault::Output),
+        }
+    }
+}
+
+/// The command `run`: the plan is read first, then the lock is taken, the progress read, and then the
+/// server asked.
+pub(crate) fn run_plan(rt: &HostRuntime, options: &RunOptions) -> io::Result<ExitStatus> {
+    let Some(plan) = text_or_why_not(rt, options.plan.as_str())? else {
+        return Ok(ExitStatus::Refused);
+    };
+    if let Some(status) = refusal_of(rt, plan.as_str())? {
+        return Ok(status);
+    }
+    let path = options.progress.as_str();
+    let Some((file, lock)) = locked(rt, path)? else {
+        return Ok(ExitStatus::Refused);
+    };
+    let saved = match file.read() {
+        Ok(saved) => saved,
+        Err(error) => return refused(rt, error, "cannot read", path),
+    };
+    let input = RunInput {
+        plan: plan.as_str(),
+        saved: saved.as_ref().map(|text| text.as_str()),
+        path,
+        limit: options.limit as usize,
+    };
+    let status = run_with(rt, options, &input, FileKeeper { file });
+    drop(lock);
+    status
+}
+
+/// The file at this path, of this run alone; where it cannot be, that is printed.
+fn locked<'a>(
+    rt: &'a HostRuntime,
+    path: &str,
+) -> io::Result<Option<(ProgressFile<'a, HostRuntime>, ProgressLock)>> {
+    let file = match ProgressFile::at(rt, path) {
+        Ok(file) => file,
+        Err(error) => {
+            refused(rt, error, "cannot read", path)?;
+            return Ok(None);
+        }
+    };
+    match file.lock() {
+        Ok(lock) => Ok(Some((file, lock))),
+        Err(LockFault::InUse) => {
+            rt.println(format_args!("progress in use: {path}"))?;
+            Ok(None)
+        }
+        Err(LockFault::Io(error)) => {
+            refused(rt, error, "cannot write", path)?;
+            Ok(None)
+        }
+    }
+}
+
+/// Prints what cannot be done with a file, unless there is no memory.
+fn refused(
+    rt: &HostRuntime,
+    error: io::Error,
+    what: &str,
+    path: &str,
+) -> io::Result<ExitStatus> {
+    if error.kind() == ErrorKind::OutOfMemory {
+        return Err(error);
+    }
+    rt.println(format_args!("{what} {path}"))?;
+    Ok(ExitStatus::Refused)
+}
+
+/// Carries out the plan over the link to the server that was named.
+fn run_with(
+    rt: &HostRuntime,
+    options: &RunOptions,
+    input: &RunInput<'_>,
+    keeper: FileKeeper<'_>,
+) -> io::Result<ExitStatus> {
+    let limit = Duration::from_secs(options.timeout);
+    match &options.peer {
+        Peer::Tcp(address) => {
+            let link = TcpLink::new(Tcp::new(rt, SocketAddr::V4(*address)), limit);
+            run_over(rt, options, input, keeper, link)
+        }
+        Peer::Unix(path) => match net::SocketAddr::from_pathname(path.as_str()) {
+            Ok(address) => {
+                let link = UnixLink::new(Unix::new(rt, address), limit);
+                run_over(rt, options, input, keeper, link)
+            }
+            Err(error) => refused(rt, error, "cannot connect", path.as_str()),
+        },
+        Peer::Loopback => match Loopback::new(rt, new_server(rt), limit) {
+            Ok(link) => run_over(rt, options, input, keeper, link),
+            Err(_) => {
+                rt.println("cannot listen")?;
+                Ok(ExitStatus::Refused)
+            }
+        },
+    }
+}
+
+/// Carries out the plan over this link.
+fn run_over<L: Link + Drop>(
+    rt: &HostRuntime,
+    options: &RunOptions,
+    input: &RunInput<'_>,
+    keeper: FileKeeper<'_>,
+    link: L,
+) -> io::Result<ExitStatus> {
+    let told = Observed::new(link, Teller::new(rt, options.is_verbose));
+    let mut link = Paced::new(told, rt, options.wait);
+    let mut keeper = keeper;
+    let mut writer = BufWriter::new(rt.alloc(), io::writer(rt))?;
+    Ok(run_run(rt.alloc(), input, &mut link, &mut keeper, &mut writer))
+}

@@ -1,0 +1,168 @@
+//! The words of `run` and `serve`.
+
+use crate::help::{
+    CONNECT, CONNECTIONS, LIMIT, LOOPBACK, NOW, PLAN, PORT, PROGRESS, RUN, RUN_LONG, SERVE, SERVE_LONG,
+    SERVE_TIMEOUT, SOCKET, TIMEOUT, VERBOSE, WAIT,
+};
+use crate::path;
+use clap::builder::ValueParser;
+use clap::{Arg, ArgAction, ArgGroup, ArgMatches, Command};
+use std::alloc::{AllocError, Global};
+use std::net::SocketAddrV4;
+
+/// The largest number of exchanges and of connections.
+const MOST_COUNT: u64 = 4_294_967_295;
+
+/// The longest time that an exchange may be given, in seconds.
+const MOST_SECONDS: u64 = 3_600;
+
+/// The longest first wait, in milliseconds.
+const MOST_WAIT: u64 = 60_000;
+
+/// What `run` is to do.
+#[derive(Debug, PartialEq, Eq, Drop)]
+pub struct RunOptions {
+    /// The path of the plan.
+    pub plan: String,
+    /// The path of the progress.
+    pub progress: String,
+    /// How many exchanges it makes at most.
+    pub limit: u64,
+    /// Where the server is.
+    pub peer: Peer,
+    /// How long an exchange may take, in seconds.
+    pub timeout: u64,
+    /// How long to wait after an exchange without a reply, in milliseconds.
+    pub wait: u64,
+    /// Whether each exchange is told on standard error.
+    pub is_verbose: bool,
+}
+
+/// Where a server is.
+#[derive(Debug, PartialEq, Eq, Drop)]
+pub enum Peer {
+    /// Behind this address and port.
+    Tcp(SocketAddrV4),
+    /// Behind the Unix socket at this path.
+    Unix(String),
+    /// In this process: a new one with no object.
+    Loopback,
+}
+
+/// What `serve` is to do.
+#[derive(Clone, Copy, Debug, PartialEq, Eq)]
+pub struct ServeOptions {
+    /// The port of this machine; 0 for one that the system picks.
+    pub port: u16,
+    /// How many connections are served.
+    pub connections: u64,
+    /// What the server's clock says, in seconds since the start of 1970.
+    pub now: i64,
+    /// How long a read or a write of a connection may wait, in seconds.
+    pub timeout: u64,
+}
+
+/// What `run` is to do, by its words; none where the address is no IPv4 address and port.
+pub(crate) fn run_options(
+    alloc: Global,
+    options: &ArgMatches<'_>,
+) -> Result<Option<RunOptions>, AllocError> {
+    let Some(peer) = peer_of(alloc, options)? else {
+        return Ok(None);
+    };
+    Ok(Some(RunOptions {
+        plan: String::from_str(alloc, options.get_str("plan").unwrap_or(""))?,
+        progress: String::from_str(alloc, options.get_str("progress").unwrap_or(""))?,
+        limit: options.get_one::<u64>("limit").unwrap_or(MOST_COUNT),
+        peer,
+        timeout: options.get_one::<u64>("timeout").unwrap_or(MOST_SECONDS),
+        wait: options.get_one::<u64>("wait").unwrap_or(0),
+        is_verbose: options.get_flag("verbose"),
+    }))
+}
+
+/// Where the server is, by the one of three words that is there; none where the address is none.
+fn peer_of(alloc: Global, options: &ArgMatches<'_>) -> Result<Option<Peer>, AllocError> {
+    if let Some(path) = options.get_str("socket") {
+        let path = String::from_str(alloc, path)?;
+        return Ok(Some(Peer::Unix(path)));
+    }
+    if options.get_flag("loopback") {
+        return Ok(Some(Peer::Loopback));
+    }
+    let address = options.get_str("connect").unwrap_or("").parse::<SocketAddrV4>();
+    Ok(address.ok().map(Peer::Tcp))
+}
+
+/// What `serve` is to do, by its words.
+pub(crate) fn serve_options(options: &ArgMatches<'_>) -> ServeOptions {
+    ServeOptions {
+        port: options.get_one::<u16>("port").unwrap_or(0),
+        connections: options.get_one::<u64>("connections").unwrap_or(0),
+        now: options.get_one::<i64>("now").unwrap_or(0),
+        timeout: options.get_one::<u64>("timeout").unwrap_or(MOST_SECONDS),
+    }
+}
+
+/// The command `run`.
+pub(crate) fn run_command<'a>(alloc: Global) -> Result<Command<'a>, AllocError> {
+    let peers = ArgGroup::new(alloc, "server")
+        .args(&["connect", "socket", "loopback"])?
+        .required(true);
+    let connect = Arg::new(alloc, "connect")
+        .long("connect")
+        .value_name("ADDRESS")
+        .help(CONNECT);
+    let socket = Arg::new(alloc, "socket")
+        .long("socket")
+        .value_name("PATH")
+        .help(SOCKET);
+    Command::new(alloc, "run")
+        .about(RUN)
+        .long_about(RUN_LONG)
+        .arg(path(alloc, "plan", PLAN))?
+        .arg(path(alloc, "progress", PROGRESS))?
+        .arg(connect)?
+        .arg(socket)?
+        .arg(flag(alloc, "loopback", LOOPBACK))?
+        .group(peers)?
+        .arg(number(alloc, "limit", "N", LIMIT, 0, MOST_COUNT).default_value("10000"))?
+        .arg(number(alloc, "timeout", "SECONDS", TIMEOUT, 1, MOST_SECONDS).default_value("30"))?
+        .arg(number(alloc, "wait", "MILLISECONDS", WAIT, 0, MOST_WAIT).default_value("100"))?
+        .arg(flag(alloc, "verbose", VERBOSE))
+}
+
+/// The command `serve`.
+pub(crate) fn serve_command<'a>(alloc: Global) -> Result<Command<'a>, AllocError> {
+    Command::new(alloc, "serve")
+        .about(SERVE)
+        .long_about(SERVE_LONG)
+        .arg(number(alloc, "port", "PORT", PORT, 0, 65_535).required(true))?
+        .arg(number(alloc, "connections", "N", CONNECTIONS, 0, MOST_COUNT).required(true))?
+        .arg(number(alloc, "now", "SECONDS", NOW, 0, 9_223_372_036_854_775_807).default_value("0"))?
+        .arg(number(alloc, "timeout", "SECONDS", SERVE_TIMEOUT, 1, MOST_SECONDS).default_value("60"))
+}
+
+/// An option for a number in this range.
+fn number<'a>(
+    alloc: Global,
+    name: &'static str,
+    value_name: &'static str,
+    help: &'static str,
+    least: u64,
+    most: u64,
+) -> Arg<'a> {
+    Arg::new(alloc, name)
+        .long(name)
+        .value_name(value_name)
+        .help(help)
+        .value_parser(ValueParser::unsigned(least, most))
+}
+
+/// An option that is there or not.
+pub(crate) fn flag<'a>(alloc: Global, name: &'static str, help: &'static str) -> Arg<'a> {
+    Arg::new(alloc, name)
+        .long(name)
+        .help(help)
+        .action(ArgAction::SetTrue)
+}

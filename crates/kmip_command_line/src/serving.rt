@@ -1,0 +1,71 @@
+//! The program `serve`, over sockets.
+
+use crate::network::ServeOptions;
+use kmip_commands::{CommandFault, ExitStatus};
+use kmip_server::{IndexedStore, Server};
+use kmip_store::MOST_ROOM;
+use kmip_transport::{StreamEnd, serve_stream};
+use std::io;
+use std::net::{Ipv4Addr, Net, OpenListener, OpenStream, SocketAddr, SocketAddrV4};
+use std::time::Duration;
+
+/// The seed of each server's keys: the same keys in each run.
+const SEED: [u8; 32] = [0; 32];
+
+/// A server with no object.
+pub(crate) fn new_server(rt: &HostRuntime) -> Server<IndexedStore> {
+    Server::new(IndexedStore::new(rt.alloc(), SEED, MOST_ROOM))
+}
+
+/// The command `serve`: connections one after the other.
+pub(crate) fn serve(rt: &HostRuntime, options: &ServeOptions) -> io::Result<ExitStatus> {
+    let address = SocketAddr::V4(SocketAddrV4::new(Ipv4Addr::LOCALHOST, options.port));
+    let Some((listener, port)) = listening(rt, address) else {
+        rt.println("cannot listen")?;
+        return Ok(ExitStatus::Refused);
+    };
+    rt.println(format_args!("listening {port}"))?;
+    let mut server = new_server(rt);
+    for _ in 0..options.connections {
+        let Ok((stream, _)) = listener.accept() else {
+            continue;
+        };
+        if serve_connection(rt, options, &mut server, stream) == StreamEnd::NoMemory {
+            rt.println(CommandFault::NoMemory.text())?;
+            return Ok(ExitStatus::Failed(CommandFault::NoMemory));
+        }
+    }
+    Ok(ExitStatus::Done)
+}
+
+/// What listens at this address, and the port that it has; none where the system gives none.
+fn listening(
+    rt: &HostRuntime,
+    address: SocketAddr,
+) -> Option<(<HostRuntime as Net>::Listener, u16)> {
+    let listener = rt.bind(address).ok()?;
+    let port = listener.local_addr().ok()?.port();
+    Some((listener, port))
+}
+
+/// Serves one connection until it ends.
+fn serve_connection(
+    rt: &HostRuntime,
+    options: &ServeOptions,
+    server: &mut Server<IndexedStore>,
+    stream: <HostRuntime as Net>::Stream,
+) -> StreamEnd {
+    let mut reader = stream;
+    let limit = Some(Duration::from_secs(options.timeout));
+    let is_limited = reader.set_read_timeout(limit).is_ok() && reader.set_write_timeout(limit).is_ok();
+    if !is_limited {
+        return StreamEnd::Io;
+    }
+    match reader.try_clone() {
+        Ok(writer) => {
+            let mut writer = writer;
+            serve_stream(server, rt.alloc(), options.now, &mut reader, &mut writer)
+        }
+        Err(_) => StreamEnd::Io,
+    }
+}
