@@ -272,7 +272,7 @@ class Crate:
     def owner_of(self, opened, module, is_trait):
         """The type or trait that a block belongs to, and what it converts from; none if it is not public."""
         kind, rest = opened.groups()
-        rest = re.sub(r'^<[^>]*>', '', rest).strip()
+        rest = re.sub(r'^<(?:[^<>]|<[^<>]*>)*>', '', rest).strip()
         conversion = re.match(r'From<(.*)> for (\w+)', rest)
         if conversion:
             return (conversion.group(2), conversion.group(1)) if self.is_public(module, conversion.group(2)) else None

@@ -1,6 +1,6 @@
 -- What `run` writes for a plan, a saved progress, and the exchanges that it made.
 -- Source: own: what the program prints.
-use Rattle.std.specs.Prelude.{◌≡◌, ◌≤◌, ◌⊎◌, ⊤, ℕ, Bool, true, not, List, ◌++◌, codes, Option, Some, None, Result, Ok, Err}
+use Rattle.std.specs.Prelude.{◌≡◌, ◌≢◌, ◌≤◌, ◌⊎◌, ⊤, ℕ, Bool, true, not, List, ◌++◌, codes, Option, Some, None, Result, Ok, Err}
 use Rattle.std.specs.Fmt.{decimal}
 use Rattle.std.specs.Io.KnownBytes.{Appends}
 use Rattle.kmip_messages.specs.Objects.{Object}
@@ -52,6 +52,7 @@ pub record TellsExchanges (keys : List Key) (limit : ℕ) (refused : Bool) (text
   pub knowns : List Knowledge
   pub stop : Stop
   pub exchanges : ℕ
+  pub in_memory : stop ≢ stops.NoMemory
   pub stands : Stands stop keys knowns
   pub within : exchanges ≤ limit
   pub at_limit : stop ≡ stops.Limit → exchanges ≡ limit
