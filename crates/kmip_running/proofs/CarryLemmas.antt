@@ -18,8 +18,8 @@ use Rattle.kmip_progress.specs.Texts.{progress_text}
 use Rattle.kmip_session.specs.Driving.{AreFinished, Grown, IsGood, IsSettling, Keeps, Learnt, Stands, WentOn, need}
 use Rattle.kmip_session.specs.declared.stop.Stop.{Stop}
 use Rattle.kmip_session.specs.declared.stop.Stop.TheVariants as stops
-use Rattle.kmip_running.specs.Carried.{Carried, CarryingLaws, Went, moment}
-use Rattle.kmip_running.specs.Saved.{AreSaved, IsInMemory, IsWhole, Moment, unsaved}
+use Rattle.kmip_running.specs.Carried.{Carried, CarryingLaws, Went}
+use Rattle.kmip_running.specs.Saved.{AreSaved, IsInMemory, IsWhole, Moment, moment, unsaved}
 use Rattle.kmip_running.specs.declared.keeper.SaveFault.{SaveFault}
 use Rattle.kmip_running.proofs.SavedLemmas.{saved_closed, saved_none, saved_not, saved_one, saved_then}
 use Rattle.kmip_running.proofs.WentLemmas.{kept_itself, learnt_delivered, stop_is, went_closed, went_nowhere, went_then}

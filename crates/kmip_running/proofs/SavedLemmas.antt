@@ -13,7 +13,7 @@ use Rattle.kmip_client.specs.declared.knowledge.Knowledge.{Knowledge}
 use Rattle.kmip_session.specs.Driving.{Learnt}
 use Rattle.kmip_session.specs.declared.stop.Stop.{Stop}
 use Rattle.kmip_session.specs.declared.stop.Stop.TheVariants as stops
-use Rattle.kmip_running.specs.Saved.{AreKept, AreSaved, AreTaught, IsInMemory, IsWhole, Moment, last_moment, text_at, unsaved}
+use Rattle.kmip_running.specs.Saved.{AreKept, AreSaved, AreInTurn, IsInMemory, IsWhole, Moment, last_moment, text_at, unsaved}
 use Rattle.kmip_running.specs.declared.keeper.SaveFault.{SaveFault}
 use Rattle.kmip_running.proofs.WentLemmas.{joined, kept_itself, kept_then, learnt_nothing, learnt_then, stop_is}
 
@@ -50,9 +50,9 @@ last_joined : (begun : Moment) (first : List Moment) (m : Moment) (second : List
 last_joined begun [] m second = refl
 last_joined begun (x ∷ first) m second = last_joined x first m second
 
-taught_joined : HearingIsBlind → (keys : List Key) (begun : Moment) (first : List Moment) (mid : Moment) (second : List Moment) → AreTaught keys begun first
-    → Learnt keys (last_moment begun first).past mid.past (last_moment begun first).knowns mid.knowns 0 → AreTaught keys mid second
-    → AreTaught keys begun (first ++ second)
+taught_joined : HearingIsBlind → (keys : List Key) (begun : Moment) (first : List Moment) (mid : Moment) (second : List Moment) → AreInTurn keys begun first
+    → Learnt keys (last_moment begun first).past mid.past (last_moment begun first).knowns mid.knowns 0 → AreInTurn keys mid second
+    → AreInTurn keys begun (first ++ second)
 taught_joined blind keys begun [] mid [] before between after = tt
 taught_joined blind keys begun [] mid (m ∷ second) before between after =
     (learnt_then blind keys begun.past mid.past m.past begun.knowns mid.knowns m.knowns 0 1 between after.0, after.1)

@@ -8,7 +8,7 @@ use Rattle.kmip_schedule.specs.Past.{Past, Names, is_planned}
 use Rattle.kmip_settling.specs.Laws.{NeedsAreBounded, WhoIsSettledNeedsNothing, WhoNeedsNothingIsFinished}
 use Rattle.kmip_session.specs.Driving.{Grown, IsGood, IsSettling, Keeps, Learnt, WentOn, need}
 use Rattle.kmip_session.specs.declared.stop.Stop.{Stop}
-use Rattle.kmip_running.specs.Saved.{AreSaved, IsInMemory, IsWhole, Moment}
+use Rattle.kmip_running.specs.Saved.{AreSaved, IsInMemory, IsWhole, moment}
 use Rattle.kmip_running.specs.declared.keeper.SaveFault.{SaveFault}
 
 -- the laws of the crates below
@@ -25,10 +25,6 @@ pub record CarryingLaws : Type 0 where
   pub bounded : NeedsAreBounded
   pub needless : WhoNeedsNothingIsFinished
   pub needed : WhoIsSettledNeedsNothing
-
--- what is known by a client, and what has happened over its link
-abbrev pub moment : {L : Type 0} → (L → Past) → ClientState → L → Moment
-moment past c link = record { knowns = c.knowns; past = past link }
 
 -- what so many exchanges keep of what is good, and what they teach
 pub record Went {L : Type 0} (past : L → Past) (honest calm : L → Names → Type 0) (a b : ClientState) (x y : L) (result : Result Stop SaveFault) (made : ℕ) : Type 0 where

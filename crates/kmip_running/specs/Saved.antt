@@ -4,6 +4,7 @@ use Rattle.std.specs.Prelude.{◌≡◌, ◌≢◌, ◌+◌, ℕ, ⊤, List, [],
 use Rattle.std.specs.List.{AllZip}
 use Rattle.kmip_plan.specs.declared.key.Key.{Key}
 use Rattle.kmip_progress.specs.Texts.{progress_text}
+use Rattle.kmip_client.specs.Clients.{ClientState}
 use Rattle.kmip_client.specs.Saving.{known_of}
 use Rattle.kmip_client.specs.Shapes.{IsKept}
 use Rattle.kmip_client.specs.declared.knowledge.Knowledge.{Knowledge}
@@ -18,6 +19,10 @@ pub record Moment : Type 0 where
   pub knowns : List Knowledge
   pub past : Past
 
+-- what a client knows now, and what has happened over its link
+abbrev pub moment : {L : Type 0} → (L → Past) → ClientState → L → Moment
+moment past c link = record { knowns = c.knowns; past = past link }
+
 -- the text of what is then known
 abbrev pub text_at : List Key → Moment → List ℕ
 text_at keys moment = progress_text keys (map known_of moment.knowns)
@@ -28,10 +33,10 @@ last_moment before [] = before
 last_moment before (moment ∷ moments) = last_moment moment moments
 
 -- each moment is one exchange later than the one before it, and what is new was taught by its answer
-abbrev pub AreTaught : List Key → Moment → List Moment → Type 0
-AreTaught keys before [] = ⊤
-AreTaught keys before (moment ∷ moments) =
-    Learnt keys before.past moment.past before.knowns moment.knowns 1 × AreTaught keys moment moments
+abbrev pub AreInTurn : List Key → Moment → List Moment → Type 0
+AreInTurn keys before [] = ⊤
+AreInTurn keys before (moment ∷ moments) =
+    Learnt keys before.past moment.past before.knowns moment.knowns 1 × AreInTurn keys moment moments
 
 -- at no moment is taken back what was known before
 abbrev pub AreKept : List Knowledge → List Moment → Type 0
@@ -59,7 +64,7 @@ pub record AreSaved (keys : List Key) (honest : Type 0) (begun ended : Moment) (
   pub texts_are : new ≡ old ++ map (text_at keys) moments
   pub as_many : length moments + unsaved result ≡ exchanges
   pub kept : AreKept begun.knowns (moments ++ ended ∷ [])
-  pub taught : honest → AreTaught keys begun moments
+  pub taught : honest → AreInTurn keys begun moments
   pub rest : honest → IsInMemory result
       → Learnt keys (last_moment begun moments).past ended.past (last_moment begun moments).knowns ended.knowns (unsaved result)
   pub last_is : honest → IsWhole result → text_at keys ended ≡ text_at keys (last_moment begun moments)

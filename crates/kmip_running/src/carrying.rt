@@ -7,8 +7,8 @@ ghost use Rattle.kmip_progress.specs.Texts.{progress_text};
 ghost use Rattle.kmip_schedule.specs.Moves.{Delivered};
 ghost use Rattle.kmip_schedule.specs.Past.{Names, is_planned};
 ghost use Rattle.kmip_session.specs.Driving.{IsGood, IsSettling, need, WentOn, Learnt, Grown, Keeps, Stands};
-ghost use Rattle.kmip_running.specs.Carried.{Carried, CarryingLaws, moment};
-ghost use Rattle.kmip_running.specs.Saved.{AreSaved, IsInMemory, IsWhole};
+ghost use Rattle.kmip_running.specs.Carried.{Carried, CarryingLaws};
+ghost use Rattle.kmip_running.specs.Saved.{AreSaved, IsInMemory, IsWhole, moment};
 
 use crate::keeper::{Keeper, SaveFault};
 use kmip_client::Client;
