@@ -40,4 +40,4 @@ pub record Went {L : Type 0} (past : L → Past) (honest calm : L → Names → 
 pub record Carried {L K : Type 0} (past : L → Past) (honest calm : L → Names → Type 0) (keeps : K → Type 0) (saved : K → List (List ℕ)) (a b : ClientState) (x y : L) (i j : K) (result : Result Stop SaveFault) (made : ℕ) : Type 0 where
   pub went : Went past honest calm a b x y result made
   pub kept : keeps i
-      → keeps j × AreSaved a.keys (honest x (is_planned a.keys)) (moment past a x) (moment past b y) result made (saved i) (saved j)
+      → keeps j × AreSaved a.keys (IsGood past honest a x) (honest x (is_planned a.keys)) (moment past a x) (moment past b y) result made (saved i) (saved j)

@@ -1,10 +1,11 @@
 -- What is saved while a plan is carried out: after each exchange a text of what is then known.
 -- Source: own.
 use Rattle.std.specs.Prelude.{◌≡◌, ◌≢◌, ◌+◌, ℕ, ⊤, List, [], ◌∷◌, ◌++◌, length, map, Result, Ok, Err}
-use Rattle.std.specs.List.{AllZip}
+use Rattle.std.specs.List.{All, AllZip}
 use Rattle.kmip_plan.specs.declared.key.Key.{Key}
 use Rattle.kmip_progress.specs.Texts.{progress_text}
 use Rattle.kmip_client.specs.Clients.{ClientState}
+use Rattle.kmip_client.specs.Held.{Held}
 use Rattle.kmip_client.specs.Saving.{known_of}
 use Rattle.kmip_client.specs.Shapes.{IsKept}
 use Rattle.kmip_client.specs.declared.knowledge.Knowledge.{Knowledge}
@@ -58,8 +59,9 @@ unsaved (Ok stop) = 0
 unsaved (Err fault) = 1
 
 -- Between two moments these texts were saved: one after each exchange, of what was then known. Over an honest link each of them has
--- what the one before it had and what one more answer taught, and the last one says all that is known at the end.
-pub record AreSaved (keys : List Key) (honest : Type 0) (begun ended : Moment) (result : Result Stop SaveFault) (exchanges : ℕ) (old new : List (List ℕ)) : Type 0 where
+-- what the one before it had and what one more answer taught, and the last one says all that is known at the end. Where all was good at
+-- the start, what each of them says is true of the objects at the end.
+pub record AreSaved (keys : List Key) (good honest : Type 0) (begun ended : Moment) (result : Result Stop SaveFault) (exchanges : ℕ) (old new : List (List ℕ)) : Type 0 where
   pub moments : List Moment
   pub texts_are : new ≡ old ++ map (text_at keys) moments
   pub as_many : length moments + unsaved result ≡ exchanges
@@ -67,4 +69,5 @@ pub record AreSaved (keys : List Key) (honest : Type 0) (begun ended : Moment) (
   pub taught : honest → AreInTurn keys begun moments
   pub rest : honest → IsInMemory result
       → Learnt keys (last_moment begun moments).past ended.past (last_moment begun moments).knowns ended.knowns (unsaved result)
+  pub true_of : good → All (λ (moment : Moment). Held ended.past.objects keys moment.knowns) moments
   pub last_is : honest → IsWhole result → text_at keys ended ≡ text_at keys (last_moment begun moments)
