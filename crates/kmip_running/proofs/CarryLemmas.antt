@@ -15,11 +15,12 @@ use Rattle.kmip_schedule.specs.Moves.{Delivered}
 use Rattle.kmip_schedule.specs.Past.{Names, Past, is_planned}
 use Rattle.kmip_client.specs.Saving.{progress}
 use Rattle.kmip_progress.specs.Texts.{progress_text}
+use Rattle.kmip_schedule.specs.Sound.{Sound}
 use Rattle.kmip_session.specs.Driving.{AreFinished, Grown, IsGood, IsSettling, Keeps, Learnt, Stands, WentOn, need}
 use Rattle.kmip_session.specs.declared.stop.Stop.{Stop}
 use Rattle.kmip_session.specs.declared.stop.Stop.TheVariants as stops
-use Rattle.kmip_running.specs.Carried.{Carried, CarryingLaws, Went, moment}
-use Rattle.kmip_running.specs.Saved.{AreSaved, IsInMemory, IsWhole, Moment, unsaved}
+use Rattle.kmip_running.specs.Carried.{Carried, CarryingLaws, Went}
+use Rattle.kmip_running.specs.Saved.{AreSaved, IsInMemory, IsWhole, Moment, moment, unsaved}
 use Rattle.kmip_running.specs.declared.keeper.SaveFault.{SaveFault}
 use Rattle.kmip_running.proofs.SavedLemmas.{saved_closed, saved_none, saved_not, saved_one, saved_then}
 use Rattle.kmip_running.proofs.WentLemmas.{kept_itself, learnt_delivered, stop_is, went_closed, went_nowhere, went_then}
@@ -69,15 +70,16 @@ finished_settled objects (key ∷ keys) (known ∷ knowns) held finished = (
 )
 
 -- what is saved is so under another premise that gives the first
-saved_from_start : (keys : List Key) (holds then : Type 0) (begun ended : Moment) (result : Result Stop SaveFault) (n : ℕ) (old new : List (List ℕ)) → (holds → then)
-    → AreSaved keys then begun ended result n old new → AreSaved keys holds begun ended result n old new
-saved_from_start keys holds then begun ended result n old new gives a = record {
+saved_from_start : (keys : List Key) (good better holds then : Type 0) (begun ended : Moment) (result : Result Stop SaveFault) (n : ℕ) (old new : List (List ℕ)) → (good → better)
+    → (holds → then) → AreSaved keys better then begun ended result n old new → AreSaved keys good holds begun ended result n old new
+saved_from_start keys good better holds then begun ended result n old new betters gives a = record {
   moments = a.moments;
   texts_are = a.texts_are;
   as_many = a.as_many;
   kept = a.kept;
   taught = λ h. a.taught (gives h);
   rest = λ h. a.rest (gives h);
+  true_of = λ g. a.true_of (betters g);
   last_is = λ h. a.last_is (gives h);
 }
 
@@ -134,7 +136,7 @@ module _ {L : Type 0} (past : L → Past) (honest calm : L → Names → Type 0)
       went = without a b x y driven.0 driven.1 went;
       kept = λ keeping. (
         keeping,
-        saved_none a.keys (honest x (is_planned a.keys)) (moment past a x) (moment past b y) stops.NoMemory (saved i) went.keeps.kept
+        saved_none a.keys (IsGood past honest a x) (honest x (is_planned a.keys)) (moment past a x) (moment past b y) stops.NoMemory (saved i) went.keeps.kept
             (λ holds memory. absurd (memory refl)),
       );
     }
@@ -147,7 +149,7 @@ module _ {L : Type 0} (past : L → Past) (honest calm : L → Names → Type 0)
           went = went_so;
           kept = λ keeping. (
             keeping,
-            saved_none a.keys (honest x (is_planned a.keys)) (moment past a x) (moment past b y) driven.0 (saved i) went.keeps.kept
+            saved_none a.keys (IsGood past honest a x) (honest x (is_planned a.keys)) (moment past a x) (moment past b y) driven.0 (saved i) went.keeps.kept
                 (λ holds memory. learns a b x y driven.0 0 memory went_so holds),
           );
         }
@@ -162,9 +164,10 @@ module _ {L : Type 0} (past : L → Past) (honest calm : L → Names → Type 0)
           kept = λ keeping.
               let so = saves keeping in (
                 so.0,
-                saved_one a.keys (honest x (is_planned a.keys)) (moment past a x) (moment past b y) driven.0 (saved i) (saved j) went.keeps.kept
+                saved_one a.keys (IsGood past honest a x) (honest x (is_planned a.keys)) (moment past a x) (moment past b y) driven.0 (saved i) (saved j) went.keeps.kept
                     (learns a b x y driven.0 1 memory went_so)
-                    (subst (λ ks. saved j ≡ saved i ++ progress_text ks (progress b) ∷ []) went.keeps.keys_stay so.1),
+                    (subst (λ ks. saved j ≡ saved i ++ progress_text ks (progress b) ∷ []) went.keeps.keys_stay so.1)
+                    (λ good. subst (λ ks. Held (past y).objects ks b.knowns) went.keeps.keys_stay (went.good good).held),
               );
         }
 
@@ -178,7 +181,7 @@ module _ {L : Type 0} (past : L → Past) (honest calm : L → Names → Type 0)
           kept = λ keeping.
               let so = saves keeping in (
                 so.0,
-                saved_not a.keys (honest x (is_planned a.keys)) (moment past a x) (moment past b y) fault (saved i) (saved j) went.keeps.kept
+                saved_not a.keys (IsGood past honest a x) (honest x (is_planned a.keys)) (moment past a x) (moment past b y) fault (saved i) (saved j) went.keeps.kept
                     (learns a b x y driven.0 1 memory went_so) so.1,
               );
         }
@@ -193,15 +196,15 @@ module _ {L : Type 0} (past : L → Past) (honest calm : L → Names → Type 0)
           went = went;
           kept = λ keeping. (
             keeping,
-            saved_none c.keys (honest x (is_planned c.keys)) (moment past c x) (moment past c x) stops.Limit (saved i) (kept_itself c.knowns)
+            saved_none c.keys (IsGood past honest c x) (honest x (is_planned c.keys)) (moment past c x) (moment past c x) stops.Limit (saved i) (kept_itself c.knowns)
                 (λ holds memory. learns c c x x stops.Limit 0 memory went holds),
           );
         }
 
-    pub carried_then : CarryingLaws → (a b c : ClientState) (x y z : L) (i j k : K) (result : Result Stop SaveFault) (m n : ℕ)
+    pub carried_then : CarryingLaws → (a b c : ClientState) (x y z : L) (i j k : K) (result : Result Stop SaveFault) (m n : ℕ) → IsLawful a.keys
         → Carried past honest calm keeps saved a b x y i j (Ok stops.Limit) m → Carried past honest calm keeps saved b c y z j k result n
         → Carried past honest calm keeps saved a c x z i k result (m + n)
-    carried_then l a b c x y z i j k result m n first second =
+    carried_then l a b c x y z i j k result m n lawful first second =
         let keys = first.went.keeps.keys_stay in
         let memory : stops.Limit ≢ stops.NoMemory = λ is. absurd cc in
         record {
@@ -210,11 +213,15 @@ module _ {L : Type 0} (past : L → Past) (honest calm : L → Names → Type 0)
               let before = first.kept keeping in
               let after = second.kept before.0 in (
                 after.0,
-                saved_then l.blind a.keys (honest x (is_planned a.keys)) (moment past a x) (moment past b y) (moment past c z) stops.Limit result m n (saved i)
-                    (saved j) (saved k) memory before.1
-                    (saved_from_start a.keys (honest x (is_planned a.keys)) (honest y (is_planned a.keys)) (moment past b y) (moment past c z) result n (saved j)
-                    (saved k) (λ holds. (first.went.known holds).0)
-                    (subst (λ ks. AreSaved ks (honest y (is_planned ks)) (moment past b y) (moment past c z) result n (saved j) (saved k)) keys after.1)),
+                saved_then l.blind a.keys (IsGood past honest a x) (honest x (is_planned a.keys)) (moment past a x) (moment past b y) (moment past c z) stops.Limit result m n (saved i)
+                    (saved j) (saved k) memory
+                    (λ good knowns.
+                    l.known_for_good a.keys knowns (past y).objects (past z).objects lawful
+                    (subst (λ ks. WentOn ks (past y) (past z)) keys (second.went.goes (first.went.good good))).onward)
+                    before.1
+                    (saved_from_start a.keys (IsGood past honest a x) (IsGood past honest b y) (honest x (is_planned a.keys)) (honest y (is_planned a.keys)) (moment past b y) (moment past c z) result n (saved j)
+                    (saved k) first.went.good (λ holds. (first.went.known holds).0)
+                    (subst (λ ks. AreSaved ks (IsGood past honest b y) (honest y (is_planned ks)) (moment past b y) (moment past c z) result n (saved j) (saved k)) keys after.1)),
               );
         }
 
@@ -226,11 +233,11 @@ module _ {L : Type 0} (past : L → Past) (honest calm : L → Names → Type 0)
     pub carrying_none : CarryingLaws → (c : ClientState) (x : L) (i : K) → Carrying c c x x i i 0
     carrying_none l c x i = record { carried = carried_itself l c x i; works = λ positive. absurd (omega (arith, positive)) }
 
-    pub carrying_more : CarryingLaws → (a b c : ClientState) (x y z : L) (i j k : K) (result : Result Stop SaveFault) (m n : ℕ) → Carrying a b x y i j m
+    pub carrying_more : CarryingLaws → (a b c : ClientState) (x y z : L) (i j k : K) (result : Result Stop SaveFault) (m n : ℕ) → IsLawful a.keys → Carrying a b x y i j m
         → Carried past honest calm keeps saved b c y z j k result n → result ≡ Ok stops.Limit → n ≡ 1 → IfOk result (λ stop. Stands stop c.keys c.knowns)
         → Carrying a c x z i k (m + 1)
-    carrying_more l a b c x y z i j k result m n before step limit one stands =
-        let joined = carried_then l a b c x y z i j k result m n before.carried step in record {
+    carrying_more l a b c x y z i j k result m n lawful before step limit one stands =
+        let joined = carried_then l a b c x y z i j k result m n lawful before.carried step in record {
           carried = subst (λ r. Carried past honest calm keeps saved a c x z i k r (m + 1)) limit
               (subst (λ n. Carried past honest calm keeps saved a c x z i k result (m + n)) one joined);
           works = λ positive. subst (λ r. IfOk r (λ stop. Stands stop c.keys c.knowns)) limit stands;
@@ -250,12 +257,18 @@ module _ {L : Type 0} (past : L → Past) (honest calm : L → Names → Type 0)
           kept = λ keeping.
               let before = first.kept keeping in (
                 before.0,
-                saved_closed l.blind a.keys (honest x (is_planned a.keys)) (moment past a x) (moment past b y) (moment past b z) result ended m (saved i) (saved j)
+                saved_closed l.blind a.keys (IsGood past honest a x) (honest x (is_planned a.keys)) (moment past a x) (moment past b y) (moment past b z) result ended m (saved i) (saved j)
                     refl
                     (λ holds.
                     learnt_delivered l.requests a.keys (is_planned a.keys) (past y) (past z) b.knowns
                     (delivers (is_planned a.keys) (first.went.known holds).0).1)
-                    (same_unsaved closed result ended same stop fault) memory (λ done. (whole done).0) before.1,
+                    (same_unsaved closed result ended same stop fault) memory (λ done. (whole done).0)
+                    (λ good knowns.
+                    l.known_for_good a.keys knowns (past y).objects (past z).objects lawful
+                    (l.onward a.keys (past y) (past z) (subst (λ ks. Sound ks (past y)) first.went.keeps.keys_stay (first.went.good good).sound)
+                    (delivers (is_planned a.keys)
+                    (subst (λ ks. honest y (is_planned ks)) first.went.keeps.keys_stay (first.went.good good).honest_for)).1))
+                    before.1,
               );
         }
 

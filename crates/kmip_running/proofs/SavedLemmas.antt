@@ -1,7 +1,9 @@
 -- What is saved after exchanges, one after the other.
 use Rattle.std.proofs.Common.{◌≡◌, ◌≢◌, ℕ, ◌+◌, List, [], ◌∷◌, ◌++◌, length, map, Result, Ok, Err, sym, ap, subst, refl, ◌∙◌, append_assoc, append-nil, arith}
 use Rattle.std.proofs.lemmas.List.{length-append, map-append}
-use Rattle.std.specs.List.{AllZip}
+use Rattle.std.proofs.lemmas.List.Elements.{All-append, All-cons, All-nil, All-weaker}
+use Rattle.std.specs.List.{All, AllZip}
+use Rattle.kmip_client.specs.Held.{Held}
 use Rattle.kmip_plan.specs.declared.key.Key.{Key}
 use Rattle.kmip_progress.specs.Texts.{progress_text}
 use Rattle.kmip_progress.specs.declared.known.Known.{Known}
@@ -13,7 +15,7 @@ use Rattle.kmip_client.specs.declared.knowledge.Knowledge.{Knowledge}
 use Rattle.kmip_session.specs.Driving.{Learnt}
 use Rattle.kmip_session.specs.declared.stop.Stop.{Stop}
 use Rattle.kmip_session.specs.declared.stop.Stop.TheVariants as stops
-use Rattle.kmip_running.specs.Saved.{AreKept, AreSaved, AreTaught, IsInMemory, IsWhole, Moment, last_moment, text_at, unsaved}
+use Rattle.kmip_running.specs.Saved.{AreKept, AreSaved, AreInTurn, IsInMemory, IsWhole, Moment, last_moment, text_at, unsaved}
 use Rattle.kmip_running.specs.declared.keeper.SaveFault.{SaveFault}
 use Rattle.kmip_running.proofs.WentLemmas.{joined, kept_itself, kept_then, learnt_nothing, learnt_then, stop_is}
 
@@ -50,9 +52,9 @@ last_joined : (begun : Moment) (first : List Moment) (m : Moment) (second : List
 last_joined begun [] m second = refl
 last_joined begun (x ∷ first) m second = last_joined x first m second
 
-taught_joined : HearingIsBlind → (keys : List Key) (begun : Moment) (first : List Moment) (mid : Moment) (second : List Moment) → AreTaught keys begun first
-    → Learnt keys (last_moment begun first).past mid.past (last_moment begun first).knowns mid.knowns 0 → AreTaught keys mid second
-    → AreTaught keys begun (first ++ second)
+taught_joined : HearingIsBlind → (keys : List Key) (begun : Moment) (first : List Moment) (mid : Moment) (second : List Moment) → AreInTurn keys begun first
+    → Learnt keys (last_moment begun first).past mid.past (last_moment begun first).knowns mid.knowns 0 → AreInTurn keys mid second
+    → AreInTurn keys begun (first ++ second)
 taught_joined blind keys begun [] mid [] before between after = tt
 taught_joined blind keys begun [] mid (m ∷ second) before between after =
     (learnt_then blind keys begun.past mid.past m.past begun.knowns mid.knowns m.knowns 0 1 between after.0, after.1)
@@ -79,51 +81,69 @@ last_text keys begun first mid [] ended before after =
     after ∙ before ∙ ap (λ ms. text_at keys (last_moment begun ms)) (sym (append-nil first))
 last_text keys begun first mid (m ∷ second) ended before after = after ∙ ap (λ last. text_at keys last) (sym (last_joined begun first m second))
 
+-- ---- what is true stays so
+
+-- from one moment to another what was known is true still
+abbrev pub StaysTrue : List Key → Type 0 → Moment → Moment → Type 0
+StaysTrue keys good mid ended = good → (knowns : List Knowledge) → Held mid.past.objects keys knowns → Held ended.past.objects keys knowns
+
+still_true : (keys : List Key) (good : Type 0) (mid ended : Moment) (moments : List Moment) → StaysTrue keys good mid ended → good
+    → All (λ (m : Moment). Held mid.past.objects keys m.knowns) moments → All (λ (m : Moment). Held ended.past.objects keys m.knowns) moments
+still_true keys good mid ended moments stays holds all =
+    All-weaker (λ (m : Moment). Held mid.past.objects keys m.knowns) (λ (m : Moment). Held ended.past.objects keys m.knowns)
+    (λ m. stays holds m.knowns) moments all
+
 -- ---- what is saved
 
 -- nothing, where no exchange was made
-pub saved_none : (keys : List Key) (honest : Type 0) (begun ended : Moment) (stop : Stop) (texts : List (List ℕ)) → AllZip IsKept begun.knowns ended.knowns
-    → (honest → stop ≢ stops.NoMemory → Learnt keys begun.past ended.past begun.knowns ended.knowns 0) → AreSaved keys honest begun ended (Ok stop) 0 texts texts
-saved_none keys honest begun ended stop texts kept learnt = record {
+pub saved_none : (keys : List Key) (good honest : Type 0) (begun ended : Moment) (stop : Stop) (texts : List (List ℕ)) → AllZip IsKept begun.knowns ended.knowns
+    → (honest → stop ≢ stops.NoMemory → Learnt keys begun.past ended.past begun.knowns ended.knowns 0) → AreSaved keys good honest begun ended (Ok stop) 0 texts texts
+saved_none keys good honest begun ended stop texts kept learnt = record {
   moments = [];
   texts_are = sym (append-nil texts);
   as_many = refl;
   kept = (kept, tt);
   taught = λ holds. tt;
   rest = λ holds memory. learnt holds (λ is. memory (ap Ok is));
+  true_of = λ holds. All-nil (λ (m : Moment). Held ended.past.objects keys m.knowns);
   last_is = λ holds whole. same_text keys begun ended (learnt holds whole);
 }
 
 -- what is known after an exchange
-pub saved_one : (keys : List Key) (honest : Type 0) (begun ended : Moment) (stop : Stop) (old new : List (List ℕ)) → AllZip IsKept begun.knowns ended.knowns
-    → (honest → Learnt keys begun.past ended.past begun.knowns ended.knowns 1) → new ≡ old ++ text_at keys ended ∷ [] → AreSaved keys honest begun ended (Ok stop) 1 old new
-saved_one keys honest begun ended stop old new kept learnt is = record {
+pub saved_one : (keys : List Key) (good honest : Type 0) (begun ended : Moment) (stop : Stop) (old new : List (List ℕ)) → AllZip IsKept begun.knowns ended.knowns
+    → (honest → Learnt keys begun.past ended.past begun.knowns ended.knowns 1) → new ≡ old ++ text_at keys ended ∷ []
+    → (good → Held ended.past.objects keys ended.knowns) → AreSaved keys good honest begun ended (Ok stop) 1 old new
+saved_one keys good honest begun ended stop old new kept learnt is held = record {
   moments = ended ∷ [];
   texts_are = is;
   as_many = refl;
   kept = (kept, (kept_itself ended.knowns, tt));
   taught = λ holds. (learnt holds, tt);
   rest = λ holds memory. learnt_nothing keys ended.past ended.knowns;
+  true_of = λ holds.
+      let P : Moment → Type 0 = λ m. Held ended.past.objects keys m.knowns in
+      All-cons P ended [] (held holds) (All-nil P);
   last_is = λ holds whole. refl;
 }
 
 -- or nothing again, where it was not saved
-pub saved_not : (keys : List Key) (honest : Type 0) (begun ended : Moment) (fault : SaveFault) (old new : List (List ℕ)) → AllZip IsKept begun.knowns ended.knowns
-    → (honest → Learnt keys begun.past ended.past begun.knowns ended.knowns 1) → new ≡ old → AreSaved keys honest begun ended (Err fault) 1 old new
-saved_not keys honest begun ended fault old new kept learnt same = record {
+pub saved_not : (keys : List Key) (good honest : Type 0) (begun ended : Moment) (fault : SaveFault) (old new : List (List ℕ)) → AllZip IsKept begun.knowns ended.knowns
+    → (honest → Learnt keys begun.past ended.past begun.knowns ended.knowns 1) → new ≡ old → AreSaved keys good honest begun ended (Err fault) 1 old new
+saved_not keys good honest begun ended fault old new kept learnt same = record {
   moments = [];
   texts_are = same ∙ sym (append-nil old);
   as_many = refl;
   kept = (kept, tt);
   taught = λ holds. tt;
   rest = λ holds memory. learnt holds;
+  true_of = λ holds. All-nil (λ (m : Moment). Held ended.past.objects keys m.knowns);
   last_is = λ holds whole. absurd whole;
 }
 
-pub saved_then : HearingIsBlind → (keys : List Key) (honest : Type 0) (begun mid ended : Moment) (stop : Stop) (result : Result Stop SaveFault) (m n : ℕ)
-    (old between new : List (List ℕ)) → stop ≢ stops.NoMemory → AreSaved keys honest begun mid (Ok stop) m old between
-    → AreSaved keys honest mid ended result n between new → AreSaved keys honest begun ended result (m + n) old new
-saved_then blind keys honest begun mid ended stop result m n old between new memory a b =
+pub saved_then : HearingIsBlind → (keys : List Key) (good honest : Type 0) (begun mid ended : Moment) (stop : Stop) (result : Result Stop SaveFault) (m n : ℕ)
+    (old between new : List (List ℕ)) → stop ≢ stops.NoMemory → StaysTrue keys good mid ended → AreSaved keys good honest begun mid (Ok stop) m old between
+    → AreSaved keys good honest mid ended result n between new → AreSaved keys good honest begun ended result (m + n) old new
+saved_then blind keys good honest begun mid ended stop result m n old between new memory stays a b =
     let in_memory : IsInMemory (Ok stop) = λ is. memory (stop_is stop stops.NoMemory is) in
     record {
       moments = a.moments ++ b.moments;
@@ -134,15 +154,18 @@ saved_then blind keys honest begun mid ended stop result m n old between new mem
           (kept_joined begun.knowns a.moments mid (b.moments ++ ended ∷ []) a.kept b.kept);
       taught = λ holds. taught_joined blind keys begun a.moments mid b.moments (a.taught holds) (a.rest holds in_memory) (b.taught holds);
       rest = λ holds whole. rest_joined blind keys begun a.moments mid b.moments ended (unsaved result) (a.rest holds in_memory) (b.rest holds whole);
+      true_of = λ holds.
+          All-append (λ (m : Moment). Held ended.past.objects keys m.knowns) a.moments b.moments
+          (still_true keys good mid ended a.moments stays holds (a.true_of holds)) (b.true_of holds);
       last_is = λ holds whole. last_text keys begun a.moments mid b.moments ended (a.last_is holds memory) (b.last_is holds whole);
     }
 
 -- the end of the run saves nothing
-pub saved_closed : HearingIsBlind → (keys : List Key) (honest : Type 0) (begun mid ended : Moment) (result last : Result Stop SaveFault) (m : ℕ) (old new : List (List ℕ))
+pub saved_closed : HearingIsBlind → (keys : List Key) (good honest : Type 0) (begun mid ended : Moment) (result last : Result Stop SaveFault) (m : ℕ) (old new : List (List ℕ))
     → mid.knowns ≡ ended.knowns → (honest → Learnt keys mid.past ended.past mid.knowns ended.knowns 0) → unsaved last ≡ unsaved result
-    → (IsInMemory last → IsInMemory result) → (IsWhole last → IsWhole result) → AreSaved keys honest begun mid result m old new
-    → AreSaved keys honest begun ended last m old new
-saved_closed blind keys honest begun mid ended result last m old new same learnt as_many memory whole a = record {
+    → (IsInMemory last → IsInMemory result) → (IsWhole last → IsWhole result) → StaysTrue keys good mid ended → AreSaved keys good honest begun mid result m old new
+    → AreSaved keys good honest begun ended last m old new
+saved_closed blind keys good honest begun mid ended result last m old new same learnt as_many memory whole stays a = record {
   moments = a.moments;
   texts_are = a.texts_are;
   as_many = omega (arith, as_many, a.as_many);
@@ -153,5 +176,6 @@ saved_closed blind keys honest begun mid ended result last m old new same learnt
       let none : unsaved result + 0 ≡ unsaved last = omega (arith, as_many) in
       subst (λ n. Learnt keys before.past ended.past before.knowns ended.knowns n) none
       (learnt_then blind keys before.past mid.past ended.past before.knowns mid.knowns ended.knowns (unsaved result) 0 (a.rest holds (memory in_memory)) (learnt holds));
+  true_of = λ holds. still_true keys good mid ended a.moments stays holds (a.true_of holds);
   last_is = λ holds done. same_text keys mid ended (learnt holds) ∙ a.last_is holds (whole done);
 }

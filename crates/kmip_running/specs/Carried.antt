@@ -8,7 +8,7 @@ use Rattle.kmip_schedule.specs.Past.{Past, Names, is_planned}
 use Rattle.kmip_settling.specs.Laws.{NeedsAreBounded, WhoIsSettledNeedsNothing, WhoNeedsNothingIsFinished}
 use Rattle.kmip_session.specs.Driving.{Grown, IsGood, IsSettling, Keeps, Learnt, WentOn, need}
 use Rattle.kmip_session.specs.declared.stop.Stop.{Stop}
-use Rattle.kmip_running.specs.Saved.{AreSaved, IsInMemory, IsWhole, Moment}
+use Rattle.kmip_running.specs.Saved.{AreSaved, IsInMemory, IsWhole, moment}
 use Rattle.kmip_running.specs.declared.keeper.SaveFault.{SaveFault}
 
 -- the laws of the crates below
@@ -26,10 +26,6 @@ pub record CarryingLaws : Type 0 where
   pub needless : WhoNeedsNothingIsFinished
   pub needed : WhoIsSettledNeedsNothing
 
--- what is known by a client, and what has happened over its link
-abbrev pub moment : {L : Type 0} → (L → Past) → ClientState → L → Moment
-moment past c link = record { knowns = c.knowns; past = past link }
-
 -- what so many exchanges keep of what is good, and what they teach
 pub record Went {L : Type 0} (past : L → Past) (honest calm : L → Names → Type 0) (a b : ClientState) (x y : L) (result : Result Stop SaveFault) (made : ℕ) : Type 0 where
   pub good : IsGood past honest a x → IsGood past honest b y
@@ -44,4 +40,4 @@ pub record Went {L : Type 0} (past : L → Past) (honest calm : L → Names → 
 pub record Carried {L K : Type 0} (past : L → Past) (honest calm : L → Names → Type 0) (keeps : K → Type 0) (saved : K → List (List ℕ)) (a b : ClientState) (x y : L) (i j : K) (result : Result Stop SaveFault) (made : ℕ) : Type 0 where
   pub went : Went past honest calm a b x y result made
   pub kept : keeps i
-      → keeps j × AreSaved a.keys (honest x (is_planned a.keys)) (moment past a x) (moment past b y) result made (saved i) (saved j)
+      → keeps j × AreSaved a.keys (IsGood past honest a x) (honest x (is_planned a.keys)) (moment past a x) (moment past b y) result made (saved i) (saved j)

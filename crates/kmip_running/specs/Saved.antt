@@ -1,9 +1,11 @@
 -- What is saved while a plan is carried out: after each exchange a text of what is then known.
 -- Source: own.
 use Rattle.std.specs.Prelude.{◌≡◌, ◌≢◌, ◌+◌, ℕ, ⊤, List, [], ◌∷◌, ◌++◌, length, map, Result, Ok, Err}
-use Rattle.std.specs.List.{AllZip}
+use Rattle.std.specs.List.{All, AllZip}
 use Rattle.kmip_plan.specs.declared.key.Key.{Key}
 use Rattle.kmip_progress.specs.Texts.{progress_text}
+use Rattle.kmip_client.specs.Clients.{ClientState}
+use Rattle.kmip_client.specs.Held.{Held}
 use Rattle.kmip_client.specs.Saving.{known_of}
 use Rattle.kmip_client.specs.Shapes.{IsKept}
 use Rattle.kmip_client.specs.declared.knowledge.Knowledge.{Knowledge}
@@ -18,6 +20,10 @@ pub record Moment : Type 0 where
   pub knowns : List Knowledge
   pub past : Past
 
+-- what a client knows now, and what has happened over its link
+abbrev pub moment : {L : Type 0} → (L → Past) → ClientState → L → Moment
+moment past c link = record { knowns = c.knowns; past = past link }
+
 -- the text of what is then known
 abbrev pub text_at : List Key → Moment → List ℕ
 text_at keys moment = progress_text keys (map known_of moment.knowns)
@@ -28,10 +34,10 @@ last_moment before [] = before
 last_moment before (moment ∷ moments) = last_moment moment moments
 
 -- each moment is one exchange later than the one before it, and what is new was taught by its answer
-abbrev pub AreTaught : List Key → Moment → List Moment → Type 0
-AreTaught keys before [] = ⊤
-AreTaught keys before (moment ∷ moments) =
-    Learnt keys before.past moment.past before.knowns moment.knowns 1 × AreTaught keys moment moments
+abbrev pub AreInTurn : List Key → Moment → List Moment → Type 0
+AreInTurn keys before [] = ⊤
+AreInTurn keys before (moment ∷ moments) =
+    Learnt keys before.past moment.past before.knowns moment.knowns 1 × AreInTurn keys moment moments
 
 -- at no moment is taken back what was known before
 abbrev pub AreKept : List Knowledge → List Moment → Type 0
@@ -53,13 +59,15 @@ unsaved (Ok stop) = 0
 unsaved (Err fault) = 1
 
 -- Between two moments these texts were saved: one after each exchange, of what was then known. Over an honest link each of them has
--- what the one before it had and what one more answer taught, and the last one says all that is known at the end.
-pub record AreSaved (keys : List Key) (honest : Type 0) (begun ended : Moment) (result : Result Stop SaveFault) (exchanges : ℕ) (old new : List (List ℕ)) : Type 0 where
+-- what the one before it had and what one more answer taught, and the last one says all that is known at the end. Where all was good at
+-- the start, what each of them says is true of the objects at the end.
+pub record AreSaved (keys : List Key) (good honest : Type 0) (begun ended : Moment) (result : Result Stop SaveFault) (exchanges : ℕ) (old new : List (List ℕ)) : Type 0 where
   pub moments : List Moment
   pub texts_are : new ≡ old ++ map (text_at keys) moments
   pub as_many : length moments + unsaved result ≡ exchanges
   pub kept : AreKept begun.knowns (moments ++ ended ∷ [])
-  pub taught : honest → AreTaught keys begun moments
+  pub taught : honest → AreInTurn keys begun moments
   pub rest : honest → IsInMemory result
       → Learnt keys (last_moment begun moments).past ended.past (last_moment begun moments).knowns ended.knowns (unsaved result)
+  pub true_of : good → All (λ (moment : Moment). Held ended.past.objects keys moment.knowns) moments
   pub last_is : honest → IsWhole result → text_at keys ended ≡ text_at keys (last_moment begun moments)

@@ -7,8 +7,8 @@ ghost use Rattle.kmip_progress.specs.Texts.{progress_text};
 ghost use Rattle.kmip_schedule.specs.Moves.{Delivered};
 ghost use Rattle.kmip_schedule.specs.Past.{Names, is_planned};
 ghost use Rattle.kmip_session.specs.Driving.{IsGood, IsSettling, need, WentOn, Learnt, Grown, Keeps, Stands};
-ghost use Rattle.kmip_running.specs.Carried.{Carried, CarryingLaws, moment};
-ghost use Rattle.kmip_running.specs.Saved.{AreSaved, IsInMemory, IsWhole};
+ghost use Rattle.kmip_running.specs.Carried.{Carried, CarryingLaws};
+ghost use Rattle.kmip_running.specs.Saved.{AreSaved, IsInMemory, IsWhole, moment};
 
 use crate::keeper::{Keeper, SaveFault};
 use kmip_client::Client;
@@ -53,7 +53,8 @@ pub fn carry_out<L: Link, K: Keeper>(
         → Grown (L.past link.old) (L.past link.new) }
     ensures kept { Keeps client.old client.new }
     ensures saved { K.keeps keeper.old → K.keeps keeper.new
-        × AreSaved client.old.keys (L.honest link.old (is_planned client.old.keys))
+        × AreSaved client.old.keys (IsGood L.past L.honest client.old link.old)
+        (L.honest link.old (is_planned client.old.keys))
         (moment L.past client.old link.old) (moment L.past client.new link.new)
         result.0 result.1 (K.saved keeper.old) (K.saved keeper.new) }
     ensures stands { IfOk result.0 (λ stop. Stands stop client.new.keys client.new.knowns) }
@@ -134,6 +135,7 @@ fn exchange_in_turn<L: Link, K: Keeper>(
     ensures within { result.1 ≤ limit }
 {
     laws_below();
+    let _plan = client.plan();
     if limit == 0 {
         let (stop, _) = drive(alloc, client, link, 0);
         return (Ok(stop), 0);

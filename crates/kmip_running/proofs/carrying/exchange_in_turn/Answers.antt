@@ -25,7 +25,7 @@ returns-then-not-is_at_limit-clause-carried g c =
     let step = c.exchange_once-carried in
     carried_then g.L.Link.past g.L.Link.honest g.L.Link.calm g.K.Keeper.keeps g.K.Keeper.saved c.laws_below.ensures c.args.client.now c.loop-made.client
     step.new.client c.args.link.now c.loop-made.link step.new.link c.args.keeper.now c.loop-made.keeper step.new.keeper step.result.0 c.loop-made.made step.result.1
-    c.loop-made.invariant.carried step.ensures.carried
+    c.plan-plan.ensures.lawful c.loop-made.invariant.carried step.ensures.carried
 
 pub loop-made-preserved : goal.loop-made-preserved
 loop-made-preserved g c =
@@ -33,4 +33,4 @@ loop-made-preserved g c =
     let limit : step.result.0 ≡ Ok stops.Limit = search rules in
     carrying_more g.L.Link.past g.L.Link.honest g.L.Link.calm g.K.Keeper.keeps g.K.Keeper.saved c.laws_below.ensures c.args.client.now c.loop-made.client
     step.new.client c.args.link.now c.loop-made.link step.new.link c.args.keeper.now c.loop-made.keeper step.new.keeper step.result.0 c.loop-made.made step.result.1
-    c.loop-made.invariant step.ensures.carried limit (step.ensures.limit limit) step.ensures.stands
+    c.plan-plan.ensures.lawful c.loop-made.invariant step.ensures.carried limit (step.ensures.limit limit) step.ensures.stands

@@ -1,0 +1,12 @@
+//! Tests of kmip_running, against runs that were worked out by hand.
+//!
+//! The expected values come from the rules of a run and of a progress text, and never from what the
+//! crates wrote.
+#![tactic(auto)]
+
+#[cfg(test)]
+mod rows;
+#[cfg(test)]
+mod shelf;
+#[cfg(test)]
+mod waits;
