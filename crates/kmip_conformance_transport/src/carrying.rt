@@ -1,0 +1,90 @@
+//! One message from a stream, and one onto it.
+
+use crate::streams::{ByteReader, ShortWriter};
+use kmip_frames::Framer;
+use kmip_transport::{LinkFault, receive_message, send_message};
+use kmip_vectors::{LOCATE_K1, LOCATE_K1_NONE};
+use std::process::Abort;
+use std::test::Fail;
+
+/// What is received of these bytes, as a word, and how many stay in the framer and in the reader.
+fn assert_received(
+    rt: &(impl Abort + AllocGlobal),
+    mut reader: ByteReader<'_>,
+    wanted: Result<bool, LinkFault>,
+    held: usize,
+    left: usize,
+) -> Result<(), Fail> {
+    let mut framer = Framer::new(rt.alloc())?;
+    match receive_message(rt.alloc(), &mut reader, &mut framer) {
+        Ok(answer) => assert_eq!(rt; Ok(answer.is_some()), wanted),
+        Err(fault) => assert_eq!(rt; Err(fault), wanted),
+    }
+    assert_eq!(rt; framer.pending(), held);
+    assert_eq!(rt; reader.left(), left);
+    Ok(())
+}
+
+#[test]
+fn gives_a_message_and_no_more(rt: HostRuntime) -> Result<(), Fail> {
+    let reply = hex::decode(rt.alloc(), LOCATE_K1_NONE)?;
+    assert_eq!(rt; reply.len(), 152);
+    let mut bytes = Vec::from_slice(rt.alloc(), reply.as_slice())?;
+    bytes.extend_from_slice(reply.as_slice())?;
+    let mut reader = ByteReader::failing(bytes.as_slice());
+    let mut framer = Framer::new(rt.alloc())?;
+    for left in [152, 0] {
+        match receive_message(rt.alloc(), &mut reader, &mut framer)? {
+            Some(message) => assert_eq!(rt; message.as_slice(), reply.as_slice()),
+            None => assert!(rt; false),
+        }
+        assert_eq!(rt; reader.left(), left);
+        assert_eq!(rt; framer.pending(), 0);
+    }
+    Ok(())
+}
+
+#[test]
+fn fails_where_a_read_fails(rt: HostRuntime) -> Result<(), Fail> {
+    let reply = hex::decode(rt.alloc(), LOCATE_K1_NONE)?;
+    for count in 0..152 {
+        let (front, _) = reply.split_at(reply.len().min(count));
+        let reader = ByteReader::failing(front);
+        assert_received(&rt, reader, Err(LinkFault::Io), count, 0)?;
+    }
+    Ok(())
+}
+
+#[test]
+fn has_none_where_the_stream_ends(rt: HostRuntime) -> Result<(), Fail> {
+    let reply = hex::decode(rt.alloc(), LOCATE_K1_NONE)?;
+    for count in 0..152 {
+        let (front, _) = reply.split_at(reply.len().min(count));
+        let reader = ByteReader::ending(front);
+        assert_received(&rt, reader, Ok(false), count, 0)?;
+    }
+    Ok(())
+}
+
+#[test]
+fn refuses_another_head(rt: HostRuntime) -> Result<(), Fail> {
+    let bytes = hex::decode(rt.alloc(), "000000000000000042")?;
+    let reader = ByteReader::ending(bytes.as_slice());
+    assert_received(&rt, reader, Err(LinkFault::Frame), 8, 1)
+}
+
+#[test]
+fn fails_where_a_write_fails(rt: HostRuntime) -> Result<(), Fail> {
+    let request = hex::decode(rt.alloc(), LOCATE_K1)?;
+    for room in 0..184 {
+        let mut writer = ShortWriter { room };
+        assert_eq!(rt;
+            send_message(&mut writer, request.as_slice()),
+            Err(LinkFault::Io)
+        );
+    }
+    let mut writer = ShortWriter { room: 184 };
+    assert_eq!(rt; send_message(&mut writer, request.as_slice()), Ok(()));
+    assert_eq!(rt; writer.room, 0);
+    Ok(())
+}

@@ -1,0 +1,14 @@
+//! Tests of kmip_transport: messages over streams, served and exchanged.
+//!
+//! The expected values come from the Key Management Interoperability Protocol Specification Version
+//! 2.1 and from this project's profile of it, and never from what the crates wrote.
+#![tactic(auto)]
+
+#[cfg(test)]
+mod carrying;
+#[cfg(test)]
+mod linking;
+#[cfg(test)]
+mod serving;
+#[cfg(test)]
+mod streams;

@@ -1,0 +1,73 @@
+//! Streams of messages, answered by a server.
+ghost use Rattle.std.specs.Prelude.{◌≤◌};
+
+use crate::streams::{ByteReader, ShortWriter};
+use kmip_frames::FrameFault;
+use kmip_server::Server;
+use kmip_store::ListStore;
+use kmip_transport::{StreamEnd, serve_stream};
+use kmip_vectors::{CREATE_K1, CREATE_K1_REPLY, LOCATE_K1, LOCATE_K1_NONE};
+use std::alloc::Global;
+use std::test::Fail;
+
+/// A server without rows.
+pub fn new_server(alloc: Global) -> Server<ListStore> {
+    Server::new(ListStore::new(alloc, [0; 32], 10))
+}
+
+/// The bytes of these texts, joined.
+fn joined(alloc: Global, texts: &[&str]) -> Result<Vec<u8>, Fail> {
+    let mut all = Vec::new(alloc);
+    for text in texts {
+        let bytes = hex::decode(alloc, text)?;
+        all.extend_from_slice(bytes.as_slice())?;
+    }
+    Ok(all)
+}
+
+#[test]
+fn answers_all_and_says_what_is_left(rt: HostRuntime) -> Result<(), Fail> {
+    let input = joined(rt.alloc(), &[LOCATE_K1, CREATE_K1, "4200780100"])?;
+    let wanted = joined(rt.alloc(), &[LOCATE_K1_NONE, CREATE_K1_REPLY])?;
+    let mut server = new_server(rt.alloc());
+    let mut reader = ByteReader::ending(input.as_slice());
+    let mut output = Vec::new(rt.alloc());
+    let end = serve_stream(&mut server, rt.alloc(), 0, &mut reader, &mut output);
+    assert_eq!(rt; end, StreamEnd::Ended(5));
+    assert_eq!(rt; (end.number(), end.name()), (1, "Ended"));
+    assert_eq!(rt; output.as_slice(), wanted.as_slice());
+    Ok(())
+}
+
+#[test]
+fn stops_at_another_head(rt: HostRuntime) -> Result<(), Fail> {
+    let input = joined(rt.alloc(), &["0000000000000000", LOCATE_K1])?;
+    let mut server = new_server(rt.alloc());
+    let mut reader = ByteReader::ending(input.as_slice());
+    let mut output = Vec::new(rt.alloc());
+    let end = serve_stream(&mut server, rt.alloc(), 0, &mut reader, &mut output);
+    assert_eq!(rt; end, StreamEnd::Frame(FrameFault::BadHead));
+    assert_eq!(rt; (end.number(), end.name()), (2, "Frame"));
+    assert_eq!(rt; output.len(), 0);
+    Ok(())
+}
+
+#[test]
+fn stops_where_a_stream_fails(rt: HostRuntime) -> Result<(), Fail> {
+    let input = joined(rt.alloc(), &[LOCATE_K1])?;
+    let mut server = new_server(rt.alloc());
+    let mut reader = ByteReader::failing(input.as_slice());
+    let mut output = Vec::new(rt.alloc());
+    let end = serve_stream(&mut server, rt.alloc(), 0, &mut reader, &mut output);
+    assert_eq!(rt; end, StreamEnd::Io);
+    assert_eq!(rt; (end.number(), end.name()), (3, "Io"));
+    assert_eq!(rt; output.len(), 152);
+
+    let mut reader = ByteReader::ending(input.as_slice());
+    let mut writer = ShortWriter { room: 151 };
+    let end = serve_stream(&mut server, rt.alloc(), 0, &mut reader, &mut writer);
+    assert_eq!(rt; end, StreamEnd::Io);
+    assert_eq!(rt; StreamEnd::NoMemory.number(), 4);
+    assert_eq!(rt; StreamEnd::NoMemory.name(), "NoMemory");
+    Ok(())
+}
