@@ -58,11 +58,14 @@ pub(crate) fn run_plan(rt: &HostRuntime, options: &RunOptions) -> io::Result<Exi
     };
     let input = RunInput {
         plan: plan.as_str(),
-        saved: saved.as_ref().map(|text| text.as_str()),
         path,
         limit: options.limit as usize,
     };
-    let status = run_with(rt, options, &input, FileKeeper { file });
+    let saved = match &saved {
+        Some(text) => Some(text.as_str()),
+        None => None,
+    };
+    let status = run_with(rt, options, &input, saved, FileKeeper { file });
     drop(lock);
     status
 }
@@ -111,23 +114,24 @@ fn run_with(
     rt: &HostRuntime,
     options: &RunOptions,
     input: &RunInput<'_>,
+    saved: Option<&str>,
     keeper: FileKeeper<'_>,
 ) -> io::Result<ExitStatus> {
     let limit = Duration::from_secs(options.timeout);
     match &options.peer {
         Peer::Tcp(address) => {
             let link = TcpLink::new(Tcp::new(rt, SocketAddr::V4(*address)), limit);
-            run_over(rt, options, input, keeper, link)
+            run_over(rt, options, input, saved, keeper, link)
         }
         Peer::Unix(path) => match net::SocketAddr::from_pathname(path.as_str()) {
             Ok(address) => {
                 let link = UnixLink::new(Unix::new(rt, address), limit);
-                run_over(rt, options, input, keeper, link)
+                run_over(rt, options, input, saved, keeper, link)
             }
             Err(error) => refused(rt, error, "cannot connect", path.as_str()),
         },
         Peer::Loopback => match Loopback::new(rt, new_server(rt), limit) {
-            Ok(link) => run_over(rt, options, input, keeper, link),
+            Ok(link) => run_over(rt, options, input, saved, keeper, link),
             Err(_) => {
                 rt.println("cannot listen")?;
                 Ok(ExitStatus::Refused)
@@ -141,6 +145,7 @@ fn run_over<L: Link + Drop>(
     rt: &HostRuntime,
     options: &RunOptions,
     input: &RunInput<'_>,
+    saved: Option<&str>,
     keeper: FileKeeper<'_>,
     link: L,
 ) -> io::Result<ExitStatus> {
@@ -148,5 +153,5 @@ fn run_over<L: Link + Drop>(
     let mut link = Paced::new(told, rt, options.wait);
     let mut keeper = keeper;
     let mut writer = BufWriter::new(rt.alloc(), io::writer(rt))?;
-    Ok(run_run(rt.alloc(), input, &mut link, &mut keeper, &mut writer))
+    Ok(run_run(rt.alloc(), input, saved, &mut link, &mut keeper, &mut writer))
 }

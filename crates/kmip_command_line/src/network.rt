@@ -107,7 +107,9 @@ pub(crate) fn serve_options(options: &ArgMatches<'_>) -> ServeOptions {
 /// The command `run`.
 pub(crate) fn run_command<'a>(alloc: Global) -> Result<Command<'a>, AllocError> {
     let peers = ArgGroup::new(alloc, "server")
-        .args(&["connect", "socket", "loopback"])?
+        .arg("connect")?
+        .arg("socket")?
+        .arg("loopback")?
         .required(true);
     let connect = Arg::new(alloc, "connect")
         .long("connect")

@@ -36,8 +36,6 @@ use std::io::Write;
 pub struct RunInput<'a> {
     /// The text of the plan.
     pub plan: &'a str,
-    /// The text of what was known at the end of the last run; none at first.
-    pub saved: Option<&'a str>,
     /// Where what is known is kept, as it is named where it cannot be written.
     pub path: &'a str,
     /// How many exchanges may be made at most.
@@ -55,27 +53,28 @@ struct Told {
 pub fn run_run<L: Link, K: Keeper, W: Write>(
     alloc: Global,
     input: &RunInput<'_>,
+    saved: Option<&str>,
     link: &mut L,
     keeper: &mut K,
     writer: &mut W,
 ) -> ExitStatus
     ensures text { IfWhole result (λ r. WritesRun (plan_read input.now.plan.now)
-        (option_map (λ text. text.now) input.now.saved) input.now.path.now input.now.limit r
+        (option_map (λ text. text.now) saved.entry) input.now.path.now input.now.limit r
         (W.contents writer.old) (W.contents writer.new)) }
     ensures broken { IfFailed result (λ fault. UnlessOutput fault
         (Appends (W.contents writer.old) (W.contents writer.new) (fault_line fault))) }
     ensures safe { (keys : List Key) → plan_read input.now.plan.now ≡ Ok keys
         → GoodLink L.past L.honest keys link.old
         → IsTrueText (L.past link.old).objects keys
-        (option_map (λ text. text.now) input.now.saved)
+        (option_map (λ text. text.now) saved.entry)
         → KeepsSafe L.past L.honest keys link.old link.new }
 {
-    let ended = run(alloc, input, link, keeper, writer);
+    let ended = run(alloc, input, saved, link, keeper, writer);
     finished(ended, writer)
 }
 
-/// Carries out the text of a plan over the link, from nothing or from what the text of a progress
-/// says, and gives the keeper the text of what is known after each exchange. Writes the report of the
+/// Carries out the text of a plan over the link, from nothing or from what the text of a saved
+/// progress says, and gives the keeper the text of what is known after each exchange. Writes the report of the
 /// keys and a line that says why it stopped and after how many exchanges; or one line where the plan
 /// is refused, else where the progress is, and one where what is known could not be kept. Says whether
 /// something was refused, not kept, or left unfinished. Nothing is written before the run has ended.
@@ -87,22 +86,23 @@ pub fn run_run<L: Link, K: Keeper, W: Write>(
 pub fn run<L: Link, K: Keeper, W: Write>(
     alloc: Global,
     input: &RunInput<'_>,
+    saved: Option<&str>,
     link: &mut L,
     keeper: &mut K,
     writer: &mut W,
 ) -> Result<bool, CommandFault>
     ensures text { IfOk result (λ r. WritesRun (plan_read input.now.plan.now)
-        (option_map (λ text. text.now) input.now.saved) input.now.path.now input.now.limit r
+        (option_map (λ text. text.now) saved.entry) input.now.path.now input.now.limit r
         (W.contents writer.old) (W.contents writer.new)) }
     ensures broken { IfErr result (λ fault. UnlessOutput fault
         (Appends (W.contents writer.old) (W.contents writer.new) [])) }
     ensures safe { (keys : List Key) → plan_read input.now.plan.now ≡ Ok keys
         → GoodLink L.past L.honest keys link.old
         → IsTrueText (L.past link.old).objects keys
-        (option_map (λ text. text.now) input.now.saved)
+        (option_map (λ text. text.now) saved.entry)
         → KeepsSafe L.past L.honest keys link.old link.new }
 {
-    let told = told_of(alloc, input, link, keeper)?;
+    let told = told_of(alloc, input, saved, link, keeper)?;
     send(told.text.as_slice(), false, writer)?;
     Ok(told.refused)
 }
@@ -114,21 +114,22 @@ pub fn run<L: Link, K: Keeper, W: Write>(
 fn told_of<L: Link, K: Keeper>(
     alloc: Global,
     input: &RunInput<'_>,
+    saved: Option<&str>,
     link: &mut L,
     keeper: &mut K,
 ) -> Result<Told, NoMemory>
     ensures text { IfOk result (λ told. TellsRun (plan_read input.now.plan.now)
-        (option_map (λ text. text.now) input.now.saved) input.now.path.now input.now.limit
+        (option_map (λ text. text.now) saved.entry) input.now.path.now input.now.limit
         told.refused told.text.items) }
     ensures safe { (keys : List Key) → plan_read input.now.plan.now ≡ Ok keys
         → GoodLink L.past L.honest keys link.old
         → IsTrueText (L.past link.old).objects keys
-        (option_map (λ text. text.now) input.now.saved)
+        (option_map (λ text. text.now) saved.entry)
         → KeepsSafe L.past L.honest keys link.old link.new }
 {
     onward_is_an_order();
     match read_plan(alloc, input.plan) {
-        Ok(plan) => told_of_plan(alloc, &plan, input, link, keeper),
+        Ok(plan) => told_of_plan(alloc, &plan, input, saved, link, keeper),
         Err(fault) => {
             let mut text = Vec::new(alloc);
             push_refusal(alloc, &fault, &mut text)?;
@@ -148,19 +149,20 @@ fn told_of_plan<L: Link, K: Keeper>(
     alloc: Global,
     plan: &Plan,
     input: &RunInput<'_>,
+    saved: Option<&str>,
     link: &mut L,
     keeper: &mut K,
 ) -> Result<Told, NoMemory>
     ensures text { IfOk result (λ told. TellsRunFrom plan.now input.now.path.now input.now.limit
-        (begin_knowns plan.now (option_map (λ text. text.now) input.now.saved))
+        (begin_knowns plan.now (option_map (λ text. text.now) saved.entry))
         told.refused told.text.items) }
     ensures safe { GoodLink L.past L.honest plan.now link.old
         → IsTrueText (L.past link.old).objects plan.now
-        (option_map (λ text. text.now) input.now.saved)
+        (option_map (λ text. text.now) saved.entry)
         → KeepsSafe L.past L.honest plan.now link.old link.new }
 {
     onward_is_an_order();
-    match begin(alloc, plan, input.saved) {
+    match begin(alloc, plan, saved) {
         Ok(client) => {
             let mut client = client;
             told_of_exchanges(alloc, &mut client, input, link, keeper)
