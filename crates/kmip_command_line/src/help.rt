@@ -113,9 +113,9 @@ nothing, for as many as the plan can need then: two more for each key than its t
 AllFinished, Limit or Conflict. Where there is no memory the runs that were made are printed, and then
 `no memory`.
 
-With --trace a line for each exchange comes before all else, `exchange N OPERATION NAME, WORD: OUTCOME`: what
-was asked, the word of the script that the exchange followed, and what came back. Where that is the reply
-to another question, the outcome begins with `answers OPERATION NAME`:
+With --trace a line for each exchange comes before all else, `exchange N OPERATION NAME, WORD: OUTCOME`:
+what was asked, the word of the script that the exchange followed, and what came back. Where that is the
+reply to another question, the outcome begins with `answers OPERATION NAME`:
   exchange 1 Locate k1, pass: found none
   exchange 2 Create k1, lose-reply: no reply
 Where there is no memory in a run, no exchange is printed.

@@ -103,7 +103,8 @@ struct Told {
 ///
 /// Where there is no memory for the text or for what is read.
 fn told_of(alloc: Global, detail: Detail, plan: &str, script: &str) -> Result<Told, NoMemory>
-    ensures { IfOk result (λ told. TellsSim detail (plan_read plan.now) told.ended told.text.items) }
+    ensures { IfOk result (λ told.
+        TellsSim detail (plan_read plan.now) told.ended told.text.items) }
 {
     match read_plan(alloc, plan) {
         Ok(plan) => told_of_script(alloc, detail, &plan, script),
