@@ -4,14 +4,13 @@ use crate::serving::new_server;
 use kmip_server::Records;
 use kmip_transport::{Link, LinkFault, Loopback, Tcp, TcpLink, Unix, UnixLink};
 use kmip_vectors::{CREATE_K1, CREATE_K1_REPLY, LOCATE_K1, LOCATE_K1_NONE};
-use std::fs;
 use std::io::{Read, Write};
 use std::net::{Ipv4Addr, Net, OpenListener, SocketAddr, SocketAddrV4};
 use std::os::unix::net;
 use std::os::unix::net::UnixListener;
-use std::process;
 use std::test::Fail;
 use std::time::Duration;
+use std::{fs, process};
 
 /// A port of this machine that the system picks.
 fn any_port() -> SocketAddr {
