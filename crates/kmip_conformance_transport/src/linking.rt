@@ -2,12 +2,15 @@
 
 use crate::serving::new_server;
 use kmip_server::Records;
-use kmip_transport::{Link, LinkFault, Loopback, Tcp, TcpLink};
+use kmip_transport::{Link, LinkFault, Loopback, Tcp, TcpLink, Unix, UnixLink};
 use kmip_vectors::{CREATE_K1, CREATE_K1_REPLY, LOCATE_K1, LOCATE_K1_NONE};
 use std::io::{Read, Write};
 use std::net::{Ipv4Addr, Net, OpenListener, SocketAddr, SocketAddrV4};
+use std::os::unix::net;
+use std::os::unix::net::UnixListener;
 use std::test::Fail;
 use std::time::Duration;
+use std::{fs, process};
 
 /// A port of this machine that the system picks.
 fn any_port() -> SocketAddr {
@@ -76,6 +79,32 @@ fn connects_anew_behind_a_lost_reply(rt: HostRuntime) -> Result<(), Fail> {
     match link.receive(rt.alloc()) {
         Ok(_) => assert!(rt; false),
         Err(fault) => assert_eq!(rt; fault, LinkFault::Frame),
+    }
+    assert!(rt; !link.is_connected());
+    Ok(())
+}
+
+#[test]
+fn goes_through_a_unix_socket(rt: HostRuntime) -> Result<(), Fail> {
+    let id = process::id(rt.process());
+    let path = format!(in rt.alloc(); "/tmp/kmip_conformance_transport_{id}.socket")?;
+    let listener = UnixListener::bind(&rt, path.as_str())?;
+    let address = net::SocketAddr::from_pathname(path.as_str())?;
+    let mut link = UnixLink::new(Unix::new(rt.clone()?, address), Duration::from_secs(10));
+    let reply = hex::decode(rt.alloc(), LOCATE_K1_NONE)?;
+    link.send(b"request")?;
+    let (mut stream, _) = listener.accept()?;
+    fs::remove_file(&rt, path.as_str())?;
+    stream.write_all(reply.as_slice())?;
+    match link.receive(rt.alloc())? {
+        Some(answer) => assert_eq!(rt; answer.as_slice(), reply.as_slice()),
+        None => assert!(rt; false),
+    }
+    assert!(rt; link.is_connected());
+    drop(stream);
+    match link.exchange(rt.alloc(), b"request") {
+        Ok(_) => assert!(rt; false),
+        Err(fault) => assert_eq!(rt; fault, LinkFault::Io),
     }
     assert!(rt; !link.is_connected());
     Ok(())

@@ -16,7 +16,7 @@ IsUnfinished bytes = (fault_in bytes ≡ None) × BeginsWithNoMessage bytes
 abbrev pub IsNoHead : List ℕ → Type 0
 IsNoHead bytes = IsSome (fault_in bytes) × (length bytes ≡ head_size)
 
--- some bytes were read and joined those held; a reader that tells its bytes began with them, and has lost them
+-- Private: some bytes were read and joined those held; a reader that tells its bytes began with them, and has lost them
 pub record Takes (old new : List ℕ) (unread left : Option (List ℕ)) : Type 0 where
   pub read : List ℕ
   pub consumed : Consumes unread left read

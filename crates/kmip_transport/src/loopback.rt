@@ -9,7 +9,7 @@ use kmip_frames::Framer;
 use kmip_schedule::{Link, LinkFault};
 use kmip_server::{Records, Server};
 use std::alloc::Global;
-use std::net::{Ipv4Addr, Net, OpenListener, SocketAddr, SocketAddrV4};
+use std::net::{Ipv4Addr, Net, OpenListener, OpenStream, SocketAddr, SocketAddrV4};
 use std::time::{Clock, Duration};
 
 /// A link to a server of its own, over TCP on 127.0.0.1 and a port that the system picks: client and
@@ -17,6 +17,7 @@ use std::time::{Clock, Duration};
 #[derive(Drop)]
 pub struct Loopback<R: Net + Clock + Drop, S: Records + Drop> {
     link: TcpLink<R>,
+    limit: Duration,
     listener: R::Listener,
     accepted: Option<R::Stream>,
     server: Server<S>,
@@ -37,6 +38,7 @@ impl<R: Net + Clock + Drop, S: Records + Drop> Loopback<R, S> {
         };
         Ok(Loopback {
             link: TcpLink::new(Tcp::new(rt, address), limit),
+            limit,
             listener,
             accepted: None,
             server,
@@ -58,16 +60,28 @@ impl<R: Net + Clock + Drop, S: Records + Drop> Loopback<R, S> {
         }
     }
 
+    /// The other end of the stream that the link holds, which waits no longer than the limit. What
+    /// else has connected is closed.
+    fn accept(&self) -> Option<R::Stream> {
+        let own = self.link.stream()?.local_addr().ok()?;
+        for _ in 0..u64::MAX {
+            let (stream, peer) = self.listener.accept().ok()?;
+            if peer == own {
+                stream.set_read_timeout(Some(self.limit)).ok()?;
+                stream.set_write_timeout(Some(self.limit)).ok()?;
+                return Some(stream);
+            }
+        }
+        None
+    }
+
     /// Answers the request that was sent, over a new connection where the link has a new one. False
     /// where that failed.
     fn answer(&mut self, alloc: Global, is_new: bool) -> bool
         ensures { self.new.link ≡ self.old.link }
     {
         if is_new {
-            self.accepted = match self.listener.accept() {
-                Ok((stream, _)) => Some(stream),
-                Err(_) => None,
-            };
+            self.accepted = self.accept();
         }
         let Some(mut stream) = self.accepted.take() else {
             return false;

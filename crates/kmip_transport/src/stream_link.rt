@@ -69,6 +69,11 @@ impl<D: Dial + Drop> StreamLink<D> {
         self.failures
     }
 
+    /// The stream, if one is held.
+    pub(crate) fn stream(&self) -> Option<&D::Stream> {
+        self.stream.as_ref()
+    }
+
     /// Closes the stream, if one is held.
     pub fn close(&mut self)
         ensures { self.new ≡ closed self.old }
