@@ -69,7 +69,8 @@ fn doubles_its_waits(rt: HostRuntime) {
     }
 }
 
-/// Two exchanges are lost, so the run waits 100 milliseconds and then 200; three more bring replies.
+/// Two exchanges are lost, so the run waits 100 milliseconds and then 200; three more bring
+/// replies.
 #[test]
 fn waits_and_tells(rt: HostRuntime) -> Result<(), Fail> {
     let alloc = rt.alloc();

@@ -11,7 +11,7 @@ abbrev pub wait_after : ℕ → ℕ → ℕ
 wait_after first zero = 0
 wait_after first (suc count) = min (first * 2 ^ count) (longest_wait first)
 
--- a reply has come
+-- Private: a reply has come
 abbrev pub has_reply : {V E : Type 0} → Result (Option V) E → Bool
 has_reply (Ok (Some reply)) = true
 has_reply (Ok None) = false

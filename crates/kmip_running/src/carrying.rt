@@ -24,10 +24,10 @@ use kmip_settling::laws::{needs_are_bounded, who_needs_nothing_is_finished};
 use kmip_ttlv::NoMemory;
 use std::alloc::Global;
 
-/// Asks one question after the other over the link and learns from what comes back, until no key of
-/// the plan is worked on any more, or `limit` exchanges were made; after each exchange the keeper is
-/// given the text of what is then known. Where no exchange is made nothing is saved. Then the run
-/// is ended over the link, whose failures are passed over.
+/// Asks one question after the other over the link and learns from what comes back, until no key
+/// of the plan is worked on any more, or `limit` exchanges were made; after each exchange the
+/// keeper is given the text of what is then known. Where no exchange is made nothing is saved. Then
+/// the run is ended over the link, whose failures are passed over.
 ///
 /// Answers why it stopped, and how many exchanges were made.
 ///
