@@ -96,12 +96,7 @@ fn locked<'a>(
 }
 
 /// Prints what cannot be done with a file, unless there is no memory.
-fn refused(
-    rt: &HostRuntime,
-    error: io::Error,
-    what: &str,
-    path: &str,
-) -> io::Result<ExitStatus> {
+fn refused(rt: &HostRuntime, error: io::Error, what: &str, path: &str) -> io::Result<ExitStatus> {
     if error.kind() == ErrorKind::OutOfMemory {
         return Err(error);
     }
@@ -153,5 +148,12 @@ fn run_over<L: Link + Drop>(
     let mut link = Paced::new(told, rt, options.wait);
     let mut keeper = keeper;
     let mut writer = BufWriter::new(rt.alloc(), io::writer(rt))?;
-    Ok(run_run(rt.alloc(), input, saved, &mut link, &mut keeper, &mut writer))
+    Ok(run_run(
+        rt.alloc(),
+        input,
+        saved,
+        &mut link,
+        &mut keeper,
+        &mut writer,
+    ))
 }

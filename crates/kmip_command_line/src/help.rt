@@ -134,7 +134,8 @@ pub(crate) const AFTER: &str = "The file of an earlier plan, which the plan is t
 pub(crate) const CANON: &str =
     "Print the item's one written form, the padding zero, in lower-case digits";
 
-pub(crate) const RUN: &str = "Carries out a plan against a server, and keeps what is known in a file";
+pub(crate) const RUN: &str =
+    "Carries out a plan against a server, and keeps what is known in a file";
 
 pub(crate) const RUN_LONG: &str = "\
 Carries out the plan in a file (see `check --help`) against a server: it asks for what each key lacks, one
@@ -160,7 +161,8 @@ The plan is read and judged first (its first fault is printed as by `check`), th
 
 With `--loopback` the server is one in this process with no object, so it suits a first run.";
 
-pub(crate) const SERVE: &str = "Answers connections on this machine by a server that keeps its keys in memory";
+pub(crate) const SERVE: &str =
+    "Answers connections on this machine by a server that keeps its keys in memory";
 
 pub(crate) const SERVE_LONG: &str = "\
 Listens on 127.0.0.1, prints `listening PORT`, and serves connections one after the other by one server,
@@ -172,7 +174,8 @@ pub(crate) const PROGRESS: &str = "The file that what is known is kept in";
 
 pub(crate) const CONNECT: &str = "The server's IPv4 address and port, as 127.0.0.1:5696";
 
-pub(crate) const SOCKET: &str = "The path of a Unix socket that the server, or a tunnel to it, is behind";
+pub(crate) const SOCKET: &str =
+    "The path of a Unix socket that the server, or a tunnel to it, is behind";
 
 pub(crate) const LOOPBACK: &str = "Have a new server in this process, over a port of this machine";
 
@@ -189,7 +192,8 @@ pub(crate) const PORT: &str = "The port, or 0 for one that the system picks";
 
 pub(crate) const CONNECTIONS: &str = "How many connections are served";
 
-pub(crate) const NOW: &str = "What the replies give as the time, in seconds since the start of 1970";
+pub(crate) const NOW: &str =
+    "What the replies give as the time, in seconds since the start of 1970";
 
 pub(crate) const SERVE_TIMEOUT: &str = "The longest that a read or a write of a connection waits";
 

@@ -1,8 +1,8 @@
 //! The words of `run` and `serve`.
 
 use crate::help::{
-    CONNECT, CONNECTIONS, LIMIT, LOOPBACK, NOW, PLAN, PORT, PROGRESS, RUN, RUN_LONG, SERVE, SERVE_LONG,
-    SERVE_TIMEOUT, SOCKET, TIMEOUT, VERBOSE, WAIT,
+    CONNECT, CONNECTIONS, LIMIT, LOOPBACK, NOW, PLAN, PORT, PROGRESS, RUN, RUN_LONG, SERVE,
+    SERVE_LONG, SERVE_TIMEOUT, SOCKET, TIMEOUT, VERBOSE, WAIT,
 };
 use crate::path;
 use clap::builder::ValueParser;
@@ -90,7 +90,10 @@ fn peer_of(alloc: Global, options: &ArgMatches<'_>) -> Result<Option<Peer>, Allo
     if options.get_flag("loopback") {
         return Ok(Some(Peer::Loopback));
     }
-    let address = options.get_str("connect").unwrap_or("").parse::<SocketAddrV4>();
+    let address = options
+        .get_str("connect")
+        .unwrap_or("")
+        .parse::<SocketAddrV4>();
     Ok(address.ok().map(Peer::Tcp))
 }
 
@@ -142,7 +145,9 @@ pub(crate) fn serve_command<'a>(alloc: Global) -> Result<Command<'a>, AllocError
         .arg(number(alloc, "port", "PORT", PORT, 0, 65_535).required(true))?
         .arg(number(alloc, "connections", "N", CONNECTIONS, 0, MOST_COUNT).required(true))?
         .arg(number(alloc, "now", "SECONDS", NOW, 0, 9_223_372_036_854_775_807).default_value("0"))?
-        .arg(number(alloc, "timeout", "SECONDS", SERVE_TIMEOUT, 1, MOST_SECONDS).default_value("60"))
+        .arg(number(alloc, "timeout", "SECONDS", SERVE_TIMEOUT, 1, MOST_SECONDS).default_value(
+            "60",
+        ))
 }
 
 /// An option for a number in this range.

@@ -57,7 +57,8 @@ fn serve_connection(
 ) -> StreamEnd {
     let mut reader = stream;
     let limit = Some(Duration::from_secs(options.timeout));
-    let is_limited = reader.set_read_timeout(limit).is_ok() && reader.set_write_timeout(limit).is_ok();
+    let is_limited = reader.set_read_timeout(limit).is_ok()
+        && reader.set_write_timeout(limit).is_ok();
     if !is_limited {
         return StreamEnd::Io;
     }

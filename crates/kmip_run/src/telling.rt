@@ -11,10 +11,7 @@ use kmip_ttlv::NoMemory;
 use std::alloc::Global;
 
 /// The line of a progress that is refused.
-pub(crate) fn progress_refusal_text(
-    alloc: Global,
-    fault: ProgressFault,
-) -> Result<String, NoMemory>
+pub(crate) fn progress_refusal_text(alloc: Global, fault: ProgressFault) -> Result<String, NoMemory>
     ensures { IfOk result (λ text. string_bytes text ≡ progress_refusal_text fault) }
 {
     let number = fault.number();

@@ -186,16 +186,16 @@ broken_asked found names c old new question (Err Io) lawful about none done = ab
 broken_asked found names c old new question (Err Frame) lawful about none done = absurd cc
 broken_asked found names c old new question (Err NoMemory) lawful about none done = elim done [
   | inl before ↦
-    let stays = delivered_stays names old new before in
-    inl (stays.requests_stay, (stays.sent_stays, stays.handed_stays))
+      let stays = delivered_stays names old new before in
+      inl (stays.requests_stay, (stays.sent_stays, stays.handed_stays))
   | inr after ↦
-    let stays = delivered_stays names (with_asked question.bytes old) new after in
-    inr (record {
-      question = question.bytes;
-      is_question = asked_one found c question lawful about;
-      requests_are = stays.requests_stay;
-      ended = inl (stays.sent_stays, stays.handed_stays);
-    })
+      let stays = delivered_stays names (with_asked question.bytes old) new after in
+      inr (record {
+        question = question.bytes;
+        is_question = asked_one found c question lawful about;
+        requests_are = stays.requests_stay;
+        ended = inl (stays.sent_stays, stays.handed_stays);
+      })
 ]
 
 -- and behind it

@@ -46,8 +46,7 @@ returns-in_default-clause-grown g c = λ honest. grown_itself (g.L.Link.past c.a
 
 pub returns-in_err-question-clause-broken : goal.returns-in_err-question-clause-broken
 returns-in_err-question-clause-broken g c = λ honest.
-    always_err c.from_residual.result
-    (
+    always_err c.from_residual.result (
       ap (λ (s : ClientState). facts s.knowns) c.in_err-question.ensures.same,
       broken_nowhere c.args.client.now.keys (g.L.Link.past c.args.link.now),
     )
