@@ -1,5 +1,5 @@
 -- What was known at the ends of some runs, and one run more.
-use Rattle.std.proofs.Common.{◌≡◌, ℕ, List, [], ◌∷◌, ◌++◌, length, slice_get, flat_map, Some, Result, Ok, Err, IsErr, OnErr, OnOk, sym, ap, subst, refl, ◌∙◌, append-nil}
+use Rattle.std.proofs.Common.{◌≡◌, ℕ, List, [], ◌∷◌, ◌++◌, length, slice_get, flat_map, Some, Result, Ok, Err, IsErr, OnOk, sym, ap, subst, refl, ◌∙◌, append-nil}
 use Rattle.std.specs.List.{AllZip}
 use Rattle.std.proofs.lemmas.List.Concat.{flat_map-append}
 use Rattle.std.proofs.lemmas.Slice.Zip.{AllZip-long}
@@ -19,7 +19,7 @@ use Rattle.kmip_session.specs.declared.campaigning.CampaignEnd.{CampaignEnd}
 use Rattle.kmip_session.specs.declared.campaigning.Run.{Run}
 use Rattle.kmip_session.specs.declared.campaigning.RunEnd.{RunEnd}
 use Rattle.kmip_session.specs.declared.stop.Stop.{Stop}
-use Rattle.kmip_session.proofs.KnownLemmas.{Stays, delivered_stays, grown_itself, joined, learnt_still}
+use Rattle.kmip_session.proofs.KnownLemmas.{delivered_stays, grown_itself, joined, learnt_still}
 use Rattle.kmip_session.proofs.OrderLemmas.{zip_push}
 
 -- what is known at the end of the last of them
