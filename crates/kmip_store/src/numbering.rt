@@ -26,10 +26,8 @@ pub(crate) fn place_of_uid(rows: &[Row], uid: &str) -> Option<usize>
 /// The place, from 0, that a text names where it is an identifier. Of another text it may name a place
 /// too: whether the row there has the text as its identifier is for the caller to see.
 fn place_named(uid: &str) -> Option<usize>
-    ensures {
-        (place : ℕ) → place < most_room
-        → uid.now ≡ identifier_at place → result ≡ Some place
-    }
+    ensures { (place : ℕ) → place < most_room
+        → uid.now ≡ identifier_at place → result ≡ Some place }
 {
     let number = uid.parse::<usize>().ok()?;
     number.checked_sub(1)
