@@ -4,6 +4,8 @@
 # make bench      compares the program with a baseline in plain Rust, and times simulations (needs rustc)
 # make refuse     refuses each growth of memory of the program in turn (needs cc)
 # make hostile    gives the program lines of ten megabytes, under limits of memory
+# make storm      carries 200 plans over a network that loses and cuts messages, and kills the runs (needs rustc)
+# make peers      runs it against peers that answer nothing, rubbish or too late (needs python3)
 # make reading    lists the public functions; with FUNCTION=crate::name, what its contract rests on (needs python3)
 # make documents  compares the documents with the code (needs python3)
 # make help       prints these lines
@@ -11,7 +13,7 @@
 program := crates/kmipctl/out/kmipctl
 sources := crates.txt $(shell find crates -name out -prune -o \( -name '*.rt' -o -name '*.antt' \) -print)
 
-.PHONY: all demo test bench refuse hostile reading documents help
+.PHONY: all demo test bench refuse hostile storm peers reading documents help
 
 all: $(program)
 
@@ -35,6 +37,12 @@ refuse: $(program)
 
 hostile: $(program)
 	@bench/hostile.sh $(program)
+
+storm: $(program)
+	@bench/storm.sh $(program)
+
+peers: $(program)
+	@python3 bench/peers.py $(program) out/peers
 
 reading:
 	@python3 tools/reading.py $(FUNCTION)

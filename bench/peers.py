@@ -1,0 +1,210 @@
+#!/usr/bin/env python3
+"""Runs `kmipctl run` against peers that do not do what a server does, and `kmipctl serve` with clients that
+do not do what a client does.
+
+    bench/peers.py PROGRAM FOLDER
+
+Each row prints what it looks at and `ok`, or what went wrong. Sockets on 127.0.0.1 only. The exit status
+is 0 where all is as it has to be.
+"""
+
+import os
+import shutil
+import socket
+import subprocess
+import sys
+import threading
+import time
+
+PLAN = '''[[key]]
+name = "k1"
+algorithm = "AES"
+length = 256
+usage = ["encrypt", "decrypt"]
+target = "active"
+'''
+WORKING = 'k1 active 0/2 working\nfinished 0 of 1\nstop Limit 3\n'
+FINISHED = 'k1 active 2/2 finished\nfinished 1 of 1\nstop AllFinished {}\n'
+NOTHING_KNOWN = 'kmip-progress 2\nk1 active - 0 -\nend 1\n'
+ALL_KNOWN = 'kmip-progress 2\nk1 active - 2 31\nend 1\n'
+# The head of a reply of 144 bytes, and a Locate that found nothing of the name k2.
+HEAD = bytes.fromhex('42007b0100000090')
+OF_ANOTHER = HEAD + bytes.fromhex(
+    '42007a0100000048420069010000002042006a0200000004000000020000000042006b02000000040000000100000000'
+    '4200920900000008000000000000000042000d0200000004000000010000000042000f010000003842005c0500000004'
+    '00000008000000004200930800000003086b32000000000042007f0500000004000000000000000042007c0100000000')
+
+
+def silent(peer):
+    time.sleep(60)
+
+
+def dripping(peer):
+    peer.recv(8192)
+    for byte in HEAD + bytes(0x90):
+        peer.send(bytes([byte]))
+        time.sleep(0.3)
+
+
+def talking_rubbish(peer):
+    peer.recv(8192)
+    peer.send(b'HTTP/1.1 400 Bad Request\r\n\r\n')
+    peer.close()
+
+
+def closing_in_the_middle(peer):
+    peer.recv(8192)
+    peer.send(HEAD + bytes(20))
+    peer.close()
+
+
+def answering_another_question(peer):
+    while peer.recv(8192):
+        peer.send(OF_ANOTHER)
+
+
+def listening(behaviour):
+    """A port whose connections each behave so."""
+    listener = socket.socket()
+    listener.bind(('127.0.0.1', 0))
+    listener.listen(50)
+
+    def behave(peer):
+        try:
+            behaviour(peer)
+        except OSError:
+            pass
+
+    def accept():
+        while True:
+            peer, _ = listener.accept()
+            threading.Thread(target=behave, args=(peer,), daemon=True).start()
+
+    threading.Thread(target=accept, daemon=True).start()
+    return listener.getsockname()[1]
+
+
+class Peers:
+    def __init__(self, program, folder):
+        self.program, self.folder, self.wrong = program, folder, 0
+        self.progress = os.path.join(folder, 'progress')
+        self.plan = os.path.join(folder, 'plan.toml')
+
+    def words(self, where, *more):
+        return [self.program, 'run', '--plan', self.plan, '--progress', self.progress, *where,
+                '--wait', '0', *more]
+
+    def run(self, where, *more):
+        """The exit status, what is printed, and the seconds that it takes."""
+        start = time.monotonic()
+        done = subprocess.run(self.words(where, *more), capture_output=True, text=True)
+        return done.returncode, done.stdout, time.monotonic() - start
+
+    def forget(self):
+        if os.path.exists(self.progress):
+            os.remove(self.progress)
+
+    def known(self):
+        with open(self.progress) as progress:
+            return progress.read()
+
+    def look(self, what, *facts):
+        is_right = all(fact for fact, _ in facts)
+        print(f'{what}: ' + ('ok' if is_right else 'wrong'))
+        for fact, said in facts:
+            if not fact:
+                print(f'    {said!r}')
+        self.wrong += not is_right
+
+    def serve(self, *more):
+        server = subprocess.Popen([self.program, 'serve', '--port', '0', *more], stdout=subprocess.PIPE, text=True)
+        return server, int(server.stdout.readline().split()[1])
+
+    def bad_peers(self):
+        for behaviour in (silent, dripping, talking_rubbish, closing_in_the_middle, answering_another_question):
+            self.forget()
+            port = listening(behaviour)
+            status, printed, took = self.run(('--connect', f'127.0.0.1:{port}'), '--limit', '3', '--timeout', '1')
+            self.look(f'a peer that is {behaviour.__name__.replace("_", " ")}',
+                      (status == 1, status), (printed == WORKING, printed), (took < 3.5, took),
+                      (self.known() == NOTHING_KNOWN, self.known()))
+        server, port = self.serve('--connections', '1')
+        status, printed, _ = self.run(('--connect', f'127.0.0.1:{port}'))
+        self.look('a server behind them', (status == 0, status), (printed == FINISHED.format(3), printed),
+                  (self.known() == ALL_KNOWN, self.known()), (server.wait() == 0, server.returncode))
+
+    def no_peer(self):
+        self.forget()
+        with socket.socket() as closed:
+            closed.bind(('127.0.0.1', 0))
+            port = closed.getsockname()[1]
+            status, printed, _ = self.run(('--connect', f'127.0.0.1:{port}'), '--limit', '3')
+        self.look('a port where nobody listens', (status == 1, status), (printed == WORKING, printed),
+                  (self.known() == NOTHING_KNOWN, self.known()))
+
+    def files(self):
+        self.forget()
+        words = self.words(('--connect', f'127.0.0.1:{listening(silent)}'), '--limit', '1', '--timeout', '2')
+        with subprocess.Popen(words, stdout=subprocess.DEVNULL):
+            time.sleep(0.5)
+            status, printed, _ = self.run(('--loopback',))
+        wanted = f'progress in use: {self.progress}\n'
+        self.look('two runs on one progress', (status == 1, status), (printed == wanted, printed))
+        for text in ('', ALL_KNOWN[:-1]):
+            with open(self.progress, 'w') as progress:
+                progress.write(text)
+            status, printed, _ = self.run(('--loopback',))
+            self.look(f'a progress of {len(text)} bytes', (status == 1, status),
+                      (printed == 'progress refused: 2 Cut\n', printed), (self.known() == text, self.known()))
+        self.forget()
+        beside = self.progress + '.new'
+        os.mkdir(beside)
+        status, printed, _ = self.run(('--loopback',))
+        os.rmdir(beside)
+        wanted = f'cannot write {self.progress}\n'
+        self.look('a progress that cannot be written', (status == 1, status), (printed == wanted, printed),
+                  (not os.path.exists(self.progress), 'there is a progress'))
+        status, printed, _ = self.run(('--loopback',))
+        self.look('and that can', (status == 0, status), (printed == FINISHED.format(3), printed),
+                  (self.known() == ALL_KNOWN, self.known()))
+
+    def bad_clients(self):
+        self.forget()
+        server, port = self.serve('--connections', '1000000', '--timeout', '1')
+        with socket.create_connection(('127.0.0.1', port)):
+            status, printed, took = self.run(('--connect', f'127.0.0.1:{port}'))
+        self.look('a server behind a silent client', (status == 0, status),
+                  (printed == FINISHED.format(3), printed), (took < 3, took))
+
+        def held():
+            with open(f'/proc/{server.pid}/status') as said:
+                memory = next(line for line in said if line.startswith('VmRSS'))
+            return len(os.listdir(f'/proc/{server.pid}/fd')), memory.split()[1]
+
+        before = held()
+        for _ in range(10_000):
+            socket.create_connection(('127.0.0.1', port)).close()
+        self.forget()
+        status, printed, _ = self.run(('--connect', f'127.0.0.1:{port}'))
+        self.look('ten thousand connections one after the other', (status == 0, status),
+                  (printed == FINISHED.format(2), printed), (held() == before, (before, held())))
+        server.kill()
+        server.wait()
+
+
+def main():
+    program, folder = os.path.realpath(sys.argv[1]), os.path.realpath(sys.argv[2])
+    shutil.rmtree(folder, ignore_errors=True)
+    os.makedirs(folder)
+    peers = Peers(program, folder)
+    with open(peers.plan, 'w') as plan:
+        plan.write(PLAN)
+    peers.bad_peers()
+    peers.no_peer()
+    peers.files()
+    peers.bad_clients()
+    return 1 if peers.wrong else 0
+
+
+if __name__ == '__main__':
+    sys.exit(main())

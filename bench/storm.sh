@@ -1,0 +1,20 @@
+#!/usr/bin/env bash
+# Carries 200 random plans through a network that loses, repeats, delays and cuts messages, and kills the
+# runs: bench/storm.rs says how. Sockets on 127.0.0.1 only.
+#
+#     bench/storm.sh PROGRAM [PLANS [SEED]]
+#
+# Needs rustc. The last line has `0 wrong`, and the exit status is 0, where every plan was finished
+# within its bound and every step took effect once and in turn.
+set -euo pipefail
+
+program=$(realpath "$1")
+plans=${2:-200}
+seed=${3:-$RANDOM$RANDOM}
+cd "$(dirname "$0")/.."
+out=out/storm
+
+mkdir -p "$out"
+rustc --edition 2021 -O -o "$out/storm" bench/storm.rs
+echo "seed $seed"
+exec "$out/storm" "$program" "$out/work" "$plans" "$seed"
