@@ -1,21 +1,25 @@
 //! The texts of the help.
 
 pub(crate) const ABOUT: &str = "\
-Messages of the Key Management Interoperability Protocol (KMIP) 2.1 in lines of hexadecimal digits:
-answered by a test server that holds its keys in memory, or shown as text. Plans of keys, checked
-before anything is asked of a server, and carried out over a simulated network that loses, repeats and
-delays messages as a script says.";
+Brings the keys of a plan to a key server over the Key Management Interoperability Protocol (KMIP) 2.1, so
+that no key is ever made twice or destroyed too early, also where replies are lost. Plans are checked before
+anything is asked of a server, and can be carried out over a simulated network, which loses, repeats and
+delays messages as a script says. A test server that holds its keys in memory answers over a port of this
+machine, or in lines of hexadecimal digits; messages can be shown as text.";
 
 pub(crate) const AFTER_HELP: &str = "\
-Without words it does `answer`. Everything is printed on standard output.
+Without words it does `answer`. Everything is printed on standard output, but for what `run --verbose`
+tells.
 
 Exit status:
-  0  nothing was refused, and the last run of a simulation finished all keys
-  1  a line, a stream, a plan or a script was refused, a plan does not prolong the earlier one, the last
-     run of a simulation left keys unfinished, or reading, writing or memory failed
+  0  nothing was refused, and a run, or the last one of a simulation, finished all keys
+  1  a line, a stream, a plan, a progress or a script was refused, a plan does not prolong the earlier one,
+     a run left keys unfinished, or reading, writing, listening or memory failed
   2  the command line is wrong
 
-Example, bytes that are no message, and the reply Invalid Message as text:
+Examples, a plan carried out against a server in the same process, and bytes that are no message with the
+reply Invalid Message as text:
+  kmipctl run --plan plan.toml --progress plan.progress --loopback
   echo 00 | kmipctl answer | kmipctl show";
 
 pub(crate) const ANSWER: &str = "Replies to messages: a line of hexadecimal digits in, a line out";

@@ -20,6 +20,8 @@ mod flushing;
 #[cfg(test)]
 mod limits;
 #[cfg(test)]
+mod network_words;
+#[cfg(test)]
 mod readers;
 #[cfg(test)]
 mod showing;

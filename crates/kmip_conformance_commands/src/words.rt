@@ -95,7 +95,7 @@ const ROWS: [(&[&str], Wanted); 26] = [
 ];
 
 /// The words behind the program's name, as it gets them.
-fn with_name(alloc: Global, words: &[&str]) -> Result<Vec<String>, Fail> {
+pub(crate) fn with_name(alloc: Global, words: &[&str]) -> Result<Vec<String>, Fail> {
     let mut all = Vec::new(alloc);
     all.push(String::from_str(alloc, "kmipctl")?)?;
     for word in words {
@@ -139,6 +139,18 @@ fn is_wanted(alloc: Global, words: &[&str], wanted: &Wanted) -> Result<bool, Fai
             Ok(status_of(&error) == *status && text.as_str().contains(*part))
         }
         _ => Ok(false),
+    }
+}
+
+/// Whether the words are refused as usage, with a text that has this part.
+pub(crate) fn is_refused_with(alloc: Global, words: &[&str], part: &str) -> Result<bool, Fail> {
+    let words = with_name(alloc, words)?;
+    match chosen(alloc, words.as_slice()) {
+        Ok(_) => Ok(false),
+        Err(error) => {
+            let text = error.to_string(alloc)?;
+            Ok(status_of(&error) == ExitStatus::Usage && text.as_str().contains(part))
+        }
     }
 }
 

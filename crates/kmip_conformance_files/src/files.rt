@@ -3,6 +3,7 @@
 use crate::failing::FailingDisk;
 use kmip_progress_file::{LockFault, ProgressFile};
 use std::cell::Cell;
+use std::env;
 use std::fs::{self, Files};
 use std::io::{self, ErrorKind};
 use std::test::Fail;
@@ -13,7 +14,9 @@ const AFTER: &str = "kmip-progress 1\nk1 active 2 31\nend 1\n";
 
 /// A folder for one test, with nothing in it.
 fn folder(rt: &HostRuntime, name: &str) -> io::Result<String> {
-    let path = format!(in rt.alloc(); "/tmp/kmip_conformance_files_{name}")?;
+    let beside = env::temp_dir(rt)?;
+    let beside = beside.as_str();
+    let path = format!(in rt.alloc(); "{beside}/kmip_conformance_files_{name}")?;
     match fs::remove_dir_all(rt, path.as_str()) {
         Err(error) if error.kind() != ErrorKind::NotFound => return Err(error),
         _ => {}

@@ -1,9 +1,11 @@
-//! Tests of kmip_running, against runs that were worked out by hand.
+//! Tests of kmip_running, and of the command `run` of kmip_run, against runs that were worked out by hand.
 //!
 //! The expected values come from the rules of a run and of a progress text, and never from what the
 //! crates wrote.
 #![tactic(auto)]
 
+#[cfg(test)]
+mod printing;
 #[cfg(test)]
 mod rows;
 #[cfg(test)]

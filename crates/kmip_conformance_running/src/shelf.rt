@@ -58,7 +58,7 @@ impl Keeper for Shelf {
 }
 
 /// The plan of one key that is to become active.
-const PLAN: &str = "\
+pub const PLAN: &str = "\
     [[key]]\n\
     name = \"k1\"\n\
     algorithm = \"AES\"\n\

@@ -1,0 +1,196 @@
+//! What `run` prints, and what it keeps.
+
+use crate::shelf::{PLAN, Shelf, link_of, plan_of};
+use kmip_client::Client;
+use kmip_commands::{CommandFault, ExitStatus};
+use kmip_run::{RunInput, run_run};
+use kmip_running::carry_out;
+use kmip_scripted::{Scripted, Word};
+use kmip_server::ListStore;
+use std::alloc::Global;
+use std::process::Abort;
+use std::str::from_utf8;
+use std::test::Fail;
+
+/// A run: the texts of its plan and of its progress, the words that its link follows, how many texts
+/// have room, and how many exchanges it may make; what it prints, how it ends, and all that it saves.
+#[derive(Clone, Copy)]
+struct Row {
+    name: &'static str,
+    plan: &'static str,
+    saved: Option<&'static str>,
+    words: &'static [Word],
+    room: usize,
+    limit: usize,
+    printed: &'static str,
+    status: ExitStatus,
+    told: &'static str,
+}
+
+/// From nothing, over a link that loses nothing.
+const FIRST: Row = Row {
+    name: "from nothing",
+    plan: PLAN,
+    saved: None,
+    words: &[],
+    room: 10,
+    limit: 10_000,
+    printed: "k1 active 2/2 finished\nfinished 1 of 1\nstop AllFinished 3\n",
+    status: ExitStatus::Done,
+    told: "kmip-progress 2\nk1 active - 0 -\nend 1\n\
+        kmip-progress 2\nk1 active - 1 31\nend 1\n\
+        kmip-progress 2\nk1 active - 2 31\nend 1\n",
+};
+
+/// The rows differ from the first one in what each of them names.
+const ROWS: [Row; 8] = [
+    FIRST,
+    Row {
+        name: "all is known to be done",
+        saved: Some("kmip-progress 2\nk1 active - 2 31\nend 1\n"),
+        printed: "k1 active 2/2 finished\nfinished 1 of 1\nstop AllFinished 0\n",
+        told: "",
+        ..FIRST
+    },
+    Row {
+        name: "a progress of the format before",
+        saved: Some("kmip-progress 1\nk1 active 2 31\nend 1\n"),
+        printed: "k1 active 2/2 finished\nfinished 1 of 1\nstop AllFinished 0\n",
+        told: "",
+        ..FIRST
+    },
+    Row {
+        name: "three exchanges without a reply",
+        words: &[Word::LoseRequest, Word::LoseRequest, Word::LoseRequest],
+        limit: 3,
+        printed: "k1 active 0/2 working\nfinished 0 of 1\nstop Limit 3\n",
+        status: ExitStatus::Refused,
+        told: "kmip-progress 2\nk1 active - 0 -\nend 1\n\
+            kmip-progress 2\nk1 active - 0 -\nend 1\n\
+            kmip-progress 2\nk1 active - 0 -\nend 1\n",
+        ..FIRST
+    },
+    Row {
+        name: "a progress without its last byte",
+        saved: Some("kmip-progress 2\nk1 active - 2 31\nend 1"),
+        printed: "progress refused: 2 Cut\n",
+        status: ExitStatus::Refused,
+        told: "",
+        ..FIRST
+    },
+    Row {
+        name: "a progress of another plan",
+        saved: Some("kmip-progress 2\nk2 active - 2 31\nend 1\n"),
+        printed: "progress refused: 3 OtherPlan\n",
+        status: ExitStatus::Refused,
+        told: "",
+        ..FIRST
+    },
+    Row {
+        name: "no plan",
+        plan: "",
+        saved: Some(""),
+        printed: "plan refused: 2 NoKeys\n",
+        status: ExitStatus::Refused,
+        told: "",
+        ..FIRST
+    },
+    Row {
+        name: "a progress that can be kept no more",
+        room: 1,
+        printed: "cannot write over there\n",
+        status: ExitStatus::Refused,
+        told: "kmip-progress 2\nk1 active - 0 -\nend 1\n",
+        ..FIRST
+    },
+];
+
+/// What a run of the row does over this link.
+fn runs(
+    rt: &impl Abort,
+    alloc: Global,
+    row: &Row,
+    link: &mut Scripted<ListStore>,
+) -> Result<(), Fail> {
+    let name = row.name;
+    let input = RunInput {
+        plan: row.plan,
+        path: "over there",
+        limit: row.limit,
+    };
+    let mut shelf = Shelf::new(alloc, row.room);
+    let mut writer = Vec::new(alloc);
+    let status = run_run(alloc, &input, row.saved, link, &mut shelf, &mut writer);
+    assert_eq!(rt; from_utf8(writer.as_slice()), Ok(row.printed), "{name}");
+    assert_eq!(rt; status, row.status, "{name}");
+    let told = shelf.told(alloc)?;
+    assert_eq!(rt; from_utf8(told.as_slice()), Ok(row.told), "{name}");
+    Ok(())
+}
+
+#[test]
+fn prints_what_it_did(rt: HostRuntime) -> Result<(), Fail> {
+    for row in &ROWS {
+        let mut link = link_of(rt.alloc(), row.words)?;
+        runs(&rt, rt.alloc(), row, &mut link)?;
+    }
+    Ok(())
+}
+
+/// What was asked before a text could not be kept is found by the next run.
+#[test]
+fn finds_what_was_done(rt: HostRuntime) -> Result<(), Fail> {
+    let alloc = rt.alloc();
+    let plan = plan_of(alloc)?;
+    let mut link = link_of(alloc, &[])?;
+    let mut client = Client::fresh(alloc, &plan)?;
+    let _made = carry_out(alloc, &mut client, &mut link, &mut Shelf::new(alloc, 10), 2);
+    let row = Row {
+        name: "behind a run that has lost its progress",
+        printed: "k1 active 2/2 finished\nfinished 1 of 1\nstop AllFinished 3\n",
+        told: "kmip-progress 2\nk1 active - 0 31\nend 1\n\
+            kmip-progress 2\nk1 active - 1 31\nend 1\n\
+            kmip-progress 2\nk1 active - 2 31\nend 1\n",
+        ..FIRST
+    };
+    runs(&rt, alloc, &row, &mut link)
+}
+
+/// An object of that name which the plan does not have.
+#[test]
+fn leaves_what_is_not_its_own(rt: HostRuntime) -> Result<(), Fail> {
+    let alloc = rt.alloc();
+    let mut link = link_of(alloc, &[])?;
+    runs(&rt, alloc, &FIRST, &mut link)?;
+    let row = Row {
+        name: "another length",
+        plan: "[[key]]\nname = \"k1\"\nalgorithm = \"AES\"\nlength = 128\n\
+            usage = [\"encrypt\", \"decrypt\"]\ntarget = \"active\"\n",
+        printed: "k1 active 0/2 conflict attributes\nfinished 0 of 1\nstop Conflict 2\n",
+        status: ExitStatus::Refused,
+        told: "kmip-progress 2\nk1 active - 0 31\nend 1\n\
+            kmip-progress 2\nk1 active - 0 31\nend 1\n",
+        ..FIRST
+    };
+    runs(&rt, alloc, &row, &mut link)
+}
+
+/// A writer without room: what was kept stays.
+#[test]
+fn ends_where_the_writer_fails(rt: HostRuntime) -> Result<(), Fail> {
+    let alloc = rt.alloc();
+    let input = RunInput {
+        plan: PLAN,
+        path: "over there",
+        limit: 10,
+    };
+    let mut link = link_of(alloc, &[])?;
+    let mut shelf = Shelf::new(alloc, 10);
+    let mut room = [0u8; 8];
+    let mut writer = &mut room[..];
+    let status = run_run(alloc, &input, None, &mut link, &mut shelf, &mut writer);
+    assert_eq!(rt; status, ExitStatus::Failed(CommandFault::Output));
+    let told = shelf.told(alloc)?;
+    assert_eq!(rt; from_utf8(told.as_slice()), Ok(FIRST.told));
+    Ok(())
+}
