@@ -9,3 +9,4 @@ pub mod HeldLemmas
 pub mod SavingLemmas
 pub mod OnwardLemmas
 pub mod FactLemmas
+pub mod ProlongedLemmas

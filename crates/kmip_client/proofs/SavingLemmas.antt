@@ -129,10 +129,10 @@ reached : (target further : Target) (found : Option Object) → ReachedIsNoLess 
 reached target further None law on = omega arith
 reached target further (Some o) law on = law target further o.state on
 
-same_uid : (objects : List Object) (new old : Key) → new.attrs ≡ old.attrs → uid_of new objects ≡ uid_of old objects
+pub same_uid : (objects : List Object) (new old : Key) → new.attrs ≡ old.attrs → uid_of new objects ≡ uid_of old objects
 same_uid objects new old same = ap (λ (a : KeyAttrs). option_map (λ o. o.uid) (object_named a.name objects)) same
 
-further : (objects : List Object) (new old : Key) → ReachedIsNoLess → GoesOn new old → position old objects ≤ position new objects
+pub further : (objects : List Object) (new old : Key) → ReachedIsNoLess → GoesOn new old → position old objects ≤ position new objects
 further objects new old law on =
     subst (λ (a : KeyAttrs). position old objects ≤ option_map_or (λ o. place_reached new.target o.state) (object_named a.name objects) 0) (sym on.attrs_same)
     (reached old.target new.target (object_named old.attrs.name objects) law on.leads_on)

@@ -15,7 +15,7 @@ use Rattle.kmip_schedule.specs.declared.link.LinkFault.TheVariants.{Io, Frame, N
 use Rattle.kmip_schedule.specs.Exchanges.{AreGiven, Exchanged, with_asked}
 use Rattle.kmip_schedule.specs.Laws.{Grows}
 use Rattle.kmip_schedule.specs.Moves.{Move, Serve, Unanswered, Refuse, Comes, Changes, after_move, MayHappen, AllMayHappen, after_moves, Delivered}
-use Rattle.kmip_schedule.specs.Past.{Past, Names}
+use Rattle.kmip_schedule.specs.Past.{AreAmong, Past, Names}
 
 may_append : (names : Names) (early late : List Move) (p : Past) → AllMayHappen names early p → AllMayHappen names late (after_moves early p)
     → AllMayHappen names (early ++ late) p
@@ -118,16 +118,13 @@ moves_grow (move ∷ moves) p = grows_on p (after_move move p) (after_moves move
 pub delivered_grows : (names : Names) (old new : Past) → Delivered names old new → Grows old new
 delivered_grows names old new delivered = subst (Grows old) (sym delivered.is) (moves_grow delivered.moves old)
 
-abbrev Fewer : Names → Names → Type 0
-Fewer fewer names = (name : List ℕ) → fewer name ≡ true → names name ≡ true
-
-not_fewer : (names fewer : Names) (name : List ℕ) → Fewer fewer names → names name ≡ false → fewer name ≡ false
+not_fewer : (names fewer : Names) (name : List ℕ) → AreAmong fewer names → names name ≡ false → fewer name ≡ false
 not_fewer names fewer name fall foreign = elim (cases_Bool (fewer name)) [
   | inl planned ↦ let apart : true ≡ false = sym (fall name planned) ∙ foreign in absurd cc
   | inr is ↦ is
 ]
 
-fewer_may : (names fewer : Names) (move : Move) (p : Past) → Fewer fewer names → MayHappen names move p → MayHappen fewer move p
+fewer_may : (names fewer : Names) (move : Move) (p : Past) → AreAmong fewer names → MayHappen names move p → MayHappen fewer move p
 fewer_may names fewer (Serve request reply objects joined) p fall may = may
 fewer_may names fewer (Unanswered request reply objects joined) p fall may = may
 fewer_may names fewer (Refuse reply) p fall may = may
@@ -144,12 +141,12 @@ fewer_may names fewer (Changes front old new back) p fall may = record {
   uids_differ = may.uids_differ;
 }
 
-fewer_all_may : (names fewer : Names) (moves : List Move) (p : Past) → Fewer fewer names → AllMayHappen names moves p → AllMayHappen fewer moves p
+fewer_all_may : (names fewer : Names) (moves : List Move) (p : Past) → AreAmong fewer names → AllMayHappen names moves p → AllMayHappen fewer moves p
 fewer_all_may names fewer [] p fall may = tt
 fewer_all_may names fewer (move ∷ moves) p fall may =
     (fewer_may names fewer move p fall may.0, fewer_all_may names fewer moves (after_move move p) fall may.1)
 
-pub fewer_delivered : (names fewer : Names) (old new : Past) → Fewer fewer names → Delivered names old new → Delivered fewer old new
+pub fewer_delivered : (names fewer : Names) (old new : Past) → AreAmong fewer names → Delivered names old new → Delivered fewer old new
 fewer_delivered names fewer old new fall delivered = record {
   moves = delivered.moves;
   may = fewer_all_may names fewer delivered.moves old fall delivered.may;

@@ -9,3 +9,4 @@ pub mod TurnLemmas
 pub mod MirrorLemmas
 pub mod JoiningLemmas
 pub mod EffectLemmas
+pub mod ProlongedLemmas

@@ -45,7 +45,7 @@ found_true l key room objects mask given outcome names may step =
     (subst (λ g. ServerStep room objects (asks.Locate mask g) outcome objects) may.1 step) in
     subst (TrueOutcome objects key) (sym (l.located room objects objects key.attrs.name outcome names own).1) (own_found (uid_of key objects))
 
-some_place : (found : Option ℕ) → 1 ≤ or_zero found → found ≡ Some (or_zero found)
+pub some_place : (found : Option ℕ) → 1 ≤ or_zero found → found ≡ Some (or_zero found)
 some_place None is = absurd (omega (arith, is))
 some_place (Some n) is = refl
 

@@ -14,8 +14,18 @@ use Rattle.kmip_messages.specs.ObjectLaws.{
   NamedIsRestated,
   StaysDistinct,
 }
-use Rattle.kmip_plan.specs.Laws.{PlacesAndSteps, PreActiveIsFirst, ReachedIsWithin, DueStepsAdvance, DueStepsJoinTheDone, FoundKeysStand}
-use Rattle.kmip_client.specs.Laws.{OnwardToItself, OnwardTwice, JustifiedForGood, TrueForGood}
+use Rattle.kmip_plan.specs.Laws.{
+  PlacesAndSteps,
+  PreActiveIsFirst,
+  ReachedIsWithin,
+  DueStepsAdvance,
+  DueStepsJoinTheDone,
+  FoundKeysStand,
+  StatesKeepTheirPlaces,
+  ReachedIsNoLess,
+  OldKeysAreFound,
+}
+use Rattle.kmip_client.specs.Laws.{OnwardToItself, OnwardTwice, JustifiedForGood, TrueForGood, JustifiedOfProlonged, TrueOfGoneOn}
 use Rattle.kmip_server.specs.Laws.{LocateFindsTheName}
 
 pub record Lawbook : Type 0 where
@@ -38,8 +48,13 @@ pub record Lawbook : Type 0 where
   pub advance : DueStepsAdvance
   pub join : DueStepsJoinTheDone
   pub stand : FoundKeysStand
+  pub state_places : StatesKeepTheirPlaces
+  pub no_less : ReachedIsNoLess
+  pub old_found : OldKeysAreFound
   pub itself : OnwardToItself
   pub twice : OnwardTwice
   pub asked_for_good : JustifiedForGood
   pub told_for_good : TrueForGood
+  pub asked_onward : JustifiedOfProlonged
+  pub told_onward : TrueOfGoneOn
   pub located : LocateFindsTheName

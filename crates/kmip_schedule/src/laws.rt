@@ -44,8 +44,11 @@ fn laws_below()
     states_have_places();
     due_steps_advance();
     keys_have_names();
+    further_ways_keep_places();
+    prolonged_keys_stand();
     onward_is_an_order();
     truth_is_for_good();
+    prolonged_plans_keep_the_truth();
     a_name_is_found();
 }
 
@@ -132,9 +135,6 @@ pub fn prolonged_plans_are_sound()
     ensures between { SoundBetween }
 {
     laws_below();
-    prolonged_plans_keep_the_truth();
-    prolonged_keys_stand();
-    further_ways_keep_places();
 }
 
 /// What a calm link does in an exchange, an honest one may do.

@@ -22,9 +22,14 @@ returns c = record {
   advance = c.due_steps_advance.ensures.advance;
   join = c.due_steps_advance.ensures.join;
   stand = c.keys_have_names.ensures.stand;
+  state_places = c.further_ways_keep_places.ensures.state_places;
+  no_less = c.further_ways_keep_places.ensures.reached;
+  old_found = c.prolonged_keys_stand.ensures.found;
   itself = c.onward_is_an_order.ensures.itself;
   twice = c.onward_is_an_order.ensures.twice;
   asked_for_good = c.truth_is_for_good.ensures.asked;
   told_for_good = c.truth_is_for_good.ensures.told;
+  asked_onward = c.prolonged_plans_keep_the_truth.ensures.asked;
+  told_onward = c.prolonged_plans_keep_the_truth.ensures.told;
   located = c.a_name_is_found.ensures.one;
 }
