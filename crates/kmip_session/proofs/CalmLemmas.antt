@@ -34,7 +34,7 @@ module _ {L : Type 0} (past : L → Past) (honest calm : L → Names → Type 0)
   -- begun, driven, noted and closed
   pub settled_run : {A E : Type 0} → CampaignLaws → (run : Run) (a b c : ClientState) (x y z : L) (driven : Stop × ℕ) (ends nexts : List RunEnd) (saved : List (List Known)) (closed : Result A E)
       → a.keys ≡ keys → b.keys ≡ keys → c.keys ≡ keys
-      → ((objects : List Object) → All (TrueProgress objects keys) saved → Held objects a.keys a.knowns → Held objects b.keys b.knowns)
+      → (All (TrueProgress (past x).objects keys) saved → Held (past x).objects a.keys a.knowns → Held (past x).objects b.keys b.knowns)
       → (IsGood past honest b x → IsGood past honest c y)
       → (IsSettling past calm b x → bound b.keys ≤ run.limit → driven.0 ≢ stops.NoMemory
       → (driven.0 ≡ stops.AllFinished) × (driven.1 ≡ need b (past x)) × (driven.1 ≤ bound b.keys))
@@ -43,7 +43,7 @@ module _ {L : Type 0} (past : L → Past) (honest calm : L → Names → Type 0)
       → ((names : Names) → calm y names → calm z names × OnOk closed (past z ≡ past y)) → Standing past honest keys a x ends saved → CalmLink past calm keys x
       → OnOk closed (HasSettled keys run ends nexts × CalmLink past calm keys z)
   settled_run l run a b c x y z driven ends nexts saved closed a_keys b_keys c_keys begun good settles calms memory noted closes standing calmly =
-      let held = begun (past x).objects standing.noted.true_saved standing.good.held in
+      let held = begun standing.noted.true_saved standing.good.held in
       let after = good (good_with past honest a b x (b_keys ∙ sym a_keys) standing.good held) in
       let settling = settling_from l b x b_keys calmly held in
       let still = (calms settling memory).0 in

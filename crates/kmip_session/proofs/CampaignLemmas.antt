@@ -46,6 +46,18 @@ zip_onward R S plan on (key ∷ keys) [] of zipped = absurd zipped
 zip_onward R S plan on (key ∷ keys) (b ∷ bs) of zipped =
     (on key b (of zero key refl) zipped.0, zip_onward R S plan on keys bs (λ place k is. of (suc place) k is) zipped.1)
 
+-- what was saved is true still
+pub true_onward : CampaignLaws → (keys : List Key) (old new : List Object) (saved : List (List Known)) → IsLawful keys → Onward keys old new
+    → All (TrueProgress old keys) saved → All (TrueProgress new keys) saved
+true_onward l keys old new saved lawful onward holds =
+    All-weaker (TrueProgress old keys) (TrueProgress new keys)
+    (λ progress each. zip_onward (TrueOf old) (TrueOf new) keys
+    (λ key known planned is. record {
+      uid_true = λ uid has. (onward key planned).uid_stays uid (is.uid_true uid has);
+      done_true = let further = (onward key planned).never_falls in omega (arith, is.done_true, further);
+      has_identifier = is.has_identifier;
+    }) keys progress (all_of l keys lawful) each) saved holds
+
 pub noted_onward : CampaignLaws → (keys : List Key) (old new : List Object) (ends : List RunEnd) (saved : List (List Known)) → IsLawful keys → Onward keys old new
     → Noted old keys ends saved → Noted new keys ends saved
 noted_onward l keys old new ends saved lawful onward noted = record {
@@ -54,13 +66,7 @@ noted_onward l keys old new ends saved lawful onward noted = record {
       (λ key count planned reaches. let further = (onward key planned).never_falls in omega (arith, reaches, further)) keys end.counts.items (all_of l keys lawful) reached)
       ends noted.reached;
   no_conflict = noted.no_conflict;
-  true_saved = All-weaker (TrueProgress old keys) (TrueProgress new keys)
-      (λ progress holds. zip_onward (TrueOf old) (TrueOf new) keys
-      (λ key known planned is. record {
-        uid_true = λ uid has. (onward key planned).uid_stays uid (is.uid_true uid has);
-        done_true = let further = (onward key planned).never_falls in omega (arith, is.done_true, further);
-        has_identifier = is.has_identifier;
-      }) keys progress (all_of l keys lawful) holds) saved noted.true_saved;
+  true_saved = true_onward l keys old new saved lawful onward noted.true_saved;
 }
 
 -- ---- what is reported was reached
@@ -154,6 +160,15 @@ noted_saved objects keys progress ends saved holds noted = record {
   true_saved = All-push (TrueProgress objects keys) saved progress noted.true_saved holds;
 }
 
+pub noted_none : (objects : List Object) (keys : List Key) (ends : List RunEnd) (saved : List (List Known)) → ends ≡ [] → saved ≡ [] → Noted objects keys ends saved
+noted_none objects keys ends saved no_end none_saved =
+    rw (no_end, none_saved)
+    (record {
+      reached = All-nil (λ (e : RunEnd). AllZip (Reaches objects) keys e.counts.items);
+      no_conflict = All-nil HasNoConflict;
+      true_saved = All-nil (TrueProgress objects keys);
+    })
+
 -- ---- one run
 
 module _ {L : Type 0} (past : L → Past) (honest : L → Names → Type 0) where
@@ -167,12 +182,12 @@ module _ {L : Type 0} (past : L → Past) (honest : L → Names → Type 0) wher
   -- begun, driven and noted
   pub stood : CampaignLaws → (keys : List Key) (a b c : ClientState) (x y : L) (stop : Stop) (ends nexts : List RunEnd) (saved kept : List (List Known)) → IsLawful keys
       → a.keys ≡ keys → b.keys ≡ keys → c.keys ≡ keys
-      → ((objects : List Object) → All (TrueProgress objects keys) saved → Held objects a.keys a.knowns → Held objects b.keys b.knowns)
+      → (All (TrueProgress (past x).objects keys) saved → Held (past x).objects a.keys a.knowns → Held (past x).objects b.keys b.knowns)
       → (IsGood past honest b x → IsGood past honest c y) → (IsGood past honest b x → WentOn b.keys (past x) (past y)) → (IsGood past honest b x → stop ≢ stops.Conflict)
       → ((objects : List Object) → stop ≢ stops.Conflict → Held objects c.keys c.knowns → Noted objects c.keys ends saved → Noted objects c.keys nexts kept)
       → Standing past honest keys a x ends saved → Standing past honest keys c y nexts kept × WentOn keys (past x) (past y)
   stood l keys a b c x y stop ends nexts saved kept lawful a_keys b_keys c_keys begun good goes none notes standing =
-      let begins = good_with a b x (b_keys ∙ sym a_keys) standing.good (begun (past x).objects standing.noted.true_saved standing.good.held) in
+      let begins = good_with a b x (b_keys ∙ sym a_keys) standing.good (begun standing.noted.true_saved standing.good.held) in
       let went = subst (λ ks. WentOn ks (past x) (past y)) b_keys (goes begins) in
       let driven = good begins in (
         record {
@@ -218,11 +233,7 @@ module _ {L : Type 0} (past : L → Past) (honest : L → Names → Type 0) wher
         sound = subst (λ ks. Sound ks (past x)) (sym c_keys) good.sound;
         held = held;
       };
-      noted = rw (no_end, none_saved) (record {
-        reached = All-nil (λ (e : RunEnd). AllZip (Reaches (past x).objects) keys e.counts.items);
-        no_conflict = All-nil HasNoConflict;
-        true_saved = All-nil (TrueProgress (past x).objects keys);
-      });
+      noted = noted_none (past x).objects keys ends saved no_end none_saved;
     },
     record { onward = l.itself keys (past x).objects; mirrored = λ image. image },
   )

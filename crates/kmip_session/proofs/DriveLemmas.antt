@@ -1,12 +1,14 @@
 -- What is kept over several exchanges.
-use Rattle.std.proofs.Common.{◌≡◌, ◌≢◌, ℕ, ◌+◌, subst, sym, arith}
+use Rattle.std.proofs.Common.{◌≡◌, ◌≢◌, ℕ, ◌+◌, List, ⊤, subst, sym, arith}
+use Rattle.kmip_plan.specs.declared.key.Key.{Key}
 use Rattle.kmip_client.specs.Clients.{AreSettled, ClientState}
 use Rattle.kmip_client.specs.Known.{facts}
 use Rattle.kmip_schedule.specs.Past.{Names, Past, is_planned}
-use Rattle.kmip_session.specs.Driving.{Grown, IsBrokenOff, IsGood, IsSettling, Keeps, Learnt, SomeClash, Stands, WentOn}
+use Rattle.kmip_session.specs.Driving.{Grown, IsBrokenOff, IsGood, IsSettling, Keeps, KeepsFurther, Learnt, SomeClash, Stands, WentOn}
 use Rattle.kmip_session.specs.Lawbook.{Lawbook}
 use Rattle.kmip_session.specs.declared.stop.Stop.{Stop}
 use Rattle.kmip_session.specs.declared.stop.Stop.TheVariants as stops
+use Rattle.kmip_session.proofs.FurtherLemmas.{further_nowhere, further_then}
 use Rattle.kmip_session.proofs.GoodLemmas.{keeps_itself, keeps_then, went_nowhere, went_then}
 use Rattle.kmip_session.proofs.SettleLemmas.{Nearer, nearer_none, nearer_then}
 use Rattle.kmip_session.proofs.KnownLemmas.{grown_itself, grown_then, learnt_nothing, learnt_still, learnt_then, stays_itself}
@@ -21,6 +23,7 @@ module _ {L : Type 0} (past : L → Past) (honest calm : L → Names → Type 0)
     pub grown : honest start (is_planned first.keys) → Grown (past start) (past link)
     pub keeps : Keeps first now
     pub near : IsSettling past calm first start → Nearer past calm first now start link made
+    pub further : IsGood past honest first start → KeepsFurther past honest calm first.keys ⊤ start link
 
   pub driven_none : Lawbook → (c : ClientState) (link : L) → Driven c c link link 0
   driven_none l c link = record {
@@ -30,7 +33,20 @@ module _ {L : Type 0} (past : L → Past) (honest calm : L → Names → Type 0)
     grown = λ holds. grown_itself (past link);
     keeps = keeps_itself c;
     near = nearer_none past calm c link;
+    further = λ good. further_nowhere past honest calm l.itself c.keys link ⊤;
   }
+
+  -- what is kept for a plan that prolongs the client's, by one more turn
+  pub further_last : Lawbook → (a b c : ClientState) (x y z : L) (m : ℕ) (whole : Type 0) → Driven a b x y m
+      → (IsGood past honest b y → KeepsFurther past honest calm b.keys whole y z) → IsGood past honest a x → KeepsFurther past honest calm a.keys whole x z
+  further_last l a b c x y z m whole first last good =
+      further_then past honest calm l.twice a.keys x y z ⊤ whole (λ is. tt) (first.further good)
+      (subst (λ ks. KeepsFurther past honest calm ks whole y z) first.keeps.keys_stay (last (first.good good)))
+
+  -- where the turns were broken off, nothing is said of a calm link
+  pub further_if : (keys : List Key) (x y : L) (whole other : Type 0) → (other → whole) → KeepsFurther past honest calm keys whole x y
+      → KeepsFurther past honest calm keys other x y
+  further_if keys x y whole other to kept = record { good = kept.good; calmly = λ is. kept.calmly (to is) }
 
   -- and one more turn, that asked or did not
   pub driven_then : Lawbook → (a b c : ClientState) (x y z : L) (m n : ℕ) → Driven a b x y m → Driven b c y z n → Driven a c x z (m + n)
@@ -51,6 +67,7 @@ module _ {L : Type 0} (past : L → Past) (honest calm : L → Names → Type 0)
     near = λ settling.
         let before = first.near settling in
         nearer_then past calm a b c x y z m n before (second.near before.0);
+    further = further_last l a b c x y z m ⊤ first second.further;
   }
 
   -- and a last turn that asked nothing

@@ -1,6 +1,7 @@
 -- What was known at the ends of some runs, and one run more.
-use Rattle.std.proofs.Common.{◌≡◌, ℕ, List, [], ◌∷◌, ◌++◌, length, slice_get, flat_map, Some, Result, Ok, Err, IsErr, OnOk, sym, ap, subst, refl, ◌∙◌, append-nil}
+use Rattle.std.proofs.Common.{◌≡◌, ℕ, List, [], ◌∷◌, ◌++◌, length, slice_get, flat_map, map, Some, Result, Ok, Err, IsErr, OnOk, sym, ap, subst, refl, ◌∙◌, inl, inr, append_assoc, append-nil}
 use Rattle.std.specs.List.{AllZip}
+use Rattle.std.proofs.lemmas.Bool.{cases_Bool}
 use Rattle.std.proofs.lemmas.List.Concat.{flat_map-append}
 use Rattle.std.proofs.lemmas.Slice.Zip.{AllZip-long}
 use Rattle.kmip_messages.specs.Items.{requests_in}
@@ -8,13 +9,14 @@ use Rattle.kmip_plan.specs.declared.key.Key.{Key}
 use Rattle.kmip_progress.specs.declared.known.Known.{Known}
 use Rattle.kmip_client.specs.Clients.{ClientState, fresh}
 use Rattle.kmip_client.specs.Known.{facts, known_after}
+use Rattle.kmip_client.specs.Saving.{known_of}
 use Rattle.kmip_client.specs.Shapes.{IsKept}
 use Rattle.kmip_client.specs.declared.knowledge.Knowledge.{Knowledge}
 use Rattle.kmip_schedule.specs.Moves.{Delivered}
 use Rattle.kmip_schedule.specs.Past.{Names, Past, is_planned}
-use Rattle.kmip_session.specs.CampaignParts.{AreSame, HasEnded, HasRun, IsBroken}
+use Rattle.kmip_session.specs.CampaignParts.{AreSame, HasEnded, HasRun, IsBroken, begins_with}
 use Rattle.kmip_session.specs.Driving.{Grown, Keeps, Learnt}
-use Rattle.kmip_session.specs.Remembering.{AreHeard, AreKnown, AreTaught, IsTalkOf, Shows, Talk, saved_after, saved_from, start_knowns, starts, starts_from}
+use Rattle.kmip_session.specs.Remembering.{AreHeard, AreKnownFrom, AreTaught, IsTalkOf, Shows, Talk, saved_after, saved_from, start_knowns, starts, starts_from}
 use Rattle.kmip_session.specs.declared.campaigning.CampaignEnd.{CampaignEnd}
 use Rattle.kmip_session.specs.declared.campaigning.Run.{Run}
 use Rattle.kmip_session.specs.declared.campaigning.RunEnd.{RunEnd}
@@ -112,26 +114,33 @@ no_ok (Err e) a failed is = absurd cc
 
 -- ---- several runs
 
-module _ {L : Type 0} (past : L → Past) (honest : L → Names → Type 0) (keys : List Key) (runs : List Run) where
+-- what is saved joins what was carried over
+saved_behind : (run : Run) (knowns : List Knowledge) (carried saved : List (List Known)) → carried ++ saved_after run knowns saved ≡ saved_after run knowns (carried ++ saved)
+saved_behind run knowns carried saved = elim (cases_Bool run.save) [
+  | inl save ↦ rw save (sym (append_assoc carried saved (map known_of knowns ∷ [])))
+  | inr none ↦ rw none refl
+]
+
+module _ {L : Type 0} (past : L → Past) (honest : L → Names → Type 0) (keys : List Key) (carried : List (List Known)) (runs : List Run) where
   -- so much was known at the ends, and the client knows what was known at the last
   pub record Recalled (c : ClientState) (x y : L) (ends : List RunEnd) (saved : List (List Known)) : Type 0 where
     pub known : List (List Knowledge)
     pub shown : AllZip (Shows keys) known ends
-    pub kept : AllZip (AllZip IsKept) (starts keys runs known) known
-    pub saved_are : saved ≡ saved_from [] runs known
+    pub kept : AllZip (AllZip IsKept) (starts keys carried runs known) known
+    pub saved_are : carried ++ saved ≡ saved_from carried runs known
     pub last_is : c.knowns ≡ last_of known (fresh keys).knowns
-    pub heard : honest x (is_planned keys) → honest y (is_planned keys) × AreHeard keys (starts keys runs known) known ends (past x) (past y)
+    pub heard : honest x (is_planned keys) → honest y (is_planned keys) × AreHeard keys (starts keys carried runs known) known ends (past x) (past y)
 
   pub recalled_none : (c : ClientState) (x : L) (ends : List RunEnd) (saved : List (List Known)) → c.knowns ≡ (fresh keys).knowns → ends ≡ [] → saved ≡ []
       → Recalled c x x ends saved
   recalled_none c x ends saved is no_end none_saved =
-      let none = starts_none keys (fresh keys).knowns [] runs in
+      let none = starts_none keys (fresh keys).knowns carried runs in
       rw (no_end, none_saved)
       (record {
         known = [];
         shown = tt;
         kept = subst (λ begun. AllZip (AllZip IsKept) begun []) (sym none) tt;
-        saved_are = sym (saved_none [] runs);
+        saved_are = append-nil carried ∙ sym (saved_none carried runs);
         last_is = is;
         heard = λ holds. (
           holds,
@@ -148,40 +157,40 @@ module _ {L : Type 0} (past : L → Past) (honest : L → Names → Type 0) (key
       })
 
   pub recalled_more : (a b : ClientState) (x y z : L) (run : Run) (old new : CampaignEnd) (place : ℕ) → slice_get runs place ≡ Some run
-      → length old.runs.items ≡ place → Recalled a x y old.runs.items old.saved.items → HasRun past honest keys run a b y z old new → Recalled b x z new.runs.items new.saved.items
+      → length old.runs.items ≡ place → Recalled a x y old.runs.items old.saved.items → HasRun past honest keys carried run a b y z old new → Recalled b x z new.runs.items new.saved.items
   recalled_more a b x y z run old new place is long before ran =
       let noted = ran.ended.noted in
       let many = AllZip-long (Shows keys) before.known old.runs.items before.shown in
       let at = subst (λ n. slice_get runs n ≡ Some run) (sym long ∙ many) is in
-      let start = start_knowns keys run.start a.knowns old.saved.items in
-      let begun : start ≡ start_knowns keys run.start (last_of before.known (fresh keys).knowns) (saved_from [] runs before.known) =
-      ap (λ last. start_knowns keys run.start last old.saved.items) before.last_is
+      let start = begins_with keys carried run a old in
+      let begun : start ≡ start_knowns keys run.start (last_of before.known (fresh keys).knowns) (saved_from carried runs before.known) =
+      ap (λ last. start_knowns keys run.start last (carried ++ old.saved.items)) before.last_is
       ∙ ap (λ saved. start_knowns keys run.start (last_of before.known (fresh keys).knowns) saved) before.saved_are in
-      let further : starts keys runs (before.known ++ b.knowns ∷ []) ≡ starts keys runs before.known ++ start ∷ [] =
-      starts_more keys (fresh keys).knowns [] runs before.known run b.knowns at
-      ∙ ap (λ s. starts keys runs before.known ++ s ∷ []) (sym begun) in
+      let further : starts keys carried runs (before.known ++ b.knowns ∷ []) ≡ starts keys carried runs before.known ++ start ∷ [] =
+      starts_more keys (fresh keys).knowns carried runs before.known run b.knowns at
+      ∙ ap (λ s. starts keys carried runs before.known ++ s ∷ []) (sym begun) in
       subst (λ ends. Recalled b x z ends new.saved.items) (sym noted.joined)
       (record {
         known = before.known ++ b.knowns ∷ [];
         shown = zip_push (Shows keys) before.known old.runs.items b.knowns noted.end before.shown noted.shows;
         kept = subst (λ s. AllZip (AllZip IsKept) s (before.known ++ b.knowns ∷ [])) (sym further)
-            (zip_push (AllZip IsKept) (starts keys runs before.known) before.known start b.knowns before.kept ran.kept);
+            (zip_push (AllZip IsKept) (starts keys carried runs before.known) before.known start b.knowns before.kept ran.kept);
         saved_are =
-            ran.ended.saved_are ∙ ap (λ saved. saved_after run b.knowns saved) before.saved_are
-            ∙ sym (saves_more [] runs before.known run b.knowns at);
+            ap (λ saved. carried ++ saved) ran.ended.saved_are ∙ saved_behind run b.knowns carried old.saved.items
+            ∙ ap (λ saved. saved_after run b.knowns saved) before.saved_are ∙ sym (saves_more carried runs before.known run b.knowns at);
         last_is = sym (last_more before.known b.knowns (fresh keys).knowns);
         heard = λ holds.
             let first = before.heard holds in
             let second = ran.learnt first.0 in (
               second.0,
               subst (λ s. AreHeard keys s (before.known ++ b.knowns ∷ []) (old.runs.items ++ noted.end ∷ []) (past x) (past z)) (sym further)
-                  (heard_more keys (starts keys runs before.known) before.known old.runs.items (past x) (past y) (past z) start b.knowns ran.driven.1 noted.end
+                  (heard_more keys (starts keys carried runs before.known) before.known old.runs.items (past x) (past y) (past z) start b.knowns ran.driven.1 noted.end
                   noted.exchanges_is first.1 second.1),
             );
       })
 
   pub recalled_known : (c : ClientState) (x y : L) (ends : List RunEnd) (saved : List (List Known)) (whole : Type 0) → Recalled c x y ends saved
-      → AreKnown keys runs ends saved (honest x (is_planned keys)) whole (past x) (past y)
+      → AreKnownFrom keys carried runs ends saved (honest x (is_planned keys)) whole (past x) (past y)
   recalled_known c x y ends saved whole recalled = record {
     known = recalled.known;
     shown = recalled.shown;
@@ -196,7 +205,7 @@ module _ {L : Type 0} (past : L → Past) (honest : L → Names → Type 0) (key
   -- the next run was broken off
   pub broken_known : (c : ClientState) (x y z : L) (old new : CampaignEnd) (whole : Type 0) → (whole → past y ≡ past z)
       → Recalled c x y old.runs.items old.saved.items → IsBroken past honest keys y z old new
-      → AreKnown keys runs new.runs.items new.saved.items (honest x (is_planned keys)) whole (past x) (past z)
+      → AreKnownFrom keys carried runs new.runs.items new.saved.items (honest x (is_planned keys)) whole (past x) (past z)
   broken_known c x y z old new whole no_more recalled broken =
       rw (broken.same.same_runs, broken.same.same_saved)
       (record {
@@ -210,13 +219,13 @@ module _ {L : Type 0} (past : L → Past) (honest : L → Names → Type 0) (key
         no_more = no_more;
       })
 
-module _ {L : Type 0} (past : L → Past) (honest : L → Names → Type 0) (keys : List Key) where
+module _ {L : Type 0} (past : L → Past) (honest : L → Names → Type 0) (keys : List Key) (carried : List (List Known)) where
   -- a run is begun, driven, noted and closed
   pub ran_closed : (run : Run) (a b c : ClientState) (x y z : L) (driven : Stop × ℕ) (old new : CampaignEnd) → b.keys ≡ keys
-      → b.knowns ≡ start_knowns keys run.start a.knowns old.saved.items → Keeps b c
+      → b.knowns ≡ begins_with keys carried run a old → Keeps b c
       → (honest x (is_planned b.keys) → honest y (is_planned b.keys) × Learnt b.keys (past x) (past y) b.knowns c.knowns driven.1)
       → HasEnded c.keys run c.knowns driven old new → ((names : Names) → honest y names → honest z names × Delivered names (past y) (past z))
-      → HasRun past honest keys run a c x z old new
+      → HasRun past honest keys carried run a c x z old new
   ran_closed run a b c x y z driven old new b_keys begun keeps learnt ended closes = record {
     driven = driven;
     ended = subst (λ ks. HasEnded ks run c.knowns driven old new) (keeps.keys_stay ∙ b_keys) ended;
@@ -225,7 +234,7 @@ module _ {L : Type 0} (past : L → Past) (honest : L → Names → Type 0) (key
         let taught = learnt (subst (λ ks. honest x (is_planned ks)) (sym b_keys) holds) in
         let close = closes (is_planned keys) (subst (λ ks. honest y (is_planned ks)) b_keys taught.0) in (
           close.0,
-          learnt_still keys (past x) (past y) (past z) (start_knowns keys run.start a.knowns old.saved.items) c.knowns c.knowns driven.1
+          learnt_still keys (past x) (past y) (past z) (begins_with keys carried run a old) c.knowns c.knowns driven.1
               (subst (λ start. Learnt keys (past x) (past y) start c.knowns driven.1) begun
               (subst (λ ks. Learnt ks (past x) (past y) b.knowns c.knowns driven.1) b_keys taught.1))
               (delivered_stays (is_planned keys) (past y) (past z) close.1) refl,

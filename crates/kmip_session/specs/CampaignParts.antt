@@ -1,10 +1,11 @@
 -- Private: what the parts of a campaign keep.
 -- Source: own.
-use Rattle.std.specs.Prelude.{◌≡◌, ◌≢◌, ◌≤◌, ℕ, List, [], ◌∷◌, ◌++◌, string_bytes}
+use Rattle.std.specs.Prelude.{◌≡◌, ◌≢◌, ◌≤◌, ℕ, List, [], ◌∷◌, ◌++◌, filter, length, None, string_bytes, take}
 use Rattle.std.specs.List.{All, AllZip}
 use Rattle.kmip_messages.specs.Objects.{Object}
 use Rattle.kmip_plan.specs.Laws.{KeysAreFound, PlacesAndSteps}
 use Rattle.kmip_plan.specs.declared.key.Key.{Key}
+use Rattle.kmip_progress.specs.Suiting.{Suits}
 use Rattle.kmip_progress.specs.declared.known.Known.{Known}
 use Rattle.kmip_client.specs.Clients.{ClientState}
 use Rattle.kmip_client.specs.Held.{TrueProgress}
@@ -16,9 +17,9 @@ use Rattle.kmip_client.specs.declared.knowledge.Knowledge.{Knowledge}
 use Rattle.kmip_schedule.specs.Laws.{DeliveriesKeepSound, DeliveriesKeepTheImage, ObjectsGoOnward, OpeningIsMirrored, SoundIsSafe}
 use Rattle.kmip_schedule.specs.Past.{Past, Names, is_planned}
 use Rattle.kmip_settling.specs.Laws.{SoundIsReady}
-use Rattle.kmip_session.specs.Campaign.{GoodLink, HasNoConflict, IsEnd, Settles}
-use Rattle.kmip_session.specs.Driving.{Grown, IsGood, Learnt, WentOn}
-use Rattle.kmip_session.specs.Remembering.{Shows, saved_after, start_knowns}
+use Rattle.kmip_session.specs.Campaign.{CalmLink, GoodLink, HasNoConflict, IsEnd, Settles, saves}
+use Rattle.kmip_session.specs.Driving.{Grown, IsGood, KeepsFurther, Learnt, WentOn}
+use Rattle.kmip_session.specs.Remembering.{AreKnownFrom, Shows, saved_after, start_knowns}
 use Rattle.kmip_session.specs.Reporting.{report_text}
 use Rattle.kmip_session.specs.declared.campaigning.CampaignEnd.{CampaignEnd}
 use Rattle.kmip_session.specs.declared.campaigning.Run.{Run}
@@ -90,13 +91,17 @@ pub record AreSame (old new : CampaignEnd) : Type 0 where
   pub same_runs : new.runs.items ≡ old.runs.items
   pub same_saved : new.saved.items ≡ old.saved.items
 
+-- what a run begins with, where this was carried over from earlier plans and that was saved under this one
+abbrev pub begins_with : List Key → List (List Known) → Run → ClientState → CampaignEnd → List Knowledge
+begins_with keys carried run a old = start_knowns keys run.start a.knowns (carried ++ old.saved.items)
+
 -- The run was made and has ended: nothing of what it began with is taken back, and over an honest link its answers taught the rest.
-pub record HasRun {L : Type 0} (past : L → Past) (honest : L → Names → Type 0) (keys : List Key) (run : Run) (a b : ClientState) (x y : L) (old new : CampaignEnd) : Type 0 where
+pub record HasRun {L : Type 0} (past : L → Past) (honest : L → Names → Type 0) (keys : List Key) (carried : List (List Known)) (run : Run) (a b : ClientState) (x y : L) (old new : CampaignEnd) : Type 0 where
   pub driven : Stop × ℕ
   pub ended : HasEnded keys run b.knowns driven old new
-  pub kept : AllZip IsKept (start_knowns keys run.start a.knowns old.saved.items) b.knowns
+  pub kept : AllZip IsKept (begins_with keys carried run a old) b.knowns
   pub learnt : honest x (is_planned keys) → honest y (is_planned keys)
-      × Learnt keys (past x) (past y) (start_knowns keys run.start a.knowns old.saved.items) b.knowns driven.1
+      × Learnt keys (past x) (past y) (begins_with keys carried run a old) b.knowns driven.1
 
 -- the run that was noted last, if it was allowed so many exchanges, has finished all keys
 pub record HasSettled (keys : List Key) (run : Run) (old new : List RunEnd) : Type 0 where
@@ -108,3 +113,14 @@ pub record HasSettled (keys : List Key) (run : Run) (old new : List RunEnd) : Ty
 pub record IsBroken {L : Type 0} (past : L → Past) (honest : L → Names → Type 0) (keys : List Key) (x y : L) (old new : CampaignEnd) : Type 0 where
   pub same : AreSame old new
   pub grown : honest x (is_planned keys) → Grown (past x) (past y)
+
+-- The runs of a plan were made in turn, where this was carried over from earlier plans: what stands after them, and what their ends say.
+pub record HasRunAll {L : Type 0} (past : L → Past) (honest calm : L → Names → Type 0) (keys : List Key) (carried : List (List Known)) (runs : List Run) (end : CampaignEnd) (old new : L) : Type 0 where
+  pub suits : All (Suits keys) end.saved.items
+  pub stands : GoodLink past honest keys old → All (TrueProgress (past old).objects keys) carried
+      → Campaigned past honest keys old new end.runs.items end.saved.items × KeepsFurther past honest calm keys (end.fault ≡ None) old new
+  pub order : AllZip (IsEnd keys) (take (length end.runs.items) runs) end.runs.items
+  pub complete : end.fault ≡ None → AllZip (IsEnd keys) runs end.runs.items × (length end.saved.items ≡ length (filter saves runs))
+  pub known : AreKnownFrom keys carried runs end.runs.items end.saved.items (honest old (is_planned keys)) (end.fault ≡ None) (past old) (past new)
+  pub settles : CalmLink past calm keys old → All (TrueProgress (past old).objects keys) carried → end.fault ≡ None
+      → AllZip (Settles keys) runs end.runs.items × CalmLink past calm keys new

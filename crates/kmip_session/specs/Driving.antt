@@ -6,7 +6,8 @@ use Rattle.kmip_messages.specs.Items.{requests_in}
 use Rattle.kmip_messages.specs.Objects.{Object, object_named}
 use Rattle.kmip_messages.specs.Written.{request_item}
 use Rattle.kmip_messages.specs.declared.request.Request.{Request}
-use Rattle.kmip_plan.specs.Plans.{IsPlanned}
+use Rattle.kmip_plan.specs.Plans.{IsLawful, IsPlanned}
+use Rattle.kmip_plan.specs.Prolonging.{Prolongs}
 use Rattle.kmip_plan.specs.declared.key.Key.{Key}
 use Rattle.kmip_ttlv.specs.Spelling.{canon}
 use Rattle.kmip_client.specs.Clients.{ClientState, fresh, NoneWorks, SomeWorks, verdict_at}
@@ -26,6 +27,7 @@ use Rattle.kmip_client.specs.Known.{facts, known_after}
 use Rattle.kmip_settling.specs.Laws.{NoneIsMade}
 use Rattle.kmip_settling.specs.Needs.{need_all}
 use Rattle.kmip_settling.specs.Ready.{IsReady}
+use Rattle.kmip_session.specs.Campaign.{CalmLink, GoodLink}
 use Rattle.kmip_session.specs.declared.stop.Stop.{Stop}
 use Rattle.kmip_session.specs.declared.stop.Stop.TheVariants as stops
 
@@ -61,6 +63,14 @@ need c p = need_all c.keys c.knowns p.objects
 pub record WentOn (keys : List Key) (old new : Past) : Type 0 where
   pub onward : Onward keys old.objects new.objects
   pub mirrored : IsMirrored keys old → IsMirrored keys new
+
+-- What is kept for a plan that prolongs this one, while this one is carried out: over a link that is honest for its names, what has
+-- happened stays sound for it, and its objects go onward; over a calm one there is room still for the objects that it misses.
+pub record KeepsFurther {L : Type 0} (past : L → Past) (honest calm : L → Names → Type 0) (keys : List Key) (whole : Type 0) (old new : L) : Type 0 where
+  pub good : (further : List Key) → IsLawful further → Prolongs further keys → GoodLink past honest further old
+      → GoodLink past honest further new × WentOn further (past old) (past new)
+  pub calmly : whole → (further : List Key) → IsLawful further → Prolongs further keys → CalmLink past calm further old
+      → CalmLink past calm further new
 
 -- The bytes ask what a phase of a key of the plan asks, in their one written form.
 pub record IsQuestion (keys : List Key) (bytes : List ℕ) : Type 0 where

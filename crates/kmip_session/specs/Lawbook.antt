@@ -1,13 +1,16 @@
 -- Private: the laws of the crates below that driving rests on.
 -- Source: own.
 use Rattle.kmip_plan.specs.Laws.{FoundKeysStand, KeysAreFound, ReachedIsWithin}
-use Rattle.kmip_client.specs.Laws.{OnwardToItself, OnwardTwice, HeldForGood, HeldIsNoConflict, HearingIsBlind, LossesTeachNothing, SettledIsNotWorked}
-use Rattle.kmip_schedule.specs.Laws.{ExchangesKeepSound, AnswersAreTrue, DeliveriesKeepSound, ObjectsGoOnward, ExchangesKeepTheImage}
+use Rattle.kmip_client.specs.Laws.{OnwardToItself, OnwardTwice, HeldForGood, HeldIsNoConflict, HearingIsBlind, JustifiedOfProlonged, LossesTeachNothing, SettledIsNotWorked}
+use Rattle.kmip_schedule.specs.Laws.{ExchangesKeepSound, AnswersAreTrue, DeliveriesKeepSound, ObjectsGoOnward, ExchangesKeepTheImage, NamesOfProlonged}
 use Rattle.kmip_settling.specs.Laws.{
   CalmTurnsAreNearer,
   NeedsAreBounded,
   NothingMadeIsReady,
   NothingMadeNeedsTheChains,
+  ProlongedMissNoLess,
+  RoomIsLeft,
+  SoundIsReady,
   TheFinishedAreThere,
   TheFinishedStandAtTheEnd,
   WhoIsSettledNeedsNothing,
@@ -38,3 +41,8 @@ pub record Lawbook : Type 0 where
   pub there : TheFinishedAreThere
   pub stand : FoundKeysStand
   pub within : ReachedIsWithin
+  pub ready : SoundIsReady
+  pub names : NamesOfProlonged
+  pub asked : JustifiedOfProlonged
+  pub room : RoomIsLeft
+  pub less : ProlongedMissNoLess

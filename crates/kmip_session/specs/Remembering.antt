@@ -44,9 +44,9 @@ starts_from keys last saved (run ∷ runs) [] = []
 starts_from keys last saved (run ∷ runs) (knowns ∷ ends) =
     start_knowns keys run.start last saved ∷ starts_from keys knowns (saved_after run knowns saved) runs ends
 
--- the same from nothing
-abbrev pub starts : List Key → List Run → List (List Knowledge) → List (List Knowledge)
-starts keys runs ends = starts_from keys (fresh keys).knowns [] runs ends
+-- the same from nothing, where this was carried over from earlier plans
+abbrev pub starts : List Key → List (List Known) → List Run → List (List Knowledge) → List (List Knowledge)
+starts keys carried runs ends = starts_from keys (fresh keys).knowns carried runs ends
 
 -- all that is saved by runs, where so much is known at their ends
 abbrev pub saved_from : List (List Known) → List Run → List (List Knowledge) → List (List Known)
@@ -87,14 +87,18 @@ pub record AreHeard (keys : List Key) (begun known : List (List Knowledge)) (end
   pub requests_are : new.requests ≡ old.requests ++ flat_map requests_in (flat_map (λ talk. talk.questions) talks)
 
 -- There is a knowledge for each end that the end shows, that takes back nothing of what its run began with, and that is saved where
--- its run says so. Over an honest link it is what was heard until the last end; and nothing was asked later, unless a run was broken
--- off.
-pub record AreKnown (keys : List Key) (runs : List Run) (ends : List RunEnd) (saved : List (List Known)) (honest whole : Type 0) (old new : Past) : Type 0 where
+-- its run says so, behind what was carried over. Over an honest link it is what was heard until the last end; and nothing was asked
+-- later, unless a run was broken off.
+pub record AreKnownFrom (keys : List Key) (carried : List (List Known)) (runs : List Run) (ends : List RunEnd) (saved : List (List Known)) (honest whole : Type 0) (old new : Past) : Type 0 where
   pub known : List (List Knowledge)
   pub shown : AllZip (Shows keys) known ends
-  pub kept : AllZip (AllZip IsKept) (starts keys runs known) known
-  pub saved_are : saved ≡ saved_from [] runs known
+  pub kept : AllZip (AllZip IsKept) (starts keys carried runs known) known
+  pub saved_are : carried ++ saved ≡ saved_from carried runs known
   pub until : Past
-  pub heard : honest → AreHeard keys (starts keys runs known) known ends old until
+  pub heard : honest → AreHeard keys (starts keys carried runs known) known ends old until
   pub grown : honest → Grown until new
   pub no_more : whole → until ≡ new
+
+-- the same where nothing was carried over
+abbrev pub AreKnown : List Key → List Run → List RunEnd → List (List Known) → Type 0 → Type 0 → Past → Past → Type 0
+AreKnown keys runs ends saved honest whole old new = AreKnownFrom keys [] runs ends saved honest whole old new

@@ -1,5 +1,5 @@
 //! Runs in turn over one link, each from nothing, from the run before it or from a saved progress.
-ghost use Rattle.std.specs.Prelude.{◌≡◌, ◌≢◌, ◌≤◌, ◌⊎◌, ℕ, List, [], length, filter, map, take, Some, None, Ok, IfOk, OnErr, OnOk, IfSome, option_map, false, if◌then◌else◌};
+ghost use Rattle.std.specs.Prelude.{◌≡◌, ◌≢◌, ◌≤◌, ◌⊎◌, ℕ, List, [], ◌++◌, length, filter, map, take, Some, None, Ok, IfOk, OnErr, OnOk, IfSome, option_map, false, if◌then◌else◌};
 ghost use Rattle.std.specs.List.{All, AllZip, Contains};
 ghost use Rattle.kmip_messages.specs.Objects.{Object};
 ghost use Rattle.kmip_client.specs.Held.{Held, TrueProgress};
@@ -17,14 +17,15 @@ ghost use Rattle.kmip_session.specs.CampaignParts.{
   Campaigned,
   HasEnded,
   HasRun,
+  HasRunAll,
   HasSettled,
   IsBroken,
   IsEndOf,
   Noted,
   Standing,
 };
-ghost use Rattle.kmip_session.specs.Driving.{Stands, WentOn};
-ghost use Rattle.kmip_session.specs.Remembering.{AreKnown, resumed, saved_numbered, start_knowns};
+ghost use Rattle.kmip_session.specs.Driving.{KeepsFurther, Stands, WentOn};
+ghost use Rattle.kmip_session.specs.Remembering.{AreKnown, AreKnownFrom, resumed, saved_numbered, start_knowns};
 
 use crate::driving::drive;
 use crate::reporting::report_of;
@@ -116,14 +117,8 @@ pub fn campaign<L: Link>(alloc: Global, plan: &Plan, link: &mut L, runs: &[Run])
 {
     laws_below();
     plan.keys();
-    let mut end = CampaignEnd {
-        runs: Vec::new(alloc),
-        saved: Vec::new(alloc),
-        fault: None,
-    };
-    let fault = run_all(alloc, plan, link, runs, &mut end).err();
-    end.fault = fault;
-    end
+    let carried = Vec::new(alloc);
+    run_all(alloc, plan, link, runs, carried.as_slice())
 }
 
 /// The laws of the crates below.
@@ -142,30 +137,59 @@ fn laws_below()
     sound_is_ready();
 }
 
-/// Makes the runs in turn, and notes how each ended.
-///
-/// # Errors
-/// Where there is no memory; what was done is noted.
-fn run_all<L: Link>(
+/// Makes the runs of a plan in turn, where this was saved under earlier plans, as it is read for the
+/// plan. Want of memory ends them, and keeps what was done.
+pub(crate) fn run_all<L: Link>(
     alloc: Global,
     plan: &Plan,
     link: &mut L,
     runs: &[Run],
+    carried: &[Progress],
+) -> CampaignEnd
+    requires { All (Suits plan.now) carried.now }
+    ensures all { HasRunAll L.past L.honest L.calm plan.now carried.now runs.now result
+        link.old link.new }
+{
+    let mut end = CampaignEnd {
+        runs: Vec::new(alloc),
+        saved: Vec::new(alloc),
+        fault: None,
+    };
+    let fault = run_each(alloc, plan, link, runs, carried, &mut end).err();
+    end.fault = fault;
+    end
+}
+
+/// Makes the runs in turn, and notes how each ended.
+///
+/// # Errors
+/// Where there is no memory; what was done is noted.
+fn run_each<L: Link>(
+    alloc: Global,
+    plan: &Plan,
+    link: &mut L,
+    runs: &[Run],
+    carried: &[Progress],
     end: &mut CampaignEnd,
 ) -> Result<(), NoMemory>
     requires no_end { end.old.runs.items ≡ [] }
     requires none_saved { end.old.saved.items ≡ [] }
+    requires carried { All (Suits plan.now) carried.now }
+    ensures suits { All (Suits plan.now) end.new.saved.items }
     ensures stands { GoodLink L.past L.honest plan.now link.old
+        → All (TrueProgress (L.past link.old).objects plan.now) carried.now
         → Campaigned L.past L.honest plan.now link.old link.new end.new.runs.items
-        end.new.saved.items }
+        end.new.saved.items
+        × KeepsFurther L.past L.honest L.calm plan.now (result ≡ Ok tt) link.old link.new }
     ensures order { AllZip (IsEnd plan.now) (take (length end.new.runs.items) runs.now)
         end.new.runs.items }
     ensures complete { OnOk result (AllZip (IsEnd plan.now) runs.now end.new.runs.items
         × (length end.new.saved.items ≡ length (filter saves runs.now))) }
-    ensures known { AreKnown plan.now runs.now end.new.runs.items end.new.saved.items
-        (L.honest link.old (is_planned plan.now)) (result ≡ Ok tt)
+    ensures known { AreKnownFrom plan.now carried.now runs.now end.new.runs.items
+        end.new.saved.items (L.honest link.old (is_planned plan.now)) (result ≡ Ok tt)
         (L.past link.old) (L.past link.new) }
     ensures settles { CalmLink L.past L.calm plan.now link.old
+        → All (TrueProgress (L.past link.old).objects plan.now) carried.now
         → OnOk result (AllZip (Settles plan.now) runs.now end.new.runs.items
         × CalmLink L.past L.calm plan.now link.new) }
 {
@@ -174,7 +198,7 @@ fn run_all<L: Link>(
     plan.keys();
     let mut client = Client::fresh(alloc, plan)?;
     for place in 0..runs.len() {
-        one_run(alloc, plan, &mut client, link, runs[place], end)?;
+        one_run(alloc, plan, &mut client, link, runs[place], carried, end)?;
     }
     Ok(())
 }
@@ -189,29 +213,38 @@ fn one_run<'p, L: Link>(
     client: &mut Client<'p>,
     link: &mut L,
     run: Run,
+    carried: &[Progress],
     end: &mut CampaignEnd,
 ) -> Result<(), NoMemory>
     requires keys { client.old.keys ≡ plan.now }
+    requires carried { All (Suits plan.now) carried.now }
     requires suits { All (Suits plan.now) end.old.saved.items }
     ensures keys { client.new.keys ≡ plan.now }
     ensures suits { All (Suits plan.now) end.new.saved.items }
     ensures stands { Standing L.past L.honest plan.now client.old link.old end.old.runs.items
         end.old.saved.items
+        → All (TrueProgress (L.past link.old).objects plan.now) carried.now
         → Standing L.past L.honest plan.now client.new link.new end.new.runs.items
         end.new.saved.items × WentOn plan.now (L.past link.old) (L.past link.new) }
-    ensures ran { OnOk result (HasRun L.past L.honest plan.now run client.old client.new
-        link.old link.new end.old end.new) }
+    ensures further { Standing L.past L.honest plan.now client.old link.old end.old.runs.items
+        end.old.saved.items
+        → All (TrueProgress (L.past link.old).objects plan.now) carried.now
+        → KeepsFurther L.past L.honest L.calm plan.now (result ≡ Ok tt) link.old link.new }
+    ensures ran { OnOk result (HasRun L.past L.honest plan.now carried.now run client.old
+        client.new link.old link.new end.old end.new) }
     ensures broken { OnErr result (IsBroken L.past L.honest plan.now link.old link.new
-        end.old end.new ⊎ HasRun L.past L.honest plan.now run client.old client.new
+        end.old end.new ⊎ HasRun L.past L.honest plan.now carried.now run client.old client.new
         link.old link.new end.old end.new) }
     ensures settles { Standing L.past L.honest plan.now client.old link.old end.old.runs.items
-        end.old.saved.items → CalmLink L.past L.calm plan.now link.old
+        end.old.saved.items
+        → All (TrueProgress (L.past link.old).objects plan.now) carried.now
+        → CalmLink L.past L.calm plan.now link.old
         → OnOk result (HasSettled plan.now run end.old.runs.items end.new.runs.items
         × CalmLink L.past L.calm plan.now link.new) }
 {
     laws_below();
     plan.keys();
-    begin(alloc, plan, client, end.saved.as_slice(), run.start)?;
+    begin(alloc, plan, client, carried, end.saved.as_slice(), run.start)?;
     let driven = drive(alloc, client, link, run.limit);
     finish(alloc, client, run, driven, end)?;
     close(alloc, link)
@@ -225,58 +258,73 @@ fn begin<'p>(
     alloc: Global,
     plan: &'p Plan,
     client: &mut Client<'p>,
+    carried: &[Progress],
     saved: &[Progress],
     start: Start,
 ) -> Result<(), NoMemory>
     requires keys { client.old.keys ≡ plan.now }
+    requires carried { All (Suits plan.now) carried.now }
     requires suits { All (Suits plan.now) saved.now }
     ensures keys { client.new.keys ≡ plan.now }
-    ensures held { (objects : List Object) → All (TrueProgress objects plan.now) saved.now
+    ensures held { (objects : List Object) → All (TrueProgress objects plan.now) carried.now
+        → All (TrueProgress objects plan.now) saved.now
         → Held objects client.old.keys client.old.knowns
         → Held objects client.new.keys client.new.knowns }
     ensures begun { OnOk result (client.new.knowns
-        ≡ start_knowns plan.now start client.old.knowns saved.now) }
+        ≡ start_knowns plan.now start client.old.knowns (carried.now ++ saved.now)) }
 {
     let number = match start {
         Start::Same => return Ok(()),
         Start::Fresh => 0,
         Start::Saved(number) => number,
     };
-    *client = client_from(alloc, plan, saved, number)?;
+    *client = client_from(alloc, plan, carried, saved, number)?;
     Ok(())
 }
 
-/// The saved progress of a number, from 1.
-fn saved_at(saved: &[Progress], number: usize) -> Option<&Progress>
+/// The saved progress of a number, from 1; what was carried over from earlier plans comes first.
+fn saved_at<'s>(
+    carried: &'s [Progress],
+    saved: &'s [Progress],
+    number: usize,
+) -> Option<&'s Progress>
     ensures value { option_map (λ progress. progress.now) result
-        ≡ saved_numbered number saved.now }
-    ensures member { IfSome result (λ progress. Contains saved.now progress.now) }
+        ≡ saved_numbered number (carried.now ++ saved.now) }
+    ensures member { IfSome result (λ progress. Contains carried.now progress.now
+        ⊎ Contains saved.now progress.now) }
 {
     if number == 0 {
         return None;
     }
-    saved.get(number - 1)
+    let place = number - 1;
+    if place < carried.len() {
+        return carried.get(place);
+    }
+    saved.get(place - carried.len())
 }
 
 /// A client that begins with the saved progress of a number, from 1, or with nothing where there is
-/// none.
+/// none; what was carried over from earlier plans comes first.
 ///
 /// # Errors
 /// Where there is no memory for it.
 fn client_from<'p>(
     alloc: Global,
     plan: &'p Plan,
+    carried: &[Progress],
     saved: &[Progress],
     number: usize,
 ) -> Result<Client<'p>, NoMemory>
-    requires { All (Suits plan.now) saved.now }
+    requires carried { All (Suits plan.now) carried.now }
+    requires suits { All (Suits plan.now) saved.now }
     ensures keys { IfOk result (λ client. client.keys ≡ plan.now) }
-    ensures held { (objects : List Object) → All (TrueProgress objects plan.now) saved.now
+    ensures held { (objects : List Object) → All (TrueProgress objects plan.now) carried.now
+        → All (TrueProgress objects plan.now) saved.now
         → IfOk result (λ client. Held objects client.keys client.knowns) }
     ensures known { IfOk result (λ client. client.knowns
-        ≡ resumed plan.now (saved_numbered number saved.now)) }
+        ≡ resumed plan.now (saved_numbered number (carried.now ++ saved.now))) }
 {
-    match saved_at(saved, number) {
+    match saved_at(carried, saved, number) {
         Some(progress) => Client::resume(alloc, plan, progress),
         None => Client::fresh(alloc, plan),
     }

@@ -1,5 +1,5 @@
 //! Runs of exchanges, until no key is worked on any more or as many were made as may be.
-ghost use Rattle.std.specs.Prelude.{◌≡◌, ◌≢◌, ◌≤◌, ◌<◌, ◌+◌, ℕ, List, length, true, false, Some, None, Ok, Err, IfOk, IfSome, OnErr, OnOk, option_map};
+ghost use Rattle.std.specs.Prelude.{◌≡◌, ◌≢◌, ◌≤◌, ◌<◌, ◌+◌, ℕ, List, length, true, false, Some, None, Ok, Err, IfOk, IsOk, IfSome, OnErr, OnOk, option_map};
 ghost use Rattle.std.specs.Result.{result_ok};
 ghost use Rattle.kmip_messages.specs.Objects.{Object};
 ghost use Rattle.kmip_client.specs.Clients.{lost_at, one_if, AreSettled, IsAbout};
@@ -9,7 +9,7 @@ ghost use Rattle.kmip_client.specs.Justified.{JustifiedMessage};
 ghost use Rattle.kmip_client.specs.Truth.{TrueMessage};
 ghost use Rattle.kmip_plan.specs.Chains.{bound};
 ghost use Rattle.kmip_schedule.specs.Past.{is_planned};
-ghost use Rattle.kmip_session.specs.Driving.{IsBrokenOff, IsGood, IsSettling, IsUntouched, IsComplete, need, WentOn, Learnt, Grown, Keeps, Stands};
+ghost use Rattle.kmip_session.specs.Driving.{IsBrokenOff, IsGood, IsSettling, IsUntouched, IsComplete, KeepsFurther, need, WentOn, Learnt, Grown, Keeps, Stands};
 ghost use Rattle.kmip_client.specs.Known.{facts};
 ghost use Rattle.kmip_schedule.specs.Past.{Past};
 ghost use Rattle.kmip_session.specs.Lawbook.{Lawbook};
@@ -20,18 +20,19 @@ ghost use Rattle.kmip_schedule.specs.Exchanges.{answer_in};
 
 use crate::stop::Stop;
 use kmip_client::laws::{
-    onward_is_an_order, the_settled_are_not_worked_on, truth_is_for_good, what_is_known_was_heard,
-    what_is_true_is_no_conflict,
+    onward_is_an_order, prolonged_plans_keep_the_truth, the_settled_are_not_worked_on,
+    truth_is_for_good, what_is_known_was_heard, what_is_true_is_no_conflict,
 };
 use kmip_client::{Client, HearFault, Heard, Question, Verdict};
 use kmip_plan::laws::{keys_have_names, states_have_places};
 use kmip_schedule::laws::{
     answers_are_true, deliveries_keep_sound, exchanges_keep_sound, objects_go_onward,
-    the_image_is_kept,
+    prolonged_plans_are_sound, the_image_is_kept,
 };
 use kmip_schedule::{Link, LinkFault};
 use kmip_settling::laws::{
-    a_calm_turn_is_nearer, needs_are_bounded, nothing_made_is_ready, the_finished_stand_at_the_end,
+    a_calm_turn_is_nearer, needs_are_bounded, nothing_made_is_ready,
+    room_is_left_for_prolonged_plans, sound_is_ready, the_finished_stand_at_the_end,
     who_needs_nothing_is_finished,
 };
 use kmip_ttlv::NoMemory;
@@ -80,6 +81,8 @@ pub fn drive<L: Link>(
         × IsComplete client.old.keys (L.past link.new).objects client.new.knowns }
     ensures no_conflict { IsGood L.past L.honest client.old link.old
         → result.0 ≢ Stop.Conflict }
+    ensures further { IsGood L.past L.honest client.old link.old → KeepsFurther L.past L.honest
+        L.calm client.old.keys (result.0 ≢ Stop.NoMemory) link.old link.new }
 {
     laws_below();
     let _plan = client.plan();
@@ -114,6 +117,10 @@ fn laws_below()
     needs_are_bounded();
     who_needs_nothing_is_finished();
     the_finished_stand_at_the_end();
+    sound_is_ready();
+    prolonged_plans_are_sound();
+    prolonged_plans_keep_the_truth();
+    room_is_left_for_prolonged_plans();
 }
 
 /// The next question, and what comes of it; false where no key is worked on.
@@ -140,7 +147,10 @@ fn turn<L: Link>(alloc: Global, client: &mut Client<'_>, link: &mut L) -> Result
     ensures calm { IsSettling L.past L.calm client.old link.old → IfOk result (λ asked.
         IsSettling L.past L.calm client.new link.new × (one_if asked
         + need client.new (L.past link.new) ≡ need client.old (L.past link.old))) }
+    ensures further { IsGood L.past L.honest client.old link.old → KeepsFurther L.past L.honest
+        L.calm client.old.keys (IsOk result) link.old link.new }
 {
+    laws_below();
     let Some(question) = client.ask(alloc)? else {
         return Ok(false);
     };
@@ -176,8 +186,12 @@ fn put<L: Link>(
     ensures calm { IsSettling L.past L.calm client.old link.old → OnOk result (
         IsSettling L.past L.calm client.new link.new
         × (1 + need client.new (L.past link.new) ≡ need client.old (L.past link.old))) }
+    ensures further { IsGood L.past L.honest client.old link.old
+        → JustifiedMessage client.old.keys (L.past link.old).objects question.now.bytes
+        → KeepsFurther L.past L.honest L.calm client.old.keys (IsOk result) link.old link.new }
 {
     laws_below();
+    L::calm_laws();
     let _plan = client.plan();
     let Ok(answer) = answer_or_loss(link.exchange(alloc, question.bytes.as_slice())) else {
         client.lost(question.key);

@@ -1,30 +1,35 @@
 -- Begun, driven, noted and closed.
-use Rattle.std.proofs.Common.{◌≡◌, ◌∙◌, inl, inr, refl, subst, sym}
+use Rattle.std.proofs.Common.{◌≡◌, ◌∙◌, ◌++◌, inl, inr, refl, subst, sym}
 use Rattle.std.specs.List.{All}
 use Rattle.kmip_client.specs.Held.{TrueProgress}
 use Rattle.kmip_session.specs.Remembering.{start_knowns}
 use Rattle.kmip_session.proofs.CalmLemmas.{settled_run}
 use Rattle.kmip_session.proofs.CampaignLemmas.{closed, stood}
+use Rattle.kmip_session.proofs.DriveLemmas.{further_if}
+use Rattle.kmip_session.proofs.FurtherLemmas.{further_closed, further_nowhere, further_then}
 use Rattle.kmip_session.proofs.KnownLemmas.{always_err, grown_itself}
-use Rattle.kmip_session.proofs.RememberLemmas.{always_ok, broken_off, ran_closed}
+use Rattle.kmip_session.proofs.RememberLemmas.{always_ok, broken_off, no_ok, ran_closed}
+use Rattle.kmip_session.proofs.RunLemmas.{driven_further}
 use Rattle.kmip_session.proofs.campaigning.one_run.Goals as goal
 
 pub returns-in_err-finish-clause-stands : goal.returns-in_err-finish-clause-stands
-returns-in_err-finish-clause-stands g c =
+returns-in_err-finish-clause-stands g c = λ standing carried.
     stood g.L.Link.past g.L.Link.honest c.laws_below.ensures c.args.plan.now c.args.client.now c.begin.new.client c.drive-driven.new.client c.args.link.now
     c.drive-driven.new.link c.drive-driven.result.0 c.args.end.now.runs.items c.finish.new.end.runs.items c.args.end.now.saved.items c.finish.new.end.saved.items
     c.keys.ensures.lawful c.requires.keys c.begin.ensures.keys (c.drive-driven.ensures.kept.keys_stay ∙ c.begin.ensures.keys)
-    (λ objects saved. c.begin.ensures.held objects (subst (λ ps. All (TrueProgress objects c.args.plan.now) ps) (sym c.as_slice.ensures.value) saved))
-    c.drive-driven.ensures.good c.drive-driven.ensures.goes c.drive-driven.ensures.no_conflict c.finish.ensures.true_of
+    (λ saved. c.begin.ensures.held (g.L.Link.past c.args.link.now).objects carried
+    (subst (λ ps. All (TrueProgress (g.L.Link.past c.args.link.now).objects c.args.plan.now) ps) (sym c.as_slice.ensures.value) saved))
+    c.drive-driven.ensures.good c.drive-driven.ensures.goes c.drive-driven.ensures.no_conflict c.finish.ensures.true_of standing
 
 pub returns-clause-stands : goal.returns-clause-stands
-returns-clause-stands g c = λ standing.
+returns-clause-stands g c = λ standing carried.
     closed g.L.Link.past g.L.Link.honest c.laws_below.ensures c.args.plan.now c.drive-driven.new.client c.args.link.now c.drive-driven.new.link c.close.new.link
     c.finish.new.end.runs.items c.finish.new.end.saved.items c.keys.ensures.lawful (c.drive-driven.ensures.kept.keys_stay ∙ c.begin.ensures.keys) c.close.ensures.honest
     (stood g.L.Link.past g.L.Link.honest c.laws_below.ensures c.args.plan.now c.args.client.now c.begin.new.client c.drive-driven.new.client c.args.link.now
     c.drive-driven.new.link c.drive-driven.result.0 c.args.end.now.runs.items c.finish.new.end.runs.items c.args.end.now.saved.items c.finish.new.end.saved.items
     c.keys.ensures.lawful c.requires.keys c.begin.ensures.keys (c.drive-driven.ensures.kept.keys_stay ∙ c.begin.ensures.keys)
-    (λ objects saved. c.begin.ensures.held objects (subst (λ ps. All (TrueProgress objects c.args.plan.now) ps) (sym c.as_slice.ensures.value) saved))
+    (λ saved. c.begin.ensures.held (g.L.Link.past c.args.link.now).objects carried
+    (subst (λ ps. All (TrueProgress (g.L.Link.past c.args.link.now).objects c.args.plan.now) ps) (sym c.as_slice.ensures.value) saved))
     c.drive-driven.ensures.good c.drive-driven.ensures.goes c.drive-driven.ensures.no_conflict c.finish.ensures.true_of standing)
 
 pub returns-in_err-begin-clause-broken : goal.returns-in_err-begin-clause-broken
@@ -35,15 +40,15 @@ returns-in_err-begin-clause-broken g c =
 pub returns-in_err-finish-clause-broken : goal.returns-in_err-finish-clause-broken
 returns-in_err-finish-clause-broken g c =
     always_err c.from_residual-in_err-finish.result
-    (inl (broken_off g.L.Link.past g.L.Link.honest c.args.plan.now c.begin.new.client c.args.link.now c.drive-driven.new.link c.args.end.now c.finish.new.end
+    (inl (broken_off g.L.Link.past g.L.Link.honest c.args.plan.now c.args.carried.now c.begin.new.client c.args.link.now c.drive-driven.new.link c.args.end.now c.finish.new.end
     c.begin.ensures.keys c.drive-driven.ensures.grown c.in_err-finish.ensures.same))
 
 pub returns-clause-ran : goal.returns-clause-ran
 returns-clause-ran g c =
     always_ok c.close.result
-    (ran_closed g.L.Link.past g.L.Link.honest c.args.plan.now c.args.run c.args.client.now c.begin.new.client c.drive-driven.new.client c.args.link.now
+    (ran_closed g.L.Link.past g.L.Link.honest c.args.plan.now c.args.carried.now c.args.run c.args.client.now c.begin.new.client c.drive-driven.new.client c.args.link.now
     c.drive-driven.new.link c.close.new.link c.drive-driven.result c.args.end.now c.finish.new.end c.begin.ensures.keys
-    (subst (λ ps. c.begin.new.client.knowns ≡ start_knowns c.args.plan.now c.args.run.start c.args.client.now.knowns ps) c.as_slice.ensures.value
+    (subst (λ ps. c.begin.new.client.knowns ≡ start_knowns c.args.plan.now c.args.run.start c.args.client.now.knowns (c.args.carried.now ++ ps)) c.as_slice.ensures.value
     c.in_ok-begin.ensures.begun)
     c.drive-driven.ensures.kept
     (λ honest. let known = c.drive-driven.ensures.known honest in (known.0, known.1 c.in_ok-finish.ensures.ended.1))
@@ -52,19 +57,46 @@ returns-clause-ran g c =
 pub returns-clause-broken : goal.returns-clause-broken
 returns-clause-broken g c =
     always_err c.close.result
-    (inr (ran_closed g.L.Link.past g.L.Link.honest c.args.plan.now c.args.run c.args.client.now c.begin.new.client c.drive-driven.new.client c.args.link.now
+    (inr (ran_closed g.L.Link.past g.L.Link.honest c.args.plan.now c.args.carried.now c.args.run c.args.client.now c.begin.new.client c.drive-driven.new.client c.args.link.now
     c.drive-driven.new.link c.close.new.link c.drive-driven.result c.args.end.now c.finish.new.end c.begin.ensures.keys
-    (subst (λ ps. c.begin.new.client.knowns ≡ start_knowns c.args.plan.now c.args.run.start c.args.client.now.knowns ps) c.as_slice.ensures.value
+    (subst (λ ps. c.begin.new.client.knowns ≡ start_knowns c.args.plan.now c.args.run.start c.args.client.now.knowns (c.args.carried.now ++ ps)) c.as_slice.ensures.value
     c.in_ok-begin.ensures.begun)
     c.drive-driven.ensures.kept
     (λ honest. let known = c.drive-driven.ensures.known honest in (known.0, known.1 c.in_ok-finish.ensures.ended.1))
     c.in_ok-finish.ensures.ended.0 c.close.ensures.honest))
 
 pub returns-clause-settles : goal.returns-clause-settles
-returns-clause-settles g c =
+returns-clause-settles g c = λ standing carried calmly.
     settled_run g.L.Link.past g.L.Link.honest g.L.Link.calm c.args.plan.now c.laws_below.ensures c.args.run c.args.client.now c.begin.new.client c.drive-driven.new.client
     c.args.link.now c.drive-driven.new.link c.close.new.link c.drive-driven.result c.args.end.now.runs.items c.finish.new.end.runs.items c.args.end.now.saved.items
     c.close.result c.requires.keys c.begin.ensures.keys (c.drive-driven.ensures.kept.keys_stay ∙ c.begin.ensures.keys)
-    (λ objects saved. c.begin.ensures.held objects (subst (λ ps. All (TrueProgress objects c.args.plan.now) ps) (sym c.as_slice.ensures.value) saved))
+    (λ saved. c.begin.ensures.held (g.L.Link.past c.args.link.now).objects carried
+    (subst (λ ps. All (TrueProgress (g.L.Link.past c.args.link.now).objects c.args.plan.now) ps) (sym c.as_slice.ensures.value) saved))
     c.drive-driven.ensures.good c.drive-driven.ensures.settles c.drive-driven.ensures.calm c.in_ok-finish.ensures.ended.1 c.in_ok-finish.ensures.ended.0.noted
-    c.close.ensures.calm
+    c.close.ensures.calm standing calmly
+
+pub returns-in_err-begin-clause-further : goal.returns-in_err-begin-clause-further
+returns-in_err-begin-clause-further g c = λ standing carried.
+    further_nowhere g.L.Link.past g.L.Link.honest g.L.Link.calm c.laws_below.ensures.itself c.args.plan.now c.args.link.now _
+
+pub returns-in_err-finish-clause-further : goal.returns-in_err-finish-clause-further
+returns-in_err-finish-clause-further g c = λ standing carried.
+    further_if g.L.Link.past g.L.Link.honest g.L.Link.calm c.args.plan.now c.args.link.now c.drive-driven.new.link _ _
+    (λ is. no_ok c.from_residual-in_err-finish.result tt c.from_residual-in_err-finish.ensures.0 is)
+    (driven_further g.L.Link.past g.L.Link.honest g.L.Link.calm c.args.plan.now c.args.carried.now c.args.client.now c.begin.new.client c.args.link.now
+    c.drive-driven.new.link c.drive-driven.result.0 c.args.end.now.runs.items c.args.end.now.saved.items c.requires.keys c.begin.ensures.keys
+    (λ saved. c.begin.ensures.held (g.L.Link.past c.args.link.now).objects carried
+    (subst (λ ps. All (TrueProgress (g.L.Link.past c.args.link.now).objects c.args.plan.now) ps) (sym c.as_slice.ensures.value) saved))
+    c.drive-driven.ensures.further standing)
+
+pub returns-clause-further : goal.returns-clause-further
+returns-clause-further g c = λ standing carried.
+    further_then g.L.Link.past g.L.Link.honest g.L.Link.calm c.laws_below.ensures.twice c.args.plan.now c.args.link.now c.drive-driven.new.link c.close.new.link _ _
+    (λ is. c.in_ok-finish.ensures.ended.1)
+    (driven_further g.L.Link.past g.L.Link.honest g.L.Link.calm c.args.plan.now c.args.carried.now c.args.client.now c.begin.new.client c.args.link.now
+    c.drive-driven.new.link c.drive-driven.result.0 c.args.end.now.runs.items c.args.end.now.saved.items c.requires.keys c.begin.ensures.keys
+    (λ saved. c.begin.ensures.held (g.L.Link.past c.args.link.now).objects carried
+    (subst (λ ps. All (TrueProgress (g.L.Link.past c.args.link.now).objects c.args.plan.now) ps) (sym c.as_slice.ensures.value) saved))
+    c.drive-driven.ensures.further standing)
+    (further_closed g.L.Link.past g.L.Link.honest g.L.Link.calm c.laws_below.ensures c.args.plan.now c.drive-driven.new.link c.close.new.link c.close.result
+    c.close.ensures.honest c.close.ensures.calm)

@@ -1,9 +1,9 @@
 -- Turn by turn.
-use Rattle.std.proofs.Common.{◌≡◌, ◌∙◌, subst, arith}
+use Rattle.std.proofs.Common.{◌≡◌, ◌∙◌, ⊤, refl, rules, subst, arith}
 use Rattle.kmip_client.specs.Clients.{one_if}
 use Rattle.kmip_session.specs.Driving.{Learnt}
 use Rattle.kmip_session.proofs.CompleteLemmas.{completed, untouched_settles}
-use Rattle.kmip_session.proofs.DriveLemmas.{broken_end, driven_none, driven_then, known_end}
+use Rattle.kmip_session.proofs.DriveLemmas.{broken_end, driven_none, driven_then, further_if, further_last, known_end}
 use Rattle.kmip_session.proofs.SettleLemmas.{Nearer, finished_stop, nearer_end, nearer_limit}
 use Rattle.kmip_session.proofs.GoodLemmas.{keeps_then}
 use Rattle.kmip_session.proofs.driving.drive.Goals as goal
@@ -54,6 +54,8 @@ loop-made-preserved g c =
           subst
           (λ asked. Nearer past g.L.Link.calm c.loop-made.client c.turn.new.client c.loop-made.link c.turn.new.link (one_if asked))
           c.in-Ok-true.field-0-test (c.in-Ok-true.ensures.calm settling);
+      further = λ good.
+          further_if past g.L.Link.honest g.L.Link.calm c.loop-made.client.keys c.loop-made.link c.turn.new.link _ ⊤ (λ is. search rules) (c.turn.ensures.further good);
     })
 
 pub returns-in-Ok-false-clause-settles : goal.returns-in-Ok-false-clause-settles
@@ -134,3 +136,21 @@ returns-in-Err-clause-broken g c = λ honest is.
 
 pub returns-clause-broken : goal.returns-clause-broken
 returns-clause-broken g c = λ honest is. absurd (c.stop_of-2.ensures.in_memory is)
+
+pub returns-in-Ok-false-clause-further : goal.returns-in-Ok-false-clause-further
+returns-in-Ok-false-clause-further g c =
+    further_last g.L.Link.past g.L.Link.honest g.L.Link.calm c.laws_below.ensures c.args.client.now c.loop-made.client c.turn.new.client c.args.link.now
+    c.loop-made.link c.turn.new.link c.loop-made.made _ c.loop-made.invariant
+    (λ good. further_if g.L.Link.past g.L.Link.honest g.L.Link.calm c.loop-made.client.keys c.loop-made.link c.turn.new.link _ _ (λ is. search rules)
+    (c.turn.ensures.further good))
+
+pub returns-in-Err-clause-further : goal.returns-in-Err-clause-further
+returns-in-Err-clause-further g c =
+    further_last g.L.Link.past g.L.Link.honest g.L.Link.calm c.laws_below.ensures c.args.client.now c.loop-made.client c.turn.new.client c.args.link.now
+    c.loop-made.link c.turn.new.link c.loop-made.made _ c.loop-made.invariant
+    (λ good. further_if g.L.Link.past g.L.Link.honest g.L.Link.calm c.loop-made.client.keys c.loop-made.link c.turn.new.link _ _ (λ is. absurd (is refl))
+    (c.turn.ensures.further good))
+
+pub returns-clause-further : goal.returns-clause-further
+returns-clause-further g c = λ good.
+    further_if g.L.Link.past g.L.Link.honest g.L.Link.calm c.args.client.now.keys c.args.link.now c.loop-made.link ⊤ _ (λ is. tt) (c.loop-made.invariant.further good)

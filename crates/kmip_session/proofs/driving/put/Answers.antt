@@ -6,6 +6,7 @@ use Rattle.kmip_client.specs.Justified.{JustifiedMessage}
 use Rattle.kmip_schedule.specs.Exchanges.{Exchanged, HandsOver, answer_in}
 use Rattle.kmip_schedule.specs.Past.{is_planned}
 use Rattle.kmip_session.specs.Losses.{or_loss}
+use Rattle.kmip_session.proofs.FurtherLemmas.{further_asked}
 use Rattle.kmip_session.proofs.GoodLemmas.{good_left, if_handed, left, told}
 use Rattle.kmip_session.proofs.KnownLemmas.{broken_asked, broken_handed, exchanged_grown, handed_over, learnt_one, lost_facts, on_err, on_ok}
 use Rattle.kmip_session.proofs.SettleLemmas.{nearer_one}
@@ -105,3 +106,19 @@ returns-clause-broken g c = λ honest.
       broken_handed l.found names client (past c.args.link.now) (past c.exchange.new.self) c.args.question.now _ c.plan-plan.ensures.lawful c.requires hands,
     ))
     c.learn.ensures.lost
+
+pub returns-in_default-clause-further : goal.returns-in_default-clause-further
+returns-in_default-clause-further g c = λ good just.
+    let client = c.args.client.now in
+    further_asked g.L.Link.past g.L.Link.honest g.L.Link.calm c.laws_below.ensures client c.args.link.now c.exchange.new.self c.as_slice.result.now _ c.args.question.now
+    _ c.plan-plan.ensures.lawful c.requires c.as_slice.ensures c.exchange.ensures.honest c.exchange.ensures.calm c.calm_laws.ensures.honest
+    (λ link names fewer among. (c.calm_laws.ensures.fewer link names fewer among).1) (λ is. absurd is)
+    (subst (λ bytes. JustifiedMessage client.keys (g.L.Link.past c.args.link.now).objects bytes) (sym c.as_slice.ensures) just) good
+
+pub returns-clause-further : goal.returns-clause-further
+returns-clause-further g c = λ good just.
+    let client = c.args.client.now in
+    further_asked g.L.Link.past g.L.Link.honest g.L.Link.calm c.laws_below.ensures client c.args.link.now c.exchange.new.self c.as_slice.result.now _ c.args.question.now
+    _ c.plan-plan.ensures.lawful c.requires c.as_slice.ensures c.exchange.ensures.honest c.exchange.ensures.calm c.calm_laws.ensures.honest
+    (λ link names fewer among. (c.calm_laws.ensures.fewer link names fewer among).1) (λ is. (_, sym c.in-Ok.ensures))
+    (subst (λ bytes. JustifiedMessage client.keys (g.L.Link.past c.args.link.now).objects bytes) (sym c.as_slice.ensures) just) good

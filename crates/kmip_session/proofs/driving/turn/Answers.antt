@@ -1,9 +1,11 @@
 -- Asking changes whose turn it is, and nothing else.
-use Rattle.std.proofs.Common.{◌≡◌, ap, subst, sym}
+use Rattle.std.proofs.Common.{◌≡◌, ⊤, ap, rules, subst, sym}
 use Rattle.kmip_client.specs.Clients.{ClientState}
 use Rattle.kmip_client.specs.Known.{facts}
 use Rattle.kmip_schedule.specs.Past.{is_planned}
-use Rattle.kmip_session.specs.Driving.{IsBrokenOff, Keeps, Learnt, WentOn}
+use Rattle.kmip_session.specs.Driving.{IsBrokenOff, Keeps, KeepsFurther, Learnt, WentOn}
+use Rattle.kmip_session.proofs.DriveLemmas.{further_if}
+use Rattle.kmip_session.proofs.FurtherLemmas.{further_nowhere}
 use Rattle.kmip_session.proofs.GoodLemmas.{good_asked, keeps_asked, keeps_itself}
 use Rattle.kmip_session.proofs.KnownLemmas.{always_err, broken_nowhere, grown_itself, learnt_nothing}
 use Rattle.kmip_session.proofs.driving.turn.Goals as goal
@@ -58,3 +60,33 @@ returns-in_err-put-clause-broken g c = λ honest.
     always_err c.from_residual-in_err-put.result
     (subst (λ (s : ClientState). (facts c.put.new.client.knowns ≡ facts s.knowns) × IsBrokenOff s.keys (past c.args.link.now) (past c.put.new.link)) asked
     (c.in_err-put.ensures.broken (subst (λ (s : ClientState). g.L.Link.honest c.args.link.now (is_planned s.keys)) (sym asked) honest)))
+
+pub returns-in_err-question-clause-further : goal.returns-in_err-question-clause-further
+returns-in_err-question-clause-further g c = λ good.
+    further_nowhere g.L.Link.past g.L.Link.honest g.L.Link.calm c.laws_below.ensures.itself c.args.client.now.keys c.args.link.now _
+
+pub returns-in_default-clause-further : goal.returns-in_default-clause-further
+returns-in_default-clause-further g c = λ good.
+    further_nowhere g.L.Link.past g.L.Link.honest g.L.Link.calm c.laws_below.ensures.itself c.args.client.now.keys c.args.link.now _
+
+-- the question may be asked, and so much is kept by its exchange
+pub returns-clause-further : goal.returns-clause-further
+returns-clause-further g c = λ good.
+    let past = g.L.Link.past in
+    let asked =
+    good_asked past g.L.Link.honest c.args.client.now c.ask.new.self c.args.link.now _ c.in-Some.question c.in_ok-question.ensures.turn c.in-Some.is
+    c.in_ok-question.ensures.justified good in
+    further_if past g.L.Link.honest g.L.Link.calm c.args.client.now.keys c.args.link.now c.put.new.link _ _ (λ is. tt)
+    (subst (λ (s : ClientState). KeepsFurther past g.L.Link.honest g.L.Link.calm s.keys ⊤ c.args.link.now c.put.new.link) c.in_ok-question.ensures.turn
+    (further_if past g.L.Link.honest g.L.Link.calm c.ask.new.self.keys c.args.link.now c.put.new.link _ ⊤ (λ is. search rules)
+    (c.put.ensures.further asked.0 asked.1)))
+
+pub returns-in_err-put-clause-further : goal.returns-in_err-put-clause-further
+returns-in_err-put-clause-further g c = λ good.
+    let past = g.L.Link.past in
+    let asked =
+    good_asked past g.L.Link.honest c.args.client.now c.ask.new.self c.args.link.now _ c.in-Some.question c.in_ok-question.ensures.turn c.in-Some.is
+    c.in_ok-question.ensures.justified good in
+    subst (λ (s : ClientState). KeepsFurther past g.L.Link.honest g.L.Link.calm s.keys _ c.args.link.now c.put.new.link) c.in_ok-question.ensures.turn
+    (further_if past g.L.Link.honest g.L.Link.calm c.ask.new.self.keys c.args.link.now c.put.new.link _ _ (λ is. search rules)
+    (c.put.ensures.further asked.0 asked.1))
