@@ -7,3 +7,4 @@ pub mod PhaseLemmas
 pub mod StepLemmas
 pub mod HearLemmas
 pub mod TurnLemmas
+pub mod FurtherLemmas

@@ -121,26 +121,47 @@ heard_one : (keys : List Key) (next : ℕ) (knowns : List Knowledge) (question :
 heard_one keys next knowns question given reply is =
     ap (λ replies. (taught_by question (record { keys = keys; knowns = knowns; next = next }) (first_heard keys (unreadable (reply_read given)) replies knowns)).knowns) is
 
-pub turn_nearer : (l : Lawbook) (keys : List Key) (old new : Past) (next : ℕ) (knowns : List Knowledge) (question : Question) (answer : Option (List ℕ))
-    → IsLawful keys → IsReady old.room keys old.objects knowns → IsAbout keys knowns question → Calmly old question.bytes answer new
-    → GoesNearer new.room keys old.objects new.objects knowns (known_after_turn keys next knowns question answer)
-turn_nearer l keys old new next knowns question answer lawful ready about calmly =
+-- What one question over a calm link does: it is served once, and of the objects its key's alone changes.
+pub record Turn (keys : List Key) (old new : Past) (knowns : List Knowledge) (question : Question) (about : IsAbout keys knowns question) (given : List ℕ) : Type 0 where
+  pub reply : Reply
+  pub given_is : replies_in given ≡ reply ∷ []
+  pub answers : Answers question about.key reply (operation_of (ask_about about.key about.known))
+  pub nearer : IsNearer about.key about.known reply.outcome old.objects new.objects
+  pub room_is : new.room ≡ old.room
+
+pub turn_of : (l : Lawbook) (keys : List Key) (old new : Past) (knowns : List Knowledge) (question : Question) (answer : Option (List ℕ))
+    → IsLawful keys → IsReady old.room keys old.objects knowns → (about : IsAbout keys knowns question)
+    → (calmly : Calmly old question.bytes answer new) → Turn keys old new knowns question about calmly.given
+turn_of l keys old new knowns question answer lawful ready about calmly =
     let key = about.key in
     let known = about.known in
     let parts = about.asks.1 in
     let taken = subst (λ parts. AreTaken (stops_in question.bytes) parts (replies_in calmly.given) (with_asked question.bytes old) calmly.between) parts calmly.taken in
     let (reply, given_is, served) = one_taken (stops_in question.bytes) (replies_in calmly.given) (with_asked question.bytes old) calmly.between (request_about key known) taken in
     let worked = is_worked l keys question.key old.room old.objects knowns key known lawful ready about.key_is about.known_is about.works in
-    let nearer = phase_nearer l old.room old.objects served.objects key known known.phase reply.outcome refl worked served.serves.step in
-    let asked = asked_of old.objects key (ask_about key known) (l.asks old.objects key known worked.held about.works) in
-    let answers : Answers question key reply (operation_of (ask_about key known)) = record { operation_is = served.serves.operation_is; id_is = served.serves.id_is } in
-    let taught_now = taught_is (record { keys = keys; knowns = knowns; next = next }) question (operation_of (ask_about key known)) key known nearer.next reply
-    l.distinct lawful about.key_is about.known_is about.works asked about.operation_is answers nearer.learnt in
-    let known_now : known_after_turn keys next knowns question answer ≡ slice_set knowns question.key nearer.next =
-    ap (known_after_turn keys next knowns question) calmly.answer_is ∙ heard_one keys next knowns question calmly.given reply given_is ∙ taught_now in
-    let room_is : new.room ≡ old.room = ap (λ (p : Past). p.room) calmly.is ∙ ap (λ (p : Past). p.room) served.is in
     let objects_are : new.objects ≡ served.objects = ap (λ (p : Past). p.objects) calmly.is ∙ ap (λ (p : Past). p.objects) served.is in
+    record {
+      reply = reply;
+      given_is = given_is;
+      answers = record { operation_is = served.serves.operation_is; id_is = served.serves.id_is };
+      nearer = subst (IsNearer key known reply.outcome old.objects) (sym objects_are)
+          (phase_nearer l old.room old.objects served.objects key known known.phase reply.outcome refl worked served.serves.step);
+      room_is = ap (λ (p : Past). p.room) calmly.is ∙ ap (λ (p : Past). p.room) served.is;
+    }
+
+pub turn_nearer : (l : Lawbook) (keys : List Key) (old new : Past) (next : ℕ) (knowns : List Knowledge) (question : Question) (answer : Option (List ℕ))
+    → IsLawful keys → IsReady old.room keys old.objects knowns → IsAbout keys knowns question → Calmly old question.bytes answer new
+    → GoesNearer new.room keys old.objects new.objects knowns (known_after_turn keys next knowns question answer)
+turn_nearer l keys old new next knowns question answer lawful ready about calmly =
+    let key = about.key in
+    let known = about.known in
+    let turn = turn_of l keys old new knowns question answer lawful ready about calmly in
+    let held = held_at keys knowns question.key key known old.objects ready.held about.key_is about.known_is in
+    let asked = asked_of old.objects key (ask_about key known) (l.asks old.objects key known held about.works) in
+    let taught_now = taught_is (record { keys = keys; knowns = knowns; next = next }) question (operation_of (ask_about key known)) key known turn.nearer.next turn.reply
+    l.distinct lawful about.key_is about.known_is about.works asked about.operation_is turn.answers turn.nearer.learnt in
+    let known_now : known_after_turn keys next knowns question answer ≡ slice_set knowns question.key turn.nearer.next =
+    ap (known_after_turn keys next knowns question) calmly.answer_is ∙ heard_one keys next knowns question calmly.given turn.reply turn.given_is ∙ taught_now in
     subst (λ ks. GoesNearer new.room keys old.objects new.objects knowns ks) (sym known_now)
-    (subst (λ objects. GoesNearer new.room keys old.objects objects knowns (slice_set knowns question.key nearer.next)) (sym objects_are)
-    (subst (λ room. GoesNearer room keys old.objects served.objects knowns (slice_set knowns question.key nearer.next)) (sym room_is)
-    (all_nearer l keys question.key old.room old.objects served.objects knowns key known reply.outcome lawful ready about.key_is about.known_is nearer)))
+    (subst (λ room. GoesNearer room keys old.objects new.objects knowns (slice_set knowns question.key turn.nearer.next)) (sym turn.room_is)
+    (all_nearer l keys question.key old.room old.objects new.objects knowns key known turn.reply.outcome lawful ready about.key_is about.known_is turn.nearer))

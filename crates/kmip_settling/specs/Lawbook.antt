@@ -13,6 +13,8 @@ use Rattle.kmip_plan.specs.Laws.{
   KeysFit,
   ReasonsAreNoCompromise,
   BoundsAddUp,
+  ReachedIsNoLess,
+  OldKeysStand,
 }
 use Rattle.kmip_client.specs.Laws.{AsksWhatItMay}
 use Rattle.kmip_server.specs.Laws.{LocateFindsAllNamed}
@@ -36,5 +38,7 @@ pub record Lawbook : Type 0 where
   pub fit : KeysFit
   pub reasons : ReasonsAreNoCompromise
   pub bounds : BoundsAddUp
+  pub no_less : ReachedIsNoLess
+  pub old_stand : OldKeysStand
   pub asks : AsksWhatItMay
   pub located : LocateFindsAllNamed

@@ -15,11 +15,11 @@ ghost use Rattle.kmip_settling.specs.Laws.{
 };
 ghost use Rattle.kmip_settling.specs.Lawbook.{Lawbook};
 
-use kmip_client::laws::{prolonged_plans_keep_the_truth, what_is_asked_may_be};
+use kmip_client::laws::what_is_asked_may_be;
 use kmip_messages::laws::{added_laws, found_laws, restated_laws};
 use kmip_plan::laws::{
-    bounds_add_up, due_steps_advance, keys_fit, keys_have_names, prolonged_keys_stand,
-    states_have_places, steps_have_places,
+    bounds_add_up, due_steps_advance, further_ways_keep_places, keys_fit, keys_have_names,
+    prolonged_keys_stand, states_have_places, steps_have_places,
 };
 use kmip_server::laws::a_name_is_found;
 
@@ -36,6 +36,8 @@ fn laws_below()
     keys_have_names();
     keys_fit();
     bounds_add_up();
+    further_ways_keep_places();
+    prolonged_keys_stand();
     what_is_asked_may_be();
     a_name_is_found();
 }
@@ -72,8 +74,6 @@ pub fn room_is_left_for_prolonged_plans()
     ensures missing { ProlongedMissNoLess }
 {
     laws_below();
-    prolonged_plans_keep_the_truth();
-    prolonged_keys_stand();
 }
 
 /// A client that is ready needs at most the bound of its plan.

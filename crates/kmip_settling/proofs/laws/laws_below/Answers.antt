@@ -21,6 +21,8 @@ returns c = record {
   fit = c.keys_fit.ensures.fit;
   reasons = c.keys_fit.ensures.reasons;
   bounds = c.bounds_add_up.ensures;
+  no_less = c.further_ways_keep_places.ensures.reached;
+  old_stand = c.prolonged_keys_stand.ensures.stand;
   asks = c.what_is_asked_may_be.ensures;
   located = c.a_name_is_found.ensures.all;
 }
