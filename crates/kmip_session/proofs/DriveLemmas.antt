@@ -1,5 +1,6 @@
 -- What is kept over several exchanges.
-use Rattle.std.proofs.Common.{◌≡◌, ◌≢◌, ℕ, ◌+◌, List, ⊤, subst, sym, arith}
+use Rattle.std.proofs.Common.{◌≡◌, ◌≢◌, ℕ, ◌+◌, List, subst, sym, arith}
+use Rattle.std.specs.Prelude.{⊤}
 use Rattle.kmip_plan.specs.declared.key.Key.{Key}
 use Rattle.kmip_client.specs.Clients.{AreSettled, ClientState}
 use Rattle.kmip_client.specs.Known.{facts}
@@ -23,6 +24,7 @@ module _ {L : Type 0} (past : L → Past) (honest calm : L → Names → Type 0)
     pub grown : honest start (is_planned first.keys) → Grown (past start) (past link)
     pub keeps : Keeps first now
     pub near : IsSettling past calm first start → Nearer past calm first now start link made
+    pub honest_still : (names : Names) → honest start names → honest link names
     pub further : IsGood past honest first start → KeepsFurther past honest calm first.keys ⊤ start link
 
   pub driven_none : Lawbook → (c : ClientState) (link : L) → Driven c c link link 0
@@ -33,6 +35,7 @@ module _ {L : Type 0} (past : L → Past) (honest calm : L → Names → Type 0)
     grown = λ holds. grown_itself (past link);
     keeps = keeps_itself c;
     near = nearer_none past calm c link;
+    honest_still = λ names holds. holds;
     further = λ good. further_nowhere past honest calm l.itself c.keys link ⊤;
   }
 
@@ -67,6 +70,7 @@ module _ {L : Type 0} (past : L → Past) (honest calm : L → Names → Type 0)
     near = λ settling.
         let before = first.near settling in
         nearer_then past calm a b c x y z m n before (second.near before.0);
+    honest_still = λ names holds. second.honest_still names (first.honest_still names holds);
     further = further_last l a b c x y z m ⊤ first second.further;
   }
 

@@ -5,6 +5,7 @@ pub mod ReportLemmas
 pub mod SettleLemmas
 pub mod CompleteLemmas
 pub mod DriveLemmas
+pub mod FurtherLemmas
 pub mod CampaignLemmas
 pub mod OrderLemmas
 pub mod RememberLemmas

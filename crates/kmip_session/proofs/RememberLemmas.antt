@@ -1,5 +1,5 @@
 -- What was known at the ends of some runs, and one run more.
-use Rattle.std.proofs.Common.{◌≡◌, ℕ, List, [], ◌∷◌, ◌++◌, length, slice_get, flat_map, map, Some, Result, Ok, Err, IsErr, OnOk, sym, ap, subst, refl, ◌∙◌, inl, inr, append_assoc, append-nil}
+use Rattle.std.proofs.Common.{◌≡◌, ℕ, List, [], ◌∷◌, ◌++◌, length, slice_get, flat_map, map, Some, Result, Ok, Err, IsErr, IsOk, OnOk, sym, ap, subst, refl, ◌∙◌, inl, inr, append_assoc, append-nil}
 use Rattle.std.specs.List.{AllZip}
 use Rattle.std.proofs.lemmas.Bool.{cases_Bool}
 use Rattle.std.proofs.lemmas.List.Concat.{flat_map-append}
@@ -111,6 +111,10 @@ always_ok (Err e) holds = tt
 pub no_ok : {A E X : Type 0} (r : Result A E) (a : A) → IsErr r → r ≡ Ok a → X
 no_ok (Ok b) a failed is = absurd cc
 no_ok (Err e) a failed is = absurd cc
+
+pub no_both : {A E X : Type 0} (r : Result A E) → IsErr r → IsOk r → X
+no_both (Ok a) failed is = absurd cc
+no_both (Err e) failed is = absurd cc
 
 -- ---- several runs
 

@@ -1,5 +1,6 @@
 -- Private: what holds between two runs of a campaign.
-use Rattle.std.proofs.Common.{◌≡◌, ◌≢◌, ℕ, ⊤, suc, Option, None, Result, Ok, Err, ◌+◌, List, [], ◌∷◌, ◌++◌, length, filter, take, slice_get, Some, sym, ap, subst, refl, ◌∙◌, arith}
+use Rattle.std.proofs.Common.{◌≡◌, ◌≢◌, ℕ, suc, Option, None, Result, Ok, Err, OnOk, ◌+◌, List, [], ◌∷◌, ◌++◌, length, filter, take, slice_get, Some, sym, ap, subst, refl, ◌∙◌, arith}
+use Rattle.std.specs.Prelude.{⊤}
 use Rattle.std.proofs.lemmas.List.{length-append}
 use Rattle.std.proofs.lemmas.List.Elements.{All-nil}
 use Rattle.std.specs.List.{All, AllZip}
@@ -31,6 +32,7 @@ pub record Running {L : Type 0} (past : L → Past) (honest calm : L → Names �
   pub suits : All (Suits keys) saved
   pub stands : GoodLink past honest keys start → All (TrueProgress (past start).objects keys) carried
       → Standing past honest keys c link ends saved × WentOn keys (past start) (past link)
+  pub honest_still : (names : Names) → honest start names → honest link names
   pub further : GoodLink past honest keys start → All (TrueProgress (past start).objects keys) carried
       → KeepsFurther past honest calm keys ⊤ start link
   pub each : AllZip (IsEnd keys) (take at runs) ends
@@ -88,11 +90,12 @@ module _ {L : Type 0} (past : L → Past) (honest calm : L → Names → Type 0)
       → slice_get runs at ≡ Some run → Running past honest calm keys carried a start x runs old.runs.items old.saved.items at → b.keys ≡ keys → All (Suits keys) new.saved.items
       → (Standing past honest keys a x old.runs.items old.saved.items → All (TrueProgress (past x).objects keys) carried
       → Standing past honest keys b y new.runs.items new.saved.items × WentOn keys (past x) (past y))
+      → ((names : Names) → honest x names → honest y names)
       → (Standing past honest keys a x old.runs.items old.saved.items → All (TrueProgress (past x).objects keys) carried → KeepsFurther past honest calm keys ⊤ x y)
       → HasRun past honest keys carried run a b x y old new → ((link : L) (names : Names) → calm link names → honest link names)
       → (Standing past honest keys a x old.runs.items old.saved.items → All (TrueProgress (past x).objects keys) carried → CalmLink past calm keys x
       → HasSettled keys run old.runs.items new.runs.items × CalmLink past calm keys y) → Running past honest calm keys carried b start y runs new.runs.items new.saved.items (at + 1)
-  running_more l a b start x y runs at run old new lawful is before b_keys suits stands further ran calm_honest settles =
+  running_more l a b start x y runs at run old new lawful is before b_keys suits stands still further ran calm_honest settles =
       let e : at + 1 ≡ suc at = omega arith in
       subst (λ n. Running past honest calm keys carried b start y runs new.runs.items new.saved.items n) (sym e)
       (record {
@@ -101,6 +104,7 @@ module _ {L : Type 0} (past : L → Past) (honest calm : L → Names → Type 0)
         stands = λ good holds.
             let on = ran_on l a b start x y runs at ⊤ old.runs.items new.runs.items old.saved.items new.saved.items lawful before stands further good holds in
             (on.0, on.1);
+        honest_still = λ names honestly. still names (before.honest_still names honestly);
         further = λ good holds.
             (ran_on l a b start x y runs at ⊤ old.runs.items new.runs.items old.saved.items new.saved.items lawful before stands further good holds).2;
         each = ends_more keys runs at run old.runs.items new.runs.items is before.each b.knowns ran.driven ran.ended.noted;
@@ -127,6 +131,7 @@ module _ {L : Type 0} (past : L → Past) (honest calm : L → Names → Type 0)
         keys_are = c_keys;
         suits = rw none_saved (All-nil (Suits keys));
         stands = λ good holds. opened past honest l keys c x ends saved c_keys (held (past x).objects) no_end none_saved good;
+        honest_still = λ names honestly. honestly;
         further = λ good holds. further_nowhere past honest calm l.itself keys x ⊤;
         each = rw no_end (none_each (IsEnd keys) runs);
         settled = λ calmly holds. (rw no_end (none_each (Settles keys) runs), calmly);
@@ -157,6 +162,10 @@ module _ {L : Type 0} (past : L → Past) (honest calm : L → Names → Type 0)
       (further (good_with past honest a b x (b_keys ∙ sym a_keys) standing.good (begun standing.noted.true_saved standing.good.held)))
 
 -- ---- all runs
+
+pub if_ok : {E P : Type 0} (r : Result (Unit {0}) E) → r ≡ Ok tt → OnOk r P → P
+if_ok (Ok tt) is holds = holds
+if_ok (Err e) is holds = absurd cc
 
 pub ok_of : {E : Type 0} (r : Result (Unit {0}) E) (fault : Option E) → fault ≡ result_err r → fault ≡ None → r ≡ Ok tt
 ok_of (Ok tt) fault is none = refl

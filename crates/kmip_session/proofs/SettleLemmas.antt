@@ -23,7 +23,7 @@ use Rattle.kmip_session.specs.declared.stop.Stop.TheVariants as stops
 answer_is : (x y : Option (List ℕ)) → Some x ≡ Some y → x ≡ y
 answer_is x y is = cc
 
-calmly : (names : Names) (old new : Past) (sent : List ℕ) (answered : Result (Option (List ℕ)) LinkFault) (answer : Option (List ℕ))
+pub calmly : (names : Names) (old new : Past) (sent : List ℕ) (answered : Result (Option (List ℕ)) LinkFault) (answer : Option (List ℕ))
     → or_loss answered ≡ Some answer → CalmlyExchanged names old sent answered new → CalmlyExchanged names old sent (Ok answer) new
 calmly names old new sent (Ok own) answer is done = subst (λ a. CalmlyExchanged names old sent (Ok a) new) (answer_is own answer is) done
 calmly names old new sent (Err Io) answer is done = absurd done

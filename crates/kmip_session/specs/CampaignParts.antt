@@ -117,6 +117,7 @@ pub record IsBroken {L : Type 0} (past : L → Past) (honest : L → Names → T
 -- The runs of a plan were made in turn, where this was carried over from earlier plans: what stands after them, and what their ends say.
 pub record HasRunAll {L : Type 0} (past : L → Past) (honest calm : L → Names → Type 0) (keys : List Key) (carried : List (List Known)) (runs : List Run) (end : CampaignEnd) (old new : L) : Type 0 where
   pub suits : All (Suits keys) end.saved.items
+  pub honest_still : (names : Names) → honest old names → honest new names
   pub stands : GoodLink past honest keys old → All (TrueProgress (past old).objects keys) carried
       → Campaigned past honest keys old new end.runs.items end.saved.items × KeepsFurther past honest calm keys (end.fault ≡ None) old new
   pub order : AllZip (IsEnd keys) (take (length end.runs.items) runs) end.runs.items

@@ -181,6 +181,7 @@ fn run_each<L: Link>(
         → Campaigned L.past L.honest plan.now link.old link.new end.new.runs.items
         end.new.saved.items
         × KeepsFurther L.past L.honest L.calm plan.now (result ≡ Ok tt) link.old link.new }
+    ensures honest { (names : Names) → L.honest link.old names → L.honest link.new names }
     ensures order { AllZip (IsEnd plan.now) (take (length end.new.runs.items) runs.now)
         end.new.runs.items }
     ensures complete { OnOk result (AllZip (IsEnd plan.now) runs.now end.new.runs.items
@@ -226,6 +227,7 @@ fn one_run<'p, L: Link>(
         → All (TrueProgress (L.past link.old).objects plan.now) carried.now
         → Standing L.past L.honest plan.now client.new link.new end.new.runs.items
         end.new.saved.items × WentOn plan.now (L.past link.old) (L.past link.new) }
+    ensures honest { (names : Names) → L.honest link.old names → L.honest link.new names }
     ensures further { Standing L.past L.honest plan.now client.old link.old end.old.runs.items
         end.old.saved.items
         → All (TrueProgress (L.past link.old).objects plan.now) carried.now

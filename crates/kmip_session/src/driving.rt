@@ -8,7 +8,7 @@ ghost use Rattle.kmip_client.specs.Hearing.{hear};
 ghost use Rattle.kmip_client.specs.Justified.{JustifiedMessage};
 ghost use Rattle.kmip_client.specs.Truth.{TrueMessage};
 ghost use Rattle.kmip_plan.specs.Chains.{bound};
-ghost use Rattle.kmip_schedule.specs.Past.{is_planned};
+ghost use Rattle.kmip_schedule.specs.Past.{Names, is_planned};
 ghost use Rattle.kmip_session.specs.Driving.{IsBrokenOff, IsGood, IsSettling, IsUntouched, IsComplete, KeepsFurther, need, WentOn, Learnt, Grown, Keeps, Stands};
 ghost use Rattle.kmip_client.specs.Known.{facts};
 ghost use Rattle.kmip_schedule.specs.Past.{Past};
@@ -81,6 +81,7 @@ pub fn drive<L: Link>(
         × IsComplete client.old.keys (L.past link.new).objects client.new.knowns }
     ensures no_conflict { IsGood L.past L.honest client.old link.old
         → result.0 ≢ Stop.Conflict }
+    ensures honest { (names : Names) → L.honest link.old names → L.honest link.new names }
     ensures further { IsGood L.past L.honest client.old link.old → KeepsFurther L.past L.honest
         L.calm client.old.keys (result.0 ≢ Stop.NoMemory) link.old link.new }
 {
@@ -147,6 +148,7 @@ fn turn<L: Link>(alloc: Global, client: &mut Client<'_>, link: &mut L) -> Result
     ensures calm { IsSettling L.past L.calm client.old link.old → IfOk result (λ asked.
         IsSettling L.past L.calm client.new link.new × (one_if asked
         + need client.new (L.past link.new) ≡ need client.old (L.past link.old))) }
+    ensures honest { (names : Names) → L.honest link.old names → L.honest link.new names }
     ensures further { IsGood L.past L.honest client.old link.old → KeepsFurther L.past L.honest
         L.calm client.old.keys (IsOk result) link.old link.new }
 {
@@ -186,6 +188,7 @@ fn put<L: Link>(
     ensures calm { IsSettling L.past L.calm client.old link.old → OnOk result (
         IsSettling L.past L.calm client.new link.new
         × (1 + need client.new (L.past link.new) ≡ need client.old (L.past link.old))) }
+    ensures honest { (names : Names) → L.honest link.old names → L.honest link.new names }
     ensures further { IsGood L.past L.honest client.old link.old
         → JustifiedMessage client.old.keys (L.past link.old).objects question.now.bytes
         → KeepsFurther L.past L.honest L.calm client.old.keys (IsOk result) link.old link.new }

@@ -1,13 +1,38 @@
--- All that is reported was reached, so what is sound is safe.
-use Rattle.kmip_session.proofs.CampaignLemmas.{reported_reached}
+-- Nothing was carried over; and all that is reported was reached, so what is sound is safe.
+use Rattle.std.proofs.Common.{◌≡◌, ◌∙◌, [], subst}
+use Rattle.std.proofs.lemmas.List.Elements.{All-nil}
+use Rattle.kmip_client.specs.Held.{TrueProgress}
 use Rattle.kmip_session.specs.Campaign.{reported}
+use Rattle.kmip_session.specs.CampaignParts.{HasRunAll}
+use Rattle.kmip_session.proofs.CampaignLemmas.{reported_reached}
 use Rattle.kmip_session.proofs.campaigning.campaign.Goals as goal
 
-pub returns-clause-safe : goal.returns-clause-safe
-returns-clause-safe g c = λ good.
-    let ran = c.run_all.ensures.stands good in
+pub returns : goal.returns
+returns g c =
+    let past = g.L.Link.past in
+    let l = c.laws_below.ensures in
     let keys = c.args.plan.now in
-    let past = g.L.Link.past c.run_all.new.link in
-    let ends = c.run_all.new.end.runs.items in
-    let saved = c.run_all.new.end.saved.items in
-    c.laws_below.ensures.safe keys past (reported keys ends saved) ran.good.sound (reported_reached c.laws_below.ensures keys past ends saved c.keys.ensures.lawful ran.noted)
+    let none : c.as_slice.result.now ≡ [] = c.as_slice.ensures.value ∙ c.new-carried.ensures.items in
+    let all =
+    subst (λ carried. HasRunAll past g.L.Link.honest g.L.Link.calm keys carried c.args.runs.now c.run_all.result c.args.link.now c.run_all.new.link) none
+    c.run_all.ensures.all in
+    let nothing = All-nil (TrueProgress (past c.args.link.now).objects keys) in
+    let ends = c.run_all.result.runs.items in
+    let saved = c.run_all.result.saved.items in
+    record {
+      safe = λ good.
+          let ran = (all.stands good nothing).0 in
+          l.safe keys (past c.run_all.new.link) (reported keys ends saved) ran.good.sound
+          (reported_reached l keys (past c.run_all.new.link) ends saved c.keys.ensures.lawful ran.noted);
+      machine = λ good.
+          let on = (all.stands good nothing).0.on in
+          (λ opening. on.mirrored (l.opening keys (past c.args.link.now) opening), on.mirrored);
+      no_conflict = λ good. (all.stands good nothing).0.noted.no_conflict;
+      sound = λ good. (all.stands good nothing).0.good;
+      true_saved = λ good. (all.stands good nothing).0.noted.true_saved;
+      goes = λ good. (all.stands good nothing).0.on;
+      order = all.order;
+      complete = all.complete;
+      known = all.known;
+      settles = λ calmly is. all.settles calmly nothing is;
+    }

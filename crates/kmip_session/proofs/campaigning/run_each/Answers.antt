@@ -1,5 +1,6 @@
 -- Run by run.
-use Rattle.std.proofs.Common.{◌<◌, ⊤, length, suc, rules, refl, inl, inr}
+use Rattle.std.proofs.Common.{◌<◌, length, suc, rules, refl, inl, inr}
+use Rattle.std.specs.Prelude.{⊤}
 use Rattle.std.proofs.lemmas.Option.{slice_get-get_or}
 use Rattle.kmip_client.specs.Clients.{fresh}
 use Rattle.kmip_session.proofs.CampaignLemmas.{campaigned}
@@ -62,6 +63,7 @@ loop-place-preserved g c =
     running_more g.L.Link.past g.L.Link.honest g.L.Link.calm c.args.plan.now c.args.carried.now c.laws_below.ensures c.loop-place.client c.one_run.new.client
     c.args.link.now c.loop-place.link c.one_run.new.link c.args.runs.now c.loop-place.place _ c.loop-place.end c.one_run.new.end c.keys.ensures.lawful
     (slice_get-get_or c.args.runs.now c.loop-place.place _ below) c.loop-place.invariant c.one_run.ensures.keys c.one_run.ensures.suits c.one_run.ensures.stands
+    c.one_run.ensures.honest
     (λ standing carried. further_if g.L.Link.past g.L.Link.honest g.L.Link.calm c.args.plan.now c.loop-place.link c.one_run.new.link _ ⊤ (λ is. search rules)
     (c.one_run.ensures.further standing carried)) c.in_ok-one_run.ensures.ran
     c.calm_laws.ensures.honest c.in_ok-one_run.ensures.settles

@@ -1,5 +1,6 @@
 -- Turn by turn.
-use Rattle.std.proofs.Common.{◌≡◌, ◌∙◌, ⊤, refl, rules, subst, arith}
+use Rattle.std.proofs.Common.{◌≡◌, ◌∙◌, refl, rules, subst, arith}
+use Rattle.std.specs.Prelude.{⊤}
 use Rattle.kmip_client.specs.Clients.{one_if}
 use Rattle.kmip_session.specs.Driving.{Learnt}
 use Rattle.kmip_session.proofs.CompleteLemmas.{completed, untouched_settles}
@@ -54,6 +55,7 @@ loop-made-preserved g c =
           subst
           (λ asked. Nearer past g.L.Link.calm c.loop-made.client c.turn.new.client c.loop-made.link c.turn.new.link (one_if asked))
           c.in-Ok-true.field-0-test (c.in-Ok-true.ensures.calm settling);
+      honest_still = c.turn.ensures.honest;
       further = λ good.
           further_if past g.L.Link.honest g.L.Link.calm c.loop-made.client.keys c.loop-made.link c.turn.new.link _ ⊤ (λ is. search rules) (c.turn.ensures.further good);
     })

@@ -112,7 +112,7 @@ returns-in_default-clause-further g c = λ good just.
     let client = c.args.client.now in
     further_asked g.L.Link.past g.L.Link.honest g.L.Link.calm c.laws_below.ensures client c.args.link.now c.exchange.new.self c.as_slice.result.now _ c.args.question.now
     _ c.plan-plan.ensures.lawful c.requires c.as_slice.ensures c.exchange.ensures.honest c.exchange.ensures.calm c.calm_laws.ensures.honest
-    (λ link names fewer among. (c.calm_laws.ensures.fewer link names fewer among).1) (λ is. absurd is)
+    (λ link names fewer among. (c.calm_laws.ensures.fewer link names fewer among).1) (λ is. absurd cc)
     (subst (λ bytes. JustifiedMessage client.keys (g.L.Link.past c.args.link.now).objects bytes) (sym c.as_slice.ensures) just) good
 
 pub returns-clause-further : goal.returns-clause-further

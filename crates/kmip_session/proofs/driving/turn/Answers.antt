@@ -1,5 +1,6 @@
 -- Asking changes whose turn it is, and nothing else.
-use Rattle.std.proofs.Common.{◌≡◌, ⊤, ap, rules, subst, sym}
+use Rattle.std.proofs.Common.{◌≡◌, ap, rules, subst, sym}
+use Rattle.std.specs.Prelude.{⊤, IsOk}
 use Rattle.kmip_client.specs.Clients.{ClientState}
 use Rattle.kmip_client.specs.Known.{facts}
 use Rattle.kmip_schedule.specs.Past.{is_planned}
@@ -8,6 +9,7 @@ use Rattle.kmip_session.proofs.DriveLemmas.{further_if}
 use Rattle.kmip_session.proofs.FurtherLemmas.{further_nowhere}
 use Rattle.kmip_session.proofs.GoodLemmas.{good_asked, keeps_asked, keeps_itself}
 use Rattle.kmip_session.proofs.KnownLemmas.{always_err, broken_nowhere, grown_itself, learnt_nothing}
+use Rattle.kmip_session.proofs.RememberLemmas.{no_both}
 use Rattle.kmip_session.proofs.driving.turn.Goals as goal
 
 pub returns-in_err-question-clause-kept : goal.returns-in_err-question-clause-kept
@@ -87,6 +89,6 @@ returns-in_err-put-clause-further g c = λ good.
     let asked =
     good_asked past g.L.Link.honest c.args.client.now c.ask.new.self c.args.link.now _ c.in-Some.question c.in_ok-question.ensures.turn c.in-Some.is
     c.in_ok-question.ensures.justified good in
-    subst (λ (s : ClientState). KeepsFurther past g.L.Link.honest g.L.Link.calm s.keys _ c.args.link.now c.put.new.link) c.in_ok-question.ensures.turn
-    (further_if past g.L.Link.honest g.L.Link.calm c.ask.new.self.keys c.args.link.now c.put.new.link _ _ (λ is. search rules)
-    (c.put.ensures.further asked.0 asked.1))
+    subst (λ (s : ClientState). KeepsFurther past g.L.Link.honest g.L.Link.calm s.keys (IsOk c.from_residual-in_err-put.result) c.args.link.now c.put.new.link) c.in_ok-question.ensures.turn
+    (further_if past g.L.Link.honest g.L.Link.calm c.ask.new.self.keys c.args.link.now c.put.new.link _ _
+    (λ is. no_both c.from_residual-in_err-put.result c.from_residual-in_err-put.ensures.0 is) (c.put.ensures.further asked.0 asked.1))
