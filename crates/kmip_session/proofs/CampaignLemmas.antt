@@ -1,5 +1,6 @@
 -- What is noted at the ends of runs was reached, and stays so.
 use Rattle.std.proofs.Common.{◌≡◌, ◌≢◌, ◌≤◌, ◌<◌, ℕ, zero, suc, List, [], ◌∷◌, ◌++◌, map, take, flat_map, slice_get, Some, None, nat_le, sym, subst, refl, ◌∙◌, inl, inr, arith}
+use Rattle.std.specs.Prelude.{⊤}
 use Rattle.std.specs.List.{All, AllZip}
 use Rattle.std.proofs.lemmas.Bool.{cases_Bool}
 use Rattle.std.proofs.lemmas.List.Elements.{All-append, All-cons, All-head, All-nil, All-push, All-tail, All-weaker}
@@ -47,16 +48,20 @@ zip_onward R S plan on (key ∷ keys) (b ∷ bs) of zipped =
     (on key b (of zero key refl) zipped.0, zip_onward R S plan on keys bs (λ place k is. of (suc place) k is) zipped.1)
 
 -- what was saved is true still
-pub true_onward : CampaignLaws → (keys : List Key) (old new : List Object) (saved : List (List Known)) → IsLawful keys → Onward keys old new
-    → All (TrueProgress old keys) saved → All (TrueProgress new keys) saved
-true_onward l keys old new saved lawful onward holds =
-    All-weaker (TrueProgress old keys) (TrueProgress new keys)
-    (λ progress each. zip_onward (TrueOf old) (TrueOf new) keys
+pub true_one_onward : CampaignLaws → (keys : List Key) (old new : List Object) (progress : List Known) → IsLawful keys → Onward keys old new
+    → TrueProgress old keys progress → TrueProgress new keys progress
+true_one_onward l keys old new progress lawful onward holds =
+    zip_onward (TrueOf old) (TrueOf new) keys
     (λ key known planned is. record {
       uid_true = λ uid has. (onward key planned).uid_stays uid (is.uid_true uid has);
       done_true = let further = (onward key planned).never_falls in omega (arith, is.done_true, further);
       has_identifier = is.has_identifier;
-    }) keys progress (all_of l keys lawful) each) saved holds
+    }) keys progress (all_of l keys lawful) holds
+
+pub true_onward : CampaignLaws → (keys : List Key) (old new : List Object) (saved : List (List Known)) → IsLawful keys → Onward keys old new
+    → All (TrueProgress old keys) saved → All (TrueProgress new keys) saved
+true_onward l keys old new saved lawful onward holds =
+    All-weaker (TrueProgress old keys) (TrueProgress new keys) (λ progress each. true_one_onward l keys old new progress lawful onward each) saved holds
 
 pub noted_onward : CampaignLaws → (keys : List Key) (old new : List Object) (ends : List RunEnd) (saved : List (List Known)) → IsLawful keys → Onward keys old new
     → Noted old keys ends saved → Noted new keys ends saved
@@ -89,21 +94,37 @@ counted_reached l plan p key count planned reaches =
     let place : step_place key.target step ≡ suc k = (l.places key.target (suc k) step (omega arith)).0 (at_place key.target k step is) in
     (key, planned, refl, omega (arith, place), omega (arith, place, below, reaches)))
 
+-- as many of the first keys as are counted have come at least so far
+abbrev pub FrontReaches : List Object → List Key → List ℕ → Type 0
+FrontReaches objects keys [] = ⊤
+FrontReaches objects [] (count ∷ counts) = ⊥
+FrontReaches objects (key ∷ keys) (count ∷ counts) = Reaches objects key count × FrontReaches objects keys counts
+
+all_front : (objects : List Object) (keys : List Key) (counts : List ℕ) → AllZip (Reaches objects) keys counts → FrontReaches objects keys counts
+all_front objects [] [] reached = tt
+all_front objects [] (count ∷ counts) reached = absurd reached
+all_front objects (key ∷ keys) [] reached = tt
+all_front objects (key ∷ keys) (count ∷ counts) reached = (reached.0, all_front objects keys counts reached.1)
+
+pub by_front : CampaignLaws → (plan : List Key) (p : Past) (keys : List Key) (counts : List ℕ) → AreOf plan keys → FrontReaches p.objects keys counts
+    → All (IsReached plan p) (reported_by keys counts)
+by_front l plan p [] [] of reached = All-nil (IsReached plan p)
+by_front l plan p [] (count ∷ counts) of reached = absurd reached
+by_front l plan p (key ∷ keys) [] of reached = All-nil (IsReached plan p)
+by_front l plan p (key ∷ keys) (count ∷ counts) of reached =
+    All-append (IsReached plan p) (steps_counted key count) (reported_by keys counts) (counted_reached l plan p key count (of zero key refl) reached.0)
+    (by_front l plan p keys counts (λ place k is. of (suc place) k is) reached.1)
+
 by_reached : CampaignLaws → (plan : List Key) (p : Past) (keys : List Key) (counts : List ℕ) → AreOf plan keys → AllZip (Reaches p.objects) keys counts
     → All (IsReached plan p) (reported_by keys counts)
-by_reached l plan p [] [] of reached = All-nil (IsReached plan p)
-by_reached l plan p [] (count ∷ counts) of reached = absurd reached
-by_reached l plan p (key ∷ keys) [] of reached = absurd reached
-by_reached l plan p (key ∷ keys) (count ∷ counts) of reached =
-    All-append (IsReached plan p) (steps_counted key count) (reported_by keys counts) (counted_reached l plan p key count (of zero key refl) reached.0)
-    (by_reached l plan p keys counts (λ place k is. of (suc place) k is) reached.1)
+by_reached l plan p keys counts of reached = by_front l plan p keys counts of (all_front p.objects keys counts reached)
 
-all_flat : {X Y : Type 0} (P : Y → Type 0) (f : X → List Y) (xs : List X) → All (λ x. All P (f x)) xs → All P (flat_map f xs)
+pub all_flat : {X Y : Type 0} (P : Y → Type 0) (f : X → List Y) (xs : List X) → All (λ x. All P (f x)) xs → All P (flat_map f xs)
 all_flat P f [] each = All-nil P
 all_flat P f (x ∷ xs) each =
     All-append P (f x) (flat_map f xs) (All-head (λ y. All P (f y)) x xs each) (all_flat P f xs (All-tail (λ y. All P (f y)) x xs each))
 
-saved_reached : (objects : List Object) (keys : List Key) (saved : List Known) → TrueProgress objects keys saved → AllZip (Reaches objects) keys (map (λ known. known.done) saved)
+pub saved_reached : (objects : List Object) (keys : List Key) (saved : List Known) → TrueProgress objects keys saved → AllZip (Reaches objects) keys (map (λ known. known.done) saved)
 saved_reached objects [] [] holds = tt
 saved_reached objects [] (known ∷ saved) holds = absurd holds
 saved_reached objects (key ∷ keys) [] holds = absurd holds

@@ -11,3 +11,6 @@ pub mod OrderLemmas
 pub mod RememberLemmas
 pub mod CalmLemmas
 pub mod RunLemmas
+pub mod PartLemmas
+pub mod LastLemmas
+pub mod PlanLemmas

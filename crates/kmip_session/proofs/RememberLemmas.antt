@@ -72,7 +72,7 @@ taught_push keys (s ∷ begun) [] (k ∷ ends) start talk knowns taught is = abs
 taught_push keys (s ∷ begun) (t ∷ talks) [] start talk knowns taught is = absurd taught
 taught_push keys (s ∷ begun) (t ∷ talks) (k ∷ ends) start talk knowns taught is = (taught.0, taught_push keys begun talks ends start talk knowns taught.1 is)
 
-flat_push : {A B : Type 0} (f : A → List B) (xs : List A) (x : A) → flat_map f xs ++ f x ≡ flat_map f (xs ++ x ∷ [])
+pub flat_push : {A B : Type 0} (f : A → List B) (xs : List A) (x : A) → flat_map f xs ++ f x ≡ flat_map f (xs ++ x ∷ [])
 flat_push f xs x = ap (λ ys. flat_map f xs ++ ys) (sym (append-nil (f x))) ∙ sym (flat_map-append f xs (x ∷ []))
 
 heard_more : (keys : List Key) (begun known : List (List Knowledge)) (ends : List RunEnd) (old between new : Past) (start knowns : List Knowledge) (exchanges : ℕ) (end : RunEnd)

@@ -5,4 +5,6 @@ pub mod Reporting
 pub mod Lawbook
 pub mod Campaign
 pub mod CampaignParts
+pub mod Campaigns
+pub mod CampaignsParts
 pub mod Remembering

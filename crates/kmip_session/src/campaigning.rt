@@ -115,14 +115,14 @@ pub fn campaign<L: Link>(alloc: Global, plan: &Plan, link: &mut L, runs: &[Run])
         → AllZip (Settles plan.now) runs.now result.runs.items
         × CalmLink L.past L.calm plan.now link.new }
 {
-    laws_below();
+    laws_of_runs();
     plan.keys();
     let carried = Vec::new(alloc);
     run_all(alloc, plan, link, runs, carried.as_slice())
 }
 
 /// The laws of the crates below.
-fn laws_below()
+pub(crate) fn laws_of_runs()
     ensures { CampaignLaws }
 {
     keys_have_names();
@@ -194,7 +194,7 @@ fn run_each<L: Link>(
         → OnOk result (AllZip (Settles plan.now) runs.now end.new.runs.items
         × CalmLink L.past L.calm plan.now link.new) }
 {
-    laws_below();
+    laws_of_runs();
     L::calm_laws();
     plan.keys();
     let mut client = Client::fresh(alloc, plan)?;
@@ -244,7 +244,7 @@ fn one_run<'p, L: Link>(
         → OnOk result (HasSettled plan.now run end.old.runs.items end.new.runs.items
         × CalmLink L.past L.calm plan.now link.new) }
 {
-    laws_below();
+    laws_of_runs();
     plan.keys();
     begin(alloc, plan, client, carried, end.saved.as_slice(), run.start)?;
     let driven = drive(alloc, client, link, run.limit);

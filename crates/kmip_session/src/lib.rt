@@ -3,11 +3,13 @@
 
 mod campaigning;
 mod driving;
+mod prolonging;
 mod reporting;
 mod stop;
 
 pub use campaigning::{CampaignEnd, Run, RunEnd, Start, campaign};
 pub use driving::drive;
 pub use kmip_schedule::{Link, LinkFault};
+pub use prolonging::campaigns;
 pub use reporting::report;
 pub use stop::Stop;

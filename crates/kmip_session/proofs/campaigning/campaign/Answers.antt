@@ -10,7 +10,7 @@ use Rattle.kmip_session.proofs.campaigning.campaign.Goals as goal
 pub returns : goal.returns
 returns g c =
     let past = g.L.Link.past in
-    let l = c.laws_below.ensures in
+    let l = c.laws_of_runs.ensures in
     let keys = c.args.plan.now in
     let none : c.as_slice.result.now ≡ [] = c.as_slice.ensures.value ∙ c.new-carried.ensures.items in
     let all =

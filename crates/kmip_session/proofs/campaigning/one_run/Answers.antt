@@ -14,7 +14,7 @@ use Rattle.kmip_session.proofs.campaigning.one_run.Goals as goal
 
 pub returns-in_err-finish-clause-stands : goal.returns-in_err-finish-clause-stands
 returns-in_err-finish-clause-stands g c = λ standing carried.
-    stood g.L.Link.past g.L.Link.honest c.laws_below.ensures c.args.plan.now c.args.client.now c.begin.new.client c.drive-driven.new.client c.args.link.now
+    stood g.L.Link.past g.L.Link.honest c.laws_of_runs.ensures c.args.plan.now c.args.client.now c.begin.new.client c.drive-driven.new.client c.args.link.now
     c.drive-driven.new.link c.drive-driven.result.0 c.args.end.now.runs.items c.finish.new.end.runs.items c.args.end.now.saved.items c.finish.new.end.saved.items
     c.keys.ensures.lawful c.requires.keys c.begin.ensures.keys (c.drive-driven.ensures.kept.keys_stay ∙ c.begin.ensures.keys)
     (λ saved. c.begin.ensures.held (g.L.Link.past c.args.link.now).objects carried
@@ -23,9 +23,9 @@ returns-in_err-finish-clause-stands g c = λ standing carried.
 
 pub returns-clause-stands : goal.returns-clause-stands
 returns-clause-stands g c = λ standing carried.
-    closed g.L.Link.past g.L.Link.honest c.laws_below.ensures c.args.plan.now c.drive-driven.new.client c.args.link.now c.drive-driven.new.link c.close.new.link
+    closed g.L.Link.past g.L.Link.honest c.laws_of_runs.ensures c.args.plan.now c.drive-driven.new.client c.args.link.now c.drive-driven.new.link c.close.new.link
     c.finish.new.end.runs.items c.finish.new.end.saved.items c.keys.ensures.lawful (c.drive-driven.ensures.kept.keys_stay ∙ c.begin.ensures.keys) c.close.ensures.honest
-    (stood g.L.Link.past g.L.Link.honest c.laws_below.ensures c.args.plan.now c.args.client.now c.begin.new.client c.drive-driven.new.client c.args.link.now
+    (stood g.L.Link.past g.L.Link.honest c.laws_of_runs.ensures c.args.plan.now c.args.client.now c.begin.new.client c.drive-driven.new.client c.args.link.now
     c.drive-driven.new.link c.drive-driven.result.0 c.args.end.now.runs.items c.finish.new.end.runs.items c.args.end.now.saved.items c.finish.new.end.saved.items
     c.keys.ensures.lawful c.requires.keys c.begin.ensures.keys (c.drive-driven.ensures.kept.keys_stay ∙ c.begin.ensures.keys)
     (λ saved. c.begin.ensures.held (g.L.Link.past c.args.link.now).objects carried
@@ -67,7 +67,7 @@ returns-clause-broken g c =
 
 pub returns-clause-settles : goal.returns-clause-settles
 returns-clause-settles g c = λ standing carried calmly.
-    settled_run g.L.Link.past g.L.Link.honest g.L.Link.calm c.args.plan.now c.laws_below.ensures c.args.run c.args.client.now c.begin.new.client c.drive-driven.new.client
+    settled_run g.L.Link.past g.L.Link.honest g.L.Link.calm c.args.plan.now c.laws_of_runs.ensures c.args.run c.args.client.now c.begin.new.client c.drive-driven.new.client
     c.args.link.now c.drive-driven.new.link c.close.new.link c.drive-driven.result c.args.end.now.runs.items c.finish.new.end.runs.items c.args.end.now.saved.items
     c.close.result c.requires.keys c.begin.ensures.keys (c.drive-driven.ensures.kept.keys_stay ∙ c.begin.ensures.keys)
     (λ saved. c.begin.ensures.held (g.L.Link.past c.args.link.now).objects carried
@@ -77,7 +77,7 @@ returns-clause-settles g c = λ standing carried calmly.
 
 pub returns-in_err-begin-clause-further : goal.returns-in_err-begin-clause-further
 returns-in_err-begin-clause-further g c = λ standing carried.
-    further_nowhere g.L.Link.past g.L.Link.honest g.L.Link.calm c.laws_below.ensures.itself c.args.plan.now c.args.link.now _
+    further_nowhere g.L.Link.past g.L.Link.honest g.L.Link.calm c.laws_of_runs.ensures.itself c.args.plan.now c.args.link.now _
 
 pub returns-in_err-finish-clause-further : goal.returns-in_err-finish-clause-further
 returns-in_err-finish-clause-further g c = λ standing carried.
@@ -91,12 +91,12 @@ returns-in_err-finish-clause-further g c = λ standing carried.
 
 pub returns-clause-further : goal.returns-clause-further
 returns-clause-further g c = λ standing carried.
-    further_then g.L.Link.past g.L.Link.honest g.L.Link.calm c.laws_below.ensures.twice c.args.plan.now c.args.link.now c.drive-driven.new.link c.close.new.link _ _
+    further_then g.L.Link.past g.L.Link.honest g.L.Link.calm c.laws_of_runs.ensures.twice c.args.plan.now c.args.link.now c.drive-driven.new.link c.close.new.link _ _
     (λ is. c.in_ok-finish.ensures.ended.1)
     (driven_further g.L.Link.past g.L.Link.honest g.L.Link.calm c.args.plan.now c.args.carried.now c.args.client.now c.begin.new.client c.args.link.now
     c.drive-driven.new.link c.drive-driven.result.0 c.args.end.now.runs.items c.args.end.now.saved.items c.requires.keys c.begin.ensures.keys
     (λ saved. c.begin.ensures.held (g.L.Link.past c.args.link.now).objects carried
     (subst (λ ps. All (TrueProgress (g.L.Link.past c.args.link.now).objects c.args.plan.now) ps) (sym c.as_slice.ensures.value) saved))
     c.drive-driven.ensures.further standing)
-    (further_closed g.L.Link.past g.L.Link.honest g.L.Link.calm c.laws_below.ensures c.args.plan.now c.drive-driven.new.link c.close.new.link c.close.result
+    (further_closed g.L.Link.past g.L.Link.honest g.L.Link.calm c.laws_of_runs.ensures c.args.plan.now c.drive-driven.new.link c.close.new.link c.close.result
     c.close.ensures.honest c.close.ensures.calm)

@@ -21,7 +21,7 @@ returns-in_err-client-clause-known g c =
 
 pub loop-place-init : goal.loop-place-init
 loop-place-init g c =
-    running_none g.L.Link.past g.L.Link.honest g.L.Link.calm c.args.plan.now c.args.carried.now c.laws_below.ensures c.in_ok-client.client c.args.link.now c.args.runs.now c.args.end.now.runs.items
+    running_none g.L.Link.past g.L.Link.honest g.L.Link.calm c.args.plan.now c.args.carried.now c.laws_of_runs.ensures c.in_ok-client.client c.args.link.now c.args.runs.now c.args.end.now.runs.items
     c.args.end.now.saved.items c.in_ok-client.ensures.fresh c.in_ok-client.ensures.held c.requires.no_end c.requires.none_saved
 
 pub returns-in_err-one_run-clause-order : goal.returns-in_err-one_run-clause-order
@@ -60,7 +60,7 @@ returns-in_err-one_run-clause-known g c =
 pub loop-place-preserved : goal.loop-place-preserved
 loop-place-preserved g c =
     let below : c.loop-place.place < length c.args.runs.now = search rules in
-    running_more g.L.Link.past g.L.Link.honest g.L.Link.calm c.args.plan.now c.args.carried.now c.laws_below.ensures c.loop-place.client c.one_run.new.client
+    running_more g.L.Link.past g.L.Link.honest g.L.Link.calm c.args.plan.now c.args.carried.now c.laws_of_runs.ensures c.loop-place.client c.one_run.new.client
     c.args.link.now c.loop-place.link c.one_run.new.link c.args.runs.now c.loop-place.place _ c.loop-place.end c.one_run.new.end c.keys.ensures.lawful
     (slice_get-get_or c.args.runs.now c.loop-place.place _ below) c.loop-place.invariant c.one_run.ensures.keys c.one_run.ensures.suits c.one_run.ensures.stands
     c.one_run.ensures.honest
@@ -78,12 +78,12 @@ returns-clause-known g c =
 
 pub returns-in_err-client-clause-stands : goal.returns-in_err-client-clause-stands
 returns-in_err-client-clause-stands g c = λ good carried.
-    ran_nothing g.L.Link.past g.L.Link.honest g.L.Link.calm c.args.plan.now c.args.carried.now c.laws_below.ensures c.args.link.now _ c.args.end.now.runs.items
+    ran_nothing g.L.Link.past g.L.Link.honest g.L.Link.calm c.args.plan.now c.args.carried.now c.laws_of_runs.ensures c.args.link.now _ c.args.end.now.runs.items
     c.args.end.now.saved.items c.requires.no_end c.requires.none_saved good
 
 pub returns-in_err-one_run-clause-stands : goal.returns-in_err-one_run-clause-stands
 returns-in_err-one_run-clause-stands g c =
-    ran_off g.L.Link.past g.L.Link.honest g.L.Link.calm c.args.plan.now c.args.carried.now c.laws_below.ensures c.loop-place.client c.one_run.new.client c.args.link.now
+    ran_off g.L.Link.past g.L.Link.honest g.L.Link.calm c.args.plan.now c.args.carried.now c.laws_of_runs.ensures c.loop-place.client c.one_run.new.client c.args.link.now
     c.loop-place.link c.one_run.new.link c.args.runs.now c.loop-place.place _ c.loop-place.end.runs.items c.one_run.new.end.runs.items c.loop-place.end.saved.items
     c.one_run.new.end.saved.items c.keys.ensures.lawful c.one_run.ensures.keys c.loop-place.invariant c.one_run.ensures.stands
     (λ standing carried. further_if g.L.Link.past g.L.Link.honest g.L.Link.calm c.args.plan.now c.loop-place.link c.one_run.new.link _ _

@@ -1,0 +1,59 @@
+-- There was room for what was noted; and it is noted behind what was there.
+use Rattle.std.proofs.Common.{◌≡◌, ◌≤◌, ◌++◌, ◌∙◌, None, length, ap, inl, inr, refl, rules, subst, arith}
+use Rattle.kmip_session.specs.Campaign.{IsEnd}
+use Rattle.kmip_session.specs.CampaignsParts.{HasRunPart, HasRunWhole, IsReadFor}
+use Rattle.kmip_session.proofs.KnownLemmas.{always_err}
+use Rattle.kmip_session.proofs.PlanLemmas.{few_ends, few_saved, if_ok_more, read_for}
+use Rattle.kmip_session.proofs.prolonging.run_part.Goals as goal
+
+pub returns-in_err-append-clause-broken : goal.returns-in_err-append-clause-broken
+returns-in_err-append-clause-broken g c =
+    let part = c.run_all-part.result in
+    let few = few_ends (IsEnd c.args.plan.now) c.args.runs.now part.runs.items c.run_all-part.ensures.all.order in
+    absurd (omega (arith, few, part.runs.ok.0, c.in_err-append.ensures.full, c.in_ok-reserve.ensures.ok))
+
+pub returns-in_err-append-2-clause-broken : goal.returns-in_err-append-2-clause-broken
+returns-in_err-append-2-clause-broken g c =
+    let part = c.run_all-part.result in
+    let all = c.run_all-part.ensures.all in
+    let few = few_ends (IsEnd c.args.plan.now) c.args.runs.now part.runs.items all.order in
+    let saves = few_saved c.args.plan.now c.args.carried.now c.args.runs.now part.runs.items part.saved.items _ _ _ _ all.known few in
+    absurd (omega (arith, saves, part.saved.ok.0, c.in_err-append-2.ensures.full, c.in_ok-reserve-2.ensures.ok))
+
+pub returns-then-is_some-clause-broken : goal.returns-then-is_some-clause-broken
+returns-then-is_some-clause-broken g c =
+    let part = c.run_all-part.result in
+    inr (record {
+      part = part;
+      all = c.run_all-part.ensures.all;
+      runs_are = c.in_ok-append.ensures.items ∙ ap (λ ends. ends ++ part.runs.items) c.in_ok-reserve.ensures.items;
+      saved_are = c.in_ok-append-2.ensures.items ∙ ap (λ saved. saved ++ part.saved.items) c.in_ok-reserve-2.ensures.items;
+    })
+
+pub returns-clause-broken : goal.returns-clause-broken
+returns-clause-broken g c =
+    let part = c.run_all-part.result in
+    always_err c.carry_over-read.result
+    (inr (record {
+      part = part;
+      all = c.run_all-part.ensures.all;
+      runs_are = c.in_ok-append.ensures.items ∙ ap (λ ends. ends ++ part.runs.items) c.in_ok-reserve.ensures.items;
+      saved_are = c.in_ok-append-2.ensures.items ∙ ap (λ saved. saved ++ part.saved.items) c.in_ok-reserve-2.ensures.items;
+    }))
+
+pub returns-clause-ran : goal.returns-clause-ran
+returns-clause-ran g c =
+    let part = c.run_all-part.result in
+    let whole : part.fault ≡ None = search rules in
+    if_ok_more _ _ c.carry_over-read.result
+    (λ read is. record {
+      ran = record {
+        part = part;
+        all = c.run_all-part.ensures.all;
+        runs_are = c.in_ok-append.ensures.items ∙ ap (λ ends. ends ++ part.runs.items) c.in_ok-reserve.ensures.items;
+        saved_are = c.in_ok-append-2.ensures.items ∙ ap (λ saved. saved ++ part.saved.items) c.in_ok-reserve-2.ensures.items;
+      };
+      whole = whole;
+      read_is = read_for _ c.args.carried.now part.saved.items c.as_slice.result.now read.items c.as_slice.ensures.value is;
+    })
+    c.carry_over-read.ensures

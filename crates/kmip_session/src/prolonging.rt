@@ -1,0 +1,235 @@
+//! Runs on plans of which each prolongs the one before, the plans in turn.
+ghost use Rattle.std.specs.Prelude.{◌≡◌, ◌≤◌, ◌++◌, ◌⊎◌, [], length, map, None, Ok, IfOk, IfSome, OnErr, OnOk, option_map};
+ghost use Rattle.std.specs.List.{All};
+ghost use Rattle.kmip_plan.specs.Prolonging.{Prolongs};
+ghost use Rattle.kmip_progress.specs.Suiting.{Suits};
+ghost use Rattle.kmip_schedule.specs.Machine.{IsMirrored};
+ghost use Rattle.kmip_schedule.specs.Past.{is_planned};
+ghost use Rattle.kmip_schedule.specs.Safe.{Safe};
+ghost use Rattle.kmip_schedule.specs.Sound.{Opening};
+ghost use Rattle.kmip_session.specs.Campaign.{GoodLink, HasNoConflict, reported};
+ghost use Rattle.kmip_session.specs.CampaignParts.{AreSame, CampaignLaws};
+ghost use Rattle.kmip_session.specs.Campaigns.{
+  AreInTurn,
+  AreProlonged,
+  CalmStart,
+  GoodStart,
+  IsTrueFor,
+  carried_over,
+  last_plan,
+};
+ghost use Rattle.kmip_session.specs.CampaignsParts.{HasRunPart, HasRunPlans, HasRunWhole, IsReadFor, PlansLaws};
+ghost use Rattle.kmip_session.specs.Driving.{WentOn};
+
+use crate::campaigning::{CampaignEnd, Run, laws_of_runs, run_all};
+use kmip_client::laws::{progress_is_true_of_prolonged_plans, prolonged_plans_keep_the_truth};
+use kmip_plan::Plan;
+use kmip_plan::laws::{prolonged_keys_stand, prolonging_may_be_repeated};
+use kmip_progress::Progress;
+use kmip_progress::laws::texts_are_prolonged;
+use kmip_schedule::Link;
+use kmip_schedule::laws::prolonged_plans_are_sound;
+use kmip_settling::laws::room_is_left_for_prolonged_plans;
+use kmip_ttlv::NoMemory;
+use std::alloc::Global;
+
+/// Makes the lists of runs in turn, each on its plan, and ends each run over the link. Each plan
+/// prolongs the one before it, so what was done under that is a beginning of what this one wants. The
+/// first run on a plan knows nothing where it starts with `Same`. `Saved` counts what was saved under
+/// all plans; what was saved under an earlier plan is taken through its text. Want of memory ends the
+/// campaign, and keeps what was done: a run that it stopped has no end, `fault` says that it did.
+pub fn campaigns<L: Link>(
+    alloc: Global,
+    plans: &[Plan],
+    link: &mut L,
+    runs: &[Vec<Run>],
+) -> CampaignEnd
+    requires some { 1 ≤ length plans.now }
+    requires as_many { length runs.now ≡ length plans.now }
+    requires prolong { AreProlonged plans.now }
+    ensures safe { GoodStart L.past L.honest plans.now link.old
+        → Safe (last_plan plans.now) (L.past link.new)
+        (reported (last_plan plans.now) result.runs.items result.saved.items) }
+    ensures machine { GoodStart L.past L.honest plans.now link.old
+        → (Opening (last_plan plans.now) (L.past link.old)
+        → IsMirrored (last_plan plans.now) (L.past link.new))
+        × (IsMirrored (last_plan plans.now) (L.past link.old)
+        → IsMirrored (last_plan plans.now) (L.past link.new)) }
+    ensures no_conflict { GoodStart L.past L.honest plans.now link.old
+        → All HasNoConflict result.runs.items }
+    ensures sound { GoodStart L.past L.honest plans.now link.old
+        → GoodLink L.past L.honest (last_plan plans.now) link.new }
+    ensures true_saved { GoodStart L.past L.honest plans.now link.old
+        → All (IsTrueFor (L.past link.new).objects (last_plan plans.now)) result.saved.items }
+    ensures goes { GoodStart L.past L.honest plans.now link.old
+        → WentOn (last_plan plans.now) (L.past link.old) (L.past link.new) }
+    ensures in_turn { AreInTurn plans.now (map (λ list. list.items) runs.now)
+        result.runs.items result.saved.items (L.honest link.old (is_planned (last_plan plans.now)))
+        (CalmStart L.past L.calm plans.now link.old) (result.fault ≡ None)
+        (L.past link.old) (L.past link.new) }
+{
+    laws_below();
+    let mut end = CampaignEnd {
+        runs: Vec::new(alloc),
+        saved: Vec::new(alloc),
+        fault: None,
+    };
+    let fault = run_plans(alloc, plans, link, runs, &mut end).err();
+    end.fault = fault;
+    end
+}
+
+/// The laws of the crates below.
+fn laws_below()
+    ensures runs { CampaignLaws }
+    ensures plans { PlansLaws }
+{
+    laws_of_runs();
+    prolonging_may_be_repeated();
+    prolonged_keys_stand();
+    progress_is_true_of_prolonged_plans();
+    prolonged_plans_keep_the_truth();
+    prolonged_plans_are_sound();
+    room_is_left_for_prolonged_plans();
+}
+
+/// Makes the lists of runs in turn, and notes how each run ended.
+///
+/// # Errors
+/// Where there is no memory; what was done is noted.
+fn run_plans<L: Link>(
+    alloc: Global,
+    plans: &[Plan],
+    link: &mut L,
+    runs: &[Vec<Run>],
+    end: &mut CampaignEnd,
+) -> Result<(), NoMemory>
+    requires no_end { end.old.runs.items ≡ [] }
+    requires none_saved { end.old.saved.items ≡ [] }
+    requires some { 1 ≤ length plans.now }
+    requires as_many { length runs.now ≡ length plans.now }
+    requires prolong { AreProlonged plans.now }
+    ensures { HasRunPlans L.past L.honest L.calm plans.now (map (λ list. list.items) runs.now)
+        (result ≡ Ok tt) link.old link.new end.new }
+{
+    laws_below();
+    L::calm_laws();
+    plans[0].keys();
+    plans[plans.len() - 1].keys();
+    let mut carried = Vec::new(alloc);
+    for place in 0..plans.len() {
+        let plan = &plans[place];
+        plan.keys();
+        let next = plans.get(place + 1);
+        let list = runs[place].as_slice();
+        carried = run_part(alloc, plan, next, link, list, carried.as_slice(), end)?;
+    }
+    Ok(())
+}
+
+/// Makes the runs on a plan, and notes how each ended. Answers what was saved so far, as it is read
+/// for the next plan.
+///
+/// # Errors
+/// Where there is no memory; what was done is noted.
+fn run_part<L: Link>(
+    alloc: Global,
+    plan: &Plan,
+    next: Option<&Plan>,
+    link: &mut L,
+    runs: &[Run],
+    carried: &[Progress],
+    end: &mut CampaignEnd,
+) -> Result<Vec<Progress>, NoMemory>
+    requires carried { All (Suits plan.now) carried.now }
+    requires prolongs { IfSome next (λ next. Prolongs next.now plan.now) }
+    ensures ran { IfOk result (λ read. HasRunWhole L.past L.honest L.calm plan.now
+        (option_map (λ next. next.now) next.entry) carried.now runs.now link.old link.new end.old end.new
+        read.items) }
+    ensures broken { OnErr result ((AreSame end.old end.new × (link.new ≡ link.old))
+        ⊎ HasRunPart L.past L.honest L.calm plan.now carried.now runs.now link.old link.new
+        end.old end.new) }
+{
+    end.runs.reserve(runs.len())?;
+    end.saved.reserve(runs.len())?;
+    let mut part = run_all(alloc, plan, link, runs, carried);
+    let read = carry_over(alloc, plan, next, carried, part.saved.as_slice());
+    end.runs.append(&mut part.runs)?;
+    end.saved.append(&mut part.saved)?;
+    if part.fault.is_some() {
+        return Err(NoMemory);
+    }
+    read
+}
+
+/// What was saved so far, as it is read for the next plan, where there is one.
+///
+/// # Errors
+/// Where there is no memory.
+fn carry_over(
+    alloc: Global,
+    plan: &Plan,
+    next: Option<&Plan>,
+    carried: &[Progress],
+    saved: &[Progress],
+) -> Result<Vec<Progress>, NoMemory>
+    requires carried { All (Suits plan.now) carried.now }
+    requires saved { All (Suits plan.now) saved.now }
+    requires prolongs { IfSome next (λ next. Prolongs next.now plan.now) }
+    ensures { IfOk result (λ read. IsReadFor (option_map (λ next. next.now) next.entry)
+        (carried.now ++ saved.now) read.items) }
+{
+    let Some(next) = next else {
+        return Ok(Vec::new(alloc));
+    };
+    let mut read = read_each(alloc, plan, next, carried)?;
+    let mut more = read_each(alloc, plan, next, saved)?;
+    read.append(&mut more)?;
+    Ok(read)
+}
+
+/// What was saved under a plan, as it is read for one that prolongs it.
+///
+/// # Errors
+/// Where there is no memory.
+fn read_each(
+    alloc: Global,
+    plan: &Plan,
+    next: &Plan,
+    saved: &[Progress],
+) -> Result<Vec<Progress>, NoMemory>
+    requires suits { All (Suits plan.now) saved.now }
+    requires prolongs { Prolongs next.now plan.now }
+    ensures read { IfOk result (λ read. read.items ≡ map (carried_over next.now) saved.now) }
+    ensures suits { IfOk result (λ read. All (Suits next.now) read.items) }
+{
+    let mut read = Vec::with_capacity(alloc, saved.len())?;
+    for progress in saved {
+        read.push(read_over(alloc, plan, next, progress)?)?;
+    }
+    Ok(read)
+}
+
+/// What was saved under a plan, through its text, as it is read for one that prolongs it.
+///
+/// # Errors
+/// Where there is no memory.
+fn read_over(
+    alloc: Global,
+    plan: &Plan,
+    next: &Plan,
+    progress: &Progress,
+) -> Result<Progress, NoMemory>
+    requires suits { Suits plan.now progress.now }
+    requires prolongs { Prolongs next.now plan.now }
+    ensures read { IfOk result (λ read. read ≡ carried_over next.now progress.now) }
+    ensures suits { IfOk result (λ read. Suits next.now read) }
+{
+    texts_are_prolonged();
+    plan.keys();
+    let text = progress.write_text(alloc, plan)?;
+    match Progress::read_text(alloc, next, text.as_str()) {
+        Ok(read) => Ok(read),
+        Err(_) => Err(NoMemory), // the text is one that is read for this plan
+    }
+}
