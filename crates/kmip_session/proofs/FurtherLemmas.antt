@@ -16,7 +16,7 @@ use Rattle.kmip_schedule.specs.Past.{AreAmong, Names, Past, is_planned}
 use Rattle.kmip_schedule.specs.Sound.{Sound}
 use Rattle.kmip_schedule.specs.declared.link.LinkFault.{LinkFault}
 use Rattle.kmip_settling.specs.Needs.{missing}
-use Rattle.kmip_session.specs.Campaign.{CalmLink, GoodLink}
+use Rattle.kmip_session.specs.Campaign.{GoodLink}
 use Rattle.kmip_session.specs.CampaignParts.{CampaignLaws}
 use Rattle.kmip_session.specs.Driving.{IsGood, KeepsFurther, WentOn}
 use Rattle.kmip_session.specs.Lawbook.{Lawbook}

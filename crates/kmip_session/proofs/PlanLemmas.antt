@@ -1,5 +1,5 @@
 -- What holds between the runs on two plans.
-use Rattle.std.proofs.Common.{◌≡◌, ◌≤◌, ◌⊎◌, ℕ, zero, suc, List, [], ◌∷◌, ◌++◌, ◌+◌, drop, flat_map, length, map, take, slice_get, get_or, is_some, true, Some, None, Ok, Err, Option, option_map, IfOk, IfSome, IsTrue, Result, refl, sym, ap, subst, ◌∙◌, inl, inr, append_assoc, append-nil, arith}
+use Rattle.std.proofs.Common.{◌≡◌, ◌≤◌, ℕ, zero, suc, List, [], ◌∷◌, ◌++◌, ◌+◌, drop, flat_map, length, map, take, slice_get, get_or, is_some, true, Some, None, Ok, Err, Option, option_map, IfOk, IfSome, IsTrue, Result, refl, sym, ap, subst, ◌∙◌, inl, inr, append-nil, arith}
 use Rattle.std.specs.Prelude.{⊤}
 use Rattle.std.specs.List.{All, AllZip}
 use Rattle.std.proofs.Math.Dec.{ltb}
@@ -22,7 +22,7 @@ use Rattle.kmip_client.specs.Saving.{known_of}
 use Rattle.kmip_client.specs.declared.knowledge.Knowledge.{Knowledge}
 use Rattle.kmip_schedule.specs.Past.{AreAmong, Names, Past, is_planned}
 use Rattle.kmip_schedule.specs.Sound.{Sound}
-use Rattle.kmip_session.specs.Campaign.{CalmLink, GoodLink, IsEnd}
+use Rattle.kmip_session.specs.Campaign.{CalmLink, GoodLink}
 use Rattle.kmip_session.specs.CampaignParts.{AreSame, CampaignLaws, HasRunAll}
 use Rattle.kmip_session.specs.Campaigns.{AreInTurn, AreParts, AreProlonged, CalmStart, GoodStart, IsPart, IsTrueFor, Part, carried_over, first_plan, last_plan, part_ends, part_saved}
 use Rattle.kmip_session.specs.CampaignsParts.{HasRunPart, HasRunPlans, HasRunWhole, IsGoodFor, IsReadFor, PlansLaws}
@@ -34,7 +34,7 @@ use Rattle.kmip_session.proofs.CampaignLemmas.{true_onward}
 use Rattle.kmip_session.proofs.LastLemmas.{noted_for_both, noted_for_none, noted_for_onward, noted_over, true_over}
 use Rattle.kmip_session.proofs.RememberLemmas.{flat_push}
 use Rattle.kmip_session.proofs.RunLemmas.{known_if}
-use Rattle.kmip_session.proofs.PartLemmas.{first_is, last_is, last_prolongs, next_prolongs, part_if, parts_all, parts_broken, parts_if, parts_more, take_none}
+use Rattle.kmip_session.proofs.PartLemmas.{first_is, last_prolongs, next_prolongs, parts_all, parts_broken, parts_if, parts_more, take_none}
 
 -- ---- what was saved, read for the next plan
 

@@ -1,7 +1,7 @@
 -- Runs on plans of which each prolongs the one before, the plans in turn.
 -- Source: own.
-use Rattle.std.specs.Prelude.{◌≡◌, ◌≢◌, ◌⊎◌, ◌≤◌, ℕ, ⊤, List, [], ◌∷◌, ◌++◌, ◌+◌, drop, filter, flat_map, length, map, take}
-use Rattle.std.specs.List.{All, AllZip}
+use Rattle.std.specs.Prelude.{◌≡◌, ◌≢◌, ◌⊎◌, ◌≤◌, ⊤, List, [], ◌∷◌, ◌++◌, ◌+◌, drop, filter, flat_map, length, map, take}
+use Rattle.std.specs.List.{AllZip}
 use Rattle.kmip_messages.specs.Objects.{Object}
 use Rattle.kmip_plan.specs.Prolonging.{Prolongs}
 use Rattle.kmip_plan.specs.declared.key.Key.{Key}

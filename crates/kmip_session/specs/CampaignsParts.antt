@@ -1,6 +1,6 @@
 -- Private: what the parts of a campaign on several plans keep.
 -- Source: own.
-use Rattle.std.specs.Prelude.{◌≡◌, ◌≤◌, ⊤, ℕ, List, ◌++◌, flat_map, length, map, None, Option, IfSome}
+use Rattle.std.specs.Prelude.{◌≡◌, List, ◌++◌, flat_map, map, None, Option, IfSome}
 use Rattle.std.specs.List.{All}
 use Rattle.kmip_plan.specs.Laws.{NewPlansAreNoShorter, PlansProlongAgain, PlansProlongThemselves}
 use Rattle.kmip_plan.specs.declared.key.Key.{Key}

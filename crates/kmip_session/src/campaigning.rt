@@ -246,7 +246,14 @@ fn one_run<'p, L: Link>(
 {
     laws_of_runs();
     plan.keys();
-    begin(alloc, plan, client, carried, end.saved.as_slice(), run.start)?;
+    begin(
+        alloc,
+        plan,
+        client,
+        carried,
+        end.saved.as_slice(),
+        run.start,
+    )?;
     let driven = drive(alloc, client, link, run.limit);
     finish(alloc, client, run, driven, end)?;
     close(alloc, link)

@@ -1,5 +1,5 @@
 -- All that is reported was reached, so what is sound for the last plan is safe.
-use Rattle.std.proofs.Common.{◌≡◌, flat_map, map, None, Ok, rules}
+use Rattle.std.proofs.Common.{flat_map, map}
 use Rattle.std.proofs.lemmas.List.Elements.{All-append}
 use Rattle.kmip_schedule.specs.Laws.{IsReached}
 use Rattle.kmip_session.specs.Campaign.{reported, reported_by}

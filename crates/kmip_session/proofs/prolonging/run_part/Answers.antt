@@ -1,7 +1,6 @@
 -- There was room for what was noted; and it is noted behind what was there.
-use Rattle.std.proofs.Common.{◌≡◌, ◌≤◌, ◌++◌, ◌∙◌, None, length, ap, inl, inr, refl, rules, subst, arith}
+use Rattle.std.proofs.Common.{◌≡◌, ◌++◌, ◌∙◌, None, ap, inr, rules, arith}
 use Rattle.kmip_session.specs.Campaign.{IsEnd}
-use Rattle.kmip_session.specs.CampaignsParts.{HasRunPart, HasRunWhole, IsReadFor}
 use Rattle.kmip_session.proofs.KnownLemmas.{always_err}
 use Rattle.kmip_session.proofs.PlanLemmas.{few_ends, few_saved, if_ok_more, read_for}
 use Rattle.kmip_session.proofs.prolonging.run_part.Goals as goal

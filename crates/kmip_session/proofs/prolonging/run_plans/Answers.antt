@@ -1,11 +1,11 @@
 -- Plan by plan.
-use Rattle.std.proofs.Common.{◌≡◌, ◌<◌, ◌≤◌, ◌+◌, ◌-◌, Some, Ok, length, map, suc, slice_get, option_map, refl, ap, rules, subst, sym, ◌∙◌, inl, inr, arith}
+use Rattle.std.proofs.Common.{◌≡◌, ◌<◌, ◌+◌, ◌-◌, Some, Ok, length, map, suc, slice_get, option_map, refl, ap, rules, subst, sym, ◌∙◌, inl, inr, arith}
 use Rattle.std.specs.List.{All}
 use Rattle.std.proofs.lemmas.List.{length-map}
 use Rattle.std.proofs.lemmas.Option.{slice_get_read}
 use Rattle.kmip_plan.specs.Plans.{IsLawful}
 use Rattle.kmip_progress.specs.Suiting.{Suits}
-use Rattle.kmip_session.specs.Campaigns.{first_plan, last_plan}
+use Rattle.kmip_session.specs.Campaigns.{last_plan}
 use Rattle.kmip_session.specs.CampaignsParts.{HasRunPart, HasRunWhole}
 use Rattle.kmip_session.proofs.PartLemmas.{first_is, last_is}
 use Rattle.kmip_session.proofs.PlanLemmas.{Turning, if_next, list_at, lookup_is, plans_all, plans_broken, plans_left, turned, turning_more, turning_none}
