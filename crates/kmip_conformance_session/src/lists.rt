@@ -76,7 +76,8 @@ fn makes_one_list_without_prolong(rt: HostRuntime) -> Result<(), Fail> {
     assert_eq!(rt; script.prolongings(), 0);
     let runs = script.runs(rt.alloc(), &plan)?;
     let told = told_of(rt.alloc(), runs.as_slice())?;
-    assert_eq!(rt; told.as_slice(), &[(Fresh, 1, true), (Same, 1 + 4, false)]);
+    let expected = [(Fresh, 1, true), (Same, 1 + 4, false)];
+    assert_eq!(rt; told.as_slice(), expected.as_slice());
     Ok(())
 }
 

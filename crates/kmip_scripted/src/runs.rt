@@ -102,12 +102,7 @@ fn count_saved(runs: &[Run]) -> usize
 ///
 /// # Errors
 /// Where there is no memory for them.
-fn runs_from(
-    alloc: Global,
-    words: &[Word],
-    start: Start,
-    more: usize,
-) -> Result<Vec<Run>, NoMemory>
+fn runs_from(alloc: Global, words: &[Word], start: Start, more: usize) -> Result<Vec<Run>, NoMemory>
     requires small { more ≤ 6 * most_keys }
     ensures { IfOk result (λ runs. runs.items ≡ runs_from more false start words.now) }
 {
