@@ -9,6 +9,8 @@ mod failures;
 #[cfg(test)]
 mod faulty;
 #[cfg(test)]
+mod lists;
+#[cfg(test)]
 mod rows;
 #[cfg(test)]
 mod scripts;

@@ -1,6 +1,8 @@
 //! Scripts as texts: those that are read, and the line of the first fault in the others.
 
-use kmip_scripted::Word::{self, Again, Cut, LoseReply, LoseRequest, Pass, Restart, Save, Stale};
+use kmip_scripted::Word::{
+    self, Again, Cut, LoseReply, LoseRequest, Pass, Prolong, Restart, Save, Stale,
+};
 use kmip_scripted::{ScriptFault, read_script};
 use std::alloc::{AllocError, Global};
 use std::test::Fail;
@@ -12,8 +14,8 @@ const ROWS: [Row; 8] = [
     Row("", &[]),
     Row("\n\n", &[]),
     Row(
-        "pass\nlose-request\nlose-reply\nsave\n",
-        &[Pass, LoseRequest, LoseReply, Save],
+        "pass\nlose-request\nlose-reply\nsave\nprolong\n",
+        &[Pass, LoseRequest, LoseReply, Save, Prolong],
     ),
     Row(
         "cut 0\ncut 999999\nstale 1\nagain 23\n",
@@ -55,7 +57,7 @@ const LINES: [&str; 46] = [
     "none",
     "7",
     "prolong a",
-    "prolong",
+    "prolong 1",
     "again",
     "stale",
     "cut",

@@ -55,7 +55,7 @@ fn start_of(number: Option<usize>) -> Start {
     }
 }
 
-/// The runs of a script. A run may make as many exchanges as it has words of one, and the last run
+/// The runs of a script, as one list. A run may make as many exchanges as it has words of one, and the last run
 /// as many more as its plan takes at most. What has no word before its `restart` is no run.
 pub fn runs_of(alloc: Global, plan: &Plan, words: &[Word]) -> Result<Vec<Run>, AllocError> {
     let mut runs = Vec::new(alloc);
@@ -63,7 +63,7 @@ pub fn runs_of(alloc: Global, plan: &Plan, words: &[Word]) -> Result<Vec<Run>, A
     let mut is_begun = false;
     for word in words {
         match *word {
-            Word::Save => {
+            Word::Save | Word::Prolong => {
                 run.save = true;
                 runs.push(run)?;
                 run = run_from(Start::Same);

@@ -16,7 +16,9 @@ fn a_thousand_keys_and_ten_thousand_words(rt: HostRuntime) -> Result<(), Fail> {
     for _ in 0..10_000 {
         words.push(random_message_word(&mut rng))?;
     }
-    let simulation = simulate(alloc, &plan, Script::new(words))?;
+    let script = Script::new(words);
+    assert_eq!(rt; script.prolongings(), 0);
+    let simulation = simulate(alloc, &plan, script)?;
     assert_eq!(rt; simulation.end.runs.len(), 1);
     assert!(rt; simulation.is_finished());
     check_at_targets(&rt, &plan, simulation.link.server().records())
@@ -37,7 +39,9 @@ fn fifty_runs_from_nothing_from_before_and_from_saves(rt: HostRuntime) -> Result
             _ => words.push(Word::Restart(Some(number / 3)))?,
         }
     }
-    let simulation = simulate(alloc, &plan, Script::new(words))?;
+    let script = Script::new(words);
+    assert_eq!(rt; script.prolongings(), 0);
+    let simulation = simulate(alloc, &plan, script)?;
     assert_eq!(rt; simulation.end.runs.len(), 50);
     assert_eq!(rt; simulation.end.saved.len(), 17);
     assert!(rt; simulation.is_finished());

@@ -55,6 +55,7 @@ fn try_scripts(rt: &impl Abort, alloc: Global, seed: u8) -> Result<(), Fail> {
     for number in 0..500 {
         let plan = plans.get(number % PLANS).ok_or("no such plan")?;
         let script = random_script(alloc, &mut rng)?;
+        assert_eq!(rt; script.prolongings(), 0);
         let simulation = simulate(alloc, plan, script)?;
         assert_eq!(rt; simulation.end.fault, None);
         assert!(rt; simulation.is_finished());

@@ -10,7 +10,7 @@ use Rattle.kmip_schedule.specs.Exchanges.{AreGiven, HandsOver, with_asked}
 use Rattle.kmip_schedule.specs.Moves.{Delivered}
 use Rattle.kmip_schedule.specs.Past.{Names}
 use Rattle.kmip_scripted.specs.declared.script.Word.{Word}
-use Rattle.kmip_scripted.specs.declared.script.Word.TheVariants.{Pass, LoseRequest, LoseReply, Cut, Stale, Again, Save, Restart}
+use Rattle.kmip_scripted.specs.declared.script.Word.TheVariants.{Pass, LoseRequest, LoseReply, Cut, Stale, Again, Save, Prolong, Restart}
 use Rattle.kmip_scripted.specs.Scenes.{Scene, WasAsked, past_in}
 use Rattle.kmip_scripted.specs.Words.{AreBegun, IsBegun, after_words, before_play, exchange, exchange_word, message_at, play, played, with_request, with_words, words_after_exchange}
 use Rattle.kmip_scripted.proofs.WordLemmas.{said_by_number}
@@ -52,6 +52,7 @@ play_given (Cut size) request s = tt
 play_given (Stale number) request s = stale_given number s (message_at number s.given) refl
 play_given (Again number) request s = last_is_said replies_in s.given (reply_bytes s.stock request (pos 0))
 play_given Save request s = last_is_said replies_in s.given (reply_bytes s.stock request (pos 0))
+play_given Prolong request s = last_is_said replies_in s.given (reply_bytes s.stock request (pos 0))
 play_given (Restart start) request s = last_is_said replies_in s.given (reply_bytes s.stock request (pos 0))
 
 abbrev pub handed : List ℕ → Word → Option (List ℕ) → Scene → Scene

@@ -4,3 +4,4 @@ pub mod WordLemmas
 pub mod FollowLemmas
 pub mod RunsLemmas
 pub mod SplitLemmas
+pub mod PartLemmas

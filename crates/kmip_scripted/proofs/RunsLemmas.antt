@@ -1,14 +1,12 @@
 -- The runs of a script, word by word.
 use Rattle.std.proofs.Common.{◌≡◌, ◌≤◌, ◌<◌, ◌+◌, ℕ, Bool, true, false, List, [], ◌∷◌, ◌++◌, drop, length, get_or, Option, refl, sym, ap, subst, ◌∙◌, arith, append_assoc}
 use Rattle.std.proofs.lemmas.List.{drop_more, drop_all}
-use Rattle.kmip_plan.specs.Chains.{bound}
-use Rattle.kmip_plan.specs.declared.key.Key.{Key}
 use Rattle.kmip_session.specs.declared.campaigning.Run.{Run}
-use Rattle.kmip_session.specs.declared.campaigning.Start.TheVariants.{Fresh}
+use Rattle.kmip_session.specs.declared.campaigning.Start.{Start}
 use Rattle.kmip_scripted.specs.declared.runs.Part.{Part}
 use Rattle.kmip_scripted.specs.declared.script.Word.{Word}
 use Rattle.kmip_scripted.specs.declared.script.Word.TheVariants.{Restart}
-use Rattle.kmip_scripted.specs.Runs.{grown, left_of, runs_from, runs_of, start_at}
+use Rattle.kmip_scripted.specs.Runs.{grown, left_of, runs_from, start_at}
 
 -- no exchange more
 pub grown_none : (runs : List Run) → grown 0 runs ≡ runs
@@ -57,24 +55,25 @@ not_ended part word next old new after word_is after_is is none same =
     (λ more rest. ap (λ runs. runs ++ runs_from more false (start_at next) rest) same ∙ not_ended_at more part next rest old is none) word after word_is after_is
 
 -- The runs that the words before a place have ended, and the one that the word there is of.
-pub record AreTaken (words : List Word) (place : ℕ) (part : Part) (runs : List Run) : Type 0 where
-  pub same : (more : ℕ) → runs ++ left_of more part (drop place words) ≡ runs_from more false Fresh words
+pub record AreTaken (start : Start) (words : List Word) (place : ℕ) (part : Part) (runs : List Run) : Type 0 where
+  pub same : (more : ℕ) → runs ++ left_of more part (drop place words) ≡ runs_from more false start words
   pub small : part.limit ≤ place
   pub idle : part.begun ≡ false → part.limit ≡ 0
 
-pub none_taken : (words : List Word) (part : Part) → part ≡ record { start = Fresh; limit = 0; begun = false } → AreTaken words 0 part []
-none_taken words part is =
-    subst (λ p. AreTaken words 0 p []) (sym is) (record {
-      same = λ more. grown_none (runs_from more false Fresh words);
+pub none_taken : (start : Start) (words : List Word) (part : Part) → part ≡ record { start = start; limit = 0; begun = false }
+    → AreTaken start words 0 part []
+none_taken start words part is =
+    subst (λ p. AreTaken start words 0 p []) (sym is) (record {
+      same = λ more. grown_none (runs_from more false start words);
       small = omega arith;
       idle = λ e. refl;
     })
 
-pub one_taken : (words given : List Word) (place : ℕ) (word : Word) (old new : Part) (runs runs' : List Run) → given ≡ words → place < length words
-    → AreTaken words place old runs → new.limit ≤ old.limit + 1 → (new.begun ≡ false → new.limit ≡ 0)
+pub one_taken : (start : Start) (words given : List Word) (place : ℕ) (word : Word) (old new : Part) (runs runs' : List Run) → given ≡ words
+    → place < length words → AreTaken start words place old runs → new.limit ≤ old.limit + 1 → (new.begun ≡ false → new.limit ≡ 0)
     → ((more : ℕ) (rest : List Word) → runs' ++ left_of more new rest ≡ runs ++ left_of more old (get_or given place word ∷ rest))
-    → AreTaken words (place + 1) new runs'
-one_taken words given place word old new runs runs' are below so_far limit idle same = record {
+    → AreTaken start words (place + 1) new runs'
+one_taken start words given place word old new runs runs' are below so_far limit idle same = record {
   same = λ more.
       same more (drop (place + 1) words)
       ∙ ap (λ ws. runs ++ left_of more old (get_or ws place word ∷ drop (place + 1) words)) are
@@ -84,12 +83,11 @@ one_taken words given place word old new runs runs' are below so_far limit idle 
   idle = idle;
 }
 
-pub all_taken : (keys : List Key) (words : List Word) (place : ℕ) (part : Part) (more : ℕ) (run : Run) (runs new : List Run) → length words ≤ place
-    → AreTaken words place part runs → more ≡ bound keys → run ≡ record { start = part.start; limit = part.limit + more; save = false }
-    → new ≡ runs ++ run ∷ [] → new ≡ runs_of keys words
-all_taken keys words place part more run runs new past taken more_is is joined =
+pub all_taken : (start : Start) (words : List Word) (place : ℕ) (part : Part) (more : ℕ) (run : Run) (runs new : List Run) → length words ≤ place
+    → AreTaken start words place part runs → run ≡ record { start = part.start; limit = part.limit + more; save = false }
+    → new ≡ runs ++ run ∷ [] → new ≡ runs_from more false start words
+all_taken start words place part more run runs new past taken is joined =
     joined
     ∙ ap (λ last. runs ++ last ∷ []) is
     ∙ ap (λ left. runs ++ left_of more part left) (sym (drop_all place words past))
     ∙ taken.same more
-    ∙ ap (λ n. runs_from n false Fresh words) more_is

@@ -5,7 +5,7 @@ use Rattle.kmip_session.specs.declared.campaigning.Run.{Run}
 use Rattle.kmip_session.specs.declared.campaigning.Start.{Start}
 use Rattle.kmip_session.specs.declared.campaigning.Start.TheVariants.{Same}
 use Rattle.kmip_scripted.specs.declared.script.Word.{Word}
-use Rattle.kmip_scripted.specs.declared.script.Word.TheVariants.{Pass, LoseRequest, LoseReply, Cut, Stale, Again, Save, Restart}
+use Rattle.kmip_scripted.specs.declared.script.Word.TheVariants.{Pass, LoseRequest, LoseReply, Cut, Stale, Again, Save, Prolong, Restart}
 use Rattle.kmip_scripted.specs.Laws.{EndsStay, HeadsMakeNoRun, RunsGoOn}
 use Rattle.kmip_scripted.specs.Runs.{runs_from, start_at, with_word}
 use Rattle.kmip_scripted.specs.Scenes.{Scene}
@@ -22,6 +22,7 @@ heads more start (Cut size ∷ words) = (start, refl)
 heads more start (Stale number ∷ words) = (start, refl)
 heads more start (Again number ∷ words) = (start, refl)
 heads more start (Save ∷ words) = (start, refl)
+heads more start (Prolong ∷ words) = (start, refl)
 heads more start (Restart next ∷ words) = heads more (start_at next) words
 
 -- the words from the first on that does not go on; at the end of a run, from the one that ends it on
@@ -54,6 +55,7 @@ others more start (Cut size ∷ words) ends = one_more more start (Cut size) wor
 others more start (Stale number ∷ words) ends = one_more more start (Stale number) words (others more start words ends)
 others more start (Again number ∷ words) ends = one_more more start (Again number) words (others more start words ends)
 others more start (Save ∷ words) ends = heads more Same words
+others more start (Prolong ∷ words) ends = heads more Same words
 others more start (Restart next ∷ words) ends = heads more (start_at next) words
 
 -- the same from the first word of the run on, which is no `restart`
@@ -67,6 +69,7 @@ first_others more start (Cut size ∷ words) ends = one_more more start (Cut siz
 first_others more start (Stale number ∷ words) ends = one_more more start (Stale number) words (others more start words ends)
 first_others more start (Again number ∷ words) ends = one_more more start (Again number) words (others more start words ends)
 first_others more start (Save ∷ words) ends = heads more Same words
+first_others more start (Prolong ∷ words) ends = heads more Same words
 first_others more start (Restart next ∷ words) ends = first_others more start words ends
 
 -- the words that are done leave them
@@ -103,6 +106,7 @@ same_end (Cut size ∷ words) = refl
 same_end (Stale number ∷ words) = refl
 same_end (Again number ∷ words) = same_end words
 same_end (Save ∷ words) = refl
+same_end (Prolong ∷ words) = refl
 same_end (Restart next ∷ words) = refl
 
 served_or_not : (b : Bool) (request : List ℕ) (s : Scene) → (if b then with_served request s else s).words ≡ s.words
@@ -117,6 +121,7 @@ played_words (Cut size) request s = served_or_not (nat_le (length request) size)
 played_words (Stale number) request s = refl
 played_words (Again number) request s = refl
 played_words Save request s = refl
+played_words Prolong request s = refl
 played_words (Restart next) request s = refl
 
 exchange_left : (request : List ℕ) (s : Scene) → (exchange request s).1.words ≡ words_after_exchange (left false s.words)

@@ -6,7 +6,7 @@ use Rattle.std.proofs.lemmas.List.Elements.{All-contains_itself, All-weaker, Con
 use Rattle.std.proofs.lemmas.Option.{same_Some}
 use Rattle.kmip_messages.specs.Items.{requests_in}
 use Rattle.kmip_scripted.specs.declared.script.Word.{Word}
-use Rattle.kmip_scripted.specs.declared.script.Word.TheVariants.{Pass, LoseRequest, LoseReply, Cut, Stale, Again, Save, Restart}
+use Rattle.kmip_scripted.specs.declared.script.Word.TheVariants.{Pass, LoseRequest, LoseReply, Cut, Stale, Again, Save, Prolong, Restart}
 use Rattle.kmip_scripted.specs.Scenes.{Scene, WasAsked}
 use Rattle.kmip_scripted.specs.Words.{AreBegun, HasStopped, StepsOn, after_word, after_words, first_of, goes_on, is_restart, message_at, next_words, with_delivered, with_words}
 
@@ -79,6 +79,7 @@ words_kept (Again number) s = delivered_words (message_at number s.asked) s wher
   delivered_words None s = refl
   delivered_words (Some message) s = refl
 words_kept Save s = refl
+words_kept Prolong s = refl
 words_kept (Restart start) s = refl
 
 pub taken_after : (word : Word) (s mid new : Scene) → mid ≡ after_word word s → new ≡ with_words (drop 1 mid.words) mid

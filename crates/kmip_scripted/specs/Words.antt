@@ -1,11 +1,11 @@
 -- What each word of a script does, and so what an exchange and the end of a run do, word by word.
 -- Source: own.
-use Rattle.std.specs.Prelude.{◌≡◌, ◌⊎◌, ◌==◌, ◌-◌, ◌<◌, ℕ, nat_le, pos, Bool, true, false, not, ◌&&◌, List, [], ◌∷◌, ◌++◌, length, Option, Some, None, if◌then◌else◌}
+use Rattle.std.specs.Prelude.{◌≡◌, ◌⊎◌, ◌==◌, ◌-◌, ◌<◌, ℕ, nat_le, pos, Bool, true, false, not, ◌&&◌, List, [], ◌∷◌, ◌++◌, filter, length, Option, Some, None, if◌then◌else◌}
 use Rattle.std.specs.List.{slice_get}
 use Rattle.std.specs.Option.{option_flatten}
 use Rattle.kmip_server.specs.Serving.{reply_bytes}
 use Rattle.kmip_scripted.specs.declared.script.Word.{Word}
-use Rattle.kmip_scripted.specs.declared.script.Word.TheVariants.{Pass, LoseRequest, LoseReply, Cut, Stale, Again, Save, Restart}
+use Rattle.kmip_scripted.specs.declared.script.Word.TheVariants.{Pass, LoseRequest, LoseReply, Cut, Stale, Again, Save, Prolong, Restart}
 use Rattle.kmip_scripted.specs.Scenes.{Scene}
 use Rattle.kmip_scripted.specs.Serving.{with_served}
 
@@ -22,8 +22,18 @@ is_restart word = false
 -- the word ends a run
 abbrev pub ends_run : Word → Bool
 ends_run Save = true
+ends_run Prolong = true
 ends_run (Restart start) = true
 ends_run word = false
+
+-- the word ends the runs of a plan, and those after it are of a further one
+abbrev pub is_prolong : Word → Bool
+is_prolong Prolong = true
+is_prolong word = false
+
+-- how many words `prolong` there are
+abbrev pub prolongings : List Word → ℕ
+prolongings words = length (filter is_prolong words)
 
 -- the word is of an exchange
 abbrev pub is_exchange : Word → Bool

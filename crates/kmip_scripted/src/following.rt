@@ -48,7 +48,8 @@ impl<S: Records> Scripted<S> {
         match word {
             Word::Again(number) => self.repeat(alloc, number),
             Word::Pass | Word::LoseRequest | Word::LoseReply => Ok(()),
-            Word::Cut(_) | Word::Stale(_) | Word::Save | Word::Restart(_) => Ok(()),
+            Word::Cut(_) | Word::Stale(_) => Ok(()),
+            Word::Save | Word::Prolong | Word::Restart(_) => Ok(()),
         }
     }
 
@@ -118,7 +119,7 @@ impl<S: Records> Scripted<S> {
                 Ok(None)
             }
             Word::Stale(number) => self.copied_reply(alloc, number),
-            Word::Pass | Word::Again(_) | Word::Save | Word::Restart(_) => {
+            Word::Pass | Word::Again(_) | Word::Save | Word::Prolong | Word::Restart(_) => {
                 self.pass(alloc, request)
             }
         }

@@ -55,6 +55,7 @@ fn plain_word(word: &str) -> Option<Word> {
         "lose-request" => Some(Word::LoseRequest),
         "lose-reply" => Some(Word::LoseReply),
         "save" => Some(Word::Save),
+        "prolong" => Some(Word::Prolong),
         _ => None,
     }
 }

@@ -1,9 +1,15 @@
 //! The runs that a script makes.
-ghost use Rattle.std.specs.Prelude.{◌≡◌, ◌≤◌, ◌<◌, ◌+◌, ◌++◌, [], ◌∷◌, List, ℕ, false, OnOk, IfOk};
-ghost use Rattle.kmip_scripted.specs.Runs.{left_of, runs_of, start_at};
+ghost use Rattle.std.specs.Prelude.{◌≡◌, ◌≤◌, ◌<◌, ◌+◌, ◌*◌, ◌++◌, [], ◌∷◌, List, ℕ, false, filter, length, map, OnOk, IfOk};
+ghost use Rattle.std.specs.List.{position};
+ghost use Rattle.kmip_plan.specs.Limits.{most_keys};
+ghost use Rattle.kmip_session.specs.Campaign.{saves};
+ghost use Rattle.kmip_session.specs.declared.campaigning.Start.TheVariants.{Fresh};
+ghost use Rattle.kmip_scripted.specs.Runs.{left_of, lists_of, runs_from, runs_of, start_at, with_last_saved, words_before, words_behind};
+ghost use Rattle.kmip_scripted.specs.Words.{is_prolong, prolongings};
 ghost use Rattle.kmip_scripted.specs.declared.script.Word.{Word as WordLem};
 
 use crate::script::{Script, Word};
+use crate::words::is_prolong;
 use kmip_plan::{Plan, bound};
 use kmip_session::{Run, Start};
 use kmip_ttlv::NoMemory;
@@ -19,17 +25,95 @@ impl Script {
     /// # Errors
     /// Where there is no memory for them.
     pub fn runs(&self, alloc: Global, plan: &Plan) -> Result<Vec<Run>, NoMemory>
+        requires none { prolongings self.now ≡ 0 }
         ensures { IfOk result (λ runs. runs.items ≡ runs_of plan.now self.now) }
     {
-        let mut runs = Vec::new(alloc);
-        let mut part = Part::new(Start::Fresh);
-        for word in self.words() {
-            part = take(*word, part, &mut runs)?;
-        }
-        part.limit += bound(plan);
-        runs.push(part.run(false))?;
-        Ok(runs)
+        runs_from(alloc, self.words(), Start::Fresh, bound(plan))
     }
+
+    /// The same for two plans, of which the first goes up to `prolong`: the runs before it and those
+    /// behind it, which are for the given plan. `prolong` ends a run that is saved, and the first
+    /// run of the further plan starts from that save. The last run of the first plan may make no
+    /// exchange more than it has words for, and the last of the further one as many more as the
+    /// bound of its plan.
+    ///
+    /// # Errors
+    /// Where there is no memory for them.
+    pub fn lists(&self, alloc: Global, plan: &Plan) -> Result<Vec<Vec<Run>>, NoMemory>
+        requires one { prolongings self.now ≡ 1 }
+        ensures { IfOk result (λ lists.
+            map (λ runs. runs.items) lists.items ≡ lists_of plan.now self.now) }
+    {
+        let (first, further) = parts(self.words());
+        let before = runs_before(alloc, first)?;
+        let start = Start::Saved(count_saved(before.as_slice()));
+        let behind = runs_from(alloc, further, start, bound(plan))?;
+        let mut lists = Vec::with_capacity(alloc, 2)?;
+        lists.push(before)?;
+        lists.push(behind)?;
+        Ok(lists)
+    }
+}
+
+/// The words before the first `prolong`, and those behind it.
+fn parts(words: &[Word]) -> (&[Word], &[Word])
+    ensures before { result.0.now ≡ words_before words.now }
+    ensures behind { result.1.now ≡ words_behind words.now }
+{
+    let Some(place) = prolong_place(words) else {
+        return (words, &[]);
+    };
+    let (before, _) = words.split_at(place);
+    let (_, behind) = words.split_at(place + 1);
+    (before, behind)
+}
+
+/// Where the first `prolong` stands.
+fn prolong_place(words: &[Word]) -> Option<usize>
+    ensures { result ≡ position is_prolong words.now }
+{
+    words.iter().position(|word| is_prolong(*word))
+}
+
+/// The runs of the words before `prolong`, of which the last is saved.
+///
+/// # Errors
+/// Where there is no memory for them.
+fn runs_before(alloc: Global, words: &[Word]) -> Result<Vec<Run>, NoMemory>
+    ensures { IfOk result (λ runs.
+        runs.items ≡ with_last_saved (runs_from 0 false Fresh words.now)) }
+{
+    let mut runs = runs_from(alloc, words, Start::Fresh, 0)?;
+    if let Some(last) = runs.pop() {
+        runs.push(Run { save: true, ..last })?;
+    }
+    Ok(runs)
+}
+
+/// How many of the runs are saved.
+fn count_saved(runs: &[Run]) -> usize
+    ensures { result ≡ length (filter saves runs.now) }
+{
+    runs.iter().filter(|run| run.save).count()
+}
+
+/// The runs of words, of which the first begins with `start`, and the last, which no word ends, may
+/// make so many exchanges more than it has words for.
+///
+/// # Errors
+/// Where there is no memory for them.
+fn runs_from(alloc: Global, words: &[Word], start: Start, more: usize) -> Result<Vec<Run>, NoMemory>
+    requires small { more ≤ 6 * most_keys }
+    ensures { IfOk result (λ runs. runs.items ≡ runs_from more false start words.now) }
+{
+    let mut runs = Vec::new(alloc);
+    let mut part = Part::new(start);
+    for word in words {
+        part = take(*word, part, &mut runs)?;
+    }
+    part.limit += more;
+    runs.push(part.run(false))?;
+    Ok(runs)
 }
 
 /// The run whose words are taken: what it begins with, the exchanges that it has words for so far,
@@ -89,7 +173,7 @@ fn take(word: Word, part: Part, runs: &mut Vec<Run>) -> Result<Part, NoMemory>
         ≡ runs.old.items ++ left_of more part (word ∷ rest)) }
 {
     match word {
-        Word::Save => {
+        Word::Save | Word::Prolong => {
             runs.push(part.run(true))?;
             Ok(Part::new(Start::Same))
         }

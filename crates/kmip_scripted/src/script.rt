@@ -1,6 +1,8 @@
 //! A script, word by word.
 ghost use Rattle.std.specs.Prelude.{◌≡◌};
+ghost use Rattle.kmip_scripted.specs.Words.{prolongings};
 
+use crate::words::is_prolong;
 use std::marker::Model;
 
 /// What a word of a script makes of an exchange, or between two of them. A number is of 1 to 6
@@ -21,6 +23,9 @@ pub enum Word {
     Again(usize),
     /// The run ends and is saved; the next one goes on from there.
     Save,
+    /// The run ends and is saved; the runs behind it are of a further plan, and the first of them
+    /// starts from that save.
+    Prolong,
     /// The run ends unsaved; the next one starts from the save of this number, or from nothing.
     Restart(Option<usize>),
 }
@@ -53,6 +58,13 @@ impl Script {
         ensures { result.now ≡ self.now }
     {
         self.words.as_slice()
+    }
+
+    /// How many words `prolong` it has. Takes no memory.
+    pub fn prolongings(&self) -> usize
+        ensures { result ≡ prolongings self.now }
+    {
+        self.words.iter().filter(|word| is_prolong(**word)).count()
     }
 
     /// Its words as a vector. Takes no memory.

@@ -1,6 +1,6 @@
 //! The words of a script that are left, as they are taken.
 ghost use Rattle.std.specs.Prelude.{◌≡◌};
-ghost use Rattle.kmip_scripted.specs.Words.{exchange_word, first_of, goes_on, is_exchange, is_restart, next_words, words_after_exchange, words_after_run};
+ghost use Rattle.kmip_scripted.specs.Words.{exchange_word, first_of, goes_on, is_exchange, is_prolong, is_restart, next_words, words_after_exchange, words_after_run};
 
 use crate::script::Word;
 use std::collections::VecDeque;
@@ -11,8 +11,20 @@ fn is_restart(word: Word) -> bool
 {
     match word {
         Word::Restart(_) => true,
-        Word::Pass | Word::LoseRequest | Word::LoseReply | Word::Save => false,
+        Word::Pass | Word::LoseRequest | Word::LoseReply => false,
+        Word::Cut(_) | Word::Stale(_) | Word::Again(_) | Word::Save | Word::Prolong => false,
+    }
+}
+
+/// Whether the word ends the runs of a plan, before those of a further one.
+pub(crate) fn is_prolong(word: Word) -> bool
+    ensures { result ≡ is_prolong word }
+{
+    match word {
+        Word::Prolong => true,
+        Word::Pass | Word::LoseRequest | Word::LoseReply => false,
         Word::Cut(_) | Word::Stale(_) | Word::Again(_) => false,
+        Word::Save | Word::Restart(_) => false,
     }
 }
 
@@ -23,7 +35,7 @@ fn is_exchange(word: Word) -> bool
     match word {
         Word::Pass | Word::LoseRequest | Word::LoseReply => true,
         Word::Cut(_) | Word::Stale(_) => true,
-        Word::Again(_) | Word::Save | Word::Restart(_) => false,
+        Word::Again(_) | Word::Save | Word::Prolong | Word::Restart(_) => false,
     }
 }
 
@@ -35,7 +47,7 @@ pub(crate) fn goes_on(at_end: bool, word: Word) -> bool
         Word::Pass | Word::LoseRequest | Word::LoseReply => at_end,
         Word::Cut(_) | Word::Stale(_) => at_end,
         Word::Again(_) => true,
-        Word::Save | Word::Restart(_) => false,
+        Word::Save | Word::Prolong | Word::Restart(_) => false,
     }
 }
 

@@ -7,6 +7,7 @@ use Rattle.kmip_plan.specs.declared.fault.PlanFault.{PlanFault}
 use Rattle.kmip_plan.specs.declared.key.Key.{Key}
 use Rattle.kmip_session.specs.declared.campaigning.CampaignEnd.{CampaignEnd}
 use Rattle.kmip_scripted.specs.Scenes.{Scene, past_in}
+use Rattle.kmip_scripted.specs.Words.{prolongings}
 use Rattle.kmip_scripted.specs.declared.script.Word.{Word}
 use Rattle.kmip_simulation.specs.Simulating.{IsSimulated}
 use Rattle.kmip_simulation.specs.SimText.{is_last_finished, sim_text}
@@ -16,7 +17,7 @@ use Rattle.kmip_sim.specs.declared.detail.Detail.TheVariants.{Exchanges}
 use Rattle.kmip_ttlv.specs.declared.fault.NoMemory.{NoMemory}
 use Rattle.kmip_commands.specs.Checking.{plan_refusal_text}
 
--- the first line, from 1, that is no word of a script
+-- the first line, from 1, that is no word of a script; or 0, where each line is one, and `prolong` does not stand as often as it has to
 unfoldable pub script_refusal_text : ℕ → List ℕ
 script_refusal_text line = codes "script refused: line " ++ decimal line ++ codes "\n"
 
@@ -37,9 +38,10 @@ exchanges_text detail fault link = []
 abbrev pub simulation_text : Detail → CampaignEnd → Scene → List ℕ
 simulation_text detail end link = exchanges_text detail end.fault link ++ sim_text end link
 
--- the text tells in this detail how a script was simulated for these keys, and its campaign ended so
+-- the text tells in this detail how a script without `prolong` was simulated for these keys, and its campaign ended so
 pub record TellsSimulation (detail : Detail) (keys : List Key) (ended : Result Bool NoMemory) (text : List ℕ) : Type 0 where
   pub words : List Word
+  pub none : prolongings words ≡ 0
   pub end : CampaignEnd
   pub link : Scene
   pub simulated : IsSimulated keys words end (past_in link)

@@ -2,6 +2,7 @@
 ghost use Rattle.std.specs.Prelude.{◌≡◌, ◌++◌, [], Some, Ok, IfOk, IfErr, OnErr, OnOk, string_bytes};
 ghost use Rattle.kmip_plan.specs.Reading.{plan_read};
 ghost use Rattle.kmip_commands.specs.Printing.{IfFailed, IfWhole, UnlessOutput, fault_line};
+ghost use Rattle.kmip_scripted.specs.Words.{prolongings};
 ghost use Rattle.kmip_sim.specs.Simulating.{
   BreaksOffSim,
   TellsScriptFault,
@@ -128,11 +129,26 @@ fn told_of_script(
 ) -> Result<Told, NoMemory>
     ensures { IfOk result (λ told. TellsSim detail (Ok plan.now) told.ended told.text.items) }
 {
-    match read_script(alloc, script) {
+    match script_in(alloc, script) {
         Ok(script) => told_of_simulation(alloc, detail, plan, script),
         Err(ScriptFault::Line(line)) => told_of_line(alloc, line),
         Err(ScriptFault::NoMemory) => Err(NoMemory),
     }
+}
+
+/// Reads a script for one plan, in which no word is `prolong`.
+///
+/// # Errors
+///
+/// Those of `read_script`; and `Line(0)`, where a word is `prolong`.
+fn script_in(alloc: Global, text: &str) -> Result<Script, ScriptFault>
+    ensures none { IfOk result (λ script. prolongings script ≡ 0) }
+{
+    let script = read_script(alloc, text)?;
+    if script.prolongings() > 0 {
+        return Err(ScriptFault::Line(0));
+    }
+    Ok(script)
 }
 
 /// What is told of a script that is refused for this line.
@@ -162,6 +178,7 @@ fn told_of_simulation(
     plan: &Plan,
     script: Script,
 ) -> Result<Told, NoMemory>
+    requires none { prolongings script ≡ 0 }
     ensures { IfOk result (λ told. TellsSimulation detail plan.now told.ended told.text.items) }
 {
     let simulation = simulate(alloc, plan, script)?;

@@ -5,7 +5,7 @@ use Rattle.std.specs.Fmt.{decimal}
 use Rattle.kmip_scripted.specs.Scenes.{Scene}
 use Rattle.kmip_scripted.specs.Words.{answer_at}
 use Rattle.kmip_scripted.specs.declared.script.Word.{Word}
-use Rattle.kmip_scripted.specs.declared.script.Word.TheVariants.{Pass, LoseRequest, LoseReply, Cut, Stale, Again, Save, Restart}
+use Rattle.kmip_scripted.specs.declared.script.Word.TheVariants.{Pass, LoseRequest, LoseReply, Cut, Stale, Again, Save, Prolong, Restart}
 use Rattle.kmip_wording.specs.Questions.{question_text}
 use Rattle.kmip_wording.specs.Answers.{answer_text}
 use Rattle.kmip_simulation.specs.SimText.{numbered_text}
@@ -24,6 +24,7 @@ word_text (Cut size) = codes "cut " ++ decimal size
 word_text (Stale number) = codes "stale " ++ decimal number
 word_text (Again number) = codes "again " ++ decimal number
 word_text Save = codes "save"
+word_text Prolong = codes "prolong"
 word_text (Restart start) = codes "restart " ++ start_text start
 
 -- the front of the line of an exchange: what was asked, and the word that it followed

@@ -3,6 +3,7 @@ ghost use Rattle.std.specs.Prelude.{◌≡◌, List, IfOk};
 ghost use Rattle.kmip_plan.specs.declared.key.Key.{Key};
 ghost use Rattle.kmip_schedule.specs.Sound.{Opening};
 ghost use Rattle.kmip_scripted.specs.Scenes.{past_in};
+ghost use Rattle.kmip_scripted.specs.Words.{prolongings};
 ghost use Rattle.kmip_simulation.specs.Simulating.{IsSimulated};
 ghost use Rattle.kmip_simulation.specs.SimText.{is_last_finished};
 
@@ -25,12 +26,13 @@ pub struct Simulation {
     pub link: Scripted<IndexedStore>,
 }
 
-/// Makes the runs of a script for a plan, over a link to a new server that follows the script. Where
-/// memory runs out in a run, the end says so and has the runs before it.
+/// Makes the runs of a script without `prolong` for a plan, over a link to a new server that follows
+/// the script. Where memory runs out in a run, the end says so and has the runs before it.
 ///
 /// # Errors
 /// Where there is no memory for the list of the runs.
 pub fn simulate(alloc: Global, plan: &Plan, script: Script) -> Result<Simulation, NoMemory>
+    requires none { prolongings script ≡ 0 }
     ensures { IfOk result (λ s. IsSimulated plan.now script s.end (past_in s.link)) }
 {
     nothing_done_is_sound();

@@ -85,6 +85,7 @@ fn word_text(alloc: Global, word: Word) -> Result<String, NoMemory>
         Word::Stale(number) => Ok(format!(in alloc; "stale {number}")?),
         Word::Again(number) => Ok(format!(in alloc; "again {number}")?),
         Word::Save => Ok(String::from_str(alloc, "save")?),
+        Word::Prolong => Ok(String::from_str(alloc, "prolong")?),
         Word::Restart(start) => restart_text(alloc, start),
     }
 }

@@ -9,6 +9,7 @@ returns c =
     let simulation = c.in_ok-simulation.simulation in
     record {
       words = c.args.script;
+      none = c.requires.none;
       end = simulation.end;
       link = simulation.link;
       simulated = c.in_ok-simulation.ensures;
