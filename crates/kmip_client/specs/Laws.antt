@@ -1,11 +1,12 @@
 -- What holds of objects that go onward, and of what a client asks.
 -- Source: own: what the laws say.
-use Rattle.std.specs.Prelude.{◌≡◌, ◌≢◌, ℕ, true, List, ◌++◌, length, map, drop, Option, Ok}
+use Rattle.std.specs.Prelude.{◌≡◌, ◌≢◌, ◌≤◌, ℕ, true, List, ◌++◌, length, map, drop, Option, Ok}
 use Rattle.kmip_messages.specs.Objects.{Object}
+use Rattle.kmip_messages.specs.declared.reply.Outcome.{Outcome}
 use Rattle.kmip_messages.specs.declared.reply.Reply.{Reply}
 use Rattle.kmip_messages.specs.declared.request.Request.{Request}
 use Rattle.kmip_plan.specs.Plans.{IsLawful}
-use Rattle.kmip_plan.specs.Prolonging.{Prolongs}
+use Rattle.kmip_plan.specs.Prolonging.{GoesOn, Prolongs}
 use Rattle.kmip_plan.specs.declared.key.Key.{Key}
 use Rattle.kmip_progress.specs.Reading.{read_text}
 use Rattle.kmip_progress.specs.Suiting.{Suits, nothing_known, are_texts}
@@ -18,9 +19,9 @@ use Rattle.kmip_client.specs.Held.{TrueProgress, IsHeld, Held}
 use Rattle.kmip_client.specs.Justified.{MayAsk, Justified}
 use Rattle.kmip_client.specs.Known.{facts, heard}
 use Rattle.kmip_client.specs.Knowledge.{is_working}
-use Rattle.kmip_client.specs.Places.{Onward}
+use Rattle.kmip_client.specs.Places.{Onward, position}
 use Rattle.kmip_client.specs.Questions.{ask_about}
-use Rattle.kmip_client.specs.Truth.{TrueReply}
+use Rattle.kmip_client.specs.Truth.{TrueOutcome, TrueReply}
 
 -- objects go onward to themselves, and onward twice is onward
 abbrev pub OnwardToItself : Type 0
@@ -55,6 +56,22 @@ TextsStayTrue text_for =
     (objects : List Object) (new old : List Key) (saved : List Known) → IsLawful old → Prolongs new old → Suits old saved
     → are_texts saved ≡ true → TrueProgress objects old saved
     → (read : List Known) × (read_text new (text_for old saved) ≡ Ok read) × TrueProgress objects new read
+
+-- an object has come no less far on the way of a key that goes on
+abbrev pub PositionsAreNoLess : Type 0
+PositionsAreNoLess = (objects : List Object) (new old : Key) → GoesOn new old → position old objects ≤ position new objects
+
+-- what may be asked under a plan may be asked under each that prolongs it
+abbrev pub JustifiedOfProlonged : Type 0
+JustifiedOfProlonged =
+    (objects : List Object) (new old : List Key) (request : Request) → IsLawful new → Prolongs new old → Justified old objects request
+    → Justified new objects request
+
+-- and what a reply says of a key is true of one that goes on from it
+abbrev pub TrueOfGoneOn : Type 0
+TrueOfGoneOn =
+    (objects : List Object) (new old : Key) (outcome : Outcome) → GoesOn new old → TrueOutcome objects old outcome
+    → TrueOutcome objects new outcome
 
 -- what is heard does not depend on what is to be asked next
 abbrev pub HearingIsBlind : Type 0

@@ -12,11 +12,16 @@ ghost use Rattle.kmip_client.specs.Laws.{
   HeldIsNoConflict,
   SettledIsNotWorked,
   TrueOfProlonged,
+  PositionsAreNoLess,
+  JustifiedOfProlonged,
+  TrueOfGoneOn,
   TextsStayTrue,
   AsksWhatItMay,
 };
 
-use kmip_plan::laws::{further_ways_keep_places, keys_have_names, steps_have_places};
+use kmip_plan::laws::{
+    further_ways_keep_places, keys_have_names, prolonged_keys_stand, steps_have_places,
+};
 use kmip_progress::laws::texts_are_prolonged;
 
 /// Objects go onward to themselves, and onward twice is onward.
@@ -44,6 +49,18 @@ pub fn progress_is_true_of_prolonged_plans()
 {
     further_ways_keep_places();
     texts_are_prolonged();
+}
+
+/// Where a plan prolongs another, each key of that has come no less far, and what may be asked of it,
+/// and what a reply says of it, may be asked and is true still.
+pub fn prolonged_plans_keep_the_truth()
+    ensures positions { PositionsAreNoLess }
+    ensures asked { JustifiedOfProlonged }
+    ensures told { TrueOfGoneOn }
+{
+    further_ways_keep_places();
+    prolonged_keys_stand();
+    steps_have_places();
 }
 
 /// What a client knows of identifiers, counts and conflicts is what it heard, whatever it asked and

@@ -8,7 +8,8 @@ use Rattle.kmip_messages.specs.declared.reply.Outcome.{Outcome}
 use Rattle.kmip_messages.specs.declared.request.Ask.{Ask}
 use Rattle.kmip_server.specs.ServerStep.{ServerStep}
 use Rattle.kmip_plan.specs.Chains.{step_place}
-use Rattle.kmip_plan.specs.Plans.{IsPlanned}
+use Rattle.kmip_plan.specs.Plans.{IsLawful, IsPlanned}
+use Rattle.kmip_plan.specs.Prolonging.{Prolongs}
 use Rattle.kmip_plan.specs.declared.key.Key.{Key}
 use Rattle.kmip_client.specs.Justified.{JustifiedMessage}
 use Rattle.kmip_client.specs.Places.{Onward, position}
@@ -22,9 +23,9 @@ use Rattle.kmip_schedule.specs.Exchanges.{AreGiven, Exchanged, with_asked}
 use Rattle.kmip_schedule.specs.Machine.{IsMirrored}
 use Rattle.kmip_schedule.specs.Effects.{effect_of}
 use Rattle.kmip_schedule.specs.Moves.{Delivered, Joins}
-use Rattle.kmip_schedule.specs.Past.{Past, Names, is_planned}
+use Rattle.kmip_schedule.specs.Past.{AreAmong, Past, Names, is_planned}
 use Rattle.kmip_schedule.specs.Safe.{Safe}
-use Rattle.kmip_schedule.specs.Sound.{Sound, Opening}
+use Rattle.kmip_schedule.specs.Sound.{NoneIsFurther, Sound, Opening}
 
 -- whatever happens, the objects go onward for each key
 abbrev pub ObjectsGoOnward : Type 0
@@ -119,8 +120,23 @@ DeliveriesKeepTheRequests = (names : Names) (old new : Past) → Delivered names
 -- what happens beside these names happens beside fewer
 abbrev pub FewerNamesAreDelivered : Type 0
 FewerNamesAreDelivered =
-    (names fewer : Names) (old new : Past) → ((name : List ℕ) → fewer name ≡ true → names name ≡ true)
-    → Delivered names old new → Delivered fewer old new
+    (names fewer : Names) (old new : Past) → AreAmong fewer names → Delivered names old new → Delivered fewer old new
+
+-- the names of a plan are among those of each that prolongs it
+abbrev pub NamesOfProlonged : Type 0
+NamesOfProlonged = (new old : List Key) → IsLawful new → Prolongs new old → AreAmong (is_planned old) (is_planned new)
+
+-- what is sound for a plan is sound for each that prolongs it, where none of the further names is on an object
+abbrev pub SoundOfProlonged : Type 0
+SoundOfProlonged =
+    (new old : List Key) (p : Past) → IsLawful old → IsLawful new → Prolongs new old → NoneIsFurther new old p.objects → Sound old p
+    → Sound new p
+
+-- and what is sound for a plan and for one that prolongs it is sound for each between them
+abbrev pub SoundBetween : Type 0
+SoundBetween =
+    (last next keys : List Key) (p : Past) → IsLawful keys → IsLawful next → IsLawful last → Prolongs next keys → Prolongs last next
+    → Sound keys p → Sound last p → Sound next p
 
 -- what a calm link does, an honest one may do
 abbrev pub CalmExchangesAreHonest : Type 0

@@ -1,7 +1,7 @@
 -- What has happened between a client and its server: all that was ever asked, answered, done and handed over, and the objects
 -- that are there now. Messages are held as the single requests and replies in them.
 -- Source: own, over KMIP 2.1, Operations, and Object Attributes, State.
-use Rattle.std.specs.Prelude.{ℕ, nat_eq, Bool, List, [], ◌∷◌, Option, Some, None, if◌then◌else◌}
+use Rattle.std.specs.Prelude.{◌≡◌, ℕ, nat_eq, Bool, true, List, [], ◌∷◌, Option, Some, None, if◌then◌else◌}
 use Rattle.std.specs.Cmp.Lexicographic.{pointwise}
 use Rattle.std.specs.Option.{is_some}
 use Rattle.kmip_messages.specs.Objects.{Object}
@@ -34,6 +34,10 @@ Names = List ℕ → Bool
 
 abbrev pub is_planned : List Key → Names
 is_planned keys name = is_some (key_named name keys)
+
+-- each name of the first is one of the second
+abbrev pub AreAmong : Names → Names → Type 0
+AreAmong fewer names = (name : List ℕ) → fewer name ≡ true → names name ≡ true
 
 -- the steps that took effect on the object with the name, in order
 abbrev pub steps_on : List ℕ → List Effect → List Step

@@ -52,6 +52,11 @@ pub record Sound (keys : List Key) (p : Past) : Type 0 where
   pub requests : All (Justified keys p.objects) p.requests
   pub replies : All (TrueAnswer keys p.objects p.requests) p.replies
 
+-- No name that only the new plan has is on an object.
+abbrev pub NoneIsFurther : List Key → List Key → List Object → Type 0
+NoneIsFurther new old objects =
+    (key : Key) → IsPlanned new key → key_named key.attrs.name old ≡ None → object_named key.attrs.name objects ≡ None
+
 -- Nothing of the plan has happened yet.
 pub record Opening (keys : List Key) (p : Past) : Type 0 where
   pub names : DistinctNames p.objects

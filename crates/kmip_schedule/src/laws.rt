@@ -17,14 +17,20 @@ ghost use Rattle.kmip_schedule.specs.Laws.{
   NothingIsDelivered,
   DeliveriesKeepTheRequests,
   FewerNamesAreDelivered,
+  NamesOfProlonged,
+  SoundOfProlonged,
+  SoundBetween,
   CalmExchangesAreHonest,
   TakenIsDelivered,
   WhatIsDoneJoins,
 };
 
-use kmip_client::laws::{onward_is_an_order, truth_is_for_good};
+use kmip_client::laws::{onward_is_an_order, prolonged_plans_keep_the_truth, truth_is_for_good};
 use kmip_messages::laws::{added_laws, found_laws, restated_laws};
-use kmip_plan::laws::{due_steps_advance, keys_have_names, states_have_places, steps_have_places};
+use kmip_plan::laws::{
+    due_steps_advance, further_ways_keep_places, keys_have_names, prolonged_keys_stand,
+    states_have_places, steps_have_places,
+};
 use kmip_server::laws::a_name_is_found;
 
 /// The laws of the crates below.
@@ -117,6 +123,19 @@ pub fn deliveries_keep_the_requests()
 pub fn fewer_names_are_delivered()
     ensures { FewerNamesAreDelivered }
 {}
+
+/// What is sound for a plan is sound for each that prolongs it, where none of the further names is on
+/// an object, or where what has happened is sound for a plan that prolongs both.
+pub fn prolonged_plans_are_sound()
+    ensures names { NamesOfProlonged }
+    ensures sound { SoundOfProlonged }
+    ensures between { SoundBetween }
+{
+    laws_below();
+    prolonged_plans_keep_the_truth();
+    prolonged_keys_stand();
+    further_ways_keep_places();
+}
 
 /// What a calm link does in an exchange, an honest one may do.
 pub fn a_calm_exchange_is_honest()

@@ -4,7 +4,7 @@ ghost use Rattle.kmip_schedule.specs.Calm.{CalmlyExchanged, CalmlyEnded};
 ghost use Rattle.kmip_schedule.specs.Exchanges.{Exchanged, answer_in};
 ghost use Rattle.kmip_schedule.specs.Faults.{link_fault_number, link_fault_name, most_failures};
 ghost use Rattle.kmip_schedule.specs.Moves.{Delivered};
-ghost use Rattle.kmip_schedule.specs.Past.{Past, Names};
+ghost use Rattle.kmip_schedule.specs.Past.{AreAmong, Past, Names};
 
 use std::alloc::Global;
 use thiserror::Error;
@@ -57,11 +57,14 @@ pub trait Link {
             → failures self.old < failures self.new) }
         ensures spent { failures self.old ≡ most_failures → result ≡ Ok tt };
 
-    /// A calm link is honest, and its network may fail once more: laws, which do nothing.
+    /// A calm link is honest, and its network may fail once more; and what it is for names it is for
+    /// fewer. Laws, which do nothing.
     fn calm_laws()
         ensures honest { (link : Self) (names : Names) → calm link names → honest link names }
         ensures unspent { (link : Self) (names : Names) → calm link names
-            → failures link < most_failures };
+            → failures link < most_failures }
+        ensures fewer { (link : Self) (names fewer : Names) → AreAmong fewer names
+            → (honest link names → honest link fewer) × (calm link names → calm link fewer) };
 }
 
 /// Why a link has no answer.

@@ -4,6 +4,7 @@ use Rattle.std.specs.Prelude.{◌≡◌, ◌≤◌, ◌<◌, ℕ, ◌+◌, List,
 use Rattle.kmip_messages.specs.Objects.{Object, object_named}
 use Rattle.kmip_plan.specs.Chains.{bound}
 use Rattle.kmip_plan.specs.Plans.{IsLawful, IsPlanned}
+use Rattle.kmip_plan.specs.Prolonging.{Prolongs}
 use Rattle.kmip_plan.specs.declared.key.Key.{Key}
 use Rattle.kmip_client.specs.declared.knowledge.Knowledge.{Knowledge}
 use Rattle.kmip_client.specs.declared.knowledge.Verdict.TheVariants.{Finished}
@@ -53,6 +54,18 @@ CalmTurnsAreNearer =
     → CalmlyExchanged names old question.bytes (Ok answer) new
     → IsReady new.room keys new.objects (known_after_turn keys next knowns question answer)
     × (need_all keys (known_after_turn keys next knowns question answer) new.objects + 1 ≡ need_all keys knowns old.objects)
+
+-- and where there is room for what a plan that prolongs the client's misses, there is room for it still
+abbrev pub RoomIsLeft : Type 0
+RoomIsLeft =
+    (further keys : List Key) (names : Names) (old new : Past) (knowns : List Knowledge) (question : Question) (answer : Option (List ℕ))
+    → IsLawful keys → IsLawful further → Prolongs further keys → Sound further old → IsReady old.room keys old.objects knowns
+    → IsAbout keys knowns question → CalmlyExchanged names old question.bytes (Ok answer) new
+    → length old.objects + missing further old.objects ≤ old.room → length new.objects + missing further new.objects ≤ new.room
+
+-- it misses no fewer objects than the client's plan
+abbrev pub ProlongedMissNoLess : Type 0
+ProlongedMissNoLess = (new old : List Key) (objects : List Object) → Prolongs new old → missing old objects ≤ missing new objects
 
 -- a client that is ready needs at most the bound of its plan
 abbrev pub NeedsAreBounded : Type 0

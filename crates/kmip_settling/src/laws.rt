@@ -5,6 +5,8 @@ ghost use Rattle.kmip_settling.specs.Laws.{
   NothingMadeIsReady,
   NothingMadeNeedsTheChains,
   CalmTurnsAreNearer,
+  RoomIsLeft,
+  ProlongedMissNoLess,
   NeedsAreBounded,
   WhoNeedsNothingIsFinished,
   WhoIsSettledNeedsNothing,
@@ -13,11 +15,11 @@ ghost use Rattle.kmip_settling.specs.Laws.{
 };
 ghost use Rattle.kmip_settling.specs.Lawbook.{Lawbook};
 
-use kmip_client::laws::what_is_asked_may_be;
+use kmip_client::laws::{prolonged_plans_keep_the_truth, what_is_asked_may_be};
 use kmip_messages::laws::{added_laws, found_laws, restated_laws};
 use kmip_plan::laws::{
-    bounds_add_up, due_steps_advance, keys_fit, keys_have_names, states_have_places,
-    steps_have_places,
+    bounds_add_up, due_steps_advance, keys_fit, keys_have_names, prolonged_keys_stand,
+    states_have_places, steps_have_places,
 };
 use kmip_server::laws::a_name_is_found;
 
@@ -61,6 +63,17 @@ pub fn a_calm_turn_is_nearer()
     ensures { CalmTurnsAreNearer }
 {
     laws_below();
+}
+
+/// Where there is room for the objects that a plan misses which prolongs the client's, there is room
+/// for them after such a question too; and it misses no fewer than the client's plan.
+pub fn room_is_left_for_prolonged_plans()
+    ensures left { RoomIsLeft }
+    ensures missing { ProlongedMissNoLess }
+{
+    laws_below();
+    prolonged_plans_keep_the_truth();
+    prolonged_keys_stand();
 }
 
 /// A client that is ready needs at most the bound of its plan.
