@@ -1,1 +1,2 @@
+pub mod PlansLemmas
 pub mod TextLemmas

@@ -1,17 +1,19 @@
 -- What holds of a campaign over a link in memory that followed a script, and of all that happened.
 -- Source: own.
-use Rattle.std.specs.Prelude.{◌≡◌, List, length, filter, take, None}
+use Rattle.std.specs.Prelude.{◌≡◌, ⊤, List, [], length, filter, take, None}
 use Rattle.std.specs.List.{All, AllZip}
 use Rattle.kmip_plan.specs.declared.key.Key.{Key}
 use Rattle.kmip_client.specs.Held.{TrueProgress}
 use Rattle.kmip_schedule.specs.Machine.{IsMirrored}
-use Rattle.kmip_schedule.specs.Past.{Past}
+use Rattle.kmip_schedule.specs.Past.{Names, Past}
 use Rattle.kmip_schedule.specs.Safe.{Safe}
-use Rattle.kmip_schedule.specs.Sound.{Sound}
+use Rattle.kmip_schedule.specs.Sound.{Opening, Sound}
 use Rattle.kmip_session.specs.Campaign.{HasNoConflict, IsEnd, reported, saves}
+use Rattle.kmip_session.specs.Campaigns.{AreInTurn, CalmStart, IsTrueFor, last_plan}
 use Rattle.kmip_session.specs.declared.campaigning.CampaignEnd.{CampaignEnd}
 use Rattle.kmip_session.specs.declared.campaigning.Run.{Run}
-use Rattle.kmip_scripted.specs.Runs.{runs_of}
+use Rattle.kmip_scripted.specs.Runs.{lists_of, runs_of}
+use Rattle.kmip_scripted.specs.Scenes.{Scene, past_in}
 use Rattle.kmip_scripted.specs.declared.script.Word.{Word}
 
 -- each of the runs was made and has its end, and those that say so were saved
@@ -29,3 +31,21 @@ pub record IsSimulated (keys : List Key) (words : List Word) (end : CampaignEnd)
   pub true_saved : All (TrueProgress past.objects keys) end.saved.items
   pub order : AllZip (IsEnd keys) (take (length end.runs.items) (runs_of keys words)) end.runs.items
   pub complete : end.fault ≡ None → AreMade keys (runs_of keys words) end
+
+-- no word of a link's script is left: from then on it loses, delays and repeats nothing
+abbrev pub HasNoWord : Scene → Names → Type 0
+HasNoWord link names = link.words ≡ []
+
+-- The runs of a script with one `prolong` were made for plans in turn, each of which prolongs the one before, over one link that began
+-- with nothing and followed the script, and ended so. All that holds of the runs for one plan holds of these for the last plan, what was
+-- saved under an earlier one included.
+pub record AreSimulated (plans : List (List Key)) (words : List Word) (end : CampaignEnd) (past : Past) : Type 0 where
+  pub safe : Safe (last_plan plans) past (reported (last_plan plans) end.runs.items end.saved.items)
+  pub machine : IsMirrored (last_plan plans) past
+  pub sound : Sound (last_plan plans) past
+  pub no_conflict : All HasNoConflict end.runs.items
+  pub true_saved : All (IsTrueFor past.objects (last_plan plans)) end.saved.items
+  pub begun : Scene
+  pub opening : (keys : List Key) → Opening keys (past_in begun)
+  pub in_turn : AreInTurn plans (lists_of (last_plan plans) words) end.runs.items end.saved.items ⊤ (CalmStart past_in HasNoWord plans begun) (end.fault ≡ None)
+      (past_in begun) past

@@ -1,17 +1,18 @@
 //! A campaign over a link in memory that follows a script.
-ghost use Rattle.std.specs.Prelude.{◌≡◌, List, IfOk};
+ghost use Rattle.std.specs.Prelude.{◌≡◌, List, length, IfOk};
 ghost use Rattle.kmip_plan.specs.declared.key.Key.{Key};
 ghost use Rattle.kmip_schedule.specs.Sound.{Opening};
 ghost use Rattle.kmip_scripted.specs.Scenes.{past_in};
 ghost use Rattle.kmip_scripted.specs.Words.{prolongings};
-ghost use Rattle.kmip_simulation.specs.Simulating.{IsSimulated};
+ghost use Rattle.kmip_session.specs.Campaigns.{AreProlonged};
+ghost use Rattle.kmip_simulation.specs.Simulating.{AreSimulated, IsSimulated};
 ghost use Rattle.kmip_simulation.specs.SimText.{is_last_finished};
 
 use kmip_plan::Plan;
 use kmip_schedule::laws::nothing_done_is_sound;
 use kmip_scripted::{Script, Scripted};
 use kmip_server::{IndexedStore, Server};
-use kmip_session::{CampaignEnd, campaign};
+use kmip_session::{CampaignEnd, campaign, campaigns};
 use kmip_store::{MOST_ROOM, SEED};
 use kmip_ttlv::NoMemory;
 use std::alloc::Global;
@@ -36,6 +37,25 @@ pub fn simulate(alloc: Global, plan: &Plan, script: Script) -> Result<Simulation
     let runs = script.runs(alloc, plan)?;
     let mut link = new_link(alloc, script);
     let end = campaign(alloc, plan, &mut link, runs.as_slice());
+    Ok(Simulation { end, link })
+}
+
+/// Makes the runs of a script with one `prolong` over a link to a new server that follows the script:
+/// those before it for the first of two plans, and those behind it for the second, which prolongs the
+/// first. Where memory runs out in a run, the end says so and has the runs before it.
+///
+/// # Errors
+/// Where there is no memory for the lists of the runs.
+pub fn simulate_plans(alloc: Global, plans: &[Plan], script: Script) -> Result<Simulation, NoMemory>
+    requires two { length plans.now ≡ 2 }
+    requires prolong { AreProlonged plans.now }
+    requires one { prolongings script ≡ 1 }
+    ensures { IfOk result (λ s. AreSimulated plans.now script s.end (past_in s.link)) }
+{
+    nothing_done_is_sound();
+    let lists = script.lists(alloc, &plans[1])?;
+    let mut link = new_link(alloc, script);
+    let end = campaigns(alloc, plans, &mut link, lists.as_slice());
     Ok(Simulation { end, link })
 }
 

@@ -1,0 +1,36 @@
+-- Nothing of any plan has happened yet over the new link, so what is made of the plans in turn is good.
+use Rattle.std.proofs.Common.{◌≡◌, map, subst, ap, ◌∙◌}
+use Rattle.std.specs.Prelude.{⊤, None}
+use Rattle.kmip_schedule.specs.Sound.{Opening}
+use Rattle.kmip_scripted.specs.Runs.{lists_of}
+use Rattle.kmip_scripted.specs.Scenes.{past_in}
+use Rattle.kmip_session.specs.Campaigns.{AreInTurn, CalmStart, GoodStart, first_plan, last_plan}
+use Rattle.kmip_simulation.specs.Simulating.{HasNoWord}
+use Rattle.kmip_simulation.proofs.PlansLemmas.{second_is}
+use Rattle.kmip_simulation.proofs.simulating.simulate_plans.Goals as goal
+
+pub returns : goal.returns
+returns c =
+    let plans = c.args.plans.now in
+    let link = c.new_link-link.result in
+    let end = c.campaigns-end.result in
+    let opening : (keys : _) → Opening keys (past_in link) = c.new_link-link.ensures in
+    let good : GoodStart past_in (λ link names. ⊤) plans link = record {
+      honest_for = tt;
+      sound = c.nothing_done_is_sound.ensures (first_plan plans) (past_in link) (opening (first_plan plans));
+      none_further = λ key planned none. (opening (last_plan plans)).no_object key planned;
+    } in
+    let second = second_is plans c.index-plans-1.result c.requires.two c.index-plans-1.is in
+    let runs : map (λ list. list.items) c.as_slice.result.now ≡ lists_of (last_plan plans) c.args.script =
+    ap (map (λ list. list.items)) c.as_slice.ensures.value ∙ c.in_ok-lists.ensures ∙ ap (λ keys. lists_of keys c.args.script) second in
+    record {
+      safe = c.campaigns-end.ensures.safe good;
+      machine = (c.campaigns-end.ensures.machine good).0 (opening (last_plan plans));
+      sound = (c.campaigns-end.ensures.sound good).sound;
+      no_conflict = c.campaigns-end.ensures.no_conflict good;
+      true_saved = c.campaigns-end.ensures.true_saved good;
+      begun = link;
+      opening = opening;
+      in_turn = subst (λ rs. AreInTurn plans rs end.runs.items end.saved.items ⊤ (CalmStart past_in HasNoWord plans link) (end.fault ≡ None) (past_in link) (past_in c.campaigns-end.new.link))
+          runs c.campaigns-end.ensures.in_turn;
+    }
