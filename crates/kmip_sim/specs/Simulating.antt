@@ -1,15 +1,16 @@
--- What `sim` writes for a plan and a script.
+-- What `sim` writes for a plan and a script, and for a further plan where there is one.
 -- Source: own: what the program prints.
-use Rattle.std.specs.Prelude.{◌≡◌, ◌⊎◌, ℕ, Bool, true, not, List, [], ◌++◌, codes, Option, Some, None, Result, Ok, Err}
+use Rattle.std.specs.Prelude.{◌≡◌, ◌⊎◌, ℕ, Bool, true, not, List, [], ◌∷◌, ◌++◌, codes, Option, Some, None, Result, Ok, Err}
 use Rattle.std.specs.Fmt.{decimal}
 use Rattle.std.specs.Io.KnownBytes.{Appends}
+use Rattle.kmip_plan.specs.Prolonging.{Prolongs}
 use Rattle.kmip_plan.specs.declared.fault.PlanFault.{PlanFault}
 use Rattle.kmip_plan.specs.declared.key.Key.{Key}
 use Rattle.kmip_session.specs.declared.campaigning.CampaignEnd.{CampaignEnd}
 use Rattle.kmip_scripted.specs.Scenes.{Scene, past_in}
 use Rattle.kmip_scripted.specs.Words.{prolongings}
 use Rattle.kmip_scripted.specs.declared.script.Word.{Word}
-use Rattle.kmip_simulation.specs.Simulating.{IsSimulated}
+use Rattle.kmip_simulation.specs.Simulating.{AreSimulated, IsSimulated}
 use Rattle.kmip_simulation.specs.SimText.{is_last_finished, sim_text}
 use Rattle.kmip_simulation.specs.Tracing.{trace_text}
 use Rattle.kmip_sim.specs.declared.detail.Detail.{Detail}
@@ -38,15 +39,24 @@ exchanges_text detail fault link = []
 abbrev pub simulation_text : Detail → CampaignEnd → Scene → List ℕ
 simulation_text detail end link = exchanges_text detail end.fault link ++ sim_text end link
 
--- the text tells in this detail how a script without `prolong` was simulated for these keys, and its campaign ended so
-pub record TellsSimulation (detail : Detail) (keys : List Key) (ended : Result Bool NoMemory) (text : List ℕ) : Type 0 where
+-- The text tells in this detail how a script was simulated in which `prolong` stands so often, and its campaign ended so; what holds of
+-- the runs that it made is given.
+pub record TellsRuns (detail : Detail) (prolonged : ℕ) (Holds : List Word → CampaignEnd → Scene → Type 0) (ended : Result Bool NoMemory) (text : List ℕ) : Type 0 where
   pub words : List Word
-  pub none : prolongings words ≡ 0
+  pub as_often : prolongings words ≡ prolonged
   pub end : CampaignEnd
   pub link : Scene
-  pub simulated : IsSimulated keys words end (past_in link)
+  pub simulated : Holds words end link
   pub ended_is : ended ≡ campaign_ended end
   pub text_is : text ≡ simulation_text detail end link
+
+-- so a script without `prolong` was simulated for these keys
+abbrev pub TellsSimulation : Detail → List Key → Result Bool NoMemory → List ℕ → Type 0
+TellsSimulation detail keys ended text = TellsRuns detail 0 (λ words end link. IsSimulated keys words end (past_in link)) ended text
+
+-- so a script with one `prolong` was simulated for these keys and, behind that word, for the further ones
+abbrev pub TellsSimulations : Detail → List Key → List Key → Result Bool NoMemory → List ℕ → Type 0
+TellsSimulations detail keys further ended text = TellsRuns detail 1 (λ words end link. AreSimulated (keys ∷ further ∷ []) words end (past_in link)) ended text
 
 -- the text is the line of a script that is refused
 pub record TellsScriptFault (ended : Result Bool NoMemory) (text : List ℕ) : Type 0 where
@@ -54,19 +64,41 @@ pub record TellsScriptFault (ended : Result Bool NoMemory) (text : List ℕ) : T
   pub ended_is : ended ≡ Ok true
   pub text_is : text ≡ script_refusal_text line
 
--- the text tells of what was read of a plan: why it is refused; else why a script is, or how one was simulated
-abbrev pub TellsSim : Detail → Result (List Key) PlanFault → Result Bool NoMemory → List ℕ → Type 0
-TellsSim detail (Err fault) ended text = (ended ≡ Ok true) × (text ≡ plan_refusal_text fault)
-TellsSim detail (Ok keys) ended text = TellsScriptFault ended text ⊎ TellsSimulation detail keys ended text
+-- the text is the line of a plan that is refused
+abbrev pub TellsPlanFault : PlanFault → Result Bool NoMemory → List ℕ → Type 0
+TellsPlanFault fault ended text = (ended ≡ Ok true) × (text ≡ plan_refusal_text fault)
+
+-- the line of a further plan that does not prolong the plan
+abbrev pub prolongs_not_text : List ℕ
+prolongs_not_text = codes "plan refused: prolongs not\n"
+
+-- that line alone is the text, and the further plan does not prolong the plan
+pub record TellsProlongsNot (keys further : List Key) (ended : Result Bool NoMemory) (text : List ℕ) : Type 0 where
+  pub does_not : ¬ Prolongs further keys
+  pub ended_is : ended ≡ Ok true
+  pub text_is : text ≡ prolongs_not_text
+
+-- The further plan prolongs the plan, and the text tells why a script is refused, or how one was simulated for both.
+pub record TellsProlonged (detail : Detail) (keys further : List Key) (ended : Result Bool NoMemory) (text : List ℕ) : Type 0 where
+  pub prolongs : Prolongs further keys
+  pub tells : TellsScriptFault ended text ⊎ TellsSimulations detail keys further ended text
+
+-- The text tells of what was read of a plan, and of a further one where there is one: why the first of them that is refused is; else
+-- that the further one does not prolong the plan; else why a script is refused, or how one was simulated.
+abbrev pub TellsSim : Detail → Result (List Key) PlanFault → Option (Result (List Key) PlanFault) → Result Bool NoMemory → List ℕ → Type 0
+TellsSim detail (Err fault) further ended text = TellsPlanFault fault ended text
+TellsSim detail (Ok keys) None ended text = TellsScriptFault ended text ⊎ TellsSimulation detail keys ended text
+TellsSim detail (Ok keys) (Some (Err fault)) ended text = TellsPlanFault fault ended text
+TellsSim detail (Ok keys) (Some (Ok further)) ended text = TellsProlongsNot keys further ended text ⊎ TellsProlonged detail keys further ended text
 
 -- such a text was written
-pub record WritesSim (detail : Detail) (read : Result (List Key) PlanFault) (refused : Bool) (old new : Option (List ℕ)) : Type 0 where
+pub record WritesSim (detail : Detail) (read : Result (List Key) PlanFault) (further : Option (Result (List Key) PlanFault)) (refused : Bool) (old new : Option (List ℕ)) : Type 0 where
   pub text : List ℕ
-  pub tells : TellsSim detail read (Ok refused) text
+  pub tells : TellsSim detail read further (Ok refused) text
   pub written : Appends old new text
 
 -- The command broke off: nothing was written, or the runs of a campaign that ended for want of memory; and then a tail.
-pub record BreaksOffSim (detail : Detail) (read : Result (List Key) PlanFault) (tail : List ℕ) (old new : Option (List ℕ)) : Type 0 where
+pub record BreaksOffSim (detail : Detail) (read : Result (List Key) PlanFault) (further : Option (Result (List Key) PlanFault)) (tail : List ℕ) (old new : Option (List ℕ)) : Type 0 where
   pub text : List ℕ
-  pub tells : (text ≡ []) ⊎ ((want : NoMemory) × TellsSim detail read (Err want) text)
+  pub tells : (text ≡ []) ⊎ ((want : NoMemory) × TellsSim detail read further (Err want) text)
   pub written : Appends old new (text ++ tail)

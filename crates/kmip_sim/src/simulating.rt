@@ -1,24 +1,31 @@
 //! The command `sim`, over a writer and in memory.
-ghost use Rattle.std.specs.Prelude.{◌≡◌, ◌++◌, [], Some, Ok, IfOk, IfErr, OnErr, OnOk, string_bytes};
+ghost use Rattle.std.specs.Prelude.{◌≡◌, ◌++◌, [], false, true, None, Some, Ok, IfOk, IfErr, OnErr, OnOk, option_map, string_bytes};
+ghost use Rattle.kmip_plan.specs.Prolonging.{Prolongs};
 ghost use Rattle.kmip_plan.specs.Reading.{plan_read};
+ghost use Rattle.kmip_commands.specs.Checking.{is_memory};
 ghost use Rattle.kmip_commands.specs.Printing.{IfFailed, IfWhole, UnlessOutput, fault_line};
 ghost use Rattle.kmip_scripted.specs.Words.{prolongings};
 ghost use Rattle.kmip_sim.specs.Simulating.{
   BreaksOffSim,
+  TellsPlanFault,
+  TellsProlongsNot,
   TellsScriptFault,
   TellsSim,
   TellsSimulation,
+  TellsSimulations,
   WritesSim,
   campaign_ended,
   exchanges_text,
+  prolongs_not_text,
   script_refusal_text,
+  simulation_text,
 };
 
 use crate::detail::Detail;
 use kmip_commands::{CommandFault, ExitStatus, finished, push_refusal, push_text, send};
-use kmip_plan::{Plan, read_plan};
+use kmip_plan::{Plan, PlanFault, prolongs, read_plan};
 use kmip_scripted::{Script, ScriptFault, read_script};
-use kmip_simulation::{Simulation, push_simulation, push_trace, simulate};
+use kmip_simulation::{Simulation, push_simulation, push_trace, simulate, simulate_plans};
 use kmip_ttlv::NoMemory;
 use std::alloc::Global;
 use std::io::Write;
@@ -28,23 +35,28 @@ pub fn run_sim<W: Write>(
     alloc: Global,
     detail: Detail,
     plan: &str,
+    further: Option<&str>,
     script: &str,
     writer: &mut W,
 ) -> ExitStatus
-    ensures text { IfWhole result (λ r. WritesSim detail (plan_read plan.now) r
+    ensures text { IfWhole result (λ r. WritesSim detail (plan_read plan.now)
+        (option_map (λ text. plan_read text.now) further.entry) r
         (W.contents writer.old) (W.contents writer.new)) }
     ensures broken { IfFailed result (λ fault. UnlessOutput fault (BreaksOffSim detail
-        (plan_read plan.now) (fault_line fault) (W.contents writer.old) (W.contents writer.new))) }
+        (plan_read plan.now) (option_map (λ text. plan_read text.now) further.entry)
+        (fault_line fault) (W.contents writer.old) (W.contents writer.new))) }
 {
-    let ended = sim(alloc, detail, plan, script, writer);
+    let ended = sim(alloc, detail, plan, further, script, writer);
     finished(ended, writer)
 }
 
 /// Carries out the text of a plan over a link to a server in memory that follows the text of a
 /// script, and writes in this detail how the runs of the script ended, what was asked, and the
-/// objects at the end; or one line where the plan is refused, else where the script is. Says whether
-/// one of them was refused, or the last run left a key of the plan unfinished. Nothing is written
-/// before all of it is made.
+/// objects at the end. Where there is the text of a further plan, the script has the word `prolong`
+/// once: the runs behind it are for the further plan. Writes one line where the plan is refused, else
+/// where the further plan is or does not prolong the plan, else where the script is. Says whether one
+/// of them was refused, or the last run left a key of its plan unfinished. Nothing is written before
+/// all of it is made.
 ///
 /// # Errors
 ///
@@ -54,15 +66,18 @@ pub fn sim<W: Write>(
     alloc: Global,
     detail: Detail,
     plan: &str,
+    further: Option<&str>,
     script: &str,
     writer: &mut W,
 ) -> Result<bool, CommandFault>
-    ensures text { IfOk result (λ r. WritesSim detail (plan_read plan.now) r
+    ensures text { IfOk result (λ r. WritesSim detail (plan_read plan.now)
+        (option_map (λ text. plan_read text.now) further.entry) r
         (W.contents writer.old) (W.contents writer.new)) }
     ensures broken { IfErr result (λ fault. UnlessOutput fault (BreaksOffSim detail
-        (plan_read plan.now) [] (W.contents writer.old) (W.contents writer.new))) }
+        (plan_read plan.now) (option_map (λ text. plan_read text.now) further.entry) []
+        (W.contents writer.old) (W.contents writer.new))) }
 {
-    let told = told_of(alloc, detail, plan, script)?;
+    let told = told_of(alloc, detail, plan, further, script)?;
     send(told.text.as_slice(), false, writer)?;
     Ok(told.ended?)
 }
@@ -77,15 +92,18 @@ pub fn sim_bytes(
     alloc: Global,
     detail: Detail,
     plan: &str,
+    further: Option<&str>,
     script: &str,
     output: &mut Vec<u8>,
 ) -> Result<bool, NoMemory>
-    ensures text { IfOk result (λ r. WritesSim detail (plan_read plan.now) r
+    ensures text { IfOk result (λ r. WritesSim detail (plan_read plan.now)
+        (option_map (λ text. plan_read text.now) further.entry) r
         (Some output.old.items) (Some output.new.items)) }
-    ensures broken { OnErr result (BreaksOffSim detail (plan_read plan.now) []
+    ensures broken { OnErr result (BreaksOffSim detail (plan_read plan.now)
+        (option_map (λ text. plan_read text.now) further.entry) []
         (Some output.old.items) (Some output.new.items)) }
 {
-    let told = told_of(alloc, detail, plan, script)?;
+    let told = told_of(alloc, detail, plan, further, script)?;
     push_text(told.text.as_slice(), output)?;
     told.ended
 }
@@ -98,61 +116,130 @@ struct Told {
     ended: Result<bool, NoMemory>,
 }
 
-/// What is told of a plan and a script.
+/// What is told of a plan, of a further one where there is one, and of a script.
 ///
 /// # Errors
 ///
 /// Where there is no memory for the text or for what is read.
-fn told_of(alloc: Global, detail: Detail, plan: &str, script: &str) -> Result<Told, NoMemory>
-    ensures { IfOk result (λ told.
-        TellsSim detail (plan_read plan.now) told.ended told.text.items) }
+fn told_of(
+    alloc: Global,
+    detail: Detail,
+    plan: &str,
+    further: Option<&str>,
+    script: &str,
+) -> Result<Told, NoMemory>
+    ensures { IfOk result (λ told. TellsSim detail (plan_read plan.now)
+        (option_map (λ text. plan_read text.now) further.entry) told.ended told.text.items) }
 {
     match read_plan(alloc, plan) {
-        Ok(plan) => told_of_script(alloc, detail, &plan, script),
-        Err(fault) => {
-            let mut text = Vec::new(alloc);
-            push_refusal(alloc, &fault, &mut text)?;
-            Ok(Told {
-                text,
-                ended: Ok(true),
-            })
-        }
+        Ok(plan) => told_of_plan(alloc, detail, plan, further, script),
+        Err(fault) => Ok(told_of_fault(alloc, &fault)?),
     }
 }
 
 /// The same of a plan that is read already.
+fn told_of_plan(
+    alloc: Global,
+    detail: Detail,
+    plan: Plan,
+    further: Option<&str>,
+    script: &str,
+) -> Result<Told, NoMemory>
+    ensures { IfOk result (λ told. TellsSim detail (Ok plan)
+        (option_map (λ text. plan_read text.now) further.entry) told.ended told.text.items) }
+{
+    let Some(further) = further else {
+        return told_of_script(alloc, detail, &plan, script);
+    };
+    match read_plan(alloc, further) {
+        Ok(further) => told_of_plans(alloc, detail, plan, further, script),
+        Err(fault) => Ok(told_of_fault(alloc, &fault)?),
+    }
+}
+
+/// The same of two plans that are read already.
+fn told_of_plans(
+    alloc: Global,
+    detail: Detail,
+    plan: Plan,
+    further: Plan,
+    script: &str,
+) -> Result<Told, NoMemory>
+    ensures { IfOk result (λ told.
+        TellsSim detail (Ok plan) (Some (Ok further)) told.ended told.text.items) }
+{
+    if !prolongs(&further, &plan) {
+        return told_of_prolongs_not(alloc);
+    }
+    match script_in(alloc, script, 1) {
+        Ok(script) => told_of_simulations(alloc, detail, plan, further, script),
+        Err(ScriptFault::Line(line)) => told_of_script_fault(alloc, line),
+        Err(ScriptFault::NoMemory) => Err(NoMemory),
+    }
+}
+
+/// What is told of a script for a plan that is read already.
 fn told_of_script(
     alloc: Global,
     detail: Detail,
     plan: &Plan,
     script: &str,
 ) -> Result<Told, NoMemory>
-    ensures { IfOk result (λ told. TellsSim detail (Ok plan.now) told.ended told.text.items) }
+    ensures { IfOk result (λ told. TellsSim detail (Ok plan.now) None told.ended told.text.items) }
 {
-    match script_in(alloc, script) {
+    match script_in(alloc, script, 0) {
         Ok(script) => told_of_simulation(alloc, detail, plan, script),
-        Err(ScriptFault::Line(line)) => told_of_line(alloc, line),
+        Err(ScriptFault::Line(line)) => told_of_script_fault(alloc, line),
         Err(ScriptFault::NoMemory) => Err(NoMemory),
     }
 }
 
-/// Reads a script for one plan, in which no word is `prolong`.
+/// Reads a script in which `prolong` stands so often.
 ///
 /// # Errors
 ///
-/// Those of `read_script`; and `Line(0)`, where a word is `prolong`.
-fn script_in(alloc: Global, text: &str) -> Result<Script, ScriptFault>
-    ensures none { IfOk result (λ script. prolongings script ≡ 0) }
+/// Those of `read_script`; and `Line(0)`, where it stands more often or less.
+fn script_in(alloc: Global, text: &str, count: usize) -> Result<Script, ScriptFault>
+    ensures { IfOk result (λ script. prolongings script ≡ count) }
 {
     let script = read_script(alloc, text)?;
-    if script.prolongings() > 0 {
+    if script.prolongings() != count {
         return Err(ScriptFault::Line(0));
     }
     Ok(script)
 }
 
+/// What is told of a plan with this fault; want of memory is none.
+///
+/// # Errors
+///
+/// Where there is no memory for the line, or the fault is want of memory.
+fn told_of_fault(alloc: Global, fault: &PlanFault) -> Result<Told, NoMemory>
+    ensures known { OnOk result (is_memory fault.now ≡ false) }
+    ensures tells { IfOk result (λ told. TellsPlanFault fault.now told.ended told.text.items) }
+{
+    let mut text = Vec::new(alloc);
+    push_refusal(alloc, fault, &mut text)?;
+    Ok(Told {
+        text,
+        ended: Ok(true),
+    })
+}
+
+/// What is told of a further plan that does not prolong the plan.
+fn told_of_prolongs_not(alloc: Global) -> Result<Told, NoMemory>
+    ensures ended { IfOk result (λ told. told.ended ≡ Ok true) }
+    ensures text { IfOk result (λ told. told.text.items ≡ prolongs_not_text) }
+{
+    let line = String::from_str(alloc, "plan refused: prolongs not\n")?;
+    Ok(Told {
+        text: line.into_bytes(),
+        ended: Ok(true),
+    })
+}
+
 /// What is told of a script that is refused for this line.
-fn told_of_line(alloc: Global, line: usize) -> Result<Told, NoMemory>
+fn told_of_script_fault(alloc: Global, line: usize) -> Result<Told, NoMemory>
     ensures { IfOk result (λ told. TellsScriptFault told.ended told.text.items) }
 {
     let line = script_refusal_text(alloc, line)?;
@@ -182,10 +269,38 @@ fn told_of_simulation(
     ensures { IfOk result (λ told. TellsSimulation detail plan.now told.ended told.text.items) }
 {
     let simulation = simulate(alloc, plan, script)?;
+    let told = told_of_end(alloc, detail, &simulation)?;
+    Ok(told)
+}
+
+/// What is told of a script that is simulated for a plan and, behind `prolong`, for a further one.
+fn told_of_simulations(
+    alloc: Global,
+    detail: Detail,
+    plan: Plan,
+    further: Plan,
+    script: Script,
+) -> Result<Told, NoMemory>
+    requires prolongs { Prolongs further plan }
+    requires one { prolongings script ≡ 1 }
+    ensures { IfOk result (λ told. TellsSimulations detail plan further told.ended told.text.items) }
+{
+    let plans = [plan, further];
+    let simulation = simulate_plans(alloc, plans.as_slice(), script)?;
+    let told = told_of_end(alloc, detail, &simulation)?;
+    Ok(told)
+}
+
+/// What is told of a simulation: the runs, what was asked and the objects, and how it ended.
+fn told_of_end(alloc: Global, detail: Detail, simulation: &Simulation) -> Result<Told, NoMemory>
+    ensures ended { IfOk result (λ told. told.ended ≡ campaign_ended simulation.now.end) }
+    ensures text { IfOk result (λ told.
+        told.text.items ≡ simulation_text detail simulation.now.end simulation.now.link) }
+{
     let mut text = Vec::new(alloc);
-    push_exchanges(alloc, detail, &simulation, &mut text)?;
-    push_simulation(alloc, &simulation, &mut text)?;
-    let ended = campaign_ended(&simulation);
+    push_exchanges(alloc, detail, simulation, &mut text)?;
+    push_simulation(alloc, simulation, &mut text)?;
+    let ended = campaign_ended(simulation);
     Ok(Told { text, ended })
 }
 

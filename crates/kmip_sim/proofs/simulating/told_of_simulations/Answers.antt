@@ -1,0 +1,19 @@
+-- The script is the one that was read, and the plans are the two.
+use Rattle.std.proofs.Common.{◌≡◌, [], ◌∷◌, rules, subst}
+use Rattle.kmip_scripted.specs.Scenes.{past_in}
+use Rattle.kmip_simulation.specs.Simulating.{AreSimulated}
+use Rattle.kmip_sim.proofs.simulating.told_of_simulations.Goals as goal
+
+pub returns : goal.returns
+returns c =
+    let simulation = c.in_ok-simulation.simulation in
+    let both : c.as_slice.result.now ≡ c.args.plan ∷ c.args.further ∷ [] = search rules in
+    record {
+      words = c.args.script;
+      as_often = c.requires.one;
+      end = simulation.end;
+      link = simulation.link;
+      simulated = subst (λ plans. AreSimulated plans c.args.script simulation.end (past_in simulation.link)) both c.in_ok-simulation.ensures;
+      ended_is = c.in_ok-told.ensures.ended;
+      text_is = c.in_ok-told.ensures.text;
+    }
