@@ -1,6 +1,6 @@
 -- What the words of the command line ask for, and how the program ends where they ask for no command.
 -- Source: own: what the program prints, and its exit status.
-use Rattle.std.specs.Prelude.{◌≡◌, ℕ, List, Option, Some, None, string_bytes}
+use Rattle.std.specs.Prelude.{◌≡◌, ℕ, List, Option, Some, None, option_map, string_bytes}
 use Rattle.clap.specs.declared.error.kind.ErrorKind.{ErrorKind}
 use Rattle.clap.specs.declared.error.kind.ErrorKind.TheVariants as kind
 use Rattle.kmip_commands.specs.declared.exit_status.ExitStatus.{ExitStatus}
@@ -23,7 +23,9 @@ IsCheckOf plan None (Check path) = string_bytes path ≡ plan
 IsCheckOf plan (Some earlier) (CheckAfter path other) = (string_bytes path ≡ plan) × (string_bytes other ≡ earlier)
 IsCheckOf plan earlier choice = ⊥
 
--- Private: the choice is to simulate the plan at this path over the script at the other, and to tell so much of it
-abbrev pub IsSimulationOf : List ℕ → List ℕ → Detail → Choice → Type 0
-IsSimulationOf plan script detail (Simulate path other told) = (string_bytes path ≡ plan) × (string_bytes other ≡ script) × (told ≡ detail)
-IsSimulationOf plan script detail choice = ⊥
+-- Private: the choice is to simulate the plan at this path, and then the further one where there is one, over the script at the other,
+-- and to tell so much of it
+abbrev pub IsSimulationOf : List ℕ → Option (List ℕ) → List ℕ → Detail → Choice → Type 0
+IsSimulationOf plan further script detail (Simulate path next other told) =
+    (string_bytes path ≡ plan) × (option_map (λ text. string_bytes text) next ≡ further) × (string_bytes other ≡ script) × (told ≡ detail)
+IsSimulationOf plan further script detail choice = ⊥

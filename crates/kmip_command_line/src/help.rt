@@ -112,6 +112,7 @@ To end a run:
   save          what is known is saved, and the next run goes on from there
   restart N     the next run starts from the save of number N
   restart none  the next run starts from nothing
+  prolong       with --then alone: what is known is saved, and the runs behind it are of the further plan
 A run makes as many exchanges as it has words for them. The last one goes on, with a network that loses
 nothing, for as many as the plan can need then: two more for each key than its target has steps. STOP is
 AllFinished, Limit or Conflict. Where there is no memory the runs that were made are printed, and then
@@ -124,12 +125,32 @@ reply to another question, the outcome begins with `answers OPERATION NAME`:
   exchange 2 Create k1, lose-reply: no reply
 Where there is no memory in a run, no exchange is printed.
 
-The plan is read and judged first, then the script; the first fault is printed alone: the plan's as by
-`check`, the script's as `script refused: line 3`.";
+With --then the keys are brought further while the network goes on as it does: the runs before the one
+word `prolong` are of the plan, and those behind it of the further plan, which has to prolong it as `check
+--help` says. The server and all that is under way stay, so a request of before can still arrive, and its
+reply too. The run that `prolong` ends is saved, and the first run of the further plan goes on from there;
+each run prints the report of its own plan. Say one plan makes k1 and the other discards it:
+  kmipctl sim --plan created.toml --then discarded.toml --script network.script
+With a script of the words pass, pass, prolong, pass, pass and again 2 it prints
+  run 1 AllFinished 2
+  k1 created 1/1 finished
+  finished 1 of 1
+  run 2 AllFinished 2
+  k1 discarded 2/2 finished
+  finished 1 of 1
+and then what was asked, Locate and Create, and GetAttributes and Destroy under the further plan.
+
+The plan is read and judged first, then the further plan, then the script; the first fault is printed
+alone: a plan's as by `check`, one that does not prolong the plan as `plan refused: prolongs not`, the
+script's as `script refused: line 3`, where line 0 means that `prolong` does not stand as often as it has
+to, once with --then and else never.";
 
 pub(crate) const PLAN: &str = "The file of the plan";
 
 pub(crate) const SCRIPT: &str = "The file of the script: what the network does, a word a line";
+
+pub(crate) const THEN: &str =
+    "The file of a further plan, which prolongs the plan and is carried out behind `prolong`";
 
 pub(crate) const TRACE: &str = "Print each exchange first: what was asked, and what came back";
 

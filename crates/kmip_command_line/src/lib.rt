@@ -1,7 +1,7 @@
 //! The words of the command line of `kmipctl`, what they ask for, and the program that does it.
 #![tactic(auto)]
 
-ghost use Rattle.std.specs.Prelude.{◌≡◌, IfOk, option_map, if◌then◌else◌};
+ghost use Rattle.std.specs.Prelude.{◌≡◌, IfOk, option_map, string_bytes, if◌then◌else◌};
 ghost use Rattle.clap.specs.Words.{kind_of};
 ghost use Rattle.kmip_commands.specs.declared.showing.Form.TheVariants.{Text, Canonical};
 ghost use Rattle.kmip_command_line.specs.declared.Choice.TheVariants.{Answer, AnswerStream};
@@ -16,7 +16,7 @@ use clap::error::ErrorKind;
 use clap::{Arg, Command, Error};
 use help::{
     ABOUT, AFTER, AFTER_HELP, ANSWER, ANSWER_LONG, CANON, CHECK, CHECK_LONG, PLAN, SCRIPT, SHOW,
-    SHOW_LONG, SIM, SIM_LONG, STREAM, TRACE, WRONG_ADDRESS,
+    SHOW_LONG, SIM, SIM_LONG, STREAM, THEN, TRACE, WRONG_ADDRESS,
 };
 use kmip_commands::{CommandFault, ExitStatus, Form};
 pub use kmip_network::{Peer, RunOptions, ServeOptions};
@@ -45,10 +45,12 @@ pub enum Choice {
         /// The path of the earlier plan.
         earlier: String,
     },
-    /// Carry out a plan over a network that follows a script.
+    /// Carry out a plan over a network that follows a script, or two plans in turn.
     Simulate {
         /// The path of the plan.
         plan: String,
+        /// The path of the further plan, where there is one.
+        further: Option<String>,
         /// The path of the script.
         script: String,
         /// How much is told of it.
@@ -78,7 +80,8 @@ pub fn chosen(alloc: Global, words: &[String]) -> Result<Choice, Error> {
             let plan = options.get_str("plan").unwrap_or("");
             let script = options.get_str("script").unwrap_or("");
             let detail = detail_of(options.get_flag("trace"));
-            Ok(simulation_of(alloc, plan, script, detail)?)
+            let further = options.get_str("then");
+            Ok(simulation_of(alloc, plan, further, script, detail)?)
         }
         Some(("run", options)) => match run_options(alloc, options)? {
             Some(options) => Ok(Choice::Run(options)),
@@ -143,22 +146,38 @@ fn detail_of(is_traced: bool) -> Detail
     }
 }
 
-/// What to simulate: the plan at a path, over the script at another, and how much to tell of it.
+/// What to simulate: the plan at a path, and then the further one where there is a path of one, over
+/// the script at another; and how much to tell of it.
 fn simulation_of(
     alloc: Global,
     plan: &str,
+    further: Option<&str>,
     script: &str,
     detail: Detail,
 ) -> Result<Choice, AllocError>
-    ensures { IfOk result (IsSimulationOf plan.now script.now detail) }
+    ensures { IfOk result (IsSimulationOf plan.now
+        (option_map (λ path. path.now) further.entry) script.now detail) }
 {
     let plan = String::from_str(alloc, plan)?;
+    let further = path_of(alloc, further)?;
     let script = String::from_str(alloc, script)?;
     Ok(Choice::Simulate {
         plan,
+        further,
         script,
         detail,
     })
+}
+
+/// A path as an owned text, where there is one.
+fn path_of(alloc: Global, path: Option<&str>) -> Result<Option<String>, AllocError>
+    ensures { IfOk result (λ copy. option_map (λ text. string_bytes text) copy
+        ≡ option_map (λ path. path.now) path.entry) }
+{
+    match path {
+        Some(path) => Ok(Some(String::from_str(alloc, path)?)),
+        None => Ok(None),
+    }
 }
 
 /// How the program ends after it printed the text of `error`: `Done` for help and the version, and
@@ -192,10 +211,15 @@ fn command<'a>(alloc: Global) -> Result<Command<'a>, AllocError> {
         .long_about(CHECK_LONG)
         .arg(path(alloc, "plan", PLAN))?
         .arg(after)?;
+    let then = Arg::new(alloc, "then")
+        .long("then")
+        .value_name("PATH")
+        .help(THEN);
     let sim = Command::new(alloc, "sim")
         .about(SIM)
         .long_about(SIM_LONG)
         .arg(path(alloc, "plan", PLAN))?
+        .arg(then)?
         .arg(path(alloc, "script", SCRIPT))?
         .arg(flag(alloc, "trace", TRACE))?;
     Command::new(alloc, "kmipctl")

@@ -2,8 +2,8 @@
 
 use crate::{Choice, chosen, status_of};
 use kmip_commands::{
-    CommandFault, ExitStatus, Form, run_answer, run_answer_stream, run_check, run_check_after,
-    run_show,
+    CommandFault, ExitStatus, Form, check_after_bytes, run_answer, run_answer_stream, run_check,
+    run_check_after, run_show,
 };
 use kmip_network::{refusal_of, run_plan, serve, text_or_why_not};
 use kmip_sim::{Detail, run_sim};
@@ -54,10 +54,19 @@ fn run_command(rt: &HostRuntime) -> io::Result<ExitStatus> {
         Ok(
             Choice::Simulate {
                 plan,
+                further: None,
                 script,
                 detail,
             },
         ) => simulate_plan(rt, detail, plan.as_str(), script.as_str()),
+        Ok(
+            Choice::Simulate {
+                plan,
+                further: Some(further),
+                script,
+                detail,
+            },
+        ) => simulate_plans(rt, detail, plan.as_str(), further.as_str(), script.as_str()),
         Ok(Choice::Run(options)) => run_plan(rt, &options),
         Ok(Choice::Serve(options)) => serve(rt, &options),
         Err(error) => {
@@ -122,9 +131,57 @@ fn simulate_plan(
         Ok(texts) => texts,
         Err(status) => return Ok(status),
     };
+    simulate(rt, detail, plan.as_str(), None, script.as_str())
+}
+
+/// The command `sim --then` from three files to standard output. The script is read once both plans
+/// are judged.
+fn simulate_plans(
+    rt: &HostRuntime,
+    detail: Detail,
+    path: &str,
+    further_path: &str,
+    script_path: &str,
+) -> io::Result<ExitStatus> {
+    let (plan, further) = match plan_and_other(rt, path, further_path)? {
+        Ok(texts) => texts,
+        Err(status) => return Ok(status),
+    };
+    if is_refused_after(rt, further.as_str(), plan.as_str()) {
+        return simulate(rt, detail, plan.as_str(), Some(further.as_str()), "");
+    }
+    let Some(script) = text_or_why_not(rt, script_path)? else {
+        return Ok(ExitStatus::Refused);
+    };
+    simulate(
+        rt,
+        detail,
+        plan.as_str(),
+        Some(further.as_str()),
+        script.as_str(),
+    )
+}
+
+/// Whether a text is no plan, or none that prolongs an earlier one. Where memory runs out it is not
+/// said to be so; what is done with it then says so.
+fn is_refused_after(rt: &HostRuntime, plan: &str, earlier: &str) -> bool {
+    let mut text = Vec::new(rt.alloc());
+    matches!(
+        check_after_bytes(rt.alloc(), plan, earlier, &mut text),
+        Ok(true)
+    )
+}
+
+/// Simulates a plan, and a further one where there is one, to standard output.
+fn simulate(
+    rt: &HostRuntime,
+    detail: Detail,
+    plan: &str,
+    further: Option<&str>,
+    script: &str,
+) -> io::Result<ExitStatus> {
     let mut writer = BufWriter::new(rt.alloc(), io::writer(rt))?;
-    let (plan, script) = (plan.as_str(), script.as_str());
-    Ok(run_sim(rt.alloc(), detail, plan, script, &mut writer))
+    Ok(run_sim(rt.alloc(), detail, plan, further, script, &mut writer))
 }
 
 /// The texts of a plan's file and of another. Where the first is no plan, or a file has no text, that

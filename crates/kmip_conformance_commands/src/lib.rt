@@ -28,6 +28,8 @@ mod showing;
 #[cfg(test)]
 mod simulating;
 #[cfg(test)]
+mod simulating_plans;
+#[cfg(test)]
 mod streaming;
 #[cfg(test)]
 mod texts;

@@ -191,7 +191,14 @@ record 1 disk Destroyed
 fn simulates_each_script(rt: HostRuntime) -> Result<(), Fail> {
     for row in &ROWS {
         let mut written = Vec::new(rt.alloc());
-        let is_refused = sim_bytes(rt.alloc(), Detail::Runs, row.plan, row.script, &mut written)?;
+        let is_refused = sim_bytes(
+            rt.alloc(),
+            Detail::Runs,
+            row.plan,
+            None,
+            row.script,
+            &mut written,
+        )?;
         assert!(rt; !is_refused, "{}", row.script);
         assert_eq!(rt;
             from_utf8(written.as_slice()),
@@ -211,6 +218,7 @@ fn tells_each_exchange(rt: HostRuntime) -> Result<(), Fail> {
             rt.alloc(),
             Detail::Exchanges,
             row.plan,
+            None,
             row.script,
             &mut writer,
         )?;
@@ -224,7 +232,7 @@ fn tells_each_exchange(rt: HostRuntime) -> Result<(), Fail> {
 }
 
 /// A plan and a script of which one is refused, and the one line that says so.
-const REFUSED: [(&str, &str, &str); 11] = [
+const REFUSED: [(&str, &str, &str); 12] = [
     // The plan is judged first.
     ("", "pass\n", "plan refused: 2 NoKeys\n"),
     ("[[", "hold\n", "plan refused: 1 Toml\n"),
@@ -241,6 +249,8 @@ const REFUSED: [(&str, &str, &str); 11] = [
     (DATABASE, "again 0x1\n", "script refused: line 1\n"),
     // The first line that is wrong.
     (DATABASE, "pass\nlose\nhold\n", "script refused: line 2\n"),
+    // A word that is for two plans.
+    (DATABASE, "pass\nprolong\n", "script refused: line 0\n"),
 ];
 
 #[test]
@@ -248,7 +258,7 @@ fn refuses_plans_and_scripts(rt: HostRuntime) -> Result<(), Fail> {
     for (plan, script, text) in &REFUSED {
         for detail in [Detail::Runs, Detail::Exchanges] {
             let mut written = Vec::new(rt.alloc());
-            let is_refused = sim_bytes(rt.alloc(), detail, plan, script, &mut written)?;
+            let is_refused = sim_bytes(rt.alloc(), detail, plan, None, script, &mut written)?;
             assert!(rt; is_refused, "{script:?}");
             assert_eq!(rt; from_utf8(written.as_slice()), Ok(*text), "{script:?}");
         }
@@ -274,6 +284,7 @@ fn reads_ten_thousand_lines(rt: HostRuntime) -> Result<(), Fail> {
         rt.alloc(),
         Detail::Runs,
         DATABASE,
+        None,
         script.as_str(),
         &mut written,
     )?;
@@ -287,6 +298,7 @@ fn reads_ten_thousand_lines(rt: HostRuntime) -> Result<(), Fail> {
         rt.alloc(),
         Detail::Runs,
         DATABASE,
+        None,
         script.as_str(),
         &mut written,
     )?;
@@ -299,13 +311,13 @@ fn simulates_and_ends(rt: HostRuntime) -> Result<(), Fail> {
     for (script, wanted) in [("", ExitStatus::Done), ("hold", ExitStatus::Refused)] {
         for detail in [Detail::Runs, Detail::Exchanges] {
             let mut writer = Vec::new(rt.alloc());
-            let status = run_sim(rt.alloc(), detail, DATABASE, script, &mut writer);
+            let status = run_sim(rt.alloc(), detail, DATABASE, None, script, &mut writer);
             assert_eq!(rt; status, wanted, "{script:?}");
         }
     }
     let mut room = [0; 10];
     let mut writer = room.as_mut_slice();
-    let status = run_sim(rt.alloc(), Detail::Runs, DATABASE, "", &mut writer);
+    let status = run_sim(rt.alloc(), Detail::Runs, DATABASE, None, "", &mut writer);
     assert_eq!(rt; status, ExitStatus::Failed(CommandFault::Output));
     Ok(())
 }

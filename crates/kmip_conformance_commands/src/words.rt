@@ -16,11 +16,13 @@ enum Wanted {
     CheckAfter(&'static str, &'static str),
     /// The path of the plan, that of the script, and how much is told.
     Simulate(&'static str, &'static str, Detail),
+    /// The paths of the plan, of the further one and of the script.
+    SimulateThen(&'static str, &'static str, &'static str),
     /// No command: this status, with a text that has these words.
     Text(ExitStatus, &'static str),
 }
 
-const ROWS: [(&[&str], Wanted); 26] = [
+const ROWS: [(&[&str], Wanted); 30] = [
     (&[], Wanted::Answer),
     (&["answer"], Wanted::Answer),
     (&["answer", "--stream"], Wanted::AnswerStream),
@@ -43,6 +45,14 @@ const ROWS: [(&[&str], Wanted); 26] = [
     (
         &["sim", "--trace", "--script=b", "--plan=a"],
         Wanted::Simulate("a", "b", Detail::Exchanges),
+    ),
+    (
+        &["sim", "--plan", "a", "--then", "b", "--script", "c"],
+        Wanted::SimulateThen("a", "b", "c"),
+    ),
+    (
+        &["sim", "--script=c", "--then=b", "--plan=a"],
+        Wanted::SimulateThen("a", "b", "c"),
     ),
     (
         &["--version"],
@@ -72,6 +82,14 @@ const ROWS: [(&[&str], Wanted); 26] = [
     (
         &["sim", "--trace", "--plan", "a"],
         Wanted::Text(ExitStatus::Usage, "--script"),
+    ),
+    (
+        &["sim", "--help"],
+        Wanted::Text(ExitStatus::Done, "--then"),
+    ),
+    (
+        &["sim", "--then", "b", "--script", "c"],
+        Wanted::Text(ExitStatus::Usage, "--plan"),
     ),
     (&["check"], Wanted::Text(ExitStatus::Usage, "--plan")),
     (
@@ -129,8 +147,23 @@ fn is_wanted(alloc: Global, words: &[&str], wanted: &Wanted) -> Result<bool, Fai
                 choice
                     == Choice::Simulate {
                         plan,
+                        further: None,
                         script,
                         detail,
+                    },
+            )
+        }
+        (Wanted::SimulateThen(plan, further, script), Ok(choice)) => {
+            let plan = String::from_str(alloc, plan)?;
+            let further = Some(String::from_str(alloc, further)?);
+            let script = String::from_str(alloc, script)?;
+            Ok(
+                choice
+                    == Choice::Simulate {
+                        plan,
+                        further,
+                        script,
+                        detail: Detail::Runs,
                     },
             )
         }

@@ -7,4 +7,6 @@ mod long;
 #[cfg(test)]
 mod making;
 #[cfg(test)]
+mod prolonging;
+#[cfg(test)]
 mod random;

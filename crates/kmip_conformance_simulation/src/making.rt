@@ -25,6 +25,15 @@ pub fn push_key(text: &mut String, number: usize, target: &str) -> Result<(), Al
     )
 }
 
+/// A plan of two keys with these targets.
+pub fn plan_of_two(alloc: Global, first: &str, second: &str) -> Result<Plan, Fail> {
+    let mut text = String::new(alloc);
+    push_key(&mut text, 0, first)?;
+    push_key(&mut text, 1, second)?;
+    let plan = read_plan(alloc, text.as_str())?;
+    Ok(plan)
+}
+
 /// A plan of so many keys, whose targets come in turn.
 pub fn plan_of(alloc: Global, keys: usize) -> Result<Plan, Fail> {
     let mut text = String::new(alloc);
@@ -45,6 +54,25 @@ pub fn random_message_word(rng: &mut ChaCha20Rng) -> Word {
         3 => Word::Stale(number),
         4 | 5 => Word::Again(number),
         _ => Word::Pass,
+    }
+}
+
+/// Appends at most 15 random words, of which none is `prolong`.
+pub fn push_random_words(rng: &mut ChaCha20Rng, words: &mut Vec<Word>) -> Result<(), AllocError> {
+    for _ in 0..rng.next_u32() % 16 {
+        words.push(random_word(rng))?;
+    }
+    Ok(())
+}
+
+/// A random word of any kind but `prolong`.
+fn random_word(rng: &mut ChaCha20Rng) -> Word {
+    let number = rng.next_u32() as usize % 4;
+    match rng.next_u32() % 16 {
+        0 => Word::Save,
+        1 => Word::Restart(None),
+        2 => Word::Restart(Some(number)),
+        _ => random_message_word(rng),
     }
 }
 

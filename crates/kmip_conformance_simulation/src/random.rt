@@ -1,11 +1,11 @@
 //! Random scripts over random plans.
 
-use crate::making::{TARGETS, check_at_targets, push_key, random_message_word};
-use kmip_plan::{Plan, read_plan};
-use kmip_scripted::{Script, Word};
+use crate::making::{TARGETS, check_at_targets, plan_of_two, push_random_words};
+use kmip_plan::Plan;
+use kmip_scripted::Script;
 use kmip_simulation::simulate;
 use rand_chacha::ChaCha20Rng;
-use rand_core::{Rng, SeedableRng};
+use rand_core::SeedableRng;
 use std::alloc::{AllocError, Global};
 use std::process::Abort;
 use std::test::Fail;
@@ -18,33 +18,16 @@ fn all_plans(alloc: Global) -> Result<Vec<Plan>, Fail> {
     let mut plans = Vec::new(alloc);
     for first in TARGETS {
         for second in TARGETS {
-            let mut text = String::new(alloc);
-            push_key(&mut text, 0, first)?;
-            push_key(&mut text, 1, second)?;
-            let plan = read_plan(alloc, text.as_str())?;
-            plans.push(plan)?;
+            plans.push(plan_of_two(alloc, first, second)?)?;
         }
     }
     Ok(plans)
 }
 
-/// A random word of any kind.
-fn random_word(rng: &mut ChaCha20Rng) -> Word {
-    let number = rng.next_u32() as usize % 4;
-    match rng.next_u32() % 16 {
-        0 => Word::Save,
-        1 => Word::Restart(None),
-        2 => Word::Restart(Some(number)),
-        _ => random_message_word(rng),
-    }
-}
-
 /// A script of at most 15 random words.
 fn random_script(alloc: Global, rng: &mut ChaCha20Rng) -> Result<Script, AllocError> {
     let mut words = Vec::new(alloc);
-    for _ in 0..rng.next_u32() % 16 {
-        words.push(random_word(rng))?;
-    }
+    push_random_words(rng, &mut words)?;
     Ok(Script::new(words))
 }
 
