@@ -8,8 +8,8 @@ delays messages as a script says. A test server that holds its keys in memory an
 machine, or in lines of hexadecimal digits; messages can be shown as text.";
 
 pub(crate) const AFTER_HELP: &str = "\
-Without words it does `answer`. Everything is printed on standard output, but for what `run --verbose`
-tells.
+Without words it does `answer`. Everything is printed on standard output, but for what `run` tells while
+it works.
 
 Exit status:
   0  nothing was refused, and a run, or the last one of a simulation, finished all keys
@@ -162,6 +162,10 @@ object of that name is not what the plan wants or stands beyond it, or `conflict
 The plan is read and judged first (its first fault is printed as by `check`), then the progress
 (`progress refused: 2 Cut`), before anything is asked. A progress file that cannot be written prints
 `cannot write PATH`: what was asked last has taken effect, and a later run finds it.
+
+While it works, it shows on standard error how far it is, in one line that is written again after each
+exchange, where that is a terminal and `--verbose` does not tell each exchange there:
+  1 of 3 keys finished, 8 exchanges, 2 without a reply
 
 With `--loopback` the server is one in this process with no object, so it suits a first run.";
 

@@ -8,12 +8,9 @@ ghost use Rattle.kmip_command_line.specs.declared.Choice.TheVariants.{Answer, An
 ghost use Rattle.kmip_command_line.specs.Choices.{IsCheckOf, IsSimulationOf, status_of};
 ghost use Rattle.kmip_sim.specs.declared.detail.Detail.TheVariants.{Runs, Exchanges};
 
-mod carrying;
 mod help;
 mod network;
 mod running;
-mod serving;
-mod telling;
 
 use clap::error::ErrorKind;
 use clap::{Arg, Command, Error};
@@ -22,9 +19,9 @@ use help::{
     SHOW_LONG, SIM, SIM_LONG, STREAM, TRACE, WRONG_ADDRESS,
 };
 use kmip_commands::{CommandFault, ExitStatus, Form};
+pub use kmip_network::{Peer, RunOptions, ServeOptions};
 use kmip_sim::Detail;
 use network::{flag, run_command, run_options, serve_command, serve_options};
-pub use network::{Peer, RunOptions, ServeOptions};
 pub use running::run;
 use std::alloc::{AllocError, Global};
 

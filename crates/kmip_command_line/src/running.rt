@@ -1,19 +1,15 @@
 //! The program, over standard input, files and standard output.
 
-use crate::carrying::run_plan;
-use crate::serving::serve;
 use crate::{Choice, chosen, status_of};
 use kmip_commands::{
-    CommandFault, ExitStatus, Form, check_bytes, run_answer, run_answer_stream, run_check,
-    run_check_after, run_show,
+    CommandFault, ExitStatus, Form, run_answer, run_answer_stream, run_check, run_check_after,
+    run_show,
 };
+use kmip_network::{refusal_of, run_plan, serve, text_or_why_not};
 use kmip_sim::{Detail, run_sim};
-use std::io::{BufReader, BufWriter, Error, ErrorKind, Read};
+use std::io::{BufReader, BufWriter, Error, ErrorKind};
 use std::process::ExitCode;
-use std::{env, fs, io};
-
-/// No more is read of a file: a plan of 1,000 keys or a script of 10,000 lines takes less than a tenth.
-const MOST_FILE_BYTES: u64 = 16_777_216;
+use std::{env, io};
 
 /// Runs the program: reads its command line, does what that asks for over standard input, files and
 /// standard output, and answers the code to end with. Everything is printed on standard output,
@@ -148,48 +144,4 @@ fn plan_and_other(
         return Ok(Err(ExitStatus::Refused));
     };
     Ok(Ok((plan, other)))
-}
-
-/// How the program ends where a text is no plan, which is printed; none where it is one.
-pub(crate) fn refusal_of(rt: &HostRuntime, plan: &str) -> io::Result<Option<ExitStatus>> {
-    if !is_refused(rt, plan) {
-        return Ok(None);
-    }
-    let mut writer = BufWriter::new(rt.alloc(), io::writer(rt))?;
-    Ok(Some(run_check(rt.alloc(), plan, &mut writer)))
-}
-
-/// Whether a text is no plan. Where memory runs out it is not said to be one; what is done with it
-/// then says so.
-fn is_refused(rt: &HostRuntime, plan: &str) -> bool {
-    let mut text = Vec::new(rt.alloc());
-    matches!(check_bytes(rt.alloc(), plan, &mut text), Ok(true))
-}
-
-/// The text of a file; where it has none, or one that is too long, that is printed.
-pub(crate) fn text_or_why_not(rt: &HostRuntime, path: &str) -> io::Result<Option<String>> {
-    match text_of(rt, path) {
-        Ok(Some(text)) => Ok(Some(text)),
-        Ok(None) => {
-            rt.println(format_args!("longer than {MOST_FILE_BYTES} bytes: {path}"))?;
-            Ok(None)
-        }
-        Err(error) => {
-            if error.kind() == ErrorKind::OutOfMemory {
-                return Err(error);
-            }
-            rt.println(format_args!("cannot read {path}"))?;
-            Ok(None)
-        }
-    }
-}
-
-/// The text of a file, unless it is longer than is read.
-fn text_of(rt: &HostRuntime, path: &str) -> io::Result<Option<String>> {
-    let file = fs::open(rt, path)?;
-    let text = io::read_to_string(rt.alloc(), file.take(MOST_FILE_BYTES + 1))?;
-    if text.len() as u64 > MOST_FILE_BYTES {
-        return Ok(None);
-    }
-    Ok(Some(text))
 }

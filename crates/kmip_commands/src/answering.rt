@@ -14,13 +14,10 @@ use crate::finishing::finished;
 use crate::replies::push_hex;
 use crate::responding::{Respond, respond_to_bytes, respond_to_lines};
 use kmip_server::{IndexedStore, Server};
-use kmip_store::MOST_ROOM;
+use kmip_store::{MOST_ROOM, SEED};
 use kmip_ttlv::NoMemory;
 use std::alloc::Global;
 use std::io::{BufRead, Write};
-
-/// The server's seed of key material.
-const SEED: [u8; 32] = [0; 32];
 
 /// The time of each reply.
 const NOW: i64 = 0;

@@ -11,4 +11,6 @@ mod rows;
 #[cfg(test)]
 mod shelf;
 #[cfg(test)]
+mod standing;
+#[cfg(test)]
 mod waits;

@@ -31,12 +31,13 @@ impl Clock for Stopped {
     }
 }
 
-/// Counts the exchanges that it is told of.
+/// Counts the exchanges that it is told of, and the ends of runs.
 #[derive(Drop)]
 struct Count {
     replies: usize,
     losses: usize,
     faults: usize,
+    ends: usize,
 }
 
 impl Observer for Count {
@@ -46,6 +47,10 @@ impl Observer for Count {
             Ok(None) => self.losses = self.losses.saturating_add(1),
             Err(_) => self.faults = self.faults.saturating_add(1),
         }
+    }
+
+    fn ended(&mut self) {
+        self.ends = self.ends.saturating_add(1);
     }
 }
 
@@ -82,6 +87,7 @@ fn waits_and_tells(rt: HostRuntime) -> Result<(), Fail> {
         replies: 0,
         losses: 0,
         faults: 0,
+        ends: 0,
     };
     let scripted = link_of(alloc, &[Word::LoseRequest, Word::LoseReply])?;
     let mut link = Observed::new(Paced::new(scripted, &clock, 100), count);
@@ -92,6 +98,6 @@ fn waits_and_tells(rt: HostRuntime) -> Result<(), Fail> {
     assert_eq!(rt; clock.slept.get(), 300);
     assert_eq!(rt; link.link().wait(), 0);
     let count = link.observer();
-    assert_eq!(rt; (count.replies, count.losses, count.faults), (3, 2, 0));
+    assert_eq!(rt; (count.replies, count.losses, count.faults, count.ends), (3, 2, 0, 1));
     Ok(())
 }

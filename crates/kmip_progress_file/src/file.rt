@@ -10,8 +10,9 @@ use std::path::Path;
 /// The file's owner may read and write it, and nobody else.
 pub(crate) const OWNER_ALONE: u32 = 0o600;
 
-/// No more is read of a progress: one of a thousand keys takes less than a hundredth.
-const MOST_BYTES: u64 = 16_777_216;
+/// The most bytes that are read of a file (own): a plan of 1,000 keys or a script of 10,000 lines takes
+/// less than a tenth, and a progress of 1,000 keys less than a hundredth.
+pub const MOST_FILE_BYTES: u64 = 16_777_216;
 
 /// The file that a run keeps its progress in.
 ///
@@ -44,15 +45,15 @@ impl<'a, R: Files + AllocGlobal> ProgressFile<'a, R> {
     ///
     /// # Errors
     ///
-    /// Where it cannot be read, is longer than 16,777,216 bytes, or is no UTF-8.
+    /// Where it cannot be read, is longer than `MOST_FILE_BYTES`, or is no UTF-8.
     pub fn read(&self) -> io::Result<Option<String>> {
         let file = match fs::open(self.rt, self.path.as_str()) {
             Ok(file) => file,
             Err(error) if error.kind() == ErrorKind::NotFound => return Ok(None),
             Err(error) => return Err(error),
         };
-        let text = io::read_to_string(self.rt.alloc(), file.take(MOST_BYTES + 1))?;
-        if text.len() as u64 > MOST_BYTES {
+        let text = io::read_to_string(self.rt.alloc(), file.take(MOST_FILE_BYTES + 1))?;
+        if text.len() as u64 > MOST_FILE_BYTES {
             return Err(Error::from(ErrorKind::InvalidData));
         }
         Ok(Some(text))

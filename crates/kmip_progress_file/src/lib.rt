@@ -4,5 +4,5 @@
 mod file;
 mod lock;
 
-pub use file::ProgressFile;
+pub use file::{MOST_FILE_BYTES, ProgressFile};
 pub use lock::{LockFault, ProgressLock};

@@ -3,7 +3,9 @@
 
 mod beginning;
 mod running;
+mod standing;
 mod telling;
 
 pub use beginning::begin;
 pub use running::{RunInput, run, run_run};
+pub use standing::standing_line;

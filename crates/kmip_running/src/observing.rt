@@ -4,14 +4,17 @@ ghost use Rattle.std.specs.Prelude.{◌≡◌};
 use kmip_schedule::{Link, LinkFault};
 use std::alloc::Global;
 
-/// Is told of exchanges.
+/// Is told of exchanges, and of the end of a run.
 pub trait Observer {
     /// An exchange was made: the bytes that were sent, and what came of it, a reply, none for a
     /// loss, or why there is no answer.
     fn exchanged(&mut self, request: &[u8], answered: Result<Option<&[u8]>, LinkFault>);
+
+    /// The run was ended: no exchange of it follows.
+    fn ended(&mut self);
 }
 
-/// A link that tells an observer of each exchange once it is made. What is proved over a link holds
+/// A link that tells an observer of each exchange once it is made, and of the end of a run. What is proved over a link holds
 /// over this one: it carries what the link within carries.
 #[derive(Debug, Drop)]
 pub struct Observed<L, O> {
@@ -62,7 +65,9 @@ impl<L: Link, O: Observer> Link for Observed<L, O> {
     }
 
     fn end_run(&mut self, alloc: Global) -> Result<(), LinkFault> {
-        self.link.end_run(alloc)
+        let ended = self.link.end_run(alloc);
+        self.observer.ended();
+        ended
     }
 
     fn calm_laws() {

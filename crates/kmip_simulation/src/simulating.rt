@@ -11,12 +11,9 @@ use kmip_schedule::laws::nothing_done_is_sound;
 use kmip_scripted::{Script, Scripted};
 use kmip_server::{IndexedStore, Server};
 use kmip_session::{CampaignEnd, campaign};
-use kmip_store::MOST_ROOM;
+use kmip_store::{MOST_ROOM, SEED};
 use kmip_ttlv::NoMemory;
 use std::alloc::Global;
-
-/// The server's seed of key material (own).
-const SEED: [u8; 32] = [0; 32];
 
 /// How the runs of a script went, and the link that they went over.
 #[derive(Drop)]

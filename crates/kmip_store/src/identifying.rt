@@ -1,4 +1,4 @@
-//! The identifiers of the objects, and how many objects there may be.
+//! The identifiers of the objects, how many objects there may be, and the seed of their material.
 ghost use Rattle.std.specs.Prelude.{◌≡◌, ◌≤◌, IfOk, IsTrue};
 ghost use Rattle.kmip_messages.specs.Ranges.{is_identifier};
 ghost use Rattle.kmip_store.specs.Stock.{identifier_at, most_room};
@@ -8,6 +8,9 @@ use std::alloc::{AllocError, Global};
 
 /// The most objects that a store may have room for (own).
 pub const MOST_ROOM: usize = 10_000;
+
+/// The seed of the test server's key material: the same keys in each run (own).
+pub const SEED: [u8; 32] = [0; 32];
 
 /// The Unique Identifier of the object that is made at a place, from 0: the decimal number of the
 /// place, from 1 (own).

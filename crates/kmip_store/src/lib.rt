@@ -19,7 +19,7 @@ mod stepping;
 
 pub use calling::{Answer, Call, call_all, call_both};
 pub use fault::StoreFault;
-pub use identifying::{MOST_ROOM, identifier_at};
+pub use identifying::{MOST_ROOM, SEED, identifier_at};
 pub use indexed_store::IndexedStore;
 pub use list_store::ListStore;
 pub use records::Records;

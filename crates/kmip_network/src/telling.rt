@@ -1,21 +1,27 @@
-//! What `run --verbose` tells.
+//! What `run` tells of its exchanges while it works.
 
+use crate::showing::Standing;
 use kmip_running::Observer;
 use kmip_schedule::LinkFault;
 use kmip_ttlv::NoMemory;
 use kmip_wording::{push_answer, push_question};
 use std::str::from_utf8;
 
-/// Tells each exchange on standard error, if it is to: what was asked, and what came of it.
+/// Counts each exchange, and tells it on standard error, if it is to: what was asked, and what came of it.
 #[derive(Drop)]
 pub(crate) struct Teller<'a> {
     rt: &'a HostRuntime,
+    standing: &'a Standing<'a>,
     is_verbose: bool,
 }
 
 impl<'a> Teller<'a> {
-    pub(crate) fn new(rt: &'a HostRuntime, is_verbose: bool) -> Self {
-        Teller { rt, is_verbose }
+    pub(crate) fn new(rt: &'a HostRuntime, standing: &'a Standing<'a>, is_verbose: bool) -> Self {
+        Teller {
+            rt,
+            standing,
+            is_verbose,
+        }
     }
 
     /// The line of an exchange.
@@ -39,6 +45,7 @@ impl<'a> Teller<'a> {
 
 impl<'a> Observer for Teller<'a> {
     fn exchanged(&mut self, request: &[u8], answered: Result<Option<&[u8]>, LinkFault>) {
+        self.standing.count(matches!(answered, Ok(Some(_))));
         if !self.is_verbose {
             return;
         }
@@ -47,5 +54,9 @@ impl<'a> Observer for Teller<'a> {
                 let _ = self.rt.eprintln(line);
             }
         }
+    }
+
+    fn ended(&mut self) {
+        self.standing.end();
     }
 }

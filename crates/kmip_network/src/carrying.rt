@@ -1,8 +1,9 @@
 //! The program `run`, over sockets and a file.
 
-use crate::network::{Peer, RunOptions};
-use crate::running::{refusal_of, text_or_why_not};
+use crate::options::{Peer, RunOptions};
+use crate::reading::{refusal_of, text_or_why_not};
 use crate::serving::new_server;
+use crate::showing::Standing;
 use crate::telling::Teller;
 use kmip_commands::ExitStatus;
 use kmip_progress_file::{LockFault, ProgressFile, ProgressLock};
@@ -17,10 +18,11 @@ use std::net::SocketAddr;
 use std::os::unix::net;
 use std::time::Duration;
 
-/// Keeps what is known in a file. No clause speaks of a file's bytes.
+/// Keeps what is known in a file, and shows how far the run is. No clause speaks of a file's bytes.
 #[derive(Drop)]
 struct FileKeeper<'a> {
     file: ProgressFile<'a, HostRuntime>,
+    standing: &'a Standing<'a>,
 }
 
 impl<'a> Keeper for FileKeeper<'a> {
@@ -31,7 +33,9 @@ impl<'a> Keeper for FileKeeper<'a> {
     ghost keeps = { λ keeper. ⊥ };
 
     fn save(&mut self, _alloc: Global, text: &[u8]) -> Result<(), SaveFault> {
-        match self.file.write(text) {
+        let written = self.file.write(text);
+        self.standing.show(text);
+        match written {
             Ok(()) => Ok(()),
             Err(error) if error.kind() == ErrorKind::OutOfMemory => Err(SaveFault::NoMemory),
             Err(_) => Err(SaveFault::Output),
@@ -41,7 +45,7 @@ impl<'a> Keeper for FileKeeper<'a> {
 
 /// The command `run`: the plan is read first, then the lock is taken, the progress read, and then the
 /// server asked.
-pub(crate) fn run_plan(rt: &HostRuntime, options: &RunOptions) -> io::Result<ExitStatus> {
+pub fn run_plan(rt: &HostRuntime, options: &RunOptions) -> io::Result<ExitStatus> {
     let Some(plan) = text_or_why_not(rt, options.plan.as_str())? else {
         return Ok(ExitStatus::Refused);
     };
@@ -65,7 +69,12 @@ pub(crate) fn run_plan(rt: &HostRuntime, options: &RunOptions) -> io::Result<Exi
         Some(text) => Some(text.as_str()),
         None => None,
     };
-    let status = run_with(rt, options, &input, saved, FileKeeper { file });
+    let standing = Standing::new(rt, plan.as_str(), options.is_verbose);
+    let keeper = FileKeeper {
+        file,
+        standing: &standing,
+    };
+    let status = run_with(rt, options, &input, saved, keeper);
     drop(lock);
     status
 }
@@ -144,7 +153,7 @@ fn run_over<L: Link + Drop>(
     keeper: FileKeeper<'_>,
     link: L,
 ) -> io::Result<ExitStatus> {
-    let told = Observed::new(link, Teller::new(rt, options.is_verbose));
+    let told = Observed::new(link, Teller::new(rt, keeper.standing, options.is_verbose));
     let mut link = Paced::new(told, rt, options.wait);
     let mut keeper = keeper;
     let mut writer = BufWriter::new(rt.alloc(), io::writer(rt))?;

@@ -1,16 +1,13 @@
 //! The program `serve`, over sockets.
 
-use crate::network::ServeOptions;
+use crate::options::ServeOptions;
 use kmip_commands::{CommandFault, ExitStatus};
 use kmip_server::{IndexedStore, Server};
-use kmip_store::MOST_ROOM;
+use kmip_store::{MOST_ROOM, SEED};
 use kmip_transport::{StreamEnd, serve_stream};
 use std::io;
 use std::net::{Ipv4Addr, Net, OpenListener, OpenStream, SocketAddr, SocketAddrV4};
 use std::time::Duration;
-
-/// The seed of each server's keys: the same keys in each run.
-const SEED: [u8; 32] = [0; 32];
 
 /// A server with no object.
 pub(crate) fn new_server(rt: &HostRuntime) -> Server<IndexedStore> {
@@ -18,7 +15,7 @@ pub(crate) fn new_server(rt: &HostRuntime) -> Server<IndexedStore> {
 }
 
 /// The command `serve`: connections one after the other.
-pub(crate) fn serve(rt: &HostRuntime, options: &ServeOptions) -> io::Result<ExitStatus> {
+pub fn serve(rt: &HostRuntime, options: &ServeOptions) -> io::Result<ExitStatus> {
     let address = SocketAddr::V4(SocketAddrV4::new(Ipv4Addr::LOCALHOST, options.port));
     let Some((listener, port)) = listening(rt, address) else {
         rt.println("cannot listen")?;

@@ -1,0 +1,46 @@
+//! What `run` and `serve` are to do.
+
+use std::net::SocketAddrV4;
+
+/// What `run` is to do.
+#[derive(Debug, PartialEq, Eq, Drop)]
+pub struct RunOptions {
+    /// The path of the plan.
+    pub plan: String,
+    /// The path of the progress.
+    pub progress: String,
+    /// How many exchanges it makes at most.
+    pub limit: u64,
+    /// Where the server is.
+    pub peer: Peer,
+    /// How long an exchange may take, in seconds.
+    pub timeout: u64,
+    /// How long to wait after an exchange without a reply, in milliseconds.
+    pub wait: u64,
+    /// Whether each exchange is told on standard error.
+    pub is_verbose: bool,
+}
+
+/// Where a server is.
+#[derive(Debug, PartialEq, Eq, Drop)]
+pub enum Peer {
+    /// Behind this address and port.
+    Tcp(SocketAddrV4),
+    /// Behind the Unix socket at this path.
+    Unix(String),
+    /// In this process: a new one with no object.
+    Loopback,
+}
+
+/// What `serve` is to do.
+#[derive(Clone, Copy, Debug, PartialEq, Eq)]
+pub struct ServeOptions {
+    /// The port of this machine; 0 for one that the system picks.
+    pub port: u16,
+    /// How many connections are served.
+    pub connections: u64,
+    /// What the server's clock says, in seconds since the start of 1970.
+    pub now: i64,
+    /// How long a read or a write of a connection may wait, in seconds.
+    pub timeout: u64,
+}

@@ -1,0 +1,73 @@
+//! How far a run is, while it works.
+ghost use Rattle.std.specs.Prelude.{◌≡◌, IfOk, Some, string_bytes};
+ghost use Rattle.kmip_run.specs.RunText.{begin_knowns};
+ghost use Rattle.kmip_run.specs.StandingText.{IsStandingText, standing_text};
+ghost use Rattle.kmip_session.specs.Reporting.{finished_count, is_finished};
+
+use crate::beginning::begin;
+use kmip_client::Verdict;
+use kmip_plan::Plan;
+use kmip_progress::ProgressFault;
+use std::alloc::{AllocError, Global};
+
+/// The line that says how far a run of the plan is, by the text that was kept last: how many keys are
+/// finished, how many exchanges were made, and how many of them brought no reply.
+///
+/// # Errors
+///
+/// Why the text is no progress of the plan; want of memory otherwise.
+pub fn standing_line(
+    alloc: Global,
+    plan: &Plan,
+    saved: &str,
+    exchanges: usize,
+    silent: usize,
+) -> Result<String, ProgressFault>
+    ensures { IfOk result (λ line. IsStandingText plan.now
+        (begin_knowns plan.now (Some saved.now)) exchanges silent (string_bytes line)) }
+{
+    let client = begin(alloc, plan, Some(saved))?;
+    let Ok(verdicts) = client.verdicts(alloc) else {
+        return Err(ProgressFault::NoMemory);
+    };
+    let finished = finished_count(verdicts.as_slice());
+    let line = standing_text(alloc, finished, plan.count(), exchanges, silent)?;
+    Ok(line)
+}
+
+/// The text of the line.
+#[tactic(auto, unfolding(crate::specs::StandingText::standing_text))]
+fn standing_text(
+    alloc: Global,
+    finished: usize,
+    keys: usize,
+    exchanges: usize,
+    silent: usize,
+) -> Result<String, AllocError>
+    ensures { IfOk result (λ text. string_bytes text
+        ≡ standing_text finished keys exchanges silent) }
+{
+    let text = format!(in alloc;
+        "{finished} of {keys} keys finished, {exchanges} exchanges, {silent} without a reply"
+    )?;
+    Ok(text)
+}
+
+/// How many of the verdicts are that a key is finished.
+fn finished_count(verdicts: &[Verdict]) -> usize
+    ensures { result ≡ finished_count verdicts.now }
+{
+    verdicts
+        .iter()
+        .filter(|verdict| is_finished(**verdict))
+        .count()
+}
+
+fn is_finished(verdict: Verdict) -> bool
+    ensures { result ≡ is_finished verdict }
+{
+    match verdict {
+        Verdict::Finished => true,
+        Verdict::Working | Verdict::Conflict(_) => false,
+    }
+}
