@@ -73,7 +73,10 @@ fn says_how_far_it_is(rt: HostRuntime) -> Result<(), Fail> {
     let plan = read_plan(rt.alloc(), PLAN)?;
     for row in &ROWS {
         let line = standing_line(rt.alloc(), &plan, row.saved, row.exchanges, row.silent);
-        assert_eq!(rt; line.as_ref().map(|line| line.as_str()), row.line.as_ref().copied());
+        assert_eq!(rt;
+            line.as_ref().map(|line| line.as_str()),
+            row.line.as_ref().copied()
+        );
     }
     Ok(())
 }

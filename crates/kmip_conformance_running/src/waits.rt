@@ -98,6 +98,9 @@ fn waits_and_tells(rt: HostRuntime) -> Result<(), Fail> {
     assert_eq!(rt; clock.slept.get(), 300);
     assert_eq!(rt; link.link().wait(), 0);
     let count = link.observer();
-    assert_eq!(rt; (count.replies, count.losses, count.faults, count.ends), (3, 2, 0, 1));
+    assert_eq!(rt;
+        (count.replies, count.losses, count.faults, count.ends),
+        (3, 2, 0, 1)
+    );
     Ok(())
 }

@@ -7,7 +7,8 @@ use kmip_ttlv::NoMemory;
 use kmip_wording::{push_answer, push_question};
 use std::str::from_utf8;
 
-/// Counts each exchange, and tells it on standard error, if it is to: what was asked, and what came of it.
+/// Counts each exchange, and tells it on standard error, if it is to: what was asked, and what came
+/// of it.
 #[derive(Drop)]
 pub(crate) struct Teller<'a> {
     rt: &'a HostRuntime,
