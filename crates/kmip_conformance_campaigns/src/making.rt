@@ -1,0 +1,75 @@
+//! Plans, runs, a link in memory, and what a campaign over it tells.
+
+use kmip_plan::{Plan, read_plan};
+use kmip_scripted::{Scripted, read_script};
+use kmip_server::{IndexedStore, Server};
+use kmip_session::{CampaignEnd, Run, Start};
+use kmip_simulation::{push_asks, push_records, push_runs};
+use std::alloc::Global;
+use std::process::Abort;
+use std::str::from_utf8;
+use std::test::Fail;
+
+/// One key of a plan, AES with 256 bits, to encrypt and decrypt.
+const KEY: &str = "\
+    [[key]]\n\
+    name = \"NAME\"\n\
+    algorithm = \"AES\"\n\
+    length = 256\n\
+    usage = [\"encrypt\", \"decrypt\"]\n\
+    target = \"TARGET\"\n";
+
+/// The plan of keys with these names and targets.
+pub fn plan_of(alloc: Global, keys: &[(&str, &str)]) -> Result<Plan, Fail> {
+    let mut text = String::new(alloc);
+    for (name, target) in keys {
+        let key = KEY.replace(alloc, "NAME", *name)?;
+        let key = key.as_str().replace(alloc, "TARGET", *target)?;
+        text.push_str(key.as_str())?;
+    }
+    let plan = read_plan(alloc, text.as_str())?;
+    Ok(plan)
+}
+
+/// One run, which is saved.
+pub fn saved_run(alloc: Global, start: Start, limit: usize) -> Result<Vec<Run>, Fail> {
+    let mut runs = Vec::new(alloc);
+    runs.push(Run {
+        start,
+        limit,
+        save: true,
+    })?;
+    Ok(runs)
+}
+
+/// A server with room for 10,000 objects, and without any.
+pub fn new_server(alloc: Global) -> Server<IndexedStore> {
+    Server::new(IndexedStore::new(alloc, [0; 32], 10_000))
+}
+
+/// A link to a server that follows a script.
+pub fn link_to(
+    alloc: Global,
+    server: Server<IndexedStore>,
+    script: &str,
+) -> Result<Scripted<IndexedStore>, Fail> {
+    let script = read_script(alloc, script)?;
+    Ok(Scripted::new(alloc, server, script))
+}
+
+/// Whether the campaign over the link tells this, and no want of memory.
+pub fn check_told(
+    rt: &impl Abort,
+    alloc: Global,
+    end: &CampaignEnd,
+    link: &Scripted<IndexedStore>,
+    told: &str,
+) -> Result<(), Fail> {
+    assert_eq!(rt; end.fault, None);
+    let mut text = Vec::new(alloc);
+    push_runs(alloc, end.runs.as_slice(), &mut text)?;
+    push_asks(alloc, link, &mut text)?;
+    push_records(alloc, link, &mut text)?;
+    assert_eq!(rt; from_utf8(text.as_slice())?, told);
+    Ok(())
+}
