@@ -1,5 +1,6 @@
 //! How far a run is, while it works.
-ghost use Rattle.std.specs.Prelude.{◌≡◌, IfOk, Some, string_bytes};
+ghost use Rattle.std.specs.Prelude.{◌≡◌, IfErr, IfOk, Some, string_bytes};
+ghost use Rattle.kmip_progress.specs.Reading.{FailsProgress};
 ghost use Rattle.kmip_run.specs.RunText.{begin_knowns};
 ghost use Rattle.kmip_run.specs.StandingText.{IsStandingText, standing_text};
 ghost use Rattle.kmip_session.specs.Reporting.{finished_count, is_finished};
@@ -23,8 +24,10 @@ pub fn standing_line(
     exchanges: usize,
     silent: usize,
 ) -> Result<String, ProgressFault>
-    ensures { IfOk result (λ line. IsStandingText plan.now
+    ensures text { IfOk result (λ line. IsStandingText plan.now
         (begin_knowns plan.now (Some saved.now)) exchanges silent (string_bytes line)) }
+    ensures refused { IfErr result (λ fault. FailsProgress fault
+        (begin_knowns plan.now (Some saved.now))) }
 {
     let client = begin(alloc, plan, Some(saved))?;
     let Ok(verdicts) = client.verdicts(alloc) else {
