@@ -54,19 +54,11 @@ fn run_command(rt: &HostRuntime) -> io::Result<ExitStatus> {
         Ok(
             Choice::Simulate {
                 plan,
-                further: None,
+                further,
                 script,
                 detail,
             },
-        ) => simulate_plan(rt, detail, plan.as_str(), script.as_str()),
-        Ok(
-            Choice::Simulate {
-                plan,
-                further: Some(further),
-                script,
-                detail,
-            },
-        ) => simulate_plans(rt, detail, plan.as_str(), further.as_str(), script.as_str()),
+        ) => simulate_files(rt, detail, plan.as_str(), further, script.as_str()),
         Ok(Choice::Run(options)) => run_plan(rt, &options),
         Ok(Choice::Serve(options)) => serve(rt, &options),
         Err(error) => {
@@ -118,6 +110,22 @@ fn check_plan_after(rt: &HostRuntime, path: &str, earlier_path: &str) -> io::Res
     };
     let mut writer = BufWriter::new(rt.alloc(), io::writer(rt))?;
     Ok(run_check_after(rt.alloc(), plan.as_str(), earlier.as_str(), &mut writer))
+}
+
+/// The command `sim`, from the files of one plan or of two.
+fn simulate_files(
+    rt: &HostRuntime,
+    detail: Detail,
+    path: &str,
+    further_path: Option<String>,
+    script_path: &str,
+) -> io::Result<ExitStatus> {
+    match further_path {
+        Some(further_path) => {
+            simulate_plans(rt, detail, path, further_path.as_str(), script_path)
+        }
+        None => simulate_plan(rt, detail, path, script_path),
+    }
 }
 
 /// The command `sim` from two files to standard output.
