@@ -324,16 +324,31 @@ const REFUSED: [(&str, &str, &str, &str); 10] = [
     ("[[", "", "hold\n", "plan refused: 1 Toml\n"),
     (CREATED, "", "hold\n", "plan refused: 2 NoKeys\n"),
     // The further plan takes back what may have been done, or leaves a key out.
-    (DISCARDED, ACTIVE, "prolong\n", "plan refused: prolongs not\n"),
+    (
+        DISCARDED,
+        ACTIVE,
+        "prolong\n",
+        "plan refused: prolongs not\n",
+    ),
     (ACTIVE, CREATED, "hold\n", "plan refused: prolongs not\n"),
     (ACTIVE_AND_MORE, ACTIVE, "", "plan refused: prolongs not\n"),
     // A word that there is not.
-    (CREATED, ACTIVE, "prolong\nhold\n", "script refused: line 2\n"),
+    (
+        CREATED,
+        ACTIVE,
+        "prolong\nhold\n",
+        "script refused: line 2\n",
+    ),
     (CREATED, ACTIVE, "prolong 1\n", "script refused: line 1\n"),
     // The plan is prolonged once.
     (CREATED, ACTIVE, "pass\npass\n", "script refused: line 0\n"),
     (CREATED, ACTIVE, "", "script refused: line 0\n"),
-    (CREATED, ACTIVE, "prolong\npass\nprolong\n", "script refused: line 0\n"),
+    (
+        CREATED,
+        ACTIVE,
+        "prolong\npass\nprolong\n",
+        "script refused: line 0\n",
+    ),
 ];
 
 #[test]
@@ -352,13 +367,17 @@ fn refuses_one_of_three(rt: HostRuntime) -> Result<(), Fail> {
 
 #[test]
 fn simulates_both_and_ends(rt: HostRuntime) -> Result<(), Fail> {
-    for (script, wanted) in [
-        ("prolong", ExitStatus::Done),
-        ("pass", ExitStatus::Refused),
-    ] {
+    for (script, wanted) in [("prolong", ExitStatus::Done), ("pass", ExitStatus::Refused)] {
         let mut writer = Vec::new(rt.alloc());
         let further = Some(ACTIVE);
-        let status = run_sim(rt.alloc(), Detail::Runs, CREATED, further, script, &mut writer);
+        let status = run_sim(
+            rt.alloc(),
+            Detail::Runs,
+            CREATED,
+            further,
+            script,
+            &mut writer,
+        );
         assert_eq!(rt; status, wanted, "{script:?}");
     }
     Ok(())

@@ -83,10 +83,7 @@ const ROWS: [(&[&str], Wanted); 30] = [
         &["sim", "--trace", "--plan", "a"],
         Wanted::Text(ExitStatus::Usage, "--script"),
     ),
-    (
-        &["sim", "--help"],
-        Wanted::Text(ExitStatus::Done, "--then"),
-    ),
+    (&["sim", "--help"], Wanted::Text(ExitStatus::Done, "--then")),
     (
         &["sim", "--then", "b", "--script", "c"],
         Wanted::Text(ExitStatus::Usage, "--plan"),
