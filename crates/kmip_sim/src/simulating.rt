@@ -283,7 +283,8 @@ fn told_of_simulations(
 ) -> Result<Told, NoMemory>
     requires prolongs { Prolongs further plan }
     requires one { prolongings script ≡ 1 }
-    ensures { IfOk result (λ told. TellsSimulations detail plan further told.ended told.text.items) }
+    ensures { IfOk result (λ told.
+        TellsSimulations detail plan further told.ended told.text.items) }
 {
     let plans = [plan, further];
     let simulation = simulate_plans(alloc, plans.as_slice(), script)?;
