@@ -1,17 +1,17 @@
 -- What holds of a key holds of one that goes on from it.
 use Rattle.std.proofs.Common.{◌≡◌, ◌<◌, ℕ, true, List, [], ◌∷◌, Some, refl, ap, sym, ◌∙◌, arith}
-use Rattle.kmip_messages.specs.Objects.{Object}
+use Rattle.kmip_objects.specs.Objects.{Object}
 use Rattle.kmip_messages.specs.Operations.{operation_of}
-use Rattle.kmip_messages.specs.Searching.{by_name}
+use Rattle.kmip_objects.specs.Searching.{by_name}
 use Rattle.kmip_messages.specs.declared.reply.Outcome.{Outcome}
 use Rattle.kmip_messages.specs.declared.reply.Outcome.TheVariants.{Created, Located, Attributes, Activated, Revoked, Destroyed, Failed}
 use Rattle.kmip_messages.specs.declared.request.Ask.{Ask}
 use Rattle.kmip_messages.specs.declared.request.Ask.TheVariants as asks
-use Rattle.kmip_messages.specs.declared.request.Attrs.{Attrs}
-use Rattle.kmip_messages.specs.declared.request.KeyAttrs.{KeyAttrs}
+use Rattle.kmip_objects.specs.declared.attributes.Attrs.{Attrs}
+use Rattle.kmip_objects.specs.declared.attributes.KeyAttrs.{KeyAttrs}
 use Rattle.kmip_messages.specs.declared.request.Request.{Request}
-use Rattle.kmip_messages.specs.declared.step.Step.{Step}
-use Rattle.kmip_messages.specs.declared.step.Step.TheVariants as steps
+use Rattle.kmip_objects.specs.declared.step.Step.{Step}
+use Rattle.kmip_objects.specs.declared.step.Step.TheVariants as steps
 use Rattle.kmip_plan.specs.Chains.{step_place, is_revoked}
 use Rattle.kmip_plan.specs.Laws.{ReachedIsNoLess, StepsKeepTheirPlaces, StatesKeepTheirPlaces, PlacesAndSteps, RevokesAreOfTheRevoked, OldKeysAreFound}
 use Rattle.kmip_plan.specs.Plans.{IsLawful}

@@ -4,11 +4,13 @@ use Rattle.std.proofs.lemmas.Bool.{and_parts, or_cases, eqb-true, leb-true, le-l
 use Rattle.std.specs.Option.{unwrap_or}
 use Rattle.std.specs.List.{list_all}
 use Rattle.kmip_messages.specs.Operations.{operation_of}
-use Rattle.kmip_messages.specs.Ranges.{is_name, is_name_byte, is_identifier, is_algorithm, is_length, is_usage, is_batch_id, is_revocation_code, attrs_fit, ask_fits, request_fits}
+use Rattle.kmip_objects.specs.Ranges.{is_name, is_name_byte, is_identifier, is_algorithm, is_length, is_usage, is_revocation_code, attrs_fit}
+use Rattle.kmip_messages.specs.Ranges.{is_batch_id}
+use Rattle.kmip_messages.specs.RequestFits.{ask_fits, request_fits}
 use Rattle.kmip_messages.specs.declared.request.Ask.{Ask}
 use Rattle.kmip_messages.specs.declared.request.Ask.TheVariants as asks
-use Rattle.kmip_messages.specs.declared.step.Step.{Step}
-use Rattle.kmip_messages.specs.declared.step.Step.TheVariants as steps
+use Rattle.kmip_objects.specs.declared.step.Step.{Step}
+use Rattle.kmip_objects.specs.declared.step.Step.TheVariants as steps
 use Rattle.kmip_plan.specs.Chains.{step_at, is_revoked}
 use Rattle.kmip_plan.specs.Laws.{RevokesAreOfTheRevoked}
 use Rattle.kmip_plan.specs.Plans.{key_fits, reason_fits}

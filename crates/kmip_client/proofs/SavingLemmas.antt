@@ -3,13 +3,13 @@ use Rattle.std.proofs.Common.{◌≡◌, ◌≢◌, ◌≤◌, ◌==◌, ◌||�
 use Rattle.std.proofs.lemmas.Bool.{cases_Bool, and_parts, leb-true, le-leb, eqb-true, eqb-false}
 use Rattle.std.specs.List.{AllZip}
 use Rattle.std.specs.Option.{option_map, option_map_or}
-use Rattle.kmip_messages.specs.Objects.{Object, object_named}
-use Rattle.kmip_messages.specs.declared.request.KeyAttrs.{KeyAttrs}
+use Rattle.kmip_objects.specs.Objects.{Object, object_named}
+use Rattle.kmip_objects.specs.declared.attributes.KeyAttrs.{KeyAttrs}
 use Rattle.kmip_plan.specs.Chains.{place_reached}
 use Rattle.kmip_plan.specs.Laws.{ReachedIsNoLess}
 use Rattle.kmip_plan.specs.Prolonging.{LeadsOn, GoesOn, Prolongs}
 use Rattle.kmip_plan.specs.declared.target.Target.{Target}
-use Rattle.kmip_messages.specs.Ranges.{is_identifier}
+use Rattle.kmip_objects.specs.Ranges.{is_identifier}
 use Rattle.kmip_plan.specs.declared.key.Key.{Key}
 use Rattle.kmip_progress.specs.Suiting.{is_known, known_fits, nothing_known, Suits}
 use Rattle.kmip_progress.specs.declared.known.Known.{Known}

@@ -4,12 +4,12 @@ use Rattle.std.specs.Prelude.{ℕ, Bool, false, not, ◌&&◌, ◌==◌, nat_eq,
 use Rattle.std.specs.Cmp.Lexicographic.{pointwise}
 use Rattle.std.specs.Option.{is_some, option_map_or}
 use Rattle.std.specs.Ordering.{int_eq}
-use Rattle.kmip_messages.specs.declared.request.Attrs.{Attrs}
+use Rattle.kmip_objects.specs.declared.attributes.Attrs.{Attrs}
 use Rattle.kmip_messages.specs.declared.reply.Outcome.{Outcome}
 use Rattle.kmip_messages.specs.declared.reply.Outcome.TheVariants.{Created, Located, Attributes, Activated, Revoked, Destroyed, Failed}
-use Rattle.kmip_messages.specs.declared.standard.TheConstants.{OBJECT_TYPE_SYMMETRIC_KEY}
-use Rattle.kmip_messages.specs.declared.step.Step.{Step}
-use Rattle.kmip_messages.specs.declared.step.Step.TheVariants as steps
+use Rattle.kmip_objects.specs.declared.standard.TheConstants.{OBJECT_TYPE_SYMMETRIC_KEY}
+use Rattle.kmip_objects.specs.declared.step.Step.{Step}
+use Rattle.kmip_objects.specs.declared.step.Step.TheVariants as steps
 use Rattle.kmip_plan.specs.Chains.{place_of, step_place}
 use Rattle.kmip_plan.specs.declared.key.Key.{Key}
 use Rattle.kmip_client.specs.declared.clash.Clash.{Clash}

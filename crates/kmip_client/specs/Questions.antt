@@ -4,12 +4,12 @@ use Rattle.std.specs.Prelude.{ℕ, ◌+◌, List, [], ◌∷◌, Option, Some, N
 use Rattle.std.specs.Option.{unwrap_or}
 use Rattle.kmip_messages.specs.Operations.{operation_of}
 use Rattle.kmip_messages.specs.Written.{request_item}
-use Rattle.kmip_messages.specs.Searching.{by_name, every_state}
+use Rattle.kmip_objects.specs.Searching.{by_name, every_state}
 use Rattle.kmip_messages.specs.declared.request.Ask.{Ask}
 use Rattle.kmip_messages.specs.declared.request.Ask.TheVariants as asks
 use Rattle.kmip_messages.specs.declared.request.Request.{Request}
-use Rattle.kmip_messages.specs.declared.step.Step.{Step}
-use Rattle.kmip_messages.specs.declared.step.Step.TheVariants.{Create, Activate, Revoke, Destroy}
+use Rattle.kmip_objects.specs.declared.step.Step.{Step}
+use Rattle.kmip_objects.specs.declared.step.Step.TheVariants.{Create, Activate, Revoke, Destroy}
 use Rattle.kmip_ttlv.specs.Spelling.{canon}
 use Rattle.kmip_plan.specs.Chains.{step_at}
 use Rattle.kmip_plan.specs.declared.key.Key.{Key}

@@ -2,7 +2,7 @@
 -- Source: own.
 use Rattle.std.specs.Prelude.{◌≡◌, ◌≢◌, ◌≤◌, ◌<◌, ℕ, List, length, Option, Some, None, IfSome, IsTrue}
 use Rattle.std.specs.List.{AllZip}
-use Rattle.kmip_messages.specs.Ranges.{is_identifier}
+use Rattle.kmip_objects.specs.Ranges.{is_identifier}
 use Rattle.kmip_plan.specs.Plans.{IsLawful}
 use Rattle.kmip_plan.specs.declared.key.Key.{Key}
 use Rattle.kmip_client.specs.declared.knowledge.Knowledge.{Knowledge}

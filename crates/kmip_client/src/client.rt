@@ -32,7 +32,7 @@ ghost use Rattle.kmip_progress.specs.Suiting.{Suits};
 ghost use Rattle.kmip_client.specs.Justified.{JustifiedMessage};
 ghost use Rattle.kmip_client.specs.Shapes.{IsShaped, IsKept};
 ghost use Rattle.kmip_client.specs.Truth.{TrueReply, TrueMessage};
-ghost use Rattle.kmip_messages.specs.Objects.{Object};
+ghost use Rattle.kmip_objects.specs.Objects.{Object};
 ghost use Rattle.kmip_client.specs.Knowledge.{fresh_knowledge};
 
 use crate::fault::HearFault;

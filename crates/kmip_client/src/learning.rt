@@ -22,8 +22,9 @@ ghost use Rattle.kmip_client.specs.Learning.{
 use crate::clash::Clash;
 use crate::fault::HearFault;
 use crate::knowledge::{Knowledge, Phase};
-use kmip_messages::standard::OBJECT_TYPE_SYMMETRIC_KEY;
-use kmip_messages::{Attrs, Outcome, Texts};
+use kmip_messages::{Outcome, Texts};
+use kmip_objects::Attrs;
+use kmip_objects::standard::OBJECT_TYPE_SYMMETRIC_KEY;
 use kmip_plan::{Key, Step, place_of, step_place};
 use kmip_ttlv::Text;
 

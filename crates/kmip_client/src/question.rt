@@ -2,7 +2,7 @@
 ghost use Rattle.std.specs.Prelude.{◌≡◌, ◌<◌, [], IfOk, IsTrue, option_map};
 ghost use Rattle.std.specs.Option.{unwrap_or};
 ghost use Rattle.kmip_messages.specs.Items.{AsksAlone};
-ghost use Rattle.kmip_messages.specs.Searching.{by_name};
+ghost use Rattle.kmip_objects.specs.Searching.{by_name};
 ghost use Rattle.kmip_plan.specs.Plans.{key_fits};
 ghost use Rattle.kmip_client.specs.Questions.{
   next_ask,
@@ -15,8 +15,9 @@ ghost use Rattle.kmip_client.specs.Questions.{
 ghost use Rattle.kmip_client.specs.Shapes.{IsShaped};
 
 use crate::knowledge::{Knowledge, Phase};
-use kmip_messages::standard::{STORAGE_DESTROYED, STORAGE_ON_LINE};
-use kmip_messages::{Ask, Attrs, Request, write_request};
+use kmip_messages::{Ask, Request, write_request};
+use kmip_objects::Attrs;
+use kmip_objects::standard::{STORAGE_DESTROYED, STORAGE_ON_LINE};
 use kmip_plan::{Key, Step, chain, laws};
 use kmip_ttlv::{Bytes, NoMemory, Text};
 use std::alloc::Global;

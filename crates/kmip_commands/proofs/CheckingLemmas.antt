@@ -4,7 +4,7 @@ use Rattle.std.specs.Fmt.{decimal, signed_decimal}
 use Rattle.std.specs.List.{slice_get, flat_map}
 use Rattle.std.specs.Io.KnownBytes.{Appends}
 use Rattle.std.proofs.KnownBytes.{Appends-trans}
-use Rattle.kmip_messages.specs.declared.step.Step.{Step}
+use Rattle.kmip_objects.specs.declared.step.Step.{Step}
 use Rattle.kmip_plan.specs.Chains.{chain, step_at}
 use Rattle.kmip_plan.specs.Faults.{plan_fault_number, plan_fault_name, plan_fault_field, plan_fault_place}
 use Rattle.kmip_plan.specs.Words.{algorithm_word, target_word}

@@ -6,8 +6,8 @@ use Rattle.std.specs.Int.{w32, cast_unsigned, to_be_bytes}
 use Rattle.std.specs.List.{flat_map}
 use Rattle.hex.specs.Hex.{encode_lower}
 use Rattle.kmip_ttlv.specs.Showing.{plain_text}
-use Rattle.kmip_messages.specs.Lifecycle.{step_word}
-use Rattle.kmip_messages.specs.declared.step.Step.{Step}
+use Rattle.kmip_objects.specs.Lifecycle.{step_word}
+use Rattle.kmip_objects.specs.declared.step.Step.{Step}
 use Rattle.kmip_plan.specs.Chains.{chain}
 use Rattle.kmip_plan.specs.Faults.{plan_fault_number, plan_fault_name, plan_fault_field, plan_fault_place}
 use Rattle.kmip_plan.specs.Prolonging.{Prolongs}

@@ -1,7 +1,7 @@
 //! A key on its way through the states, its key material, and what is told of it.
 
 use crate::serving::{reply_to, server_of};
-use kmip_messages::KeyState;
+use kmip_objects::KeyState;
 use kmip_server::Server;
 use kmip_store::{ListStore, Records};
 use kmip_vectors::{

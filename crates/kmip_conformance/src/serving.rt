@@ -1,7 +1,7 @@
 //! Messages answered by a server.
 ghost use Rattle.std.specs.Prelude.{◌≤◌};
 
-use kmip_messages::KeyState;
+use kmip_objects::KeyState;
 use kmip_server::Server;
 use kmip_store::{ListStore, Records};
 use kmip_vectors::{

@@ -2,7 +2,7 @@
 ghost use Rattle.std.specs.Prelude.{IfOk, IsTrue};
 ghost use Rattle.kmip_store.specs.Calling.{may_call};
 
-use kmip_messages::{Attrs, KeyAttrs, attrs_fit};
+use kmip_objects::{Attrs, KeyAttrs, attrs_fit};
 use kmip_store::{Answer, Call, IndexedStore, ListStore, call_both};
 use kmip_ttlv::Text;
 use rand_chacha::ChaCha20Rng;

@@ -3,7 +3,8 @@
 use crate::layouts::{ACTIVATE, CREATE, Change, Content, LOCATE, Line, bytes_of, changed, request};
 use crate::request_rows::{TABLES, Table, Verdict};
 use crate::tags::{ID, OPERATION};
-use kmip_messages::{Ask, Attrs, MessageFault, Refusal, read_request, request_fits, write_request};
+use kmip_messages::{Ask, MessageFault, Refusal, read_request, request_fits, write_request};
+use kmip_objects::Attrs;
 use kmip_vectors::{ACTIVATE_1, CREATE_K1, DESTROY_1, LOCATE_K1};
 use std::alloc::Global;
 use std::process::Abort;

@@ -1,7 +1,8 @@
 //! Scripts, each with what a campaign over its link tells.
 
 use crate::telling::{plan_of, runs_of, server_of, told, told_of_drive};
-use kmip_messages::{Ask, KeyAttrs, Outcome, Request, read_reply, request_fits, write_request};
+use kmip_messages::{Ask, Outcome, Request, read_reply, request_fits, write_request};
+use kmip_objects::KeyAttrs;
 use kmip_scripted::{Scripted, read_script};
 use kmip_server::{IndexedStore, ListStore, Records, Server};
 use kmip_ttlv::Text;

@@ -1,6 +1,6 @@
 //! Plans and words for the tests, and how far the objects are to have come.
 
-use kmip_messages::KeyState;
+use kmip_objects::KeyState;
 use kmip_plan::{Plan, Target, read_plan};
 use kmip_scripted::Word;
 use kmip_server::Records;

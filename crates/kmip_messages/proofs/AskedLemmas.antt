@@ -8,18 +8,19 @@ use Rattle.std.proofs.lemmas.List.Elements.{All-nil, All-cons}
 use Rattle.kmip_ttlv.specs.Node.{Node}
 use Rattle.kmip_ttlv.specs.Fitting.{IsBytes, IsInRange}
 use Rattle.kmip_ttlv.specs.Spelling.{canon, Spells}
-use Rattle.kmip_messages.specs.declared.fault.MessageFault.{MessageFault}
-use Rattle.kmip_messages.specs.declared.fault.MessageFault.TheVariants.{NoMemory}
-use Rattle.kmip_messages.specs.declared.fault.Refusal.{Refusal}
+use Rattle.kmip_fields.specs.declared.fault.MessageFault.{MessageFault}
+use Rattle.kmip_fields.specs.declared.fault.MessageFault.TheVariants.{NoMemory}
+use Rattle.kmip_messages.specs.declared.refusal.Refusal.{Refusal}
 use Rattle.kmip_messages.specs.declared.request.Ask.{Ask}
 use Rattle.kmip_messages.specs.declared.request.Ask.TheVariants.{Create, Locate, GetAttributes, Activate, Revoke, Destroy}
 use Rattle.kmip_messages.specs.declared.request.Request.{Request}
-use Rattle.kmip_messages.specs.Faults.{is_no_memory}
+use Rattle.kmip_fields.specs.Faults.{is_no_memory}
 use Rattle.kmip_messages.specs.Items.{parts_in, stops_in, requests_in, AsksAlone, AsksNothing}
-use Rattle.kmip_messages.specs.Ranges.{is_name, ask_fits, request_fits}
+use Rattle.kmip_objects.specs.Ranges.{is_name}
+use Rattle.kmip_messages.specs.RequestFits.{ask_fits, request_fits}
 use Rattle.kmip_messages.specs.RequestReading.{RefusalIs, GivesRequest, refused, request_at}
 use Rattle.kmip_messages.specs.Requests.{IsPayload, IsRequest}
-use Rattle.kmip_messages.specs.Siblings.{◌>>=◌}
+use Rattle.kmip_ttlv.specs.Binding.{◌>>=◌}
 use Rattle.kmip_messages.specs.Whole.{item_in, request_read}
 use Rattle.kmip_messages.specs.Written.{request_item}
 use Rattle.kmip_messages.proofs.RequestLaws.{request-law}

@@ -1,7 +1,7 @@
 -- Identifiers read one after the other.
 use Rattle.std.proofs.Common.{ℕ, List, ◌++◌, Result, Ok}
-use Rattle.kmip_messages.specs.declared.fault.MessageFault.{MessageFault}
-use Rattle.kmip_messages.specs.Siblings.{◌>>=◌}
+use Rattle.kmip_fields.specs.declared.fault.MessageFault.{MessageFault}
+use Rattle.kmip_ttlv.specs.Binding.{◌>>=◌}
 
 -- what was read before, and then what reading gives
 abbrev pub with_front : List (List ℕ) → Result (List (List ℕ)) MessageFault → Result (List (List ℕ)) MessageFault

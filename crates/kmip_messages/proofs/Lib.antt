@@ -1,4 +1,3 @@
-mod SiblingLemmas
 mod IdentifierLemmas
 mod WrittenLemmas
 pub mod ForCallers
@@ -12,4 +11,3 @@ mod ReplyRoundTrip
 mod ReplyBytes
 mod AskedLemmas
 mod SaidLemmas
-mod ObjectLemmas

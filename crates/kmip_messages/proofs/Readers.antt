@@ -5,13 +5,15 @@ use Rattle.std.specs.List.{list_any}
 use Rattle.std.specs.Option.{option_map, option_map_or}
 use Rattle.kmip_ttlv.specs.Node.{Node, node, Content, structure, integer, enumeration, text_string, byte_string, tag_of, content_of, list_of, as_structure, as_integer, as_enumeration, as_text_string, as_byte_string}
 use Rattle.kmip_ttlv.proofs.ForCallers.{nodes_of-list_of, list_of-nodes_of}
-use Rattle.kmip_messages.proofs.ForCallers.{Reads, err, same_ok, not_ok, reads-ok, reads-bind, reads-as}
-use Rattle.kmip_messages.specs.declared.fault.MessageFault.{MessageFault}
-use Rattle.kmip_messages.specs.declared.fault.MessageFault.TheVariants.{Missing, Twice, WrongType, OutOfRange, NotMessage, BatchCount}
+use Rattle.kmip_ttlv.proofs.ReadSteps.{Reads, err, same_ok, not_ok, reads-ok, reads-bind, reads-as}
+use Rattle.kmip_fields.specs.declared.fault.MessageFault.{MessageFault}
+use Rattle.kmip_fields.specs.declared.fault.MessageFault.TheVariants.{Missing, Twice, WrongType, OutOfRange, NotMessage, BatchCount}
 use Rattle.kmip_messages.specs.declared.standard.TheConstants.{TAG_UNIQUE_BATCH_ITEM_ID, TAG_UNIQUE_IDENTIFIER}
-use Rattle.kmip_messages.specs.Ranges.{is_identifier, is_batch_id}
-use Rattle.kmip_messages.specs.Siblings.{contents, at_most_one_of, one_of, typed, typed_if_any, guard, within, sole, the, maybe, only}
-use Rattle.kmip_messages.specs.Standing.{Once, if_any, AtMostOnce, HaveTags, IsMarked, IsIdentifier}
+use Rattle.kmip_objects.specs.Ranges.{is_identifier}
+use Rattle.kmip_messages.specs.Ranges.{is_batch_id}
+use Rattle.kmip_fields.specs.Siblings.{contents, at_most_one_of, one_of, typed, typed_if_any, guard, within, sole, the, maybe, only}
+use Rattle.kmip_fields.specs.Standing.{Once, if_any, AtMostOnce, HaveTags}
+use Rattle.kmip_messages.specs.Marks.{IsMarked, IsIdentifier}
 use Rattle.kmip_messages.specs.Parts.{message_in, message_at, id_in, id_at, identifier_at}
 use Rattle.kmip_messages.specs.RequestReading.{refused}
 use Rattle.kmip_messages.specs.Written.{inside, given}

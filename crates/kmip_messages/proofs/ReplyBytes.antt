@@ -5,16 +5,16 @@ use Rattle.kmip_ttlv.specs.Node.{Node}
 use Rattle.kmip_ttlv.specs.Fitting.{IsBytes, IsInRange}
 use Rattle.kmip_ttlv.specs.Spelling.{canon, Spells}
 use Rattle.kmip_ttlv.proofs.ForCallers.{canon_spells}
-use Rattle.kmip_messages.specs.declared.fault.MessageFault.{MessageFault}
+use Rattle.kmip_fields.specs.declared.fault.MessageFault.{MessageFault}
 use Rattle.kmip_messages.specs.declared.reply.Reply.{Reply}
 use Rattle.kmip_messages.specs.Fits.{reply_fits}
-use Rattle.kmip_messages.specs.Reading.{Gives}
+use Rattle.kmip_fields.specs.Reading.{Gives}
 use Rattle.kmip_messages.specs.Whole.{reply_read}
 use Rattle.kmip_messages.specs.ReplyReading.{reply_at}
-use Rattle.kmip_messages.specs.Siblings.{◌>>=◌}
+use Rattle.kmip_ttlv.specs.Binding.{◌>>=◌}
 use Rattle.kmip_messages.specs.Written.{reply_item}
 use Rattle.kmip_messages.specs.Replies.{IsReply, SpellReply}
-use Rattle.kmip_messages.proofs.ForCallers.{Reads, reads-bind}
+use Rattle.kmip_ttlv.proofs.ReadSteps.{Reads, reads-bind}
 use Rattle.kmip_messages.proofs.WholeLaws.{item_in-complete, item_in-law}
 use Rattle.kmip_messages.proofs.WrittenLemmas.{reply_fits_writable}
 use Rattle.kmip_messages.proofs.ReplyLaws.{reply-law}

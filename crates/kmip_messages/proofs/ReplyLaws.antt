@@ -6,9 +6,9 @@ use Rattle.std.specs.Option.{option_map}
 use Rattle.std.proofs.lemmas.Bool.{and_parts, or_cases, eqb-true, eq-eqb}
 use Rattle.std.proofs.lemmas.Bool.Decides.{Decides-int_eq}
 use Rattle.kmip_ttlv.specs.Node.{Node, Content, integer, enumeration, text_string, as_structure, as_integer, as_enumeration, as_text_string}
-use Rattle.kmip_messages.specs.declared.fault.MessageFault.{MessageFault}
-use Rattle.kmip_messages.specs.declared.fault.MessageFault.TheVariants.{Version, BatchCount, Missing, UnknownOperation}
-use Rattle.kmip_messages.specs.declared.request.Attrs.{Attrs}
+use Rattle.kmip_fields.specs.declared.fault.MessageFault.{MessageFault}
+use Rattle.kmip_fields.specs.declared.fault.MessageFault.TheVariants.{Version, BatchCount, Missing, UnknownOperation}
+use Rattle.kmip_objects.specs.declared.attributes.Attrs.{Attrs}
 use Rattle.kmip_messages.specs.declared.reply.Outcome.{Outcome}
 use Rattle.kmip_messages.specs.declared.reply.Outcome.TheVariants.{Created, Located, Attributes, Activated, Revoked, Destroyed, Failed}
 use Rattle.kmip_messages.specs.declared.standard.TheConstants.{
@@ -44,14 +44,17 @@ use Rattle.kmip_messages.specs.declared.standard.TheConstants.{
   OPERATION_REVOKE,
   OPERATION_DESTROY,
 }
-use Rattle.kmip_messages.specs.Ranges.{is_identifier, is_operation}
-use Rattle.kmip_messages.specs.Siblings.{contents, ◌>>=◌, guard, the}
-use Rattle.kmip_messages.specs.Standing.{Once, AtMostOnce, IsIdentifier}
+use Rattle.kmip_objects.specs.Ranges.{is_identifier}
+use Rattle.kmip_messages.specs.Ranges.{is_operation}
+use Rattle.kmip_fields.specs.Siblings.{contents, guard, the}
+use Rattle.kmip_ttlv.specs.Binding.{◌>>=◌}
+use Rattle.kmip_fields.specs.Standing.{Once, AtMostOnce}
+use Rattle.kmip_messages.specs.Marks.{IsIdentifier}
 use Rattle.kmip_messages.specs.Parts.{identifier_at}
 use Rattle.kmip_messages.specs.ReplyReading.{reply_header_at, reply_batch_at, identifier_in, identifiers_in, name_in, any_name_at, attrs_at, attributes_at, located_in, located_at, payload_at, success_in, failed_at, is_status, outcome_at, reply_at}
 use Rattle.kmip_messages.specs.Written.{inside}
 use Rattle.kmip_messages.specs.Replies.{IsReplyHeader, IsReplyBatch, IsNameIfAny, AreAttrs, IsObject, IsSuccess, AreFound, IsLocated, IsOutcome, IsReply}
-use Rattle.kmip_messages.proofs.ForCallers.{Reads, reads-ok, reads-bind, reads-bind_known, reads-as}
+use Rattle.kmip_ttlv.proofs.ReadSteps.{Reads, reads-ok, reads-bind, reads-bind_known, reads-as}
 use Rattle.kmip_messages.proofs.Readers.{reads-if, reads-guard, reads-within, reads-the, reads-maybe, reads-typed, reads-sole, reads-message, reads-id, reads-identifier, structure_kind, integer_kind, enumeration_kind, text_kind}
 
 abbrev ok : (E A : Type 0) → A → Result A E

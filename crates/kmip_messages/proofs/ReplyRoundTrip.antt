@@ -4,14 +4,15 @@ use Rattle.std.specs.Option.{option_map}
 use Rattle.std.proofs.lemmas.Bool.{and_parts, eqb-true}
 use Rattle.std.proofs.lemmas.List.{append-nil}
 use Rattle.kmip_ttlv.specs.Node.{Node, node, integer, enumeration, text_string, byte_string, date_time}
-use Rattle.kmip_messages.specs.declared.request.Attrs.{Attrs}
+use Rattle.kmip_objects.specs.declared.attributes.Attrs.{Attrs}
 use Rattle.kmip_messages.specs.declared.reply.Outcome.{Outcome}
 use Rattle.kmip_messages.specs.declared.reply.Outcome.TheVariants.{Created, Located, Attributes, Activated, Revoked, Destroyed, Failed}
 use Rattle.kmip_messages.specs.declared.reply.Reply.{Reply}
-use Rattle.kmip_messages.specs.declared.standard.TheConstants.{TAG_PROTOCOL_VERSION_MAJOR, TAG_PROTOCOL_VERSION_MINOR, TAG_BATCH_COUNT, TAG_TIME_STAMP, VERSION_MAJOR, VERSION_MINOR, OBJECT_TYPE_SYMMETRIC_KEY, TAG_UNIQUE_BATCH_ITEM_ID, TAG_OPERATION, TAG_RESULT_STATUS, TAG_RESULT_REASON, TAG_RESPONSE_PAYLOAD, TAG_OBJECT_TYPE, TAG_NAME, TAG_NAME_VALUE, TAG_NAME_TYPE, TAG_CRYPTOGRAPHIC_ALGORITHM, TAG_CRYPTOGRAPHIC_LENGTH, TAG_CRYPTOGRAPHIC_USAGE_MASK, TAG_STATE, TAG_UNIQUE_IDENTIFIER, NAME_TYPE_UNINTERPRETED_TEXT_STRING, OPERATION_CREATE, OPERATION_LOCATE, OPERATION_GET_ATTRIBUTES, OPERATION_ACTIVATE, OPERATION_REVOKE, OPERATION_DESTROY}
+use Rattle.kmip_messages.specs.declared.standard.TheConstants.{TAG_PROTOCOL_VERSION_MAJOR, TAG_PROTOCOL_VERSION_MINOR, TAG_BATCH_COUNT, TAG_TIME_STAMP, VERSION_MAJOR, VERSION_MINOR, TAG_UNIQUE_BATCH_ITEM_ID, TAG_OPERATION, TAG_RESULT_STATUS, TAG_RESULT_REASON, TAG_RESPONSE_PAYLOAD, TAG_OBJECT_TYPE, TAG_NAME, TAG_NAME_VALUE, TAG_NAME_TYPE, TAG_CRYPTOGRAPHIC_ALGORITHM, TAG_CRYPTOGRAPHIC_LENGTH, TAG_CRYPTOGRAPHIC_USAGE_MASK, TAG_STATE, TAG_UNIQUE_IDENTIFIER, NAME_TYPE_UNINTERPRETED_TEXT_STRING, OPERATION_CREATE, OPERATION_LOCATE, OPERATION_GET_ATTRIBUTES, OPERATION_ACTIVATE, OPERATION_REVOKE, OPERATION_DESTROY}
+use Rattle.kmip_objects.specs.declared.standard.TheConstants.{OBJECT_TYPE_SYMMETRIC_KEY}
 use Rattle.kmip_messages.specs.Fits.{is_own, outcome_fits, reply_fits}
-use Rattle.kmip_messages.specs.Siblings.{contents}
-use Rattle.kmip_messages.specs.Standing.{AtMostOnce}
+use Rattle.kmip_fields.specs.Siblings.{contents}
+use Rattle.kmip_fields.specs.Standing.{AtMostOnce}
 use Rattle.kmip_messages.specs.Written.{given, version_item, uid_item, name_item, attrs_item, success_items, outcome_items, reply_header_item, reply_batch_item, reply_item}
 use Rattle.kmip_messages.proofs.Readers.{contents-append, contents-given}
 use Rattle.kmip_messages.specs.Replies.{IsReplyBatch, IsNameIfAny, AreAttrs, IsSuccess, IsFailed, IsOutcome, IsReply}

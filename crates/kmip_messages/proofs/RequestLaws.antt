@@ -4,20 +4,23 @@ use Rattle.std.proofs.lemmas.Bool.{eqb-true, and_parts}
 use Rattle.std.proofs.lemmas.Bool.Decides.{Decides-int_eq}
 use Rattle.std.specs.Ordering.{int_eq}
 use Rattle.kmip_ttlv.specs.Node.{Node, integer, enumeration, text_string, as_structure, as_integer, as_enumeration, as_text_string}
-use Rattle.kmip_messages.specs.declared.fault.MessageFault.TheVariants.{Version, BatchCount, UnknownOperation}
-use Rattle.kmip_messages.specs.declared.request.KeyAttrs.{KeyAttrs}
-use Rattle.kmip_messages.specs.declared.request.Attrs.{Attrs}
+use Rattle.kmip_fields.specs.declared.fault.MessageFault.TheVariants.{Version, BatchCount, UnknownOperation}
+use Rattle.kmip_objects.specs.declared.attributes.KeyAttrs.{KeyAttrs}
+use Rattle.kmip_objects.specs.declared.attributes.Attrs.{Attrs}
 use Rattle.kmip_messages.specs.declared.request.Ask.{Ask}
 use Rattle.kmip_messages.specs.declared.request.Ask.TheVariants.{Create, Locate, GetAttributes, Activate, Revoke, Destroy}
-use Rattle.kmip_messages.specs.declared.standard.TheConstants.{TAG_REQUEST_MESSAGE, TAG_REQUEST_HEADER, TAG_PROTOCOL_VERSION, TAG_PROTOCOL_VERSION_MAJOR, TAG_PROTOCOL_VERSION_MINOR, TAG_BATCH_COUNT, TAG_BATCH_ITEM, TAG_OPERATION, TAG_REQUEST_PAYLOAD, TAG_OBJECT_TYPE, TAG_ATTRIBUTES, TAG_NAME, TAG_NAME_VALUE, TAG_NAME_TYPE, TAG_CRYPTOGRAPHIC_ALGORITHM, TAG_CRYPTOGRAPHIC_LENGTH, TAG_CRYPTOGRAPHIC_USAGE_MASK, TAG_STATE, TAG_STORAGE_STATUS_MASK, TAG_REVOCATION_REASON, TAG_REVOCATION_REASON_CODE, VERSION_MAJOR, VERSION_MINOR, OBJECT_TYPE_SYMMETRIC_KEY, NAME_TYPE_UNINTERPRETED_TEXT_STRING, OPERATION_CREATE, OPERATION_LOCATE, OPERATION_GET_ATTRIBUTES, OPERATION_ACTIVATE, OPERATION_REVOKE, OPERATION_DESTROY}
-use Rattle.kmip_messages.specs.Ranges.{is_name, is_algorithm, is_length, is_usage, is_revocation_code, is_operation}
+use Rattle.kmip_messages.specs.declared.standard.TheConstants.{TAG_REQUEST_MESSAGE, TAG_REQUEST_HEADER, TAG_PROTOCOL_VERSION, TAG_PROTOCOL_VERSION_MAJOR, TAG_PROTOCOL_VERSION_MINOR, TAG_BATCH_COUNT, TAG_BATCH_ITEM, TAG_OPERATION, TAG_REQUEST_PAYLOAD, TAG_OBJECT_TYPE, TAG_ATTRIBUTES, TAG_NAME, TAG_NAME_VALUE, TAG_NAME_TYPE, TAG_CRYPTOGRAPHIC_ALGORITHM, TAG_CRYPTOGRAPHIC_LENGTH, TAG_CRYPTOGRAPHIC_USAGE_MASK, TAG_STATE, TAG_STORAGE_STATUS_MASK, TAG_REVOCATION_REASON, TAG_REVOCATION_REASON_CODE, VERSION_MAJOR, VERSION_MINOR, NAME_TYPE_UNINTERPRETED_TEXT_STRING, OPERATION_CREATE, OPERATION_LOCATE, OPERATION_GET_ATTRIBUTES, OPERATION_ACTIVATE, OPERATION_REVOKE, OPERATION_DESTROY}
+use Rattle.kmip_objects.specs.declared.standard.TheConstants.{OBJECT_TYPE_SYMMETRIC_KEY}
+use Rattle.kmip_objects.specs.Ranges.{is_name, is_algorithm, is_length, is_usage, is_revocation_code}
+use Rattle.kmip_messages.specs.Ranges.{is_operation}
 use Rattle.kmip_messages.specs.Operations.{operation_of}
-use Rattle.kmip_messages.specs.Siblings.{contents}
-use Rattle.kmip_messages.specs.Standing.{Once, IsIdentifier}
+use Rattle.kmip_fields.specs.Siblings.{contents}
+use Rattle.kmip_fields.specs.Standing.{Once}
+use Rattle.kmip_messages.specs.Marks.{IsIdentifier}
 use Rattle.kmip_messages.specs.RequestReading.{request_header_at, batch_at, name_at, key_attrs_at, filter_at, create_at, locate_at, revoke_at, ask_in, ask_at, request_at}
 use Rattle.kmip_messages.specs.Requests.{key_tags, filter_tags, IsHeader, IsBatch, IsName, IsKeyAttrs, IsFilter, IsCreate, IsLocate, IsRevoke, IsPayload, IsRequest}
 use Rattle.kmip_messages.specs.Written.{inside}
-use Rattle.kmip_messages.proofs.ForCallers.{Reads, reads-bind_known, reads-ok, reads-bind, reads-as}
+use Rattle.kmip_ttlv.proofs.ReadSteps.{Reads, reads-bind_known, reads-ok, reads-bind, reads-as}
 use Rattle.kmip_messages.proofs.Readers.{reads-if, reads-guard, reads-within, reads-refused, reads-the, reads-maybe, reads-sole, reads-only, reads-message, reads-id, reads-identifier, structure_kind, integer_kind, enumeration_kind, text_kind}
 
 -- two numbers that were tested

@@ -5,16 +5,19 @@ use Rattle.std.proofs.lemmas.List.{append-nil}
 use Rattle.std.specs.List.{list_any}
 use Rattle.std.specs.Option.{option_map, option_map_or}
 use Rattle.kmip_ttlv.specs.Node.{Node, node, Content, integer, enumeration, text_string, byte_string}
-use Rattle.kmip_messages.specs.declared.request.KeyAttrs.{KeyAttrs}
-use Rattle.kmip_messages.specs.declared.request.Attrs.{Attrs}
+use Rattle.kmip_objects.specs.declared.attributes.KeyAttrs.{KeyAttrs}
+use Rattle.kmip_objects.specs.declared.attributes.Attrs.{Attrs}
 use Rattle.kmip_messages.specs.declared.request.Ask.{Ask}
 use Rattle.kmip_messages.specs.declared.request.Ask.TheVariants.{Create, Locate, GetAttributes, Activate, Revoke, Destroy}
 use Rattle.kmip_messages.specs.declared.request.Request.{Request}
 use Rattle.kmip_messages.specs.declared.standard.TheConstants.{TAG_PROTOCOL_VERSION_MAJOR, TAG_PROTOCOL_VERSION_MINOR, TAG_BATCH_COUNT, TAG_UNIQUE_BATCH_ITEM_ID, TAG_OPERATION, TAG_REQUEST_PAYLOAD, TAG_OBJECT_TYPE, TAG_NAME, TAG_NAME_VALUE, TAG_NAME_TYPE, TAG_CRYPTOGRAPHIC_ALGORITHM, TAG_CRYPTOGRAPHIC_LENGTH, TAG_CRYPTOGRAPHIC_USAGE_MASK, TAG_STATE, TAG_UNIQUE_IDENTIFIER, TAG_REVOCATION_REASON_CODE, VERSION_MAJOR, VERSION_MINOR, NAME_TYPE_UNINTERPRETED_TEXT_STRING}
-use Rattle.kmip_messages.specs.Ranges.{is_name, is_algorithm, is_length, is_usage, is_revocation_code, is_identifier, is_batch_id, attrs_fit, ask_fits, request_fits}
+use Rattle.kmip_objects.specs.Ranges.{is_name, is_algorithm, is_length, is_usage, is_revocation_code, is_identifier, attrs_fit}
+use Rattle.kmip_messages.specs.Ranges.{is_batch_id}
+use Rattle.kmip_messages.specs.RequestFits.{ask_fits, request_fits}
 use Rattle.kmip_messages.specs.Operations.{operation_of}
-use Rattle.kmip_messages.specs.Siblings.{contents}
-use Rattle.kmip_messages.specs.Standing.{if_any, HaveTags, IsMarked, IsIdentifier}
+use Rattle.kmip_fields.specs.Siblings.{contents}
+use Rattle.kmip_fields.specs.Standing.{if_any, HaveTags}
+use Rattle.kmip_messages.specs.Marks.{IsMarked, IsIdentifier}
 use Rattle.kmip_messages.specs.Requests.{filter_tags, IsKeyAttrs, IsFilter, IsLocate, IsPayload, IsAsk, IsRequest}
 use Rattle.kmip_messages.specs.Written.{inside, given, name_item, uid_item, reason_item, version_item, ask_items, request_header_item, request_batch_item, request_item}
 use Rattle.kmip_messages.proofs.Readers.{contents-append, contents-given}

@@ -5,15 +5,15 @@ use Rattle.kmip_ttlv.specs.Node.{Node}
 use Rattle.kmip_ttlv.specs.Fitting.{IsBytes, IsInRange}
 use Rattle.kmip_ttlv.specs.Spelling.{canon, Spells}
 use Rattle.kmip_ttlv.proofs.ForCallers.{canon_spells}
-use Rattle.kmip_messages.specs.declared.fault.Refusal.{Refusal}
+use Rattle.kmip_messages.specs.declared.refusal.Refusal.{Refusal}
 use Rattle.kmip_messages.specs.declared.request.Request.{Request}
-use Rattle.kmip_messages.specs.Ranges.{request_fits}
+use Rattle.kmip_messages.specs.RequestFits.{request_fits}
 use Rattle.kmip_messages.specs.Requests.{IsRequest}
 use Rattle.kmip_messages.specs.Whole.{request_read}
 use Rattle.kmip_messages.specs.RequestReading.{GivesRequest, refused, request_at}
-use Rattle.kmip_messages.specs.Siblings.{◌>>=◌}
+use Rattle.kmip_ttlv.specs.Binding.{◌>>=◌}
 use Rattle.kmip_messages.specs.Written.{request_item}
-use Rattle.kmip_messages.proofs.ForCallers.{Reads, reads-bind}
+use Rattle.kmip_ttlv.proofs.ReadSteps.{Reads, reads-bind}
 use Rattle.kmip_messages.proofs.Readers.{reads-refused}
 use Rattle.kmip_messages.proofs.WholeLaws.{item_in-law, item_in-complete}
 use Rattle.kmip_messages.proofs.RequestLaws.{request-law}

@@ -9,22 +9,22 @@ use Rattle.std.proofs.lemmas.List.Elements.{All-nil, All-cons}
 use Rattle.kmip_ttlv.specs.Node.{Node, tag_of}
 use Rattle.kmip_ttlv.specs.Fitting.{IsBytes, IsInRange}
 use Rattle.kmip_ttlv.specs.Spelling.{canon}
-use Rattle.kmip_messages.specs.declared.fault.MessageFault.{MessageFault}
-use Rattle.kmip_messages.specs.declared.fault.MessageFault.TheVariants.{NoMemory}
+use Rattle.kmip_fields.specs.declared.fault.MessageFault.{MessageFault}
+use Rattle.kmip_fields.specs.declared.fault.MessageFault.TheVariants.{NoMemory}
 use Rattle.kmip_messages.specs.declared.reply.Outcome.{Outcome}
 use Rattle.kmip_messages.specs.declared.reply.Outcome.TheVariants.{Created, Located, Attributes, Activated, Revoked, Destroyed, Failed}
 use Rattle.kmip_messages.specs.declared.reply.Reply.{Reply}
-use Rattle.kmip_messages.specs.Faults.{is_no_memory}
+use Rattle.kmip_fields.specs.Faults.{is_no_memory}
 use Rattle.kmip_messages.specs.Fits.{is_own, outcome_fits, HasValuesInRange, reply_fits}
 use Rattle.kmip_messages.specs.Items.{requests_in, replies_in}
-use Rattle.kmip_messages.specs.Ranges.{is_identifier}
-use Rattle.kmip_messages.specs.Reading.{Fails, Gives}
+use Rattle.kmip_objects.specs.Ranges.{is_identifier}
+use Rattle.kmip_fields.specs.Reading.{Fails, Gives}
 use Rattle.kmip_messages.specs.Replies.{AreFound, IsOutcome, IsReply, SpellReply}
 use Rattle.kmip_messages.specs.ReplyReading.{reply_at}
 use Rattle.kmip_messages.specs.RequestReading.{refused, request_at}
 use Rattle.kmip_messages.specs.declared.request.Request.{Request}
 use Rattle.kmip_messages.specs.declared.standard.TheConstants.{TAG_REQUEST_MESSAGE, TAG_RESPONSE_MESSAGE}
-use Rattle.kmip_messages.specs.Siblings.{◌>>=◌}
+use Rattle.kmip_ttlv.specs.Binding.{◌>>=◌}
 use Rattle.kmip_messages.specs.Whole.{item_in, request_read, reply_read}
 use Rattle.kmip_messages.specs.Written.{reply_item}
 use Rattle.kmip_messages.proofs.ReplyBytes.{reply_read-law, reply_read-again, written_spell}

@@ -8,10 +8,10 @@ use Rattle.kmip_ttlv.specs.Fitting.{IsBytes}
 use Rattle.kmip_ttlv.specs.Spelling.{Spells}
 use Rattle.kmip_ttlv.specs.Reading.{item_at}
 use Rattle.kmip_ttlv.proofs.ForCallers.{item_spelled, spelling_again}
-use Rattle.kmip_messages.specs.declared.fault.MessageFault.{MessageFault}
-use Rattle.kmip_messages.specs.declared.fault.MessageFault.TheVariants.{NotMessage}
+use Rattle.kmip_fields.specs.declared.fault.MessageFault.{MessageFault}
+use Rattle.kmip_fields.specs.declared.fault.MessageFault.TheVariants.{NotMessage}
 use Rattle.kmip_messages.specs.Whole.{whole, item_in}
-use Rattle.kmip_messages.proofs.ForCallers.{Reads}
+use Rattle.kmip_ttlv.proofs.ReadSteps.{Reads}
 
 -- an item that is all of the bytes, or not
 abbrev whole_of : Bool → Node → Result Node MessageFault

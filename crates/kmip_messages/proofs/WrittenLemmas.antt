@@ -6,7 +6,7 @@ use Rattle.kmip_ttlv.specs.Sizes.{size, sizes, IsWritable}
 use Rattle.kmip_ttlv.proofs.ForCallers.{writable_of}
 use Rattle.std.proofs.lemmas.Bool.{and_parts, leb-true, le-leb, cases_lt}
 use Rattle.std.proofs.lemmas.Bool.Decides.{leb_tells}
-use Rattle.kmip_messages.specs.declared.request.Attrs.{Attrs}
+use Rattle.kmip_objects.specs.declared.attributes.Attrs.{Attrs}
 use Rattle.kmip_messages.specs.declared.request.Ask.{Ask}
 use Rattle.kmip_messages.specs.declared.request.Ask.TheVariants.{Create, Locate, GetAttributes, Activate, Revoke, Destroy}
 use Rattle.kmip_messages.specs.declared.request.Request.{Request}
@@ -16,10 +16,11 @@ use Rattle.kmip_messages.specs.declared.reply.Reply.{Reply}
 use Rattle.kmip_messages.specs.declared.standard.TheConstants.{TAG_REQUEST_PAYLOAD, TAG_STORAGE_STATUS_MASK, TAG_OPERATION, TAG_UNIQUE_BATCH_ITEM_ID, TAG_OBJECT_TYPE, TAG_CRYPTOGRAPHIC_ALGORITHM, TAG_CRYPTOGRAPHIC_LENGTH, TAG_CRYPTOGRAPHIC_USAGE_MASK, TAG_STATE, TAG_RESULT_REASON}
 use Rattle.kmip_messages.specs.Written.{given, inside, uid_item, name_item, attrs_item, success_items, outcome_items, reply_batch_item, reply_item, ask_items, request_batch_item, request_item}
 use Rattle.kmip_messages.specs.Operations.{operation_of}
-use Rattle.kmip_messages.specs.Ranges.{is_name, is_identifier, is_batch_id, ask_fits, request_fits}
+use Rattle.kmip_objects.specs.Ranges.{is_name, is_identifier}
+use Rattle.kmip_messages.specs.Ranges.{is_batch_id}
+use Rattle.kmip_messages.specs.RequestFits.{ask_fits, request_fits}
 use Rattle.std.specs.Option.{option_map_or}
-use Rattle.std.specs.Fmt.{decimal}
-use Rattle.std.proofs.lemmas.Fmt.{decimal_nonempty, length-decimal-le}
+use Rattle.kmip_objects.proofs.ForCallers.{name_length, uid_length}
 use Rattle.kmip_messages.specs.Fits.{reply_fits}
 use Rattle.kmip_messages.specs.MessageSizes.{IsCapped, size_if_any, number_size, text_size, name_size, attrs_size, outcome_size}
 
@@ -192,12 +193,6 @@ number_bound (Some a) = omega arith
 pub text_bound : (s : List ℕ) (most : ℕ) → length s ≤ most → text_size s ≤ most + 15
 text_bound s most h = omega (arith, h)
 
-pub name_length : (s : List ℕ) → is_name s ≡ true → length s ≤ 64
-name_length s h = leb-true _ _ (and_parts _ _ (and_parts _ _ h).0).1
-
-pub uid_length : (s : List ℕ) → is_identifier s ≡ true → length s ≤ 64
-uid_length s h = leb-true _ _ (and_parts _ _ h).1
-
 name_bound : (o : Option (List ℕ)) → option_map_or is_name o false ≡ true → name_size o ≤ 103
 name_bound None h = omega arith
 name_bound (Some s) h = omega (arith, text_bound s 64 (name_length s h))
@@ -244,10 +239,3 @@ request_writable r fits =
 
 pub request_fits_writable : (r : Request) (item : Node) → IsTrue (request_fits r) → item ≡ request_item r → IsWritable item
 request_fits_writable r item fits is = subst IsWritable (sym is) (request_writable r fits)
-
--- the decimal number of a place is an identifier
-pub decimal_identifier : (n : ℕ) → n ≤ 10000 → is_identifier (decimal n) ≡ true
-decimal_identifier n h =
-    let some : 1 ≤ length (decimal n) = decimal_nonempty n (omega (arith, h)) in
-    let short : length (decimal n) ≤ 64 = omega (arith, length-decimal-le 5 n (lit< tt) (omega (arith, h)) (omega (arith, h))) in
-    rw (le-leb 1 (length (decimal n)) some, le-leb (length (decimal n)) 64 short) refl

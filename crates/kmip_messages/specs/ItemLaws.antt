@@ -6,13 +6,13 @@ use Rattle.std.specs.Result.{result_ok}
 use Rattle.kmip_ttlv.specs.Node.{Node}
 use Rattle.kmip_ttlv.specs.Fitting.{IsBytes, IsInRange}
 use Rattle.kmip_ttlv.specs.Spelling.{canon, Spells}
-use Rattle.kmip_messages.specs.declared.fault.MessageFault.{MessageFault}
-use Rattle.kmip_messages.specs.declared.fault.Refusal.{Refusal}
+use Rattle.kmip_fields.specs.declared.fault.MessageFault.{MessageFault}
+use Rattle.kmip_messages.specs.declared.refusal.Refusal.{Refusal}
 use Rattle.kmip_messages.specs.declared.request.Request.{Request}
 use Rattle.kmip_messages.specs.declared.reply.Reply.{Reply}
 use Rattle.kmip_messages.specs.Fits.{HasValuesInRange, reply_fits}
 use Rattle.kmip_messages.specs.Items.{parts_in, requests_in, replies_in}
-use Rattle.kmip_messages.specs.Ranges.{request_fits}
+use Rattle.kmip_messages.specs.RequestFits.{request_fits}
 use Rattle.kmip_messages.specs.Replies.{SpellReply}
 use Rattle.kmip_messages.specs.Requests.{IsRequest}
 use Rattle.kmip_messages.specs.Whole.{request_read, reply_read}

@@ -1,13 +1,7 @@
-pub mod States
-pub mod Faults
-pub mod Lifecycle
-pub mod Objects
-pub mod Searching
 pub mod Operations
 pub mod Ranges
-pub mod Siblings
-pub mod Standing
-pub mod Reading
+pub mod RequestFits
+pub mod Marks
 pub mod Parts
 pub mod RequestReading
 pub mod ReplyReading
@@ -19,4 +13,3 @@ pub mod MessageSizes
 pub mod Whole
 pub mod Items
 pub mod ItemLaws
-pub mod ObjectLaws

@@ -2,11 +2,13 @@
 -- Source: KMIP 2.1, Message Structure.
 use Rattle.std.specs.Prelude.{ℕ, ◌==◌, List, Option, Some, None, Result, Ok, Err, if◌then◌else◌}
 use Rattle.kmip_ttlv.specs.Node.{Node, tag_of, content_of, as_structure, as_text_string, as_byte_string}
-use Rattle.kmip_messages.specs.declared.fault.MessageFault.{MessageFault}
-use Rattle.kmip_messages.specs.declared.fault.MessageFault.TheVariants.{NotMessage}
+use Rattle.kmip_fields.specs.declared.fault.MessageFault.{MessageFault}
+use Rattle.kmip_fields.specs.declared.fault.MessageFault.TheVariants.{NotMessage}
 use Rattle.kmip_messages.specs.declared.standard.TheConstants.{TAG_UNIQUE_BATCH_ITEM_ID, TAG_UNIQUE_IDENTIFIER}
-use Rattle.kmip_messages.specs.Ranges.{is_identifier, is_batch_id}
-use Rattle.kmip_messages.specs.Siblings.{◌>>=◌, within, the, maybe}
+use Rattle.kmip_objects.specs.Ranges.{is_identifier}
+use Rattle.kmip_messages.specs.Ranges.{is_batch_id}
+use Rattle.kmip_ttlv.specs.Binding.{◌>>=◌}
+use Rattle.kmip_fields.specs.Siblings.{within, the, maybe}
 
 -- the items of a message of this tag
 abbrev pub message_in : ℕ → ℕ → Option (List Node) → Result (List Node) MessageFault

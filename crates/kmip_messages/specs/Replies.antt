@@ -6,7 +6,7 @@ use Rattle.std.specs.List.{list_all}
 use Rattle.std.specs.Option.{option_map}
 use Rattle.kmip_ttlv.specs.Node.{Node, node, integer, enumeration, text_string}
 use Rattle.kmip_ttlv.specs.Spelling.{Spells}
-use Rattle.kmip_messages.specs.declared.request.Attrs.{Attrs}
+use Rattle.kmip_objects.specs.declared.attributes.Attrs.{Attrs}
 use Rattle.kmip_messages.specs.declared.reply.Outcome.{Outcome}
 use Rattle.kmip_messages.specs.declared.reply.Outcome.TheVariants.{Created, Located, Attributes, Activated, Revoked, Destroyed, Failed}
 use Rattle.kmip_messages.specs.declared.reply.Reply.{Reply}
@@ -43,9 +43,10 @@ use Rattle.kmip_messages.specs.declared.standard.TheConstants.{
   OPERATION_REVOKE,
   OPERATION_DESTROY,
 }
-use Rattle.kmip_messages.specs.Ranges.{is_identifier}
-use Rattle.kmip_messages.specs.Siblings.{contents}
-use Rattle.kmip_messages.specs.Standing.{Once, AtMostOnce, IsMarked, IsIdentifier}
+use Rattle.kmip_objects.specs.Ranges.{is_identifier}
+use Rattle.kmip_fields.specs.Siblings.{contents}
+use Rattle.kmip_fields.specs.Standing.{Once, AtMostOnce}
+use Rattle.kmip_messages.specs.Marks.{IsMarked, IsIdentifier}
 use Rattle.kmip_messages.specs.Written.{inside}
 
 -- Protocol Version 2 with any minor number, and one Batch Item

@@ -10,9 +10,9 @@ use Rattle.kmip_ttlv.specs.Node.{
   as_enumeration,
   as_text_string,
 }
-use Rattle.kmip_messages.specs.declared.fault.MessageFault.{MessageFault}
-use Rattle.kmip_messages.specs.declared.fault.MessageFault.TheVariants.{Version, BatchCount, Missing, UnknownOperation}
-use Rattle.kmip_messages.specs.declared.request.Attrs.{Attrs}
+use Rattle.kmip_fields.specs.declared.fault.MessageFault.{MessageFault}
+use Rattle.kmip_fields.specs.declared.fault.MessageFault.TheVariants.{Version, BatchCount, Missing, UnknownOperation}
+use Rattle.kmip_objects.specs.declared.attributes.Attrs.{Attrs}
 use Rattle.kmip_messages.specs.declared.reply.Outcome.{Outcome}
 use Rattle.kmip_messages.specs.declared.reply.Outcome.TheVariants.{Created, Located, Attributes, Activated, Revoked, Destroyed, Failed}
 use Rattle.kmip_messages.specs.declared.reply.Reply.{Reply}
@@ -48,8 +48,10 @@ use Rattle.kmip_messages.specs.declared.standard.TheConstants.{
   OPERATION_ACTIVATE,
   OPERATION_REVOKE,
 }
-use Rattle.kmip_messages.specs.Ranges.{is_identifier, is_operation}
-use Rattle.kmip_messages.specs.Siblings.{◌>>=◌, guard, within, contents, typed, sole, the, maybe}
+use Rattle.kmip_objects.specs.Ranges.{is_identifier}
+use Rattle.kmip_messages.specs.Ranges.{is_operation}
+use Rattle.kmip_ttlv.specs.Binding.{◌>>=◌}
+use Rattle.kmip_fields.specs.Siblings.{guard, within, contents, typed, sole, the, maybe}
 use Rattle.kmip_messages.specs.Parts.{message_at, id_at, identifier_at}
 
 -- Protocol Version 2 with any minor number, then one Batch Item

@@ -4,8 +4,8 @@
 use Rattle.std.specs.Prelude.{◌≡◌, ℕ, ℤ, pos, List, [], ◌∷◌, Option, Some, IsTrue}
 use Rattle.std.specs.Option.{option_map}
 use Rattle.kmip_ttlv.specs.Node.{Node, node, integer, enumeration, text_string}
-use Rattle.kmip_messages.specs.declared.request.KeyAttrs.{KeyAttrs}
-use Rattle.kmip_messages.specs.declared.request.Attrs.{Attrs}
+use Rattle.kmip_objects.specs.declared.attributes.KeyAttrs.{KeyAttrs}
+use Rattle.kmip_objects.specs.declared.attributes.Attrs.{Attrs}
 use Rattle.kmip_messages.specs.declared.request.Ask.{Ask}
 use Rattle.kmip_messages.specs.declared.request.Ask.TheVariants.{Create, Locate, GetAttributes, Activate, Revoke, Destroy}
 use Rattle.kmip_messages.specs.declared.request.Request.{Request}
@@ -33,12 +33,13 @@ use Rattle.kmip_messages.specs.declared.standard.TheConstants.{
   TAG_REVOCATION_REASON_CODE,
   VERSION_MAJOR,
   VERSION_MINOR,
-  OBJECT_TYPE_SYMMETRIC_KEY,
   NAME_TYPE_UNINTERPRETED_TEXT_STRING,
 }
-use Rattle.kmip_messages.specs.Ranges.{is_name, is_algorithm, is_length, is_usage, is_revocation_code}
+use Rattle.kmip_objects.specs.declared.standard.TheConstants.{OBJECT_TYPE_SYMMETRIC_KEY}
+use Rattle.kmip_objects.specs.Ranges.{is_name, is_algorithm, is_length, is_usage, is_revocation_code}
 use Rattle.kmip_messages.specs.Operations.{operation_of}
-use Rattle.kmip_messages.specs.Standing.{Once, AtMostOnce, HaveTags, IsMarked, IsIdentifier}
+use Rattle.kmip_fields.specs.Standing.{Once, AtMostOnce, HaveTags}
+use Rattle.kmip_messages.specs.Marks.{IsMarked, IsIdentifier}
 use Rattle.kmip_messages.specs.Written.{inside}
 
 -- the Protocol Version 2.1

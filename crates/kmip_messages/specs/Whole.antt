@@ -5,13 +5,13 @@ use Rattle.std.specs.Prelude.{ℕ, ◌==◌, List, length, None, Result, Ok, Err
 use Rattle.kmip_ttlv.specs.declared.fault.TtlvFault.{TtlvFault}
 use Rattle.kmip_ttlv.specs.Node.{Node}
 use Rattle.kmip_ttlv.specs.Reading.{item_at}
-use Rattle.kmip_messages.specs.declared.fault.MessageFault.{MessageFault}
-use Rattle.kmip_messages.specs.declared.fault.MessageFault.TheVariants.{NotMessage}
-use Rattle.kmip_messages.specs.declared.fault.Refusal.{Refusal}
+use Rattle.kmip_fields.specs.declared.fault.MessageFault.{MessageFault}
+use Rattle.kmip_fields.specs.declared.fault.MessageFault.TheVariants.{NotMessage}
+use Rattle.kmip_messages.specs.declared.refusal.Refusal.{Refusal}
 use Rattle.kmip_messages.specs.declared.request.Request.{Request}
 use Rattle.kmip_messages.specs.declared.reply.Reply.{Reply}
-use Rattle.kmip_messages.specs.Faults.{message_fault_of}
-use Rattle.kmip_messages.specs.Siblings.{◌>>=◌}
+use Rattle.kmip_fields.specs.Faults.{message_fault_of}
+use Rattle.kmip_ttlv.specs.Binding.{◌>>=◌}
 use Rattle.kmip_messages.specs.RequestReading.{refused, request_at}
 use Rattle.kmip_messages.specs.ReplyReading.{reply_at}
 

@@ -13,8 +13,8 @@ use Rattle.kmip_ttlv.specs.Node.{
   date_time,
   nodes_of,
 }
-use Rattle.kmip_messages.specs.declared.request.Attrs.{Attrs}
-use Rattle.kmip_messages.specs.declared.request.KeyAttrs.{KeyAttrs}
+use Rattle.kmip_objects.specs.declared.attributes.Attrs.{Attrs}
+use Rattle.kmip_objects.specs.declared.attributes.KeyAttrs.{KeyAttrs}
 use Rattle.kmip_messages.specs.declared.request.Ask.{Ask}
 use Rattle.kmip_messages.specs.declared.request.Ask.TheVariants.{Create, Locate, GetAttributes, Activate, Revoke, Destroy}
 use Rattle.kmip_messages.specs.declared.request.Request.{Request}
@@ -53,11 +53,11 @@ use Rattle.kmip_messages.specs.declared.standard.TheConstants.{
   TAG_UNIQUE_IDENTIFIER,
   VERSION_MAJOR,
   VERSION_MINOR,
-  OBJECT_TYPE_SYMMETRIC_KEY,
   NAME_TYPE_UNINTERPRETED_TEXT_STRING,
   STATUS_SUCCESS,
   STATUS_OPERATION_FAILED,
 }
+use Rattle.kmip_objects.specs.declared.standard.TheConstants.{OBJECT_TYPE_SYMMETRIC_KEY}
 use Rattle.kmip_messages.specs.Operations.{operation_of}
 
 -- an item where there is a value

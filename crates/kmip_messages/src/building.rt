@@ -4,7 +4,6 @@ ghost use Rattle.kmip_ttlv.specs.Node.{node, integer, enumeration, byte_string};
 ghost use Rattle.kmip_ttlv.specs.View.{view, views};
 ghost use Rattle.kmip_messages.specs.Written.{given, version_item, uid_item, name_item, attrs_item};
 
-use crate::request::Attrs;
 use crate::standard::{
     NAME_TYPE_UNINTERPRETED_TEXT_STRING, TAG_ATTRIBUTES, TAG_CRYPTOGRAPHIC_ALGORITHM,
     TAG_CRYPTOGRAPHIC_LENGTH, TAG_CRYPTOGRAPHIC_USAGE_MASK, TAG_NAME, TAG_NAME_TYPE,
@@ -12,6 +11,7 @@ use crate::standard::{
     TAG_PROTOCOL_VERSION_MINOR, TAG_STATE, TAG_UNIQUE_BATCH_ITEM_ID, TAG_UNIQUE_IDENTIFIER,
     VERSION_MAJOR, VERSION_MINOR,
 };
+use kmip_objects::Attrs;
 use kmip_ttlv::{Bytes, Item, NoMemory, Tag, Text};
 use std::alloc::Global;
 

@@ -5,7 +5,9 @@ ghost use Rattle.std.specs.Option.{option_map_or};
 ghost use Rattle.kmip_ttlv.specs.Limits.{most_bytes};
 ghost use Rattle.kmip_ttlv.specs.Node.{nodes_of};
 ghost use Rattle.kmip_ttlv.specs.Sizes.{size, sizes, padded};
-ghost use Rattle.kmip_messages.specs.Ranges.{is_name, is_identifier, is_batch_id, ask_fits, request_fits};
+ghost use Rattle.kmip_objects.specs.Ranges.{is_name, is_identifier};
+ghost use Rattle.kmip_messages.specs.Ranges.{is_batch_id};
+ghost use Rattle.kmip_messages.specs.RequestFits.{ask_fits, request_fits};
 ghost use Rattle.kmip_messages.specs.Written.{uid_item, reply_item};
 ghost use Rattle.kmip_messages.specs.Fits.{is_own, outcome_fits, reply_fits};
 ghost use Rattle.kmip_messages.specs.MessageSizes.{
@@ -18,13 +20,14 @@ ghost use Rattle.kmip_messages.specs.MessageSizes.{
   IsCapped,
 };
 
-use crate::ranges::{attrs_fit, is_batch_id, is_identifier, is_name, is_revocation_code};
+use crate::ranges::is_batch_id;
 use crate::reply::{Outcome, Reply};
-use crate::request::{Ask, Attrs, Request};
+use crate::request::{Ask, Request};
 use crate::standard::{
     OPERATION_ACTIVATE, OPERATION_CREATE, OPERATION_DESTROY, OPERATION_GET_ATTRIBUTES,
     OPERATION_LOCATE, OPERATION_REVOKE,
 };
+use kmip_objects::{Attrs, attrs_fit, is_identifier, is_name, is_revocation_code};
 use kmip_ttlv::{Bytes, MAX_SIZE, Text};
 
 /// Whether the request has a written form: its values are in their ranges. Takes no memory.

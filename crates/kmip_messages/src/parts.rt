@@ -2,15 +2,16 @@
 ghost use Rattle.std.specs.Prelude.{◌≡◌, true, IsTrue, IfOk};
 ghost use Rattle.std.specs.Option.{option_map_or};
 ghost use Rattle.kmip_ttlv.specs.View.{view, views};
-ghost use Rattle.kmip_messages.specs.Ranges.{is_identifier, is_batch_id};
-ghost use Rattle.kmip_messages.specs.Reading.{Gives};
+ghost use Rattle.kmip_objects.specs.Ranges.{is_identifier};
+ghost use Rattle.kmip_messages.specs.Ranges.{is_batch_id};
+ghost use Rattle.kmip_fields.specs.Reading.{Gives};
 ghost use Rattle.kmip_messages.specs.Whole.{item_in};
 ghost use Rattle.kmip_messages.specs.Parts.{message_at, id_at, identifier_at};
 
-use crate::fault::MessageFault;
-use crate::fields::{bytes_if_any, the_text, within};
-use crate::ranges::{is_batch_id, is_identifier};
+use crate::ranges::is_batch_id;
 use crate::standard::{TAG_UNIQUE_BATCH_ITEM_ID, TAG_UNIQUE_IDENTIFIER};
+use kmip_fields::{MessageFault, bytes_if_any, the_text, within};
+use kmip_objects::is_identifier;
 use kmip_ttlv::{Bytes, Item, Text, read};
 use std::alloc::Global;
 

@@ -1,7 +1,7 @@
 //! What a reply says.
 
-use crate::request::Attrs;
 use crate::texts::Texts;
+use kmip_objects::Attrs;
 use kmip_ttlv::{Bytes, Text};
 
 /// The server's answer to one question.

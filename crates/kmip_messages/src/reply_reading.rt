@@ -5,12 +5,12 @@ ghost use Rattle.kmip_ttlv.specs.Node.{Node, content_of};
 ghost use Rattle.kmip_ttlv.specs.Spelling.{canon, Spells};
 ghost use Rattle.kmip_ttlv.specs.View.{view, views};
 ghost use Rattle.kmip_messages.specs.declared.reply.Reply.{Reply};
-ghost use Rattle.kmip_messages.specs.Faults.{is_no_memory};
+ghost use Rattle.kmip_fields.specs.Faults.{is_no_memory};
 ghost use Rattle.kmip_messages.specs.Fits.{HasValuesInRange, reply_fits};
 ghost use Rattle.kmip_messages.specs.Items.{replies_in};
 ghost use Rattle.kmip_messages.specs.Replies.{IsReply};
-ghost use Rattle.kmip_messages.specs.Siblings.{contents};
-ghost use Rattle.kmip_messages.specs.Reading.{Gives};
+ghost use Rattle.kmip_fields.specs.Siblings.{contents};
+ghost use Rattle.kmip_fields.specs.Reading.{Gives};
 ghost use Rattle.kmip_messages.specs.Whole.{reply_read};
 ghost use Rattle.kmip_messages.specs.Written.{reply_item};
 ghost use Rattle.kmip_messages.specs.ReplyReading.{
@@ -31,15 +31,9 @@ ghost use Rattle.kmip_messages.specs.ReplyReading.{
   reply_at,
 };
 
-use crate::fault::MessageFault;
-use crate::fields::{
-    check, enumeration_if_any, integer_if_any, sole_structure, structure_if_any, the_enumeration,
-    the_integer, the_structure, the_text, within,
-};
 use crate::parts::{id_of, identifier_of, message_of, whole_item};
-use crate::ranges::{is_identifier, is_operation};
+use crate::ranges::is_operation;
 use crate::reply::{Outcome, Reply};
-use crate::request::Attrs;
 use crate::standard::{
     NAME_TYPE_UNINTERPRETED_TEXT_STRING, OPERATION_ACTIVATE, OPERATION_CREATE,
     OPERATION_GET_ATTRIBUTES, OPERATION_LOCATE, OPERATION_REVOKE, STATUS_OPERATION_FAILED,
@@ -51,6 +45,11 @@ use crate::standard::{
     TAG_UNIQUE_IDENTIFIER, VERSION_MAJOR,
 };
 use crate::texts::Texts;
+use kmip_fields::{
+    MessageFault, check, enumeration_if_any, integer_if_any, sole_structure, structure_if_any,
+    the_enumeration, the_integer, the_structure, the_text, within,
+};
+use kmip_objects::{Attrs, is_identifier};
 use kmip_ttlv::{Item, Tag, Text};
 use std::alloc::Global;
 

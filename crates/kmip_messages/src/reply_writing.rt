@@ -17,12 +17,13 @@ ghost use Rattle.kmip_messages.specs.Written.{
 
 use crate::building::{attrs_item, push, push_enumeration, push_id, uid_item, version_item};
 use crate::reply::{Outcome, Reply};
-use crate::request::Attrs;
 use crate::standard::{
-    OBJECT_TYPE_SYMMETRIC_KEY, STATUS_OPERATION_FAILED, STATUS_SUCCESS, TAG_BATCH_COUNT,
-    TAG_BATCH_ITEM, TAG_OBJECT_TYPE, TAG_OPERATION, TAG_RESPONSE_HEADER, TAG_RESPONSE_MESSAGE,
-    TAG_RESPONSE_PAYLOAD, TAG_RESULT_REASON, TAG_RESULT_STATUS, TAG_TIME_STAMP,
+    STATUS_OPERATION_FAILED, STATUS_SUCCESS, TAG_BATCH_COUNT, TAG_BATCH_ITEM, TAG_OBJECT_TYPE,
+    TAG_OPERATION, TAG_RESPONSE_HEADER, TAG_RESPONSE_MESSAGE, TAG_RESPONSE_PAYLOAD,
+    TAG_RESULT_REASON, TAG_RESULT_STATUS, TAG_TIME_STAMP,
 };
+use kmip_objects::Attrs;
+use kmip_objects::standard::OBJECT_TYPE_SYMMETRIC_KEY;
 use kmip_ttlv::{Item, NoMemory, Tag, Text, write};
 use std::alloc::Global;
 

@@ -1,14 +1,13 @@
 //! What a request asks.
-
-ghost use Rattle.std.specs.Prelude.{◌≡◌, IfOk};
+ghost use Rattle.std.specs.Prelude.{◌≡◌};
 ghost use Rattle.kmip_messages.specs.Operations.{operation_of};
 
 use crate::standard::{
     OPERATION_ACTIVATE, OPERATION_CREATE, OPERATION_DESTROY, OPERATION_GET_ATTRIBUTES,
     OPERATION_LOCATE, OPERATION_REVOKE,
 };
+use kmip_objects::{Attrs, KeyAttrs};
 use kmip_ttlv::{Bytes, Text};
-use std::alloc::{AllocError, Global};
 
 /// One question to the server.
 #[derive(Debug, Drop)]
@@ -55,46 +54,4 @@ impl Ask {
             Ask::Destroy(_) => OPERATION_DESTROY,
         }
     }
-}
-
-/// The attributes that a key is made with.
-#[derive(Debug, Drop)]
-pub struct KeyAttrs {
-    /// 1 to 64 bytes, each 21 to 7E hexadecimal.
-    pub name: Text,
-    /// Cryptographic Algorithm: AES or HMAC-SHA256.
-    pub algorithm: u32,
-    /// Cryptographic Length in bits: 128, 192 or 256 for AES, 256 for HMAC-SHA256.
-    pub length: i32,
-    /// Cryptographic Usage Mask, 1 to 1FF hexadecimal.
-    pub usage: i32,
-}
-
-impl KeyAttrs {
-    /// A copy of the attributes.
-    ///
-    /// # Errors
-    /// Where there is no memory for it.
-    pub fn copied(&self, alloc: Global) -> Result<Self, AllocError>
-        ensures { IfOk result (λ copy. copy ≡ self.now) }
-    {
-        let name = Text::copied(alloc, self.name.as_str())?;
-        Ok(KeyAttrs {
-            name,
-            algorithm: self.algorithm,
-            length: self.length,
-            usage: self.usage,
-        })
-    }
-}
-
-/// The attributes of the profile, each where it is given.
-#[derive(Debug, Drop)]
-pub struct Attrs {
-    pub object_type: Option<u32>,
-    pub name: Option<Text>,
-    pub algorithm: Option<u32>,
-    pub length: Option<i32>,
-    pub usage: Option<i32>,
-    pub state: Option<u32>,
 }

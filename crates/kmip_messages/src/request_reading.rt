@@ -6,10 +6,12 @@ ghost use Rattle.kmip_ttlv.specs.Node.{Node};
 ghost use Rattle.kmip_ttlv.specs.View.{view, views};
 ghost use Rattle.kmip_ttlv.specs.Fitting.{IsInRange};
 ghost use Rattle.kmip_ttlv.specs.Spelling.{canon, Spells};
-ghost use Rattle.kmip_messages.specs.Faults.{is_no_memory};
+ghost use Rattle.kmip_fields.specs.Faults.{is_no_memory};
 ghost use Rattle.kmip_messages.specs.Items.{AsksAlone, AsksNothing};
-ghost use Rattle.kmip_messages.specs.Ranges.{is_name, is_batch_id, attrs_fit, ask_fits, request_fits};
-ghost use Rattle.kmip_messages.specs.Reading.{Gives};
+ghost use Rattle.kmip_objects.specs.Ranges.{is_name, attrs_fit};
+ghost use Rattle.kmip_messages.specs.Ranges.{is_batch_id};
+ghost use Rattle.kmip_messages.specs.RequestFits.{ask_fits, request_fits};
+ghost use Rattle.kmip_fields.specs.Reading.{Gives};
 ghost use Rattle.kmip_messages.specs.Whole.{request_read};
 ghost use Rattle.kmip_messages.specs.Requests.{IsRequest};
 ghost use Rattle.kmip_messages.specs.Written.{request_item};
@@ -28,22 +30,26 @@ ghost use Rattle.kmip_messages.specs.RequestReading.{
   GivesRequest,
 };
 
-use crate::fault::{MessageFault, Refusal};
-use crate::fields::{
-    check, enumeration_if_any, integer_if_any, only, sole_structure, the_enumeration, the_integer,
-    the_structure, the_text, within,
-};
 use crate::parts::{id_of, identifier_of, message_of, whole_item};
-use crate::ranges::{is_algorithm, is_length, is_name, is_operation, is_revocation_code, is_usage};
-use crate::request::{Ask, Attrs, KeyAttrs, Request};
+use crate::ranges::is_operation;
+use crate::refusal::Refusal;
+use crate::request::{Ask, Request};
 use crate::standard::{
-    NAME_TYPE_UNINTERPRETED_TEXT_STRING, OBJECT_TYPE_SYMMETRIC_KEY, OPERATION_ACTIVATE,
-    OPERATION_CREATE, OPERATION_GET_ATTRIBUTES, OPERATION_LOCATE, OPERATION_REVOKE, TAG_ATTRIBUTES,
-    TAG_BATCH_COUNT, TAG_BATCH_ITEM, TAG_CRYPTOGRAPHIC_ALGORITHM, TAG_CRYPTOGRAPHIC_LENGTH,
+    NAME_TYPE_UNINTERPRETED_TEXT_STRING, OPERATION_ACTIVATE, OPERATION_CREATE,
+    OPERATION_GET_ATTRIBUTES, OPERATION_LOCATE, OPERATION_REVOKE, TAG_ATTRIBUTES, TAG_BATCH_COUNT,
+    TAG_BATCH_ITEM, TAG_CRYPTOGRAPHIC_ALGORITHM, TAG_CRYPTOGRAPHIC_LENGTH,
     TAG_CRYPTOGRAPHIC_USAGE_MASK, TAG_NAME, TAG_NAME_TYPE, TAG_NAME_VALUE, TAG_OBJECT_TYPE,
     TAG_OPERATION, TAG_PROTOCOL_VERSION, TAG_PROTOCOL_VERSION_MAJOR, TAG_PROTOCOL_VERSION_MINOR,
     TAG_REQUEST_HEADER, TAG_REQUEST_MESSAGE, TAG_REQUEST_PAYLOAD, TAG_REVOCATION_REASON,
     TAG_REVOCATION_REASON_CODE, TAG_STATE, TAG_STORAGE_STATUS_MASK, VERSION_MAJOR, VERSION_MINOR,
+};
+use kmip_fields::{
+    MessageFault, check, enumeration_if_any, integer_if_any, only, sole_structure, the_enumeration,
+    the_integer, the_structure, the_text, within,
+};
+use kmip_objects::standard::OBJECT_TYPE_SYMMETRIC_KEY;
+use kmip_objects::{
+    Attrs, KeyAttrs, is_algorithm, is_length, is_name, is_revocation_code, is_usage,
 };
 use kmip_ttlv::{Item, Text};
 use std::alloc::Global;

@@ -4,7 +4,7 @@ ghost use Rattle.kmip_ttlv.specs.Node.{node, enumeration};
 ghost use Rattle.kmip_ttlv.specs.View.{view, views};
 ghost use Rattle.kmip_ttlv.specs.Spelling.{canon};
 ghost use Rattle.kmip_messages.specs.Items.{parts_in, requests_in};
-ghost use Rattle.kmip_messages.specs.Ranges.{request_fits};
+ghost use Rattle.kmip_messages.specs.RequestFits.{request_fits};
 ghost use Rattle.kmip_messages.specs.declared.request.Ask.TheVariants.{Locate};
 ghost use Rattle.kmip_messages.specs.Written.{
   uid_item,
@@ -20,13 +20,15 @@ ghost use Rattle.kmip_messages.specs.Written.{
 use crate::building::{
     attrs_item, name_item, push, push_enumeration, push_id, push_integer, uid_item, version_item,
 };
-use crate::request::{Ask, Attrs, KeyAttrs, Request};
+use crate::request::{Ask, Request};
 use crate::standard::{
-    OBJECT_TYPE_SYMMETRIC_KEY, TAG_ATTRIBUTES, TAG_BATCH_COUNT, TAG_BATCH_ITEM,
-    TAG_CRYPTOGRAPHIC_ALGORITHM, TAG_CRYPTOGRAPHIC_LENGTH, TAG_CRYPTOGRAPHIC_USAGE_MASK,
-    TAG_OBJECT_TYPE, TAG_OPERATION, TAG_REQUEST_HEADER, TAG_REQUEST_MESSAGE, TAG_REQUEST_PAYLOAD,
-    TAG_REVOCATION_REASON, TAG_REVOCATION_REASON_CODE, TAG_STORAGE_STATUS_MASK,
+    TAG_ATTRIBUTES, TAG_BATCH_COUNT, TAG_BATCH_ITEM, TAG_CRYPTOGRAPHIC_ALGORITHM,
+    TAG_CRYPTOGRAPHIC_LENGTH, TAG_CRYPTOGRAPHIC_USAGE_MASK, TAG_OBJECT_TYPE, TAG_OPERATION,
+    TAG_REQUEST_HEADER, TAG_REQUEST_MESSAGE, TAG_REQUEST_PAYLOAD, TAG_REVOCATION_REASON,
+    TAG_REVOCATION_REASON_CODE, TAG_STORAGE_STATUS_MASK,
 };
+use kmip_objects::standard::OBJECT_TYPE_SYMMETRIC_KEY;
+use kmip_objects::{Attrs, KeyAttrs};
 use kmip_ttlv::{Item, NoMemory, Tag, Text, write};
 use std::alloc::Global;
 

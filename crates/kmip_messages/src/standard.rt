@@ -1,4 +1,4 @@
-//! The numbers of the standard: tags, and the values of its enumerations and masks.
+//! The numbers of the standard that messages have: tags, and the values of its enumerations.
 //!
 //! Source: KMIP 2.1, Tags and Enumerations. What is marked "own" is this project's profile.
 
@@ -76,25 +76,9 @@ pub const OPERATION_REVOKE: u32 = 0x13;
 
 pub const OPERATION_DESTROY: u32 = 0x14;
 
-// Object types, cryptographic algorithms and name types.
-
-pub const OBJECT_TYPE_SYMMETRIC_KEY: u32 = 0x2;
-
-pub const ALGORITHM_AES: u32 = 0x3;
-
-pub const ALGORITHM_HMAC_SHA256: u32 = 0x9;
+// Name types.
 
 pub const NAME_TYPE_UNINTERPRETED_TEXT_STRING: u32 = 0x1;
-
-// Revocation reason codes.
-
-pub const REVOCATION_UNSPECIFIED: u32 = 0x1;
-
-pub const REVOCATION_KEY_COMPROMISE: u32 = 0x2;
-
-pub const REVOCATION_CA_COMPROMISE: u32 = 0x3;
-
-pub const REVOCATION_PRIVILEGE_WITHDRAWN: u32 = 0x7;
 
 // Result statuses.
 
@@ -122,24 +106,11 @@ pub const REASON_WRONG_STATE: u32 = 0x43;
 /// All the room of the server is used up (own).
 pub const REASON_SERVER_FULL: u32 = 0x100;
 
-// Bits of the Storage Status Mask.
-
-/// Objects that are on-line: here all that are not destroyed.
-pub const STORAGE_ON_LINE: u32 = 0x1;
-/// Objects that are destroyed.
-pub const STORAGE_DESTROYED: u32 = 0x4;
-
 // The version of the protocol.
 
 pub const VERSION_MAJOR: i32 = 2;
 
 pub const VERSION_MINOR: i32 = 1;
-
-/// The bits that a Cryptographic Usage Mask may have: it is 1 to this number (own).
-pub const USAGE_MAX: i32 = 0x1FF;
-
-/// The most bytes of a Name Value in a request, and of a Unique Identifier (own).
-pub const NAME_MAX: usize = 64;
 
 /// The most bytes of a Unique Batch Item ID (own).
 pub const ID_MAX: usize = 128;

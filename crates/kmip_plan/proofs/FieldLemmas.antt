@@ -2,8 +2,8 @@
 use Rattle.std.proofs.Common.{◌≡◌, ℕ, zero, suc, leb, ℤ, pos, ◌≤◌, Bool, true, false, not, ◌&&◌, ◌==◌, cond, List, codes, Option, Some, None, Result, Ok, Err, if◌then◌else◌, refl, sym, ap, ◌∙◌, inl, inr, arith}
 use Rattle.std.proofs.lemmas.Bool.{cases_Bool, and_parts, eqb-true, leb-true, le-leb, false_from_ne_true}
 use Rattle.std.specs.Option.{option_and_then}
-use Rattle.kmip_messages.specs.Ranges.{is_usage}
-use Rattle.kmip_messages.proofs.ForCallers.{Reads, reads-as}
+use Rattle.kmip_objects.specs.Ranges.{is_usage}
+use Rattle.kmip_ttlv.proofs.ReadSteps.{Reads, reads-as}
 use Rattle.toml.specs.Data.{Items, Members, no_members, member}
 use Rattle.kmip_plan.specs.declared.fault.PlanFault.{PlanFault}
 use Rattle.kmip_plan.specs.declared.fault.PlanFault.TheVariants as faults

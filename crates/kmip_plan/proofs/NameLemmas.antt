@@ -5,7 +5,7 @@ use Rattle.std.proofs.lemmas.List.Folds.{list_any-append}
 use Rattle.std.proofs.lemmas.Slice.Eq.{bytes_eq-Decides}
 use Rattle.std.specs.List.{list_all, slice_get}
 use Rattle.std.specs.Option.{option_copied}
-use Rattle.kmip_messages.specs.Ranges.{attrs_fit, is_compromise}
+use Rattle.kmip_objects.specs.Ranges.{attrs_fit, is_compromise}
 use Rattle.kmip_plan.specs.declared.key.Key.{Key}
 use Rattle.kmip_plan.specs.Chains.{is_revoked}
 use Rattle.kmip_plan.specs.Plans.{HaveNewNames, reason_fits, key_fits, key_named}

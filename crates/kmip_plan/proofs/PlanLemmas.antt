@@ -4,8 +4,8 @@ use Rattle.std.proofs.lemmas.Bool.{leb-true, le-leb}
 use Rattle.std.proofs.lemmas.List.{append-nil}
 use Rattle.std.specs.List.{list_all}
 use Rattle.std.specs.Option.{option_and_then}
-use Rattle.kmip_messages.specs.Ranges.{is_name, is_length}
-use Rattle.kmip_messages.proofs.ForCallers.{Reads, reads-ok, reads-bind, reads-as}
+use Rattle.kmip_objects.specs.Ranges.{is_name, is_length}
+use Rattle.kmip_ttlv.proofs.ReadSteps.{Reads, reads-ok, reads-bind, reads-as}
 use Rattle.toml.specs.Data.{Data, Items, no_items, item, Members, get_member, as_str, as_integer, as_array}
 use Rattle.toml.specs.Parse.{parse_document}
 use Rattle.kmip_plan.specs.declared.fault.PlanFault.{PlanFault}

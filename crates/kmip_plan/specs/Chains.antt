@@ -2,12 +2,12 @@
 -- Source: KMIP 2.1, Object Attributes, State; the targets are own.
 use Rattle.std.specs.Prelude.{ℕ, zero, suc, ◌+◌, ◌==◌, List, [], ◌∷◌, length, map, sum, Bool, true, false, Option, Some, None, option_map}
 use Rattle.std.specs.List.{slice_get, list_any, position}
-use Rattle.kmip_messages.specs.Lifecycle.{after}
-use Rattle.kmip_messages.specs.States.{state_number}
-use Rattle.kmip_messages.specs.declared.state.KeyState.{KeyState}
-use Rattle.kmip_messages.specs.declared.state.KeyState.TheVariants.{PreActive}
-use Rattle.kmip_messages.specs.declared.step.Step.{Step}
-use Rattle.kmip_messages.specs.declared.step.Step.TheVariants.{Create, Activate, Revoke, Destroy}
+use Rattle.kmip_objects.specs.Lifecycle.{after}
+use Rattle.kmip_objects.specs.States.{state_number}
+use Rattle.kmip_objects.specs.declared.state.KeyState.{KeyState}
+use Rattle.kmip_objects.specs.declared.state.KeyState.TheVariants.{PreActive}
+use Rattle.kmip_objects.specs.declared.step.Step.{Step}
+use Rattle.kmip_objects.specs.declared.step.Step.TheVariants.{Create, Activate, Revoke, Destroy}
 use Rattle.kmip_plan.specs.declared.key.Key.{Key}
 use Rattle.kmip_plan.specs.declared.target.Target.{Target}
 use Rattle.kmip_plan.specs.declared.target.Target.TheVariants.{Created, Active, Revoked, Destroyed, Discarded}

@@ -1,7 +1,7 @@
 -- The value of each field of a key, where it is a lawful one.
 -- Source: own.
 use Rattle.std.specs.Prelude.{ℕ, ℤ, pos, Bool, true, false, ◌&&◌, ◌==◌, nat_le, List, codes, Option, Some, None, option_and_then, if◌then◌else◌}
-use Rattle.kmip_messages.specs.Ranges.{is_name, is_length}
+use Rattle.kmip_objects.specs.Ranges.{is_name, is_length}
 use Rattle.toml.specs.Data.{Data, Items, Members, get_member, as_str}
 use Rattle.kmip_plan.specs.declared.target.Target.{Target}
 use Rattle.kmip_plan.specs.Chains.{is_revoked}

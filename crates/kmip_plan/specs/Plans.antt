@@ -2,7 +2,7 @@
 -- Source: TOML 1.1, Table and Array of Tables; the fields and their values are own.
 use Rattle.std.specs.Prelude.{◌≡◌, ◌≤◌, ℕ, ℤ, pos, Bool, true, false, ◌&&◌, ◌||◌, ◌==◌, List, [], ◌∷◌, ◌++◌, length, codes, Option, Some, if◌then◌else◌}
 use Rattle.std.specs.List.{find, list_all, slice_get}
-use Rattle.kmip_messages.specs.Ranges.{is_name, is_length, is_usage, attrs_fit}
+use Rattle.kmip_objects.specs.Ranges.{is_name, is_length, is_usage, attrs_fit}
 use Rattle.toml.specs.Data.{Items, no_items, item, Members}
 use Rattle.kmip_plan.specs.declared.key.Key.{Key}
 use Rattle.kmip_plan.specs.declared.target.Target.{Target}

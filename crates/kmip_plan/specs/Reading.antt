@@ -2,7 +2,7 @@
 -- Source: TOML 1.1; the fields and the order of the checks are own.
 use Rattle.std.specs.Prelude.{◌≡◌, ℕ, ◌+◌, ℤ, Bool, true, false, not, nat_le, List, [], ◌∷◌, ◌++◌, length, codes, Option, Some, None, Result, Ok, Err}
 use Rattle.std.specs.List.{list_any}
-use Rattle.kmip_messages.specs.Siblings.{◌>>=◌}
+use Rattle.kmip_ttlv.specs.Binding.{◌>>=◌}
 use Rattle.toml.specs.Data.{Items, no_items, item, Members, get_member}
 use Rattle.toml.specs.Parse.{parse_document}
 use Rattle.kmip_plan.specs.declared.fault.Field.TheVariants as field

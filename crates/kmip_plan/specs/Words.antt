@@ -2,7 +2,7 @@
 -- Source: KMIP 2.1, Cryptographic Algorithm, Cryptographic Usage Mask and Revocation Reason Code; the words are own.
 use Rattle.std.specs.Prelude.{ℕ, ◌+◌, ◌==◌, nat_eq, Bool, ◌||◌, List, codes, Option, Some, None, if◌then◌else◌}
 use Rattle.std.specs.Cmp.Lexicographic.{pointwise}
-use Rattle.kmip_messages.specs.declared.standard.TheConstants.{ALGORITHM_AES, ALGORITHM_HMAC_SHA256}
+use Rattle.kmip_objects.specs.declared.standard.TheConstants.{ALGORITHM_AES, ALGORITHM_HMAC_SHA256}
 use Rattle.kmip_plan.specs.declared.target.Target.{Target}
 use Rattle.kmip_plan.specs.declared.target.Target.TheVariants.{Created, Active, Revoked, Destroyed, Discarded}
 

@@ -1,12 +1,12 @@
 //! The steps of a key on its way to its target, and the states that it comes through.
 ghost use Rattle.std.specs.Prelude.{◌≡◌, ◌≤◌, ◌==◌, length};
 ghost use Rattle.std.specs.List.{position};
-ghost use Rattle.kmip_messages.specs.States.{state_number};
+ghost use Rattle.kmip_objects.specs.States.{state_number};
 ghost use Rattle.kmip_plan.specs.Chains.{chain, states, step_at, state_after, place_of, step_place, is_revoked};
 
 use crate::key::Key;
 use crate::target::Target;
-use kmip_messages::{KeyState, Step};
+use kmip_objects::{KeyState, Step};
 
 /// How many steps lead to the key's target. Takes no memory.
 pub fn chain_length(key: &Key) -> usize

@@ -1,6 +1,6 @@
 //! The fields of a key, each where it has a lawful value.
 ghost use Rattle.std.specs.Prelude.{◌≡◌, option_map, option_and_then};
-ghost use Rattle.kmip_messages.specs.Ranges.{is_length};
+ghost use Rattle.kmip_objects.specs.Ranges.{is_length};
 ghost use Rattle.toml.specs.Data.{as_str};
 ghost use Rattle.toml.specs.View.{view, array_view, table_view};
 ghost use Rattle.kmip_plan.specs.Fields.{if_so, name_of, algorithm_of, length_of, usage_in, usage_of, target_of, reason_of};
@@ -10,8 +10,8 @@ use crate::counts::{are_once, are_usages, mask_of};
 use crate::tables::{array_at, integer_at, text_at, value_at};
 use crate::target::Target;
 use crate::words::{algorithm_of_word, reason_of_word};
-use kmip_messages::is_name;
-use kmip_messages::standard::{ALGORITHM_AES, ALGORITHM_HMAC_SHA256, REVOCATION_UNSPECIFIED};
+use kmip_objects::is_name;
+use kmip_objects::standard::{ALGORITHM_AES, ALGORITHM_HMAC_SHA256, REVOCATION_UNSPECIFIED};
 use toml::value::Array;
 use toml::{Table, Value};
 

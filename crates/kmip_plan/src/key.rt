@@ -1,7 +1,7 @@
 //! One key of a plan.
 
 use crate::target::Target;
-use kmip_messages::KeyAttrs;
+use kmip_objects::KeyAttrs;
 
 /// A key that is to be made, and how far it is to go.
 #[derive(Debug, Drop)]

@@ -17,7 +17,7 @@ mod words;
 pub use chains::{chain, chain_length, place_of, state_after, step_place};
 pub use fault::{Field, PlanFault};
 pub use key::Key;
-pub use kmip_messages::Step;
+pub use kmip_objects::Step;
 pub use laws::{
     done_steps_are_no_rows, places_and_states, states_are_distinct, steps_are_distinct,
     steps_follow_the_lifecycle, targets_and_words,

@@ -6,7 +6,7 @@ ghost use Rattle.kmip_plan.specs.Prolonging.{LeadsOn, GoesOn, Prolongs};
 use crate::key::Key;
 use crate::plan::Plan;
 use crate::target::Target;
-use kmip_messages::KeyAttrs;
+use kmip_objects::KeyAttrs;
 
 impl Target {
     /// Whether the way to this target is a beginning of the way to the further one, or all of it.

@@ -15,7 +15,7 @@ use crate::fields::{algorithm_of, length_of, name_of, reason_of, target_of, usag
 use crate::key::Key;
 use crate::plan::Plan;
 use crate::tables::{array_at, other_key_field, other_top_field, value_at};
-use kmip_messages::KeyAttrs;
+use kmip_objects::KeyAttrs;
 use kmip_ttlv::Text;
 use std::alloc::Global;
 use toml::value::Array;

@@ -2,7 +2,7 @@
 ghost use Rattle.std.specs.Prelude.{◌≡◌, option_map};
 ghost use Rattle.kmip_plan.specs.Words.{algorithm_word, algorithm_of_word, reason_of_word, is_usage_word};
 
-use kmip_messages::standard::{
+use kmip_objects::standard::{
     ALGORITHM_AES, ALGORITHM_HMAC_SHA256, REVOCATION_PRIVILEGE_WITHDRAWN, REVOCATION_UNSPECIFIED,
 };
 

@@ -11,7 +11,7 @@ use Rattle.std.proofs.lemmas.Str.{IsUtf8-from_is_utf8}
 use Rattle.std.proofs.lemmas.Str.Parse.{IsNumeralModel, numerals_by_value}
 use Rattle.hex.specs.Hex.{lower_digits, encode_with, encode_lower, hex_digit_value}
 use Rattle.hex.proofs.HexLemmas.{IsDigits-lower_digits}
-use Rattle.kmip_messages.specs.Ranges.{is_name_byte}
+use Rattle.kmip_objects.specs.Ranges.{is_name_byte}
 use Rattle.kmip_progress.specs.Words.{is_digit, is_number}
 
 -- ---- lists that pass a test

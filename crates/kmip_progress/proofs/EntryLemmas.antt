@@ -6,8 +6,8 @@ use Rattle.std.specs.Option.{option_map_or}
 use Rattle.std.specs.Str.{is_utf8}
 use Rattle.std.proofs.lemmas.Bool.{and_parts, and_from, leb-true, le-leb}
 use Rattle.std.proofs.lemmas.List.{append-nil}
-use Rattle.kmip_messages.specs.Ranges.{is_name, is_identifier}
-use Rattle.kmip_messages.proofs.ForCallers.{Reads, reads-ok, reads-bind, reads-as}
+use Rattle.kmip_objects.specs.Ranges.{is_name, is_identifier}
+use Rattle.kmip_ttlv.proofs.ReadSteps.{Reads, reads-ok, reads-bind, reads-as}
 use Rattle.kmip_plan.specs.Fields.{if_so}
 use Rattle.kmip_plan.specs.Words.{target_word, target_of_word}
 use Rattle.kmip_plan.specs.declared.target.Target.{Target}

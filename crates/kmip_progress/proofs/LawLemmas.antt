@@ -4,7 +4,7 @@ use Rattle.std.specs.List.{list_all}
 use Rattle.std.proofs.Math.Seq.{drop-length}
 use Rattle.std.proofs.lemmas.Bool.{cases_Bool, and_parts, and_from, leb-true, cond-true, cond-false}
 use Rattle.std.proofs.lemmas.List.{append-nil}
-use Rattle.kmip_messages.specs.Ranges.{is_name, is_algorithm, is_length, is_usage, attrs_fit}
+use Rattle.kmip_objects.specs.Ranges.{is_name, is_algorithm, is_length, is_usage, attrs_fit}
 use Rattle.kmip_plan.specs.Chains.{chain, is_revoked}
 use Rattle.kmip_plan.specs.Plans.{key_fits, reason_fits, IsLawful}
 use Rattle.kmip_plan.specs.Prolonging.{Prolongs}

@@ -3,7 +3,7 @@ use Rattle.std.proofs.Common.{◌≡◌, ◌<◌, ◌==◌, ◌⊎◌, ℕ, nat_
 use Rattle.std.specs.List.{list_all, onto_first, join_with_byte}
 use Rattle.std.proofs.lemmas.Bool.{and_parts, and_from, leb-true, ne_eqb, eq-eqb, not-true, not_from_false}
 use Rattle.std.proofs.lemmas.List.Splits.{slice_split-cons_yes, slice_split-cons_no, join_with_byte-slice_split}
-use Rattle.kmip_messages.specs.Ranges.{is_name_byte}
+use Rattle.kmip_objects.specs.Ranges.{is_name_byte}
 use Rattle.kmip_progress.specs.Reading.{parts}
 use Rattle.kmip_progress.specs.Texts.{line_of, text_of_lines}
 use Rattle.kmip_progress.proofs.ByteLemmas.{is_word, all_from, all_weaker}

@@ -5,8 +5,8 @@ use Rattle.std.specs.List.{list_all}
 use Rattle.std.specs.Option.{option_map_or}
 use Rattle.std.specs.Str.{is_utf8}
 use Rattle.std.proofs.lemmas.Bool.{cases_Bool, and_parts, and_from}
-use Rattle.kmip_messages.specs.Ranges.{is_name, is_name_byte}
-use Rattle.kmip_messages.proofs.ForCallers.{Reads, reads-ok, reads-bind, reads-as}
+use Rattle.kmip_objects.specs.Ranges.{is_name, is_name_byte}
+use Rattle.kmip_ttlv.proofs.ReadSteps.{Reads, reads-ok, reads-bind, reads-as}
 use Rattle.kmip_plan.specs.Plans.{IsLawful}
 use Rattle.kmip_plan.specs.Words.{is_text, target_word}
 use Rattle.kmip_plan.specs.declared.key.Key.{Key}

@@ -11,7 +11,7 @@ use Rattle.std.proofs.lemmas.Str.{IsUtf8-from_is_utf8}
 use Rattle.hex.specs.Hex.{decode_of, encode_lower, lower_digits}
 use Rattle.hex.specs.declared.error.FromHexError.{FromHexError}
 use Rattle.hex.proofs.HexLemmas.{decode_of-encode_lower, length-encode_with}
-use Rattle.kmip_messages.specs.Ranges.{is_identifier}
+use Rattle.kmip_objects.specs.Ranges.{is_identifier}
 use Rattle.kmip_plan.specs.Chains.{is_revoked}
 use Rattle.kmip_plan.specs.Fields.{if_so}
 use Rattle.kmip_plan.specs.Words.{is_text, target_word, target_of_word}

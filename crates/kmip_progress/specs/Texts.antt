@@ -2,7 +2,7 @@
 -- Source: own.
 use Rattle.std.specs.Prelude.{◌≡◌, ◌≤◌, ℕ, Bool, true, false, not, ◌&&◌, nat_le, List, [], ◌∷◌, ◌++◌, length, map, codes, decimal, Option, Some, None, IfSome, if◌then◌else◌}
 use Rattle.std.specs.List.{list_all, join_with_byte}
-use Rattle.kmip_messages.specs.Ranges.{is_name}
+use Rattle.kmip_objects.specs.Ranges.{is_name}
 use Rattle.kmip_plan.specs.Chains.{chain, is_revoked}
 use Rattle.kmip_plan.specs.Plans.{reason_fits}
 use Rattle.kmip_plan.specs.Prolonging.{LeadsOn}

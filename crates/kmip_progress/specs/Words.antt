@@ -5,7 +5,7 @@ use Rattle.std.specs.List.{list_all}
 use Rattle.std.specs.Result.{result_ok}
 use Rattle.std.specs.Str.{is_utf8}
 use Rattle.hex.specs.Hex.{encode_lower, decode_of}
-use Rattle.kmip_messages.specs.Ranges.{is_identifier}
+use Rattle.kmip_objects.specs.Ranges.{is_identifier}
 use Rattle.kmip_plan.specs.Chains.{is_revoked}
 use Rattle.kmip_plan.specs.Fields.{if_so}
 use Rattle.kmip_plan.specs.Words.{is_text}

@@ -2,7 +2,7 @@
 ghost use Rattle.std.specs.Prelude.{◌≡◌};
 ghost use Rattle.kmip_progress.specs.Suiting.{is_known, known_fits};
 
-use kmip_messages::is_identifier;
+use kmip_objects::is_identifier;
 use kmip_plan::{Key, chain_length};
 use kmip_ttlv::Text;
 

@@ -8,7 +8,7 @@ ghost use Rattle.kmip_progress.specs.Words.{done_of_word, reason_of_word, reason
 
 use crate::fault::ProgressFault;
 use hex::FromHexError;
-use kmip_messages::is_identifier;
+use kmip_objects::is_identifier;
 use kmip_plan::Target;
 use kmip_ttlv::Text;
 use std::alloc::{AllocError, Global};

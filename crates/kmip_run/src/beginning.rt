@@ -1,6 +1,6 @@
 //! What a run begins with.
 ghost use Rattle.std.specs.Prelude.{◌≡◌, List, IfOk, option_map};
-ghost use Rattle.kmip_messages.specs.Objects.{Object};
+ghost use Rattle.kmip_objects.specs.Objects.{Object};
 ghost use Rattle.kmip_client.specs.Clients.{ClientState};
 ghost use Rattle.kmip_client.specs.Held.{Held};
 ghost use Rattle.kmip_progress.specs.Reading.{GivesProgress};

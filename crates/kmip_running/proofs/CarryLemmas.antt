@@ -1,7 +1,7 @@
 -- Carrying out a plan: exchanges, what is saved of them, and the end.
 use Rattle.std.proofs.Common.{Option, Some, None, ◌++◌, ◌≡◌, ◌≢◌, ◌≤◌, ℕ, suc, ◌+◌, nat_le, ◌<◌, List, [], ◌∷◌, Result, Ok, Err, IfOk, OnErr, OnOk, false, sym, ap, subst, refl, ◌∙◌, inl, inr, arith}
 use Rattle.std.proofs.lemmas.Bool.{cases_Bool, le-ltb, leb-true}
-use Rattle.kmip_messages.specs.Objects.{Object}
+use Rattle.kmip_objects.specs.Objects.{Object}
 use Rattle.kmip_plan.specs.Chains.{bound}
 use Rattle.kmip_plan.specs.Plans.{IsLawful}
 use Rattle.kmip_plan.specs.declared.key.Key.{Key}

@@ -4,17 +4,17 @@ use Rattle.std.specs.Cmp.Lexicographic.{pointwise}
 use Rattle.std.proofs.lemmas.Bool.{cases_Bool}
 use Rattle.std.proofs.lemmas.Option.{same_Some}
 use Rattle.std.proofs.lemmas.Slice.Eq.{bytes_eq-Decides}
-use Rattle.kmip_messages.specs.Lifecycle.{after}
-use Rattle.kmip_messages.specs.ObjectLaws.{IdentifiedIsNamed}
-use Rattle.kmip_messages.specs.Objects.{Object, object_named, object_with, restated, all_restated, DistinctNames, DistinctUids}
+use Rattle.kmip_objects.specs.Lifecycle.{after}
+use Rattle.kmip_objects.specs.ObjectLaws.{IdentifiedIsNamed}
+use Rattle.kmip_objects.specs.Objects.{Object, object_named, object_with, restated, all_restated, DistinctNames, DistinctUids}
 use Rattle.kmip_messages.specs.declared.reply.Outcome.{Outcome}
 use Rattle.kmip_messages.specs.declared.request.Ask.{Ask}
 use Rattle.kmip_messages.specs.declared.request.Ask.TheVariants as asks
-use Rattle.kmip_messages.specs.declared.request.KeyAttrs.{KeyAttrs}
-use Rattle.kmip_messages.specs.declared.state.KeyState.{KeyState}
-use Rattle.kmip_messages.specs.declared.state.KeyState.TheVariants as states
-use Rattle.kmip_messages.specs.declared.step.Step.{Step}
-use Rattle.kmip_messages.specs.declared.step.Step.TheVariants as steps
+use Rattle.kmip_objects.specs.declared.attributes.KeyAttrs.{KeyAttrs}
+use Rattle.kmip_objects.specs.declared.state.KeyState.{KeyState}
+use Rattle.kmip_objects.specs.declared.state.KeyState.TheVariants as states
+use Rattle.kmip_objects.specs.declared.step.Step.{Step}
+use Rattle.kmip_objects.specs.declared.step.Step.TheVariants as steps
 use Rattle.kmip_server.specs.Again.{has_failed}
 use Rattle.kmip_server.specs.ServerStep as rows
 use Rattle.kmip_server.specs.ServerStep.{ServerStep, step_asked, success_of}

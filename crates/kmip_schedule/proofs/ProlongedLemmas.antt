@@ -3,8 +3,8 @@ use Rattle.std.proofs.Common.{◌≡◌, ◌≤◌, ℕ, true, false, List, [], 
 use Rattle.std.proofs.lemmas.List.{length-take-le, take-take}
 use Rattle.std.proofs.lemmas.List.Elements.{All-contains, All-weaker}
 use Rattle.std.proofs.lemmas.Option.{same_Some}
-use Rattle.kmip_messages.specs.Objects.{Object, object_named}
-use Rattle.kmip_messages.specs.States.{state_number}
+use Rattle.kmip_objects.specs.Objects.{Object, object_named}
+use Rattle.kmip_objects.specs.States.{state_number}
 use Rattle.kmip_messages.specs.declared.reply.Reply.{Reply}
 use Rattle.kmip_plan.specs.Chains.{chain, or_zero, place_of, place_reached}
 use Rattle.kmip_plan.specs.Laws.{FoundKeysStand}

@@ -2,8 +2,8 @@
 use Rattle.std.proofs.Common.{◌≡◌, ◌≤◌, ◌<◌, ◌+◌, ℕ, zero, suc, List, [], ◌∷◌, take, length, slice_get, option_to_list, Option, Some, None, refl, sym, ap, subst, ◌∙◌, inl, inr, ◌⊎◌, arith}
 use Rattle.std.specs.List.{All, Contains}
 use Rattle.std.proofs.lemmas.List.Elements.{All-contains, All-weaker, Contains-append_cases, Contains-append_left, Contains-append_right, Contains-push, Contains-push_cases}
-use Rattle.kmip_messages.specs.Objects.{object_named}
-use Rattle.kmip_messages.specs.declared.step.Step.{Step}
+use Rattle.kmip_objects.specs.Objects.{object_named}
+use Rattle.kmip_objects.specs.declared.step.Step.{Step}
 use Rattle.kmip_plan.specs.Chains.{chain, step_at, step_place}
 use Rattle.kmip_plan.specs.declared.key.Key.{Key}
 use Rattle.kmip_plan.specs.declared.target.Target.{Target}

@@ -2,8 +2,8 @@
 -- Source: own, over KMIP 2.1, Message Structure.
 use Rattle.std.specs.Prelude.{◌≡◌, ◌⊎◌, ℕ, Bool, true, false, ◌&&◌, List, [], ◌∷◌, Option, Some, Result, Ok, Err}
 use Rattle.kmip_messages.specs.Items.{parts_in, stops_in, replies_in}
-use Rattle.kmip_messages.specs.Objects.{Object}
-use Rattle.kmip_messages.specs.declared.fault.Refusal.{Refusal}
+use Rattle.kmip_objects.specs.Objects.{Object}
+use Rattle.kmip_messages.specs.declared.refusal.Refusal.{Refusal}
 use Rattle.kmip_messages.specs.declared.reply.Reply.{Reply}
 use Rattle.kmip_messages.specs.declared.request.Request.{Request}
 use Rattle.kmip_server.specs.Again.{has_failed}

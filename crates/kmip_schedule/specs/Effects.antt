@@ -1,12 +1,12 @@
 -- What a question that is served does: the step that it takes, and on the object of which name.
 -- Source: KMIP 2.1, Operations; Object Attributes, State.
 use Rattle.std.specs.Prelude.{ℕ, List, Option, Some, None, option_map, if◌then◌else◌}
-use Rattle.kmip_messages.specs.Objects.{Object, object_with}
+use Rattle.kmip_objects.specs.Objects.{Object, object_with}
 use Rattle.kmip_messages.specs.declared.reply.Outcome.{Outcome}
 use Rattle.kmip_messages.specs.declared.request.Ask.{Ask}
 use Rattle.kmip_messages.specs.declared.request.Ask.TheVariants as asks
-use Rattle.kmip_messages.specs.declared.step.Step.{Step}
-use Rattle.kmip_messages.specs.declared.step.Step.TheVariants as steps
+use Rattle.kmip_objects.specs.declared.step.Step.{Step}
+use Rattle.kmip_objects.specs.declared.step.Step.TheVariants as steps
 use Rattle.kmip_server.specs.Again.{has_failed}
 use Rattle.kmip_server.specs.ServerStep.{step_asked}
 use Rattle.kmip_schedule.specs.declared.effect.Effect.{Effect}

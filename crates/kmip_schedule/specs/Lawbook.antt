@@ -1,7 +1,7 @@
 -- Private: the laws of the crates below that the laws here rest on, in one record.
 -- Source: own.
-use Rattle.kmip_messages.specs.Objects.{object_named, object_with, DistinctNames, DistinctUids}
-use Rattle.kmip_messages.specs.ObjectLaws.{
+use Rattle.kmip_objects.specs.Objects.{object_named, object_with, DistinctNames, DistinctUids}
+use Rattle.kmip_objects.specs.ObjectLaws.{
   NamedIsOne,
   IdentifiedIsOne,
   NamedIsIdentified,

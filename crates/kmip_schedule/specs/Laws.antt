@@ -3,7 +3,7 @@
 use Rattle.std.specs.Prelude.{◌≡◌, ◌≤◌, ℕ, Bool, List, ◌++◌, Option, Result}
 use Rattle.std.specs.List.{All, Contains}
 use Rattle.kmip_messages.specs.declared.reply.Reply.{Reply}
-use Rattle.kmip_messages.specs.Objects.{Object, DistinctNames, DistinctUids}
+use Rattle.kmip_objects.specs.Objects.{Object, DistinctNames, DistinctUids}
 use Rattle.kmip_messages.specs.declared.reply.Outcome.{Outcome}
 use Rattle.kmip_messages.specs.declared.request.Ask.{Ask}
 use Rattle.kmip_server.specs.ServerStep.{ServerStep}
@@ -14,7 +14,7 @@ use Rattle.kmip_plan.specs.declared.key.Key.{Key}
 use Rattle.kmip_client.specs.Justified.{JustifiedMessage}
 use Rattle.kmip_client.specs.Places.{Onward, position}
 use Rattle.kmip_client.specs.Truth.{TrueMessage}
-use Rattle.kmip_messages.specs.declared.fault.Refusal.{Refusal}
+use Rattle.kmip_messages.specs.declared.refusal.Refusal.{Refusal}
 use Rattle.kmip_messages.specs.declared.request.Request.{Request}
 use Rattle.kmip_schedule.specs.Calm.{AreTaken, CalmlyExchanged}
 use Rattle.kmip_schedule.specs.declared.effect.Effect.{Effect}

@@ -4,7 +4,7 @@
 use Rattle.std.specs.Prelude.{◌≡◌, ◌⊎◌, ℕ, false, List, [], ◌∷◌, ◌++◌, Option, Some, None, ⊤}
 use Rattle.std.specs.List.{Contains}
 use Rattle.std.specs.Option.{option_to_list}
-use Rattle.kmip_messages.specs.Objects.{Object, object_named, object_with, DistinctNames, DistinctUids}
+use Rattle.kmip_objects.specs.Objects.{Object, object_named, object_with, DistinctNames, DistinctUids}
 use Rattle.kmip_messages.specs.Operations.{operation_of}
 use Rattle.kmip_messages.specs.declared.reply.Outcome.{Outcome}
 use Rattle.kmip_messages.specs.declared.reply.Outcome.TheVariants.{Failed}

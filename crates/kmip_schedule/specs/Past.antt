@@ -4,13 +4,13 @@
 use Rattle.std.specs.Prelude.{◌≡◌, ℕ, nat_eq, Bool, true, List, [], ◌∷◌, Option, Some, None, if◌then◌else◌}
 use Rattle.std.specs.Cmp.Lexicographic.{pointwise}
 use Rattle.std.specs.Option.{is_some}
-use Rattle.kmip_messages.specs.Objects.{Object}
+use Rattle.kmip_objects.specs.Objects.{Object}
 use Rattle.kmip_messages.specs.declared.reply.Reply.{Reply}
 use Rattle.kmip_messages.specs.declared.request.Request.{Request}
-use Rattle.kmip_messages.specs.declared.state.KeyState.{KeyState}
-use Rattle.kmip_messages.specs.declared.state.KeyState.TheVariants as states
-use Rattle.kmip_messages.specs.declared.step.Step.{Step}
-use Rattle.kmip_messages.specs.declared.step.Step.TheVariants.{Create, Activate, Revoke, Destroy}
+use Rattle.kmip_objects.specs.declared.state.KeyState.{KeyState}
+use Rattle.kmip_objects.specs.declared.state.KeyState.TheVariants as states
+use Rattle.kmip_objects.specs.declared.step.Step.{Step}
+use Rattle.kmip_objects.specs.declared.step.Step.TheVariants.{Create, Activate, Revoke, Destroy}
 use Rattle.kmip_plan.specs.Plans.{key_named}
 use Rattle.kmip_plan.specs.declared.key.Key.{Key}
 use Rattle.kmip_schedule.specs.declared.effect.Effect.{Effect}

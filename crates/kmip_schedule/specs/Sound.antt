@@ -2,9 +2,9 @@
 -- Source: own.
 use Rattle.std.specs.Prelude.{◌≡◌, ◌⊎◌, ◌≤◌, ℕ, List, [], take, Some, None, IsTrue}
 use Rattle.std.specs.List.{All, Contains}
-use Rattle.kmip_messages.specs.Objects.{Object, object_named, DistinctNames, DistinctUids}
+use Rattle.kmip_objects.specs.Objects.{Object, object_named, DistinctNames, DistinctUids}
 use Rattle.kmip_messages.specs.Operations.{operation_of}
-use Rattle.kmip_messages.specs.Ranges.{is_identifier}
+use Rattle.kmip_objects.specs.Ranges.{is_identifier}
 use Rattle.kmip_messages.specs.declared.reply.Reply.{Reply}
 use Rattle.kmip_messages.specs.declared.request.Request.{Request}
 use Rattle.kmip_plan.specs.Chains.{chain, place_reached}

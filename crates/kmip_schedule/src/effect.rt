@@ -1,6 +1,6 @@
 //! A step that took effect.
 
-use kmip_messages::Step;
+use kmip_objects::Step;
 use kmip_ttlv::Text;
 
 /// A step that took effect on the object of a name.

@@ -8,7 +8,7 @@ use Rattle.std.proofs.lemmas.List.Elements.{All-head}
 use Rattle.kmip_messages.specs.Items.{parts_in, replies_in, stops_in}
 use Rattle.kmip_messages.specs.ItemLaws.{RequestsAreParts}
 use Rattle.kmip_messages.specs.Whole.{request_read}
-use Rattle.kmip_messages.specs.declared.fault.Refusal.{Refusal}
+use Rattle.kmip_messages.specs.declared.refusal.Refusal.{Refusal}
 use Rattle.kmip_messages.specs.declared.reply.Reply.{Reply}
 use Rattle.kmip_messages.specs.declared.request.Request.{Request}
 use Rattle.std.proofs.lemmas.Bool.{cases_Bool}

@@ -3,15 +3,15 @@ use Rattle.std.proofs.Common.{◌≡◌, ◌+◌, ◌==◌, ℕ, Bool, true, fal
 use Rattle.std.specs.Cmp.Lexicographic.{pointwise}
 use Rattle.std.proofs.lemmas.Bool.{cases_Bool, eqb-true}
 use Rattle.std.proofs.lemmas.List.{length-append}
-use Rattle.kmip_messages.specs.Lifecycle.{after}
-use Rattle.kmip_messages.specs.Objects.{Object, object_with}
-use Rattle.kmip_messages.specs.Ranges.{is_compromise}
+use Rattle.kmip_objects.specs.Lifecycle.{after}
+use Rattle.kmip_objects.specs.Objects.{Object, object_with}
+use Rattle.kmip_objects.specs.Ranges.{is_compromise}
 use Rattle.kmip_messages.specs.declared.reply.Outcome.{Outcome}
 use Rattle.kmip_messages.specs.declared.request.Ask.{Ask}
 use Rattle.kmip_messages.specs.declared.request.Ask.TheVariants as asks
-use Rattle.kmip_messages.specs.declared.state.KeyState.TheVariants as states
-use Rattle.kmip_messages.specs.declared.step.Step.{Step}
-use Rattle.kmip_messages.specs.declared.step.Step.TheVariants as steps
+use Rattle.kmip_objects.specs.declared.state.KeyState.TheVariants as states
+use Rattle.kmip_objects.specs.declared.step.Step.{Step}
+use Rattle.kmip_objects.specs.declared.step.Step.TheVariants as steps
 use Rattle.kmip_server.specs.Again.{has_failed}
 use Rattle.kmip_server.specs.ServerStep as rules
 use Rattle.kmip_server.specs.ServerStep.{ServerStep, step_asked, success_of}

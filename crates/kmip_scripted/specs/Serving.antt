@@ -1,15 +1,15 @@
 -- What a message does that arrives at the server of a link.
 -- Source: own, over KMIP 2.1, Operations.
 use Rattle.std.specs.Prelude.{◌==◌, pos, ℕ, Bool, true, false, ◌&&◌, is_some, List, [], ◌∷◌, ◌++◌, length, Option, Some, None, Result, Ok, Err, option_to_list, if◌then◌else◌}
-use Rattle.kmip_messages.specs.Lifecycle.{after}
-use Rattle.kmip_messages.specs.Objects.{Object, object_with}
+use Rattle.kmip_objects.specs.Lifecycle.{after}
+use Rattle.kmip_objects.specs.Objects.{Object, object_with}
 use Rattle.kmip_messages.specs.Whole.{request_read}
-use Rattle.kmip_messages.specs.declared.fault.Refusal.{Refusal}
+use Rattle.kmip_messages.specs.declared.refusal.Refusal.{Refusal}
 use Rattle.kmip_messages.specs.declared.request.Ask.{Ask}
 use Rattle.kmip_messages.specs.declared.request.Ask.TheVariants as asks
 use Rattle.kmip_messages.specs.declared.request.Request.{Request}
-use Rattle.kmip_messages.specs.declared.step.Step.{Step}
-use Rattle.kmip_messages.specs.declared.step.Step.TheVariants as steps
+use Rattle.kmip_objects.specs.declared.step.Step.{Step}
+use Rattle.kmip_objects.specs.declared.step.Step.TheVariants as steps
 use Rattle.kmip_server.specs.ServerStep.{step_asked}
 use Rattle.kmip_server.specs.Serving.{answer, reply_bytes, stock_after}
 use Rattle.kmip_server.specs.Shown.{objects_in}

@@ -1,10 +1,11 @@
 //! What a question is going to do, looked at before it is served.
 ghost use Rattle.std.specs.Prelude.{◌≡◌, IfOk};
-ghost use Rattle.kmip_messages.specs.Objects.{object_with};
+ghost use Rattle.kmip_objects.specs.Objects.{object_with};
 ghost use Rattle.kmip_server.specs.Shown.{objects_in};
 ghost use Rattle.kmip_scripted.specs.Serving.{due_on, effect_due, is_create};
 
-use kmip_messages::{Ask, Step, is_compromise};
+use kmip_messages::Ask;
+use kmip_objects::{Step, is_compromise};
 use kmip_schedule::Effect;
 use kmip_store::Records;
 use kmip_ttlv::{NoMemory, Text};

@@ -6,23 +6,23 @@ use Rattle.std.proofs.lemmas.Bool.{cases_Bool, cond-true, cond-false, or_left, o
 use Rattle.std.proofs.lemmas.List.Folds.{find-append, list_any-append}
 use Rattle.std.proofs.lemmas.Option.{none-some, same_Some}
 use Rattle.std.proofs.lemmas.Slice.Eq.{bytes_eq-Decides}
-use Rattle.kmip_messages.specs.Lifecycle.{after}
+use Rattle.kmip_objects.specs.Lifecycle.{after}
 use Rattle.kmip_messages.specs.declared.reply.Outcome.{Outcome}
 use Rattle.kmip_messages.specs.declared.reply.Outcome.TheVariants.{Activated, Revoked, Destroyed}
 use Rattle.kmip_messages.specs.declared.request.Ask.{Ask}
 use Rattle.kmip_messages.specs.declared.request.Ask.TheVariants.{Create, Locate, GetAttributes, Activate, Revoke, Destroy}
-use Rattle.kmip_messages.specs.declared.request.KeyAttrs.{KeyAttrs}
-use Rattle.kmip_messages.specs.declared.state.KeyState.{KeyState}
-use Rattle.kmip_messages.specs.declared.state.KeyState.TheVariants as states
-use Rattle.kmip_messages.specs.declared.step.Step.{Step}
-use Rattle.kmip_messages.specs.declared.step.Step.TheVariants as steps
+use Rattle.kmip_objects.specs.declared.attributes.KeyAttrs.{KeyAttrs}
+use Rattle.kmip_objects.specs.declared.state.KeyState.{KeyState}
+use Rattle.kmip_objects.specs.declared.state.KeyState.TheVariants as states
+use Rattle.kmip_objects.specs.declared.step.Step.{Step}
+use Rattle.kmip_objects.specs.declared.step.Step.TheVariants as steps
 use Rattle.kmip_store.specs.declared.row.Row.{Row}
 use Rattle.kmip_store.specs.Stepping.{enter, enter_state, row_in_state, row_with, rows_in_state, take_step_from}
 use Rattle.kmip_store.specs.Stock.{Stock, has_row_named}
 use Rattle.kmip_store.proofs.ForCallers.{has_name_moved, moved_uid}
 use Rattle.kmip_server.specs.Again.{stock_after_asks, changes, has_failed}
 use Rattle.kmip_server.specs.Serving.{answer, outcome_of_change}
-use Rattle.kmip_messages.specs.Ranges.{is_compromise}
+use Rattle.kmip_objects.specs.Ranges.{is_compromise}
 use Rattle.kmip_server.proofs.ChangeLemmas.{Follows, follows, more, moves, stays}
 
 -- an object in the state never comes to a state that the step leads out of

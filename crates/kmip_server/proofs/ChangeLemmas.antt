@@ -1,26 +1,26 @@
 -- The records after a question: as they were, with one row more, or with a row in the state that a step of it leads to.
 use Rattle.std.proofs.Common.{◌≡◌, ℕ, ◌<◌, true, false, List, length, Option, Some, None, Result, Ok, Err, OnOk, OnErr, nat_lt, refl, ap, ◌∙◌, inl, inr}
 use Rattle.std.proofs.lemmas.Bool.{cases_Bool, ltb-true}
-use Rattle.kmip_messages.specs.Lifecycle.{after}
-use Rattle.kmip_messages.specs.Ranges.{ask_fits}
+use Rattle.kmip_objects.specs.Lifecycle.{after}
+use Rattle.kmip_messages.specs.RequestFits.{ask_fits}
 use Rattle.kmip_messages.specs.declared.reply.Outcome.{Outcome}
 use Rattle.kmip_messages.specs.declared.reply.Outcome.TheVariants.{Activated, Revoked, Destroyed}
 use Rattle.kmip_messages.specs.declared.request.Ask.{Ask}
 use Rattle.kmip_messages.specs.declared.request.Ask.TheVariants.{Create, Locate, GetAttributes, Activate, Revoke, Destroy}
-use Rattle.kmip_messages.specs.declared.request.KeyAttrs.{KeyAttrs}
-use Rattle.kmip_messages.specs.declared.state.KeyState.{KeyState}
-use Rattle.kmip_messages.specs.declared.step.Step.{Step}
-use Rattle.kmip_messages.specs.declared.step.Step.TheVariants as steps
+use Rattle.kmip_objects.specs.declared.attributes.KeyAttrs.{KeyAttrs}
+use Rattle.kmip_objects.specs.declared.state.KeyState.{KeyState}
+use Rattle.kmip_objects.specs.declared.step.Step.{Step}
+use Rattle.kmip_objects.specs.declared.step.Step.TheVariants as steps
 use Rattle.kmip_store.specs.declared.row.Row.{Row}
 use Rattle.kmip_store.specs.Stepping.{enter_state, row_with, rows_in_state, take_step, take_step_from}
 use Rattle.kmip_store.specs.Laws.{CreateKeeps, StepsKeep}
 use Rattle.kmip_store.specs.Stock.{IsKept, Stock, create, stock_with, has_row_named}
 use Rattle.kmip_store.specs.declared.fault.StoreFault.{StoreFault}
 use Rattle.kmip_messages.specs.Whole.{request_read}
-use Rattle.kmip_messages.specs.declared.fault.Refusal.{Refusal}
+use Rattle.kmip_messages.specs.declared.refusal.Refusal.{Refusal}
 use Rattle.kmip_messages.specs.declared.request.Request.{Request}
 use Rattle.kmip_server.specs.Serving.{answer, outcome_of_change, stock_after, stock_after_read}
-use Rattle.kmip_messages.specs.Ranges.{is_compromise}
+use Rattle.kmip_objects.specs.Ranges.{is_compromise}
 
 pub data Follows (s : Stock) (ask : Ask) : Stock → Type 0 where
   stays : Follows s ask s

@@ -3,22 +3,24 @@ use Rattle.std.proofs.Common.{◌≡◌, ◌≢◌, ◌≤◌, ◌&&◌, ◌==�
 use Rattle.std.specs.Option.{option_map_or}
 use Rattle.std.proofs.lemmas.Bool.{and_parts, le-leb, lt-ltb, le-ltb}
 use Rattle.kmip_ttlv.specs.Sizes.{size}
-use Rattle.kmip_messages.specs.declared.fault.MessageFault.{MessageFault}
-use Rattle.kmip_messages.specs.declared.fault.MessageFault.TheVariants as faults
-use Rattle.kmip_messages.specs.declared.fault.Refusal.{Refusal}
-use Rattle.kmip_messages.specs.declared.request.Attrs.{Attrs}
-use Rattle.kmip_messages.specs.declared.request.KeyAttrs.{KeyAttrs}
+use Rattle.kmip_fields.specs.declared.fault.MessageFault.{MessageFault}
+use Rattle.kmip_fields.specs.declared.fault.MessageFault.TheVariants as faults
+use Rattle.kmip_messages.specs.declared.refusal.Refusal.{Refusal}
+use Rattle.kmip_objects.specs.declared.attributes.Attrs.{Attrs}
+use Rattle.kmip_objects.specs.declared.attributes.KeyAttrs.{KeyAttrs}
 use Rattle.kmip_messages.specs.declared.request.Request.{Request}
 use Rattle.kmip_messages.specs.declared.reply.Outcome.TheVariants.{Attributes}
 use Rattle.kmip_messages.specs.declared.reply.Reply.{Reply}
 use Rattle.kmip_messages.specs.declared.standard.TheConstants.{OPERATION_GET_ATTRIBUTES}
 use Rattle.kmip_messages.specs.Fits.{reply_fits}
 use Rattle.kmip_messages.specs.MessageSizes.{number_size, attrs_size}
-use Rattle.kmip_messages.specs.Objects.{Object}
-use Rattle.kmip_messages.specs.Ranges.{attrs_fit, is_batch_id, is_identifier}
+use Rattle.kmip_objects.specs.Objects.{Object}
+use Rattle.kmip_objects.specs.Ranges.{attrs_fit, is_identifier}
+use Rattle.kmip_messages.specs.Ranges.{is_batch_id}
 use Rattle.kmip_messages.specs.RequestReading.{RefusalIs}
 use Rattle.kmip_messages.specs.Written.{reply_item}
-use Rattle.kmip_messages.proofs.ForCallers.{size-reply, id_bound, name_length, text_bound, uid_length}
+use Rattle.kmip_messages.proofs.ForCallers.{size-reply, id_bound, text_bound}
+use Rattle.kmip_objects.proofs.ForCallers.{name_length, uid_length}
 use Rattle.kmip_store.specs.declared.fault.StoreFault.{StoreFault}
 use Rattle.kmip_store.specs.declared.fault.StoreFault.TheVariants.{NotFound, SameName, WrongState, Full, NoMemory}
 use Rattle.kmip_store.specs.Stock.{Stock, MayRefuse, stock_with, create}

@@ -1,8 +1,8 @@
 -- The Result Reason that answers each fault.
 -- Source: KMIP 2.1, Enumerations, Result Reason; which reason answers which fault is own.
 use Rattle.std.specs.Prelude.{ℕ, Option, Some, None}
-use Rattle.kmip_messages.specs.declared.fault.MessageFault.{MessageFault}
-use Rattle.kmip_messages.specs.declared.fault.MessageFault.TheVariants.{
+use Rattle.kmip_fields.specs.declared.fault.MessageFault.{MessageFault}
+use Rattle.kmip_fields.specs.declared.fault.MessageFault.TheVariants.{
   Ttlv,
   NotMessage,
   Version,

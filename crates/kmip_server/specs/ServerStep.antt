@@ -2,15 +2,15 @@
 -- Source: KMIP 2.1, Operations; Object Attributes, State. Which reason answers which refusal is own, and that a
 -- compromise is refused.
 use Rattle.std.specs.Prelude.{◌≡◌, ℕ, ◌<◌, ◌≤◌, ℤ, List, [], ◌∷◌, ◌++◌, length, Option, Some, None, IsTrue, IsSome, if◌then◌else◌}
-use Rattle.kmip_messages.specs.Lifecycle.{after}
-use Rattle.kmip_messages.specs.Objects.{Object, object_named, object_with, all_restated}
-use Rattle.kmip_messages.specs.Ranges.{is_compromise, is_identifier}
+use Rattle.kmip_objects.specs.Lifecycle.{after}
+use Rattle.kmip_objects.specs.Objects.{Object, object_named, object_with, all_restated}
+use Rattle.kmip_objects.specs.Ranges.{is_compromise, is_identifier}
 use Rattle.kmip_messages.specs.declared.reply.Outcome.{Outcome}
 use Rattle.kmip_messages.specs.declared.reply.Outcome.TheVariants.{Created, Located, Attributes, Activated, Revoked, Destroyed, Failed}
 use Rattle.kmip_messages.specs.declared.request.Ask.{Ask}
 use Rattle.kmip_messages.specs.declared.request.Ask.TheVariants.{Create, Locate, GetAttributes, Activate, Revoke, Destroy}
-use Rattle.kmip_messages.specs.declared.request.Attrs.{Attrs}
-use Rattle.kmip_messages.specs.declared.request.KeyAttrs.{KeyAttrs}
+use Rattle.kmip_objects.specs.declared.attributes.Attrs.{Attrs}
+use Rattle.kmip_objects.specs.declared.attributes.KeyAttrs.{KeyAttrs}
 use Rattle.kmip_messages.specs.declared.standard.TheConstants.{
   REASON_FEATURE_NOT_SUPPORTED,
   REASON_ITEM_NOT_FOUND,
@@ -18,10 +18,10 @@ use Rattle.kmip_messages.specs.declared.standard.TheConstants.{
   REASON_SERVER_FULL,
   REASON_WRONG_STATE,
 }
-use Rattle.kmip_messages.specs.declared.state.KeyState.{KeyState}
-use Rattle.kmip_messages.specs.declared.state.KeyState.TheVariants.{PreActive}
-use Rattle.kmip_messages.specs.declared.step.Step.{Step}
-use Rattle.kmip_messages.specs.declared.step.Step.TheVariants as steps
+use Rattle.kmip_objects.specs.declared.state.KeyState.{KeyState}
+use Rattle.kmip_objects.specs.declared.state.KeyState.TheVariants.{PreActive}
+use Rattle.kmip_objects.specs.declared.step.Step.{Step}
+use Rattle.kmip_objects.specs.declared.step.Step.TheVariants as steps
 use Rattle.kmip_store.specs.Locating.{locate}
 use Rattle.kmip_server.specs.Serving.{attributes_of}
 

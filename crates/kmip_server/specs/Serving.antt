@@ -2,22 +2,23 @@
 -- Source: KMIP 2.1, Operations. Which reason answers which refusal is own, and that a compromise is refused.
 use Rattle.std.specs.Prelude.{ℕ, ℤ, List, length, Option, Some, None, Result, Ok, Err, if◌then◌else◌}
 use Rattle.kmip_ttlv.specs.Spelling.{canon}
-use Rattle.kmip_messages.specs.Objects.{Object}
+use Rattle.kmip_objects.specs.Objects.{Object}
 use Rattle.kmip_messages.specs.Operations.{operation_of}
-use Rattle.kmip_messages.specs.Ranges.{is_compromise}
-use Rattle.kmip_messages.specs.States.{state_number}
+use Rattle.kmip_objects.specs.Ranges.{is_compromise}
+use Rattle.kmip_objects.specs.States.{state_number}
 use Rattle.kmip_messages.specs.Whole.{request_read}
 use Rattle.kmip_messages.specs.Written.{reply_item}
-use Rattle.kmip_messages.specs.declared.fault.Refusal.{Refusal}
+use Rattle.kmip_messages.specs.declared.refusal.Refusal.{Refusal}
 use Rattle.kmip_messages.specs.declared.reply.Outcome.{Outcome}
 use Rattle.kmip_messages.specs.declared.reply.Outcome.TheVariants.{Created, Located, Attributes, Activated, Revoked, Destroyed, Failed}
 use Rattle.kmip_messages.specs.declared.reply.Reply.{Reply}
 use Rattle.kmip_messages.specs.declared.request.Ask.{Ask}
 use Rattle.kmip_messages.specs.declared.request.Ask.TheVariants.{Create, Locate, GetAttributes, Activate, Revoke, Destroy}
-use Rattle.kmip_messages.specs.declared.request.Attrs.{Attrs}
+use Rattle.kmip_objects.specs.declared.attributes.Attrs.{Attrs}
 use Rattle.kmip_messages.specs.declared.request.Request.{Request}
-use Rattle.kmip_messages.specs.declared.standard.TheConstants.{OBJECT_TYPE_SYMMETRIC_KEY, REASON_FEATURE_NOT_SUPPORTED}
-use Rattle.kmip_messages.specs.declared.step.Step.TheVariants as steps
+use Rattle.kmip_objects.specs.declared.standard.TheConstants.{OBJECT_TYPE_SYMMETRIC_KEY}
+use Rattle.kmip_messages.specs.declared.standard.TheConstants.{REASON_FEATURE_NOT_SUPPORTED}
+use Rattle.kmip_objects.specs.declared.step.Step.TheVariants as steps
 use Rattle.kmip_store.specs.declared.fault.StoreFault.{StoreFault}
 use Rattle.kmip_store.specs.declared.fault.StoreFault.TheVariants.{NotFound}
 use Rattle.kmip_store.specs.declared.row.Row.{Row}

@@ -2,8 +2,8 @@
 -- Source: KMIP 2.1, Object Attributes, Name and Unique Identifier; the ranges and the room are own.
 use Rattle.std.specs.Prelude.{◌≡◌, ℕ, ◌≤◌, Bool, true, ◌&&◌, List, length}
 use Rattle.std.specs.List.{list_all}
-use Rattle.kmip_messages.specs.Objects.{Object, DistinctNames, DistinctUids}
-use Rattle.kmip_messages.specs.Ranges.{attrs_fit, is_identifier}
+use Rattle.kmip_objects.specs.Objects.{Object, DistinctNames, DistinctUids}
+use Rattle.kmip_objects.specs.Ranges.{attrs_fit, is_identifier}
 use Rattle.kmip_store.specs.Stock.{Stock, objects_of}
 
 -- the objects, in the order in which they were made

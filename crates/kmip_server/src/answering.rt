@@ -5,7 +5,9 @@ ghost use Rattle.kmip_ttlv.specs.Spelling.{canon};
 ghost use Rattle.kmip_messages.specs.Written.{reply_item};
 ghost use Rattle.kmip_messages.specs.declared.reply.Outcome.TheVariants.{Failed};
 ghost use Rattle.kmip_messages.specs.declared.standard.TheConstants.{OPERATION_CREATE, OPERATION_LOCATE, OPERATION_GET_ATTRIBUTES, OPERATION_ACTIVATE, OPERATION_REVOKE, OPERATION_DESTROY};
-ghost use Rattle.kmip_messages.specs.Ranges.{is_batch_id, is_identifier, attrs_fit, request_fits};
+ghost use Rattle.kmip_messages.specs.Ranges.{is_batch_id};
+ghost use Rattle.kmip_objects.specs.Ranges.{is_identifier, attrs_fit};
+ghost use Rattle.kmip_messages.specs.RequestFits.{request_fits};
 ghost use Rattle.kmip_messages.specs.declared.request.Ask.TheVariants as asks;
 ghost use Rattle.kmip_messages.specs.Items.{replies_in};
 ghost use Rattle.kmip_server.specs.Answering.{with_outcome, written_with};
@@ -15,10 +17,10 @@ ghost use Rattle.kmip_store.specs.Stepping.{Becomes};
 ghost use Rattle.kmip_store.specs.Stock.{create, object_of};
 
 use crate::reasons::{message_reason, store_reason};
-use kmip_messages::standard::{OBJECT_TYPE_SYMMETRIC_KEY, REASON_FEATURE_NOT_SUPPORTED};
-use kmip_messages::{
-    Ask, Attrs, KeyAttrs, Outcome, Refusal, Reply, Request, Texts, is_compromise, write_reply,
-};
+use kmip_messages::standard::REASON_FEATURE_NOT_SUPPORTED;
+use kmip_messages::{Ask, Outcome, Refusal, Reply, Request, Texts, write_reply};
+use kmip_objects::standard::OBJECT_TYPE_SYMMETRIC_KEY;
+use kmip_objects::{Attrs, KeyAttrs, is_compromise};
 use kmip_store::{Records, Row, StoreFault, identifier_at};
 use kmip_ttlv::{Bytes, NoMemory, Text};
 use std::alloc::Global;

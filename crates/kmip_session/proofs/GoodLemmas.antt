@@ -1,7 +1,7 @@
 -- What is good stays so over an exchange.
 use Rattle.std.proofs.Common.{◌≡◌, ℕ, List, [], ◌∷◌, Option, Some, None, Result, IfSome, option_map, sym, subst, refl, ◌∙◌, arith}
 use Rattle.std.specs.List.{AllZip}
-use Rattle.kmip_messages.specs.Objects.{Object}
+use Rattle.kmip_objects.specs.Objects.{Object}
 use Rattle.kmip_plan.specs.Plans.{IsLawful}
 use Rattle.kmip_plan.specs.declared.key.Key.{Key}
 use Rattle.kmip_client.specs.Clients.{ClientState, after_ask}

@@ -2,7 +2,7 @@
 -- Source: own.
 use Rattle.std.specs.Prelude.{◌≡◌, ◌≢◌, ◌≤◌, ℕ, List, [], ◌∷◌, ◌++◌, filter, length, None, string_bytes, take}
 use Rattle.std.specs.List.{All, AllZip}
-use Rattle.kmip_messages.specs.Objects.{Object}
+use Rattle.kmip_objects.specs.Objects.{Object}
 use Rattle.kmip_plan.specs.Laws.{KeysAreFound, PlacesAndSteps}
 use Rattle.kmip_plan.specs.declared.key.Key.{Key}
 use Rattle.kmip_progress.specs.Suiting.{Suits}

@@ -1,7 +1,7 @@
 //! Runs in turn over one link, each from nothing, from the run before it or from a saved progress.
 ghost use Rattle.std.specs.Prelude.{◌≡◌, ◌≢◌, ◌≤◌, ◌⊎◌, ℕ, List, [], ◌++◌, length, filter, map, take, Some, None, Ok, IfOk, OnErr, OnOk, IfSome, option_map, false, if◌then◌else◌};
 ghost use Rattle.std.specs.List.{All, AllZip, Contains};
-ghost use Rattle.kmip_messages.specs.Objects.{Object};
+ghost use Rattle.kmip_objects.specs.Objects.{Object};
 ghost use Rattle.kmip_client.specs.Held.{Held, TrueProgress};
 ghost use Rattle.kmip_progress.specs.Suiting.{Suits};
 ghost use Rattle.kmip_schedule.specs.Machine.{IsMirrored};

@@ -1,7 +1,7 @@
 //! Runs of exchanges, until no key is worked on any more or as many were made as may be.
 ghost use Rattle.std.specs.Prelude.{◌≡◌, ◌≢◌, ◌≤◌, ◌<◌, ◌+◌, ℕ, List, length, true, false, Some, None, Ok, Err, IfOk, IsOk, IfSome, OnErr, OnOk, option_map};
 ghost use Rattle.std.specs.Result.{result_ok};
-ghost use Rattle.kmip_messages.specs.Objects.{Object};
+ghost use Rattle.kmip_objects.specs.Objects.{Object};
 ghost use Rattle.kmip_client.specs.Clients.{lost_at, one_if, AreSettled, IsAbout};
 ghost use Rattle.kmip_client.specs.Held.{Held};
 ghost use Rattle.kmip_client.specs.Hearing.{hear};

@@ -8,10 +8,10 @@ use Rattle.std.proofs.lemmas.Bool.{cases_Bool}
 use Rattle.std.proofs.lemmas.List.{length-map}
 use Rattle.std.proofs.lemmas.Option.{same_Some}
 use Rattle.std.proofs.lemmas.Slice.Eq.{bytes_eq-Decides}
-use Rattle.kmip_messages.specs.Objects.{Object, object_named, object_with, restated, all_restated}
-use Rattle.kmip_messages.specs.Ranges.{is_identifier}
-use Rattle.kmip_messages.specs.declared.state.KeyState.{KeyState}
-use Rattle.kmip_messages.specs.declared.state.KeyState.TheVariants.{PreActive}
+use Rattle.kmip_objects.specs.Objects.{Object, object_named, object_with, restated, all_restated}
+use Rattle.kmip_objects.specs.Ranges.{is_identifier}
+use Rattle.kmip_objects.specs.declared.state.KeyState.{KeyState}
+use Rattle.kmip_objects.specs.declared.state.KeyState.TheVariants.{PreActive}
 use Rattle.kmip_plan.specs.Chains.{place_reached}
 use Rattle.kmip_plan.specs.Plans.{IsLawful, IsPlanned, key_named}
 use Rattle.kmip_plan.specs.declared.key.Key.{Key}

@@ -1,9 +1,9 @@
 -- The room for what a plan misses that prolongs the client's.
 use Rattle.std.proofs.Common.{◌≡◌, ◌≤◌, ℕ, ◌+◌, List, [], ◌∷◌, ◌++◌, length, Option, Some, sym, ap, ◌∙◌, arith}
 use Rattle.std.specs.Option.{is_none}
-use Rattle.kmip_messages.specs.Objects.{Object, object_named}
-use Rattle.kmip_messages.specs.declared.request.KeyAttrs.{KeyAttrs}
-use Rattle.kmip_messages.specs.declared.state.KeyState.TheVariants.{PreActive}
+use Rattle.kmip_objects.specs.Objects.{Object, object_named}
+use Rattle.kmip_objects.specs.declared.attributes.KeyAttrs.{KeyAttrs}
+use Rattle.kmip_objects.specs.declared.state.KeyState.TheVariants.{PreActive}
 use Rattle.kmip_plan.specs.Plans.{IsLawful, IsPlanned}
 use Rattle.kmip_plan.specs.Prolonging.{GoesOn, Prolongs}
 use Rattle.kmip_plan.specs.declared.key.Key.{Key}

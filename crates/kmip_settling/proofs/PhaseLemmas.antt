@@ -5,17 +5,17 @@ use Rattle.std.proofs.lemmas.Bool.{cases_Bool, ltb-true, ltb-false, lt-ltb, le-l
 use Rattle.std.proofs.lemmas.Bool.Decides.{Decides-int_eq}
 use Rattle.std.proofs.lemmas.Option.{same_Some}
 use Rattle.std.specs.Cmp.Lexicographic.{pointwise}
-use Rattle.kmip_messages.specs.Objects.{Object, object_named, object_with}
-use Rattle.kmip_messages.specs.Searching.{by_name, every_state}
-use Rattle.kmip_messages.specs.Ranges.{is_identifier}
-use Rattle.kmip_messages.specs.States.{state_number}
+use Rattle.kmip_objects.specs.Objects.{Object, object_named, object_with}
+use Rattle.kmip_objects.specs.Searching.{by_name, every_state}
+use Rattle.kmip_objects.specs.Ranges.{is_identifier}
+use Rattle.kmip_objects.specs.States.{state_number}
 use Rattle.kmip_messages.specs.declared.reply.Outcome.{Outcome}
 use Rattle.kmip_messages.specs.declared.reply.Outcome.TheVariants.{Created, Located, Attributes, Failed}
 use Rattle.kmip_messages.specs.declared.request.Ask.{Ask}
 use Rattle.kmip_messages.specs.declared.request.Ask.TheVariants as asks
-use Rattle.kmip_messages.specs.declared.request.KeyAttrs.{KeyAttrs}
-use Rattle.kmip_messages.specs.declared.state.KeyState.TheVariants.{PreActive}
-use Rattle.kmip_messages.specs.declared.step.Step.{Step}
+use Rattle.kmip_objects.specs.declared.attributes.KeyAttrs.{KeyAttrs}
+use Rattle.kmip_objects.specs.declared.state.KeyState.TheVariants.{PreActive}
+use Rattle.kmip_objects.specs.declared.step.Step.{Step}
 use Rattle.kmip_plan.specs.Chains.{or_zero, place_of, place_reached}
 use Rattle.kmip_plan.specs.Plans.{key_fits}
 use Rattle.kmip_plan.specs.declared.key.Key.{Key}

@@ -3,7 +3,7 @@ use Rattle.std.proofs.Common.{◌≡◌, ◌≢◌, ◌≤◌, ◌<◌, ℕ, zer
 use Rattle.std.specs.List.{slice_get}
 use Rattle.std.specs.Option.{is_none}
 use Rattle.std.proofs.lemmas.Option.{same_Some}
-use Rattle.kmip_messages.specs.Objects.{Object, object_named}
+use Rattle.kmip_objects.specs.Objects.{Object, object_named}
 use Rattle.kmip_plan.specs.Chains.{place_reached, bound}
 use Rattle.kmip_plan.specs.Laws.{BoundsAddUp, ReachedIsWithin}
 use Rattle.kmip_plan.specs.declared.key.Key.{Key}

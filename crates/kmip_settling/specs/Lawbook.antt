@@ -1,6 +1,6 @@
 -- Private: the laws of the crates below that the laws here rest on, in one record.
 -- Source: own.
-use Rattle.kmip_messages.specs.ObjectLaws.{NamedIsAll, IdentifiedIsAll, NamedIsIdentified, OwnIsRestated, OtherIsKept, RestatedKeeps, NamedIsRestated}
+use Rattle.kmip_objects.specs.ObjectLaws.{NamedIsAll, IdentifiedIsAll, NamedIsIdentified, OwnIsRestated, OtherIsKept, RestatedKeeps, NamedIsRestated}
 use Rattle.kmip_plan.specs.Laws.{
   NextStepsStand,
   PlacesAreWithin,

@@ -2,7 +2,7 @@
 -- Source: own.
 use Rattle.std.specs.Prelude.{ℕ, ◌+◌, ◌-◌, nat_eq, nat_le, Bool, List, [], ◌∷◌, if◌then◌else◌}
 use Rattle.std.specs.Option.{is_none, is_some}
-use Rattle.kmip_messages.specs.Objects.{Object, object_named}
+use Rattle.kmip_objects.specs.Objects.{Object, object_named}
 use Rattle.kmip_plan.specs.declared.key.Key.{Key}
 use Rattle.kmip_client.specs.declared.knowledge.Knowledge.{Knowledge}
 use Rattle.kmip_client.specs.declared.knowledge.Phase.{Phase}

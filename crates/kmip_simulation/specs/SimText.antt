@@ -5,7 +5,7 @@ use Rattle.std.specs.Fmt.{decimal}
 use Rattle.std.specs.List.{flat_map, slice_get}
 use Rattle.std.specs.Option.{option_map_or}
 use Rattle.kmip_messages.specs.Items.{requests_in}
-use Rattle.kmip_messages.specs.Objects.{Object}
+use Rattle.kmip_objects.specs.Objects.{Object}
 use Rattle.kmip_messages.specs.declared.request.Ask.{Ask}
 use Rattle.kmip_messages.specs.declared.request.Request.{Request}
 use Rattle.kmip_server.specs.Shown.{objects_in}

@@ -1,11 +1,11 @@
 -- Each change of the records keeps what holds of them at all times.
 use Rattle.std.proofs.Common.{◌≡◌, ℕ, Bool, true, false, List, length, Option, Some, None, Result, Ok, Err, nat_lt, if◌then◌else◌, subst, refl}
 use Rattle.std.proofs.lemmas.Bool.{ltb-true}
-use Rattle.kmip_messages.specs.Lifecycle.{after}
-use Rattle.kmip_messages.specs.Ranges.{attrs_fit}
-use Rattle.kmip_messages.specs.declared.request.KeyAttrs.{KeyAttrs}
-use Rattle.kmip_messages.specs.declared.state.KeyState.{KeyState}
-use Rattle.kmip_messages.specs.declared.step.Step.{Step}
+use Rattle.kmip_objects.specs.Lifecycle.{after}
+use Rattle.kmip_objects.specs.Ranges.{attrs_fit}
+use Rattle.kmip_objects.specs.declared.attributes.KeyAttrs.{KeyAttrs}
+use Rattle.kmip_objects.specs.declared.state.KeyState.{KeyState}
+use Rattle.kmip_objects.specs.declared.step.Step.{Step}
 use Rattle.kmip_store.specs.declared.fault.StoreFault.{StoreFault}
 use Rattle.kmip_store.specs.declared.fault.StoreFault.TheVariants.{SameName, Full}
 use Rattle.kmip_store.specs.declared.row.Row.{Row}

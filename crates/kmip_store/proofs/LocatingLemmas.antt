@@ -6,8 +6,8 @@ use Rattle.std.specs.Option.{option_map, option_to_list, IsSome}
 use Rattle.std.proofs.lemmas.Bool.{and_right, or_parts, cases_Bool, both_ways, false≢true, cond-true, cond-false}
 use Rattle.std.proofs.lemmas.Option.{none-some, same_Some}
 use Rattle.std.proofs.lemmas.Slice.Eq.{bytes_eq-Decides}
-use Rattle.kmip_messages.specs.Objects.{Object}
-use Rattle.kmip_messages.specs.declared.request.Attrs.{Attrs}
+use Rattle.kmip_objects.specs.Objects.{Object}
+use Rattle.kmip_objects.specs.declared.attributes.Attrs.{Attrs}
 use Rattle.kmip_store.specs.declared.row.Row.{Row}
 use Rattle.kmip_store.specs.Stock.{object_of, objects_of, has_row_named, HaveOwnNames}
 use Rattle.kmip_store.proofs.PlaceLemmas.{none_passes, any_map}

@@ -4,8 +4,8 @@
 use Rattle.std.specs.Prelude.{◌≡◌, ℕ, Bool, true, List, [], ◌∷◌, length, take, Result, Ok, Err}
 use Rattle.std.specs.List.{slice_get}
 use Rattle.std.specs.Option.{is_some}
-use Rattle.kmip_messages.specs.Ranges.{attrs_fit}
-use Rattle.kmip_messages.specs.declared.step.Step.TheVariants as steps
+use Rattle.kmip_objects.specs.Ranges.{attrs_fit}
+use Rattle.kmip_objects.specs.declared.step.Step.TheVariants as steps
 use Rattle.kmip_store.specs.declared.calling.Answer.{Answer}
 use Rattle.kmip_store.specs.declared.calling.Answer.TheVariants as answers
 use Rattle.kmip_store.specs.declared.calling.Call.{Call}

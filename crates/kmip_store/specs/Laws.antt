@@ -1,9 +1,9 @@
 -- What holds of all records.
 -- Source: own: what the laws of the records say.
 use Rattle.std.specs.Prelude.{◌≡◌, ℕ, ◌<◌, List, length, None, Ok, IsTrue}
-use Rattle.kmip_messages.specs.Ranges.{attrs_fit, is_identifier}
-use Rattle.kmip_messages.specs.declared.request.KeyAttrs.{KeyAttrs}
-use Rattle.kmip_messages.specs.declared.step.Step.{Step}
+use Rattle.kmip_objects.specs.Ranges.{attrs_fit, is_identifier}
+use Rattle.kmip_objects.specs.declared.attributes.KeyAttrs.{KeyAttrs}
+use Rattle.kmip_objects.specs.declared.step.Step.{Step}
 use Rattle.kmip_store.specs.Stepping.{row_with, take_step}
 use Rattle.kmip_store.specs.Stock.{IsKept, Stock, create, identifier_at}
 

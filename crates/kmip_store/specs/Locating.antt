@@ -6,12 +6,12 @@ use Rattle.std.specs.Cmp.Lexicographic.{pointwise}
 use Rattle.std.specs.Int.{w32, cast_unsigned}
 use Rattle.std.specs.Ordering.{int_eq}
 use Rattle.std.specs.Option.{option_map_or}
-use Rattle.kmip_messages.specs.Objects.{Object}
-use Rattle.kmip_messages.specs.States.{state_number}
-use Rattle.kmip_messages.specs.declared.request.Attrs.{Attrs}
-use Rattle.kmip_messages.specs.declared.standard.TheConstants.{OBJECT_TYPE_SYMMETRIC_KEY, STORAGE_ON_LINE, STORAGE_DESTROYED}
-use Rattle.kmip_messages.specs.declared.state.KeyState.{KeyState}
-use Rattle.kmip_messages.specs.declared.state.KeyState.TheVariants.{Destroyed}
+use Rattle.kmip_objects.specs.Objects.{Object}
+use Rattle.kmip_objects.specs.States.{state_number}
+use Rattle.kmip_objects.specs.declared.attributes.Attrs.{Attrs}
+use Rattle.kmip_objects.specs.declared.standard.TheConstants.{OBJECT_TYPE_SYMMETRIC_KEY, STORAGE_ON_LINE, STORAGE_DESTROYED}
+use Rattle.kmip_objects.specs.declared.state.KeyState.{KeyState}
+use Rattle.kmip_objects.specs.declared.state.KeyState.TheVariants.{Destroyed}
 
 -- the bit of a Storage Status Mask that stands for objects of a state
 abbrev pub storage_bit : KeyState → ℕ

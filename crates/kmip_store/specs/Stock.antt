@@ -7,10 +7,10 @@ use Rattle.std.specs.Fmt.{decimal}
 use Rattle.std.specs.List.{list_any, list_all}
 use Rattle.rand_core.specs.Steps.{fill_via_u32}
 use Rattle.rand_chacha.specs.ChaCha.{ChaCha, next_word, of_seed}
-use Rattle.kmip_messages.specs.Objects.{Object}
-use Rattle.kmip_messages.specs.Ranges.{attrs_fit}
-use Rattle.kmip_messages.specs.declared.request.KeyAttrs.{KeyAttrs}
-use Rattle.kmip_messages.specs.declared.state.KeyState.TheVariants.{PreActive}
+use Rattle.kmip_objects.specs.Objects.{Object}
+use Rattle.kmip_objects.specs.Ranges.{attrs_fit}
+use Rattle.kmip_objects.specs.declared.attributes.KeyAttrs.{KeyAttrs}
+use Rattle.kmip_objects.specs.declared.state.KeyState.TheVariants.{PreActive}
 use Rattle.kmip_store.specs.declared.row.Row.{Row}
 use Rattle.kmip_store.specs.declared.fault.StoreFault.{StoreFault}
 use Rattle.kmip_store.specs.declared.fault.StoreFault.TheVariants.{NotFound, SameName, WrongState, Full, NoMemory}

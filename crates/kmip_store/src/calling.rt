@@ -4,7 +4,7 @@
 ghost use Rattle.std.specs.Prelude.{◌≡◌, IfOk, OnOk, OnErr, IsTrue, IsSome};
 ghost use Rattle.std.specs.List.{list_all};
 ghost use Rattle.std.specs.Option.{option_copied};
-ghost use Rattle.kmip_messages.specs.Ranges.{attrs_fit};
+ghost use Rattle.kmip_objects.specs.Ranges.{attrs_fit};
 ghost use Rattle.kmip_store.specs.Calling.{
   may_call,
   answer_to,
@@ -19,7 +19,7 @@ ghost use Rattle.kmip_store.specs.declared.calling.Call.TheVariants as calls;
 use crate::fault::StoreFault;
 use crate::records::Records;
 use crate::row::Row;
-use kmip_messages::{Attrs, KeyAttrs};
+use kmip_objects::{Attrs, KeyAttrs};
 use kmip_ttlv::{NoMemory, Text};
 use std::alloc::Global;
 

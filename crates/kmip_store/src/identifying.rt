@@ -1,6 +1,6 @@
 //! The identifiers of the objects, how many objects there may be, and the seed of their material.
 ghost use Rattle.std.specs.Prelude.{◌≡◌, ◌≤◌, IfOk, IsTrue};
-ghost use Rattle.kmip_messages.specs.Ranges.{is_identifier};
+ghost use Rattle.kmip_objects.specs.Ranges.{is_identifier};
 ghost use Rattle.kmip_store.specs.Stock.{identifier_at, most_room};
 
 use kmip_ttlv::Text;

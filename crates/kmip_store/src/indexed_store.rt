@@ -11,7 +11,7 @@ use crate::records::Records;
 use crate::row::Row;
 use crate::stepping::step_by_index;
 use indexmap::IndexSet;
-use kmip_messages::{Attrs, KeyAttrs, Step};
+use kmip_objects::{Attrs, KeyAttrs, Step};
 use kmip_ttlv::Text;
 use rand_chacha::ChaCha20Rng;
 use rand_core::SeedableRng;

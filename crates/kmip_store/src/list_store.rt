@@ -9,7 +9,7 @@ use crate::material::draw;
 use crate::records::Records;
 use crate::row::Row;
 use crate::stepping::step;
-use kmip_messages::{Attrs, KeyAttrs, Step};
+use kmip_objects::{Attrs, KeyAttrs, Step};
 use kmip_ttlv::Text;
 use rand_chacha::ChaCha20Rng;
 use rand_core::SeedableRng;

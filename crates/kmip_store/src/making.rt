@@ -5,7 +5,7 @@ ghost use Rattle.kmip_store.specs.Stock.{new_row, material_size, most_room};
 use crate::identifying::identifier_at;
 use crate::material::zeroed;
 use crate::row::Row;
-use kmip_messages::{KeyAttrs, KeyState};
+use kmip_objects::{KeyAttrs, KeyState};
 use std::alloc::{AllocError, Global};
 
 /// The row of a new object at a place from 0, with zeros in the place of its material.

@@ -13,8 +13,8 @@ use crate::numbering::{place_of_uid, row_at};
 use crate::places::place_of;
 use crate::row::Row;
 use indexmap::IndexSet;
-use kmip_messages::standard::{OBJECT_TYPE_SYMMETRIC_KEY, STORAGE_DESTROYED, STORAGE_ON_LINE};
-use kmip_messages::{Attrs, KeyState};
+use kmip_objects::standard::{OBJECT_TYPE_SYMMETRIC_KEY, STORAGE_DESTROYED, STORAGE_ON_LINE};
+use kmip_objects::{Attrs, KeyState};
 
 /// Whether a row has the name.
 pub(crate) fn has_row_named(rows: &[Row], name: &str) -> bool

@@ -2,15 +2,15 @@
 ghost use Rattle.std.specs.Prelude.{◌≡◌, length, true, IsTrue, IsSome, IfOk, IfSome, OnErr, Err, option_to_list};
 ghost use Rattle.std.specs.List.{slice_get};
 ghost use Rattle.std.specs.Option.{option_copied};
-ghost use Rattle.kmip_messages.specs.Ranges.{attrs_fit, is_identifier};
-ghost use Rattle.kmip_messages.specs.declared.step.Step.TheVariants as steps;
+ghost use Rattle.kmip_objects.specs.Ranges.{attrs_fit, is_identifier};
+ghost use Rattle.kmip_objects.specs.declared.step.Step.TheVariants as steps;
 ghost use Rattle.kmip_store.specs.Stock.{Stock, IsKept, identifier_at, stock_with, MayRefuse, objects_of};
 ghost use Rattle.kmip_store.specs.Stepping.{Becomes, row_with, take_step};
 ghost use Rattle.kmip_store.specs.Locating.{locate};
 
 use crate::fault::StoreFault;
 use crate::row::Row;
-use kmip_messages::{Attrs, KeyAttrs};
+use kmip_objects::{Attrs, KeyAttrs};
 use kmip_ttlv::Text;
 use std::alloc::Global;
 

@@ -1,7 +1,7 @@
 //! One object of the store.
 ghost use Rattle.std.specs.Prelude.{◌≡◌, IfOk};
 
-use kmip_messages::{KeyAttrs, KeyState};
+use kmip_objects::{KeyAttrs, KeyState};
 use kmip_ttlv::{Bytes, Text};
 use std::alloc::{AllocError, Global};
 

@@ -10,7 +10,7 @@ ghost use Rattle.kmip_store.specs.Indexing.{names_of};
 use crate::fault::StoreFault;
 use crate::numbering::place_of_uid;
 use crate::row::Row;
-use kmip_messages::{KeyState, Step};
+use kmip_objects::{KeyState, Step};
 use kmip_ttlv::Bytes;
 use std::alloc::Global;
 

@@ -15,7 +15,8 @@ use Rattle.kmip_ttlv.specs.Fitting.{IsBytes, depths}
 use Rattle.kmip_ttlv.specs.Spelling.{SpelledAll}
 use Rattle.kmip_ttlv.specs.Sizes.{padded}
 use Rattle.kmip_ttlv.specs.Heads.{head_at}
-use Rattle.kmip_ttlv.specs.Reading.{◌>>=◌, Reader, boolean_value_at, text_value_at, all_at, value_at, item_at}
+use Rattle.kmip_ttlv.specs.Binding.{◌>>=◌}
+use Rattle.kmip_ttlv.specs.Reading.{Reader, boolean_value_at, text_value_at, all_at, value_at, item_at}
 use Rattle.kmip_ttlv.specs.Breaks.{LeafBreaks, Breaks}
 use Rattle.kmip_ttlv.proofs.SoFar.{one_at}
 use Rattle.kmip_ttlv.proofs.Steps.{value_next, text_wrong}

@@ -29,7 +29,8 @@ use Rattle.kmip_ttlv.specs.Node.{
 use Rattle.kmip_ttlv.specs.Types.{is_allowed}
 use Rattle.kmip_ttlv.specs.Fitting.{IsBytes, content_depth}
 use Rattle.kmip_ttlv.specs.Spelling.{type_of, value_bytes, SpelledValue}
-use Rattle.kmip_ttlv.specs.Reading.{◌>>=◌, Reader, boolean_value_at, text_value_at, value_at}
+use Rattle.kmip_ttlv.specs.Binding.{◌>>=◌}
+use Rattle.kmip_ttlv.specs.Reading.{Reader, boolean_value_at, text_value_at, value_at}
 use Rattle.kmip_ttlv.proofs.Numbers.{back_4, back_8, below_4, below_8, again_4, again_8}
 use Rattle.kmip_ttlv.proofs.Steps.{text_right}
 

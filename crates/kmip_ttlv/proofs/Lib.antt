@@ -13,3 +13,4 @@ pub mod Faults
 pub mod Laws
 pub mod Shown
 pub mod ForCallers
+pub mod ReadSteps

@@ -5,7 +5,8 @@ use Rattle.std.proofs.lemmas.Bool.{true≢false, eqb-true}
 use Rattle.kmip_ttlv.specs.declared.fault.TtlvFault.{TtlvFault}
 use Rattle.kmip_ttlv.specs.declared.fault.TtlvFault.TheVariants as faults
 use Rattle.kmip_ttlv.specs.Node.{Node}
-use Rattle.kmip_ttlv.specs.Reading.{◌>>=◌, FailsContent, Reader, all_at}
+use Rattle.kmip_ttlv.specs.Binding.{◌>>=◌}
+use Rattle.kmip_ttlv.specs.Reading.{FailsContent, Reader, all_at}
 
 -- what was read before, and what is still read
 abbrev pub with_front : List Node → Result (List Node) TtlvFault → Result (List Node) TtlvFault

@@ -10,7 +10,8 @@ use Rattle.kmip_ttlv.specs.declared.item_type.ItemType.{ItemType}
 use Rattle.kmip_ttlv.specs.Node.{node, Content}
 use Rattle.kmip_ttlv.specs.Sizes.{padded}
 use Rattle.kmip_ttlv.specs.Heads.{head_at}
-use Rattle.kmip_ttlv.specs.Reading.{◌>>=◌, FailsContent, text_value_at, value_at, item_at}
+use Rattle.kmip_ttlv.specs.Binding.{◌>>=◌}
+use Rattle.kmip_ttlv.specs.Reading.{FailsContent, text_value_at, value_at, item_at}
 
 pub text_right : (at : ℕ) (bytes : List ℕ) → IsUtf8 bytes → text_value_at at bytes ≡ Ok bytes
 unfolding text_value_at

@@ -10,7 +10,8 @@ use Rattle.kmip_ttlv.specs.Fitting.{IsBytes, depth, content_depth, depths}
 use Rattle.kmip_ttlv.specs.Spelling.{padding, item_bytes, type_of, Spelled, SpelledValue, SpelledAll}
 use Rattle.kmip_ttlv.specs.Sizes.{padded}
 use Rattle.kmip_ttlv.specs.Heads.{head_at}
-use Rattle.kmip_ttlv.specs.Reading.{◌>>=◌, Reader, all_at, value_at, item_at}
+use Rattle.kmip_ttlv.specs.Binding.{◌>>=◌}
+use Rattle.kmip_ttlv.specs.Reading.{Reader, all_at, value_at, item_at}
 use Rattle.kmip_ttlv.proofs.Numbers.{IsBytes-drop, IsBytes-take}
 use Rattle.kmip_ttlv.proofs.Leaves.{ok_is, bind_ok, leaf_takes}
 use Rattle.kmip_ttlv.proofs.Heads.{HasHead, head_takes, value_in, pad_in, length-value, length-pad, tag_below, parts}

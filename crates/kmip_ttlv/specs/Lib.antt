@@ -7,6 +7,7 @@ pub mod Fitting
 pub mod Spelling
 pub mod Sizes
 pub mod Heads
+pub mod Binding
 pub mod Reading
 pub mod Breaks
 pub mod Showing

@@ -42,12 +42,7 @@ use Rattle.kmip_ttlv.specs.Node.{
 use Rattle.kmip_ttlv.specs.View.{view}
 use Rattle.kmip_ttlv.specs.Sizes.{padded}
 use Rattle.kmip_ttlv.specs.Heads.{head_at}
-
--- the second step, where the first gave a value
-infixl 10 ◌>>=◌
-abbrev pub ◌>>=◌ : {A B : Type 0} → Result A TtlvFault → (A → Result B TtlvFault) → Result B TtlvFault
-(Ok x) >>= f = f x
-(Err e) >>= f = Err e
+use Rattle.kmip_ttlv.specs.Binding.{◌>>=◌}
 
 -- a reader of the item at the front of bytes that begin at an offset: the item and its size
 abbrev pub Reader : Type 0

@@ -6,11 +6,11 @@ use Rattle.std.specs.Fmt.{decimal}
 use Rattle.std.specs.List.{flat_map, list_all}
 use Rattle.kmip_ttlv.specs.Showing.{plain_text}
 use Rattle.kmip_messages.specs.Items.{replies_in}
-use Rattle.kmip_messages.specs.Ranges.{is_name_byte}
+use Rattle.kmip_objects.specs.Ranges.{is_name_byte}
 use Rattle.kmip_messages.specs.declared.reply.Outcome.{Outcome}
 use Rattle.kmip_messages.specs.declared.reply.Outcome.TheVariants.{Created, Located, Attributes, Activated, Revoked, Destroyed, Failed}
 use Rattle.kmip_messages.specs.declared.reply.Reply.{Reply}
-use Rattle.kmip_messages.specs.declared.state.KeyState.{KeyState}
+use Rattle.kmip_objects.specs.declared.state.KeyState.{KeyState}
 use Rattle.kmip_wording.specs.Names.{operation_word, state_of, state_word}
 use Rattle.kmip_wording.specs.Questions.{id_asked}
 

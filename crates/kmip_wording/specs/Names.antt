@@ -1,7 +1,7 @@
 -- The names of operations and of states, as they are printed.
 -- Source: KMIP 2.1, Operations, and Object Attributes, State; that a name is one word is own.
 use Rattle.std.specs.Prelude.{ℕ, ◌==◌, List, [], ◌∷◌, codes, Option, Some, None, find, if◌then◌else◌}
-use Rattle.kmip_messages.specs.States.{state_number}
+use Rattle.kmip_objects.specs.States.{state_number}
 use Rattle.kmip_messages.specs.declared.request.Ask.{Ask}
 use Rattle.kmip_messages.specs.declared.request.Ask.TheVariants.{Create, Locate, GetAttributes, Activate, Revoke, Destroy}
 use Rattle.kmip_messages.specs.declared.standard.TheConstants.{
@@ -12,8 +12,8 @@ use Rattle.kmip_messages.specs.declared.standard.TheConstants.{
   OPERATION_REVOKE,
   OPERATION_DESTROY,
 }
-use Rattle.kmip_messages.specs.declared.state.KeyState.{KeyState}
-use Rattle.kmip_messages.specs.declared.state.KeyState.TheVariants as states
+use Rattle.kmip_objects.specs.declared.state.KeyState.{KeyState}
+use Rattle.kmip_objects.specs.declared.state.KeyState.TheVariants as states
 
 -- the name of the operation that is asked
 abbrev pub ask_word : Ask → List ℕ

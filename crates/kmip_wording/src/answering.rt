@@ -2,7 +2,7 @@
 ghost use Rattle.std.specs.Prelude.{◌≡◌, ◌++◌, OnOk, option_map};
 ghost use Rattle.std.specs.List.{list_all};
 ghost use Rattle.kmip_messages.specs.Items.{replies_in};
-ghost use Rattle.kmip_messages.specs.Ranges.{is_name_byte};
+ghost use Rattle.kmip_objects.specs.Ranges.{is_name_byte};
 ghost use Rattle.kmip_wording.specs.Names.{operation_word};
 ghost use Rattle.kmip_wording.specs.Questions.{id_asked};
 ghost use Rattle.kmip_wording.specs.Answers.{first_reply_text, id_text, is_same_id, named_text, answer_text, whose_text};

@@ -1,13 +1,14 @@
 //! The names of operations and of states.
 ghost use Rattle.std.specs.Prelude.{◌≡◌, ◌==◌, find, option_copied, option_map};
-ghost use Rattle.kmip_messages.specs.States.{state_number};
+ghost use Rattle.kmip_objects.specs.States.{state_number};
 ghost use Rattle.kmip_wording.specs.Names.{all_states, ask_word, operation_word, state_of, state_word};
 
+use kmip_messages::Ask;
 use kmip_messages::standard::{
     OPERATION_ACTIVATE, OPERATION_CREATE, OPERATION_DESTROY, OPERATION_GET_ATTRIBUTES,
     OPERATION_LOCATE, OPERATION_REVOKE,
 };
-use kmip_messages::{Ask, KeyState};
+use kmip_objects::KeyState;
 
 /// The name of the operation that is asked.
 pub fn ask_word(ask: &Ask) -> &'static str

@@ -6,7 +6,8 @@ ghost use Rattle.kmip_wording.specs.Names.{state_of};
 ghost use Rattle.kmip_wording.specs.Answers.{failure_text, found_text, outcome_text, spaced_text, told_text};
 
 use crate::names::{state_of, state_word};
-use kmip_messages::{KeyState, Outcome};
+use kmip_messages::Outcome;
+use kmip_objects::KeyState;
 use kmip_ttlv::{NoMemory, Text, plain_text};
 use std::alloc::Global;
 

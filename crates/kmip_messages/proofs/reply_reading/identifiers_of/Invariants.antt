@@ -1,7 +1,7 @@
 -- What was read, and then what is left, is all of it.
 use Rattle.std.proofs.Common.{◌≡◌, drop}
 use Rattle.kmip_ttlv.specs.View.{views}
-use Rattle.kmip_messages.specs.Siblings.{contents}
+use Rattle.kmip_fields.specs.Siblings.{contents}
 use Rattle.kmip_messages.specs.ReplyReading.{identifiers_in}
 use Rattle.kmip_messages.specs.declared.standard.TheConstants.{TAG_UNIQUE_IDENTIFIER}
 use Rattle.kmip_messages.proofs.IdentifierLemmas.{with_front}

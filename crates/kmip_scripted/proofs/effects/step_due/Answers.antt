@@ -1,6 +1,6 @@
 -- By the row with the identifier.
 use Rattle.std.proofs.Common.{◌≡◌, true, false, is_some, ap, ◌∙◌, rules}
-use Rattle.kmip_messages.specs.Lifecycle.{after}
+use Rattle.kmip_objects.specs.Lifecycle.{after}
 use Rattle.kmip_scripted.proofs.DueLemmas.{none_due, not_due, is_due}
 use Rattle.kmip_scripted.proofs.effects.step_due.Goals as goal
 

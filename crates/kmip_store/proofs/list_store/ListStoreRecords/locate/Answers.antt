@@ -2,7 +2,7 @@
 use Rattle.std.proofs.Common.{◌∷◌, [], ap, sym, ◌∙◌, subst, IfSome}
 use Rattle.std.specs.List.{find}
 use Rattle.std.specs.Option.{option_copied, option_map, option_to_list}
-use Rattle.kmip_messages.specs.Ranges.{is_identifier}
+use Rattle.kmip_objects.specs.Ranges.{is_identifier}
 use Rattle.kmip_store.proofs.LocatingLemmas.{wants, located_is}
 use Rattle.kmip_store.proofs.KeptLemmas.{IsLawful, kept_fits}
 use Rattle.kmip_store.proofs.list_store.ListStoreRecords.locate.Goals as goal

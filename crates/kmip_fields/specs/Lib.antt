@@ -1,0 +1,4 @@
+pub mod Faults
+pub mod Siblings
+pub mod Standing
+pub mod Reading

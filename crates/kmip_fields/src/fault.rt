@@ -1,0 +1,122 @@
+//! Why bytes are no message.
+ghost use Rattle.std.specs.Prelude.{◌≡◌};
+ghost use Rattle.kmip_fields.specs.Faults.{is_no_memory, message_fault_of, message_fault_number, message_fault_name};
+ghost use Rattle.kmip_fields.specs.declared.fault.MessageFault.TheVariants as faults;
+
+use kmip_ttlv::{NoMemory, Tag, TtlvFault};
+use std::alloc::{AllocError, AllocFailed};
+use thiserror::Error;
+
+/// The first thing that is wrong with a message.
+#[derive(Clone, Copy, Debug, PartialEq, Eq, Error)]
+pub enum MessageFault {
+    /// No item stands at the front of the bytes. Never with want of memory, which is `NoMemory`.
+    #[error("{0}")]
+    Ttlv(TtlvFault),
+    /// Bytes follow the item, or it is no message of this kind.
+    #[error("not a message")]
+    NotMessage,
+    /// The Protocol Version is not 2.1, or for a reply not 2.
+    #[error("another version")]
+    Version,
+    /// The Batch Count is not 1, or not the number of Batch Items.
+    #[error("not one batch item")]
+    BatchCount,
+    /// A required item of this tag is not there.
+    #[error("missing {0:?}")]
+    Missing(Tag),
+    /// An item of this tag that may stand once is there twice or more often.
+    #[error("twice {0:?}")]
+    Twice(Tag),
+    /// The item of this tag has another type.
+    #[error("wrong type of {0:?}")]
+    WrongType(Tag),
+    /// The item of this tag has a value out of its range, or has no place here.
+    #[error("out of range {0:?}")]
+    OutOfRange(Tag),
+    /// The operation is none of the profile.
+    #[error("unknown operation")]
+    UnknownOperation,
+    #[error("no memory")]
+    NoMemory,
+}
+
+impl MessageFault {
+    /// Whether memory ran out, so that the fault says nothing of the bytes.
+    pub fn is_no_memory(self) -> bool
+        ensures { result ≡ is_no_memory self }
+    {
+        matches!(self, MessageFault::NoMemory)
+    }
+
+    /// The fault's number, 1 to 10.
+    pub fn number(self) -> u32
+        ensures { result ≡ message_fault_number self }
+    {
+        match self {
+            MessageFault::Ttlv(_) => 1,
+            MessageFault::NotMessage => 2,
+            MessageFault::Version => 3,
+            MessageFault::BatchCount => 4,
+            MessageFault::Missing(_) => 5,
+            MessageFault::Twice(_) => 6,
+            MessageFault::WrongType(_) => 7,
+            MessageFault::OutOfRange(_) => 8,
+            MessageFault::UnknownOperation => 9,
+            MessageFault::NoMemory => 10,
+        }
+    }
+
+    /// The fault's name, as it is printed.
+    pub fn name(self) -> &'static str
+        ensures { result.now ≡ message_fault_name self }
+    {
+        match self {
+            MessageFault::Ttlv(_) => "Ttlv",
+            MessageFault::NotMessage => "NotMessage",
+            MessageFault::Version => "Version",
+            MessageFault::BatchCount => "BatchCount",
+            MessageFault::Missing(_) => "Missing",
+            MessageFault::Twice(_) => "Twice",
+            MessageFault::WrongType(_) => "WrongType",
+            MessageFault::OutOfRange(_) => "OutOfRange",
+            MessageFault::UnknownOperation => "UnknownOperation",
+            MessageFault::NoMemory => "NoMemory",
+        }
+    }
+}
+
+impl From<TtlvFault> for MessageFault {
+    ghost from_gives = { λ fault e. e ≡ message_fault_of fault };
+
+    fn from(fault: TtlvFault) -> MessageFault {
+        match fault {
+            TtlvFault::NoMemory => MessageFault::NoMemory,
+            other => MessageFault::Ttlv(other),
+        }
+    }
+}
+
+impl From<NoMemory> for MessageFault {
+    ghost from_gives = { λ _ e. e ≡ faults.NoMemory };
+
+    fn from(_e: NoMemory) -> MessageFault {
+        MessageFault::NoMemory
+    }
+}
+
+impl From<AllocError> for MessageFault {
+    ghost from_gives = { λ _ e. e ≡ faults.NoMemory };
+
+    fn from(_e: AllocError) -> MessageFault {
+        MessageFault::NoMemory
+    }
+}
+
+impl<T: Drop> From<AllocFailed<T>> for MessageFault {
+    ghost from_gives = { λ _ e. e ≡ faults.NoMemory };
+
+    fn from(_e: AllocFailed<T>) -> MessageFault {
+        MessageFault::NoMemory
+    }
+}

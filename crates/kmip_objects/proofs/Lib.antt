@@ -1,0 +1,2 @@
+pub mod ForCallers
+mod ObjectLemmas
