@@ -11,16 +11,16 @@ use Rattle.kmip_messages.specs.declared.reply.Outcome.TheVariants.{Created, Loca
 use Rattle.kmip_messages.specs.declared.reply.Reply.{Reply}
 use Rattle.kmip_objects.specs.declared.step.Step.{Step}
 use Rattle.kmip_objects.specs.declared.step.Step.TheVariants as steps
-use Rattle.kmip_plan.specs.Chains.{place_of, step_place}
-use Rattle.kmip_plan.specs.declared.key.Key.{Key}
+use Rattle.kmip_chains.specs.Chains.{place_of, step_place}
+use Rattle.kmip_chains.specs.declared.key.Key.{Key}
 use Rattle.kmip_client.specs.Clients.{ClientState, changed_by, lost_at, lost_working}
 use Rattle.kmip_client.specs.Hearing.{first_heard, has_failed, heard_about, heard_by, is_other_operation, subject_of, teach, unreadable, with_heard, with_news}
-use Rattle.kmip_client.specs.Knowledge.{is_working}
-use Rattle.kmip_client.specs.Learning.{attributes_learnt, created_learnt, enter, is_known, is_named, is_other, is_planned, learn, located_learnt, place_learnt, raise, state_learnt, step_learnt}
-use Rattle.kmip_client.specs.declared.fault.HearFault.{HearFault}
+use Rattle.kmip_knowledge.specs.Knowledge.{is_working}
+use Rattle.kmip_knowledge.specs.Learning.{attributes_learnt, created_learnt, enter, is_known, is_named, is_other, is_planned, learn, located_learnt, place_learnt, raise, state_learnt, step_learnt}
+use Rattle.kmip_knowledge.specs.declared.fault.HearFault.{HearFault}
 use Rattle.kmip_client.specs.declared.hearing.News.{News}
-use Rattle.kmip_client.specs.declared.knowledge.Knowledge.{Knowledge}
-use Rattle.kmip_client.specs.declared.knowledge.Phase.{Phase}
+use Rattle.kmip_knowledge.specs.declared.knowledge.Knowledge.{Knowledge}
+use Rattle.kmip_knowledge.specs.declared.knowledge.Phase.{Phase}
 use Rattle.kmip_client.specs.declared.subject.Subject.{Subject}
 use Rattle.kmip_client.specs.Known.{Fact, fact_of, facts, heard, knowns_heard}
 

@@ -13,8 +13,8 @@ use Rattle.kmip_objects.specs.declared.step.Step.{Step}
 use Rattle.kmip_objects.specs.declared.step.Step.TheVariants as steps
 use Rattle.kmip_plan.specs.Laws.{KeysAreFound, FoundKeysStand}
 use Rattle.kmip_plan.specs.Plans.{IsLawful, IsPlanned, key_named}
-use Rattle.kmip_plan.specs.declared.key.Key.{Key}
-use Rattle.kmip_client.specs.declared.knowledge.Knowledge.{Knowledge}
+use Rattle.kmip_chains.specs.declared.key.Key.{Key}
+use Rattle.kmip_knowledge.specs.declared.knowledge.Knowledge.{Knowledge}
 use Rattle.kmip_client.specs.Held.{IsHeld, Held}
 use Rattle.kmip_client.specs.Justified.{StepIsDue, MayAsk, Justified}
 use Rattle.kmip_client.specs.Places.{GoesOnward, Onward}

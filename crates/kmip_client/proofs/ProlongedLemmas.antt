@@ -12,12 +12,13 @@ use Rattle.kmip_objects.specs.declared.attributes.KeyAttrs.{KeyAttrs}
 use Rattle.kmip_messages.specs.declared.request.Request.{Request}
 use Rattle.kmip_objects.specs.declared.step.Step.{Step}
 use Rattle.kmip_objects.specs.declared.step.Step.TheVariants as steps
-use Rattle.kmip_plan.specs.Chains.{step_place, is_revoked}
-use Rattle.kmip_plan.specs.Laws.{ReachedIsNoLess, StepsKeepTheirPlaces, StatesKeepTheirPlaces, PlacesAndSteps, RevokesAreOfTheRevoked, OldKeysAreFound}
+use Rattle.kmip_chains.specs.Chains.{step_place, is_revoked}
+use Rattle.kmip_chains.specs.Laws.{ReachedIsNoLess, StepsKeepTheirPlaces, StatesKeepTheirPlaces, PlacesAndSteps, RevokesAreOfTheRevoked}
+use Rattle.kmip_plan.specs.Laws.{OldKeysAreFound}
 use Rattle.kmip_plan.specs.Plans.{IsLawful}
 use Rattle.kmip_plan.specs.Prolonging.{GoesOn, Prolongs}
-use Rattle.kmip_plan.specs.declared.key.Key.{Key}
-use Rattle.kmip_plan.specs.declared.target.Target.{Target}
+use Rattle.kmip_chains.specs.declared.key.Key.{Key}
+use Rattle.kmip_chains.specs.declared.target.Target.{Target}
 use Rattle.kmip_client.specs.Justified.{StepIsDue, MayAsk, Justified}
 use Rattle.kmip_client.specs.Truth.{IsShown, StepIsDone, TrueOutcome}
 use Rattle.kmip_client.proofs.SavingLemmas.{same_uid, further}

@@ -11,13 +11,13 @@ use Rattle.kmip_messages.specs.declared.request.Ask.{Ask}
 use Rattle.kmip_messages.specs.declared.request.Ask.TheVariants as asks
 use Rattle.kmip_objects.specs.declared.step.Step.{Step}
 use Rattle.kmip_objects.specs.declared.step.Step.TheVariants as steps
-use Rattle.kmip_plan.specs.Chains.{step_at, is_revoked}
-use Rattle.kmip_plan.specs.Laws.{RevokesAreOfTheRevoked}
+use Rattle.kmip_chains.specs.Chains.{step_at, is_revoked}
+use Rattle.kmip_chains.specs.Laws.{RevokesAreOfTheRevoked}
 use Rattle.kmip_plan.specs.Plans.{key_fits, reason_fits}
-use Rattle.kmip_plan.specs.declared.key.Key.{Key}
-use Rattle.kmip_client.specs.declared.knowledge.Knowledge.{Knowledge}
-use Rattle.kmip_client.specs.declared.knowledge.Phase.{Phase}
-use Rattle.kmip_client.specs.declared.knowledge.Phase.TheVariants as phases
+use Rattle.kmip_chains.specs.declared.key.Key.{Key}
+use Rattle.kmip_knowledge.specs.declared.knowledge.Knowledge.{Knowledge}
+use Rattle.kmip_knowledge.specs.declared.knowledge.Phase.{Phase}
+use Rattle.kmip_knowledge.specs.declared.knowledge.Phase.TheVariants as phases
 use Rattle.kmip_client.specs.Questions.{id_of, step_ask, next_ask, phase_ask, ask_about, request_about}
 use Rattle.kmip_client.specs.Shapes.{PhaseSuits, IsShaped}
 

@@ -4,11 +4,11 @@ use Rattle.std.proofs.lemmas.Bool.{cases_Bool}
 use Rattle.std.proofs.lemmas.Option.{slice_get_read}
 use Rattle.std.specs.List.{slice_get}
 use Rattle.kmip_messages.specs.Items.{AsksAlone}
-use Rattle.kmip_plan.specs.declared.key.Key.{Key}
-use Rattle.kmip_client.specs.declared.knowledge.Knowledge.{Knowledge}
+use Rattle.kmip_chains.specs.declared.key.Key.{Key}
+use Rattle.kmip_knowledge.specs.declared.knowledge.Knowledge.{Knowledge}
 use Rattle.kmip_client.specs.declared.question.Question.{Question}
 use Rattle.kmip_client.specs.Clients.{working_from, question_at, WorksAt, IsAbout, AreSettled}
-use Rattle.kmip_client.specs.Knowledge.{is_working}
+use Rattle.kmip_knowledge.specs.Knowledge.{is_working}
 use Rattle.kmip_client.specs.Questions.{question_about, request_about}
 
 -- what is at a place is followed by what comes after it

@@ -6,14 +6,14 @@ use Rattle.std.specs.Option.{option_map, option_map_or, option_and_then}
 use Rattle.kmip_messages.specs.Operations.{operation_of}
 use Rattle.kmip_messages.specs.Items.{AsksAlone}
 use Rattle.kmip_messages.specs.Written.{request_item}
-use Rattle.kmip_plan.specs.declared.key.Key.{Key}
+use Rattle.kmip_chains.specs.declared.key.Key.{Key}
 use Rattle.kmip_ttlv.specs.Spelling.{canon}
-use Rattle.kmip_client.specs.declared.knowledge.Knowledge.{Knowledge}
-use Rattle.kmip_client.specs.declared.knowledge.Verdict.{Verdict}
+use Rattle.kmip_knowledge.specs.declared.knowledge.Knowledge.{Knowledge}
+use Rattle.kmip_knowledge.specs.declared.knowledge.Verdict.{Verdict}
 use Rattle.kmip_client.specs.declared.question.Question.{Question}
-use Rattle.kmip_client.specs.declared.knowledge.Verdict.TheVariants.{Working}
+use Rattle.kmip_knowledge.specs.declared.knowledge.Verdict.TheVariants.{Working}
 use Rattle.kmip_client.specs.Questions.{ask_about, request_about, question_about}
-use Rattle.kmip_client.specs.Knowledge.{fresh_knowledge, lose, is_working, verdict_of}
+use Rattle.kmip_knowledge.specs.Knowledge.{fresh_knowledge, lose, is_working, verdict_of}
 
 -- the keys of the plan, what is known of each, and the place at which the next key is looked for
 pub record ClientState : Type 0 where

@@ -20,19 +20,19 @@ use Rattle.kmip_messages.specs.declared.standard.TheConstants.{
   OPERATION_REVOKE,
   OPERATION_DESTROY,
 }
-use Rattle.kmip_plan.specs.Chains.{step_place}
-use Rattle.kmip_plan.specs.Words.{is_text}
-use Rattle.kmip_plan.specs.declared.key.Key.{Key}
-use Rattle.kmip_client.specs.declared.fault.HearFault.{HearFault}
-use Rattle.kmip_client.specs.declared.fault.HearFault.TheVariants as faults
+use Rattle.kmip_chains.specs.Chains.{step_place}
+use Rattle.kmip_chains.specs.Words.{is_text}
+use Rattle.kmip_chains.specs.declared.key.Key.{Key}
+use Rattle.kmip_knowledge.specs.declared.fault.HearFault.{HearFault}
+use Rattle.kmip_knowledge.specs.declared.fault.HearFault.TheVariants as faults
 use Rattle.kmip_client.specs.declared.hearing.Heard.{Heard}
 use Rattle.kmip_client.specs.declared.hearing.News.{News}
 use Rattle.kmip_client.specs.declared.hearing.News.TheVariants as news
-use Rattle.kmip_client.specs.declared.knowledge.Knowledge.{Knowledge}
+use Rattle.kmip_knowledge.specs.declared.knowledge.Knowledge.{Knowledge}
 use Rattle.kmip_client.specs.declared.subject.Subject.{Subject}
 use Rattle.kmip_client.specs.Clients.{ClientState}
-use Rattle.kmip_client.specs.Knowledge.{is_working}
-use Rattle.kmip_client.specs.Learning.{learn}
+use Rattle.kmip_knowledge.specs.Knowledge.{is_working}
+use Rattle.kmip_knowledge.specs.Learning.{learn}
 
 -- ---- whom a reply is about
 

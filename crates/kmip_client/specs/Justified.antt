@@ -11,9 +11,9 @@ use Rattle.kmip_messages.specs.declared.request.Ask.TheVariants.{Create, Locate,
 use Rattle.kmip_messages.specs.declared.request.Request.{Request}
 use Rattle.kmip_objects.specs.declared.step.Step.{Step}
 use Rattle.kmip_objects.specs.declared.step.Step.TheVariants as steps
-use Rattle.kmip_plan.specs.Chains.{step_place}
+use Rattle.kmip_chains.specs.Chains.{step_place}
 use Rattle.kmip_plan.specs.Plans.{IsPlanned}
-use Rattle.kmip_plan.specs.declared.key.Key.{Key}
+use Rattle.kmip_chains.specs.declared.key.Key.{Key}
 use Rattle.kmip_client.specs.Places.{uid_of, position}
 use Rattle.kmip_client.specs.Questions.{id_of}
 

@@ -1,6 +1,3 @@
-pub mod Faults
-pub mod Knowledge
-pub mod Learning
 pub mod Questions
 pub mod Clients
 pub mod Saving

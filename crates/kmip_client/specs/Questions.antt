@@ -11,12 +11,12 @@ use Rattle.kmip_messages.specs.declared.request.Request.{Request}
 use Rattle.kmip_objects.specs.declared.step.Step.{Step}
 use Rattle.kmip_objects.specs.declared.step.Step.TheVariants.{Create, Activate, Revoke, Destroy}
 use Rattle.kmip_ttlv.specs.Spelling.{canon}
-use Rattle.kmip_plan.specs.Chains.{step_at}
-use Rattle.kmip_plan.specs.declared.key.Key.{Key}
-use Rattle.kmip_client.specs.declared.knowledge.Knowledge.{Knowledge}
+use Rattle.kmip_chains.specs.Chains.{step_at}
+use Rattle.kmip_chains.specs.declared.key.Key.{Key}
+use Rattle.kmip_knowledge.specs.declared.knowledge.Knowledge.{Knowledge}
 use Rattle.kmip_client.specs.declared.question.Question.{Question}
-use Rattle.kmip_client.specs.declared.knowledge.Phase.{Phase}
-use Rattle.kmip_client.specs.declared.knowledge.Phase.TheVariants.{Look, Make, Check, Go}
+use Rattle.kmip_knowledge.specs.declared.knowledge.Phase.{Phase}
+use Rattle.kmip_knowledge.specs.declared.knowledge.Phase.TheVariants.{Look, Make, Check, Go}
 
 -- a step of the key on the object with the identifier
 abbrev pub step_ask : Key → List ℕ → Step → Ask

@@ -4,12 +4,12 @@ use Rattle.std.specs.Prelude.{◌≡◌, ◌≢◌, ◌≤◌, ◌<◌, ℕ, Lis
 use Rattle.std.specs.List.{AllZip}
 use Rattle.kmip_objects.specs.Ranges.{is_identifier}
 use Rattle.kmip_plan.specs.Plans.{IsLawful}
-use Rattle.kmip_plan.specs.declared.key.Key.{Key}
-use Rattle.kmip_client.specs.declared.knowledge.Knowledge.{Knowledge}
-use Rattle.kmip_client.specs.declared.knowledge.Phase.{Phase}
-use Rattle.kmip_client.specs.declared.knowledge.Phase.TheVariants.{Look, Make, Check, Go}
+use Rattle.kmip_chains.specs.declared.key.Key.{Key}
+use Rattle.kmip_knowledge.specs.declared.knowledge.Knowledge.{Knowledge}
+use Rattle.kmip_knowledge.specs.declared.knowledge.Phase.{Phase}
+use Rattle.kmip_knowledge.specs.declared.knowledge.Phase.TheVariants.{Look, Make, Check, Go}
 use Rattle.kmip_client.specs.Clients.{working_count}
-use Rattle.kmip_client.specs.Knowledge.{chain_length}
+use Rattle.kmip_knowledge.specs.Knowledge.{chain_length}
 
 -- what has to be known in a phase
 abbrev pub PhaseSuits : Phase → Option (List ℕ) → ℕ → Type 0

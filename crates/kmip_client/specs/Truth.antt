@@ -11,9 +11,9 @@ use Rattle.kmip_objects.specs.declared.attributes.Attrs.{Attrs}
 use Rattle.kmip_objects.specs.declared.standard.TheConstants.{OBJECT_TYPE_SYMMETRIC_KEY}
 use Rattle.kmip_objects.specs.declared.step.Step.{Step}
 use Rattle.kmip_objects.specs.declared.step.Step.TheVariants as steps
-use Rattle.kmip_plan.specs.Chains.{step_place, place_of}
+use Rattle.kmip_chains.specs.Chains.{step_place, place_of}
 use Rattle.kmip_plan.specs.Plans.{key_named}
-use Rattle.kmip_plan.specs.declared.key.Key.{Key}
+use Rattle.kmip_chains.specs.declared.key.Key.{Key}
 use Rattle.kmip_client.specs.Places.{uid_of, position}
 
 -- What Get Attributes told is the plan's, and a state that the key has had.

@@ -1,8 +1,8 @@
 //! What a reply teaches a client.
 ghost use Rattle.std.specs.Prelude.{◌≡◌, ◌≤◌, ◌+◌, Ok, Err, IfOk, IfErr, OnErr, Some, is_some, option_map};
 ghost use Rattle.kmip_client.specs.Clients.{one_if, working_count};
-ghost use Rattle.kmip_client.specs.Knowledge.{is_working};
-ghost use Rattle.kmip_client.specs.Learning.{learn};
+ghost use Rattle.kmip_knowledge.specs.Knowledge.{is_working};
+ghost use Rattle.kmip_knowledge.specs.Learning.{learn};
 ghost use Rattle.kmip_client.specs.Hearing.{
   is_other_operation,
   has_failed,
@@ -14,12 +14,10 @@ ghost use Rattle.kmip_client.specs.Hearing.{
   heard_about,
 };
 
-use crate::fault::HearFault;
-use crate::knowledge::Knowledge;
-use crate::learning::learn;
 use crate::subject::Subject;
+use kmip_chains::Key;
+use kmip_knowledge::{HearFault, Knowledge, learn};
 use kmip_messages::{Outcome, Reply};
-use kmip_plan::Key;
 
 /// What a reply was, that a client has learnt from.
 #[derive(Clone, Copy, Debug, PartialEq, Eq)]

@@ -19,9 +19,8 @@ ghost use Rattle.kmip_client.specs.Laws.{
   AsksWhatItMay,
 };
 
-use kmip_plan::laws::{
-    further_ways_keep_places, keys_have_names, prolonged_keys_stand, steps_have_places,
-};
+use kmip_chains::laws::{further_ways_keep_places, steps_have_places};
+use kmip_plan::laws::{keys_have_names, prolonged_keys_stand};
 use kmip_progress::laws::texts_are_prolonged;
 
 /// Objects go onward to themselves, and onward twice is onward.

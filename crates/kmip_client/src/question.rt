@@ -14,11 +14,12 @@ ghost use Rattle.kmip_client.specs.Questions.{
 };
 ghost use Rattle.kmip_client.specs.Shapes.{IsShaped};
 
-use crate::knowledge::{Knowledge, Phase};
+use kmip_chains::{Key, chain};
+use kmip_knowledge::{Knowledge, Phase};
 use kmip_messages::{Ask, Request, write_request};
 use kmip_objects::Attrs;
 use kmip_objects::standard::{STORAGE_DESTROYED, STORAGE_ON_LINE};
-use kmip_plan::{Key, Step, chain, laws};
+use kmip_plan::{Step, laws};
 use kmip_ttlv::{Bytes, NoMemory, Text};
 use std::alloc::Global;
 

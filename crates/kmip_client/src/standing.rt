@@ -2,8 +2,8 @@
 ghost use Rattle.std.specs.Prelude.{◌≡◌, length, IfOk};
 ghost use Rattle.kmip_client.specs.Standing.{counts_of, verdicts_of};
 
-use crate::knowledge::{Knowledge, Verdict};
-use kmip_plan::Key;
+use kmip_chains::Key;
+use kmip_knowledge::{Knowledge, Verdict};
 use kmip_ttlv::NoMemory;
 use std::alloc::Global;
 

@@ -1,10 +1,8 @@
 //! The program, over standard input, files and standard output.
 
 use crate::{Choice, chosen, status_of};
-use kmip_commands::{
-    CommandFault, ExitStatus, Form, check_after_bytes, run_answer, run_answer_stream, run_check,
-    run_check_after, run_show,
-};
+use kmip_check::{check_after_bytes, run_check, run_check_after};
+use kmip_commands::{CommandFault, ExitStatus, Form, run_answer, run_answer_stream, run_show};
 use kmip_network::{refusal_of, run_plan, serve, text_or_why_not};
 use kmip_sim::{Detail, run_sim};
 use std::io::{BufReader, BufWriter, Error, ErrorKind};

@@ -1,5 +1,4 @@
 pub mod BytewiseLaws
-mod CheckingLemmas
 mod RespondingLemmas
 mod FinishingLemmas
 mod LineLemmas

@@ -1,6 +1,5 @@
 pub mod AnswerText
 pub mod Bytewise
-pub mod Checking
 pub mod Judging
 pub mod LineText
 pub mod Lines

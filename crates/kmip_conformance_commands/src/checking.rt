@@ -1,6 +1,6 @@
 //! What the command `check` prints.
 
-use kmip_commands::{check, check_bytes};
+use kmip_check::{check, check_bytes};
 use std::str::from_utf8;
 use std::test::Fail;
 

@@ -1,6 +1,7 @@
 //! What the command `check --after` prints.
 
-use kmip_commands::{ExitStatus, check_after, check_after_bytes, run_check_after};
+use kmip_check::{check_after, check_after_bytes, run_check_after};
+use kmip_commands::ExitStatus;
 use std::str::from_utf8;
 use std::test::Fail;
 

@@ -1,10 +1,8 @@
 //! How each command ends, and what it wrote then.
 
 use crate::readers::PieceReader;
-use kmip_commands::{
-    CommandFault, ExitStatus, Form, run_answer, run_answer_stream, run_check, run_check_after,
-    run_show,
-};
+use kmip_check::{run_check, run_check_after};
+use kmip_commands::{CommandFault, ExitStatus, Form, run_answer, run_answer_stream, run_show};
 use std::alloc::Global;
 use std::io::{BufRead, Write};
 use std::str::from_utf8;

@@ -1,10 +1,8 @@
 //! Plans as texts: the keys that are read, and the first fault of each text that is no plan.
 
 use crate::plan_rows::{CHANGES, KEY, TARGETS, TEXTS, TargetRow, USAGES};
-use kmip_plan::{
-    Key, Plan, PlanFault, Target, algorithm_word, bound, chain, chain_length, place_of, read_plan,
-    state_after,
-};
+use kmip_chains::{Key, Target, chain, chain_length, place_of, state_after};
+use kmip_plan::{Plan, PlanFault, algorithm_word, bound, read_plan};
 use std::alloc::{AllocError, Global};
 use std::process::Abort;
 use std::test::Fail;

@@ -1,7 +1,8 @@
 //! Plans that take over from earlier ones, and plans that do not.
 
 use crate::planning::changed;
-use kmip_plan::{Target, prolongs, read_plan};
+use kmip_chains::Target;
+use kmip_plan::{prolongs, read_plan};
 use std::process::Abort;
 use std::test::Fail;
 

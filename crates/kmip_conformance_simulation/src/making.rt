@@ -1,7 +1,8 @@
 //! Plans and words for the tests, and how far the objects are to have come.
 
+use kmip_chains::Target;
 use kmip_objects::KeyState;
-use kmip_plan::{Plan, Target, read_plan};
+use kmip_plan::{Plan, read_plan};
 use kmip_scripted::Word;
 use kmip_server::Records;
 use rand_chacha::ChaCha20Rng;

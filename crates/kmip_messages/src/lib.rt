@@ -17,11 +17,10 @@ mod request;
 mod request_reading;
 mod request_writing;
 pub mod standard;
-mod texts;
 
 pub use fitting::{reply_fits, request_fits};
 pub use kmip_fields::MessageFault;
-pub use kmip_objects::{Attrs, KeyAttrs, KeyState, Step};
+pub use kmip_objects::{Attrs, KeyAttrs, KeyState, Step, Texts};
 pub use refusal::Refusal;
 pub use reply::{Outcome, Reply};
 pub use reply_reading::read_reply;
@@ -29,4 +28,3 @@ pub use reply_writing::write_reply;
 pub use request::{Ask, Request};
 pub use request_reading::read_request;
 pub use request_writing::write_request;
-pub use texts::Texts;

@@ -1,7 +1,6 @@
 //! What a reply says.
 
-use crate::texts::Texts;
-use kmip_objects::Attrs;
+use kmip_objects::{Attrs, Texts};
 use kmip_ttlv::{Bytes, Text};
 
 /// The server's answer to one question.

@@ -44,12 +44,11 @@ use crate::standard::{
     TAG_RESPONSE_MESSAGE, TAG_RESPONSE_PAYLOAD, TAG_RESULT_REASON, TAG_RESULT_STATUS, TAG_STATE,
     TAG_UNIQUE_IDENTIFIER, VERSION_MAJOR,
 };
-use crate::texts::Texts;
 use kmip_fields::{
     MessageFault, check, enumeration_if_any, integer_if_any, sole_structure, structure_if_any,
     the_enumeration, the_integer, the_structure, the_text, within,
 };
-use kmip_objects::{Attrs, is_identifier};
+use kmip_objects::{Attrs, Texts, is_identifier};
 use kmip_ttlv::{Item, Tag, Text};
 use std::alloc::Global;
 

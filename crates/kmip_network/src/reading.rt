@@ -1,6 +1,7 @@
 //! The texts of files, and of plans among them.
 
-use kmip_commands::{ExitStatus, check_bytes, run_check};
+use kmip_check::{check_bytes, run_check};
+use kmip_commands::ExitStatus;
 use kmip_progress_file::MOST_FILE_BYTES;
 use std::io::{BufWriter, ErrorKind, Read};
 use std::{fs, io};

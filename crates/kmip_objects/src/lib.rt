@@ -10,6 +10,7 @@ mod ranges;
 pub mod standard;
 mod state;
 mod step;
+mod texts;
 
 pub use attributes::{Attrs, KeyAttrs};
 pub use ranges::{
@@ -18,3 +19,4 @@ pub use ranges::{
 };
 pub use state::KeyState;
 pub use step::Step;
+pub use texts::Texts;

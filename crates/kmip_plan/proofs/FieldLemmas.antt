@@ -7,14 +7,17 @@ use Rattle.kmip_ttlv.proofs.ReadSteps.{Reads, reads-as}
 use Rattle.toml.specs.Data.{Items, Members, no_members, member}
 use Rattle.kmip_plan.specs.declared.fault.PlanFault.{PlanFault}
 use Rattle.kmip_plan.specs.declared.fault.PlanFault.TheVariants as faults
-use Rattle.kmip_plan.specs.declared.target.Target.{Target}
+use Rattle.kmip_chains.specs.declared.target.Target.{Target}
 use Rattle.kmip_plan.specs.Fields.{if_so, algorithm_of, are_once, bit_of, mask_of, usage_in, usage_of, target_of}
 use Rattle.kmip_plan.specs.Plans.{IsUsage, IsAlgorithm}
 use Rattle.kmip_plan.specs.Reading.{need, guard, none_other}
 use Rattle.kmip_plan.specs.Tables.{text_at, array_at, has_only, first_other, times, all_words}
-use Rattle.kmip_plan.specs.Words.{target_word, target_of_word, algorithm_of_word, is_usage_word}
-use Rattle.kmip_plan.proofs.ChainLemmas.{same_some, not_some}
-use Rattle.kmip_plan.proofs.WordLemmas.{word_of_target, target_of_its_word, word_of_algorithm, algorithm_of_its_word}
+use Rattle.kmip_chains.specs.Words.{target_word, target_of_word}
+use Rattle.kmip_plan.specs.Words.{algorithm_of_word, is_usage_word}
+use Rattle.std.proofs.lemmas.Option.{same_Some}
+use Rattle.kmip_plan.proofs.OptionLemmas.{not_some}
+use Rattle.kmip_chains.proofs.TargetLemmas.{word_of_target, target_of_its_word}
+use Rattle.kmip_plan.proofs.WordLemmas.{word_of_algorithm, algorithm_of_its_word}
 
 -- ---- the steps of a reader
 
@@ -32,7 +35,7 @@ not_ok e a is = absurd cc
 
 pub reads-need : {A : Type 0} (fault : PlanFault) (o : Option A) → Reads (need fault o) (λ a. o ≡ Some a)
 reads-need fault None = record { sound = λ a e. not_ok fault a e; complete = λ a e. not_some a e }
-reads-need fault (Some x) = record { sound = λ a e. ap Some (same_ok x a e); complete = λ a e. ap Ok (same_some x a e) }
+reads-need fault (Some x) = record { sound = λ a e. ap Some (same_ok x a e); complete = λ a e. ap Ok (same_Some x a e) }
 
 pub reads-guard : (fault : PlanFault) (b : Bool) → Reads (guard fault b) (λ u. b ≡ true)
 reads-guard fault true = record { sound = λ u e. refl; complete = λ u e. refl }
@@ -73,7 +76,7 @@ judged : {A B : Type 0} (f : A → Option B) (o : Option A) (a : A) (b : B) → 
 judged f o a b is e = ap (option_and_then f) is ∙ e
 
 passed : {A : Type 0} (test : A → Bool) (b : Bool) (a x : A) → test a ≡ b → (if b then Some a else None) ≡ Some x → (Some a ≡ Some x) × (test x ≡ true)
-passed test true a x h e = (e, ap test (sym (same_some a x e)) ∙ h)
+passed test true a x h e = (e, ap test (sym (same_Some a x e)) ∙ h)
 passed test false a x h e = not_some x e
 
 -- a value that passes a test, as the value and the test
@@ -149,7 +152,7 @@ usage_not_zero n fits =
 
 usage_parts : (a b c : Bool) (mask : ℕ) (m : ℤ) → (if a && b then (if c then None else Some (pos mask)) else None) ≡ Some m
     → (a ≡ true) × (b ≡ true) × (c ≡ false) × (pos mask ≡ m)
-usage_parts true true false mask m e = (refl, refl, refl, same_some (pos mask) m e)
+usage_parts true true false mask m e = (refl, refl, refl, same_Some (pos mask) m e)
 usage_parts true true true mask m e = not_some m e
 usage_parts true false c mask m e = not_some m e
 usage_parts false b c mask m e = not_some m e

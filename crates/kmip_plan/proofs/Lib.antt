@@ -1,6 +1,5 @@
+mod OptionLemmas
 pub mod TableLemmas
-pub mod ChainLemmas
-pub mod PlaceLemmas
 pub mod NameLemmas
 pub mod WordLemmas
 pub mod FieldLemmas

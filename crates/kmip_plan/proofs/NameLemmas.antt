@@ -6,12 +6,13 @@ use Rattle.std.proofs.lemmas.Slice.Eq.{bytes_eq-Decides}
 use Rattle.std.specs.List.{list_all, slice_get}
 use Rattle.std.specs.Option.{option_copied}
 use Rattle.kmip_objects.specs.Ranges.{attrs_fit, is_compromise}
-use Rattle.kmip_plan.specs.declared.key.Key.{Key}
-use Rattle.kmip_plan.specs.Chains.{is_revoked}
+use Rattle.kmip_chains.specs.declared.key.Key.{Key}
+use Rattle.kmip_chains.specs.Chains.{is_revoked}
 use Rattle.kmip_plan.specs.Plans.{HaveNewNames, reason_fits, key_fits, key_named}
 use Rattle.kmip_plan.specs.Reading.{has_key_named}
-use Rattle.kmip_plan.specs.Words.{is_text}
-use Rattle.kmip_plan.proofs.ChainLemmas.{same_some, not_some}
+use Rattle.kmip_chains.specs.Words.{is_text}
+use Rattle.std.proofs.lemmas.Option.{same_Some}
+use Rattle.kmip_plan.proofs.OptionLemmas.{not_some}
 
 abbrev has_name : List ℕ → Key → Bool
 has_name name k = is_text name k.attrs.name
@@ -28,7 +29,7 @@ apart b is other = absurd cc
 -- no key before has the name of one that stands after them
 new_at : (before keys : List Key) (place : ℕ) (key : Key) → HaveNewNames before keys → slice_get keys place ≡ Some key → has_key_named key.attrs.name before ≡ false
 new_at before [] place key new is = not_some key is
-new_at before (k ∷ ks) zero key new is = subst (λ x. has_key_named x.attrs.name before ≡ false) (same_some k key is) new.0
+new_at before (k ∷ ks) zero key new is = subst (λ x. has_key_named x.attrs.name before ≡ false) (same_Some k key is) new.0
 new_at before (k ∷ ks) (suc place) key new is =
     (or_parts (has_key_named key.attrs.name before) (has_key_named key.attrs.name (k ∷ []))
     (sym (list_any-append (has_name key.attrs.name) before (k ∷ [])) ∙ new_at (before ++ k ∷ []) ks place key new.1 is)).0
@@ -44,7 +45,7 @@ other_at before keys k place key new is =
 pub found_at : (before keys : List Key) (place : ℕ) (key : Key) → HaveNewNames before keys → slice_get keys place ≡ Some key → key_named key.attrs.name keys ≡ Some key
 found_at before [] place key new is = not_some key is
 found_at before (k ∷ ks) zero key new is =
-    let same = same_some k key is in
+    let same = same_Some k key is in
     let own = own_name key.attrs.name k.attrs.name (ap (λ (x : Key). x.attrs.name) (sym same)) in
     ap (λ b. cond b (Some k) (key_named key.attrs.name ks)) own ∙ is
 found_at before (k ∷ ks) (suc place) key new is =
@@ -56,10 +57,10 @@ pub distinct_at : (before keys : List Key) (i j : ℕ) (key other : Key) → Hav
 distinct_at before [] i j key other new here there same = not_some key here
 distinct_at before (k ∷ ks) zero zero key other new here there same = refl
 distinct_at before (k ∷ ks) zero (suc j) key other new here there same =
-    let first : k.attrs.name ≡ key.attrs.name = ap (λ (x : Key). x.attrs.name) (same_some k key here) in
+    let first : k.attrs.name ≡ key.attrs.name = ap (λ (x : Key). x.attrs.name) (same_Some k key here) in
     apart (is_text other.attrs.name k.attrs.name) (own_name other.attrs.name k.attrs.name (sym same ∙ sym first)) (other_at before ks k j other new.1 there)
 distinct_at before (k ∷ ks) (suc i) zero key other new here there same =
-    let first : k.attrs.name ≡ other.attrs.name = ap (λ (x : Key). x.attrs.name) (same_some k other there) in
+    let first : k.attrs.name ≡ other.attrs.name = ap (λ (x : Key). x.attrs.name) (same_Some k other there) in
     apart (is_text key.attrs.name k.attrs.name) (own_name key.attrs.name k.attrs.name (same ∙ sym first)) (other_at before ks k i key new.1 here)
 distinct_at before (k ∷ ks) (suc i) (suc j) key other new here there same =
     ap suc (distinct_at (before ++ k ∷ []) ks i j key other new.1 here there same)
@@ -76,7 +77,7 @@ pub found_stands : (keys : List Key) (name : List ℕ) (key : Key) → key_named
 found_stands [] name key is = not_some key is
 found_stands (k ∷ ks) name key is =
     elim (cases_Bool (is_text name k.attrs.name)) [
-      | inl has ↦ here_named k ks name key has (same_some k key (rw has at is))
+      | inl has ↦ here_named k ks name key has (same_Some k key (rw has at is))
       | inr not ↦
           let rest = found_stands ks name key (rw not at is) in
           (rest.0, (suc rest.1.0, rest.1.1))
@@ -86,7 +87,7 @@ found_stands (k ∷ ks) name key is =
 
 pub fits_at : (keys : List Key) (place : ℕ) (key : Key) → list_all key_fits keys ≡ true → slice_get keys place ≡ Some key → key_fits key ≡ true
 fits_at [] place key fit is = not_some key is
-fits_at (k ∷ ks) zero key fit is = ap key_fits (sym (same_some k key is)) ∙ (and_parts (key_fits k) (list_all key_fits ks) fit).0
+fits_at (k ∷ ks) zero key fit is = ap key_fits (sym (same_Some k key is)) ∙ (and_parts (key_fits k) (list_all key_fits ks) fit).0
 fits_at (k ∷ ks) (suc place) key fit is = fits_at ks place key (and_parts (key_fits k) (list_all key_fits ks) fit).1 is
 
 -- a key that was taken out of a plan, by its place or by its name

@@ -11,16 +11,17 @@ use Rattle.toml.specs.Parse.{parse_document}
 use Rattle.kmip_plan.specs.declared.fault.PlanFault.{PlanFault}
 use Rattle.kmip_plan.specs.declared.fault.PlanFault.TheVariants as faults
 use Rattle.kmip_plan.specs.declared.fault.Field.TheVariants as field
-use Rattle.kmip_plan.specs.declared.key.Key.{Key}
-use Rattle.kmip_plan.specs.declared.target.Target.{Target}
-use Rattle.kmip_plan.specs.Chains.{is_revoked}
+use Rattle.kmip_chains.specs.declared.key.Key.{Key}
+use Rattle.kmip_chains.specs.declared.target.Target.{Target}
+use Rattle.kmip_chains.specs.Chains.{is_revoked}
 use Rattle.kmip_plan.specs.Fields.{name_of, algorithm_of, length_of, usage_of, target_of, reason_in, reason_of}
 use Rattle.kmip_plan.specs.Limits.{most_keys}
 use Rattle.kmip_plan.specs.Plans.{IsKey, AreKeys, HaveNewNames, IsPlan, key_fits, IsLawful}
 use Rattle.kmip_plan.specs.Reading.{has_key_named, all_there, suite_of, key_in, keys_in, plan_in, plan_read, GivesPlan}
 use Rattle.kmip_plan.specs.Tables.{text_at, integer_at, array_at, fields_of, is_top_field, is_key_field, has_only, count}
 use Rattle.kmip_plan.specs.Words.{reason_of_word}
-use Rattle.kmip_plan.proofs.ChainLemmas.{same_some, not_some}
+use Rattle.std.proofs.lemmas.Option.{same_Some}
+use Rattle.kmip_plan.proofs.OptionLemmas.{not_some}
 use Rattle.kmip_plan.proofs.WordLemmas.{algorithm_of_its_word, algorithm_in_range, reason_in_range}
 use Rattle.kmip_plan.proofs.FieldLemmas.{ok, reads-need, reads-guard, reads-only, there, found_so, read_so, algorithm_found, algorithm_read, target_found, target_read, usage_found, usage_read}
 
@@ -288,11 +289,11 @@ is_only text r ms keys e is plan = subst (λ read. GivesPlan (λ ks. ks) r read)
 
 reason_lawful : (b : Bool) (o : Option Data) (r : ℕ) → reason_in b o ≡ Some r
     → (if b then r == 1 || r == 4 || r == 5 || r == 6 || r == 7 else r == 0) ≡ true
-reason_lawful true None r e = ap (λ n. n == 1 || n == 4 || n == 5 || n == 6 || n == 7) (sym (same_some 1 r e))
+reason_lawful true None r e = ap (λ n. n == 1 || n == 4 || n == 5 || n == 6 || n == 7) (sym (same_Some 1 r e))
 reason_lawful true (Some d) r e =
     let (word, is, names) = there reason_of_word (as_str d) r e in
     reason_in_range word r names
-reason_lawful false None r e = ap (λ n. n == 0) (sym (same_some 0 r e))
+reason_lawful false None r e = ap (λ n. n == 0) (sym (same_Some 0 r e))
 reason_lawful false (Some d) r e = not_some r e
 
 key_lawful : (ms : Members) (k : Key) → IsKey ms k → key_fits k ≡ true

@@ -2,10 +2,11 @@
 use Rattle.std.proofs.Common.{◌≡◌, ◌↔◌, ℕ, zero, suc, ◌+◌, ◌<◌, ◌≤◌, List, [], ◌∷◌, length, drop, get_or, Some, refl, sym, ap, subst, ◌∙◌, add-one, arith}
 use Rattle.std.proofs.Math.Seq.{drop-cons}
 use Rattle.std.specs.List.{slice_get}
-use Rattle.kmip_plan.specs.declared.key.Key.{Key}
+use Rattle.kmip_chains.specs.declared.key.Key.{Key}
 use Rattle.kmip_plan.specs.Plans.{IsLawful, IsPlanned}
 use Rattle.kmip_plan.specs.Prolonging.{GoesOn, Prolongs}
-use Rattle.kmip_plan.proofs.ChainLemmas.{same_some, not_some}
+use Rattle.std.proofs.lemmas.Option.{same_Some}
+use Rattle.kmip_plan.proofs.OptionLemmas.{not_some}
 use Rattle.kmip_plan.proofs.NameLemmas.{found_at, found_stands}
 
 -- where an element stands, the list goes on with it
@@ -40,7 +41,7 @@ pub goes_on_at : (new old : List Key) (place : ℕ) (key : Key) → Prolongs new
     → (newer : Key) × (slice_get new place ≡ Some newer) × GoesOn newer key
 goes_on_at new [] place key on is = not_some key is
 goes_on_at [] (old ∷ olds) place key on is = absurd on
-goes_on_at (new ∷ news) (old ∷ olds) zero key on is = (new, refl, subst (GoesOn new) (same_some old key is) on.0)
+goes_on_at (new ∷ news) (old ∷ olds) zero key on is = (new, refl, subst (GoesOn new) (same_Some old key is) on.0)
 goes_on_at (new ∷ news) (old ∷ olds) (suc place) key on is = goes_on_at news olds place key on.1 is
 
 -- and is found under its name

@@ -4,10 +4,12 @@ use Rattle.std.proofs.lemmas.Bool.{cases_Bool, eqb-true}
 use Rattle.std.proofs.lemmas.Slice.Eq.{bytes_eq-Decides}
 use Rattle.kmip_objects.specs.Ranges.{is_algorithm}
 use Rattle.kmip_objects.specs.declared.standard.TheConstants.{ALGORITHM_AES, ALGORITHM_HMAC_SHA256}
-use Rattle.kmip_plan.specs.declared.target.Target.{Target}
-use Rattle.kmip_plan.specs.declared.target.Target.TheVariants.{Created, Active, Revoked, Destroyed, Discarded}
-use Rattle.kmip_plan.specs.Words.{is_text, target_word, target_of_word, algorithm_word, algorithm_of_word, reason_of_word}
-use Rattle.kmip_plan.proofs.ChainLemmas.{same_some, not_some}
+use Rattle.kmip_chains.specs.declared.target.Target.{Target}
+use Rattle.kmip_chains.specs.declared.target.Target.TheVariants.{Created, Active, Revoked, Destroyed, Discarded}
+use Rattle.kmip_chains.specs.Words.{is_text, target_word, target_of_word}
+use Rattle.kmip_plan.specs.Words.{algorithm_word, algorithm_of_word, reason_of_word}
+use Rattle.std.proofs.lemmas.Option.{same_Some}
+use Rattle.kmip_plan.proofs.OptionLemmas.{not_some}
 
 same_text : (s t : List ℕ) → is_text s t ≡ true → s ≡ t
 same_text s t h = (bytes_eq-Decides s t).0 h
@@ -17,28 +19,12 @@ chosen : {A : Type 0} (word name : List ℕ) (a x : A) (rest : Option A) (P : A 
     → (if is_text word name then Some a else rest) ≡ Some x → P x
 chosen word name a x rest P here there is =
     elim (cases_Bool (is_text word name)) [
-      | inl same ↦ subst P (same_some a x (rw same at is)) (here (same_text word name same))
+      | inl same ↦ subst P (same_Some a x (rw same at is)) (here (same_text word name same))
       | inr other ↦ there (rw other at is)
     ]
 
 no_word : {A : Type 0} (x : A) (P : A → Type 0) → None ≡ Some x → P x
 no_word x P is = not_some x is
-
-pub word_of_target : (word : List ℕ) (target : Target) → target_of_word word ≡ Some target → word ≡ target_word target
-word_of_target word target is =
-    let P : Target → Type 0 = λ t. word ≡ target_word t in
-    chosen word (codes "created") Created target _ P (λ e. e) (
-    chosen word (codes "active") Active target _ P (λ e. e) (
-    chosen word (codes "revoked") Revoked target _ P (λ e. e) (
-    chosen word (codes "destroyed") Destroyed target _ P (λ e. e) (
-    chosen word (codes "discarded") Discarded target _ P (λ e. e) (no_word target P))))) is
-
-pub target_of_its_word : (target : Target) → target_of_word (target_word target) ≡ Some target
-target_of_its_word Created = refl
-target_of_its_word Active = refl
-target_of_its_word Revoked = refl
-target_of_its_word Destroyed = refl
-target_of_its_word Discarded = refl
 
 pub word_of_algorithm : (word : List ℕ) (a : ℕ) → algorithm_of_word word ≡ Some a → algorithm_word a ≡ Some word
 word_of_algorithm word a is =
@@ -49,8 +35,8 @@ word_of_algorithm word a is =
 -- an algorithm that has a word, and what its word names
 named_algorithm : (aes hmac : Bool) (a : ℕ) (word : List ℕ) → (aes ≡ true → a ≡ ALGORITHM_AES) → (hmac ≡ true → a ≡ ALGORITHM_HMAC_SHA256)
     → (if aes then Some (codes "AES") else if hmac then Some (codes "HMAC-SHA256") else None) ≡ Some word → algorithm_of_word word ≡ Some a
-named_algorithm true hmac a word first second is = ap algorithm_of_word (sym (same_some _ word is)) ∙ ap Some (sym (first refl))
-named_algorithm false true a word first second is = ap algorithm_of_word (sym (same_some _ word is)) ∙ ap Some (sym (second refl))
+named_algorithm true hmac a word first second is = ap algorithm_of_word (sym (same_Some _ word is)) ∙ ap Some (sym (first refl))
+named_algorithm false true a word first second is = ap algorithm_of_word (sym (same_Some _ word is)) ∙ ap Some (sym (second refl))
 named_algorithm false false a word first second is = not_some word is
 
 pub algorithm_of_its_word : (a : ℕ) (word : List ℕ) → algorithm_word a ≡ Some word → algorithm_of_word word ≡ Some a

@@ -1,5 +1,4 @@
 pub mod Words
-pub mod Chains
 pub mod Faults
 pub mod Limits
 pub mod Tables

@@ -4,14 +4,15 @@ use Rattle.std.specs.Prelude.{◌≡◌, ◌≤◌, ℕ, ℤ, pos, Bool, true, f
 use Rattle.std.specs.List.{find, list_all, slice_get}
 use Rattle.kmip_objects.specs.Ranges.{is_name, is_length, is_usage, attrs_fit}
 use Rattle.toml.specs.Data.{Items, no_items, item, Members}
-use Rattle.kmip_plan.specs.declared.key.Key.{Key}
-use Rattle.kmip_plan.specs.declared.target.Target.{Target}
-use Rattle.kmip_plan.specs.Chains.{is_revoked}
+use Rattle.kmip_chains.specs.declared.key.Key.{Key}
+use Rattle.kmip_chains.specs.declared.target.Target.{Target}
+use Rattle.kmip_chains.specs.Chains.{is_revoked}
 use Rattle.kmip_plan.specs.Fields.{are_once, mask_of, reason_of}
 use Rattle.kmip_plan.specs.Limits.{most_keys}
 use Rattle.kmip_plan.specs.Reading.{has_key_named}
 use Rattle.kmip_plan.specs.Tables.{text_at, integer_at, array_at, fields_of, is_top_field, is_key_field, has_only, all_words}
-use Rattle.kmip_plan.specs.Words.{is_text, target_word, algorithm_word, is_usage_word}
+use Rattle.kmip_chains.specs.Words.{is_text, target_word}
+use Rattle.kmip_plan.specs.Words.{algorithm_word, is_usage_word}
 
 -- the array has each usage word of a mask once, no other words, and at least one
 pub record IsUsage (ms : Members) (mask : ℤ) : Type 0 where

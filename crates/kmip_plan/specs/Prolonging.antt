@@ -1,13 +1,8 @@
 -- When a new plan takes over from an old one: all that was done under the old plan is then a beginning of what the new one wants.
 -- Source: own: a plan that is changed goes further, and takes back nothing that may have been done.
-use Rattle.std.specs.Prelude.{◌≡◌, true, List, [], ◌∷◌, length, take, ⊤}
-use Rattle.kmip_plan.specs.Chains.{chain, is_revoked}
-use Rattle.kmip_plan.specs.declared.key.Key.{Key}
-use Rattle.kmip_plan.specs.declared.target.Target.{Target}
-
--- the way to a target is a beginning of the way to a further one, or all of it: its steps are the first steps there
-abbrev pub LeadsOn : Target → Target → Type 0
-LeadsOn target further = take (length (chain target)) (chain further) ≡ chain target
+use Rattle.std.specs.Prelude.{◌≡◌, true, List, [], ◌∷◌, ⊤}
+use Rattle.kmip_chains.specs.Chains.{is_revoked, LeadsOn}
+use Rattle.kmip_chains.specs.declared.key.Key.{Key}
 
 -- a key of the new plan goes on from one of the old plan: it has the same attributes, the old way is a beginning of its own,
 -- and a Revoke on the old way keeps its reason

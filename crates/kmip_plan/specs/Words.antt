@@ -1,30 +1,8 @@
 -- The words of a plan, and the numbers that they stand for.
 -- Source: KMIP 2.1, Cryptographic Algorithm, Cryptographic Usage Mask and Revocation Reason Code; the words are own.
-use Rattle.std.specs.Prelude.{ℕ, ◌+◌, ◌==◌, nat_eq, Bool, ◌||◌, List, codes, Option, Some, None, if◌then◌else◌}
-use Rattle.std.specs.Cmp.Lexicographic.{pointwise}
+use Rattle.std.specs.Prelude.{ℕ, ◌+◌, ◌==◌, Bool, ◌||◌, List, codes, Option, Some, None, if◌then◌else◌}
 use Rattle.kmip_objects.specs.declared.standard.TheConstants.{ALGORITHM_AES, ALGORITHM_HMAC_SHA256}
-use Rattle.kmip_plan.specs.declared.target.Target.{Target}
-use Rattle.kmip_plan.specs.declared.target.Target.TheVariants.{Created, Active, Revoked, Destroyed, Discarded}
-
--- the two texts have the same bytes
-abbrev pub is_text : List ℕ → List ℕ → Bool
-is_text s t = pointwise nat_eq s t
-
-abbrev pub target_word : Target → List ℕ
-target_word Created = codes "created"
-target_word Active = codes "active"
-target_word Revoked = codes "revoked"
-target_word Destroyed = codes "destroyed"
-target_word Discarded = codes "discarded"
-
-abbrev pub target_of_word : List ℕ → Option Target
-target_of_word word =
-    if is_text word (codes "created") then Some Created
-    else if is_text word (codes "active") then Some Active
-    else if is_text word (codes "revoked") then Some Revoked
-    else if is_text word (codes "destroyed") then Some Destroyed
-    else if is_text word (codes "discarded") then Some Discarded
-    else None
+use Rattle.kmip_chains.specs.Words.{is_text}
 
 abbrev pub algorithm_word : ℕ → Option (List ℕ)
 algorithm_word a =

@@ -8,8 +8,8 @@ ghost use Rattle.kmip_plan.specs.Words.{reason_of_word};
 
 use crate::counts::{are_once, are_usages, mask_of};
 use crate::tables::{array_at, integer_at, text_at, value_at};
-use crate::target::Target;
 use crate::words::{algorithm_of_word, reason_of_word};
+use kmip_chains::Target;
 use kmip_objects::is_name;
 use kmip_objects::standard::{ALGORITHM_AES, ALGORITHM_HMAC_SHA256, REVOCATION_UNSPECIFIED};
 use toml::value::Array;

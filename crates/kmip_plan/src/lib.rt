@@ -1,29 +1,24 @@
 //! The plan of a client: which keys it is to make, and how far each is to go.
 #![tactic(auto)]
 
-mod chains;
 mod counts;
 mod fault;
 mod fields;
-mod key;
 pub mod laws;
 mod plan;
 mod prolonging;
 mod reading;
 mod tables;
-mod target;
 mod words;
 
-pub use chains::{chain, chain_length, place_of, state_after, step_place};
 pub use fault::{Field, PlanFault};
-pub use key::Key;
-pub use kmip_objects::Step;
-pub use laws::{
+pub use kmip_chains::laws::{
     done_steps_are_no_rows, places_and_states, states_are_distinct, steps_are_distinct,
     steps_follow_the_lifecycle, targets_and_words,
 };
+pub use kmip_chains::{Key, Target, chain, chain_length, place_of, state_after, step_place};
+pub use kmip_objects::Step;
 pub use plan::{Plan, bound};
 pub use prolonging::prolongs;
 pub use reading::read_plan;
-pub use target::Target;
 pub use words::algorithm_word;

@@ -1,31 +1,11 @@
 //! Whether a plan takes over from an earlier one.
 ghost use Rattle.std.specs.Prelude.{◌≡◌, ◌↔◌, true, IsTrue};
-ghost use Rattle.kmip_plan.specs.Chains.{is_revoked};
-ghost use Rattle.kmip_plan.specs.Prolonging.{LeadsOn, GoesOn, Prolongs};
+ghost use Rattle.kmip_chains.specs.Chains.{is_revoked};
+ghost use Rattle.kmip_plan.specs.Prolonging.{GoesOn, Prolongs};
 
-use crate::key::Key;
 use crate::plan::Plan;
-use crate::target::Target;
+use kmip_chains::Key;
 use kmip_objects::KeyAttrs;
-
-impl Target {
-    /// Whether the way to this target is a beginning of the way to the further one, or all of it.
-    /// Takes no memory.
-    pub fn leads_on(self, further: Target) -> bool
-        ensures { IsTrue result ↔ LeadsOn self further }
-    {
-        match self {
-            Target::Created => true,
-            Target::Active => matches!(
-                further,
-                Target::Active | Target::Revoked | Target::Destroyed
-            ),
-            Target::Revoked => matches!(further, Target::Revoked | Target::Destroyed),
-            Target::Destroyed => matches!(further, Target::Destroyed),
-            Target::Discarded => matches!(further, Target::Discarded),
-        }
-    }
-}
 
 /// Whether the new plan prolongs the old one: it begins with the keys of the old plan, in the
 /// same order. Each has the same attributes there, the way that it had is a beginning of its new way,

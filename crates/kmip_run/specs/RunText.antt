@@ -5,7 +5,7 @@ use Rattle.std.specs.Fmt.{decimal}
 use Rattle.std.specs.Io.KnownBytes.{Appends}
 use Rattle.kmip_objects.specs.Objects.{Object}
 use Rattle.kmip_plan.specs.declared.fault.PlanFault.{PlanFault}
-use Rattle.kmip_plan.specs.declared.key.Key.{Key}
+use Rattle.kmip_chains.specs.declared.key.Key.{Key}
 use Rattle.kmip_progress.specs.Faults.{progress_fault_name, progress_fault_number}
 use Rattle.kmip_progress.specs.Reading.{read_text}
 use Rattle.kmip_progress.specs.declared.fault.ProgressFault.{ProgressFault}
@@ -14,7 +14,7 @@ use Rattle.kmip_client.specs.Clients.{fresh}
 use Rattle.kmip_client.specs.Held.{TrueProgress}
 use Rattle.kmip_client.specs.Saving.{resume}
 use Rattle.kmip_client.specs.Standing.{counts_of, verdicts_of}
-use Rattle.kmip_client.specs.declared.knowledge.Knowledge.{Knowledge}
+use Rattle.kmip_knowledge.specs.declared.knowledge.Knowledge.{Knowledge}
 use Rattle.kmip_schedule.specs.Past.{Names, Past}
 use Rattle.kmip_session.specs.Campaign.{GoodLink}
 use Rattle.kmip_session.specs.Driving.{Stands, WentOn}
@@ -22,7 +22,7 @@ use Rattle.kmip_session.specs.Reporting.{report_text}
 use Rattle.kmip_session.specs.Stops.{is_all_finished, stop_name}
 use Rattle.kmip_session.specs.declared.stop.Stop.{Stop}
 use Rattle.kmip_session.specs.declared.stop.Stop.TheVariants as stops
-use Rattle.kmip_commands.specs.Checking.{plan_refusal_text}
+use Rattle.kmip_check.specs.Checking.{plan_refusal_text}
 
 -- why a text is no progress of the plan
 unfoldable pub progress_refusal_text : ProgressFault → List ℕ

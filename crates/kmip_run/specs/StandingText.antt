@@ -2,10 +2,10 @@
 -- Source: own: what the program shows on a terminal.
 use Rattle.std.specs.Prelude.{◌≡◌, ℕ, List, ◌++◌, length, codes, Result, Ok, Err}
 use Rattle.std.specs.Fmt.{decimal}
-use Rattle.kmip_plan.specs.declared.key.Key.{Key}
+use Rattle.kmip_chains.specs.declared.key.Key.{Key}
 use Rattle.kmip_progress.specs.declared.fault.ProgressFault.{ProgressFault}
 use Rattle.kmip_client.specs.Standing.{verdicts_of}
-use Rattle.kmip_client.specs.declared.knowledge.Knowledge.{Knowledge}
+use Rattle.kmip_knowledge.specs.declared.knowledge.Knowledge.{Knowledge}
 use Rattle.kmip_session.specs.Reporting.{finished_count}
 
 -- so many of the keys are finished, after so many exchanges, of which so many brought no reply

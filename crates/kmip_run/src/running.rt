@@ -2,7 +2,7 @@
 ghost use Rattle.std.specs.Prelude.{◌≡◌, ◌≢◌, ◌⊎◌, List, [], Ok, IfErr, IfOk, option_map};
 ghost use Rattle.std.specs.Io.KnownBytes.{Appends};
 ghost use Rattle.kmip_plan.specs.Reading.{plan_read};
-ghost use Rattle.kmip_plan.specs.declared.key.Key.{Key};
+ghost use Rattle.kmip_chains.specs.declared.key.Key.{Key};
 ghost use Rattle.kmip_commands.specs.Printing.{IfFailed, IfWhole, UnlessOutput, fault_line};
 ghost use Rattle.kmip_session.specs.Campaign.{GoodLink};
 ghost use Rattle.kmip_session.specs.Driving.{IsGood};
@@ -19,9 +19,10 @@ ghost use Rattle.kmip_run.specs.RunText.{
 
 use crate::beginning::begin;
 use crate::telling::{progress_refusal_text, run_text, unwritten_text};
+use kmip_check::push_refusal;
 use kmip_client::Client;
 use kmip_client::laws::onward_is_an_order;
-use kmip_commands::{CommandFault, ExitStatus, finished, push_refusal, send};
+use kmip_commands::{CommandFault, ExitStatus, finished, send};
 use kmip_plan::{Plan, read_plan};
 use kmip_progress::ProgressFault;
 use kmip_running::{Keeper, SaveFault, carry_out};

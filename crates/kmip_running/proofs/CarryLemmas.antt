@@ -2,15 +2,15 @@
 use Rattle.std.proofs.Common.{Option, Some, None, ◌++◌, ◌≡◌, ◌≢◌, ◌≤◌, ℕ, suc, ◌+◌, nat_le, ◌<◌, List, [], ◌∷◌, Result, Ok, Err, IfOk, OnErr, OnOk, false, sym, ap, subst, refl, ◌∙◌, inl, inr, arith}
 use Rattle.std.proofs.lemmas.Bool.{cases_Bool, le-ltb, leb-true}
 use Rattle.kmip_objects.specs.Objects.{Object}
-use Rattle.kmip_plan.specs.Chains.{bound}
+use Rattle.kmip_chains.specs.Chains.{bound}
 use Rattle.kmip_plan.specs.Plans.{IsLawful}
-use Rattle.kmip_plan.specs.declared.key.Key.{Key}
+use Rattle.kmip_chains.specs.declared.key.Key.{Key}
 use Rattle.kmip_client.specs.Clients.{AreSettled, ClientState, SomeWorks}
 use Rattle.kmip_client.specs.Held.{Held}
-use Rattle.kmip_client.specs.Knowledge.{chain_length, clash_verdict, is_working, verdict_of}
-use Rattle.kmip_client.specs.declared.clash.Clash.{Clash}
-use Rattle.kmip_client.specs.declared.knowledge.Knowledge.{Knowledge}
-use Rattle.kmip_client.specs.declared.knowledge.Verdict.TheVariants.{Working, Finished}
+use Rattle.kmip_knowledge.specs.Knowledge.{chain_length, clash_verdict, is_working, verdict_of}
+use Rattle.kmip_knowledge.specs.declared.clash.Clash.{Clash}
+use Rattle.kmip_knowledge.specs.declared.knowledge.Knowledge.{Knowledge}
+use Rattle.kmip_knowledge.specs.declared.knowledge.Verdict.TheVariants.{Working, Finished}
 use Rattle.kmip_schedule.specs.Moves.{Delivered}
 use Rattle.kmip_schedule.specs.Past.{Names, Past, is_planned}
 use Rattle.kmip_client.specs.Saving.{progress}

@@ -2,7 +2,7 @@
 ghost use Rattle.std.specs.Prelude.{◌≡◌, ◌≢◌, ◌≤◌, ◌+◌, ◌++◌, ◌∷◌, [], ℕ, Ok, IfOk, IsTrue, OnErr, OnOk, false};
 ghost use Rattle.kmip_client.specs.Clients.{SomeWorks};
 ghost use Rattle.kmip_client.specs.Saving.{progress};
-ghost use Rattle.kmip_plan.specs.Chains.{bound};
+ghost use Rattle.kmip_chains.specs.Chains.{bound};
 ghost use Rattle.kmip_progress.specs.Texts.{progress_text};
 ghost use Rattle.kmip_schedule.specs.Moves.{Delivered};
 ghost use Rattle.kmip_schedule.specs.Past.{Names, is_planned};

@@ -9,11 +9,11 @@ use Rattle.kmip_objects.specs.declared.state.KeyState.{KeyState}
 use Rattle.kmip_objects.specs.declared.state.KeyState.TheVariants as states
 use Rattle.kmip_objects.specs.declared.step.Step.{Step}
 use Rattle.kmip_objects.specs.declared.step.Step.TheVariants.{Create, Activate, Revoke, Destroy}
-use Rattle.kmip_plan.specs.Chains.{chain, place_reached}
-use Rattle.kmip_plan.specs.Laws.{PreActiveIsFirst}
-use Rattle.kmip_plan.specs.declared.key.Key.{Key}
-use Rattle.kmip_plan.specs.declared.target.Target.{Target}
-use Rattle.kmip_plan.specs.declared.target.Target.TheVariants as targets
+use Rattle.kmip_chains.specs.Chains.{chain, place_reached}
+use Rattle.kmip_chains.specs.Laws.{PreActiveIsFirst}
+use Rattle.kmip_chains.specs.declared.key.Key.{Key}
+use Rattle.kmip_chains.specs.declared.target.Target.{Target}
+use Rattle.kmip_chains.specs.declared.target.Target.TheVariants as targets
 use Rattle.kmip_client.specs.Places.{GoesOnward}
 use Rattle.kmip_schedule.specs.Past.{step_between, change}
 use Rattle.kmip_schedule.specs.Sound.{IsObjectOf}

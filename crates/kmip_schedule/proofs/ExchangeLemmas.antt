@@ -6,8 +6,8 @@ use Rattle.kmip_messages.specs.Items.{requests_in, replies_in}
 use Rattle.kmip_objects.specs.Objects.{Object}
 use Rattle.kmip_messages.specs.declared.reply.Reply.{Reply}
 use Rattle.kmip_messages.specs.declared.request.Request.{Request}
-use Rattle.kmip_plan.specs.Chains.{chain}
-use Rattle.kmip_plan.specs.declared.key.Key.{Key}
+use Rattle.kmip_chains.specs.Chains.{chain}
+use Rattle.kmip_chains.specs.declared.key.Key.{Key}
 use Rattle.kmip_client.specs.Justified.{Justified, JustifiedMessage}
 use Rattle.kmip_client.specs.Places.{Onward}
 use Rattle.kmip_client.specs.Truth.{TrueMessage, TrueReply}

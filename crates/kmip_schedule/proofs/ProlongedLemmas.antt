@@ -6,12 +6,13 @@ use Rattle.std.proofs.lemmas.Option.{same_Some}
 use Rattle.kmip_objects.specs.Objects.{Object, object_named}
 use Rattle.kmip_objects.specs.States.{state_number}
 use Rattle.kmip_messages.specs.declared.reply.Reply.{Reply}
-use Rattle.kmip_plan.specs.Chains.{chain, or_zero, place_of, place_reached}
+use Rattle.kmip_chains.specs.Chains.{chain, or_zero, place_of, place_reached}
 use Rattle.kmip_plan.specs.Laws.{FoundKeysStand}
 use Rattle.kmip_plan.specs.Plans.{IsLawful, IsPlanned, key_named}
-use Rattle.kmip_plan.specs.Prolonging.{GoesOn, LeadsOn, Prolongs}
-use Rattle.kmip_plan.specs.declared.key.Key.{Key}
-use Rattle.kmip_plan.specs.declared.target.Target.{Target}
+use Rattle.kmip_plan.specs.Prolonging.{GoesOn, Prolongs}
+use Rattle.kmip_chains.specs.Chains.{LeadsOn}
+use Rattle.kmip_chains.specs.declared.key.Key.{Key}
+use Rattle.kmip_chains.specs.declared.target.Target.{Target}
 use Rattle.kmip_client.specs.Justified.{Justified}
 use Rattle.kmip_client.specs.Places.{position}
 use Rattle.kmip_client.specs.Truth.{TrueOutcome}

@@ -16,9 +16,9 @@ use Rattle.kmip_objects.specs.declared.state.KeyState.{KeyState}
 use Rattle.kmip_objects.specs.declared.state.KeyState.TheVariants as states
 use Rattle.kmip_objects.specs.declared.step.Step.{Step}
 use Rattle.kmip_objects.specs.declared.step.Step.TheVariants.{Create, Activate, Revoke, Destroy}
-use Rattle.kmip_plan.specs.Chains.{or_zero, place_of, place_reached, step_place}
+use Rattle.kmip_chains.specs.Chains.{or_zero, place_of, place_reached, step_place}
 use Rattle.kmip_plan.specs.Plans.{IsPlanned, key_named}
-use Rattle.kmip_plan.specs.declared.key.Key.{Key}
+use Rattle.kmip_chains.specs.declared.key.Key.{Key}
 use Rattle.kmip_client.specs.Justified.{Justified, StepIsDue, MayAsk}
 use Rattle.kmip_client.specs.Places.{position, uid_of}
 use Rattle.kmip_client.specs.Truth.{AreFound, StepIsDone, TrueOutcome}

@@ -4,9 +4,9 @@ use Rattle.std.specs.List.{All, Contains}
 use Rattle.std.proofs.lemmas.List.Elements.{All-contains, All-weaker, Contains-append_cases, Contains-append_left, Contains-append_right, Contains-push, Contains-push_cases}
 use Rattle.kmip_objects.specs.Objects.{object_named}
 use Rattle.kmip_objects.specs.declared.step.Step.{Step}
-use Rattle.kmip_plan.specs.Chains.{chain, step_at, step_place}
-use Rattle.kmip_plan.specs.declared.key.Key.{Key}
-use Rattle.kmip_plan.specs.declared.target.Target.{Target}
+use Rattle.kmip_chains.specs.Chains.{chain, step_at, step_place}
+use Rattle.kmip_chains.specs.declared.key.Key.{Key}
+use Rattle.kmip_chains.specs.declared.target.Target.{Target}
 use Rattle.kmip_client.specs.Justified.{Justified}
 use Rattle.kmip_client.specs.Places.{position}
 use Rattle.kmip_schedule.specs.declared.effect.Effect.{Effect}

@@ -12,9 +12,9 @@ use Rattle.kmip_objects.specs.declared.state.KeyState.{KeyState}
 use Rattle.kmip_objects.specs.declared.state.KeyState.TheVariants as states
 use Rattle.kmip_objects.specs.declared.step.Step.{Step}
 use Rattle.kmip_objects.specs.declared.step.Step.TheVariants.{Create, Activate, Revoke, Destroy}
-use Rattle.kmip_plan.specs.Chains.{place_reached, step_place}
+use Rattle.kmip_chains.specs.Chains.{place_reached, step_place}
 use Rattle.kmip_plan.specs.Plans.{IsPlanned}
-use Rattle.kmip_plan.specs.declared.key.Key.{Key}
+use Rattle.kmip_chains.specs.declared.key.Key.{Key}
 use Rattle.kmip_client.specs.Justified.{StepIsDue, MayAsk}
 use Rattle.kmip_client.specs.Places.{position}
 use Rattle.kmip_server.specs.ServerStep as rows

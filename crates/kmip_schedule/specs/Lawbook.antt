@@ -14,17 +14,16 @@ use Rattle.kmip_objects.specs.ObjectLaws.{
   NamedIsRestated,
   StaysDistinct,
 }
-use Rattle.kmip_plan.specs.Laws.{
+use Rattle.kmip_chains.specs.Laws.{
   PlacesAndSteps,
   PreActiveIsFirst,
   ReachedIsWithin,
   DueStepsAdvance,
   DueStepsJoinTheDone,
-  FoundKeysStand,
   StatesKeepTheirPlaces,
   ReachedIsNoLess,
-  OldKeysAreFound,
 }
+use Rattle.kmip_plan.specs.Laws.{FoundKeysStand, OldKeysAreFound}
 use Rattle.kmip_client.specs.Laws.{OnwardToItself, OnwardTwice, JustifiedForGood, TrueForGood, JustifiedOfProlonged, TrueOfGoneOn}
 use Rattle.kmip_server.specs.Laws.{LocateFindsTheName}
 

@@ -7,10 +7,10 @@ use Rattle.kmip_objects.specs.Objects.{Object, DistinctNames, DistinctUids}
 use Rattle.kmip_messages.specs.declared.reply.Outcome.{Outcome}
 use Rattle.kmip_messages.specs.declared.request.Ask.{Ask}
 use Rattle.kmip_server.specs.ServerStep.{ServerStep}
-use Rattle.kmip_plan.specs.Chains.{step_place}
+use Rattle.kmip_chains.specs.Chains.{step_place}
 use Rattle.kmip_plan.specs.Plans.{IsLawful, IsPlanned}
 use Rattle.kmip_plan.specs.Prolonging.{Prolongs}
-use Rattle.kmip_plan.specs.declared.key.Key.{Key}
+use Rattle.kmip_chains.specs.declared.key.Key.{Key}
 use Rattle.kmip_client.specs.Justified.{JustifiedMessage}
 use Rattle.kmip_client.specs.Places.{Onward, position}
 use Rattle.kmip_client.specs.Truth.{TrueMessage}

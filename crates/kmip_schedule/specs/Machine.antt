@@ -6,9 +6,9 @@ use Rattle.std.specs.List.{Contains, filter_map}
 use Rattle.std.specs.Option.{option_map, option_and_then}
 use Rattle.kmip_messages.specs.declared.request.Request.{Request}
 use Rattle.kmip_objects.specs.declared.step.Step.{Step}
-use Rattle.kmip_plan.specs.Chains.{step_place}
+use Rattle.kmip_chains.specs.Chains.{step_place}
 use Rattle.kmip_plan.specs.Plans.{IsPlanned, key_named}
-use Rattle.kmip_plan.specs.declared.key.Key.{Key}
+use Rattle.kmip_chains.specs.declared.key.Key.{Key}
 use Rattle.kmip_client.specs.Places.{position}
 use Rattle.kmip_schedule.specs.declared.effect.Effect.{Effect}
 use Rattle.kmip_schedule.specs.Past.{Past}

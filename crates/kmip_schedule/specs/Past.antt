@@ -12,7 +12,7 @@ use Rattle.kmip_objects.specs.declared.state.KeyState.TheVariants as states
 use Rattle.kmip_objects.specs.declared.step.Step.{Step}
 use Rattle.kmip_objects.specs.declared.step.Step.TheVariants.{Create, Activate, Revoke, Destroy}
 use Rattle.kmip_plan.specs.Plans.{key_named}
-use Rattle.kmip_plan.specs.declared.key.Key.{Key}
+use Rattle.kmip_chains.specs.declared.key.Key.{Key}
 use Rattle.kmip_schedule.specs.declared.effect.Effect.{Effect}
 
 pub record Past : Type 0 where

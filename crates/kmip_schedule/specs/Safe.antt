@@ -10,9 +10,9 @@ use Rattle.kmip_messages.specs.declared.request.Ask.TheVariants as asks
 use Rattle.kmip_messages.specs.declared.request.Request.{Request}
 use Rattle.kmip_objects.specs.declared.step.Step.{Step}
 use Rattle.kmip_objects.specs.declared.step.Step.TheVariants.{Create, Activate, Revoke, Destroy}
-use Rattle.kmip_plan.specs.Chains.{chain}
+use Rattle.kmip_chains.specs.Chains.{chain}
 use Rattle.kmip_plan.specs.Plans.{IsPlanned}
-use Rattle.kmip_plan.specs.declared.key.Key.{Key}
+use Rattle.kmip_chains.specs.declared.key.Key.{Key}
 use Rattle.kmip_client.specs.Places.{position}
 use Rattle.kmip_server.specs.ServerStep.{ServerStep}
 use Rattle.kmip_schedule.specs.declared.effect.Effect.{Effect}

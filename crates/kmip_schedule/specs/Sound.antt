@@ -7,9 +7,9 @@ use Rattle.kmip_messages.specs.Operations.{operation_of}
 use Rattle.kmip_objects.specs.Ranges.{is_identifier}
 use Rattle.kmip_messages.specs.declared.reply.Reply.{Reply}
 use Rattle.kmip_messages.specs.declared.request.Request.{Request}
-use Rattle.kmip_plan.specs.Chains.{chain, place_reached}
+use Rattle.kmip_chains.specs.Chains.{chain, place_reached}
 use Rattle.kmip_plan.specs.Plans.{IsPlanned, key_named}
-use Rattle.kmip_plan.specs.declared.key.Key.{Key}
+use Rattle.kmip_chains.specs.declared.key.Key.{Key}
 use Rattle.kmip_client.specs.Justified.{Justified}
 use Rattle.kmip_client.specs.Places.{position}
 use Rattle.kmip_client.specs.Truth.{TrueReply}

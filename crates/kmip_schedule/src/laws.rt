@@ -25,12 +25,12 @@ ghost use Rattle.kmip_schedule.specs.Laws.{
   WhatIsDoneJoins,
 };
 
+use kmip_chains::laws::{
+    due_steps_advance, further_ways_keep_places, states_have_places, steps_have_places,
+};
 use kmip_client::laws::{onward_is_an_order, prolonged_plans_keep_the_truth, truth_is_for_good};
 use kmip_objects::laws::{added_laws, found_laws, restated_laws};
-use kmip_plan::laws::{
-    due_steps_advance, further_ways_keep_places, keys_have_names, prolonged_keys_stand,
-    states_have_places, steps_have_places,
-};
+use kmip_plan::laws::{keys_have_names, prolonged_keys_stand};
 use kmip_server::laws::a_name_is_found;
 
 /// The laws of the crates below.

@@ -2,8 +2,8 @@
 -- saved.
 -- Source: own: the table of a script's words.
 use Rattle.std.specs.Prelude.{ℕ, ◌+◌, Bool, true, false, List, [], ◌∷◌, filter, length, Option, Some, None, if◌then◌else◌}
-use Rattle.kmip_plan.specs.Chains.{bound}
-use Rattle.kmip_plan.specs.declared.key.Key.{Key}
+use Rattle.kmip_chains.specs.Chains.{bound}
+use Rattle.kmip_chains.specs.declared.key.Key.{Key}
 use Rattle.kmip_session.specs.Campaign.{saves}
 use Rattle.kmip_session.specs.declared.campaigning.Run.{Run}
 use Rattle.kmip_session.specs.declared.campaigning.Start.{Start}

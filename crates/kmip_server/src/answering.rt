@@ -18,9 +18,9 @@ ghost use Rattle.kmip_store.specs.Stock.{create, object_of};
 
 use crate::reasons::{message_reason, store_reason};
 use kmip_messages::standard::REASON_FEATURE_NOT_SUPPORTED;
-use kmip_messages::{Ask, Outcome, Refusal, Reply, Request, Texts, write_reply};
+use kmip_messages::{Ask, Outcome, Refusal, Reply, Request, write_reply};
 use kmip_objects::standard::OBJECT_TYPE_SYMMETRIC_KEY;
-use kmip_objects::{Attrs, KeyAttrs, is_compromise};
+use kmip_objects::{Attrs, KeyAttrs, Texts, is_compromise};
 use kmip_store::{Records, Row, StoreFault, identifier_at};
 use kmip_ttlv::{Bytes, NoMemory, Text};
 use std::alloc::Global;

@@ -1,8 +1,8 @@
 -- Runs over a calm link settle, whatever they begin with.
 use Rattle.std.proofs.Common.{◌≡◌, ◌≢◌, ◌≤◌, ℕ, ◌+◌, List, length, Result, OnOk, sym, subst, ◌∙◌}
 use Rattle.std.specs.List.{All}
-use Rattle.kmip_plan.specs.Chains.{bound}
-use Rattle.kmip_plan.specs.declared.key.Key.{Key}
+use Rattle.kmip_chains.specs.Chains.{bound}
+use Rattle.kmip_chains.specs.declared.key.Key.{Key}
 use Rattle.kmip_progress.specs.declared.known.Known.{Known}
 use Rattle.kmip_client.specs.Clients.{ClientState}
 use Rattle.kmip_client.specs.Held.{Held, TrueProgress}

@@ -6,17 +6,17 @@ use Rattle.std.proofs.lemmas.Bool.{cases_Bool}
 use Rattle.std.proofs.lemmas.List.Elements.{All-append, All-cons, All-head, All-nil, All-push, All-tail, All-weaker}
 use Rattle.kmip_objects.specs.Objects.{Object}
 use Rattle.kmip_objects.specs.declared.step.Step.{Step}
-use Rattle.kmip_plan.specs.Chains.{chain, step_at, step_place}
+use Rattle.kmip_chains.specs.Chains.{chain, step_at, step_place}
 use Rattle.kmip_plan.specs.Plans.{IsLawful, IsPlanned}
-use Rattle.kmip_plan.specs.declared.key.Key.{Key}
-use Rattle.kmip_plan.specs.declared.target.Target.{Target}
+use Rattle.kmip_chains.specs.declared.key.Key.{Key}
+use Rattle.kmip_chains.specs.declared.target.Target.{Target}
 use Rattle.kmip_progress.specs.declared.known.Known.{Known}
 use Rattle.kmip_client.specs.Clients.{ClientState}
 use Rattle.kmip_client.specs.Held.{Held, TrueOf, TrueProgress}
-use Rattle.kmip_client.specs.Knowledge.{chain_length, verdict_of}
+use Rattle.kmip_knowledge.specs.Knowledge.{chain_length, verdict_of}
 use Rattle.kmip_client.specs.Places.{Onward, position}
 use Rattle.kmip_client.specs.Standing.{counts_of, verdicts_of}
-use Rattle.kmip_client.specs.declared.knowledge.Knowledge.{Knowledge}
+use Rattle.kmip_knowledge.specs.declared.knowledge.Knowledge.{Knowledge}
 use Rattle.kmip_schedule.specs.Laws.{IsReached}
 use Rattle.kmip_schedule.specs.Moves.{Delivered}
 use Rattle.kmip_schedule.specs.Past.{Names, Past, is_planned}

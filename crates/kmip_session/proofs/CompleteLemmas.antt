@@ -4,17 +4,17 @@ use Rattle.std.proofs.lemmas.Bool.{cases_Bool, leb-true, le-leb}
 use Rattle.std.proofs.lemmas.Option.{slice_get_within}
 use Rattle.std.specs.Option.{option_map_or}
 use Rattle.kmip_objects.specs.Objects.{Object, object_named}
-use Rattle.kmip_plan.specs.Chains.{place_reached}
-use Rattle.kmip_plan.specs.Laws.{ReachedIsWithin}
+use Rattle.kmip_chains.specs.Chains.{place_reached}
+use Rattle.kmip_chains.specs.Laws.{ReachedIsWithin}
 use Rattle.kmip_plan.specs.Plans.{IsLawful}
-use Rattle.kmip_plan.specs.declared.key.Key.{Key}
+use Rattle.kmip_chains.specs.declared.key.Key.{Key}
 use Rattle.kmip_client.specs.Clients.{ClientState}
 use Rattle.kmip_client.specs.Held.{Held}
-use Rattle.kmip_client.specs.Knowledge.{chain_length, clash_verdict, verdict_of}
+use Rattle.kmip_knowledge.specs.Knowledge.{chain_length, clash_verdict, verdict_of}
 use Rattle.kmip_client.specs.Standing.{counts_of, verdicts_of}
-use Rattle.kmip_client.specs.declared.clash.Clash.{Clash}
-use Rattle.kmip_client.specs.declared.knowledge.Knowledge.{Knowledge}
-use Rattle.kmip_client.specs.declared.knowledge.Verdict.TheVariants.{Finished}
+use Rattle.kmip_knowledge.specs.declared.clash.Clash.{Clash}
+use Rattle.kmip_knowledge.specs.declared.knowledge.Knowledge.{Knowledge}
+use Rattle.kmip_knowledge.specs.declared.knowledge.Verdict.TheVariants.{Finished}
 use Rattle.kmip_schedule.specs.Past.{Names, Past}
 use Rattle.kmip_settling.specs.Needs.{chains_and_looks, need_all}
 use Rattle.kmip_settling.specs.Ready.{IsReady}

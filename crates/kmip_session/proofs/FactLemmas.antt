@@ -1,14 +1,14 @@
 -- What a client knows is what it heard, whatever it asked.
 use Rattle.std.proofs.Common.{◌≡◌, ℕ, List, [], ◌∷◌, Option, Some, None, Result, Ok, Err, refl, inl, inr}
 use Rattle.std.proofs.lemmas.Bool.{cases_Bool}
-use Rattle.kmip_plan.specs.declared.key.Key.{Key}
+use Rattle.kmip_chains.specs.declared.key.Key.{Key}
 use Rattle.kmip_client.specs.Clients.{ClientState}
 use Rattle.kmip_client.specs.Hearing.{hear}
 use Rattle.kmip_client.specs.Known.{facts, heard, known_after, knowns_heard}
 use Rattle.kmip_client.specs.Laws.{HearingIsBlind, LossesTeachNothing}
-use Rattle.kmip_client.specs.declared.fault.HearFault.{HearFault}
+use Rattle.kmip_knowledge.specs.declared.fault.HearFault.{HearFault}
 use Rattle.kmip_client.specs.declared.hearing.Heard.{Heard}
-use Rattle.kmip_client.specs.declared.knowledge.Knowledge.{Knowledge}
+use Rattle.kmip_knowledge.specs.declared.knowledge.Knowledge.{Knowledge}
 use Rattle.kmip_client.specs.declared.question.Question.{Question}
 use Rattle.kmip_settling.specs.Turns.{is_answer_to, taught, taught_by}
 

@@ -6,10 +6,10 @@ use Rattle.std.proofs.lemmas.List.Concat.{flat_map-append}
 use Rattle.kmip_messages.specs.Items.{requests_in}
 use Rattle.kmip_plan.specs.Laws.{KeysAreFound}
 use Rattle.kmip_plan.specs.Plans.{IsLawful}
-use Rattle.kmip_plan.specs.declared.key.Key.{Key}
+use Rattle.kmip_chains.specs.declared.key.Key.{Key}
 use Rattle.kmip_client.specs.Clients.{ClientState, IsAbout, lost_at}
 use Rattle.kmip_client.specs.Laws.{HearingIsBlind, LossesTeachNothing}
-use Rattle.kmip_client.specs.declared.knowledge.Knowledge.{Knowledge}
+use Rattle.kmip_knowledge.specs.declared.knowledge.Knowledge.{Knowledge}
 use Rattle.kmip_client.specs.declared.question.Question.{Question}
 use Rattle.kmip_schedule.specs.Exchanges.{Exchanged, HandsOver, with_asked}
 use Rattle.kmip_schedule.specs.Moves.{Delivered, Move, after_move, after_moves}

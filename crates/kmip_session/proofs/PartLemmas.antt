@@ -2,7 +2,7 @@
 use Rattle.std.proofs.Common.{◌≡◌, ◌≢◌, ◌⊎◌, ℕ, zero, suc, List, [], ◌∷◌, ◌++◌, length, map, take, flat_map, slice_get, Some, sym, ap, subst, refl, ◌∙◌, inl, inr, append_assoc, append-nil, arith}
 use Rattle.std.specs.Prelude.{⊤}
 use Rattle.kmip_plan.specs.Prolonging.{Prolongs}
-use Rattle.kmip_plan.specs.declared.key.Key.{Key}
+use Rattle.kmip_chains.specs.declared.key.Key.{Key}
 use Rattle.kmip_progress.specs.declared.known.Known.{Known}
 use Rattle.kmip_schedule.specs.Past.{Past}
 use Rattle.kmip_session.specs.Campaigns.{AreParts, AreProlonged, IsPart, Part, carried_over, first_plan, last_plan, part_saved}

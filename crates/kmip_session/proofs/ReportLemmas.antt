@@ -1,9 +1,9 @@
 -- The lines of a report are made of their parts.
 use Rattle.std.proofs.Common.{◌≡◌, ℕ, List, ◌++◌, length, codes, decimal, refl, append_assoc}
-use Rattle.kmip_plan.specs.Words.{target_word}
-use Rattle.kmip_plan.specs.declared.key.Key.{Key}
-use Rattle.kmip_client.specs.Knowledge.{chain_length}
-use Rattle.kmip_client.specs.declared.knowledge.Verdict.{Verdict}
+use Rattle.kmip_chains.specs.Words.{target_word}
+use Rattle.kmip_chains.specs.declared.key.Key.{Key}
+use Rattle.kmip_knowledge.specs.Knowledge.{chain_length}
+use Rattle.kmip_knowledge.specs.declared.knowledge.Verdict.{Verdict}
 use Rattle.kmip_session.specs.Reporting.{finished_count, report_line, sum_line, verdict_word}
 
 pub line_is : (key : Key) (done steps : ℕ) (verdict : Verdict) (name target word : List ℕ) → name ≡ key.attrs.name → target ≡ target_word key.target

@@ -7,7 +7,7 @@ use Rattle.std.specs.List.{All, AllZip}
 use Rattle.std.specs.Result.{result_err}
 use Rattle.kmip_objects.specs.Objects.{Object}
 use Rattle.kmip_plan.specs.Plans.{IsLawful}
-use Rattle.kmip_plan.specs.declared.key.Key.{Key}
+use Rattle.kmip_chains.specs.declared.key.Key.{Key}
 use Rattle.kmip_progress.specs.Suiting.{Suits}
 use Rattle.kmip_progress.specs.declared.known.Known.{Known}
 use Rattle.kmip_client.specs.Clients.{ClientState, fresh}

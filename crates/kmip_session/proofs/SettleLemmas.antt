@@ -1,11 +1,11 @@
 -- Over a calm link each turn brings a client that is ready one exchange nearer to the end.
 use Rattle.std.proofs.Common.{◌≡◌, ◌≢◌, ◌≤◌, ℕ, ◌+◌, List, Option, Some, Result, Ok, Err, sym, ap, subst, refl, ◌∙◌, arith}
-use Rattle.kmip_plan.specs.Chains.{bound}
+use Rattle.kmip_chains.specs.Chains.{bound}
 use Rattle.kmip_plan.specs.Plans.{IsLawful}
-use Rattle.kmip_plan.specs.declared.key.Key.{Key}
+use Rattle.kmip_chains.specs.declared.key.Key.{Key}
 use Rattle.kmip_client.specs.Clients.{AreSettled, ClientState, IsAbout, after_ask}
-use Rattle.kmip_client.specs.declared.knowledge.Knowledge.{Knowledge}
-use Rattle.kmip_client.specs.declared.knowledge.Verdict.TheVariants.{Working, Finished, Conflict}
+use Rattle.kmip_knowledge.specs.declared.knowledge.Knowledge.{Knowledge}
+use Rattle.kmip_knowledge.specs.declared.knowledge.Verdict.TheVariants.{Working, Finished, Conflict}
 use Rattle.kmip_client.specs.declared.question.Question.{Question}
 use Rattle.kmip_schedule.specs.Calm.{CalmlyExchanged}
 use Rattle.kmip_schedule.specs.Past.{Names, Past, is_planned}

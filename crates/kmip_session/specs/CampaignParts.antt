@@ -3,8 +3,9 @@
 use Rattle.std.specs.Prelude.{◌≡◌, ◌≢◌, ◌≤◌, ℕ, List, [], ◌∷◌, ◌++◌, filter, length, None, string_bytes, take}
 use Rattle.std.specs.List.{All, AllZip}
 use Rattle.kmip_objects.specs.Objects.{Object}
-use Rattle.kmip_plan.specs.Laws.{KeysAreFound, PlacesAndSteps}
-use Rattle.kmip_plan.specs.declared.key.Key.{Key}
+use Rattle.kmip_plan.specs.Laws.{KeysAreFound}
+use Rattle.kmip_chains.specs.Laws.{PlacesAndSteps}
+use Rattle.kmip_chains.specs.declared.key.Key.{Key}
 use Rattle.kmip_progress.specs.Suiting.{Suits}
 use Rattle.kmip_progress.specs.declared.known.Known.{Known}
 use Rattle.kmip_client.specs.Clients.{ClientState}
@@ -13,7 +14,7 @@ use Rattle.kmip_client.specs.Laws.{OnwardToItself, OnwardTwice, HeldForGood}
 use Rattle.kmip_client.specs.Places.{position}
 use Rattle.kmip_client.specs.Shapes.{IsKept}
 use Rattle.kmip_client.specs.Standing.{AreWithin, counts_of, verdicts_of}
-use Rattle.kmip_client.specs.declared.knowledge.Knowledge.{Knowledge}
+use Rattle.kmip_knowledge.specs.declared.knowledge.Knowledge.{Knowledge}
 use Rattle.kmip_schedule.specs.Laws.{DeliveriesKeepSound, DeliveriesKeepTheImage, ObjectsGoOnward, OpeningIsMirrored, SoundIsSafe}
 use Rattle.kmip_schedule.specs.Past.{Past, Names, is_planned}
 use Rattle.kmip_settling.specs.Laws.{SoundIsReady}

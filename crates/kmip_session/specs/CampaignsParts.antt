@@ -3,7 +3,7 @@
 use Rattle.std.specs.Prelude.{◌≡◌, List, ◌++◌, flat_map, map, None, Option, IfSome}
 use Rattle.std.specs.List.{All}
 use Rattle.kmip_plan.specs.Laws.{NewPlansAreNoShorter, PlansProlongAgain, PlansProlongThemselves}
-use Rattle.kmip_plan.specs.declared.key.Key.{Key}
+use Rattle.kmip_chains.specs.declared.key.Key.{Key}
 use Rattle.kmip_progress.specs.Suiting.{Suits}
 use Rattle.kmip_progress.specs.declared.known.Known.{Known}
 use Rattle.kmip_client.specs.Laws.{PositionsAreNoLess, TrueOfProlonged}

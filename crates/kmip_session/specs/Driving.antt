@@ -8,18 +8,18 @@ use Rattle.kmip_messages.specs.Written.{request_item}
 use Rattle.kmip_messages.specs.declared.request.Request.{Request}
 use Rattle.kmip_plan.specs.Plans.{IsLawful, IsPlanned}
 use Rattle.kmip_plan.specs.Prolonging.{Prolongs}
-use Rattle.kmip_plan.specs.declared.key.Key.{Key}
+use Rattle.kmip_chains.specs.declared.key.Key.{Key}
 use Rattle.kmip_ttlv.specs.Spelling.{canon}
 use Rattle.kmip_client.specs.Clients.{ClientState, fresh, NoneWorks, SomeWorks, verdict_at}
 use Rattle.kmip_client.specs.Held.{Held}
 use Rattle.kmip_client.specs.Places.{Onward, position}
-use Rattle.kmip_client.specs.Knowledge.{chain_length}
+use Rattle.kmip_knowledge.specs.Knowledge.{chain_length}
 use Rattle.kmip_client.specs.Questions.{request_about}
 use Rattle.kmip_client.specs.Shapes.{IsKept}
 use Rattle.kmip_client.specs.Standing.{counts_of, verdicts_of}
-use Rattle.kmip_client.specs.declared.clash.Clash.{Clash}
-use Rattle.kmip_client.specs.declared.knowledge.Knowledge.{Knowledge}
-use Rattle.kmip_client.specs.declared.knowledge.Verdict.TheVariants.{Finished, Conflict}
+use Rattle.kmip_knowledge.specs.declared.clash.Clash.{Clash}
+use Rattle.kmip_knowledge.specs.declared.knowledge.Knowledge.{Knowledge}
+use Rattle.kmip_knowledge.specs.declared.knowledge.Verdict.TheVariants.{Finished, Conflict}
 use Rattle.kmip_schedule.specs.Machine.{IsMirrored}
 use Rattle.kmip_schedule.specs.Past.{Past, Names, is_planned}
 use Rattle.kmip_schedule.specs.Sound.{Sound}

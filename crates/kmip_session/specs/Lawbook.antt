@@ -1,6 +1,7 @@
 -- Private: the laws of the crates below that driving rests on.
 -- Source: own.
-use Rattle.kmip_plan.specs.Laws.{FoundKeysStand, KeysAreFound, ReachedIsWithin}
+use Rattle.kmip_plan.specs.Laws.{FoundKeysStand, KeysAreFound}
+use Rattle.kmip_chains.specs.Laws.{ReachedIsWithin}
 use Rattle.kmip_client.specs.Laws.{OnwardToItself, OnwardTwice, HeldForGood, HeldIsNoConflict, HearingIsBlind, JustifiedOfProlonged, LossesTeachNothing, SettledIsNotWorked}
 use Rattle.kmip_schedule.specs.Laws.{ExchangesKeepSound, AnswersAreTrue, DeliveriesKeepSound, ObjectsGoOnward, ExchangesKeepTheImage, NamesOfProlonged}
 use Rattle.kmip_settling.specs.Laws.{

@@ -3,14 +3,14 @@
 use Rattle.std.specs.Prelude.{◌≡◌, ℕ, ◌-◌, ◌==◌, List, [], ◌∷◌, ◌++◌, length, map, flat_map, slice_get, Option, Some, None, ⊤, if◌then◌else◌}
 use Rattle.std.specs.List.{All, AllZip}
 use Rattle.kmip_messages.specs.Items.{requests_in}
-use Rattle.kmip_plan.specs.declared.key.Key.{Key}
+use Rattle.kmip_chains.specs.declared.key.Key.{Key}
 use Rattle.kmip_progress.specs.declared.known.Known.{Known}
 use Rattle.kmip_client.specs.Clients.{fresh}
 use Rattle.kmip_client.specs.Known.{facts, known_after}
 use Rattle.kmip_client.specs.Saving.{known_of, resume}
 use Rattle.kmip_client.specs.Shapes.{IsKept}
 use Rattle.kmip_client.specs.Standing.{counts_of, verdicts_of}
-use Rattle.kmip_client.specs.declared.knowledge.Knowledge.{Knowledge}
+use Rattle.kmip_knowledge.specs.declared.knowledge.Knowledge.{Knowledge}
 use Rattle.kmip_schedule.specs.Past.{Past}
 use Rattle.kmip_session.specs.Driving.{Grown, IsQuestion}
 use Rattle.kmip_session.specs.declared.campaigning.Run.{Run}

@@ -2,12 +2,12 @@
 -- finished ones.
 -- Source: own.
 use Rattle.std.specs.Prelude.{ℕ, Bool, true, false, List, [], ◌∷◌, ◌++◌, length, filter, codes, decimal}
-use Rattle.kmip_plan.specs.Words.{target_word}
-use Rattle.kmip_plan.specs.declared.key.Key.{Key}
-use Rattle.kmip_client.specs.Knowledge.{chain_length}
-use Rattle.kmip_client.specs.declared.clash.Clash.TheVariants.{Attributes, State, TwoObjects}
-use Rattle.kmip_client.specs.declared.knowledge.Verdict.{Verdict}
-use Rattle.kmip_client.specs.declared.knowledge.Verdict.TheVariants.{Working, Finished, Conflict}
+use Rattle.kmip_chains.specs.Words.{target_word}
+use Rattle.kmip_chains.specs.declared.key.Key.{Key}
+use Rattle.kmip_knowledge.specs.Knowledge.{chain_length}
+use Rattle.kmip_knowledge.specs.declared.clash.Clash.TheVariants.{Attributes, State, TwoObjects}
+use Rattle.kmip_knowledge.specs.declared.knowledge.Verdict.{Verdict}
+use Rattle.kmip_knowledge.specs.declared.knowledge.Verdict.TheVariants.{Working, Finished, Conflict}
 
 abbrev pub verdict_word : Verdict → List ℕ
 verdict_word Working = codes "working"

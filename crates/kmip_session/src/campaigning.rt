@@ -30,10 +30,11 @@ ghost use Rattle.kmip_session.specs.Remembering.{AreKnown, AreKnownFrom, resumed
 use crate::driving::drive;
 use crate::reporting::report_of;
 use crate::stop::Stop;
+use kmip_chains::laws::steps_have_places;
 use kmip_client::laws::{onward_is_an_order, truth_is_for_good};
 use kmip_client::{Client, Verdict};
 use kmip_plan::Plan;
-use kmip_plan::laws::{keys_have_names, steps_have_places};
+use kmip_plan::laws::keys_have_names;
 use kmip_progress::Progress;
 use kmip_schedule::laws::{
     deliveries_keep_sound, objects_go_onward, opening_is_mirrored, sound_is_safe, the_image_is_kept,

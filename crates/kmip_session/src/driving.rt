@@ -7,7 +7,7 @@ ghost use Rattle.kmip_client.specs.Held.{Held};
 ghost use Rattle.kmip_client.specs.Hearing.{hear};
 ghost use Rattle.kmip_client.specs.Justified.{JustifiedMessage};
 ghost use Rattle.kmip_client.specs.Truth.{TrueMessage};
-ghost use Rattle.kmip_plan.specs.Chains.{bound};
+ghost use Rattle.kmip_chains.specs.Chains.{bound};
 ghost use Rattle.kmip_schedule.specs.Past.{Names, is_planned};
 ghost use Rattle.kmip_session.specs.Driving.{IsBrokenOff, IsGood, IsSettling, IsUntouched, IsComplete, KeepsFurther, need, WentOn, Learnt, Grown, Keeps, Stands};
 ghost use Rattle.kmip_client.specs.Known.{facts};
@@ -19,12 +19,13 @@ ghost use Rattle.kmip_settling.specs.Turns.{is_answer_to, taught, taught_by};
 ghost use Rattle.kmip_schedule.specs.Exchanges.{answer_in};
 
 use crate::stop::Stop;
+use kmip_chains::laws::states_have_places;
 use kmip_client::laws::{
     onward_is_an_order, prolonged_plans_keep_the_truth, the_settled_are_not_worked_on,
     truth_is_for_good, what_is_known_was_heard, what_is_true_is_no_conflict,
 };
 use kmip_client::{Client, HearFault, Heard, Question, Verdict};
-use kmip_plan::laws::{keys_have_names, states_have_places};
+use kmip_plan::laws::keys_have_names;
 use kmip_schedule::laws::{
     answers_are_true, deliveries_keep_sound, exchanges_keep_sound, objects_go_onward,
     prolonged_plans_are_sound, the_image_is_kept,

@@ -11,8 +11,8 @@ ghost use Rattle.kmip_session.specs.Reporting.{
   report_text,
 };
 
+use kmip_chains::{Key, chain_length};
 use kmip_client::{Clash, Client, Verdict};
-use kmip_plan::{Key, chain_length};
 use kmip_ttlv::NoMemory;
 use std::alloc::{AllocError, Global};
 

@@ -12,9 +12,9 @@ use Rattle.kmip_objects.specs.Objects.{Object, object_named, object_with, restat
 use Rattle.kmip_objects.specs.Ranges.{is_identifier}
 use Rattle.kmip_objects.specs.declared.state.KeyState.{KeyState}
 use Rattle.kmip_objects.specs.declared.state.KeyState.TheVariants.{PreActive}
-use Rattle.kmip_plan.specs.Chains.{place_reached}
+use Rattle.kmip_chains.specs.Chains.{place_reached}
 use Rattle.kmip_plan.specs.Plans.{IsLawful, IsPlanned, key_named}
-use Rattle.kmip_plan.specs.declared.key.Key.{Key}
+use Rattle.kmip_chains.specs.declared.key.Key.{Key}
 use Rattle.kmip_schedule.specs.Safe.{all_named}
 use Rattle.kmip_settling.specs.Lawbook.{Lawbook}
 use Rattle.kmip_settling.specs.Needs.{missing}

@@ -13,22 +13,22 @@ use Rattle.kmip_messages.specs.declared.reply.Reply.{Reply}
 use Rattle.kmip_messages.specs.declared.request.Ask.{Ask}
 use Rattle.kmip_messages.specs.declared.request.Ask.TheVariants as asks
 use Rattle.kmip_objects.specs.declared.step.Step.TheVariants as steps
-use Rattle.kmip_plan.specs.Chains.{step_place}
+use Rattle.kmip_chains.specs.Chains.{step_place}
 use Rattle.kmip_plan.specs.Laws.{NamesAreDistinct}
 use Rattle.kmip_plan.specs.Plans.{IsLawful}
-use Rattle.kmip_plan.specs.Words.{is_text}
-use Rattle.kmip_plan.specs.declared.key.Key.{Key}
-use Rattle.kmip_client.specs.declared.fault.HearFault.{HearFault}
-use Rattle.kmip_client.specs.declared.fault.HearFault.TheVariants as faults
+use Rattle.kmip_chains.specs.Words.{is_text}
+use Rattle.kmip_chains.specs.declared.key.Key.{Key}
+use Rattle.kmip_knowledge.specs.declared.fault.HearFault.{HearFault}
+use Rattle.kmip_knowledge.specs.declared.fault.HearFault.TheVariants as faults
 use Rattle.kmip_client.specs.declared.hearing.Heard.{Heard}
 use Rattle.kmip_client.specs.declared.hearing.News.{News}
-use Rattle.kmip_client.specs.declared.knowledge.Knowledge.{Knowledge}
+use Rattle.kmip_knowledge.specs.declared.knowledge.Knowledge.{Knowledge}
 use Rattle.kmip_client.specs.declared.question.Question.{Question}
 use Rattle.kmip_client.specs.Clients.{ClientState, lost_at, lost_working, changed_by}
 use Rattle.kmip_client.specs.Hearing.{is_asked_of, place_named, subject_at, subject_of, is_other_operation, has_failed, news_of, with_news, teach, with_heard, heard_by, heard_at, heard_in}
 use Rattle.kmip_client.specs.Justified.{MayAsk}
-use Rattle.kmip_client.specs.Knowledge.{is_working, lose}
-use Rattle.kmip_client.specs.Learning.{learn}
+use Rattle.kmip_knowledge.specs.Knowledge.{is_working, lose}
+use Rattle.kmip_knowledge.specs.Learning.{learn}
 use Rattle.kmip_schedule.specs.Moves.{HasFailed}
 use Rattle.kmip_settling.specs.Turns.{is_answer_to, taught_by}
 use Rattle.kmip_settling.proofs.FilterLemmas.{same_text}

@@ -3,17 +3,17 @@ use Rattle.std.proofs.Common.{◌≡◌, ◌≤◌, ◌<◌, ℕ, ◌+◌, ◌-�
 use Rattle.std.specs.Option.{option_map_or}
 use Rattle.std.proofs.lemmas.Bool.{cases_Bool, leb-true, leb-false, ltb-false, le-leb, eq-eqb, eqb-true}
 use Rattle.kmip_objects.specs.Objects.{Object, object_named}
-use Rattle.kmip_plan.specs.Chains.{chain, place_reached}
-use Rattle.kmip_plan.specs.Laws.{ReachedIsWithin}
-use Rattle.kmip_plan.specs.declared.key.Key.{Key}
-use Rattle.kmip_plan.specs.declared.target.Target.{Target}
-use Rattle.kmip_plan.specs.declared.target.Target.TheVariants as targets
-use Rattle.kmip_client.specs.declared.knowledge.Knowledge.{Knowledge}
-use Rattle.kmip_client.specs.declared.knowledge.Phase.{Phase}
-use Rattle.kmip_client.specs.declared.knowledge.Phase.TheVariants as phases
-use Rattle.kmip_client.specs.declared.knowledge.Verdict.TheVariants.{Working, Finished}
+use Rattle.kmip_chains.specs.Chains.{chain, place_reached}
+use Rattle.kmip_chains.specs.Laws.{ReachedIsWithin}
+use Rattle.kmip_chains.specs.declared.key.Key.{Key}
+use Rattle.kmip_chains.specs.declared.target.Target.{Target}
+use Rattle.kmip_chains.specs.declared.target.Target.TheVariants as targets
+use Rattle.kmip_knowledge.specs.declared.knowledge.Knowledge.{Knowledge}
+use Rattle.kmip_knowledge.specs.declared.knowledge.Phase.{Phase}
+use Rattle.kmip_knowledge.specs.declared.knowledge.Phase.TheVariants as phases
+use Rattle.kmip_knowledge.specs.declared.knowledge.Verdict.TheVariants.{Working, Finished}
 use Rattle.kmip_client.specs.Held.{IsHeld}
-use Rattle.kmip_client.specs.Knowledge.{chain_length, fresh_knowledge, clash_verdict, verdict_of, is_working}
+use Rattle.kmip_knowledge.specs.Knowledge.{chain_length, fresh_knowledge, clash_verdict, verdict_of, is_working}
 use Rattle.kmip_client.specs.Places.{position}
 use Rattle.kmip_settling.specs.Needs.{need_in, need_of}
 

@@ -16,15 +16,15 @@ use Rattle.kmip_messages.specs.declared.request.Ask.TheVariants as asks
 use Rattle.kmip_objects.specs.declared.attributes.KeyAttrs.{KeyAttrs}
 use Rattle.kmip_objects.specs.declared.state.KeyState.TheVariants.{PreActive}
 use Rattle.kmip_objects.specs.declared.step.Step.{Step}
-use Rattle.kmip_plan.specs.Chains.{or_zero, place_of, place_reached}
+use Rattle.kmip_chains.specs.Chains.{or_zero, place_of, place_reached}
 use Rattle.kmip_plan.specs.Plans.{key_fits}
-use Rattle.kmip_plan.specs.declared.key.Key.{Key}
-use Rattle.kmip_client.specs.declared.knowledge.Knowledge.{Knowledge}
-use Rattle.kmip_client.specs.declared.knowledge.Phase.{Phase}
-use Rattle.kmip_client.specs.declared.knowledge.Phase.TheVariants as phases
+use Rattle.kmip_chains.specs.declared.key.Key.{Key}
+use Rattle.kmip_knowledge.specs.declared.knowledge.Knowledge.{Knowledge}
+use Rattle.kmip_knowledge.specs.declared.knowledge.Phase.{Phase}
+use Rattle.kmip_knowledge.specs.declared.knowledge.Phase.TheVariants as phases
 use Rattle.kmip_client.specs.Held.{IsHeld}
-use Rattle.kmip_client.specs.Knowledge.{chain_length, lose, lost_phase}
-use Rattle.kmip_client.specs.Learning.{is_known, is_other, is_number, is_planned, is_named, learn}
+use Rattle.kmip_knowledge.specs.Knowledge.{chain_length, lose, lost_phase}
+use Rattle.kmip_knowledge.specs.Learning.{is_known, is_other, is_number, is_planned, is_named, learn}
 use Rattle.kmip_client.specs.Places.{position}
 use Rattle.kmip_client.specs.Shapes.{PhaseSuits}
 use Rattle.kmip_server.specs.ServerStep as rows

@@ -1,7 +1,7 @@
 -- Where the objects of the planned names are the plan's own, and nobody else has their names and identifiers.
 use Rattle.std.proofs.Common.{◌≡◌, List, option_to_list, Some, None, sym, ap, ◌∙◌}
 use Rattle.kmip_objects.specs.Objects.{Object}
-use Rattle.kmip_plan.specs.declared.key.Key.{Key}
+use Rattle.kmip_chains.specs.declared.key.Key.{Key}
 use Rattle.kmip_schedule.specs.Past.{Past}
 use Rattle.kmip_schedule.specs.Sound.{Sound}
 use Rattle.kmip_settling.specs.Laws.{NoneIsMade}

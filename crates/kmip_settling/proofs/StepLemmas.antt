@@ -12,12 +12,12 @@ use Rattle.kmip_messages.specs.declared.request.Ask.TheVariants as asks
 use Rattle.kmip_objects.specs.declared.state.KeyState.{KeyState}
 use Rattle.kmip_objects.specs.declared.step.Step.{Step}
 use Rattle.kmip_objects.specs.declared.step.Step.TheVariants.{Create, Activate, Revoke, Destroy}
-use Rattle.kmip_plan.specs.Chains.{place_reached, step_place}
-use Rattle.kmip_plan.specs.declared.key.Key.{Key}
-use Rattle.kmip_client.specs.declared.knowledge.Knowledge.{Knowledge}
-use Rattle.kmip_client.specs.declared.knowledge.Phase.TheVariants as phases
-use Rattle.kmip_client.specs.Knowledge.{chain_length, lose, lost_phase}
-use Rattle.kmip_client.specs.Learning.{is_known, raise, learn}
+use Rattle.kmip_chains.specs.Chains.{place_reached, step_place}
+use Rattle.kmip_chains.specs.declared.key.Key.{Key}
+use Rattle.kmip_knowledge.specs.declared.knowledge.Knowledge.{Knowledge}
+use Rattle.kmip_knowledge.specs.declared.knowledge.Phase.TheVariants as phases
+use Rattle.kmip_knowledge.specs.Knowledge.{chain_length, lose, lost_phase}
+use Rattle.kmip_knowledge.specs.Learning.{is_known, raise, learn}
 use Rattle.kmip_client.specs.Places.{position}
 use Rattle.kmip_client.specs.Questions.{step_ask}
 use Rattle.kmip_server.specs.ServerStep as rows

@@ -4,14 +4,15 @@ use Rattle.std.specs.List.{slice_get}
 use Rattle.std.specs.Option.{is_none}
 use Rattle.std.proofs.lemmas.Option.{same_Some}
 use Rattle.kmip_objects.specs.Objects.{Object, object_named}
-use Rattle.kmip_plan.specs.Chains.{place_reached, bound}
-use Rattle.kmip_plan.specs.Laws.{BoundsAddUp, ReachedIsWithin}
-use Rattle.kmip_plan.specs.declared.key.Key.{Key}
-use Rattle.kmip_client.specs.declared.knowledge.Knowledge.{Knowledge}
-use Rattle.kmip_client.specs.declared.knowledge.Verdict.TheVariants.{Finished}
+use Rattle.kmip_chains.specs.Chains.{place_reached, bound}
+use Rattle.kmip_plan.specs.Laws.{BoundsAddUp}
+use Rattle.kmip_chains.specs.Laws.{ReachedIsWithin}
+use Rattle.kmip_chains.specs.declared.key.Key.{Key}
+use Rattle.kmip_knowledge.specs.declared.knowledge.Knowledge.{Knowledge}
+use Rattle.kmip_knowledge.specs.declared.knowledge.Verdict.TheVariants.{Finished}
 use Rattle.kmip_client.specs.Clients.{one_if, verdict_at, AreSettled}
 use Rattle.kmip_client.specs.Held.{IsHeld, Held}
-use Rattle.kmip_client.specs.Knowledge.{chain_length, fresh_knowledge}
+use Rattle.kmip_knowledge.specs.Knowledge.{chain_length, fresh_knowledge}
 use Rattle.kmip_client.specs.Places.{position}
 use Rattle.kmip_settling.specs.Needs.{need_of, need_all, chains_and_looks, missing}
 use Rattle.kmip_settling.proofs.NeedLemmas.{place_in, need_by, key_most, key_finished, key_settled, key_at_the_end, key_fresh}

@@ -10,16 +10,16 @@ use Rattle.kmip_messages.specs.Whole.{reply_read}
 use Rattle.kmip_messages.specs.declared.reply.Outcome.{Outcome}
 use Rattle.kmip_messages.specs.declared.reply.Reply.{Reply}
 use Rattle.kmip_messages.specs.declared.request.Request.{Request}
-use Rattle.kmip_plan.specs.Chains.{step_at, step_place}
+use Rattle.kmip_chains.specs.Chains.{step_at, step_place}
 use Rattle.kmip_plan.specs.Plans.{IsLawful}
-use Rattle.kmip_plan.specs.declared.key.Key.{Key}
-use Rattle.kmip_client.specs.declared.knowledge.Knowledge.{Knowledge}
-use Rattle.kmip_client.specs.declared.knowledge.Phase.{Phase}
-use Rattle.kmip_client.specs.declared.knowledge.Phase.TheVariants as phases
+use Rattle.kmip_chains.specs.declared.key.Key.{Key}
+use Rattle.kmip_knowledge.specs.declared.knowledge.Knowledge.{Knowledge}
+use Rattle.kmip_knowledge.specs.declared.knowledge.Phase.{Phase}
+use Rattle.kmip_knowledge.specs.declared.knowledge.Phase.TheVariants as phases
 use Rattle.kmip_client.specs.declared.question.Question.{Question}
 use Rattle.kmip_client.specs.Clients.{IsAbout}
 use Rattle.kmip_client.specs.Hearing.{first_heard, heard_in, unreadable}
-use Rattle.kmip_client.specs.Knowledge.{chain_length, is_working}
+use Rattle.kmip_knowledge.specs.Knowledge.{chain_length, is_working}
 use Rattle.kmip_client.specs.Questions.{phase_ask, next_ask, step_ask, ask_about, request_about}
 use Rattle.kmip_client.specs.Shapes.{PhaseSuits}
 use Rattle.kmip_schedule.specs.Calm.{AreTaken, IsServed, Calmly}

@@ -1,19 +1,21 @@
 -- Private: the laws of the crates below that the laws here rest on, in one record.
 -- Source: own.
 use Rattle.kmip_objects.specs.ObjectLaws.{NamedIsAll, IdentifiedIsAll, NamedIsIdentified, OwnIsRestated, OtherIsKept, RestatedKeeps, NamedIsRestated}
-use Rattle.kmip_plan.specs.Laws.{
+use Rattle.kmip_chains.specs.Laws.{
   NextStepsStand,
   PlacesAreWithin,
   ReachedIsWithin,
   PreActiveIsFirst,
   DueStepsAdvance,
   NextStepsAreRows,
+  ReachedIsNoLess,
+}
+use Rattle.kmip_plan.specs.Laws.{
   KeysAreFound,
   NamesAreDistinct,
   KeysFit,
   ReasonsAreNoCompromise,
   BoundsAddUp,
-  ReachedIsNoLess,
   OldKeysStand,
 }
 use Rattle.kmip_client.specs.Laws.{AsksWhatItMay}

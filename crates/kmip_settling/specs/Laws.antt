@@ -2,16 +2,16 @@
 -- Source: own: what the laws say.
 use Rattle.std.specs.Prelude.{◌≡◌, ◌≤◌, ◌<◌, ℕ, ◌+◌, List, length, Option, Some, None, Ok, slice_get}
 use Rattle.kmip_objects.specs.Objects.{Object, object_named}
-use Rattle.kmip_plan.specs.Chains.{bound}
+use Rattle.kmip_chains.specs.Chains.{bound}
 use Rattle.kmip_plan.specs.Plans.{IsLawful, IsPlanned}
 use Rattle.kmip_plan.specs.Prolonging.{Prolongs}
-use Rattle.kmip_plan.specs.declared.key.Key.{Key}
-use Rattle.kmip_client.specs.declared.knowledge.Knowledge.{Knowledge}
-use Rattle.kmip_client.specs.declared.knowledge.Verdict.TheVariants.{Finished}
+use Rattle.kmip_chains.specs.declared.key.Key.{Key}
+use Rattle.kmip_knowledge.specs.declared.knowledge.Knowledge.{Knowledge}
+use Rattle.kmip_knowledge.specs.declared.knowledge.Verdict.TheVariants.{Finished}
 use Rattle.kmip_client.specs.declared.question.Question.{Question}
 use Rattle.kmip_client.specs.Clients.{fresh, verdict_at, IsAbout, AreSettled}
 use Rattle.kmip_client.specs.Held.{Held}
-use Rattle.kmip_client.specs.Knowledge.{chain_length}
+use Rattle.kmip_knowledge.specs.Knowledge.{chain_length}
 use Rattle.kmip_client.specs.Places.{position}
 use Rattle.kmip_schedule.specs.Calm.{CalmlyExchanged}
 use Rattle.kmip_schedule.specs.Past.{Past, Names}

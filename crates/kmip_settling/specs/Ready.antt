@@ -5,8 +5,8 @@ use Rattle.std.specs.Prelude.{◌≡◌, ◌≤◌, ℕ, ◌+◌, nat_eq, List, 
 use Rattle.std.specs.Cmp.Lexicographic.{pointwise}
 use Rattle.kmip_objects.specs.Objects.{Object, object_named}
 use Rattle.kmip_plan.specs.Plans.{IsPlanned}
-use Rattle.kmip_plan.specs.declared.key.Key.{Key}
-use Rattle.kmip_client.specs.declared.knowledge.Knowledge.{Knowledge}
+use Rattle.kmip_chains.specs.declared.key.Key.{Key}
+use Rattle.kmip_knowledge.specs.declared.knowledge.Knowledge.{Knowledge}
 use Rattle.kmip_client.specs.Held.{Held}
 use Rattle.kmip_schedule.specs.Safe.{all_named}
 use Rattle.kmip_schedule.specs.Sound.{IsObjectOf}

@@ -15,12 +15,12 @@ ghost use Rattle.kmip_settling.specs.Laws.{
 };
 ghost use Rattle.kmip_settling.specs.Lawbook.{Lawbook};
 
+use kmip_chains::laws::{
+    due_steps_advance, further_ways_keep_places, states_have_places, steps_have_places,
+};
 use kmip_client::laws::what_is_asked_may_be;
 use kmip_objects::laws::{added_laws, found_laws, restated_laws};
-use kmip_plan::laws::{
-    bounds_add_up, due_steps_advance, further_ways_keep_places, keys_fit, keys_have_names,
-    prolonged_keys_stand, states_have_places, steps_have_places,
-};
+use kmip_plan::laws::{bounds_add_up, keys_fit, keys_have_names, prolonged_keys_stand};
 use kmip_server::laws::a_name_is_found;
 
 /// The laws of the crates below.

@@ -5,7 +5,7 @@ use Rattle.std.specs.Fmt.{decimal}
 use Rattle.std.specs.Io.KnownBytes.{Appends}
 use Rattle.kmip_plan.specs.Prolonging.{Prolongs}
 use Rattle.kmip_plan.specs.declared.fault.PlanFault.{PlanFault}
-use Rattle.kmip_plan.specs.declared.key.Key.{Key}
+use Rattle.kmip_chains.specs.declared.key.Key.{Key}
 use Rattle.kmip_session.specs.declared.campaigning.CampaignEnd.{CampaignEnd}
 use Rattle.kmip_scripted.specs.Scenes.{Scene, past_in}
 use Rattle.kmip_scripted.specs.Words.{prolongings}
@@ -16,7 +16,7 @@ use Rattle.kmip_simulation.specs.Tracing.{trace_text}
 use Rattle.kmip_sim.specs.declared.detail.Detail.{Detail}
 use Rattle.kmip_sim.specs.declared.detail.Detail.TheVariants.{Exchanges}
 use Rattle.kmip_ttlv.specs.declared.fault.NoMemory.{NoMemory}
-use Rattle.kmip_commands.specs.Checking.{plan_refusal_text}
+use Rattle.kmip_check.specs.Checking.{plan_refusal_text}
 
 -- the first line, from 1, that is no word of a script; or 0, where each line is one, and `prolong` does not stand as often as it has to
 unfoldable pub script_refusal_text : ℕ → List ℕ

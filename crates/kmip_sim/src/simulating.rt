@@ -2,7 +2,7 @@
 ghost use Rattle.std.specs.Prelude.{◌≡◌, ◌++◌, [], false, true, None, Some, Ok, IfOk, IfErr, OnErr, OnOk, option_map, string_bytes};
 ghost use Rattle.kmip_plan.specs.Prolonging.{Prolongs};
 ghost use Rattle.kmip_plan.specs.Reading.{plan_read};
-ghost use Rattle.kmip_commands.specs.Checking.{is_memory};
+ghost use Rattle.kmip_check.specs.Checking.{is_memory};
 ghost use Rattle.kmip_commands.specs.Printing.{IfFailed, IfWhole, UnlessOutput, fault_line};
 ghost use Rattle.kmip_scripted.specs.Words.{prolongings};
 ghost use Rattle.kmip_sim.specs.Simulating.{
@@ -22,7 +22,8 @@ ghost use Rattle.kmip_sim.specs.Simulating.{
 };
 
 use crate::detail::Detail;
-use kmip_commands::{CommandFault, ExitStatus, finished, push_refusal, push_text, send};
+use kmip_check::push_refusal;
+use kmip_commands::{CommandFault, ExitStatus, finished, push_text, send};
 use kmip_plan::{Plan, PlanFault, prolongs, read_plan};
 use kmip_scripted::{Script, ScriptFault, read_script};
 use kmip_simulation::{Simulation, push_simulation, push_trace, simulate, simulate_plans};

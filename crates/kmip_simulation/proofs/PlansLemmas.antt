@@ -1,6 +1,6 @@
 -- Two plans.
 use Rattle.std.proofs.Common.{◌≡◌, List, [], ◌∷◌, get_or, length, arith}
-use Rattle.kmip_plan.specs.declared.key.Key.{Key}
+use Rattle.kmip_chains.specs.declared.key.Key.{Key}
 use Rattle.kmip_session.specs.Campaigns.{last_plan}
 
 -- the second of two plans is the last

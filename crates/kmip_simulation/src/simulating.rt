@@ -1,6 +1,6 @@
 //! A campaign over a link in memory that follows a script.
 ghost use Rattle.std.specs.Prelude.{◌≡◌, List, length, IfOk};
-ghost use Rattle.kmip_plan.specs.declared.key.Key.{Key};
+ghost use Rattle.kmip_chains.specs.declared.key.Key.{Key};
 ghost use Rattle.kmip_schedule.specs.Sound.{Opening};
 ghost use Rattle.kmip_scripted.specs.Scenes.{past_in};
 ghost use Rattle.kmip_scripted.specs.Words.{prolongings};

@@ -1,8 +1,8 @@
 -- No key before this place is in conflict.
 use Rattle.std.proofs.Common.{◌≢◌, ◌<◌, ℕ}
 use Rattle.kmip_client.specs.Clients.{verdict_at}
-use Rattle.kmip_client.specs.declared.clash.Clash.{Clash}
-use Rattle.kmip_client.specs.declared.knowledge.Verdict.TheVariants.{Conflict}
+use Rattle.kmip_knowledge.specs.declared.clash.Clash.{Clash}
+use Rattle.kmip_knowledge.specs.declared.knowledge.Verdict.TheVariants.{Conflict}
 use Rattle.kmip_session.proofs.driving.stop_of.Given as goal
 
 abbrev pub invariant-loop-place : goal.invariant-loop-place

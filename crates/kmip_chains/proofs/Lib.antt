@@ -1,0 +1,3 @@
+mod ChainLemmas
+mod PlaceLemmas
+mod TargetLemmas

@@ -1,0 +1,3 @@
+pub mod Words
+pub mod Chains
+pub mod Laws

@@ -1,0 +1,50 @@
+-- The number and the name of each fault and of each clash.
+-- Source: own.
+use Rattle.std.specs.Prelude.{ℕ, List, ◌++◌, codes}
+use Rattle.kmip_knowledge.specs.declared.clash.Clash.{Clash}
+use Rattle.kmip_knowledge.specs.declared.clash.Clash.TheVariants as clashes
+use Rattle.kmip_knowledge.specs.declared.fault.HearFault.{HearFault}
+use Rattle.kmip_knowledge.specs.declared.fault.HearFault.TheVariants.{
+  Unreadable,
+  StrangerId,
+  WrongOperation,
+  OtherIdentifier,
+  OtherName,
+  NoMemory,
+}
+
+abbrev pub hear_fault_number : HearFault → ℕ
+hear_fault_number (Unreadable fault) = 1
+hear_fault_number StrangerId = 2
+hear_fault_number WrongOperation = 3
+hear_fault_number OtherIdentifier = 4
+hear_fault_number OtherName = 5
+hear_fault_number NoMemory = 6
+
+abbrev pub hear_fault_name : HearFault → List ℕ
+hear_fault_name (Unreadable fault) = codes "Unreadable"
+hear_fault_name StrangerId = codes "StrangerId"
+hear_fault_name WrongOperation = codes "WrongOperation"
+hear_fault_name OtherIdentifier = codes "OtherIdentifier"
+hear_fault_name OtherName = codes "OtherName"
+hear_fault_name NoMemory = codes "NoMemory"
+
+abbrev pub clash_number : Clash → ℕ
+clash_number clashes.Attributes = 1
+clash_number clashes.State = 2
+clash_number clashes.TwoObjects = 3
+
+abbrev pub clash_name : Clash → List ℕ
+clash_name clashes.Attributes = codes "Attributes"
+clash_name clashes.State = codes "State"
+clash_name clashes.TwoObjects = codes "TwoObjects"
+
+-- what a clash is, in an operator's words
+abbrev pub clash_words : Clash → List ℕ
+clash_words clashes.Attributes = codes "another object has this name (attributes differ)"
+clash_words clashes.State = codes "its object is in a state that the plan does not lead through"
+clash_words clashes.TwoObjects = codes "more than one object has this name"
+
+-- the same with the name of the key
+abbrev pub clash_told : List ℕ → Clash → List ℕ
+clash_told name clash = codes "key " ++ name ++ codes ": " ++ clash_words clash

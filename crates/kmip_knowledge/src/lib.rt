@@ -1,0 +1,12 @@
+//! What is known of one key of a plan, and what the outcome of a question teaches of it.
+#![tactic(auto)]
+
+mod clash;
+mod fault;
+mod knowledge;
+mod learning;
+
+pub use clash::Clash;
+pub use fault::HearFault;
+pub use knowledge::{Knowledge, Phase, Verdict, lost_phase};
+pub use learning::learn;
