@@ -41,9 +41,11 @@ use crate::saving::{all_knowledge, all_known, count_working};
 use crate::standing::{all_counts, all_verdicts};
 use crate::subject::subject_of;
 use kmip_chains::Key;
+use kmip_chains::laws::{states_have_places, steps_have_places};
 use kmip_knowledge::{HearFault, Knowledge, Verdict};
 use kmip_messages::{MessageFault, Reply, read_reply};
-use kmip_plan::{Plan, laws};
+use kmip_plan::Plan;
+use kmip_plan::laws::keys_have_names;
 use kmip_progress::Progress;
 use kmip_ttlv::{NoMemory, Text};
 use std::alloc::Global;
@@ -199,8 +201,8 @@ impl<'p> Client<'p> {
             → TrueReply self.old.keys objects reply
             → Held objects self.new.keys self.new.knowns }
     {
-        laws::steps_have_places();
-        laws::states_have_places();
+        steps_have_places();
+        states_have_places();
         let keys = self.plan.keys();
         let subject = subject_of(keys, self.next.saturating_sub(1), &reply.id);
         hear_about(keys, &mut self.knowns, &mut self.working, subject, reply)
@@ -338,8 +340,8 @@ fn question_at(
     ensures question { IfOk result (λ q. question_at keys.now knowns.now place ≡ Some q) }
     ensures about { IfOk result (λ q. IsAbout keys.now knowns.now q) }
 {
-    laws::steps_have_places();
-    laws::keys_have_names();
+    steps_have_places();
+    keys_have_names();
     let key = &keys[place];
     let known = &knowns[place];
     question_about(alloc, place, key, known)

@@ -14,12 +14,12 @@ ghost use Rattle.kmip_client.specs.Questions.{
 };
 ghost use Rattle.kmip_client.specs.Shapes.{IsShaped};
 
+use kmip_chains::laws::steps_have_places;
 use kmip_chains::{Key, chain};
 use kmip_knowledge::{Knowledge, Phase};
 use kmip_messages::{Ask, Request, write_request};
-use kmip_objects::Attrs;
 use kmip_objects::standard::{STORAGE_DESTROYED, STORAGE_ON_LINE};
-use kmip_plan::{Step, laws};
+use kmip_objects::{Attrs, Step};
 use kmip_ttlv::{Bytes, NoMemory, Text};
 use std::alloc::Global;
 
@@ -52,7 +52,7 @@ pub(crate) fn question_about(
     ensures question { IfOk result (λ q. q ≡ question_about place key.now known.now) }
     ensures asks { IfOk result (λ q. AsksAlone q.bytes (request_about key.now known.now)) }
 {
-    laws::steps_have_places();
+    steps_have_places();
     let request = request_about(alloc, key, known)?;
     let operation = request.ask.operation();
     let bytes = write_request(alloc, &request)?;

@@ -9,7 +9,8 @@ use kmip_messages::standard::{
     OPERATION_ACTIVATE, OPERATION_CREATE, OPERATION_DESTROY, OPERATION_GET_ATTRIBUTES,
     OPERATION_LOCATE, OPERATION_REVOKE,
 };
-use kmip_plan::{Step, laws};
+use kmip_objects::Step;
+use kmip_plan::laws::keys_have_names;
 use kmip_ttlv::Bytes;
 
 /// The key and the operation that an id names.
@@ -89,7 +90,7 @@ fn place_named(keys: &[Key], likely: usize, name: &[u8]) -> Option<usize>
     requires { IsLawful keys.now }
     ensures { result ≡ place_named name.now keys.now }
 {
-    laws::keys_have_names();
+    keys_have_names();
     if is_named_at(keys, likely, name) {
         return Some(likely);
     }

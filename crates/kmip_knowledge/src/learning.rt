@@ -25,8 +25,7 @@ use crate::knowledge::{Knowledge, Phase};
 use kmip_chains::{Key, place_of, step_place};
 use kmip_messages::Outcome;
 use kmip_objects::standard::OBJECT_TYPE_SYMMETRIC_KEY;
-use kmip_objects::{Attrs, Texts};
-use kmip_plan::Step;
+use kmip_objects::{Attrs, Step, Texts};
 use kmip_ttlv::Text;
 
 /// Learns from an outcome about a key that is worked on.
