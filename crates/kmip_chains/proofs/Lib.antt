@@ -1,3 +1,3 @@
 mod ChainLemmas
 mod PlaceLemmas
-mod TargetLemmas
+pub mod TargetLemmas

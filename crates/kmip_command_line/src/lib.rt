@@ -1,12 +1,9 @@
 //! The words of the command line of `kmipctl`, what they ask for, and the program that does it.
 #![tactic(auto)]
 
-ghost use Rattle.std.specs.Prelude.{◌≡◌, IfOk, option_map, string_bytes, if◌then◌else◌};
+ghost use Rattle.std.specs.Prelude.{◌≡◌};
 ghost use Rattle.clap.specs.Words.{kind_of};
-ghost use Rattle.kmip_commands.specs.declared.showing.Form.TheVariants.{Text, Canonical};
-ghost use Rattle.kmip_command_line.specs.declared.Choice.TheVariants.{Answer, AnswerStream};
-ghost use Rattle.kmip_command_line.specs.Choices.{IsCheckOf, IsSimulationOf, status_of};
-ghost use Rattle.kmip_sim.specs.declared.detail.Detail.TheVariants.{Runs, Exchanges};
+ghost use Rattle.kmip_command_line.specs.Statuses.{status_of};
 
 mod help;
 mod network;
@@ -18,49 +15,14 @@ use help::{
     ABOUT, AFTER, AFTER_HELP, ANSWER, ANSWER_LONG, CANON, CHECK, CHECK_LONG, PLAN, SCRIPT, SHOW,
     SHOW_LONG, SIM, SIM_LONG, STREAM, THEN, TRACE, WRONG_ADDRESS,
 };
-use kmip_commands::{CommandFault, ExitStatus, Form};
-pub use kmip_network::{Peer, RunOptions, ServeOptions};
-use kmip_sim::Detail;
+use kmip_choices::{Choice, answer_of, check_of, detail_of, form_of, simulation_of};
+use kmip_commands::{CommandFault, ExitStatus};
 use network::{flag, run_command, run_options, serve_command, serve_options};
 pub use running::run;
 use std::alloc::{AllocError, Global};
 
 /// The number of this version.
 const VERSION: &str = "0.2.0";
-
-/// What the command line asks for.
-#[derive(Debug, PartialEq, Eq, Drop)]
-pub enum Choice {
-    /// Answer a message a line.
-    Answer,
-    /// Answer the messages of the stream that the lines are pieces of.
-    AnswerStream,
-    Show(Form),
-    /// Check the plan at this path.
-    Check(String),
-    /// Check the plan at the first path, and whether it prolongs the one at the other.
-    CheckAfter {
-        /// The path of the plan.
-        plan: String,
-        /// The path of the earlier plan.
-        earlier: String,
-    },
-    /// Carry out a plan over a network that follows a script, or two plans in turn.
-    Simulate {
-        /// The path of the plan.
-        plan: String,
-        /// The path of the further plan, where there is one.
-        further: Option<String>,
-        /// The path of the script.
-        script: String,
-        /// How much is told of it.
-        detail: Detail,
-    },
-    /// Carry out a plan over a network.
-    Run(RunOptions),
-    /// Serve connections.
-    Serve(ServeOptions),
-}
 
 /// What the words ask for; the first is the program's name.
 ///
@@ -96,88 +58,6 @@ pub fn chosen(alloc: Global, words: &[String]) -> Result<Choice, Error> {
 fn wrong_address(alloc: Global) -> Result<Error, AllocError> {
     let mut command = run_command(alloc)?;
     command.error(ErrorKind::ValueValidation, WRONG_ADDRESS)
-}
-
-/// How to answer, by whether the lines are pieces of a stream.
-fn answer_of(is_stream: bool) -> Choice
-    ensures { result ≡ (if is_stream then AnswerStream else Answer) }
-{
-    if is_stream {
-        Choice::AnswerStream
-    } else {
-        Choice::Answer
-    }
-}
-
-/// The form that `show` prints, by whether it was asked for the canonical one.
-fn form_of(is_canonical: bool) -> Form
-    ensures { result ≡ (if is_canonical then Canonical else Text) }
-{
-    if is_canonical {
-        Form::Canonical
-    } else {
-        Form::Text
-    }
-}
-
-/// What to check: the plan at a path, after the earlier one where there is a path of one.
-fn check_of(alloc: Global, plan: &str, earlier: Option<&str>) -> Result<Choice, AllocError>
-    ensures { IfOk result
-        (IsCheckOf plan.now (option_map (λ path. path.now) earlier.entry)) }
-{
-    let plan = String::from_str(alloc, plan)?;
-    match earlier {
-        Some(earlier) => {
-            let earlier = String::from_str(alloc, earlier)?;
-            Ok(Choice::CheckAfter { plan, earlier })
-        }
-        None => Ok(Choice::Check(plan)),
-    }
-}
-
-/// How much to tell of a simulation, by whether it was asked for each exchange.
-fn detail_of(is_traced: bool) -> Detail
-    ensures { result ≡ (if is_traced then Exchanges else Runs) }
-{
-    if is_traced {
-        Detail::Exchanges
-    } else {
-        Detail::Runs
-    }
-}
-
-/// What to simulate: the plan at a path, and then the further one where there is a path of one, over
-/// the script at another; and how much to tell of it.
-fn simulation_of(
-    alloc: Global,
-    plan: &str,
-    further: Option<&str>,
-    script: &str,
-    detail: Detail,
-) -> Result<Choice, AllocError>
-    ensures { IfOk result (IsSimulationOf plan.now
-        (option_map (λ path. path.now) further.entry) script.now detail) }
-{
-    let plan = String::from_str(alloc, plan)?;
-    let further = path_of(alloc, further)?;
-    let script = String::from_str(alloc, script)?;
-    Ok(Choice::Simulate {
-        plan,
-        further,
-        script,
-        detail,
-    })
-}
-
-/// A path as an owned text, where there is one.
-fn path_of(alloc: Global, path: Option<&str>) -> Result<Option<String>, AllocError>
-    ensures { IfOk result (λ copy. option_map (λ text. string_bytes text) copy
-        ≡ option_map (λ path. path.now) path.entry) }
-{
-    match path {
-        Some(path) => Ok(Some(String::from_str(alloc, path)?)),
-        None => Ok(None),
-    }
 }
 
 /// How the program ends after it printed the text of `error`: `Done` for help and the version, and

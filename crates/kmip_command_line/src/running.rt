@@ -1,11 +1,9 @@
-//! The program, over standard input, files and standard output.
+//! The program: what its command line asks for, done.
 
-use crate::{Choice, chosen, status_of};
-use kmip_check::{check_after_bytes, run_check, run_check_after};
-use kmip_commands::{CommandFault, ExitStatus, Form, run_answer, run_answer_stream, run_show};
-use kmip_network::{refusal_of, run_plan, serve, text_or_why_not};
-use kmip_sim::{Detail, run_sim};
-use std::io::{BufReader, BufWriter, Error, ErrorKind};
+use crate::{chosen, status_of};
+use kmip_choices::carry_out;
+use kmip_commands::{CommandFault, ExitStatus};
+use std::io::{Error, ErrorKind};
 use std::process::ExitCode;
 use std::{env, io};
 
@@ -42,23 +40,7 @@ fn run_command(rt: &HostRuntime) -> io::Result<ExitStatus> {
         words.push(word)?;
     }
     match chosen(rt.alloc(), words.as_slice()) {
-        Ok(Choice::Answer) => answer_input(rt),
-        Ok(Choice::AnswerStream) => answer_stream_input(rt),
-        Ok(Choice::Show(form)) => show_input(rt, form),
-        Ok(Choice::Check(path)) => check_plan(rt, path.as_str()),
-        Ok(Choice::CheckAfter { plan, earlier }) => {
-            check_plan_after(rt, plan.as_str(), earlier.as_str())
-        }
-        Ok(
-            Choice::Simulate {
-                plan,
-                further,
-                script,
-                detail,
-            },
-        ) => simulate_files(rt, detail, plan.as_str(), further, script.as_str()),
-        Ok(Choice::Run(options)) => run_plan(rt, &options),
-        Ok(Choice::Serve(options)) => serve(rt, &options),
+        Ok(choice) => carry_out(rt, choice),
         Err(error) => {
             let status = status_of(&error);
             if status == ExitStatus::Failed(CommandFault::NoMemory) {
@@ -68,143 +50,4 @@ fn run_command(rt: &HostRuntime) -> io::Result<ExitStatus> {
             Ok(status)
         }
     }
-}
-
-/// The command `answer` from standard input to standard output.
-fn answer_input(rt: &HostRuntime) -> io::Result<ExitStatus> {
-    let mut reader = BufReader::new(rt.alloc(), rt.reader())?;
-    let mut writer = BufWriter::new(rt.alloc(), io::writer(rt))?;
-    Ok(run_answer(rt.alloc(), &mut reader, &mut writer))
-}
-
-/// The command `answer --stream` from standard input to standard output.
-fn answer_stream_input(rt: &HostRuntime) -> io::Result<ExitStatus> {
-    let mut reader = BufReader::new(rt.alloc(), rt.reader())?;
-    let mut writer = BufWriter::new(rt.alloc(), io::writer(rt))?;
-    Ok(run_answer_stream(rt.alloc(), &mut reader, &mut writer))
-}
-
-/// The command `show` from standard input to standard output.
-fn show_input(rt: &HostRuntime, form: Form) -> io::Result<ExitStatus> {
-    let mut reader = BufReader::new(rt.alloc(), rt.reader())?;
-    let mut writer = BufWriter::new(rt.alloc(), io::writer(rt))?;
-    Ok(run_show(rt.alloc(), form, &mut reader, &mut writer))
-}
-
-/// The command `check` from a file to standard output.
-fn check_plan(rt: &HostRuntime, path: &str) -> io::Result<ExitStatus> {
-    let Some(plan) = text_or_why_not(rt, path)? else {
-        return Ok(ExitStatus::Refused);
-    };
-    let mut writer = BufWriter::new(rt.alloc(), io::writer(rt))?;
-    Ok(run_check(rt.alloc(), plan.as_str(), &mut writer))
-}
-
-/// The command `check --after` from two files to standard output.
-fn check_plan_after(rt: &HostRuntime, path: &str, earlier_path: &str) -> io::Result<ExitStatus> {
-    let (plan, earlier) = match plan_and_other(rt, path, earlier_path)? {
-        Ok(texts) => texts,
-        Err(status) => return Ok(status),
-    };
-    let mut writer = BufWriter::new(rt.alloc(), io::writer(rt))?;
-    Ok(run_check_after(rt.alloc(), plan.as_str(), earlier.as_str(), &mut writer))
-}
-
-/// The command `sim`, from the files of one plan or of two.
-fn simulate_files(
-    rt: &HostRuntime,
-    detail: Detail,
-    path: &str,
-    further_path: Option<String>,
-    script_path: &str,
-) -> io::Result<ExitStatus> {
-    match further_path {
-        Some(further_path) => {
-            simulate_plans(rt, detail, path, further_path.as_str(), script_path)
-        }
-        None => simulate_plan(rt, detail, path, script_path),
-    }
-}
-
-/// The command `sim` from two files to standard output.
-fn simulate_plan(
-    rt: &HostRuntime,
-    detail: Detail,
-    path: &str,
-    script_path: &str,
-) -> io::Result<ExitStatus> {
-    let (plan, script) = match plan_and_other(rt, path, script_path)? {
-        Ok(texts) => texts,
-        Err(status) => return Ok(status),
-    };
-    simulate(rt, detail, plan.as_str(), None, script.as_str())
-}
-
-/// The command `sim --then` from three files to standard output. The script is read once both plans
-/// are judged.
-fn simulate_plans(
-    rt: &HostRuntime,
-    detail: Detail,
-    path: &str,
-    further_path: &str,
-    script_path: &str,
-) -> io::Result<ExitStatus> {
-    let (plan, further) = match plan_and_other(rt, path, further_path)? {
-        Ok(texts) => texts,
-        Err(status) => return Ok(status),
-    };
-    if is_refused_after(rt, further.as_str(), plan.as_str()) {
-        return simulate(rt, detail, plan.as_str(), Some(further.as_str()), "");
-    }
-    let Some(script) = text_or_why_not(rt, script_path)? else {
-        return Ok(ExitStatus::Refused);
-    };
-    simulate(
-        rt,
-        detail,
-        plan.as_str(),
-        Some(further.as_str()),
-        script.as_str(),
-    )
-}
-
-/// Whether a text is no plan, or none that prolongs an earlier one. Where memory runs out it is not
-/// said to be so; what is done with it then says so.
-fn is_refused_after(rt: &HostRuntime, plan: &str, earlier: &str) -> bool {
-    let mut text = Vec::new(rt.alloc());
-    matches!(
-        check_after_bytes(rt.alloc(), plan, earlier, &mut text),
-        Ok(true)
-    )
-}
-
-/// Simulates a plan, and a further one where there is one, to standard output.
-fn simulate(
-    rt: &HostRuntime,
-    detail: Detail,
-    plan: &str,
-    further: Option<&str>,
-    script: &str,
-) -> io::Result<ExitStatus> {
-    let mut writer = BufWriter::new(rt.alloc(), io::writer(rt))?;
-    Ok(run_sim(rt.alloc(), detail, plan, further, script, &mut writer))
-}
-
-/// The texts of a plan's file and of another. Where the first is no plan, or a file has no text, that
-/// is printed, and the answer is how the program ends.
-fn plan_and_other(
-    rt: &HostRuntime,
-    path: &str,
-    other_path: &str,
-) -> io::Result<Result<(String, String), ExitStatus>> {
-    let Some(plan) = text_or_why_not(rt, path)? else {
-        return Ok(Err(ExitStatus::Refused));
-    };
-    if let Some(status) = refusal_of(rt, plan.as_str())? {
-        return Ok(Err(status));
-    }
-    let Some(other) = text_or_why_not(rt, other_path)? else {
-        return Ok(Err(ExitStatus::Refused));
-    };
-    Ok(Ok((plan, other)))
 }

@@ -52,7 +52,7 @@ pub record TellsRuns (detail : Detail) (prolonged : ℕ) (Holds : List Word → 
 
 -- so a script without `prolong` was simulated for these keys
 abbrev pub TellsSimulation : Detail → List Key → Result Bool NoMemory → List ℕ → Type 0
-TellsSimulation detail keys ended text = TellsRuns detail 0 (λ words end link. IsSimulated keys words end (past_in link)) ended text
+TellsSimulation detail keys ended text = TellsRuns detail 0 (λ words end link. IsSimulated keys words end link) ended text
 
 -- so a script with one `prolong` was simulated for these keys and, behind that word, for the further ones
 abbrev pub TellsSimulations : Detail → List Key → List Key → Result Bool NoMemory → List ℕ → Type 0

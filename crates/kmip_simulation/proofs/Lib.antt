@@ -1,2 +1,3 @@
+mod RoomLemmas
 pub mod PlansLemmas
 pub mod TextLemmas

@@ -8,7 +8,9 @@ use Rattle.kmip_schedule.specs.Machine.{IsMirrored}
 use Rattle.kmip_schedule.specs.Past.{Names, Past}
 use Rattle.kmip_schedule.specs.Safe.{Safe}
 use Rattle.kmip_schedule.specs.Sound.{Opening, Sound}
-use Rattle.kmip_session.specs.Campaign.{HasNoConflict, IsEnd, reported, saves}
+use Rattle.kmip_session.specs.Campaign.{CalmLink, HasNoConflict, IsEnd, Settles, reported, saves}
+use Rattle.kmip_session.specs.Driving.{WentOn}
+use Rattle.kmip_session.specs.Remembering.{AreKnown}
 use Rattle.kmip_session.specs.Campaigns.{AreInTurn, CalmStart, IsTrueFor, last_plan}
 use Rattle.kmip_session.specs.declared.campaigning.CampaignEnd.{CampaignEnd}
 use Rattle.kmip_session.specs.declared.campaigning.Run.{Run}
@@ -20,21 +22,39 @@ use Rattle.kmip_scripted.specs.declared.script.Word.{Word}
 abbrev pub AreMade : List Key → List Run → CampaignEnd → Type 0
 AreMade keys runs end = AllZip (IsEnd keys) runs end.runs.items × (length end.saved.items ≡ length (filter saves runs))
 
--- The runs of a script were made for a plan over a link that began with nothing and followed the script, and ended so: the first of
--- them, and where memory sufficed all. Whatever the script lost, delayed and repeated, what the server did is safe, and a past of the
--- plan machine; and no run found a conflict.
-pub record IsSimulated (keys : List Key) (words : List Word) (end : CampaignEnd) (past : Past) : Type 0 where
-  pub safe : Safe keys past (reported keys end.runs.items end.saved.items)
-  pub machine : IsMirrored keys past
-  pub sound : Sound keys past
-  pub no_conflict : All HasNoConflict end.runs.items
-  pub true_saved : All (TrueProgress past.objects keys) end.saved.items
-  pub order : AllZip (IsEnd keys) (take (length end.runs.items) (runs_of keys words)) end.runs.items
-  pub complete : end.fault ≡ None → AreMade keys (runs_of keys words) end
-
 -- no word of a link's script is left: from then on it loses, delays and repeats nothing
 abbrev pub HasNoWord : Scene → Names → Type 0
 HasNoWord link names = link.words ≡ []
+
+-- What the headline says of a campaign over a link in memory, with its premises met: whatever the link lost, delayed and repeated, what
+-- the server did is safe, and a past of the plan machine; no run found a conflict; and over a calm link the runs finish.
+pub record IsCarriedOut (keys : List Key) (runs : List Run) (end : CampaignEnd) (before after : Scene) : Type 0 where
+  pub safe : Safe keys (past_in after) (reported keys end.runs.items end.saved.items)
+  pub machine : IsMirrored keys (past_in before) → IsMirrored keys (past_in after)
+  pub no_conflict : All HasNoConflict end.runs.items
+  pub sound : Sound keys (past_in after)
+  pub true_saved : All (TrueProgress (past_in after).objects keys) end.saved.items
+  pub goes : WentOn keys (past_in before) (past_in after)
+  pub order : AllZip (IsEnd keys) (take (length end.runs.items) runs) end.runs.items
+  pub complete : end.fault ≡ None → AreMade keys runs end
+  pub known : AreKnown keys runs end.runs.items end.saved.items ⊤ (end.fault ≡ None) (past_in before) (past_in after)
+  pub settles : CalmLink past_in HasNoWord keys before → end.fault ≡ None
+      → AllZip (Settles keys) runs end.runs.items × CalmLink past_in HasNoWord keys after
+
+-- The runs of a script were made for a plan over a link that began with nothing and followed the script, and ended so: the first of
+-- them, and where memory sufficed all. With no word in the script the link was calm, and had room for all keys.
+pub record IsSimulated (keys : List Key) (words : List Word) (end : CampaignEnd) (link : Scene) : Type 0 where
+  pub begun : Scene
+  pub opening : Opening keys (past_in begun)
+  pub mirrored : IsMirrored keys (past_in link)
+  pub calm : words ≡ [] → CalmLink past_in HasNoWord keys begun
+  pub carried : IsCarriedOut keys (runs_of keys words) end begun link
+
+-- After that, a second campaign made these runs for the same plan over the same link.
+pub record IsSimulatedAgain (keys : List Key) (words : List Word) (runs : List Run) (first second : CampaignEnd) (link : Scene) : Type 0 where
+  pub between : Scene
+  pub simulated : IsSimulated keys words first between
+  pub carried : IsCarriedOut keys runs second between link
 
 -- The runs of a script with one `prolong` were made for plans in turn, each of which prolongs the one before, over one link that began
 -- with nothing and followed the script, and ended so. All that holds of the runs for one plan holds of these for the last plan, what was

@@ -6,6 +6,6 @@ mod simulating;
 mod tracing;
 mod writing;
 
-pub use simulating::{Simulation, simulate, simulate_plans};
+pub use simulating::{Simulation, simulate, simulate_again, simulate_plans};
 pub use tracing::push_trace;
 pub use writing::{push_asks, push_records, push_runs, push_simulation};

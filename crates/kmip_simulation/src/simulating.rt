@@ -1,18 +1,19 @@
 //! A campaign over a link in memory that follows a script.
-ghost use Rattle.std.specs.Prelude.{◌≡◌, List, length, IfOk};
+ghost use Rattle.std.specs.Prelude.{◌≡◌, List, [], length, IfOk};
 ghost use Rattle.kmip_chains.specs.declared.key.Key.{Key};
-ghost use Rattle.kmip_schedule.specs.Sound.{Opening};
+ghost use Rattle.kmip_schedule.specs.Sound.{Opening, Sound};
 ghost use Rattle.kmip_scripted.specs.Scenes.{past_in};
-ghost use Rattle.kmip_scripted.specs.Words.{prolongings};
+ghost use Rattle.kmip_scripted.specs.Words.{next_words, prolongings};
 ghost use Rattle.kmip_session.specs.Campaigns.{AreProlonged};
-ghost use Rattle.kmip_simulation.specs.Simulating.{AreSimulated, IsSimulated};
+ghost use Rattle.kmip_simulation.specs.Simulating.{AreSimulated, IsCarriedOut, IsSimulated, IsSimulatedAgain};
 ghost use Rattle.kmip_simulation.specs.SimText.{is_last_finished};
+ghost use Rattle.kmip_store.specs.declared.identifying.TheConstants.{MOST_ROOM};
 
 use kmip_plan::Plan;
-use kmip_schedule::laws::nothing_done_is_sound;
+use kmip_schedule::laws::{nothing_done_is_sound, opening_is_mirrored};
 use kmip_scripted::{Script, Scripted};
 use kmip_server::{IndexedStore, Server};
-use kmip_session::{CampaignEnd, campaign, campaigns};
+use kmip_session::{CampaignEnd, Run, campaign, campaigns};
 use kmip_store::{MOST_ROOM, SEED};
 use kmip_ttlv::NoMemory;
 use std::alloc::Global;
@@ -31,13 +32,47 @@ pub struct Simulation {
 /// Where there is no memory for the list of the runs.
 pub fn simulate(alloc: Global, plan: &Plan, script: Script) -> Result<Simulation, NoMemory>
     requires none { prolongings script ≡ 0 }
-    ensures { IfOk result (λ s. IsSimulated plan.now script s.end (past_in s.link)) }
+    ensures { IfOk result (λ s. IsSimulated plan.now script s.end s.link) }
 {
     nothing_done_is_sound();
+    opening_is_mirrored();
+    plan.keys();
     let runs = script.runs(alloc, plan)?;
     let mut link = new_link(alloc, script);
-    let end = campaign(alloc, plan, &mut link, runs.as_slice());
+    let end = carry_out(alloc, plan, &mut link, runs.as_slice());
     Ok(Simulation { end, link })
+}
+
+/// The same, and then these runs for the plan in a second campaign over the same link; the second of
+/// the results is its end.
+///
+/// # Errors
+/// Where there is no memory for the list of the runs of the script.
+pub fn simulate_again(
+    alloc: Global,
+    plan: &Plan,
+    script: Script,
+    runs: &[Run],
+) -> Result<(Simulation, CampaignEnd), NoMemory>
+    requires none { prolongings script ≡ 0 }
+    ensures { IfOk result (λ s. IsSimulatedAgain plan.now script runs.now s.0.end s.1 s.0.link) }
+{
+    let mut first = simulate(alloc, plan, script)?;
+    let second = carry_out(alloc, plan, &mut first.link, runs);
+    Ok((first, second))
+}
+
+/// Makes the runs in a campaign over the link.
+fn carry_out(
+    alloc: Global,
+    plan: &Plan,
+    link: &mut Scripted<IndexedStore>,
+    runs: &[Run],
+) -> CampaignEnd
+    requires sound { Sound plan.now (past_in link.old) }
+    ensures { IsCarriedOut plan.now runs.now result link.old link.new }
+{
+    campaign(alloc, plan, link, runs)
 }
 
 /// Makes the runs of a script with one `prolong` over a link to a new server that follows the script:
@@ -61,7 +96,10 @@ pub fn simulate_plans(alloc: Global, plans: &[Plan], script: Script) -> Result<S
 
 /// A link to a new server, over which nothing has happened yet.
 fn new_link(alloc: Global, script: Script) -> Scripted<IndexedStore>
-    ensures { (keys : List Key) → Opening keys (past_in result) }
+    ensures opening { (keys : List Key) → Opening keys (past_in result) }
+    ensures room { (past_in result).room ≡ MOST_ROOM }
+    ensures objects { (past_in result).objects ≡ [] }
+    ensures words { result.words ≡ next_words script }
 {
     let store = IndexedStore::new(alloc, SEED, MOST_ROOM);
     Scripted::new(alloc, Server::new(store), script)

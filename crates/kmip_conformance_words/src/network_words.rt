@@ -1,7 +1,8 @@
 //! What the words of `run` and `serve` ask for, and what words they refuse.
 
 use crate::words::{is_refused_with, with_name};
-use kmip_command_line::{Choice, Peer, RunOptions, ServeOptions, chosen};
+use kmip_choices::{Choice, Peer, RunOptions, ServeOptions};
+use kmip_command_line::chosen;
 use std::alloc::{AllocError, Global};
 use std::net::{Ipv4Addr, SocketAddrV4};
 use std::test::Fail;

@@ -1,6 +1,7 @@
 //! What the words of a command line ask for, and how the program ends where they ask for nothing.
 
-use kmip_command_line::{Choice, chosen, status_of};
+use kmip_choices::Choice;
+use kmip_command_line::{chosen, status_of};
 use kmip_commands::{ExitStatus, Form};
 use kmip_sim::Detail;
 use std::alloc::Global;

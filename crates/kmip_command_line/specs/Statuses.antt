@@ -1,0 +1,14 @@
+-- How the program ends where the command line asks for no command.
+-- Source: own: the exit status of the program.
+use Rattle.clap.specs.declared.error.kind.ErrorKind.{ErrorKind}
+use Rattle.clap.specs.declared.error.kind.ErrorKind.TheVariants as kind
+use Rattle.kmip_commands.specs.declared.exit_status.ExitStatus.{ExitStatus}
+use Rattle.kmip_commands.specs.declared.exit_status.ExitStatus.TheVariants.{Done, Failed, Usage}
+use Rattle.kmip_commands.specs.declared.fault.CommandFault.TheVariants.{NoMemory}
+
+-- by the kind of the error: help and the version are no fault
+abbrev pub status_of : ErrorKind → ExitStatus
+status_of kind.DisplayHelp = Done
+status_of kind.DisplayVersion = Done
+status_of kind.OutOfMemory = Failed NoMemory
+status_of other = Usage

@@ -1,0 +1,9 @@
+//! Tests of kmip_sim: plans carried out over networks that follow scripts.
+//!
+//! The expected values come from this project's profile, and never from what the crates wrote.
+#![tactic(auto)]
+
+#[cfg(test)]
+mod simulating;
+#[cfg(test)]
+mod simulating_plans;
