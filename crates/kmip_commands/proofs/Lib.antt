@@ -1,6 +1,6 @@
 pub mod BytewiseLaws
 mod RespondingLemmas
-mod FinishingLemmas
+pub mod FinishingLemmas
 mod LineLemmas
 mod StreamingLemmas
 mod AdvancingLemmas
