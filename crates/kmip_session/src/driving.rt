@@ -9,7 +9,7 @@ ghost use Rattle.kmip_client.specs.Justified.{JustifiedMessage};
 ghost use Rattle.kmip_client.specs.Truth.{TrueMessage};
 ghost use Rattle.kmip_plan.specs.Chains.{bound};
 ghost use Rattle.kmip_schedule.specs.Past.{Names, is_planned};
-ghost use Rattle.kmip_session.specs.Driving.{IsBrokenOff, IsGood, IsSettling, IsUntouched, IsComplete, KeepsFurther, need, WentOn, Learnt, Grown, Keeps, Stands};
+ghost use Rattle.kmip_session.specs.Driving.{IsBrokenOff, IsGivenUp, IsGood, IsSettling, IsUntouched, IsComplete, KeepsFurther, need, WentOn, Learnt, Grown, Keeps, Stands};
 ghost use Rattle.kmip_client.specs.Known.{facts};
 ghost use Rattle.kmip_schedule.specs.Past.{Past};
 ghost use Rattle.kmip_session.specs.Lawbook.{Lawbook};
@@ -127,7 +127,8 @@ fn laws_below()
 /// The next question, and what comes of it; false where no key is worked on.
 ///
 /// # Errors
-/// Where there is no memory; the key that was asked about is then looked at again.
+/// Where there is no memory; the client is then as it was, or the key that was asked about is looked
+/// at again.
 fn turn<L: Link>(alloc: Global, client: &mut Client<'_>, link: &mut L) -> Result<bool, NoMemory>
     ensures good { IsGood L.past L.honest client.old link.old
         → IsGood L.past L.honest client.new link.new }
@@ -140,6 +141,7 @@ fn turn<L: Link>(alloc: Global, client: &mut Client<'_>, link: &mut L) -> Result
     ensures broken { L.honest link.old (is_planned client.old.keys) → OnErr result (
         (facts client.new.knowns ≡ facts client.old.knowns)
         × IsBrokenOff client.old.keys (L.past link.old) (L.past link.new)) }
+    ensures lost { OnErr result (IsGivenUp client.old client.new) }
     ensures grown { L.honest link.old (is_planned client.old.keys)
         → Grown (L.past link.old) (L.past link.new) }
     ensures kept { Keeps client.old client.new }
@@ -182,6 +184,7 @@ fn put<L: Link>(
     ensures broken { L.honest link.old (is_planned client.old.keys) → OnErr result (
         (facts client.new.knowns ≡ facts client.old.knowns)
         × IsBrokenOff client.old.keys (L.past link.old) (L.past link.new)) }
+    ensures lost { OnErr result (client.new ≡ lost_at client.old question.now.key) }
     ensures grown { L.honest link.old (is_planned client.old.keys)
         → Grown (L.past link.old) (L.past link.new) }
     ensures kept { Keeps client.old client.new }
