@@ -62,6 +62,8 @@ pub fn drive<L: Link>(
         → (between : Past) × Learnt client.old.keys (L.past link.old) between
         client.old.knowns client.new.knowns result.1
         × IsBrokenOff client.old.keys between (L.past link.new) }
+    ensures few { L.honest link.old (is_planned client.old.keys)
+        → length (L.past link.new).sent ≤ length (L.past link.old).sent + limit }
     ensures grown { L.honest link.old (is_planned client.old.keys)
         → Grown (L.past link.old) (L.past link.new) }
     ensures kept { Keeps client.old client.new }
