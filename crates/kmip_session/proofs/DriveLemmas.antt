@@ -1,5 +1,5 @@
 -- What is kept over several exchanges.
-use Rattle.std.proofs.Common.{◌≡◌, ◌≢◌, ℕ, ◌+◌, List, subst, sym, arith}
+use Rattle.std.proofs.Common.{◌≡◌, ◌≢◌, ◌≤◌, ℕ, ◌+◌, List, length, subst, sym, arith}
 use Rattle.std.specs.Prelude.{⊤}
 use Rattle.kmip_chains.specs.declared.key.Key.{Key}
 use Rattle.kmip_client.specs.Clients.{AreSettled, ClientState}
@@ -12,7 +12,7 @@ use Rattle.kmip_session.specs.declared.stop.Stop.TheVariants as stops
 use Rattle.kmip_session.proofs.FurtherLemmas.{further_nowhere, further_then}
 use Rattle.kmip_session.proofs.GoodLemmas.{keeps_itself, keeps_then, went_nowhere, went_then}
 use Rattle.kmip_session.proofs.SettleLemmas.{Nearer, nearer_none, nearer_then}
-use Rattle.kmip_session.proofs.KnownLemmas.{grown_itself, grown_then, learnt_nothing, learnt_still, learnt_then, stays_itself}
+use Rattle.kmip_session.proofs.KnownLemmas.{grown_itself, grown_then, learnt_long, learnt_nothing, learnt_still, learnt_then, stays_itself}
 
 module _ {L : Type 0} (past : L → Past) (honest calm : L → Names → Type 0) where
   -- after so many exchanges
@@ -99,6 +99,12 @@ module _ {L : Type 0} (past : L → Past) (honest calm : L → Names → Type 0)
         learnt_still a.keys (past x) (past y) (past y) a.knowns b.knowns c.knowns m before.1 (stays_itself (past y)) off.0,
         subst (λ ks. IsBrokenOff ks (past y) (past z)) first.keeps.keys_stay off.1,
       )
+
+  -- so few exchanges were made
+  pub few_made : (a b : ClientState) (x y : L) (m limit : ℕ) → Driven a b x y m → m ≤ limit → honest x (is_planned a.keys) → length (past y).sent ≤ length (past x).sent + limit
+  few_made a b x y m limit driven within holds =
+      let long = learnt_long a.keys (past x) (past y) a.knowns b.knowns m (driven.known holds).1 in
+      omega (arith, long, within)
 
   -- what is good is in no conflict
   pub good_no_conflict : Lawbook → (c : ClientState) (link : L) (stop : Stop) → IsGood past honest c link → Stands stop c.keys c.knowns → stop ≢ stops.Conflict

@@ -1,5 +1,5 @@
 -- What exchanges ask and teach, one after the other.
-use Rattle.std.proofs.Common.{◌≡◌, ℕ, ◌+◌, List, [], ◌∷◌, ◌++◌, length, Option, Some, None, Result, Ok, Err, OnErr, OnOk, sym, ap, subst, refl, ◌∙◌, flat_map, append_assoc, append-nil, inl, inr}
+use Rattle.std.proofs.Common.{◌≡◌, ◌≤◌, arith, ℕ, ◌+◌, List, [], ◌∷◌, ◌++◌, length, Option, Some, None, Result, Ok, Err, OnErr, OnOk, sym, ap, subst, refl, ◌∙◌, flat_map, append_assoc, append-nil, inl, inr}
 use Rattle.std.proofs.lemmas.List.Elements.{All-append, All-cons, All-nil}
 use Rattle.std.proofs.lemmas.List.{length-append}
 use Rattle.std.proofs.lemmas.List.Concat.{flat_map-append}
@@ -209,6 +209,20 @@ broken_handed found names c old new question answer lawful about hands =
       requests_are = asks.2;
       ended = inr (answer, asks.0, asks.1);
     })
+
+-- ---- how many were sent
+
+pub learnt_long : (keys : List Key) (old new : Past) (knowns nexts : List Knowledge) (exchanges : ℕ) → Learnt keys old new knowns nexts exchanges
+    → length new.sent ≡ length old.sent + exchanges
+learnt_long keys old new knowns nexts exchanges learnt =
+    ap length learnt.sent_are ∙ length-append old.sent learnt.questions ∙ ap (λ n. length old.sent + n) learnt.as_many_questions
+
+pub off_long : (keys : List Key) (old new : Past) → IsBrokenOff keys old new → length new.sent ≤ length old.sent + 1
+off_long keys old new (inl none) = let same = ap length none.1.0 in omega (arith, same)
+off_long keys old new (inr cut) = elim cut.ended [
+  | inl none ↦ let same = ap length none.0 in omega (arith, same)
+  | inr one ↦ let more = ap length one.1 ∙ length-append old.sent (cut.question ∷ []) in omega (arith, more)
+]
 
 -- ---- nothing is taken back
 

@@ -90,6 +90,7 @@ known_for keys carried runs ends saved honest other whole old new to is = record
   until = is.until;
   heard = λ holds. is.heard (to holds);
   grown = λ holds. is.grown (to holds);
+  few_more = λ holds. is.few_more (to holds);
   no_more = is.no_more;
 }
 

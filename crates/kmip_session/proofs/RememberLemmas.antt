@@ -1,5 +1,5 @@
 -- What was known at the ends of some runs, and one run more.
-use Rattle.std.proofs.Common.{◌≡◌, ℕ, List, [], ◌∷◌, ◌++◌, length, slice_get, flat_map, map, Some, Result, Ok, Err, IsErr, IsOk, OnOk, sym, ap, subst, refl, ◌∙◌, inl, inr, append_assoc, append-nil}
+use Rattle.std.proofs.Common.{◌≡◌, ◌≤◌, ◌+◌, arith, ℕ, List, [], ◌∷◌, ◌++◌, length, slice_get, flat_map, map, Some, Result, Ok, Err, IsErr, IsOk, OnOk, sym, ap, subst, refl, ◌∙◌, inl, inr, append_assoc, append-nil}
 use Rattle.std.specs.List.{AllZip}
 use Rattle.std.proofs.lemmas.Bool.{cases_Bool}
 use Rattle.std.proofs.lemmas.List.Concat.{flat_map-append}
@@ -16,7 +16,7 @@ use Rattle.kmip_schedule.specs.Moves.{Delivered}
 use Rattle.kmip_schedule.specs.Past.{Names, Past, is_planned}
 use Rattle.kmip_session.specs.CampaignParts.{AreSame, HasEnded, HasRun, IsBroken, begins_with}
 use Rattle.kmip_session.specs.Driving.{Grown, Keeps, Learnt}
-use Rattle.kmip_session.specs.Remembering.{AreHeard, AreKnownFrom, AreTaught, IsTalkOf, Shows, Talk, saved_after, saved_from, start_knowns, starts, starts_from}
+use Rattle.kmip_session.specs.Remembering.{AreHeard, AreKnownFrom, AreTaught, IsTalkOf, Shows, Talk, limit_at, saved_after, saved_from, start_knowns, starts, starts_from}
 use Rattle.kmip_session.specs.declared.campaigning.CampaignEnd.{CampaignEnd}
 use Rattle.kmip_session.specs.declared.campaigning.Run.{Run}
 use Rattle.kmip_session.specs.declared.campaigning.RunEnd.{RunEnd}
@@ -203,14 +203,18 @@ module _ {L : Type 0} (past : L → Past) (honest : L → Names → Type 0) (key
     until = past y;
     heard = λ holds. (recalled.heard holds).1;
     grown = λ holds. grown_itself (past y);
+    few_more = λ holds. omega arith;
     no_more = λ is. refl;
   }
 
   -- the next run was broken off
-  pub broken_known : (c : ClientState) (x y z : L) (old new : CampaignEnd) (whole : Type 0) → (whole → past y ≡ past z)
-      → Recalled c x y old.runs.items old.saved.items → IsBroken past honest keys y z old new
+  pub broken_known : (c : ClientState) (x y z : L) (run : Run) (old new : CampaignEnd) (place : ℕ) (whole : Type 0) → slice_get runs place ≡ Some run
+      → length old.runs.items ≡ place → (whole → past y ≡ past z) → Recalled c x y old.runs.items old.saved.items → IsBroken past honest keys run y z old new
       → AreKnownFrom keys carried runs new.runs.items new.saved.items (honest x (is_planned keys)) whole (past x) (past z)
-  broken_known c x y z old new whole no_more recalled broken =
+  broken_known c x y z run old new place whole is long no_more recalled broken =
+      let many = AllZip-long (Shows keys) recalled.known old.runs.items recalled.shown in
+      let at = subst (λ n. slice_get runs n ≡ Some run) (sym long ∙ many) is in
+      let limit : limit_at runs (length recalled.known) ≡ run.limit = rw at refl in
       rw (broken.same.same_runs, broken.same.same_saved)
       (record {
         known = recalled.known;
@@ -220,6 +224,7 @@ module _ {L : Type 0} (past : L → Past) (honest : L → Names → Type 0) (key
         until = past y;
         heard = λ holds. (recalled.heard holds).1;
         grown = λ holds. broken.grown (recalled.heard holds).0;
+        few_more = λ holds. rw limit (broken.few (recalled.heard holds).0);
         no_more = no_more;
       })
 
@@ -246,7 +251,10 @@ module _ {L : Type 0} (past : L → Past) (honest : L → Names → Type 0) (key
   }
 
   -- or begun, driven and broken off
-  pub broken_off : (b : ClientState) (x y : L) (old new : CampaignEnd) → b.keys ≡ keys → (honest x (is_planned b.keys) → Grown (past x) (past y)) → AreSame old new
-      → IsBroken past honest keys x y old new
-  broken_off b x y old new b_keys grown same =
-      record { same = same; grown = λ holds. grown (subst (λ ks. honest x (is_planned ks)) (sym b_keys) holds) }
+  pub broken_off : (b : ClientState) (x y : L) (run : Run) (old new : CampaignEnd) → b.keys ≡ keys → (honest x (is_planned b.keys) → Grown (past x) (past y))
+      → (honest x (is_planned b.keys) → length (past y).sent ≤ length (past x).sent + run.limit) → AreSame old new → IsBroken past honest keys run x y old new
+  broken_off b x y run old new b_keys grown few same = record {
+    same = same;
+    grown = λ holds. grown (subst (λ ks. honest x (is_planned ks)) (sym b_keys) holds);
+    few = λ holds. few (subst (λ ks. honest x (is_planned ks)) (sym b_keys) holds);
+  }

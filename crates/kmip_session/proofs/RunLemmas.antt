@@ -181,5 +181,6 @@ known_if keys carried runs ends saved honest whole other old new to known = reco
   until = known.until;
   heard = known.heard;
   grown = known.grown;
+  few_more = known.few_more;
   no_more = λ is. known.no_more (to is);
 }

@@ -1,6 +1,6 @@
 -- Private: what the parts of a campaign keep.
 -- Source: own.
-use Rattle.std.specs.Prelude.{◌≡◌, ◌≢◌, ◌≤◌, ℕ, List, [], ◌∷◌, ◌++◌, filter, length, None, string_bytes, take}
+use Rattle.std.specs.Prelude.{◌≡◌, ◌≢◌, ◌≤◌, ℕ, ◌+◌, List, [], ◌∷◌, ◌++◌, filter, length, None, string_bytes, take}
 use Rattle.std.specs.List.{All, AllZip}
 use Rattle.kmip_objects.specs.Objects.{Object}
 use Rattle.kmip_plan.specs.Laws.{KeysAreFound}
@@ -111,9 +111,10 @@ pub record HasSettled (keys : List Key) (run : Run) (old new : List RunEnd) : Ty
   pub settles : Settles keys run end
 
 -- or it was broken off, and nothing is noted of it
-pub record IsBroken {L : Type 0} (past : L → Past) (honest : L → Names → Type 0) (keys : List Key) (x y : L) (old new : CampaignEnd) : Type 0 where
+pub record IsBroken {L : Type 0} (past : L → Past) (honest : L → Names → Type 0) (keys : List Key) (run : Run) (x y : L) (old new : CampaignEnd) : Type 0 where
   pub same : AreSame old new
   pub grown : honest x (is_planned keys) → Grown (past x) (past y)
+  pub few : honest x (is_planned keys) → length (past y).sent ≤ length (past x).sent + run.limit
 
 -- The runs of a plan were made in turn, where this was carried over from earlier plans: what stands after them, and what their ends say.
 pub record HasRunAll {L : Type 0} (past : L → Past) (honest calm : L → Names → Type 0) (keys : List Key) (carried : List (List Known)) (runs : List Run) (end : CampaignEnd) (old new : L) : Type 0 where

@@ -1,6 +1,6 @@
 -- What a run of exchanges does: what it keeps, what it asks, what the client learns of it, and why it ends.
 -- Source: own.
-use Rattle.std.specs.Prelude.{◌≡◌, ◌⊎◌, ◌≤◌, ◌<◌, ◌+◌, ℕ, IsSome, map, List, [], ◌∷◌, ◌++◌, length, flat_map, Option, ⊤}
+use Rattle.std.specs.Prelude.{◌≡◌, ◌⊎◌, ◌≤◌, ◌<◌, ◌+◌, ℕ, IsSome, map, List, [], ◌∷◌, ◌++◌, length, flat_map, Option, Some, ⊤}
 use Rattle.std.specs.List.{All, AllZip}
 use Rattle.kmip_messages.specs.Items.{requests_in}
 use Rattle.kmip_objects.specs.Objects.{Object, object_named}
@@ -10,7 +10,7 @@ use Rattle.kmip_plan.specs.Plans.{IsLawful, IsPlanned}
 use Rattle.kmip_plan.specs.Prolonging.{Prolongs}
 use Rattle.kmip_chains.specs.declared.key.Key.{Key}
 use Rattle.kmip_ttlv.specs.Spelling.{canon}
-use Rattle.kmip_client.specs.Clients.{ClientState, fresh, NoneWorks, SomeWorks, verdict_at}
+use Rattle.kmip_client.specs.Clients.{ClientState, after_ask, fresh, lost_at, next_question, NoneWorks, SomeWorks, verdict_at}
 use Rattle.kmip_client.specs.Held.{Held}
 use Rattle.kmip_client.specs.Places.{Onward, position}
 use Rattle.kmip_knowledge.specs.Knowledge.{chain_length}
@@ -20,6 +20,7 @@ use Rattle.kmip_client.specs.Standing.{counts_of, verdicts_of}
 use Rattle.kmip_knowledge.specs.declared.clash.Clash.{Clash}
 use Rattle.kmip_knowledge.specs.declared.knowledge.Knowledge.{Knowledge}
 use Rattle.kmip_knowledge.specs.declared.knowledge.Verdict.TheVariants.{Finished, Conflict}
+use Rattle.kmip_client.specs.declared.question.Question.{Question}
 use Rattle.kmip_schedule.specs.Machine.{IsMirrored}
 use Rattle.kmip_schedule.specs.Past.{Past, Names, is_planned}
 use Rattle.kmip_schedule.specs.Sound.{Sound}
@@ -116,6 +117,11 @@ pub record IsCutShort (keys : List Key) (old new : Past) : Type 0 where
 -- What memory that ran out leaves of the exchange in which it did: nothing that was asked, sent or handed over, or one question.
 abbrev pub IsBrokenOff : List Key → Past → Past → Type 0
 IsBrokenOff keys old new = ((new.requests ≡ old.requests) × EndsNoExchange old new) ⊎ IsCutShort keys old new
+
+-- Private: what memory that ran out in a turn leaves of the client: it is as it was, or its next question was asked, and the key of
+-- that is looked at again.
+abbrev pub IsGivenUp : ClientState → ClientState → Type 0
+IsGivenUp old new = (new ≡ old) ⊎ ((question : Question) × (next_question old ≡ Some question) × (new ≡ lost_at (after_ask old) question.key))
 
 -- The plan stays, and no identifier or count is taken back.
 pub record Keeps (old new : ClientState) : Type 0 where

@@ -1,7 +1,8 @@
 -- What is known at the ends of runs: what each of them began with, and what its answers taught.
 -- Source: own.
-use Rattle.std.specs.Prelude.{◌≡◌, ℕ, ◌-◌, ◌==◌, List, [], ◌∷◌, ◌++◌, length, map, flat_map, slice_get, Option, Some, None, ⊤, if◌then◌else◌}
+use Rattle.std.specs.Prelude.{◌≡◌, ◌≤◌, ℕ, ◌+◌, ◌-◌, ◌==◌, List, [], ◌∷◌, ◌++◌, length, map, flat_map, slice_get, Option, Some, None, ⊤, if◌then◌else◌}
 use Rattle.std.specs.List.{All, AllZip}
+use Rattle.std.specs.Option.{option_map_or}
 use Rattle.kmip_messages.specs.Items.{requests_in}
 use Rattle.kmip_chains.specs.declared.key.Key.{Key}
 use Rattle.kmip_progress.specs.declared.known.Known.{Known}
@@ -86,9 +87,13 @@ pub record AreHeard (keys : List Key) (begun known : List (List Knowledge)) (end
   pub handed_are : new.handed ≡ old.handed ++ flat_map (λ talk. talk.answers) talks
   pub requests_are : new.requests ≡ old.requests ++ flat_map requests_in (flat_map (λ talk. talk.questions) talks)
 
+-- how many exchanges the run at a place may make; none where there is no run
+abbrev pub limit_at : List Run → ℕ → ℕ
+limit_at runs place = option_map_or (λ run. run.limit) (slice_get runs place) 0
+
 -- There is a knowledge for each end that the end shows, that takes back nothing of what its run began with, and that is saved where
 -- its run says so, behind what was carried over. Over an honest link it is what was heard until the last end; and nothing was asked
--- later, unless a run was broken off.
+-- later, unless the next run was broken off, and then in no more exchanges than that may make.
 pub record AreKnownFrom (keys : List Key) (carried : List (List Known)) (runs : List Run) (ends : List RunEnd) (saved : List (List Known)) (honest whole : Type 0) (old new : Past) : Type 0 where
   pub known : List (List Knowledge)
   pub shown : AllZip (Shows keys) known ends
@@ -97,6 +102,7 @@ pub record AreKnownFrom (keys : List Key) (carried : List (List Known)) (runs : 
   pub until : Past
   pub heard : honest → AreHeard keys (starts keys carried runs known) known ends old until
   pub grown : honest → Grown until new
+  pub few_more : honest → length new.sent ≤ length until.sent + limit_at runs (length known)
   pub no_more : whole → until ≡ new
 
 -- the same where nothing was carried over

@@ -235,7 +235,7 @@ fn one_run<'p, L: Link>(
         → KeepsFurther L.past L.honest L.calm plan.now (result ≡ Ok tt) link.old link.new }
     ensures ran { OnOk result (HasRun L.past L.honest plan.now carried.now run client.old
         client.new link.old link.new end.old end.new) }
-    ensures broken { OnErr result (IsBroken L.past L.honest plan.now link.old link.new
+    ensures broken { OnErr result (IsBroken L.past L.honest plan.now run link.old link.new
         end.old end.new ⊎ HasRun L.past L.honest plan.now carried.now run client.old client.new
         link.old link.new end.old end.new) }
     ensures settles { Standing L.past L.honest plan.now client.old link.old end.old.runs.items

@@ -9,7 +9,7 @@ ghost use Rattle.kmip_client.specs.Justified.{JustifiedMessage};
 ghost use Rattle.kmip_client.specs.Truth.{TrueMessage};
 ghost use Rattle.kmip_chains.specs.Chains.{bound};
 ghost use Rattle.kmip_schedule.specs.Past.{Names, is_planned};
-ghost use Rattle.kmip_session.specs.Driving.{IsBrokenOff, IsGood, IsSettling, IsUntouched, IsComplete, KeepsFurther, need, WentOn, Learnt, Grown, Keeps, Stands};
+ghost use Rattle.kmip_session.specs.Driving.{IsBrokenOff, IsGivenUp, IsGood, IsSettling, IsUntouched, IsComplete, KeepsFurther, need, WentOn, Learnt, Grown, Keeps, Stands};
 ghost use Rattle.kmip_client.specs.Known.{facts};
 ghost use Rattle.kmip_schedule.specs.Past.{Past};
 ghost use Rattle.kmip_session.specs.Lawbook.{Lawbook};
@@ -63,6 +63,8 @@ pub fn drive<L: Link>(
         → (between : Past) × Learnt client.old.keys (L.past link.old) between
         client.old.knowns client.new.knowns result.1
         × IsBrokenOff client.old.keys between (L.past link.new) }
+    ensures few { L.honest link.old (is_planned client.old.keys)
+        → length (L.past link.new).sent ≤ length (L.past link.old).sent + limit }
     ensures grown { L.honest link.old (is_planned client.old.keys)
         → Grown (L.past link.old) (L.past link.new) }
     ensures kept { Keeps client.old client.new }
@@ -128,7 +130,8 @@ fn laws_below()
 /// The next question, and what comes of it; false where no key is worked on.
 ///
 /// # Errors
-/// Where there is no memory; the key that was asked about is then looked at again.
+/// Where there is no memory; the client is then as it was, or the key that was asked about is looked
+/// at again.
 fn turn<L: Link>(alloc: Global, client: &mut Client<'_>, link: &mut L) -> Result<bool, NoMemory>
     ensures good { IsGood L.past L.honest client.old link.old
         → IsGood L.past L.honest client.new link.new }
@@ -141,6 +144,7 @@ fn turn<L: Link>(alloc: Global, client: &mut Client<'_>, link: &mut L) -> Result
     ensures broken { L.honest link.old (is_planned client.old.keys) → OnErr result (
         (facts client.new.knowns ≡ facts client.old.knowns)
         × IsBrokenOff client.old.keys (L.past link.old) (L.past link.new)) }
+    ensures lost { OnErr result (IsGivenUp client.old client.new) }
     ensures grown { L.honest link.old (is_planned client.old.keys)
         → Grown (L.past link.old) (L.past link.new) }
     ensures kept { Keeps client.old client.new }
@@ -183,6 +187,7 @@ fn put<L: Link>(
     ensures broken { L.honest link.old (is_planned client.old.keys) → OnErr result (
         (facts client.new.knowns ≡ facts client.old.knowns)
         × IsBrokenOff client.old.keys (L.past link.old) (L.past link.new)) }
+    ensures lost { OnErr result (client.new ≡ lost_at client.old question.now.key) }
     ensures grown { L.honest link.old (is_planned client.old.keys)
         → Grown (L.past link.old) (L.past link.new) }
     ensures kept { Keeps client.old client.new }

@@ -1,5 +1,5 @@
 -- Begun, driven, noted and closed.
-use Rattle.std.proofs.Common.{◌≡◌, ◌∙◌, ◌++◌, inl, inr, refl, subst, sym}
+use Rattle.std.proofs.Common.{◌≡◌, ◌∙◌, ◌++◌, arith, inl, inr, refl, subst, sym}
 use Rattle.std.specs.List.{All}
 use Rattle.kmip_client.specs.Held.{TrueProgress}
 use Rattle.kmip_session.specs.Remembering.{start_knowns}
@@ -35,13 +35,17 @@ returns-clause-stands g c = λ standing carried.
 pub returns-in_err-begin-clause-broken : goal.returns-in_err-begin-clause-broken
 returns-in_err-begin-clause-broken g c =
     always_err c.from_residual.result
-    (inl (record { same = record { same_runs = refl; same_saved = refl }; grown = λ honest. grown_itself (g.L.Link.past c.args.link.now) }))
+    (inl (record {
+      same = record { same_runs = refl; same_saved = refl };
+      grown = λ honest. grown_itself (g.L.Link.past c.args.link.now);
+      few = λ honest. omega arith;
+    }))
 
 pub returns-in_err-finish-clause-broken : goal.returns-in_err-finish-clause-broken
 returns-in_err-finish-clause-broken g c =
     always_err c.from_residual-in_err-finish.result
-    (inl (broken_off g.L.Link.past g.L.Link.honest c.args.plan.now c.args.carried.now c.begin.new.client c.args.link.now c.drive-driven.new.link c.args.end.now c.finish.new.end
-    c.begin.ensures.keys c.drive-driven.ensures.grown c.in_err-finish.ensures.same))
+    (inl (broken_off g.L.Link.past g.L.Link.honest c.args.plan.now c.args.carried.now c.begin.new.client c.args.link.now c.drive-driven.new.link c.args.run c.args.end.now
+    c.finish.new.end c.begin.ensures.keys c.drive-driven.ensures.grown c.drive-driven.ensures.few c.in_err-finish.ensures.same))
 
 pub returns-clause-ran : goal.returns-clause-ran
 returns-clause-ran g c =

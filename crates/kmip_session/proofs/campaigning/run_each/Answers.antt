@@ -49,8 +49,8 @@ returns-in_err-one_run-clause-known g c =
     let before = c.loop-place.invariant in
     elim c.in_err-one_run.ensures.broken [
       | inl broken ↦
-          broken_known past honest keys c.args.carried.now runs c.loop-place.client c.args.link.now c.loop-place.link c.one_run.new.link c.loop-place.end c.one_run.new.end _
-          (λ is. no_ok c.from_residual-in_err-one_run.result tt c.from_residual-in_err-one_run.ensures.0 is) before.recalled broken
+          broken_known past honest keys c.args.carried.now runs c.loop-place.client c.args.link.now c.loop-place.link c.one_run.new.link _ c.loop-place.end c.one_run.new.end
+          c.loop-place.place _ (slice_get-get_or runs c.loop-place.place _ below) before.as_many_ends (λ is. no_ok c.from_residual-in_err-one_run.result tt c.from_residual-in_err-one_run.ensures.0 is) before.recalled broken
       | inr ran ↦
           recalled_known past honest keys c.args.carried.now runs c.one_run.new.client c.args.link.now c.one_run.new.link c.one_run.new.end.runs.items c.one_run.new.end.saved.items _
           (recalled_more past honest keys c.args.carried.now runs c.loop-place.client c.one_run.new.client c.args.link.now c.loop-place.link c.one_run.new.link _ c.loop-place.end

@@ -1,10 +1,11 @@
 -- Turn by turn.
-use Rattle.std.proofs.Common.{◌≡◌, ◌∙◌, refl, rules, subst, arith}
+use Rattle.std.proofs.Common.{◌≡◌, ◌≤◌, ◌<◌, ◌∙◌, refl, rules, subst, arith}
 use Rattle.std.specs.Prelude.{⊤}
 use Rattle.kmip_client.specs.Clients.{one_if}
 use Rattle.kmip_session.specs.Driving.{Learnt}
 use Rattle.kmip_session.proofs.CompleteLemmas.{completed, untouched_settles}
-use Rattle.kmip_session.proofs.DriveLemmas.{broken_end, driven_none, driven_then, further_if, further_last, known_end}
+use Rattle.kmip_session.proofs.DriveLemmas.{broken_end, driven_none, driven_then, few_made, further_if, further_last, known_end}
+use Rattle.kmip_session.proofs.KnownLemmas.{learnt_long, off_long}
 use Rattle.kmip_session.proofs.SettleLemmas.{Nearer, finished_stop, nearer_end, nearer_limit}
 use Rattle.kmip_session.proofs.GoodLemmas.{keeps_then}
 use Rattle.kmip_session.proofs.driving.drive.Goals as goal
@@ -156,3 +157,38 @@ returns-in-Err-clause-further g c =
 pub returns-clause-further : goal.returns-clause-further
 returns-clause-further g c = λ good.
     further_if g.L.Link.past g.L.Link.honest g.L.Link.calm c.args.client.now.keys c.args.link.now c.loop-made.link ⊤ _ (λ is. tt) (c.loop-made.invariant.further good)
+
+pub returns-in-Ok-false-clause-few : goal.returns-in-Ok-false-clause-few
+returns-in-Ok-false-clause-few g c = λ honest.
+    let past = g.L.Link.past in
+    let ended =
+    known_end past g.L.Link.honest g.L.Link.calm c.laws_below.ensures c.args.client.now c.loop-made.client c.turn.new.client c.args.link.now c.loop-made.link
+    c.turn.new.link c.loop-made.made c.loop-made.invariant
+    (λ holds.
+    let step = c.in-Ok-false.ensures.known holds in (
+      step.0,
+      subst
+          (λ asked. Learnt c.loop-made.client.keys (past c.loop-made.link) (past c.turn.new.link) c.loop-made.client.knowns c.turn.new.client.knowns (one_if asked))
+          c.in-Ok-false.field-0-test step.1,
+    )) honest in
+    let long = learnt_long c.args.client.now.keys (past c.args.link.now) (past c.turn.new.link) c.args.client.now.knowns c.turn.new.client.knowns c.loop-made.made ended.1 in
+    let below : c.loop-made.made < c.args.limit = search rules in
+    omega (arith, long, below)
+
+pub returns-in-Err-clause-few : goal.returns-in-Err-clause-few
+returns-in-Err-clause-few g c = λ honest.
+    let past = g.L.Link.past in
+    let off =
+    broken_end past g.L.Link.honest g.L.Link.calm c.args.client.now c.loop-made.client c.turn.new.client c.args.link.now c.loop-made.link c.turn.new.link
+    c.loop-made.made c.loop-made.invariant c.in-Err.ensures.broken honest in
+    let keys = c.args.client.now.keys in
+    let first = learnt_long keys (past c.args.link.now) off.0 c.args.client.now.knowns c.turn.new.client.knowns c.loop-made.made off.1 in
+    let last = off_long keys off.0 (past c.turn.new.link) off.2 in
+    let below : c.loop-made.made < c.args.limit = search rules in
+    omega (arith, first, last, below)
+
+pub returns-clause-few : goal.returns-clause-few
+returns-clause-few g c = λ honest.
+    let most : c.loop-made.made ≤ c.args.limit = search rules in
+    few_made g.L.Link.past g.L.Link.honest g.L.Link.calm c.args.client.now c.loop-made.client c.args.link.now c.loop-made.link c.loop-made.made c.args.limit
+    c.loop-made.invariant most honest
