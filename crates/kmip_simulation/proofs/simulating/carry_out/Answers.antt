@@ -7,7 +7,7 @@ use Rattle.kmip_simulation.proofs.simulating.carry_out.Goals as goal
 pub returns : goal.returns
 returns c =
     let keys = c.args.plan.now in
-    let good : GoodLink past_in (λ link names. ⊤) keys c.args.link.old = record { honest_for = tt; sound = c.requires.sound } in
+    let good : GoodLink past_in (λ link names. ⊤) keys c.args.link.now = record { honest_for = tt; sound = c.requires.sound } in
     record {
       safe = c.campaign.ensures.safe good;
       machine = (c.campaign.ensures.machine good).1;
