@@ -168,6 +168,14 @@ class Peers:
         self.look('and that can', (status == 0, status), (printed == FINISHED.format(3), printed),
                   (self.known() == ALL_KNOWN, self.known()))
 
+    def no_client(self):
+        words = [self.program, 'serve', '--port', '0', '--connections', '0']
+        done = subprocess.run(words, capture_output=True, text=True, timeout=10)
+        said, _, port = done.stdout.partition(' ')
+        is_port = port[-1:] == '\n' and port[:-1].isdecimal() and 0 < int(port) < 65536
+        self.look('a server of no connections', (done.returncode == 0, done.returncode),
+                  (said == 'listening' and is_port, done.stdout))
+
     def bad_clients(self):
         self.forget()
         server, port = self.serve('--connections', '1000000', '--timeout', '1')
@@ -202,6 +210,7 @@ def main():
     peers.bad_peers()
     peers.no_peer()
     peers.files()
+    peers.no_client()
     peers.bad_clients()
     return 1 if peers.wrong else 0
 

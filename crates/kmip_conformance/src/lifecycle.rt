@@ -46,6 +46,9 @@ const DESTROY: &str = "0000001400000000";
 
 const GET_ATTRIBUTES: &str = "0000000b00000000";
 
+/// An operation that the server does not have.
+const GET: &str = "0000000a00000000";
+
 /// A question about object `1`: its name, the operation, the revocation code where there is one, the
 /// reason that it is refused for or nothing, and the state that the object is then in.
 #[derive(Drop)]
@@ -100,7 +103,7 @@ const LIFE: [Turn; 14] = [
 ];
 
 /// Questions about object `1` where there is none, with the reason of the refusal.
-const UNKNOWN: [Turn; 6] = [
+const UNKNOWN: [Turn; 7] = [
     Turn("activated", ACTIVATE, "", "01", KeyState::PreActive),
     Turn("destroyed", DESTROY, "", "01", KeyState::PreActive),
     Turn("revoked", REVOKE, "1", "01", KeyState::PreActive),
@@ -113,6 +116,13 @@ const UNKNOWN: [Turn; 6] = [
         KeyState::PreActive,
     ),
     Turn("told of", GET_ATTRIBUTES, "", "01", KeyState::PreActive),
+    Turn(
+        "asked for no operation of the six",
+        GET,
+        "",
+        "05",
+        KeyState::PreActive,
+    ),
 ];
 
 /// The request of a turn.

@@ -1,6 +1,7 @@
 //! What the command `check` prints.
 
 use kmip_check::{check, check_bytes};
+use std::alloc::{AllocError, Global};
 use std::str::from_utf8;
 use std::test::Fail;
 
@@ -276,5 +277,36 @@ fn checks_plans(rt: HostRuntime) -> Result<(), Fail> {
         assert_eq!(rt; is_refused, row.is_refused, "{}", row.plan);
         assert_eq!(rt; from_utf8(written.as_slice()), Ok(row.text), "{}", row.plan);
     }
+    Ok(())
+}
+
+/// A plan of so many keys, each to be created.
+fn keys(alloc: Global, count: u32) -> Result<String, AllocError> {
+    let mut text = String::new(alloc);
+    for number in 0..count {
+        writeln!(
+            text,
+            "[[key]]\nname = \"k{number}\"\nalgorithm = \"AES\"\nlength = 256"
+        )?;
+        writeln!(text, "usage = [\"sign\"]\ntarget = \"created\"")?;
+    }
+    Ok(text)
+}
+
+#[test]
+fn checks_a_thousand_keys_and_no_more(rt: HostRuntime) -> Result<(), Fail> {
+    let plan = keys(rt.alloc(), 1_000)?;
+    let mut written = Vec::new(rt.alloc());
+    let is_refused = check_bytes(rt.alloc(), plan.as_str(), &mut written)?;
+    assert!(rt; !is_refused);
+    let text = from_utf8(written.as_slice()).unwrap_or("");
+    assert_eq!(rt; text.lines().count(), 1_000);
+
+    let plan = keys(rt.alloc(), 1_001)?;
+    let mut written = Vec::new(rt.alloc());
+    let is_refused = check_bytes(rt.alloc(), plan.as_str(), &mut written)?;
+    assert!(rt; is_refused);
+    let text = from_utf8(written.as_slice());
+    assert_eq!(rt; text, Ok("plan refused: 3 TooMany\n"));
     Ok(())
 }

@@ -12,7 +12,7 @@ struct Row {
     is_refused: bool,
 }
 
-const ROWS: [Row; 20] = [
+const ROWS: [Row; 23] = [
     Row {
         line: "42002002000000040000000800000000",
         text: "420020 Integer 8\n",
@@ -80,6 +80,12 @@ const ROWS: [Row; 20] = [
         is_refused: false,
     },
     Row {
+        line: "4200200800000000",
+        text: "420020 ByteString -\n",
+        canonical: "4200200800000000\n",
+        is_refused: false,
+    },
+    Row {
         line: "42002009000000080000000047da67f8",
         text: "420020 DateTime 1205495800\n",
         canonical: "42002009000000080000000047da67f8\n",
@@ -113,6 +119,18 @@ const ROWS: [Row; 20] = [
         line: "00",
         text: "refused: 1 Short at 0\n",
         canonical: "refused: 1 Short at 0\n",
+        is_refused: true,
+    },
+    Row {
+        line: "4200200c00000000",
+        text: "refused: 2 UnknownType at 0\n",
+        canonical: "refused: 2 UnknownType at 0\n",
+        is_refused: true,
+    },
+    Row {
+        line: "42002006000000080000000000000002",
+        text: "refused: 4 BadBoolean at 0\n",
+        canonical: "refused: 4 BadBoolean at 0\n",
         is_refused: true,
     },
     Row {

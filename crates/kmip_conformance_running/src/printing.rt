@@ -43,7 +43,7 @@ const FIRST: Row = Row {
 };
 
 /// The rows differ from the first one in what each of them names.
-const ROWS: [Row; 8] = [
+const ROWS: [Row; 9] = [
     FIRST,
     Row {
         name: "all is known to be done",
@@ -73,6 +73,14 @@ const ROWS: [Row; 8] = [
     Row {
         name: "a progress without its last byte",
         saved: Some("kmip-progress 2\nk1 active - 2 31\nend 1"),
+        printed: "progress refused: 2 Cut\n",
+        status: ExitStatus::Refused,
+        told: "",
+        ..FIRST
+    },
+    Row {
+        name: "an empty progress",
+        saved: Some(""),
         printed: "progress refused: 2 Cut\n",
         status: ExitStatus::Refused,
         told: "",

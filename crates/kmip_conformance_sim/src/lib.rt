@@ -7,3 +7,5 @@
 mod simulating;
 #[cfg(test)]
 mod simulating_plans;
+#[cfg(test)]
+mod small_plans;

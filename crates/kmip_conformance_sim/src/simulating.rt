@@ -232,7 +232,7 @@ fn tells_each_exchange(rt: HostRuntime) -> Result<(), Fail> {
 }
 
 /// A plan and a script of which one is refused, and the one line that says so.
-const REFUSED: [(&str, &str, &str); 12] = [
+const REFUSED: [(&str, &str, &str); 13] = [
     // The plan is judged first.
     ("", "pass\n", "plan refused: 2 NoKeys\n"),
     ("[[", "hold\n", "plan refused: 1 Toml\n"),
@@ -240,6 +240,7 @@ const REFUSED: [(&str, &str, &str); 12] = [
     (DATABASE, "hold\n", "script refused: line 1\n"),
     (DATABASE, "pass\n\nhold", "script refused: line 3\n"),
     // A number that is missing, and one too many.
+    (DATABASE, "again", "script refused: line 1\n"),
     (DATABASE, "cut\n", "script refused: line 1\n"),
     (DATABASE, "save\nrestart\n", "script refused: line 2\n"),
     (DATABASE, "pass 1\n", "script refused: line 1\n"),
