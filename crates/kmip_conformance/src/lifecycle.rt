@@ -32,10 +32,11 @@ const ATTRIBUTES_1_REPLY: &str = "\
     000000030000000042002a0200000004000001000000000042002c0200000004\
     0000000c0000000042008d05000000040000000100000000";
 
-/// The first 64 bytes of the stream of ChaCha20 under a key of zeros (RFC 8439, appendix A.1).
-const STREAM: [&str; 2] = [
+/// The first 96 bytes of the stream of ChaCha20 under a key of zeros (RFC 8439, appendix A.1).
+pub const STREAM: [&str; 3] = [
     "76b8e0ada0f13d90405d6ae55386bd28bdd219b8a08ded1aa836efcc8b770dc7",
     "da41597c5157488d7724e03fb8d84a376a43b8f41518a11cc387b669b2ee6586",
+    "9f07e7be5551387a98ba977c732d080dcb0f29a048e3656912c6533e32ee7aed",
 ];
 
 const ACTIVATE: &str = "0000001200000000";

@@ -9,7 +9,11 @@ use std::process::Abort;
 use std::test::Fail;
 
 /// A client that has heard these replies.
-fn client_after<'p>(alloc: Global, plan: &'p Plan, replies: &[&str]) -> Result<Client<'p>, Fail> {
+pub fn client_after<'p>(
+    alloc: Global,
+    plan: &'p Plan,
+    replies: &[&str],
+) -> Result<Client<'p>, Fail> {
     let mut client = Client::fresh(alloc, plan)?;
     for text in replies {
         let bytes = hex::decode(alloc, *text)?;

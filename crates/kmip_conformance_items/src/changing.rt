@@ -1,8 +1,10 @@
-//! Messages with one byte changed, read as items.
+//! Messages with one byte changed, read as items and taken from a stream.
 
+use crate::framing::assert_failed;
 use crate::items::size_of;
+use kmip_frames::{FrameFault, Framer};
 use kmip_ttlv::{TtlvFault, fits, read, write};
-use kmip_vectors::{CREATE_K1, CREATE_K1_REPLY, LOCATE_K1, LOCATE_K1_FOUND, changed};
+use kmip_vectors::{ALL, CHANGES, CREATE_K1, CREATE_K1_REPLY, LOCATE_K1, LOCATE_K1_FOUND, changed};
 use std::alloc::Global;
 use std::process::Abort;
 use std::test::Fail;
@@ -13,23 +15,6 @@ const MESSAGES: [(&str, usize); 4] = [
     (CREATE_K1, 72),
     (CREATE_K1_REPLY, 88),
     (LOCATE_K1_FOUND, 88),
-];
-
-/// How a byte is changed: which of its bits are kept, and which are then turned over.
-const CHANGES: [(u8, u8); 13] = [
-    (0xFF, 0x01),
-    (0xFF, 0x02),
-    (0xFF, 0x04),
-    (0xFF, 0x08),
-    (0xFF, 0x10),
-    (0xFF, 0x20),
-    (0xFF, 0x40),
-    (0xFF, 0x80),
-    (0x00, 0x00),
-    (0x00, 0x01),
-    (0x00, 0x7F),
-    (0x00, 0x80),
-    (0x00, 0xFF),
 ];
 
 /// Whether the bytes are the written form but for padding, which is written as zeros.
@@ -110,6 +95,65 @@ fn judges_each_head(rt: HostRuntime) -> Result<(), Fail> {
                     let len = u32::from_be_bytes([*a, *b, *c, *d]) as usize;
                     let wanted = outcome_of(*item_type, len, bytes.len(), *header_end);
                     assert_eq!(rt; outcome, wanted, "{value} at {place} of {text}");
+                }
+            }
+        }
+    }
+    Ok(())
+}
+
+/// The size that the head of a message says, or why it is no head of one.
+fn size_said(head: &[u8]) -> Result<usize, FrameFault> {
+    let [tag @ .., item_type, a, b, c, d] = head else {
+        return Err(FrameFault::BadHead);
+    };
+    let len = u32::from_be_bytes([*a, *b, *c, *d]) as usize;
+    match (tag, *item_type) {
+        ([0x42, 0x00, 0x78 | 0x7B], 0x01) if len % 8 != 0 => Err(FrameFault::BadLength),
+        ([0x42, 0x00, 0x78 | 0x7B], 0x01) if len > 8184 => Err(FrameFault::TooLong),
+        ([0x42, 0x00, 0x78 | 0x7B], 0x01) => Ok(len + 8),
+        _ => Err(FrameFault::BadHead),
+    }
+}
+
+/// A framer that holds nothing takes as many of the bytes as their head says, and hands over these and
+/// no others; it waits where they are too few, and fails where it is no head.
+fn assert_framed(
+    rt: &impl Abort,
+    alloc: Global,
+    framer: &mut Framer,
+    bytes: &[u8],
+) -> Result<(), Fail> {
+    let (head, _) = bytes.split_at(bytes.len().min(8));
+    let size = match size_said(head) {
+        Ok(size) => size,
+        Err(fault) => {
+            assert_eq!(rt; framer.feed(bytes), Err(fault), "{bytes:?}");
+            return assert_failed(rt, alloc, framer, fault.name());
+        }
+    };
+    let taken = size.min(bytes.len());
+    assert_eq!(rt; framer.feed(bytes), Ok(taken), "{bytes:?}");
+    assert_eq!(rt; framer.pending(), taken, "{bytes:?}");
+    assert_eq!(rt; framer.wants(), size.saturating_sub(taken), "{bytes:?}");
+    match framer.next(alloc)? {
+        Some(message) => assert_eq!(rt; message.as_slice(), &bytes[..size.min(taken)]),
+        None => assert!(rt; taken < size && framer.pending() == taken, "{bytes:?}"),
+    }
+    Ok(())
+}
+
+#[test]
+fn frames_by_the_head_alone(rt: HostRuntime) -> Result<(), Fail> {
+    let mut framer = Framer::new(rt.alloc())?;
+    for (_, text) in &ALL {
+        let bytes = hex::decode(rt.alloc(), *text)?;
+        for place in 0..bytes.len() {
+            for value in 0..=255 {
+                let changed = changed(rt.alloc(), bytes.as_slice(), place, value)?;
+                assert_framed(&rt, rt.alloc(), &mut framer, changed.as_slice())?;
+                if framer.pending() > 0 {
+                    framer = Framer::new(rt.alloc())?;
                 }
             }
         }

@@ -71,7 +71,7 @@ fn assert_in_pieces(
 }
 
 /// The framer has failed for good, and holds the eight bytes of the head.
-fn assert_failed(
+pub fn assert_failed(
     rt: &impl Abort,
     alloc: Global,
     framer: &mut Framer,

@@ -178,10 +178,6 @@ fn refuses_with_the_first_fault(rt: HostRuntime) -> Result<(), Fail> {
         assert_eq!(rt; fault, Err(*wanted), "{text}");
     }
     let mut bytes = hex::decode(rt.alloc(), LOCATE_K1)?;
-    for size in 0..bytes.len() {
-        let fault = size_of(&rt, rt.alloc(), &bytes[..size]);
-        assert_eq!(rt; fault, Err(TtlvFault::Short(0)), "the first {size} bytes");
-    }
     bytes.push(0)?;
     let size = size_of(&rt, rt.alloc(), bytes.as_slice());
     assert_eq!(rt; size, Ok(184));
@@ -194,6 +190,22 @@ fn refuses_with_the_first_fault(rt: HostRuntime) -> Result<(), Fail> {
         }
         let fault = size_of(&rt, rt.alloc(), bytes.as_slice());
         assert_eq!(rt; fault, Err(wanted), "with a length of {len}");
+    }
+    Ok(())
+}
+
+#[test]
+fn lacks_the_end_of_each_message(rt: HostRuntime) -> Result<(), Fail> {
+    for (name, text) in &ALL {
+        let bytes = hex::decode(rt.alloc(), *text)?;
+        for size in 0..bytes.len() {
+            let fault = size_of(&rt, rt.alloc(), &bytes[..size]);
+            assert_eq!(rt;
+                fault,
+                Err(TtlvFault::Short(0)),
+                "the first {size} bytes of {name}"
+            );
+        }
     }
     Ok(())
 }
