@@ -53,6 +53,9 @@ LONGEST = 30
 
 NO_MEMORY = "no memory\n"
 
+# The progress of a plan whose key k1 was destroyed, as object 1.
+FINISHED = "kmip-progress 2\nk1 destroyed 1 4 31\nend 1\n"
+
 # What stands in each case of KMIP_GROWTHS after its call lacked memory.
 STANDING = {
     "campaign": "the first runs and saves",
@@ -99,6 +102,7 @@ class Process:
     """A program that runs under the shim."""
 
     def __init__(self, shim, words, refusal, source=None):
+        self.refusal = refusal
         self.marks, mark = os.pipe()
         environment = dict(os.environ)
         if refusal:
@@ -138,7 +142,7 @@ class Process:
         except subprocess.TimeoutExpired:
             self.process.kill()
             self.process.communicate()
-            raise Wrong("no end") from None
+            raise Wrong(f"no end, with {self.refusal}: {self.process.args}") from None
         with os.fdopen(self.marks, "rb") as marks:
             found = marks.read()
         output = printed + output.decode()
@@ -218,17 +222,21 @@ class Simulation(Command):
 class Carrying(Command):
     """The command `run` against a server in the same process."""
 
-    def __init__(self, tools, plan, *more):
+    def __init__(self, tools, plan, *more, begun=None, shown=""):
         words = ["run", "--plan", plan, "--loopback", *more]
-        super().__init__(tools, words, shown=" ".join(["run", "--loopback", *more]))
-        self.saved = [None]
+        super().__init__(tools, words, shown=" ".join(["run", "--loopback", *more]) + shown)
+        # The text of the progress file that it begins with, and those that it saves in turn.
+        self.begun = begun
+        self.saved = [begun]
         # Whether the run that is judged has left lines of standard error out.
         self.is_untold = False
 
     def run(self, refusal, more=()):
-        """A run from no progress file; what is left is its text."""
+        """A run; what is left is the text of its progress file."""
         folder = self.tools.new_folder()
         file = folder / "plan.progress"
+        if self.begun is not None:
+            file.write_text(self.begun)
         words = [self.tools.program, *self.words, "--progress", file, *more]
         run = Process(self.tools.shim, words, refusal).end()
         run.left = file.read_text() if file.exists() else None
@@ -288,7 +296,7 @@ class Serving(Command):
                 for message in self.messages:
                     stream.sendall(message)
                     replies.append(received(stream))
-        except ConnectionError:
+        except OSError:
             pass
         return replies
 
@@ -431,6 +439,7 @@ def commands_of(tools):
         sim("--then and --trace", lost, goes_further, further),
         Carrying(tools, destroyed),
         Carrying(tools, destroyed, "--verbose"),
+        Carrying(tools, destroyed, begun=FINISHED, shown=", all done before"),
         Serving(tools, messages),
     ]
 
