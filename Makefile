@@ -2,7 +2,7 @@
 # make demo       answers the example requests, and carries out a plan over a network that loses a reply
 # make test       the gate: every proof from nothing, the wrong bodies, the tests and the program
 # make bench      compares the program with a baseline in plain Rust, and times simulations (needs rustc)
-# make refuse     refuses each growth of memory of the program in turn (needs cc)
+# make refuse     refuses each growth of memory of the program and of kmip_growths in turn (needs cc, python3)
 # make hostile    gives the program lines of ten megabytes, under limits of memory
 # make storm      carries 200 plans over a network that loses and cuts messages, and kills the runs (needs rustc)
 # make peers      runs it against peers that answer nothing, rubbish or too late (needs python3)
@@ -12,6 +12,7 @@
 # make help       prints these lines
 
 program := crates/kmipctl/out/kmipctl
+growths := crates/kmip_growths/out/kmip_growths
 sources := crates.txt $(shell find crates -name out -prune -o \( -name '*.rt' -o -name '*.antt' \) -print)
 
 .PHONY: all demo test bench refuse hostile storm peers tls reading documents help
@@ -21,6 +22,10 @@ all: $(program)
 $(program): $(sources)
 	@echo 'Proving and building kmipctl: from a clean clone this takes some minutes.' >&2
 	@cd crates/kmipctl && rt run </dev/null >/dev/null
+	@touch $@
+
+$(growths): $(sources)
+	@cd crates/kmip_growths && rt run </dev/null >/dev/null
 	@touch $@
 
 demo: $(program)
@@ -33,8 +38,8 @@ test:
 bench: $(program)
 	@bench/bench.sh $(program)
 
-refuse: $(program)
-	@bench/refuse.sh $(program)
+refuse: $(program) $(growths)
+	@python3 bench/refuse.py $(program) $(growths) out/refuse
 
 hostile: $(program)
 	@bench/hostile.sh $(program)

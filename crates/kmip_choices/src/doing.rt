@@ -6,7 +6,7 @@ use kmip_commands::{ExitStatus, Form, run_answer, run_answer_stream, run_show};
 use kmip_network::{refusal_of, run_plan, serve, text_or_why_not};
 use kmip_sim::{Detail, run_sim};
 use std::io;
-use std::io::{BufReader, BufWriter};
+use std::io::{BufReader, BufWriter, Error, ErrorKind};
 
 /// Does what is asked for, and says how the program ends.
 ///
@@ -115,7 +115,7 @@ fn simulate_plans(
         Ok(texts) => texts,
         Err(status) => return Ok(status),
     };
-    if is_refused_after(rt, further.as_str(), plan.as_str()) {
+    if is_refused_after(rt, further.as_str(), plan.as_str())? {
         return simulate(rt, detail, plan.as_str(), Some(further.as_str()), "");
     }
     let Some(script) = text_or_why_not(rt, script_path)? else {
@@ -130,14 +130,13 @@ fn simulate_plans(
     )
 }
 
-/// Whether a text is no plan, or none that prolongs an earlier one. Where memory runs out it is not
-/// said to be so; what is done with it then says so.
-fn is_refused_after(rt: &HostRuntime, plan: &str, earlier: &str) -> bool {
+/// Whether a text is no plan, or none that prolongs an earlier one.
+fn is_refused_after(rt: &HostRuntime, plan: &str, earlier: &str) -> io::Result<bool> {
     let mut text = Vec::new(rt.alloc());
-    matches!(
-        check_after_bytes(rt.alloc(), plan, earlier, &mut text),
-        Ok(true)
-    )
+    match check_after_bytes(rt.alloc(), plan, earlier, &mut text) {
+        Ok(refused) => Ok(refused),
+        Err(_) => Err(Error::from(ErrorKind::OutOfMemory)),
+    }
 }
 
 /// Simulates a plan, and a further one where there is one, to standard output.

@@ -3,23 +3,26 @@
 use kmip_check::{check_bytes, run_check};
 use kmip_commands::ExitStatus;
 use kmip_progress_file::MOST_FILE_BYTES;
-use std::io::{BufWriter, ErrorKind, Read};
+use kmip_ttlv::NoMemory;
+use std::io::{BufWriter, Error, ErrorKind, Read};
 use std::{fs, io};
 
 /// How the program ends where a text is no plan, which is printed; none where it is one.
 pub fn refusal_of(rt: &HostRuntime, plan: &str) -> io::Result<Option<ExitStatus>> {
-    if !is_refused(rt, plan) {
+    if !is_refused(rt, plan)? {
         return Ok(None);
     }
     let mut writer = BufWriter::new(rt.alloc(), io::writer(rt))?;
     Ok(Some(run_check(rt.alloc(), plan, &mut writer)))
 }
 
-/// Whether a text is no plan. Where memory runs out it is not said to be one; what is done with it
-/// then says so.
-fn is_refused(rt: &HostRuntime, plan: &str) -> bool {
+/// Whether a text is no plan.
+fn is_refused(rt: &HostRuntime, plan: &str) -> io::Result<bool> {
     let mut text = Vec::new(rt.alloc());
-    matches!(check_bytes(rt.alloc(), plan, &mut text), Ok(true))
+    match check_bytes(rt.alloc(), plan, &mut text) {
+        Ok(refused) => Ok(refused),
+        Err(NoMemory) => Err(Error::from(ErrorKind::OutOfMemory)),
+    }
 }
 
 /// The text of a file; where it has none, or one that is too long, that is printed.

@@ -2,7 +2,7 @@
 
 use crate::fault::ScriptFault;
 use crate::script::{Script, Word};
-use std::alloc::{AllocError, Global};
+use std::alloc::Global;
 
 /// The most lines that a script may have (own).
 pub const MOST_LINES: usize = 10_000;
@@ -11,40 +11,32 @@ pub const MOST_LINES: usize = 10_000;
 pub const MOST_DIGITS: usize = 6;
 
 /// Reads a script: a word a line, where a number is one space behind it, and empty lines stand for
-/// nothing. What stands behind the last line feed is a line where it is not empty.
+/// nothing. What stands behind the last line feed is a line where it is not empty. Takes memory for the
+/// words alone.
 ///
 /// # Errors
 /// `Line` with the number of the first line, from 1, that is no word, or that is one of more than
 /// 10,000; and `NoMemory`.
 pub fn read_script(alloc: Global, text: &str) -> Result<Script, ScriptFault> {
     let mut words = Vec::new(alloc);
-    let lines = lines(alloc, text)?;
-    for (place, line) in lines.iter().enumerate() {
-        let is_end = line.is_empty() && place + 1 == lines.len();
-        if place >= MOST_LINES && !is_end {
+    for (place, line) in text.split('\n').enumerate() {
+        if place > MOST_LINES || (place == MOST_LINES && !line.is_empty()) {
             return Err(ScriptFault::Line(MOST_LINES + 1));
         }
         if line.is_empty() {
             continue;
         }
-        let word = word_in(alloc, line)?.ok_or(ScriptFault::Line(place + 1))?;
+        let word = word_in(line).ok_or(ScriptFault::Line(place + 1))?;
         words.push(word)?;
     }
     Ok(Script::new(words))
 }
 
-/// The lines of a text, and what stands behind the last line feed.
-fn lines(alloc: Global, text: &str) -> Result<Vec<&str>, AllocError> {
-    text.split('\n').collect(alloc)
-}
-
 /// The word of a line, where it is one.
-fn word_in(alloc: Global, line: &str) -> Result<Option<Word>, AllocError> {
-    let parts: Vec<&str> = line.split(' ').collect(alloc)?;
-    match parts.as_slice() {
-        [word] => Ok(plain_word(word)),
-        [word, number] => Ok(numbered_word(word, number)),
-        _ => Ok(None),
+fn word_in(line: &str) -> Option<Word> {
+    match line.split_once(' ') {
+        Some((word, number)) => numbered_word(word, number),
+        None => plain_word(line),
     }
 }
 

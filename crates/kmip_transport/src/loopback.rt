@@ -1,5 +1,5 @@
 //! A link to a server of this process, over TCP on this machine.
-ghost use Rattle.std.specs.Prelude.{◌≡◌};
+ghost use Rattle.std.specs.Prelude.{◌≡◌, false, Ok};
 
 use crate::dial::Tcp;
 use crate::receiving::receive_message;
@@ -8,12 +8,14 @@ use crate::stream_link::TcpLink;
 use kmip_frames::Framer;
 use kmip_schedule::{Link, LinkFault};
 use kmip_server::{Records, Server};
+use kmip_ttlv::NoMemory;
 use std::alloc::Global;
 use std::net::{Ipv4Addr, Net, OpenListener, OpenStream, SocketAddr, SocketAddrV4};
 use std::time::{Clock, Duration};
 
 /// A link to a server of its own, over TCP on 127.0.0.1 and a port that the system picks: client and
-/// server take turns in one thread. The Time Stamp of each reply is 0.
+/// server take turns in one thread. The Time Stamp of each reply is 0. An exchange in which the server
+/// has no memory ends with that fault, and the request was not served.
 #[derive(Drop)]
 pub struct Loopback<R: Net + Clock + Drop, S: Records + Drop> {
     link: TcpLink<R>,
@@ -52,11 +54,25 @@ impl<R: Net + Clock + Drop, S: Records + Drop> Loopback<R, S> {
 
     /// Answers the request that was sent, if one was; where that fails, the connection is closed, and
     /// the reply lost.
-    fn serve(&mut self, alloc: Global, is_new: bool)
-        ensures { self.new.link.failures ≡ self.old.link.failures }
+    ///
+    /// # Errors
+    /// Where there is no memory for the reply: the connection is closed then too.
+    fn serve(&mut self, alloc: Global, is_new: bool) -> Result<(), NoMemory>
+        ensures same { self.new.link.failures ≡ self.old.link.failures }
+        ensures unconnected { self.old.link.is_connected ≡ false → result ≡ Ok tt }
     {
-        if self.link.is_connected() && !self.answer(alloc, is_new) {
-            self.link.close();
+        if !self.link.is_connected() {
+            return Ok(());
+        }
+        match self.answer(alloc, is_new) {
+            Ok(()) => Ok(()),
+            Err(fault) => {
+                self.link.close();
+                if fault == LinkFault::NoMemory {
+                    return Err(NoMemory);
+                }
+                Ok(())
+            }
         }
     }
 
@@ -75,29 +91,43 @@ impl<R: Net + Clock + Drop, S: Records + Drop> Loopback<R, S> {
         None
     }
 
-    /// Answers the request that was sent, over a new connection where the link has a new one. False
-    /// where that failed.
-    fn answer(&mut self, alloc: Global, is_new: bool) -> bool
+    /// Answers the request that was sent, over a new connection where the link has a new one.
+    ///
+    /// # Errors
+    /// `Io` where the connection failed, `Frame` where what came is no message, and `NoMemory`.
+    fn answer(&mut self, alloc: Global, is_new: bool) -> Result<(), LinkFault>
         ensures { self.new.link ≡ self.old.link }
     {
         if is_new {
             self.accepted = self.accept();
         }
         let Some(mut stream) = self.accepted.take() else {
-            return false;
+            return Err(LinkFault::Io);
         };
-        let Ok(mut framer) = Framer::new(alloc) else {
-            return false;
-        };
-        let Ok(Some(request)) = receive_message(alloc, &mut stream, &mut framer) else {
-            return false;
-        };
-        let Ok(reply) = self.server.handle(alloc, request.as_slice(), 0) else {
-            return false;
-        };
-        let is_sent = send_message(&mut stream, reply.as_slice()).is_ok();
+        let reply = self.reply(alloc, &mut stream)?;
+        send_message(&mut stream, reply.as_slice())?;
         self.accepted = Some(stream);
-        is_sent
+        Ok(())
+    }
+
+    /// The server's reply to the request that comes over the stream.
+    ///
+    /// # Errors
+    /// `Io` where the stream failed or ended first, `Frame` where what came is no message, and
+    /// `NoMemory`.
+    fn reply(&mut self, alloc: Global, stream: &mut R::Stream) -> Result<Vec<u8>, LinkFault>
+        ensures { self.new.link ≡ self.old.link }
+    {
+        let Ok(mut framer) = Framer::new(alloc) else {
+            return Err(LinkFault::NoMemory);
+        };
+        let Some(request) = receive_message(alloc, stream, &mut framer)? else {
+            return Err(LinkFault::Io);
+        };
+        match self.server.handle(alloc, request.as_slice(), 0) {
+            Ok(reply) => Ok(reply),
+            Err(NoMemory) => Err(LinkFault::NoMemory),
+        }
     }
 }
 
@@ -119,8 +149,10 @@ impl<R: Net + Clock + Drop, S: Records + Drop> Link for Loopback<R, S> {
             Ok(()) => {}
             Err(fault) => return Err(fault),
         }
-        self.serve(alloc, is_new);
-        self.link.receive(alloc)
+        match self.serve(alloc, is_new) {
+            Ok(()) => self.link.receive(alloc),
+            Err(NoMemory) => Err(LinkFault::NoMemory),
+        }
     }
 
     fn end_run(&mut self, _alloc: Global) -> Result<(), LinkFault> {

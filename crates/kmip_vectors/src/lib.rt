@@ -109,7 +109,7 @@ pub const CREATE_K1_LOOSE_REPLY: &str = "\
     42007c0100000020420094070000000131000000000000005400020200000004\
     0000000700000000";
 
-/// Each of them, with its name.
+/// Each of those above, with its name.
 pub const ALL: [(&str, &str); 12] = [
     ("locate k1", LOCATE_K1),
     ("locate k1 none", LOCATE_K1_NONE),
@@ -124,6 +124,14 @@ pub const ALL: [(&str, &str); 12] = [
     ("wrong state reply", WRONG_STATE_REPLY),
     ("create k1 loose reply", CREATE_K1_LOOSE_REPLY),
 ];
+
+/// The question to activate object `1`, about `k1`.
+pub const ASK_ACTIVATE: &str = "\
+    42007801000000804200770100000038420069010000002042006a0200000004\
+    000000020000000042006b0200000004000000010000000042000d0200000004\
+    000000010000000042000f010000003842005c05000000040000001200000000\
+    4200930800000003126b31000000000042007901000000104200940700000001\
+    3100000000000000";
 
 /// How a byte is changed, where not all others are put in its place: which of its bits are kept, and
 /// which are then turned over.

@@ -1,0 +1,141 @@
+//! A talk with a client that is to make `k1` active, call by call.
+
+use crate::plans::ACTIVE;
+use crate::setback::Setback;
+use kmip_client::{Client, HearFault, News};
+use kmip_plan::read_plan;
+use kmip_ttlv::NoMemory;
+use kmip_vectors::{ASK_ACTIVATE, CREATE_K1, CREATE_K1_REPLY, LOCATE_K1, LOCATE_K1_NONE};
+use std::alloc::Global;
+use std::io;
+
+/// A call of a client, in hexadecimal.
+#[derive(Clone, Copy)]
+enum Call {
+    /// It is asked for its question, which has to be this one.
+    Ask(&'static str),
+    /// It hears this reply.
+    Hear(&'static str),
+}
+
+impl Call {
+    /// The message that it is about.
+    fn text(self) -> &'static str {
+        match self {
+            Call::Ask(text) | Call::Hear(text) => text,
+        }
+    }
+}
+
+/// The calls of the talk, in turn.
+const TALK: [Call; 5] = [
+    Call::Ask(LOCATE_K1),
+    Call::Hear(LOCATE_K1_NONE),
+    Call::Ask(CREATE_K1),
+    Call::Hear(CREATE_K1_REPLY),
+    Call::Ask(ASK_ACTIVATE),
+];
+
+/// What a call gave: the number of the operation that was asked or answered, and a word for it.
+#[derive(Clone, Copy)]
+struct Said {
+    operation: u32,
+    word: &'static str,
+}
+
+/// Tries the call of the talk at a place from 0, `Client::ask` or `Client::hear`: what it gives, and
+/// what is then known of the key. The calls before it are made beforehand.
+pub(crate) fn try_call(rt: &HostRuntime, case: &str, place: usize) -> Result<(), Setback> {
+    let alloc = rt.alloc();
+    let plan = read_plan(alloc, ACTIVE)?;
+    let mut client = Client::fresh(alloc, &plan)?;
+    for call in TALK.iter().take(place) {
+        let message = hex::decode(alloc, call.text())?;
+        make(alloc, &mut client, *call, message.as_slice())?;
+    }
+    let Some(call) = TALK.get(place).copied() else {
+        return Err(Setback::Other);
+    };
+    let message = hex::decode(alloc, call.text())?;
+    let mut said = make(alloc, &mut client, call, message.as_slice());
+    print!(rt; "{case}: ")?;
+    if said.is_err() {
+        print!(rt; "no memory, ")?;
+        print_known(rt, &client)?;
+        print!(rt; "; again: ")?;
+        said = make(alloc, &mut client, call, message.as_slice());
+    }
+    let Said { operation, word } = said?;
+    print!(rt; "operation {operation}, {word}, ")?;
+    print_known(rt, &client)?;
+    println!(rt; "")?;
+    Ok(())
+}
+
+/// Makes a call of the client.
+fn make(
+    alloc: Global,
+    client: &mut Client<'_>,
+    call: Call,
+    message: &[u8],
+) -> Result<Said, NoMemory> {
+    match call {
+        Call::Ask(_) => ask(alloc, client, message),
+        Call::Hear(_) => hear(alloc, client, message),
+    }
+}
+
+/// Asks the client for its question: whether it is the wanted one.
+fn ask(alloc: Global, client: &mut Client<'_>, wanted: &[u8]) -> Result<Said, NoMemory> {
+    let Some(question) = client.ask(alloc)? else {
+        return Ok(Said {
+            operation: 0,
+            word: "no question",
+        });
+    };
+    let is_wanted = question.bytes.as_slice() == wanted;
+    Ok(Said {
+        operation: question.operation,
+        word: if is_wanted {
+            "the question"
+        } else {
+            "another question"
+        },
+    })
+}
+
+/// Lets the client hear a reply: what came of it.
+fn hear(alloc: Global, client: &mut Client<'_>, reply: &[u8]) -> Result<Said, NoMemory> {
+    match client.hear(alloc, reply) {
+        Ok(heard) => Ok(Said {
+            operation: heard.operation,
+            word: news_word(heard.news),
+        }),
+        Err(HearFault::NoMemory) => Err(NoMemory),
+        Err(fault) => Ok(Said {
+            operation: 0,
+            word: fault.name(),
+        }),
+    }
+}
+
+fn news_word(news: News) -> &'static str {
+    match news {
+        News::Grew => "Grew",
+        News::Same => "Same",
+        News::Refused => "Refused",
+        News::Clash => "Clash",
+    }
+}
+
+/// Prints what is known of the first key.
+fn print_known(rt: &HostRuntime, client: &Client<'_>) -> io::Result<()> {
+    if client.plan().count() == 0 {
+        return Ok(());
+    }
+    let uid = match client.identifier(0) {
+        Some(uid) => uid.as_str(),
+        None => "-",
+    };
+    print!(rt; "{} done of {uid} {:?}", client.done(0), client.verdict(0))
+}
