@@ -31,5 +31,5 @@ returns c =
 
 pub carry_out-end-requires : goal.carry_out-end-requires
 carry_out-end-requires c = record {
-  sound = c.nothing_done_is_sound.ensures c.args.plan.now (past_in c.new_link-link.result) (c.new_link-link.ensures.opening c.args.plan.now)
+  sound = c.nothing_done_is_sound.ensures c.args.plan.now (past_in c.new_link-link.result) (c.new_link-link.ensures.opening c.args.plan.now);
 }
