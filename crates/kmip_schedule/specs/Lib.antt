@@ -5,6 +5,7 @@ pub mod Effects
 pub mod Sound
 pub mod Exchanges
 pub mod Calm
+pub mod Clean
 pub mod Safe
 pub mod Machine
 pub mod Lawbook

@@ -1,0 +1,92 @@
+-- Exchanges over an honest link that go as they should, whatever arrives late beside them; and what a link counts of the others.
+-- Source: own, over KMIP 2.1, Message Structure (Unique Batch Item ID).
+use Rattle.std.specs.Prelude.{◌≡◌, ◌≢◌, ◌⊎◌, ◌≤◌, ◌+◌, ℕ, Bool, false, not, ◌&&◌, nat_eq, List, [], ◌∷◌, Option, Some, None, Result, Ok, Err}
+use Rattle.std.specs.Cmp.Lexicographic.{pointwise}
+use Rattle.std.specs.List.{All, list_any}
+use Rattle.std.specs.Option.{option_map_or}
+use Rattle.kmip_messages.specs.Items.{parts_in, replies_in, requests_in, stops_in}
+use Rattle.kmip_messages.specs.declared.reply.Outcome.TheVariants.{Failed}
+use Rattle.kmip_messages.specs.declared.reply.Reply.{Reply}
+use Rattle.kmip_messages.specs.declared.request.Request.{Request}
+use Rattle.kmip_messages.specs.declared.standard.TheConstants.{REASON_SERVER_FULL}
+use Rattle.kmip_schedule.specs.declared.link.LinkFault.{LinkFault}
+use Rattle.kmip_schedule.specs.declared.link.LinkFault.TheVariants.{Io, Frame, NoMemory}
+use Rattle.kmip_schedule.specs.Calm.{AreTaken}
+use Rattle.kmip_schedule.specs.Exchanges.{with_asked, with_exchange}
+use Rattle.kmip_schedule.specs.Moves.{Delivered}
+use Rattle.kmip_schedule.specs.Past.{Names, Past}
+
+-- the reply does not say that the server has no room
+abbrev pub HasRoom : Reply → Type 0
+HasRoom reply = reply.outcome ≢ Failed (Some REASON_SERVER_FULL)
+
+-- What was asked before may arrive; then the requests of a message join those asked, it is served once, and not refused for want of
+-- room; again what was asked may arrive; and the reply to this message is handed over.
+pub record IsClean (names : Names) (old : Past) (sent : List ℕ) (answer : Option (List ℕ)) (new : Past) : Type 0 where
+  pub given : List ℕ
+  pub before : Past
+  pub served : Past
+  pub after : Past
+  pub early : Delivered names old before
+  pub taken : AreTaken (stops_in sent) (parts_in sent) (replies_in given) (with_asked sent before) served
+  pub roomy : All HasRoom (replies_in given)
+  pub late : Delivered names served after
+  pub answer_is : answer ≡ Some given
+  pub is : new ≡ with_exchange sent answer after
+
+-- the id names a key of these names: an operation in one byte, and the name
+abbrev pub names_one : Names → Option (List ℕ) → Bool
+names_one names None = false
+names_one names (Some []) = false
+names_one names (Some (operation ∷ name)) = names name
+
+-- the names, without those of the requests
+abbrev pub is_name_of : List ℕ → Request → Bool
+is_name_of name request = names_one (pointwise nat_eq name) request.id
+
+abbrev pub but_of : List Request → Names → Names
+but_of requests names = λ name. names name && not (list_any (is_name_of name) requests)
+
+-- the message has a reply about a key of these names that its question is not about
+abbrev pub is_strange : Names → List ℕ → List ℕ → Bool
+is_strange names sent given = list_any (λ reply. names_one (but_of (requests_in sent) names) reply.id) (replies_in given)
+
+-- so has what was handed over
+abbrev pub hands_strange : Names → List ℕ → Option (List ℕ) → Bool
+hands_strange names sent answer = option_map_or (is_strange names sent) answer false
+
+-- How many exchanges over a link were disturbed, and how many handed over a reply about another key.
+pub record Disturbances : Type 0 where
+  pub disturbed : ℕ
+  pub strange : ℕ
+
+-- one more was disturbed, and one more was strange too
+abbrev pub one_disturbed : Disturbances → Disturbances
+one_disturbed d = record { disturbed = d.disturbed + 1; strange = d.strange }
+
+abbrev pub one_strange : Disturbances → Disturbances
+one_strange d = record { disturbed = d.disturbed + 1; strange = d.strange + 1 }
+
+-- An exchange is clean, or it is counted; and counted as strange where it hands over a reply about another key of these names.
+abbrev pub IsCounted : Names → Past → List ℕ → Option (List ℕ) → Past → Disturbances → Disturbances → Type 0
+IsCounted names old sent answer new before after =
+    (IsClean names old sent answer new × (after ≡ before))
+    ⊎ ((hands_strange names sent answer ≡ false) × (after ≡ one_disturbed before))
+    ⊎ (after ≡ one_strange before)
+
+-- no count falls
+abbrev pub AreNoFewer : Disturbances → Disturbances → Type 0
+AreNoFewer before after = (before.disturbed ≤ after.disturbed) × (before.strange ≤ after.strange)
+
+-- the same of what an exchange answers; a failure of the network hands nothing over, and of want of memory only that no count falls
+abbrev pub Counted : Names → Past → List ℕ → Result (Option (List ℕ)) LinkFault → Past → Disturbances → Disturbances → Type 0
+Counted names old sent (Ok answer) new before after = IsCounted names old sent answer new before after
+Counted names old sent (Err Io) new before after = IsCounted names old sent None new before after
+Counted names old sent (Err Frame) new before after = IsCounted names old sent None new before after
+Counted names old sent (Err NoMemory) new before after = AreNoFewer before after
+
+-- the message handed over has no refusal for want of room
+abbrev pub IsRoomy : Result (Option (List ℕ)) LinkFault → Type 0
+IsRoomy (Ok (Some given)) = All HasRoom (replies_in given)
+IsRoomy (Ok None) = ⊥
+IsRoomy (Err fault) = ⊥

@@ -1,0 +1,61 @@
+-- How many exchanges each key of a plan may still take until it is finished, over a link that goes on losing, beside those that the
+-- losses themselves cost. It is what the key needs, and more where a step that was asked may still take effect.
+-- Source: own.
+use Rattle.std.specs.Prelude.{ℕ, ◌+◌, ◌-◌, nat_eq, nat_le, nat_max, Bool, false, List, [], ◌∷◌, Option, if◌then◌else◌}
+use Rattle.std.specs.Cmp.Lexicographic.{pointwise}
+use Rattle.std.specs.List.{list_any}
+use Rattle.std.specs.Option.{is_none, is_some, option_map_or}
+use Rattle.kmip_objects.specs.Objects.{object_named}
+use Rattle.kmip_objects.specs.declared.step.Step.{Step}
+use Rattle.kmip_messages.specs.Operations.{operation_of}
+use Rattle.kmip_messages.specs.declared.request.Request.{Request}
+use Rattle.kmip_chains.specs.Chains.{step_at}
+use Rattle.kmip_chains.specs.declared.key.Key.{Key}
+use Rattle.kmip_progress.specs.declared.known.Known.{Known}
+use Rattle.kmip_knowledge.specs.declared.knowledge.Knowledge.{Knowledge}
+use Rattle.kmip_knowledge.specs.Knowledge.{chain_length}
+use Rattle.kmip_client.specs.Clients.{one_if}
+use Rattle.kmip_client.specs.Places.{position}
+use Rattle.kmip_client.specs.Questions.{id_of, step_ask}
+use Rattle.kmip_schedule.specs.Past.{Past}
+use Rattle.kmip_settling.specs.Needs.{need_of}
+
+-- the id of the requests for a step of the key
+abbrev pub step_id : Key → Step → List ℕ
+step_id key step = id_of (operation_of (step_ask key [] step)) key
+
+-- the step of the key was ever asked
+abbrev pub is_id : List ℕ → Request → Bool
+is_id id request = option_map_or (pointwise nat_eq id) request.id false
+
+abbrev pub was_asked : Key → List Request → Step → Bool
+was_asked key requests step = list_any (is_id (step_id key step)) requests
+
+-- the next step of the key was: it may take effect yet
+abbrev pub is_under_way : Key → Past → Bool
+is_under_way key p = option_map_or (was_asked key p.requests) (step_at key.target (position key p.objects + 1)) false
+
+-- what may be left for a key: nothing once it is finished; else what it needs, one more where it has no object yet, and one more
+-- where its next step is under way
+abbrev pub left_of : Key → Knowledge → Past → ℕ
+left_of key known p =
+    if nat_le (chain_length key) known.done then 0
+    else need_of key known p.objects + one_if (is_none (object_named key.attrs.name p.objects)) + one_if (is_under_way key p)
+
+-- what may be left for all keys
+abbrev pub left_all : List Key → List Knowledge → Past → ℕ
+left_all [] knowns p = 0
+left_all (key ∷ keys) [] p = 0
+left_all (key ∷ keys) (known ∷ knowns) p = left_of key known p + left_all keys knowns p
+
+-- the most that may be left, by what is known alone
+abbrev pub most_left_of : Key → Known → ℕ
+most_left_of key known =
+    if nat_le (chain_length key) known.done then 0
+    else if is_some known.identifier then chain_length key + 2 - nat_max known.done 1
+    else chain_length key + 3
+
+abbrev pub most_left : List Key → List Known → ℕ
+most_left [] saved = 0
+most_left (key ∷ keys) [] = 0
+most_left (key ∷ keys) (known ∷ saved) = most_left_of key known + most_left keys saved
