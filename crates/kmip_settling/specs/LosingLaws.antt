@@ -1,6 +1,6 @@
 -- What holds of clients over a link that goes on losing.
 -- Source: own: what the laws say.
-use Rattle.std.specs.Prelude.{◌≡◌, ◌≤◌, ℕ, ◌+◌, List, length, map, Option}
+use Rattle.std.specs.Prelude.{◌≡◌, ◌≤◌, ℕ, ◌+◌, List, length, Option}
 use Rattle.std.specs.List.{AllZip}
 use Rattle.kmip_plan.specs.Plans.{IsLawful}
 use Rattle.kmip_chains.specs.Chains.{bound}
@@ -9,7 +9,6 @@ use Rattle.kmip_knowledge.specs.declared.knowledge.Knowledge.{Knowledge}
 use Rattle.kmip_client.specs.declared.question.Question.{Question}
 use Rattle.kmip_client.specs.Clients.{IsAbout, fresh, one_if}
 use Rattle.kmip_client.specs.Held.{Held}
-use Rattle.kmip_client.specs.Saving.{known_of}
 use Rattle.kmip_client.specs.Shapes.{IsKept}
 use Rattle.kmip_schedule.specs.Clean.{IsClean, hands_strange}
 use Rattle.kmip_schedule.specs.Exchanges.{HandsOver}
@@ -56,7 +55,7 @@ LeftIsBounded =
 abbrev pub LeftIsWithinWhatIsKnown : Type 0
 LeftIsWithinWhatIsKnown =
     (keys : List Key) (p : Past) (knowns : List Knowledge) → IsLawful keys → Sound keys p → Held p.objects keys knowns
-    → left_all keys knowns p ≤ most_left keys (map known_of knowns)
+    → left_all keys knowns p ≤ most_left keys knowns
 
 -- and exactly the bound where nothing of the plan has happened and nothing is known
 abbrev pub OpeningLeavesTheBound : Type 0
@@ -67,4 +66,4 @@ OpeningLeavesTheBound =
 abbrev pub MostLeftNeverRises : Type 0
 MostLeftNeverRises =
     (keys : List Key) (old new : List Knowledge) → AllZip IsKept old new
-    → most_left keys (map known_of new) ≤ most_left keys (map known_of old)
+    → most_left keys new ≤ most_left keys old
