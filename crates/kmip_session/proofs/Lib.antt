@@ -3,6 +3,7 @@ pub mod KnownLemmas
 pub mod GoodLemmas
 pub mod ReportLemmas
 pub mod SettleLemmas
+pub mod LosingLemmas
 pub mod CompleteLemmas
 pub mod DriveLemmas
 pub mod FurtherLemmas

@@ -17,6 +17,7 @@ use Rattle.kmip_settling.specs.Laws.{
   WhoIsSettledNeedsNothing,
   WhoNeedsNothingIsFinished,
 }
+use Rattle.kmip_settling.specs.LosingLaws.{CleanTurnsAreNearer, DisturbedTurnsCostTwo, LeftIsBounded, NeedsAreLeft}
 
 pub record Lawbook : Type 0 where
   pub found : KeysAreFound
@@ -47,3 +48,7 @@ pub record Lawbook : Type 0 where
   pub asked : JustifiedOfProlonged
   pub room : RoomIsLeft
   pub less : ProlongedMissNoLess
+  pub clean : CleanTurnsAreNearer
+  pub disturbed : DisturbedTurnsCostTwo
+  pub needs_left : NeedsAreLeft
+  pub left_bounded : LeftIsBounded

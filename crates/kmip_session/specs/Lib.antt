@@ -1,4 +1,5 @@
 pub mod Stops
+pub mod Losing
 pub mod Losses
 pub mod Driving
 pub mod Reporting

@@ -13,6 +13,7 @@ ghost use Rattle.kmip_session.specs.Driving.{IsBrokenOff, IsGivenUp, IsGood, IsS
 ghost use Rattle.kmip_client.specs.Known.{facts};
 ghost use Rattle.kmip_schedule.specs.Past.{Past};
 ghost use Rattle.kmip_session.specs.Lawbook.{Lawbook};
+ghost use Rattle.kmip_session.specs.Losing.{ArePaid, cost, left_for};
 ghost use Rattle.kmip_session.specs.Losses.{or_loss};
 ghost use Rattle.kmip_settling.specs.Needs.{chains_and_looks};
 ghost use Rattle.kmip_settling.specs.Turns.{is_answer_to, taught, taught_by};
@@ -153,6 +154,10 @@ fn turn<L: Link>(alloc: Global, client: &mut Client<'_>, link: &mut L) -> Result
     ensures calm { IsSettling L.past L.calm client.old link.old → IfOk result (λ asked.
         IsSettling L.past L.calm client.new link.new × (one_if asked
         + need client.new (L.past link.new) ≡ need client.old (L.past link.old))) }
+    ensures losing { IsGood L.past L.honest client.old link.old → IfOk result (λ asked.
+        ArePaid (one_if asked) (left_for client.old (L.past link.old))
+        (left_for client.new (L.past link.new)) (L.disturbances link.old)
+        (L.disturbances link.new)) }
     ensures honest { (names : Names) → L.honest link.old names → L.honest link.new names }
     ensures further { IsGood L.past L.honest client.old link.old → KeepsFurther L.past L.honest
         L.calm client.old.keys (IsOk result) link.old link.new }
@@ -194,6 +199,9 @@ fn put<L: Link>(
     ensures calm { IsSettling L.past L.calm client.old link.old → OnOk result (
         IsSettling L.past L.calm client.new link.new
         × (1 + need client.new (L.past link.new) ≡ need client.old (L.past link.old))) }
+    ensures losing { IsGood L.past L.honest client.old link.old → OnOk result (ArePaid 1
+        (left_for client.old (L.past link.old)) (left_for client.new (L.past link.new))
+        (L.disturbances link.old) (L.disturbances link.new)) }
     ensures honest { (names : Names) → L.honest link.old names → L.honest link.new names }
     ensures further { IsGood L.past L.honest client.old link.old
         → JustifiedMessage client.old.keys (L.past link.old).objects question.now.bytes

@@ -9,6 +9,7 @@ use Rattle.kmip_session.specs.Losses.{or_loss}
 use Rattle.kmip_session.proofs.FurtherLemmas.{further_asked}
 use Rattle.kmip_session.proofs.GoodLemmas.{good_left, if_handed, left, told}
 use Rattle.kmip_session.proofs.KnownLemmas.{broken_asked, broken_handed, exchanged_grown, handed_over, learnt_one, lost_facts, on_err, on_ok}
+use Rattle.kmip_session.proofs.LosingLemmas.{paid_one}
 use Rattle.kmip_session.proofs.SettleLemmas.{nearer_one}
 use Rattle.kmip_session.proofs.driving.put.Goals as goal
 
@@ -122,3 +123,11 @@ returns-clause-further g c = λ good just.
     _ c.plan-plan.ensures.lawful c.requires c.as_slice.ensures c.exchange.ensures.honest c.exchange.ensures.calm c.calm_laws.ensures.honest
     (λ link names fewer among. (c.calm_laws.ensures.fewer link names fewer among).1) (λ is. (_, sym c.in-Ok.ensures))
     (subst (λ bytes. JustifiedMessage client.keys (g.L.Link.past c.args.link.now).objects bytes) (sym c.as_slice.ensures) just) good
+
+pub returns-clause-losing : goal.returns-clause-losing
+returns-clause-losing g c = λ good.
+    on_ok c.learn.result
+    (paid_one g.L.Link.past g.L.Link.honest g.L.Link.disturbances c.laws_below.ensures c.args.client.now c.learn.new.client c.args.link.now c.exchange.new.self
+    c.as_slice.result.now _ c.args.question.now _ c.plan-plan.ensures.lawful c.requires c.as_slice.ensures c.exchange.ensures.honest c.exchange.ensures.disturbed
+    (sym c.in-Ok.ensures) good c.learn.ensures.kept.keys_stay)
+    c.learn.ensures.taught
