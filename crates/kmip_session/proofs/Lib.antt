@@ -12,6 +12,7 @@ pub mod OrderLemmas
 pub mod RememberLemmas
 pub mod CalmLemmas
 pub mod RunLemmas
+pub mod OutlastLemmas
 pub mod PartLemmas
 pub mod LastLemmas
 pub mod PlanLemmas

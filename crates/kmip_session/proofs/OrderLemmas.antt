@@ -123,7 +123,7 @@ saved_long run knowns old new is = elim (cases_Bool run.save) [
 
 -- ---- runs in turn
 
-one_further : {A : Type 0} (xs : List A) (at : ℕ) (x : A) → slice_get xs at ≡ Some x → take (suc at) xs ≡ take at xs ++ x ∷ []
+pub one_further : {A : Type 0} (xs : List A) (at : ℕ) (x : A) → slice_get xs at ≡ Some x → take (suc at) xs ≡ take at xs ++ x ∷ []
 one_further [] at x is = absurd cc
 one_further (y ∷ ys) zero x is = let same : y ≡ x = cc in ap (λ z. z ∷ []) same
 one_further (y ∷ ys) (suc at) x is = ap (λ zs. y ∷ zs) (one_further ys at x is)

@@ -1,6 +1,6 @@
 pub mod Stops
-pub mod Losing
 pub mod Losses
+pub mod Losing
 pub mod Driving
 pub mod Reporting
 pub mod Lawbook
