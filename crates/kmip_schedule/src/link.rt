@@ -1,6 +1,7 @@
 //! A link to a server, and why it has no answer.
-ghost use Rattle.std.specs.Prelude.{◌≡◌, ◌≤◌, ◌<◌, ℕ, List, Some, None, Ok, IfErr, OnErr, OnOk, option_map};
+ghost use Rattle.std.specs.Prelude.{◌≡◌, ◌≤◌, ◌<◌, ℕ, List, length, Some, None, Ok, IfErr, OnErr, OnOk, option_map};
 ghost use Rattle.kmip_schedule.specs.Calm.{CalmlyExchanged, CalmlyEnded};
+ghost use Rattle.kmip_schedule.specs.Ending.{Ended};
 ghost use Rattle.kmip_schedule.specs.Exchanges.{Exchanged, answer_in};
 ghost use Rattle.kmip_schedule.specs.Faults.{link_fault_number, link_fault_name, most_failures};
 ghost use Rattle.kmip_schedule.specs.Moves.{Delivered};
@@ -24,6 +25,9 @@ pub trait Link {
     /// How often its network has failed, up to 2^64 - 1. From then on it sends nothing.
     ghost failures: { Self → ℕ };
 
+    /// Where the runs that were ended over it did: how many messages had been sent then, in order.
+    ghost ended: { Self → List ℕ };
+
     /// Sends the bytes of a request, and answers the bytes of a reply that came; none where it was
     /// lost, or where the link sends nothing any more.
     ///
@@ -41,12 +45,14 @@ pub trait Link {
         ensures io { IfErr result (λ fault. fault ≡ LinkFault.Io
             → failures self.old < failures self.new) }
         ensures spent { failures self.old ≡ most_failures
-            → answer_in (λ v. v.items) result ≡ Ok None };
+            → answer_in (λ v. v.items) result ≡ Ok None }
+        ensures ended { (names : Names) → honest self.old names
+            → ended self.new ≡ ended self.old };
 
-    /// A run has ended: what is under way over the link may still arrive, or never.
+    /// A run has ended, which is noted: what is under way over the link may still arrive, or never.
     ///
     /// # Errors
-    /// `Io` and `Frame` as of an exchange, and `NoMemory`.
+    /// `Io` and `Frame` as of an exchange, and `NoMemory`: the end is then noted or not.
     fn end_run(&mut self, alloc: Global) -> Result<(), LinkFault>
         ensures honest { (names : Names) → honest self.old names → honest self.new names
             × Delivered names (past self.old) (past self.new) }
@@ -55,7 +61,9 @@ pub trait Link {
         ensures counted { failures self.old ≤ failures self.new }
         ensures io { IfErr result (λ fault. fault ≡ LinkFault.Io
             → failures self.old < failures self.new) }
-        ensures spent { failures self.old ≡ most_failures → result ≡ Ok tt };
+        ensures spent { failures self.old ≡ most_failures → result ≡ Ok tt }
+        ensures ended { (names : Names) → honest self.old names
+            → Ended result (length (past self.old).sent) (ended self.old) (ended self.new) };
 
     /// A calm link is honest, and its network may fail once more; and what it is for names it is for
     /// fewer. Laws, which do nothing.

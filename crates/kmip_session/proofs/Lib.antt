@@ -11,6 +11,7 @@ pub mod OrderLemmas
 pub mod RememberLemmas
 pub mod CalmLemmas
 pub mod RunLemmas
+pub mod EndingLemmas
 pub mod PartLemmas
 pub mod LastLemmas
 pub mod PlanLemmas

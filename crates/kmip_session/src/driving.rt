@@ -85,6 +85,8 @@ pub fn drive<L: Link>(
     ensures no_conflict { IsGood L.past L.honest client.old link.old
         → result.0 ≢ Stop.Conflict }
     ensures honest { (names : Names) → L.honest link.old names → L.honest link.new names }
+    ensures ended { (names : Names) → L.honest link.old names
+        → L.ended link.new ≡ L.ended link.old }
     ensures further { IsGood L.past L.honest client.old link.old → KeepsFurther L.past L.honest
         L.calm client.old.keys (result.0 ≢ Stop.NoMemory) link.old link.new }
 {
@@ -154,6 +156,8 @@ fn turn<L: Link>(alloc: Global, client: &mut Client<'_>, link: &mut L) -> Result
         IsSettling L.past L.calm client.new link.new × (one_if asked
         + need client.new (L.past link.new) ≡ need client.old (L.past link.old))) }
     ensures honest { (names : Names) → L.honest link.old names → L.honest link.new names }
+    ensures ended { (names : Names) → L.honest link.old names
+        → L.ended link.new ≡ L.ended link.old }
     ensures further { IsGood L.past L.honest client.old link.old → KeepsFurther L.past L.honest
         L.calm client.old.keys (IsOk result) link.old link.new }
 {
@@ -195,6 +199,8 @@ fn put<L: Link>(
         IsSettling L.past L.calm client.new link.new
         × (1 + need client.new (L.past link.new) ≡ need client.old (L.past link.old))) }
     ensures honest { (names : Names) → L.honest link.old names → L.honest link.new names }
+    ensures ended { (names : Names) → L.honest link.old names
+        → L.ended link.new ≡ L.ended link.old }
     ensures further { IsGood L.past L.honest client.old link.old
         → JustifiedMessage client.old.keys (L.past link.old).objects question.now.bytes
         → KeepsFurther L.past L.honest L.calm client.old.keys (IsOk result) link.old link.new }
