@@ -92,6 +92,8 @@ impl<L: Link, C: Clock> Link for Paced<L, C> {
 
     ghost failures = { λ paced. L.failures paced.link };
 
+    ghost ended = { λ paced. L.ended paced.link };
+
     fn exchange(&mut self, alloc: Global, request: &[u8]) -> Result<Option<Vec<u8>>, LinkFault>
         ensures honest { (names : Names) → L.honest self.old.link names
             → L.honest self.new.link names × Exchanged names (L.past self.old.link) request.now
@@ -104,6 +106,8 @@ impl<L: Link, C: Clock> Link for Paced<L, C> {
             → L.failures self.old.link < L.failures self.new.link) }
         ensures spent { L.failures self.old.link ≡ most_failures
             → answer_in (λ v. v.items) result ≡ Ok None }
+        ensures ended { (names : Names) → L.honest self.old.link names
+            → L.ended self.new.link ≡ L.ended self.old.link }
         ensures first { self.new.first ≡ self.old.first }
         ensures replied { IsTrue (has_reply result) → self.new.wait ≡ wait_after self.old.first 0 }
         ensures silent { has_reply result ≡ false → (count : ℕ)

@@ -6,6 +6,7 @@ pub mod Sound
 pub mod Exchanges
 pub mod Calm
 pub mod Clean
+pub mod Ending
 pub mod Safe
 pub mod Machine
 pub mod Lawbook

@@ -1,7 +1,8 @@
 //! A link to a server, and why it has no answer.
-ghost use Rattle.std.specs.Prelude.{◌≡◌, ◌≤◌, ◌<◌, ℕ, List, Some, None, Ok, IfErr, OnErr, OnOk, option_map};
+ghost use Rattle.std.specs.Prelude.{◌≡◌, ◌≤◌, ◌<◌, ℕ, List, length, Some, None, Ok, IfErr, OnErr, OnOk, option_map};
 ghost use Rattle.kmip_schedule.specs.Calm.{CalmlyExchanged, CalmlyEnded};
 ghost use Rattle.kmip_schedule.specs.Clean.{Counted, Disturbances, IsRoomy};
+ghost use Rattle.kmip_schedule.specs.Ending.{Ended};
 ghost use Rattle.kmip_schedule.specs.Exchanges.{Exchanged, answer_in};
 ghost use Rattle.kmip_schedule.specs.Faults.{link_fault_number, link_fault_name, most_failures};
 ghost use Rattle.kmip_schedule.specs.Moves.{Delivered};
@@ -25,8 +26,12 @@ pub trait Link {
     /// How often its network has failed, up to 2^64 - 1. From then on it sends nothing.
     ghost failures: { Self → ℕ };
 
-    /// How many of its exchanges were disturbed, and how many of those handed over a reply about another key.
+    /// How many of its exchanges were disturbed, and how many of those handed over a reply about
+    /// another key.
     ghost disturbances: { Self → Disturbances };
+
+    /// Where the runs that were ended over it did: how many messages had been sent then, in order.
+    ghost ended: { Self → List ℕ };
 
     /// Sends the bytes of a request, and answers the bytes of a reply that came; none where it was
     /// lost, or where the link sends nothing any more.
@@ -51,12 +56,14 @@ pub trait Link {
             (disturbances self.old) (disturbances self.new) }
         ensures undisturbed { (names : Names) → calm self.old names
             → IsRoomy (answer_in (λ v. v.items) result)
-            → disturbances self.new ≡ disturbances self.old };
+            → disturbances self.new ≡ disturbances self.old }
+        ensures ended { (names : Names) → honest self.old names
+            → ended self.new ≡ ended self.old };
 
-    /// A run has ended: what is under way over the link may still arrive, or never.
+    /// A run has ended, which is noted: what is under way over the link may still arrive, or never.
     ///
     /// # Errors
-    /// `Io` and `Frame` as of an exchange, and `NoMemory`.
+    /// `Io` and `Frame` as of an exchange, and `NoMemory`: the end is then noted or not.
     fn end_run(&mut self, alloc: Global) -> Result<(), LinkFault>
         ensures honest { (names : Names) → honest self.old names → honest self.new names
             × Delivered names (past self.old) (past self.new) }
@@ -67,7 +74,9 @@ pub trait Link {
             → failures self.old < failures self.new) }
         ensures spent { failures self.old ≡ most_failures → result ≡ Ok tt }
         ensures undisturbed { (names : Names) → honest self.old names
-            → disturbances self.new ≡ disturbances self.old };
+            → disturbances self.new ≡ disturbances self.old }
+        ensures ended { (names : Names) → honest self.old names
+            → Ended result (length (past self.old).sent) (ended self.old) (ended self.new) };
 
     /// A calm link is honest, and its network may fail once more; and what it is for names it is for
     /// fewer. Laws, which do nothing.

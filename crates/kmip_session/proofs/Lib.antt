@@ -13,6 +13,7 @@ pub mod RememberLemmas
 pub mod CalmLemmas
 pub mod RunLemmas
 pub mod OutlastLemmas
+pub mod EndingLemmas
 pub mod PartLemmas
 pub mod LastLemmas
 pub mod PlanLemmas

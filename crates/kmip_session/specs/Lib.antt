@@ -5,6 +5,7 @@ pub mod Driving
 pub mod Reporting
 pub mod Lawbook
 pub mod Campaign
+pub mod Ending
 pub mod CampaignParts
 pub mod Campaigns
 pub mod CampaignsParts

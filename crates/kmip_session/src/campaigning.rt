@@ -4,6 +4,7 @@ ghost use Rattle.std.specs.List.{All, AllZip, Contains};
 ghost use Rattle.kmip_objects.specs.Objects.{Object};
 ghost use Rattle.kmip_client.specs.Held.{Held, TrueProgress};
 ghost use Rattle.kmip_progress.specs.Suiting.{Suits};
+ghost use Rattle.kmip_schedule.specs.Ending.{EndedAt};
 ghost use Rattle.kmip_schedule.specs.Machine.{IsMirrored};
 ghost use Rattle.kmip_schedule.specs.Moves.{Delivered};
 ghost use Rattle.kmip_client.specs.Saving.{known_of};
@@ -25,6 +26,7 @@ ghost use Rattle.kmip_session.specs.CampaignParts.{
   Standing,
 };
 ghost use Rattle.kmip_session.specs.Driving.{KeepsFurther, Stands, WentOn};
+ghost use Rattle.kmip_session.specs.Ending.{AreEnded, EndsJoin};
 ghost use Rattle.kmip_session.specs.Remembering.{AreKnown, AreKnownFrom, resumed, saved_numbered, start_knowns};
 
 use crate::driving::drive;
@@ -115,6 +117,9 @@ pub fn campaign<L: Link>(alloc: Global, plan: &Plan, link: &mut L, runs: &[Run])
     ensures settles { CalmLink L.past L.calm plan.now link.old → result.fault ≡ None
         → AllZip (Settles plan.now) runs.now result.runs.items
         × CalmLink L.past L.calm plan.now link.new }
+    ensures ended { L.honest link.old (is_planned plan.now) → AreEnded result.runs.items
+        (result.fault ≡ None) (length (L.past link.old).sent)
+        (L.ended link.old) (L.ended link.new) }
 {
     laws_of_runs();
     plan.keys();
@@ -150,6 +155,9 @@ pub(crate) fn run_all<L: Link>(
     requires { All (Suits plan.now) carried.now }
     ensures all { HasRunAll L.past L.honest L.calm plan.now carried.now runs.now result
         link.old link.new }
+    ensures ended { L.honest link.old (is_planned plan.now) → EndsJoin [] result.runs.items
+        (result.fault ≡ None) (length (L.past link.old).sent) (length (L.past link.new).sent)
+        (L.ended link.old) (L.ended link.new) }
 {
     let mut end = CampaignEnd {
         runs: Vec::new(alloc),
@@ -194,6 +202,9 @@ fn run_each<L: Link>(
         → All (TrueProgress (L.past link.old).objects plan.now) carried.now
         → OnOk result (AllZip (Settles plan.now) runs.now end.new.runs.items
         × CalmLink L.past L.calm plan.now link.new) }
+    ensures ended { L.honest link.old (is_planned plan.now) → EndsJoin [] end.new.runs.items
+        (result ≡ Ok tt) (length (L.past link.old).sent) (length (L.past link.new).sent)
+        (L.ended link.old) (L.ended link.new) }
 {
     laws_of_runs();
     L::calm_laws();
@@ -244,6 +255,9 @@ fn one_run<'p, L: Link>(
         → CalmLink L.past L.calm plan.now link.old
         → OnOk result (HasSettled plan.now run end.old.runs.items end.new.runs.items
         × CalmLink L.past L.calm plan.now link.new) }
+    ensures ended { L.honest link.old (is_planned plan.now) → EndsJoin end.old.runs.items
+        end.new.runs.items (result ≡ Ok tt) (length (L.past link.old).sent)
+        (length (L.past link.new).sent) (L.ended link.old) (L.ended link.new) }
 {
     laws_of_runs();
     plan.keys();
@@ -436,6 +450,11 @@ fn close<L: Link>(alloc: Global, link: &mut L) -> Result<(), NoMemory>
         × Delivered names (L.past link.old) (L.past link.new) }
     ensures calm { (names : Names) → L.calm link.old names → L.calm link.new names
         × OnOk result (L.past link.new ≡ L.past link.old) }
+    ensures ended { (names : Names) → L.honest link.old names → OnOk result (
+        EndedAt (length (L.past link.old).sent) (L.ended link.old) (L.ended link.new)) }
+    ensures once { (names : Names) → L.honest link.old names
+        → EndedAt (length (L.past link.old).sent) (L.ended link.old) (L.ended link.new)
+        ⊎ (L.ended link.new ≡ L.ended link.old) }
 {
     match link.end_run(alloc) {
         Ok(()) | Err(LinkFault::Io) | Err(LinkFault::Frame) => Ok(()),

@@ -13,7 +13,7 @@ ghost use Rattle.kmip_session.specs.Driving.{IsBrokenOff, IsGivenUp, IsGood, IsS
 ghost use Rattle.kmip_client.specs.Known.{facts};
 ghost use Rattle.kmip_schedule.specs.Past.{Past};
 ghost use Rattle.kmip_session.specs.Lawbook.{Lawbook};
-ghost use Rattle.kmip_session.specs.Losing.{ArePaid, cost, left_for};
+ghost use Rattle.kmip_session.specs.Losing.{ArePaid, IsEnough, left_for};
 ghost use Rattle.kmip_session.specs.Losses.{or_loss};
 ghost use Rattle.kmip_settling.specs.Needs.{chains_and_looks};
 ghost use Rattle.kmip_settling.specs.Turns.{is_answer_to, taught, taught_by};
@@ -79,6 +79,13 @@ pub fn drive<L: Link>(
     ensures calm { IsSettling L.past L.calm client.old link.old → result.0 ≢ Stop.NoMemory
         → IsSettling L.past L.calm client.new link.new
         × (result.1 + need client.new (L.past link.new) ≡ need client.old (L.past link.old)) }
+    ensures losing { IsGood L.past L.honest client.old link.old → result.0 ≢ Stop.NoMemory
+        → ArePaid result.1 (left_for client.old (L.past link.old))
+        (left_for client.new (L.past link.new)) (L.disturbances link.old)
+        (L.disturbances link.new) }
+    ensures outlasts { IsGood L.past L.honest client.old link.old → result.0 ≢ Stop.NoMemory
+        → IsEnough client.old.keys limit (L.disturbances link.old) (L.disturbances link.new)
+        → result.0 ≡ Stop.AllFinished }
     ensures finishes { IsUntouched L.past L.calm client.old link.old
         → bound client.old.keys ≤ limit → result.0 ≢ Stop.NoMemory
         → (result.1 ≡ chains_and_looks client.old.keys)
@@ -86,6 +93,8 @@ pub fn drive<L: Link>(
     ensures no_conflict { IsGood L.past L.honest client.old link.old
         → result.0 ≢ Stop.Conflict }
     ensures honest { (names : Names) → L.honest link.old names → L.honest link.new names }
+    ensures ended { (names : Names) → L.honest link.old names
+        → L.ended link.new ≡ L.ended link.old }
     ensures further { IsGood L.past L.honest client.old link.old → KeepsFurther L.past L.honest
         L.calm client.old.keys (result.0 ≢ Stop.NoMemory) link.old link.new }
 {
@@ -159,6 +168,8 @@ fn turn<L: Link>(alloc: Global, client: &mut Client<'_>, link: &mut L) -> Result
         (left_for client.new (L.past link.new)) (L.disturbances link.old)
         (L.disturbances link.new)) }
     ensures honest { (names : Names) → L.honest link.old names → L.honest link.new names }
+    ensures ended { (names : Names) → L.honest link.old names
+        → L.ended link.new ≡ L.ended link.old }
     ensures further { IsGood L.past L.honest client.old link.old → KeepsFurther L.past L.honest
         L.calm client.old.keys (IsOk result) link.old link.new }
 {
@@ -203,6 +214,8 @@ fn put<L: Link>(
         (left_for client.old (L.past link.old)) (left_for client.new (L.past link.new))
         (L.disturbances link.old) (L.disturbances link.new)) }
     ensures honest { (names : Names) → L.honest link.old names → L.honest link.new names }
+    ensures ended { (names : Names) → L.honest link.old names
+        → L.ended link.new ≡ L.ended link.old }
     ensures further { IsGood L.past L.honest client.old link.old
         → JustifiedMessage client.old.keys (L.past link.old).objects question.now.bytes
         → KeepsFurther L.past L.honest L.calm client.old.keys (IsOk result) link.old link.new }

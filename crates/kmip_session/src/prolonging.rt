@@ -1,10 +1,10 @@
 //! Runs on plans of which each prolongs the one before, the plans in turn.
-ghost use Rattle.std.specs.Prelude.{◌≡◌, ◌≤◌, ◌++◌, ◌⊎◌, [], length, map, None, Ok, IfOk, IfSome, OnErr, OnOk, option_map};
+ghost use Rattle.std.specs.Prelude.{◌≡◌, ◌≤◌, ◌++◌, ◌⊎◌, [], length, map, None, Ok, IfOk, IsOk, IfSome, OnErr, OnOk, option_map};
 ghost use Rattle.std.specs.List.{All};
 ghost use Rattle.kmip_plan.specs.Prolonging.{Prolongs};
 ghost use Rattle.kmip_progress.specs.Suiting.{Suits};
 ghost use Rattle.kmip_schedule.specs.Machine.{IsMirrored};
-ghost use Rattle.kmip_schedule.specs.Past.{is_planned};
+ghost use Rattle.kmip_schedule.specs.Past.{Names, is_planned};
 ghost use Rattle.kmip_schedule.specs.Safe.{Safe};
 ghost use Rattle.kmip_schedule.specs.Sound.{Opening};
 ghost use Rattle.kmip_session.specs.Campaign.{GoodLink, HasNoConflict, reported};
@@ -20,6 +20,7 @@ ghost use Rattle.kmip_session.specs.Campaigns.{
 };
 ghost use Rattle.kmip_session.specs.CampaignsParts.{HasRunPart, HasRunPlans, HasRunWhole, IsReadFor, PlansLaws};
 ghost use Rattle.kmip_session.specs.Driving.{WentOn};
+ghost use Rattle.kmip_session.specs.Ending.{AreEnded, EndsJoin};
 
 use crate::campaigning::{CampaignEnd, Run, laws_of_runs, run_all};
 use kmip_client::laws::{progress_is_true_of_prolonged_plans, prolonged_plans_keep_the_truth};
@@ -67,6 +68,9 @@ pub fn campaigns<L: Link>(
         result.runs.items result.saved.items (L.honest link.old (is_planned (last_plan plans.now)))
         (CalmStart L.past L.calm plans.now link.old) (result.fault ≡ None)
         (L.past link.old) (L.past link.new) }
+    ensures ended { L.honest link.old (is_planned (last_plan plans.now))
+        → AreEnded result.runs.items (result.fault ≡ None) (length (L.past link.old).sent)
+        (L.ended link.old) (L.ended link.new) }
 {
     laws_below();
     let mut end = CampaignEnd {
@@ -109,8 +113,11 @@ fn run_plans<L: Link>(
     requires some { 1 ≤ length plans.now }
     requires as_many { length runs.now ≡ length plans.now }
     requires prolong { AreProlonged plans.now }
-    ensures { HasRunPlans L.past L.honest L.calm plans.now (map (λ list. list.items) runs.now)
+    ensures ran { HasRunPlans L.past L.honest L.calm plans.now (map (λ list. list.items) runs.now)
         (result ≡ Ok tt) link.old link.new end.new }
+    ensures ended { L.honest link.old (is_planned (last_plan plans.now))
+        → EndsJoin [] end.new.runs.items (result ≡ Ok tt) (length (L.past link.old).sent)
+        (length (L.past link.new).sent) (L.ended link.old) (L.ended link.new) }
 {
     laws_below();
     L::calm_laws();
@@ -149,6 +156,10 @@ fn run_part<L: Link>(
     ensures broken { OnErr result ((AreSame end.old end.new × (link.new ≡ link.old))
         ⊎ HasRunPart L.past L.honest L.calm plan.now carried.now runs.now link.old link.new
         end.old end.new) }
+    ensures ended { L.honest link.old (is_planned plan.now) → EndsJoin end.old.runs.items
+        end.new.runs.items (IsOk result) (length (L.past link.old).sent)
+        (length (L.past link.new).sent) (L.ended link.old) (L.ended link.new) }
+    ensures honest { (names : Names) → L.honest link.old names → L.honest link.new names }
 {
     end.runs.reserve(runs.len())?;
     end.saved.reserve(runs.len())?;

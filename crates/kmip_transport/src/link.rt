@@ -7,6 +7,7 @@ use std::alloc::Global;
 
 /// Never known to be honest or calm: a network may do anything.
 impl<D: Dial + Drop> Link for StreamLink<D> {
+    ghost use Rattle.std.specs.Prelude.{[]};
     ghost use Rattle.kmip_transport.specs.Links.{unknown_past};
 
     ghost past = { λ link. unknown_past };
@@ -16,6 +17,8 @@ impl<D: Dial + Drop> Link for StreamLink<D> {
     ghost calm = { λ link names. ⊥ };
 
     ghost failures = { λ link. link.failures };
+
+    ghost ended = { λ link. [] };
 
     fn exchange(&mut self, alloc: Global, request: &[u8]) -> Result<Option<Vec<u8>>, LinkFault> {
         match self.send(request) {

@@ -5,6 +5,7 @@ use Rattle.kmip_client.specs.Held.{TrueProgress}
 use Rattle.kmip_session.specs.Campaign.{reported}
 use Rattle.kmip_session.specs.CampaignParts.{HasRunAll}
 use Rattle.kmip_session.proofs.CampaignLemmas.{reported_reached}
+use Rattle.kmip_session.proofs.EndingLemmas.{all_joined}
 use Rattle.kmip_session.proofs.campaigning.campaign.Goals as goal
 
 pub returns : goal.returns
@@ -35,4 +36,5 @@ returns g c =
       complete = all.complete;
       known = all.known;
       settles = λ calmly is. all.settles calmly nothing is;
+      ended = λ honest. all_joined ends _ _ _ _ _ (c.run_all.ensures.ended honest);
     }

@@ -1,15 +1,17 @@
 -- Begun, driven, noted and closed.
-use Rattle.std.proofs.Common.{◌≡◌, ◌∙◌, ◌++◌, arith, inl, inr, refl, subst, sym}
+use Rattle.std.proofs.Common.{◌≡◌, ◌∙◌, ◌++◌, Ok, arith, inl, inr, refl, subst, sym}
 use Rattle.std.specs.List.{All}
 use Rattle.kmip_client.specs.Held.{TrueProgress}
+use Rattle.kmip_schedule.specs.Past.{is_planned}
 use Rattle.kmip_session.specs.Remembering.{start_knowns}
 use Rattle.kmip_session.proofs.CalmLemmas.{settled_run}
 use Rattle.kmip_session.proofs.CampaignLemmas.{closed, stood}
 use Rattle.kmip_session.proofs.DriveLemmas.{further_if}
+use Rattle.kmip_session.proofs.EndingLemmas.{join_none, join_run}
 use Rattle.kmip_session.proofs.FurtherLemmas.{further_closed, further_nowhere, further_then}
 use Rattle.kmip_session.proofs.KnownLemmas.{always_err, grown_itself}
 use Rattle.kmip_session.proofs.RememberLemmas.{always_ok, broken_off, no_ok, ran_closed}
-use Rattle.kmip_session.proofs.RunLemmas.{driven_further}
+use Rattle.kmip_session.proofs.RunLemmas.{driven_further, if_ok}
 use Rattle.kmip_session.proofs.campaigning.one_run.Goals as goal
 
 pub returns-in_err-finish-clause-stands : goal.returns-in_err-finish-clause-stands
@@ -104,3 +106,28 @@ returns-clause-further g c = λ standing carried.
     c.drive-driven.ensures.further standing)
     (further_closed g.L.Link.past g.L.Link.honest g.L.Link.calm c.laws_of_runs.ensures c.args.plan.now c.drive-driven.new.link c.close.new.link c.close.result
     c.close.ensures.honest c.close.ensures.calm)
+
+pub returns-in_err-begin-clause-ended : goal.returns-in_err-begin-clause-ended
+returns-in_err-begin-clause-ended g c = λ honest.
+    let ends = c.args.end.now.runs.items in
+    join_none ends ends _ _ _ _ _ refl refl (λ is. refl)
+
+pub returns-in_err-finish-clause-ended : goal.returns-in_err-finish-clause-ended
+returns-in_err-finish-clause-ended g c = λ honest.
+    join_none c.args.end.now.runs.items c.finish.new.end.runs.items _ _ _ _ _ c.in_err-finish.ensures.same.same_runs
+    (c.drive-driven.ensures.ended (is_planned c.args.plan.now) honest)
+    (λ is. no_ok c.from_residual-in_err-finish.result tt c.from_residual-in_err-finish.ensures.0 is)
+
+-- the run was noted, and then ended over the link
+pub returns-clause-ended : goal.returns-clause-ended
+returns-clause-ended g c = λ honest.
+    let past = g.L.Link.past in
+    let names = is_planned c.args.plan.now in
+    let driven = c.drive-driven.new.link in
+    let known = c.drive-driven.ensures.known (subst (λ ks. g.L.Link.honest c.args.link.now (is_planned ks)) (sym c.begin.ensures.keys) honest) in
+    let still = c.drive-driven.ensures.honest names honest in
+    join_run c.begin.new.client.keys c.drive-driven.new.client.keys names c.args.run c.begin.new.client.knowns c.drive-driven.new.client.knowns
+    c.drive-driven.new.client.knowns c.drive-driven.result (past c.args.link.now) (past driven) (past c.close.new.link) c.args.end.now c.finish.new.end
+    (c.close.result ≡ Ok tt) (g.L.Link.ended c.args.link.now) (g.L.Link.ended driven) (g.L.Link.ended c.close.new.link) c.in_ok-finish.ensures.ended.0
+    (known.1 c.in_ok-finish.ensures.ended.1) (c.close.ensures.honest names still).1 (c.drive-driven.ensures.ended names honest)
+    (λ is. if_ok c.close.result is (c.close.ensures.ended names still)) (c.close.ensures.once names still)

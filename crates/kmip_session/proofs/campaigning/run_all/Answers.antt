@@ -1,5 +1,7 @@
 -- No fault is noted exactly where none was met.
+use Rattle.std.proofs.Common.{[]}
 use Rattle.kmip_session.proofs.DriveLemmas.{further_if}
+use Rattle.kmip_session.proofs.EndingLemmas.{join_if}
 use Rattle.kmip_session.proofs.RunLemmas.{if_ok, known_if, ok_of}
 use Rattle.kmip_session.proofs.campaigning.run_all.Goals as goal
 
@@ -24,4 +26,5 @@ returns g c =
             c.run_each.ensures.known;
         settles = λ calmly carried is. if_ok c.run_each.result (whole is) (c.run_each.ensures.settles calmly carried);
       };
+      ended = λ honest. join_if [] end.runs.items _ _ _ _ _ _ whole (c.run_each.ensures.ended honest);
     }

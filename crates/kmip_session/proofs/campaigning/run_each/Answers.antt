@@ -1,10 +1,12 @@
 -- Run by run.
-use Rattle.std.proofs.Common.{◌<◌, length, suc, rules, refl, inl, inr}
+use Rattle.std.proofs.Common.{◌<◌, [], length, suc, rules, refl, inl, inr}
 use Rattle.std.specs.Prelude.{⊤}
 use Rattle.std.proofs.lemmas.Option.{slice_get-get_or}
 use Rattle.kmip_client.specs.Clients.{fresh}
 use Rattle.kmip_session.proofs.CampaignLemmas.{campaigned}
+use Rattle.kmip_schedule.specs.Past.{is_planned}
 use Rattle.kmip_session.proofs.DriveLemmas.{further_if}
+use Rattle.kmip_session.proofs.EndingLemmas.{join_if, join_none, join_then}
 use Rattle.kmip_session.proofs.OrderLemmas.{ends_all, ends_more, ends_same}
 use Rattle.kmip_session.proofs.RememberLemmas.{broken_known, no_ok, recalled_known, recalled_more, recalled_none}
 use Rattle.kmip_session.proofs.RunLemmas.{ran_nothing, ran_off, running_more, running_none}
@@ -20,16 +22,19 @@ returns-in_err-client-clause-known g c =
     (recalled_none past honest keys c.args.carried.now c.args.runs.now (fresh keys) c.args.link.now end.runs.items end.saved.items refl c.requires.no_end c.requires.none_saved)
 
 pub loop-place-init : goal.loop-place-init
-loop-place-init g c =
-    running_none g.L.Link.past g.L.Link.honest g.L.Link.calm c.args.plan.now c.args.carried.now c.laws_of_runs.ensures c.in_ok-client.client c.args.link.now c.args.runs.now c.args.end.now.runs.items
-    c.args.end.now.saved.items c.in_ok-client.ensures.fresh c.in_ok-client.ensures.held c.requires.no_end c.requires.none_saved
+loop-place-init g c = record {
+  running =
+      running_none g.L.Link.past g.L.Link.honest g.L.Link.calm c.args.plan.now c.args.carried.now c.laws_of_runs.ensures c.in_ok-client.client c.args.link.now c.args.runs.now c.args.end.now.runs.items
+      c.args.end.now.saved.items c.in_ok-client.ensures.fresh c.in_ok-client.ensures.held c.requires.no_end c.requires.none_saved;
+  ended = λ honest. join_none [] c.args.end.now.runs.items ⊤ _ _ _ _ c.requires.no_end refl (λ is. refl);
+}
 
 pub returns-in_err-one_run-clause-order : goal.returns-in_err-one_run-clause-order
 returns-in_err-one_run-clause-order g c =
     let below : c.loop-place.place < length c.args.runs.now = search rules in
     let keys = c.args.plan.now in
     let runs = c.args.runs.now in
-    let before = c.loop-place.invariant in
+    let before = c.loop-place.invariant.running in
     elim c.in_err-one_run.ensures.broken [
       | inl broken ↦
           ends_same keys runs c.loop-place.place c.loop-place.end.runs.items c.one_run.new.end.runs.items broken.same.same_runs before.each
@@ -46,7 +51,7 @@ returns-in_err-one_run-clause-known g c =
     let honest = g.L.Link.honest in
     let keys = c.args.plan.now in
     let runs = c.args.runs.now in
-    let before = c.loop-place.invariant in
+    let before = c.loop-place.invariant.running in
     elim c.in_err-one_run.ensures.broken [
       | inl broken ↦
           broken_known past honest keys c.args.carried.now runs c.loop-place.client c.args.link.now c.loop-place.link c.one_run.new.link _ c.loop-place.end c.one_run.new.end
@@ -60,21 +65,28 @@ returns-in_err-one_run-clause-known g c =
 pub loop-place-preserved : goal.loop-place-preserved
 loop-place-preserved g c =
     let below : c.loop-place.place < length c.args.runs.now = search rules in
-    running_more g.L.Link.past g.L.Link.honest g.L.Link.calm c.args.plan.now c.args.carried.now c.laws_of_runs.ensures c.loop-place.client c.one_run.new.client
-    c.args.link.now c.loop-place.link c.one_run.new.link c.args.runs.now c.loop-place.place _ c.loop-place.end c.one_run.new.end c.keys.ensures.lawful
-    (slice_get-get_or c.args.runs.now c.loop-place.place _ below) c.loop-place.invariant c.one_run.ensures.keys c.one_run.ensures.suits c.one_run.ensures.stands
-    c.one_run.ensures.honest
-    (λ standing carried. further_if g.L.Link.past g.L.Link.honest g.L.Link.calm c.args.plan.now c.loop-place.link c.one_run.new.link _ ⊤ (λ is. search rules)
-    (c.one_run.ensures.further standing carried)) c.in_ok-one_run.ensures.ran
-    c.calm_laws.ensures.honest c.in_ok-one_run.ensures.settles
+    record {
+      running =
+          running_more g.L.Link.past g.L.Link.honest g.L.Link.calm c.args.plan.now c.args.carried.now c.laws_of_runs.ensures c.loop-place.client c.one_run.new.client
+          c.args.link.now c.loop-place.link c.one_run.new.link c.args.runs.now c.loop-place.place _ c.loop-place.end c.one_run.new.end c.keys.ensures.lawful
+          (slice_get-get_or c.args.runs.now c.loop-place.place _ below) c.loop-place.invariant.running c.one_run.ensures.keys c.one_run.ensures.suits c.one_run.ensures.stands
+          c.one_run.ensures.honest
+          (λ standing carried. further_if g.L.Link.past g.L.Link.honest g.L.Link.calm c.args.plan.now c.loop-place.link c.one_run.new.link _ ⊤ (λ is. search rules)
+          (c.one_run.ensures.further standing carried)) c.in_ok-one_run.ensures.ran
+          c.calm_laws.ensures.honest c.in_ok-one_run.ensures.settles;
+      ended = λ honest.
+          join_then [] c.loop-place.end.runs.items c.one_run.new.end.runs.items ⊤ ⊤ _ _ _ _ _ _ tt (c.loop-place.invariant.ended honest)
+          (join_if c.loop-place.end.runs.items c.one_run.new.end.runs.items _ ⊤ _ _ _ _ (λ is. search rules)
+          (c.one_run.ensures.ended (c.loop-place.invariant.running.honest_still (is_planned c.args.plan.now) honest)));
+    }
 
 pub returns-clause-order : goal.returns-clause-order
-returns-clause-order g c = ends_all c.args.plan.now c.args.runs.now c.loop-place.place c.loop-place.end.runs.items c.loop-place.invariant.each
+returns-clause-order g c = ends_all c.args.plan.now c.args.runs.now c.loop-place.place c.loop-place.end.runs.items c.loop-place.invariant.running.each
 
 pub returns-clause-known : goal.returns-clause-known
 returns-clause-known g c =
     recalled_known g.L.Link.past g.L.Link.honest c.args.plan.now c.args.carried.now c.args.runs.now c.loop-place.client c.args.link.now c.loop-place.link c.loop-place.end.runs.items
-    c.loop-place.end.saved.items _ c.loop-place.invariant.recalled
+    c.loop-place.end.saved.items _ c.loop-place.invariant.running.recalled
 
 pub returns-in_err-client-clause-stands : goal.returns-in_err-client-clause-stands
 returns-in_err-client-clause-stands g c = λ good carried.
@@ -85,15 +97,27 @@ pub returns-in_err-one_run-clause-stands : goal.returns-in_err-one_run-clause-st
 returns-in_err-one_run-clause-stands g c =
     ran_off g.L.Link.past g.L.Link.honest g.L.Link.calm c.args.plan.now c.args.carried.now c.laws_of_runs.ensures c.loop-place.client c.one_run.new.client c.args.link.now
     c.loop-place.link c.one_run.new.link c.args.runs.now c.loop-place.place _ c.loop-place.end.runs.items c.one_run.new.end.runs.items c.loop-place.end.saved.items
-    c.one_run.new.end.saved.items c.keys.ensures.lawful c.one_run.ensures.keys c.loop-place.invariant c.one_run.ensures.stands
+    c.one_run.new.end.saved.items c.keys.ensures.lawful c.one_run.ensures.keys c.loop-place.invariant.running c.one_run.ensures.stands
     (λ standing carried. further_if g.L.Link.past g.L.Link.honest g.L.Link.calm c.args.plan.now c.loop-place.link c.one_run.new.link _ _
     (λ is. no_ok c.from_residual-in_err-one_run.result tt c.from_residual-in_err-one_run.ensures.0 is) (c.one_run.ensures.further standing carried))
 
 pub returns-clause-stands : goal.returns-clause-stands
 returns-clause-stands g c = λ good carried.
-    let stands = c.loop-place.invariant.stands good carried in (
+    let stands = c.loop-place.invariant.running.stands good carried in (
       campaigned g.L.Link.past g.L.Link.honest c.args.plan.now c.loop-place.client c.args.link.now c.loop-place.link c.loop-place.end.runs.items
-          c.loop-place.end.saved.items c.loop-place.invariant.keys_are stands,
+          c.loop-place.end.saved.items c.loop-place.invariant.running.keys_are stands,
       further_if g.L.Link.past g.L.Link.honest g.L.Link.calm c.args.plan.now c.args.link.now c.loop-place.link ⊤ _ (λ is. tt)
-          (c.loop-place.invariant.further good carried),
+          (c.loop-place.invariant.running.further good carried),
     )
+
+pub returns-in_err-client-clause-ended : goal.returns-in_err-client-clause-ended
+returns-in_err-client-clause-ended g c = λ honest. join_none [] c.args.end.now.runs.items _ _ _ _ _ c.requires.no_end refl (λ is. refl)
+
+pub returns-in_err-one_run-clause-ended : goal.returns-in_err-one_run-clause-ended
+returns-in_err-one_run-clause-ended g c = λ honest.
+    join_then [] c.loop-place.end.runs.items c.one_run.new.end.runs.items ⊤ _ _ _ _ _ _ _ tt (c.loop-place.invariant.ended honest)
+    (join_if c.loop-place.end.runs.items c.one_run.new.end.runs.items _ _ _ _ _ _ (λ is. no_ok c.from_residual-in_err-one_run.result tt c.from_residual-in_err-one_run.ensures.0 is)
+    (c.one_run.ensures.ended (c.loop-place.invariant.running.honest_still (is_planned c.args.plan.now) honest)))
+
+pub returns-clause-ended : goal.returns-clause-ended
+returns-clause-ended g c = λ honest. join_if [] c.loop-place.end.runs.items ⊤ _ _ _ _ _ (λ is. tt) (c.loop-place.invariant.ended honest)

@@ -1,7 +1,14 @@
--- As many runs have ended as were begun, and all is good between two of them.
+-- As many runs have ended as were begun, and all is good between two of them; each was ended over the link.
+use Rattle.std.proofs.Common.{[], length}
+use Rattle.std.specs.Prelude.{⊤}
+use Rattle.kmip_schedule.specs.Past.{is_planned}
+use Rattle.kmip_session.specs.Ending.{EndsJoin}
 use Rattle.kmip_session.proofs.RunLemmas.{Running}
 use Rattle.kmip_session.proofs.campaigning.run_each.Given as goal
 
 abbrev pub invariant-loop-place : goal.invariant-loop-place
-invariant-loop-place g l =
-    Running g.L.Link.past g.L.Link.honest g.L.Link.calm l.fn.plan l.fn.carried l.client l.fn.link l.link l.runs l.end.runs.items l.end.saved.items l.place
+invariant-loop-place g l = record {
+  running : Running g.L.Link.past g.L.Link.honest g.L.Link.calm l.fn.plan l.fn.carried l.client l.fn.link l.link l.runs l.end.runs.items l.end.saved.items l.place;
+  ended : g.L.Link.honest l.fn.link (is_planned l.fn.plan)
+      → EndsJoin [] l.end.runs.items ⊤ (length (g.L.Link.past l.fn.link).sent) (length (g.L.Link.past l.link).sent) (g.L.Link.ended l.fn.link) (g.L.Link.ended l.link);
+}
