@@ -53,7 +53,7 @@ none_each R runs = subst (λ rs. AllZip R rs []) (sym (take-none runs)) tt
 
 module _ {L : Type 0} (past : L → Past) (honest calm : L → Names → Type 0) (keys : List Key) (carried : List (List Known)) where
   -- what was carried over is true still
-  carried_on : CampaignLaws → (start link : L) → IsLawful keys → WentOn keys (past start) (past link) → All (TrueProgress (past start).objects keys) carried
+  pub carried_on : CampaignLaws → (start link : L) → IsLawful keys → WentOn keys (past start) (past link) → All (TrueProgress (past start).objects keys) carried
       → All (TrueProgress (past link).objects keys) carried
   carried_on l start link lawful went holds = true_onward l keys (past start).objects (past link).objects carried lawful went.onward holds
 

@@ -27,6 +27,7 @@ ghost use Rattle.kmip_session.specs.CampaignParts.{
 };
 ghost use Rattle.kmip_session.specs.Driving.{KeepsFurther, Stands, WentOn};
 ghost use Rattle.kmip_session.specs.Ending.{AreEnded, EndsJoin};
+ghost use Rattle.kmip_session.specs.Losing.{AllOutlast, HasOutlasted};
 ghost use Rattle.kmip_session.specs.Remembering.{AreKnown, AreKnownFrom, resumed, saved_numbered, start_knowns};
 
 use crate::driving::drive;
@@ -117,6 +118,9 @@ pub fn campaign<L: Link>(alloc: Global, plan: &Plan, link: &mut L, runs: &[Run])
     ensures settles { CalmLink L.past L.calm plan.now link.old → result.fault ≡ None
         → AllZip (Settles plan.now) runs.now result.runs.items
         × CalmLink L.past L.calm plan.now link.new }
+    ensures outlasts { GoodLink L.past L.honest plan.now link.old → result.fault ≡ None
+        → AllOutlast plan.now runs.now result.runs.items (L.disturbances link.old)
+        (L.disturbances link.new) }
     ensures ended { L.honest link.old (is_planned plan.now) → AreEnded result.runs.items
         (result.fault ≡ None) (length (L.past link.old).sent)
         (L.ended link.old) (L.ended link.new) }
@@ -155,6 +159,10 @@ pub(crate) fn run_all<L: Link>(
     requires { All (Suits plan.now) carried.now }
     ensures all { HasRunAll L.past L.honest L.calm plan.now carried.now runs.now result
         link.old link.new }
+    ensures outlasts { GoodLink L.past L.honest plan.now link.old
+        → All (TrueProgress (L.past link.old).objects plan.now) carried.now → result.fault ≡ None
+        → AllOutlast plan.now runs.now result.runs.items (L.disturbances link.old)
+        (L.disturbances link.new) }
     ensures ended { L.honest link.old (is_planned plan.now) → EndsJoin [] result.runs.items
         (result.fault ≡ None) (length (L.past link.old).sent) (length (L.past link.new).sent)
         (L.ended link.old) (L.ended link.new) }
@@ -202,6 +210,10 @@ fn run_each<L: Link>(
         → All (TrueProgress (L.past link.old).objects plan.now) carried.now
         → OnOk result (AllZip (Settles plan.now) runs.now end.new.runs.items
         × CalmLink L.past L.calm plan.now link.new) }
+    ensures outlasts { GoodLink L.past L.honest plan.now link.old
+        → All (TrueProgress (L.past link.old).objects plan.now) carried.now
+        → OnOk result (AllOutlast plan.now runs.now end.new.runs.items
+        (L.disturbances link.old) (L.disturbances link.new)) }
     ensures ended { L.honest link.old (is_planned plan.now) → EndsJoin [] end.new.runs.items
         (result ≡ Ok tt) (length (L.past link.old).sent) (length (L.past link.new).sent)
         (L.ended link.old) (L.ended link.new) }
@@ -255,6 +267,11 @@ fn one_run<'p, L: Link>(
         → CalmLink L.past L.calm plan.now link.old
         → OnOk result (HasSettled plan.now run end.old.runs.items end.new.runs.items
         × CalmLink L.past L.calm plan.now link.new) }
+    ensures outlasts { Standing L.past L.honest plan.now client.old link.old end.old.runs.items
+        end.old.saved.items
+        → All (TrueProgress (L.past link.old).objects plan.now) carried.now
+        → OnOk result (HasOutlasted plan.now run end.old.runs.items end.new.runs.items
+        (L.disturbances link.old) (L.disturbances link.new)) }
     ensures ended { L.honest link.old (is_planned plan.now) → EndsJoin end.old.runs.items
         end.new.runs.items (result ≡ Ok tt) (length (L.past link.old).sent)
         (length (L.past link.new).sent) (L.ended link.old) (L.ended link.new) }
@@ -450,6 +467,8 @@ fn close<L: Link>(alloc: Global, link: &mut L) -> Result<(), NoMemory>
         × Delivered names (L.past link.old) (L.past link.new) }
     ensures calm { (names : Names) → L.calm link.old names → L.calm link.new names
         × OnOk result (L.past link.new ≡ L.past link.old) }
+    ensures undisturbed { (names : Names) → L.honest link.old names
+        → L.disturbances link.new ≡ L.disturbances link.old }
     ensures ended { (names : Names) → L.honest link.old names → OnOk result (
         EndedAt (length (L.past link.old).sent) (L.ended link.old) (L.ended link.new)) }
     ensures once { (names : Names) → L.honest link.old names

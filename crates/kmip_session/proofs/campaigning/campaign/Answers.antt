@@ -1,5 +1,6 @@
 -- Nothing was carried over; and all that is reported was reached, so what is sound is safe.
-use Rattle.std.proofs.Common.{◌≡◌, ◌∙◌, [], subst}
+use Rattle.std.proofs.Common.{◌≡◌, ◌∙◌, [], subst, sym}
+use Rattle.std.specs.List.{All}
 use Rattle.std.proofs.lemmas.List.Elements.{All-nil}
 use Rattle.kmip_client.specs.Held.{TrueProgress}
 use Rattle.kmip_session.specs.Campaign.{reported}
@@ -36,5 +37,6 @@ returns g c =
       complete = all.complete;
       known = all.known;
       settles = λ calmly is. all.settles calmly nothing is;
+      outlasts = λ good is. c.run_all.ensures.outlasts good (subst (λ carried. All (TrueProgress (past c.args.link.now).objects keys) carried) (sym none) nothing) is;
       ended = λ honest. all_joined ends _ _ _ _ _ (c.run_all.ensures.ended honest);
     }

@@ -10,6 +10,7 @@ use Rattle.kmip_session.proofs.DriveLemmas.{further_if}
 use Rattle.kmip_session.proofs.EndingLemmas.{join_none, join_run}
 use Rattle.kmip_session.proofs.FurtherLemmas.{further_closed, further_nowhere, further_then}
 use Rattle.kmip_session.proofs.KnownLemmas.{always_err, grown_itself}
+use Rattle.kmip_session.proofs.OutlastLemmas.{outlasted_run}
 use Rattle.kmip_session.proofs.RememberLemmas.{always_ok, broken_off, no_ok, ran_closed}
 use Rattle.kmip_session.proofs.RunLemmas.{driven_further, if_ok}
 use Rattle.kmip_session.proofs.campaigning.one_run.Goals as goal
@@ -131,3 +132,16 @@ returns-clause-ended g c = λ honest.
     (c.close.result ≡ Ok tt) (g.L.Link.ended c.args.link.now) (g.L.Link.ended driven) (g.L.Link.ended c.close.new.link) c.in_ok-finish.ensures.ended.0
     (known.1 c.in_ok-finish.ensures.ended.1) (c.close.ensures.honest names still).1 (c.drive-driven.ensures.ended names honest)
     (λ is. if_ok c.close.result is (c.close.ensures.ended names still)) (c.close.ensures.once names still)
+
+pub returns-clause-outlasts : goal.returns-clause-outlasts
+returns-clause-outlasts g c = λ standing carried.
+    let held = standing.good.honest_for in
+    let still = c.drive-driven.ensures.honest (is_planned c.args.client.now.keys) held in
+    always_ok c.close.result
+    (outlasted_run g.L.Link.past g.L.Link.honest g.L.Link.disturbances c.args.plan.now c.args.run c.args.client.now c.begin.new.client c.drive-driven.new.client
+    c.args.link.now c.drive-driven.new.link c.close.new.link c.drive-driven.result c.args.end.now.runs.items c.finish.new.end.runs.items c.args.end.now.saved.items
+    c.requires.keys c.begin.ensures.keys (c.drive-driven.ensures.kept.keys_stay ∙ c.begin.ensures.keys)
+    (λ saved. c.begin.ensures.held (g.L.Link.past c.args.link.now).objects carried
+    (subst (λ ps. All (TrueProgress (g.L.Link.past c.args.link.now).objects c.args.plan.now) ps) (sym c.as_slice.ensures.value) saved))
+    c.drive-driven.ensures.outlasts c.in_ok-finish.ensures.ended.1 c.in_ok-finish.ensures.ended.0.noted
+    (c.close.ensures.undisturbed (is_planned c.args.client.now.keys) still) standing)

@@ -26,5 +26,6 @@ returns g c =
             c.run_each.ensures.known;
         settles = λ calmly carried is. if_ok c.run_each.result (whole is) (c.run_each.ensures.settles calmly carried);
       };
+      outlasts = λ good carried is. if_ok c.run_each.result (whole is) (c.run_each.ensures.outlasts good carried);
       ended = λ honest. join_if [] end.runs.items _ _ _ _ _ _ whole (c.run_each.ensures.ended honest);
     }

@@ -1,5 +1,5 @@
 -- Run by run.
-use Rattle.std.proofs.Common.{◌<◌, [], length, suc, rules, refl, inl, inr}
+use Rattle.std.proofs.Common.{◌<◌, ◌+◌, ◌≡◌, [], arith, length, suc, rules, refl, inl, inr, subst, sym, take}
 use Rattle.std.specs.Prelude.{⊤}
 use Rattle.std.proofs.lemmas.Option.{slice_get-get_or}
 use Rattle.kmip_client.specs.Clients.{fresh}
@@ -7,9 +7,11 @@ use Rattle.kmip_session.proofs.CampaignLemmas.{campaigned}
 use Rattle.kmip_schedule.specs.Past.{is_planned}
 use Rattle.kmip_session.proofs.DriveLemmas.{further_if}
 use Rattle.kmip_session.proofs.EndingLemmas.{join_if, join_none, join_then}
+use Rattle.kmip_session.specs.Losing.{AllOutlast}
+use Rattle.kmip_session.proofs.OutlastLemmas.{outlast_more, outlast_none}
 use Rattle.kmip_session.proofs.OrderLemmas.{ends_all, ends_more, ends_same}
 use Rattle.kmip_session.proofs.RememberLemmas.{broken_known, no_ok, recalled_known, recalled_more, recalled_none}
-use Rattle.kmip_session.proofs.RunLemmas.{ran_nothing, ran_off, running_more, running_none}
+use Rattle.kmip_session.proofs.RunLemmas.{carried_on, ran_nothing, ran_off, running_more, running_none}
 use Rattle.kmip_session.proofs.campaigning.run_each.Goals as goal
 
 pub returns-in_err-client-clause-known : goal.returns-in_err-client-clause-known
@@ -27,6 +29,7 @@ loop-place-init g c = record {
       running_none g.L.Link.past g.L.Link.honest g.L.Link.calm c.args.plan.now c.args.carried.now c.laws_of_runs.ensures c.in_ok-client.client c.args.link.now c.args.runs.now c.args.end.now.runs.items
       c.args.end.now.saved.items c.in_ok-client.ensures.fresh c.in_ok-client.ensures.held c.requires.no_end c.requires.none_saved;
   ended = λ honest. join_none [] c.args.end.now.runs.items ⊤ _ _ _ _ c.requires.no_end refl (λ is. refl);
+  outlasted = λ good holds. outlast_none c.args.plan.now c.args.runs.now c.args.end.now.runs.items _ _ c.requires.no_end refl;
 }
 
 pub returns-in_err-one_run-clause-order : goal.returns-in_err-one_run-clause-order
@@ -78,6 +81,17 @@ loop-place-preserved g c =
           join_then [] c.loop-place.end.runs.items c.one_run.new.end.runs.items ⊤ ⊤ _ _ _ _ _ _ tt (c.loop-place.invariant.ended honest)
           (join_if c.loop-place.end.runs.items c.one_run.new.end.runs.items _ ⊤ _ _ _ _ (λ is. search rules)
           (c.one_run.ensures.ended (c.loop-place.invariant.running.honest_still (is_planned c.args.plan.now) honest)));
+      outlasted = λ good holds.
+          let (standing, went) = c.loop-place.invariant.running.stands good holds in
+          let now =
+          carried_on g.L.Link.past g.L.Link.honest g.L.Link.calm c.args.plan.now c.args.carried.now c.laws_of_runs.ensures c.args.link.now c.loop-place.link
+          c.keys.ensures.lawful went holds in
+          let e : c.loop-place.place + 1 ≡ suc c.loop-place.place = omega arith in
+          subst
+          (λ n. AllOutlast c.args.plan.now (take n c.args.runs.now) c.one_run.new.end.runs.items (g.L.Link.disturbances c.args.link.now) (g.L.Link.disturbances c.one_run.new.link))
+          (sym e)
+          (outlast_more c.args.plan.now c.args.runs.now c.loop-place.place _ c.loop-place.end.runs.items c.one_run.new.end.runs.items _ _ _
+          (slice_get-get_or c.args.runs.now c.loop-place.place _ below) (c.loop-place.invariant.outlasted good holds) (c.in_ok-one_run.ensures.outlasts standing now));
     }
 
 pub returns-clause-order : goal.returns-clause-order

@@ -1,8 +1,12 @@
--- As many runs have ended as were begun, and all is good between two of them; each was ended over the link.
-use Rattle.std.proofs.Common.{[], length}
+-- As many runs have ended as were begun, and all is good between two of them; each was ended over the link, and outlasts what it loses.
+use Rattle.std.proofs.Common.{[], length, take}
+use Rattle.std.specs.List.{All}
 use Rattle.std.specs.Prelude.{⊤}
+use Rattle.kmip_client.specs.Held.{TrueProgress}
 use Rattle.kmip_schedule.specs.Past.{is_planned}
+use Rattle.kmip_session.specs.Campaign.{GoodLink}
 use Rattle.kmip_session.specs.Ending.{EndsJoin}
+use Rattle.kmip_session.specs.Losing.{AllOutlast}
 use Rattle.kmip_session.proofs.RunLemmas.{Running}
 use Rattle.kmip_session.proofs.campaigning.run_each.Given as goal
 
@@ -11,4 +15,6 @@ invariant-loop-place g l = record {
   running : Running g.L.Link.past g.L.Link.honest g.L.Link.calm l.fn.plan l.fn.carried l.client l.fn.link l.link l.runs l.end.runs.items l.end.saved.items l.place;
   ended : g.L.Link.honest l.fn.link (is_planned l.fn.plan)
       → EndsJoin [] l.end.runs.items ⊤ (length (g.L.Link.past l.fn.link).sent) (length (g.L.Link.past l.link).sent) (g.L.Link.ended l.fn.link) (g.L.Link.ended l.link);
+  outlasted : GoodLink g.L.Link.past g.L.Link.honest l.fn.plan l.fn.link → All (TrueProgress (g.L.Link.past l.fn.link).objects l.fn.plan) l.fn.carried
+      → AllOutlast l.fn.plan (take l.place l.runs) l.end.runs.items (g.L.Link.disturbances l.fn.link) (g.L.Link.disturbances l.link);
 }
