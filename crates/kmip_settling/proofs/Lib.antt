@@ -8,3 +8,5 @@ pub mod StepLemmas
 pub mod HearLemmas
 pub mod TurnLemmas
 pub mod FurtherLemmas
+pub mod LeftLemmas
+pub mod LeftSumLemmas
