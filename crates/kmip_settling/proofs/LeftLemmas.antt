@@ -130,3 +130,40 @@ most_most key known = elim (cases_Bool (nat_le (chain_length key) known.done)) [
   by_uid : (uid : Option (List ℕ)) → (if is_some uid then chain_length key + 1 - (known.done - 1) else chain_length key + 3) ≤ chain_length key + 3
   by_uid None = omega arith
   by_uid (Some uid) = omega arith
+
+-- ---- what arrives late
+
+late_by : (phase : Phase) (n d p : ℕ) (there : Bool) (uid : Option (List ℕ)) → AreNumbers phase n d p there uid → p + 1 ≤ n
+    → need_in phase n d true (p + 1) ≤ need_in phase n d there p + one_if (not there) + 1
+late_by phases.Look n d p true uid are within = omega (arith, within)
+late_by phases.Look n d p false uid are within = let none = are.none refl in omega (arith, within, none)
+late_by phases.Make n d p true uid are within = omega (arith, within)
+late_by phases.Make n d p false uid are within = let none = are.none refl in omega (arith, within, none)
+late_by phases.Check n d p true uid are within = omega (arith, within)
+late_by phases.Check n d p false uid are within = omega (arith, within)
+late_by phases.Go n d p there uid are within =
+    let after = go_behind n d (p + 1) (let had = are.had in omega (arith, had)) in
+    elim (go_needs n d p are.had) [
+      | inl even ↦ omega (arith, within, after, even.1)
+      | inr behind ↦ omega (arith, within, after, behind.1)
+    ]
+
+pub late_left : (phase : Phase) (n d p q : ℕ) (there now : Bool) (uid : Option (List ℕ)) → AreNumbers phase n d p there uid → AreNumbers phase n d q now uid
+    → q ≡ p + 1 → left_by phase n d now q false ≤ left_by phase n d there p true
+late_left phase n d p q there true uid are after further = elim (cases_Bool (nat_le n d)) [
+  | inl all ↦ rw all (omega arith)
+  | inr less ↦
+      let within = after.within in
+      let late = late_by phase n d p there uid are (omega (arith, within, further)) in
+      let same : need_in phase n d true q ≡ need_in phase n d true (p + 1) = ap (need_in phase n d true) further in
+      rw less (omega (arith, late, same))
+]
+late_left phase n d p q there false uid are after further = absurd (omega (arith, after.none refl, further))
+
+-- an object is there where a step was had
+pub same_there : (p q : ℕ) (there now : Bool) → p ≡ q → (there ≡ true → 1 ≤ p) → (there ≡ false → p ≡ 0) → (now ≡ true → 1 ≤ q) → (now ≡ false → q ≡ 0)
+    → there ≡ now
+same_there p q true true same some none any nothing = refl
+same_there p q false false same some none any nothing = refl
+same_there p q true false same some none any nothing = absurd (omega (arith, same, some refl, nothing refl))
+same_there p q false true same some none any nothing = absurd (omega (arith, same, none refl, any refl))

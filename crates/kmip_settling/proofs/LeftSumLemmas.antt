@@ -89,3 +89,14 @@ pub all_opened : BoundsAddUp → (keys : List Key) (p : Past)
 all_opened add [] p none asked = sym add.0
 all_opened add (key ∷ keys) p none asked =
     omega (arith, add.1 key keys, opened key p (none zero key refl) asked, all_opened add keys p (λ j k is. none (suc j) k is) asked)
+
+-- ---- other pasts, and other knowledge
+
+-- no more is left for any key
+pub all_left : (keys : List Key) (knowns : List Knowledge) (old new : Past)
+    → ((j : ℕ) (key : Key) (known : Knowledge) → slice_get keys j ≡ Some key → slice_get knowns j ≡ Some known → left_of key known new ≤ left_of key known old)
+    → left_all keys knowns new ≤ left_all keys knowns old
+all_left [] knowns old new each = omega arith
+all_left (key ∷ keys) [] old new each = omega arith
+all_left (key ∷ keys) (known ∷ knowns) old new each =
+    omega (arith, each zero key known refl refl, all_left keys knowns old new (λ j k kn is at. each (suc j) k kn is at))

@@ -10,3 +10,6 @@ pub mod TurnLemmas
 pub mod FurtherLemmas
 pub mod LeftLemmas
 pub mod LeftSumLemmas
+pub mod AskedLemmas
+pub mod ArrivalLemmas
+pub mod LateLemmas

@@ -1,6 +1,7 @@
 //! What holds of clients over a link that goes on losing, each as the contract of a function that
 //! does nothing.
 ghost use Rattle.kmip_settling.specs.LosingLaws.{
+  LateArrivalsAddNothing,
   NeedsAreLeft,
   LeftIsBounded,
   LeftIsWithinWhatIsKnown,
@@ -19,6 +20,13 @@ pub fn left_is_bounded()
     ensures known { LeftIsWithinWhatIsKnown }
     ensures opening { OpeningLeavesTheBound }
     ensures falls { MostLeftNeverRises }
+{
+    laws_below();
+}
+
+/// What arrives late brings no key further from its end.
+pub fn late_arrivals_add_nothing()
+    ensures { LateArrivalsAddNothing }
 {
     laws_below();
 }
