@@ -88,7 +88,7 @@ asked_within objects key (asks.Activate uid) step may is = subst (λ s. step_pla
 asked_within objects key (asks.Revoke uid code) step may is = subst (λ s. step_place key.target s ≤ position key objects + 1) (same_Some Revoke step is) may.0.due
 asked_within objects key (asks.Destroy uid) step may is = subst (λ s. step_place key.target s ≤ position key objects + 1) (same_Some Destroy step is) may.due
 
-same_parts : (a b : ℕ) (xs ys : List ℕ) → a ∷ xs ≡ b ∷ ys → (a ≡ b) × (xs ≡ ys)
+pub same_parts : (a b : ℕ) (xs ys : List ℕ) → a ∷ xs ≡ b ∷ ys → (a ≡ b) × (xs ≡ ys)
 same_parts a b xs ys is = (cc, cc)
 
 not_beyond : (keys : List Key) (key : Key) (objects : List Object) (step : Step) (request : Request) → IsPlanned keys key

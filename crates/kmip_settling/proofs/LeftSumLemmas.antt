@@ -2,6 +2,7 @@
 use Rattle.std.proofs.Common.{◌≡◌, ◌≢◌, ◌≤◌, ◌<◌, ℕ, zero, suc, ◌+◌, true, false, List, [], ◌∷◌, length, map, option_map, is_some, Option, Some, None, slice_set, subst, refl, sym, ap, ◌∙◌, arith}
 use Rattle.std.specs.List.{AllZip, slice_get}
 use Rattle.std.specs.Option.{option_map_or}
+use Rattle.std.proofs.lemmas.Option.{same_Some}
 use Rattle.kmip_objects.specs.Objects.{Object, object_named}
 use Rattle.kmip_objects.specs.declared.step.Step.{Step}
 use Rattle.kmip_chains.specs.Chains.{bound, place_reached, step_at}
@@ -14,6 +15,7 @@ use Rattle.kmip_knowledge.specs.declared.knowledge.Phase.TheVariants as phases
 use Rattle.kmip_client.specs.Held.{IsHeld}
 use Rattle.kmip_client.specs.Places.{position}
 use Rattle.kmip_client.specs.Shapes.{IsKept}
+use Rattle.kmip_schedule.specs.Exchanges.{with_exchange}
 use Rattle.kmip_schedule.specs.Past.{Past}
 use Rattle.kmip_schedule.specs.Sound.{Sound}
 use Rattle.kmip_settling.specs.Lawbook.{Lawbook}
@@ -100,3 +102,47 @@ all_left [] knowns old new each = omega arith
 all_left (key ∷ keys) [] old new each = omega arith
 all_left (key ∷ keys) (known ∷ knowns) old new each =
     omega (arith, each zero key known refl refl, all_left keys knowns old new (λ j k kn is at. each (suc j) k kn is at))
+
+-- one more at most for one key, and no more for any other
+pub all_but_one : (keys : List Key) (knowns : List Knowledge) (place : ℕ) (old new : Past)
+    → ((j : ℕ) (key : Key) (known : Knowledge) → slice_get keys j ≡ Some key → slice_get knowns j ≡ Some known → j ≢ place → left_of key known new ≤ left_of key known old)
+    → ((key : Key) (known : Knowledge) → slice_get keys place ≡ Some key → slice_get knowns place ≡ Some known → left_of key known new ≤ left_of key known old + 1)
+    → left_all keys knowns new ≤ left_all keys knowns old + 1
+all_but_one [] knowns place old new others one = omega arith
+all_but_one (key ∷ keys) [] place old new others one = omega arith
+all_but_one (key ∷ keys) (known ∷ knowns) zero old new others one =
+    let rest = all_left keys knowns old new (λ j k kn is at. others (suc j) k kn is at (λ e. absurd (omega (arith, e)))) in
+    omega (arith, one key known refl refl, rest)
+all_but_one (key ∷ keys) (known ∷ knowns) (suc place) old new others one =
+    let rest = all_but_one keys knowns place old new (λ j k kn is at apart. others (suc j) k kn is at (λ e. apart (omega (arith, e)))) one in
+    omega (arith, others zero key known refl refl (λ e. absurd (omega (arith, e))), rest)
+
+-- where what is known of one key changes
+pub one_left : (keys : List Key) (knowns : List Knowledge) (place : ℕ) (key : Key) (known next : Knowledge) (p : Past) → slice_get keys place ≡ Some key
+    → slice_get knowns place ≡ Some known → left_all keys (slice_set knowns place next) p + left_of key known p ≡ left_all keys knowns p + left_of key next p
+one_left [] knowns place key known next p here there = absurd cc
+one_left (k ∷ keys) [] place key known next p here there = absurd cc
+one_left (k ∷ keys) (kn ∷ knowns) zero key known next p here there =
+    let own : left_of k next p ≡ left_of key next p = ap (λ x. left_of x next p) (same_Some k key here) in
+    let was : left_of k kn p ≡ left_of key known p = ap (λ x. left_of x kn p) (same_Some k key here) ∙ ap (λ x. left_of key x p) (same_Some kn known there) in
+    omega (arith, own, was)
+one_left (k ∷ keys) (kn ∷ knowns) (suc place) key known next p here there = omega (arith, one_left keys knowns place key known next p here there)
+
+pub set_here : (knowns : List Knowledge) (place : ℕ) (known next : Knowledge) → slice_get knowns place ≡ Some known → slice_get (slice_set knowns place next) place ≡ Some next
+set_here [] place known next there = absurd cc
+set_here (kn ∷ knowns) zero known next there = refl
+set_here (kn ∷ knowns) (suc place) known next there = set_here knowns place known next there
+
+pub set_elsewhere : (knowns : List Knowledge) (place other : ℕ) (next : Knowledge) → place ≢ other → slice_get (slice_set knowns place next) other ≡ slice_get knowns other
+set_elsewhere [] place other next apart = refl
+set_elsewhere (kn ∷ knowns) zero zero next apart = absurd (apart refl)
+set_elsewhere (kn ∷ knowns) zero (suc other) next apart = refl
+set_elsewhere (kn ∷ knowns) (suc place) zero next apart = refl
+set_elsewhere (kn ∷ knowns) (suc place) (suc other) next apart = set_elsewhere knowns place other next (λ e. apart (omega (arith, e)))
+
+-- an exchange that is made leaves the same
+pub exchange_left : (keys : List Key) (knowns : List Knowledge) (sent : List ℕ) (answer : Option (List ℕ)) (p : Past)
+    → left_all keys knowns (with_exchange sent answer p) ≡ left_all keys knowns p
+exchange_left [] knowns sent answer p = refl
+exchange_left (key ∷ keys) [] sent answer p = refl
+exchange_left (key ∷ keys) (known ∷ knowns) sent answer p = ap (λ rest. left_of key known p + rest) (exchange_left keys knowns sent answer p)

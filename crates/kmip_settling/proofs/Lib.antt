@@ -13,3 +13,7 @@ pub mod LeftSumLemmas
 pub mod AskedLemmas
 pub mod ArrivalLemmas
 pub mod LateLemmas
+pub mod LearntLemmas
+pub mod HeardLemmas
+pub mod AskingLemmas
+pub mod DisturbedLemmas

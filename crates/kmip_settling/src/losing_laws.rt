@@ -2,6 +2,7 @@
 //! does nothing.
 ghost use Rattle.kmip_settling.specs.LosingLaws.{
   LateArrivalsAddNothing,
+  DisturbedTurnsCostTwo,
   NeedsAreLeft,
   LeftIsBounded,
   LeftIsWithinWhatIsKnown,
@@ -27,6 +28,13 @@ pub fn left_is_bounded()
 /// What arrives late brings no key further from its end.
 pub fn late_arrivals_add_nothing()
     ensures { LateArrivalsAddNothing }
+{
+    laws_below();
+}
+
+/// A disturbed exchange.
+pub fn a_losing_turn_is_bounded()
+    ensures disturbed { DisturbedTurnsCostTwo }
 {
     laws_below();
 }
