@@ -54,13 +54,13 @@ one_passes test xs x has passes = elim (cases_Bool (list_any test xs)) [
 
 -- ---- the step of an operation
 
-step_is_asked : (key : Key) (uid : List ℕ) (step : Step) → step_of (operation_of (step_ask key uid step)) ≡ Some step
+pub step_is_asked : (key : Key) (uid : List ℕ) (step : Step) → step_of (operation_of (step_ask key uid step)) ≡ Some step
 step_is_asked key uid Create = refl
 step_is_asked key uid Activate = refl
 step_is_asked key uid Revoke = refl
 step_is_asked key uid Destroy = refl
 
-ask_is_step : (ask : Ask) → step_of (operation_of ask) ≡ step_of_ask ask
+pub ask_is_step : (ask : Ask) → step_of (operation_of ask) ≡ step_of_ask ask
 ask_is_step (asks.Create attrs) = refl
 ask_is_step (asks.Locate mask filter) = refl
 ask_is_step (asks.GetAttributes uid) = refl

@@ -15,7 +15,7 @@ use Rattle.kmip_client.specs.Shapes.{IsKept, PhaseSuits}
 use Rattle.kmip_schedule.specs.Past.{Past}
 use Rattle.kmip_settling.specs.Losing.{is_under_way, left_of, most_left_of}
 use Rattle.kmip_settling.specs.Needs.{need_in, need_of}
-use Rattle.kmip_settling.proofs.NeedLemmas.{go_even, go_behind, no_less}
+use Rattle.kmip_settling.proofs.NeedLemmas.{go_even, go_behind, no_less, place_in, working_needs}
 
 abbrev pub left_by : Phase → ℕ → ℕ → Bool → ℕ → Bool → ℕ
 left_by phase n d there p under_way = if nat_le n d then 0 else need_in phase n d there p + one_if (not there) + one_if under_way
@@ -295,4 +295,51 @@ pub way_left : (phase : Phase) (n d p : ℕ) (there now was : Bool) → left_by 
 way_left phase n d p there now was = elim (cases_Bool (nat_le n d)) [
   | inl all ↦ rw all (omega arith)
   | inr less ↦ rw less (let one = one_at_most now in omega (arith, one))
+]
+
+-- ---- an exchange that teaches
+
+-- the same object, and the same steps under way
+pub left_same : (key : Key) (known : Knowledge) (old new : Past) → object_named key.attrs.name new.objects ≡ object_named key.attrs.name old.objects
+    → is_under_way key new ≡ is_under_way key old → left_of key known new ≡ left_of key known old
+left_same key known old new same way =
+    left_is key known new
+    ∙ ap (λ found. left_by known.phase (chain_length key) known.done (is_some found) (place_in key found) (is_under_way key new)) same
+    ∙ ap (left_by known.phase (chain_length key) known.done (is_there key old) (position key old.objects)) way
+    ∙ sym (left_is key known old)
+
+-- what is left beside the need
+pub left_within : (key : Key) (known : Knowledge) (p : Past)
+    → left_of key known p ≤ need_of key known p.objects + one_if (not (is_there key p)) + one_if (is_under_way key p)
+left_within key known p = elim (cases_Bool (nat_lt known.done (chain_length key))) [
+  | inl works ↦
+      let more = ltb-true known.done (chain_length key) works in
+      omega (arith, working_left key known p more, working_needs key known known.phase (object_named key.attrs.name p.objects) refl more)
+  | inr all ↦ omega (arith, finished_left key known p (ltb-false known.done (chain_length key) all))
+]
+
+pub left_beside : (key : Key) (known : Knowledge) (p : Past) → known.done < chain_length key
+    → left_of key known p ≡ need_of key known p.objects + one_if (not (is_there key p)) + one_if (is_under_way key p)
+left_beside key known p more =
+    omega (arith, working_left key known p more, working_needs key known known.phase (object_named key.attrs.name p.objects) refl more)
+
+-- the steps that are left to do are needed
+least_by : (phase : Phase) (n d p : ℕ) (there : Bool) → d ≤ p → n - p ≤ need_in phase n d there p
+least_by phases.Look n d p true had = omega arith
+least_by phases.Look n d p false had = omega arith
+least_by phases.Make n d p true had = omega arith
+least_by phases.Make n d p false had = omega arith
+least_by phases.Check n d p there had = omega arith
+least_by phases.Go n d p there had = elim (go_needs n d p had) [
+  | inl even ↦ omega (arith, even.1)
+  | inr behind ↦ omega (arith, behind.1)
+]
+
+pub need_least : (key : Key) (known : Knowledge) (objects : List Object) → known.done ≤ position key objects
+    → chain_length key - position key objects ≤ need_of key known objects
+need_least key known objects had = elim (cases_Bool (nat_lt known.done (chain_length key))) [
+  | inl works ↦
+      let least = least_by known.phase (chain_length key) known.done (position key objects) (is_some (object_named key.attrs.name objects)) had in
+      omega (arith, least, working_needs key known known.phase (object_named key.attrs.name objects) refl (ltb-true known.done (chain_length key) works))
+  | inr all ↦ omega (arith, had, ltb-false known.done (chain_length key) all)
 ]

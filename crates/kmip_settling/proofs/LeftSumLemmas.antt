@@ -146,3 +146,19 @@ pub exchange_left : (keys : List Key) (knowns : List Knowledge) (sent : List ℕ
 exchange_left [] knowns sent answer p = refl
 exchange_left (key ∷ keys) [] sent answer p = refl
 exchange_left (key ∷ keys) (known ∷ knowns) sent answer p = ap (λ rest. left_of key known p + rest) (exchange_left keys knowns sent answer p)
+
+-- one less for one key, and no more for any other
+pub one_less : (keys : List Key) (knowns : List Knowledge) (place : ℕ) (key : Key) (known next : Knowledge) (old new : Past)
+    → ((j : ℕ) (k : Key) (kn : Knowledge) → slice_get keys j ≡ Some k → slice_get knowns j ≡ Some kn → j ≢ place → left_of k kn new ≤ left_of k kn old)
+    → slice_get keys place ≡ Some key → slice_get knowns place ≡ Some known → left_of key next new + 1 ≤ left_of key known old
+    → left_all keys (slice_set knowns place next) new + 1 ≤ left_all keys knowns old
+one_less [] knowns place key known next old new others here there less = absurd cc
+one_less (k ∷ keys) [] place key known next old new others here there less = absurd cc
+one_less (k ∷ keys) (kn ∷ knowns) zero key known next old new others here there less =
+    let now : left_of k next new ≡ left_of key next new = ap (λ x. left_of x next new) (same_Some k key here) in
+    let was : left_of k kn old ≡ left_of key known old = ap (λ x. left_of x kn old) (same_Some k key here) ∙ ap (λ x. left_of key x old) (same_Some kn known there) in
+    let rest = all_left keys knowns old new (λ j x y is at. others (suc j) x y is at (λ e. absurd (omega (arith, e)))) in
+    omega (arith, now, was, rest, less)
+one_less (k ∷ keys) (kn ∷ knowns) (suc place) key known next old new others here there less =
+    let rest = one_less keys knowns place key known next old new (λ j x y is at apart. others (suc j) x y is at (λ e. apart (omega (arith, e)))) here there less in
+    omega (arith, others zero k kn refl refl (λ e. absurd (omega (arith, e))), rest)

@@ -17,3 +17,4 @@ pub mod LearntLemmas
 pub mod HeardLemmas
 pub mod AskingLemmas
 pub mod DisturbedLemmas
+pub mod CleanLemmas

@@ -2,6 +2,7 @@
 //! does nothing.
 ghost use Rattle.kmip_settling.specs.LosingLaws.{
   LateArrivalsAddNothing,
+  CleanTurnsAreNearer,
   DisturbedTurnsCostTwo,
   NeedsAreLeft,
   LeftIsBounded,
@@ -32,8 +33,10 @@ pub fn late_arrivals_add_nothing()
     laws_below();
 }
 
-/// A disturbed exchange.
+/// A clean exchange leaves one less, and any other at most two more, or three where what it hands
+/// over is about a key that was not asked.
 pub fn a_losing_turn_is_bounded()
+    ensures clean { CleanTurnsAreNearer }
     ensures disturbed { DisturbedTurnsCostTwo }
 {
     laws_below();
