@@ -1,9 +1,7 @@
 -- The question joins those asked: its key's next step may be under way then, and no other key's is that was not.
-use Rattle.std.proofs.Common.{◌≡◌, ◌≢◌, ◌≤◌, ℕ, ◌+◌, Bool, true, false, ◌||◌, nat_eq, List, [], ◌∷◌, ◌++◌, Option, Some, None, subst, refl, sym, ap, ◌∙◌, inl, inr, arith}
-use Rattle.std.specs.Cmp.Lexicographic.{pointwise}
+use Rattle.std.proofs.Common.{◌≡◌, ◌≢◌, ◌≤◌, ℕ, ◌+◌, Bool, true, false, ◌||◌, List, [], ◌∷◌, ◌++◌, Option, Some, None, subst, refl, sym, ap, ◌∙◌, arith}
 use Rattle.std.specs.List.{All, list_any, slice_get}
 use Rattle.std.specs.Option.{option_map_or}
-use Rattle.std.proofs.lemmas.Bool.{cases_Bool}
 use Rattle.std.proofs.lemmas.List.Elements.{All-cons, All-nil}
 use Rattle.std.proofs.lemmas.List.Folds.{list_any-append}
 use Rattle.kmip_objects.specs.declared.step.Step.{Step}
@@ -22,7 +20,6 @@ use Rattle.kmip_client.specs.Questions.{ask_about, id_of, request_about, step_as
 use Rattle.kmip_client.specs.declared.question.Question.{Question}
 use Rattle.kmip_schedule.specs.Exchanges.{with_asked}
 use Rattle.kmip_schedule.specs.Past.{Past}
-use Rattle.kmip_schedule.specs.Sound.{Sound}
 use Rattle.kmip_settling.specs.Lawbook.{Lawbook}
 use Rattle.kmip_settling.specs.Losing.{is_id, is_under_way, left_of, left_all, step_id, was_asked}
 use Rattle.kmip_settling.proofs.AskedLemmas.{same_parts}

@@ -1,7 +1,6 @@
 -- A clean exchange: what arrives late beside it adds nothing, and the question that is served leaves one less of its key.
-use Rattle.std.proofs.Common.{◌≡◌, ◌≢◌, ◌≤◌, ◌<◌, ℕ, ◌+◌, ◌-◌, Bool, true, false, not, nat_lt, List, [], ◌∷◌, ◌++◌, length, is_some, Option, Some, None, Result, Ok, slice_set, subst, refl, sym, ap, ◌∙◌, ◌⊎◌, inl, inr, arith}
-use Rattle.std.specs.Cmp.Lexicographic.{pointwise}
-use Rattle.std.specs.List.{All, slice_get}
+use Rattle.std.proofs.Common.{◌≡◌, ◌≢◌, ◌≤◌, ◌<◌, ℕ, ◌+◌, ◌-◌, Bool, true, false, not, nat_lt, List, [], ◌∷◌, ◌++◌, length, is_some, Option, Some, None, slice_set, subst, refl, sym, ap, ◌∙◌, inl, inr, arith}
+use Rattle.std.specs.List.{All}
 use Rattle.std.specs.Option.{option_map_or, unwrap_or}
 use Rattle.std.proofs.lemmas.Bool.{and_parts, cases_Bool, ltb-true}
 use Rattle.std.proofs.lemmas.List.Elements.{All-head}
@@ -12,17 +11,15 @@ use Rattle.kmip_objects.specs.declared.step.Step.{Step}
 use Rattle.kmip_objects.specs.declared.step.Step.TheVariants.{Create, Activate, Revoke, Destroy}
 use Rattle.kmip_messages.specs.Items.{parts_in, replies_in, requests_in, stops_in}
 use Rattle.kmip_messages.specs.Operations.{operation_of}
-use Rattle.kmip_messages.specs.declared.refusal.Refusal.{Refusal}
 use Rattle.kmip_messages.specs.declared.reply.Outcome.{Outcome}
 use Rattle.kmip_messages.specs.declared.reply.Outcome.TheVariants.{Failed}
-use Rattle.kmip_messages.specs.declared.reply.Reply.{Reply}
 use Rattle.kmip_messages.specs.declared.request.Ask.{Ask}
 use Rattle.kmip_messages.specs.declared.request.Request.{Request}
 use Rattle.kmip_messages.specs.declared.standard.TheConstants.{REASON_SERVER_FULL}
 use Rattle.kmip_chains.specs.Chains.{step_at, step_place}
 use Rattle.kmip_chains.specs.declared.key.Key.{Key}
 use Rattle.kmip_plan.specs.Plans.{IsLawful, IsPlanned}
-use Rattle.kmip_knowledge.specs.Knowledge.{chain_length, is_working}
+use Rattle.kmip_knowledge.specs.Knowledge.{chain_length}
 use Rattle.kmip_knowledge.specs.declared.knowledge.Knowledge.{Knowledge}
 use Rattle.kmip_knowledge.specs.declared.knowledge.Phase.{Phase}
 use Rattle.kmip_knowledge.specs.declared.knowledge.Phase.TheVariants as phases
@@ -34,7 +31,7 @@ use Rattle.kmip_client.specs.Questions.{ask_about, id_of, next_ask, phase_ask, r
 use Rattle.kmip_client.specs.declared.question.Question.{Question}
 use Rattle.kmip_server.specs.ServerStep as rows
 use Rattle.kmip_server.specs.ServerStep.{ServerStep}
-use Rattle.kmip_schedule.specs.Calm.{AreTaken, IsServed}
+use Rattle.kmip_schedule.specs.Calm.{AreTaken}
 use Rattle.kmip_schedule.specs.Clean.{HasRoom, IsClean}
 use Rattle.kmip_schedule.specs.Exchanges.{with_asked}
 use Rattle.kmip_schedule.specs.Past.{Past, is_planned}
@@ -48,14 +45,14 @@ use Rattle.kmip_settling.proofs.ArrivalLemmas.{Arrives, as_it_was, took_effect, 
 use Rattle.kmip_settling.proofs.AskedLemmas.{ask_is_step, same_parts, step_is_asked}
 use Rattle.kmip_settling.proofs.AskingLemmas.{asks_well, names_apart, other_key, way_same}
 use Rattle.kmip_settling.proofs.ChangeLemmas.{places_same}
-use Rattle.kmip_settling.proofs.HearLemmas.{Answers, asked_of, taught_is}
+use Rattle.kmip_settling.proofs.HearLemmas.{asked_of, taught_is}
 use Rattle.kmip_settling.proofs.LateLemmas.{all_late, held_late}
-use Rattle.kmip_settling.proofs.LeftLemmas.{AreNumbers, is_there, left_beside, left_same, left_within, need_least, same_there}
+use Rattle.kmip_settling.proofs.LeftLemmas.{is_there, left_beside, left_same, left_within, need_least, same_there}
 use Rattle.kmip_settling.proofs.LeftSumLemmas.{exchange_left, numbers, one_less}
 use Rattle.kmip_settling.proofs.NeedLemmas.{go_even, place_in, working_needs}
 use Rattle.kmip_settling.proofs.PhaseLemmas.{IsWorked, IsNearer}
 use Rattle.kmip_settling.proofs.ReadyLemmas.{sound_here}
-use Rattle.kmip_settling.proofs.SumLemmas.{IsSame, OthersSame, held_at, one_held}
+use Rattle.kmip_settling.proofs.SumLemmas.{held_at, one_held}
 use Rattle.kmip_settling.proofs.TurnLemmas.{heard_one, one_taken, phase_nearer}
 
 -- ---- a step that is not refused for want of room is one of a server with room

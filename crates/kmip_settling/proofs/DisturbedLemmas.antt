@@ -1,22 +1,21 @@
 -- An exchange that is disturbed: the question costs one at most, what arrives late nothing, and the answer one of each key that it is
 -- about, or that it is not an answer to.
-use Rattle.std.proofs.Common.{◌≡◌, ◌≢◌, ◌≤◌, ℕ, ◌+◌, Bool, true, false, not, ◌&&◌, ◌||◌, nat_eq, List, [], ◌∷◌, is_some, Option, Some, None, Result, Ok, Err, IfSome, slice_set, subst, refl, sym, ap, ◌∙◌, inl, inr, arith, if◌then◌else◌}
+use Rattle.std.proofs.Common.{◌≡◌, ◌≢◌, ◌≤◌, ℕ, ◌+◌, Bool, true, false, ◌||◌, nat_eq, List, [], ◌∷◌, Option, Some, None, Result, Ok, Err, IfSome, slice_set, subst, refl, sym, ap, ◌∙◌, inl, inr, arith}
 use Rattle.std.specs.Cmp.Lexicographic.{pointwise}
 use Rattle.std.specs.List.{All, list_any, slice_get}
 use Rattle.std.proofs.lemmas.Bool.{cases_Bool, eqb-true, eq-eqb, ltb-true}
 use Rattle.std.proofs.lemmas.List.Elements.{All-head}
 use Rattle.std.proofs.lemmas.Bool.{and_parts}
-use Rattle.std.proofs.lemmas.Option.{same_Some}
 use Rattle.kmip_messages.specs.Items.{replies_in, requests_in}
 use Rattle.kmip_messages.specs.Whole.{reply_read}
 use Rattle.kmip_messages.specs.declared.reply.Reply.{Reply}
 use Rattle.kmip_messages.specs.declared.request.Request.{Request}
 use Rattle.kmip_chains.specs.declared.key.Key.{Key}
-use Rattle.kmip_plan.specs.Plans.{IsLawful, IsPlanned}
-use Rattle.kmip_knowledge.specs.Knowledge.{chain_length, is_working}
+use Rattle.kmip_plan.specs.Plans.{IsLawful}
+use Rattle.kmip_knowledge.specs.Knowledge.{chain_length}
 use Rattle.kmip_knowledge.specs.declared.fault.HearFault.{HearFault}
 use Rattle.kmip_knowledge.specs.declared.knowledge.Knowledge.{Knowledge}
-use Rattle.kmip_client.specs.Clients.{ClientState, IsAbout, changed_at, changed_by, lost_working, one_if}
+use Rattle.kmip_client.specs.Clients.{IsAbout, changed_at, changed_by, lost_working, one_if}
 use Rattle.kmip_client.specs.Hearing.{first_heard, heard_in, unreadable}
 use Rattle.kmip_client.specs.Held.{Held}
 use Rattle.kmip_client.specs.Questions.{request_about}
@@ -24,13 +23,13 @@ use Rattle.kmip_client.specs.Truth.{TrueMessage, TrueReply}
 use Rattle.kmip_client.specs.declared.hearing.Heard.{Heard}
 use Rattle.kmip_client.specs.declared.question.Question.{Question}
 use Rattle.kmip_schedule.specs.Clean.{but_of, hands_strange, is_strange, names_one}
-use Rattle.kmip_schedule.specs.Exchanges.{AreGiven, HandsOver, with_asked, with_exchange}
+use Rattle.kmip_schedule.specs.Exchanges.{AreGiven, HandsOver, with_asked}
 use Rattle.kmip_schedule.specs.Past.{Past, is_planned}
 use Rattle.kmip_schedule.specs.Sound.{Sound}
 use Rattle.kmip_settling.specs.Laws.{known_after_turn}
 use Rattle.kmip_settling.specs.Lawbook.{Lawbook}
 use Rattle.kmip_settling.specs.Losing.{left_all}
-use Rattle.kmip_settling.specs.Turns.{is_answer_to, taught, taught_by}
+use Rattle.kmip_settling.specs.Turns.{is_answer_to, taught_by}
 use Rattle.kmip_settling.proofs.AskingLemmas.{asked_left, asks_well, names_apart}
 use Rattle.kmip_settling.proofs.FilterLemmas.{other_text}
 use Rattle.kmip_settling.proofs.HeardLemmas.{WasHeard, was_heard}

@@ -1,5 +1,5 @@
 -- What was heard is about one key of the plan, whose name stands in the reply's id.
-use Rattle.std.proofs.Common.{◌≡◌, ◌≢◌, ℕ, Bool, true, false, List, [], ◌∷◌, is_some, Option, Some, None, Result, Ok, Err, slice_set, subst, refl, sym, ap, ◌∙◌, ◌⊎◌, inl, inr}
+use Rattle.std.proofs.Common.{◌≡◌, ℕ, true, false, List, [], ◌∷◌, is_some, Option, Some, None, Result, Ok, Err, slice_set, subst, refl, sym, ap, ◌∙◌, ◌⊎◌, inl, inr}
 use Rattle.std.specs.List.{slice_get}
 use Rattle.std.specs.Option.{option_and_then, option_map_or}
 use Rattle.std.proofs.lemmas.Bool.{cases_Bool}
@@ -18,7 +18,7 @@ use Rattle.kmip_knowledge.specs.declared.knowledge.Knowledge.{Knowledge}
 use Rattle.kmip_client.specs.declared.hearing.Heard.{Heard}
 use Rattle.kmip_client.specs.declared.hearing.News.{News}
 use Rattle.kmip_client.specs.declared.hearing.News.TheVariants as news
-use Rattle.kmip_client.specs.Hearing.{has_failed, heard_about, heard_at, heard_by, heard_in, is_asked_of, is_other_operation, news_of, place_named, subject_at, subject_of, teach, with_heard, with_news}
+use Rattle.kmip_client.specs.Hearing.{has_failed, heard_about, heard_by, heard_in, is_asked_of, is_other_operation, news_of, place_named, subject_at, subject_of, teach, with_heard, with_news}
 
 -- a key that was worked on learnt the outcome, and another one nothing
 abbrev pub WasTaught : Key → Outcome → Knowledge → Knowledge → Type 0

@@ -1,5 +1,5 @@
 -- What arrives late leaves no more for any key.
-use Rattle.std.proofs.Common.{◌≡◌, ◌≤◌, ℕ, List, Some, refl, sym, ap, ◌∙◌, true, false, arith}
+use Rattle.std.proofs.Common.{◌≡◌, ◌≤◌, ℕ, List, sym, ap, ◌∙◌, true, false, arith}
 use Rattle.kmip_chains.specs.declared.key.Key.{Key}
 use Rattle.kmip_plan.specs.Plans.{IsLawful, IsPlanned}
 use Rattle.kmip_knowledge.specs.Knowledge.{chain_length}
@@ -12,7 +12,7 @@ use Rattle.kmip_schedule.specs.Sound.{Sound}
 use Rattle.kmip_settling.specs.Lawbook.{Lawbook}
 use Rattle.kmip_settling.specs.Losing.{is_under_way, left_of, left_all}
 use Rattle.kmip_settling.proofs.ArrivalLemmas.{Arrives, as_it_was, took_effect, delivered_arrives}
-use Rattle.kmip_settling.proofs.LeftLemmas.{AreNumbers, is_there, late_left, left_by, left_is, same_there}
+use Rattle.kmip_settling.proofs.LeftLemmas.{is_there, late_left, left_by, left_is, same_there}
 use Rattle.kmip_settling.proofs.LeftSumLemmas.{all_left, numbers}
 use Rattle.kmip_settling.proofs.SumLemmas.{held_at}
 

@@ -1,9 +1,7 @@
 -- What a true reply teaches about a key leaves at most one more, and takes back no identifier and no count.
-use Rattle.std.proofs.Common.{◌≡◌, ◌≢◌, ◌≤◌, ◌<◌, ℕ, ◌+◌, Bool, true, false, not, nat_eq, nat_lt, List, [], ◌∷◌, option_map, is_some, Option, Some, None, Result, Ok, Err, subst, refl, sym, ap, ◌∙◌, ◌⊎◌, inl, inr, arith, if◌then◌else◌}
+use Rattle.std.proofs.Common.{◌≡◌, ◌≤◌, ◌<◌, ℕ, ◌+◌, true, false, nat_eq, nat_lt, List, [], ◌∷◌, option_map, is_some, Option, Some, None, Result, Ok, Err, subst, refl, sym, ap, ◌∙◌, ◌⊎◌, inl, inr, arith, if◌then◌else◌}
 use Rattle.std.specs.Cmp.Lexicographic.{pointwise}
-use Rattle.std.specs.Option.{option_map_or}
 use Rattle.std.proofs.lemmas.Bool.{cases_Bool, ltb-true, ltb-false}
-use Rattle.std.proofs.lemmas.Option.{same_Some}
 use Rattle.std.proofs.lemmas.Slice.Eq.{bytes_eq-Decides}
 use Rattle.kmip_objects.specs.Objects.{Object, object_named}
 use Rattle.kmip_objects.specs.declared.attributes.Attrs.{Attrs}
@@ -11,7 +9,7 @@ use Rattle.kmip_objects.specs.declared.step.Step.{Step}
 use Rattle.kmip_objects.specs.declared.step.Step.TheVariants as steps
 use Rattle.kmip_messages.specs.declared.reply.Outcome.{Outcome}
 use Rattle.kmip_messages.specs.declared.reply.Outcome.TheVariants as outcomes
-use Rattle.kmip_chains.specs.Chains.{place_of, step_place}
+use Rattle.kmip_chains.specs.Chains.{step_place}
 use Rattle.kmip_chains.specs.declared.key.Key.{Key}
 use Rattle.kmip_knowledge.specs.Knowledge.{chain_length, is_working, lose}
 use Rattle.kmip_knowledge.specs.Learning.{attributes_learnt, created_learnt, enter, is_known, is_named, is_other, is_planned, learn, none_learnt, one_learnt, place_learnt, raise, state_learnt, step_learnt, with_clash}

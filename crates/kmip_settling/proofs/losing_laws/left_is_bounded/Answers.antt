@@ -1,5 +1,5 @@
 -- Key by key.
-use Rattle.std.proofs.Common.{◌≤◌, arith}
+use Rattle.std.proofs.Common.{arith}
 use Rattle.kmip_settling.proofs.LeftLemmas.{most_known}
 use Rattle.kmip_settling.proofs.LeftSumLemmas.{all_most_bound, all_most_falls, all_most_known, all_opened, needs_left, numbers}
 use Rattle.kmip_settling.proofs.SumLemmas.{held_at}
