@@ -34,7 +34,7 @@ pub data Change (key : Key) (old new : List Object) : Type 0 where
       → Change key old new
 
 -- two keys of a plan with one name are one
-same_key : (keys : List Key) (key other : Key) → IsPlanned keys key → IsPlanned keys other → other.attrs.name ≡ key.attrs.name → key ≡ other
+pub same_key : (keys : List Key) (key other : Key) → IsPlanned keys key → IsPlanned keys other → other.attrs.name ≡ key.attrs.name → key ≡ other
 same_key keys key other planned also same =
     same_Some _ _ (sym planned ∙ ap (λ name. key_named name keys) (sym same) ∙ also)
 

@@ -8,3 +8,13 @@ pub mod StepLemmas
 pub mod HearLemmas
 pub mod TurnLemmas
 pub mod FurtherLemmas
+pub mod LeftLemmas
+pub mod LeftSumLemmas
+pub mod AskedLemmas
+pub mod ArrivalLemmas
+pub mod LateLemmas
+pub mod LearntLemmas
+pub mod HeardLemmas
+pub mod AskingLemmas
+pub mod DisturbedLemmas
+pub mod CleanLemmas

@@ -31,7 +31,7 @@ pub need_found : (key : Key) (known : Knowledge) (objects : List Object) (found 
     → need_of key known objects ≡ need_by key known found
 need_found key known objects found is = ap (need_by key known) is
 
-no_less : (n d : ℕ) → d < n → nat_le n d ≡ false
+pub no_less : (n d : ℕ) → d < n → nat_le n d ≡ false
 no_less n d less = elim (cases_Bool (nat_le n d)) [
   | inl is ↦ absurd (omega (arith, leb-true n d is, less))
   | inr is ↦ is
@@ -84,7 +84,7 @@ need_some phases.Go n d p there more = elim (cases_Bool (nat_eq d p)) [
 
 -- ---- one key
 
-some_there : (found : Option Object) (place : Object → ℕ) → ((o : Object) → found ≡ Some o → 1 ≤ place o) → is_some found ≡ true → 1 ≤ option_map_or place found 0
+pub some_there : (found : Option Object) (place : Object → ℕ) → ((o : Object) → found ≡ Some o → 1 ≤ place o) → is_some found ≡ true → 1 ≤ option_map_or place found 0
 some_there None place from there = absurd cc
 some_there (Some o) place from there = from o refl
 
@@ -133,7 +133,7 @@ pub key_at_the_end : ReachedIsWithin → (objects : List Object) (key : Key) (kn
 key_at_the_end reached objects key known held finished =
     omega (arith, held.holds.done_true, finished_all key known held.no_clash finished, position_within reached key objects)
 
-chain_some : (target : Target) → 0 < length (chain target)
+pub chain_some : (target : Target) → 0 < length (chain target)
 chain_some targets.Created = omega arith
 chain_some targets.Active = omega arith
 chain_some targets.Revoked = omega arith

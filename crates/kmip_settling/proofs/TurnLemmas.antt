@@ -62,7 +62,7 @@ go_nearer l room old new key known uid outcome phase_is worked known_is from ste
     (subst (λ u. step_asked (step_ask key uid next) ≡ Some (next, u)) (sym same) (next_asked key uid next later (l.reasons key worked.fits)))
     (subst (λ s. ServerStep room old (next_ask key uid s) outcome new) stands step)
 
-phase_nearer : (l : Lawbook) (room : ℕ) (old new : List Object) (key : Key) (known : Knowledge) (phase : Phase) (outcome : Outcome) → known.phase ≡ phase
+pub phase_nearer : (l : Lawbook) (room : ℕ) (old new : List Object) (key : Key) (known : Knowledge) (phase : Phase) (outcome : Outcome) → known.phase ≡ phase
     → IsWorked room old key known → ServerStep room old (phase_ask key phase (unwrap_or known.identifier []) known.done) outcome new
     → IsNearer key known outcome old new
 phase_nearer l room old new key known phases.Look outcome is worked step = look_nearer l room old new key known outcome is worked step
@@ -106,7 +106,7 @@ all_nearer l keys place room old new knowns key known outcome lawful ready here 
 
 -- ---- one message
 
-one_taken : (stops : Bool) (replies : List Reply) (old new : Past) (request : Request) → AreTaken stops (Ok request ∷ []) replies old new
+pub one_taken : (stops : Bool) (replies : List Reply) (old new : Past) (request : Request) → AreTaken stops (Ok request ∷ []) replies old new
     → (reply : Reply) × (replies ≡ reply ∷ []) × IsServed request reply old new
 one_taken stops [] old new request taken = absurd taken
 one_taken stops (reply ∷ []) old new request (between, served, inl (stop, none, same)) = (reply, refl, subst (IsServed request reply old) (sym same) served)
@@ -115,7 +115,7 @@ one_taken stops (reply ∷ more ∷ replies) old new request (between, served, i
 one_taken stops (reply ∷ more ∷ replies) old new request (between, served, inr (go, rest)) = absurd rest
 
 -- what is known after a message of one reply
-heard_one : (keys : List Key) (next : ℕ) (knowns : List Knowledge) (question : Question) (given : List ℕ) (reply : Reply) → replies_in given ≡ reply ∷ []
+pub heard_one : (keys : List Key) (next : ℕ) (knowns : List Knowledge) (question : Question) (given : List ℕ) (reply : Reply) → replies_in given ≡ reply ∷ []
     → known_after_turn keys next knowns question (Some given)
     ≡ (taught_by question (record { keys = keys; knowns = knowns; next = next }) (heard_in keys reply knowns)).knowns
 heard_one keys next knowns question given reply is =

@@ -1,7 +1,17 @@
 -- Private: the laws of the crates below that the laws here rest on, in one record.
 -- Source: own.
-use Rattle.kmip_objects.specs.ObjectLaws.{NamedIsAll, IdentifiedIsAll, NamedIsIdentified, OwnIsRestated, OtherIsKept, RestatedKeeps, NamedIsRestated}
+use Rattle.kmip_objects.specs.ObjectLaws.{
+  NamedIsOne,
+  NamedIsAll,
+  IdentifiedIsAll,
+  NamedIsIdentified,
+  OwnIsRestated,
+  OtherIsKept,
+  RestatedKeeps,
+  NamedIsRestated,
+}
 use Rattle.kmip_chains.specs.Laws.{
+  PlacesAndSteps,
   NextStepsStand,
   PlacesAreWithin,
   ReachedIsWithin,
@@ -18,10 +28,20 @@ use Rattle.kmip_plan.specs.Laws.{
   BoundsAddUp,
   OldKeysStand,
 }
-use Rattle.kmip_client.specs.Laws.{AsksWhatItMay}
+use Rattle.kmip_client.specs.Laws.{AsksWhatItMay, HeldForGood}
+use Rattle.kmip_schedule.specs.Laws.{
+  ObjectsGoOnward,
+  DeliveriesKeepSound,
+  DeliveriesKeepTheRequests,
+  AskingKeepsSound,
+  AnswersAreTrue,
+  TakenIsDelivered,
+  WhatIsDoneJoins,
+}
 use Rattle.kmip_server.specs.Laws.{LocateFindsAllNamed}
 
 pub record Lawbook : Type 0 where
+  pub named : NamedIsOne
   pub all_named : NamedIsAll
   pub all_identified : IdentifiedIsAll
   pub by_identifier : NamedIsIdentified
@@ -29,6 +49,7 @@ pub record Lawbook : Type 0 where
   pub other_kept : OtherIsKept
   pub restated_keeps : RestatedKeeps
   pub named_restated : NamedIsRestated
+  pub places : PlacesAndSteps
   pub next_step : NextStepsStand
   pub places_within : PlacesAreWithin
   pub reached : ReachedIsWithin
@@ -44,3 +65,11 @@ pub record Lawbook : Type 0 where
   pub old_stand : OldKeysStand
   pub asks : AsksWhatItMay
   pub located : LocateFindsAllNamed
+  pub held_for_good : HeldForGood
+  pub onward : ObjectsGoOnward
+  pub sound_after : DeliveriesKeepSound
+  pub requests_stay : DeliveriesKeepTheRequests
+  pub asking : AskingKeepsSound
+  pub answers : AnswersAreTrue
+  pub taken : TakenIsDelivered
+  pub joins : WhatIsDoneJoins

@@ -18,13 +18,17 @@ ghost use Rattle.kmip_settling.specs.Lawbook.{Lawbook};
 use kmip_chains::laws::{
     due_steps_advance, further_ways_keep_places, states_have_places, steps_have_places,
 };
-use kmip_client::laws::what_is_asked_may_be;
+use kmip_client::laws::{truth_is_for_good, what_is_asked_may_be};
 use kmip_objects::laws::{added_laws, found_laws, restated_laws};
 use kmip_plan::laws::{bounds_add_up, keys_fit, keys_have_names, prolonged_keys_stand};
+use kmip_schedule::laws::{
+    answers_are_true, asking_keeps_sound, deliveries_keep_sound, deliveries_keep_the_requests,
+    objects_go_onward, what_is_done_joins, what_is_taken_is_delivered,
+};
 use kmip_server::laws::a_name_is_found;
 
 /// The laws of the crates below.
-fn laws_below()
+pub(crate) fn laws_below()
     ensures { Lawbook }
 {
     found_laws();
@@ -40,6 +44,14 @@ fn laws_below()
     prolonged_keys_stand();
     what_is_asked_may_be();
     a_name_is_found();
+    truth_is_for_good();
+    objects_go_onward();
+    deliveries_keep_sound();
+    deliveries_keep_the_requests();
+    asking_keeps_sound();
+    answers_are_true();
+    what_is_taken_is_delivered();
+    what_is_done_joins();
 }
 
 /// Where what happened is sound and what is known is true, a client is ready to settle, if there is

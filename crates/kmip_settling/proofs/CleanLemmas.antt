@@ -1,0 +1,258 @@
+-- A clean exchange: what arrives late beside it adds nothing, and the question that is served leaves one less of its key.
+use Rattle.std.proofs.Common.{◌≡◌, ◌≢◌, ◌≤◌, ◌<◌, ℕ, ◌+◌, ◌-◌, Bool, true, false, not, nat_lt, List, [], ◌∷◌, ◌++◌, length, is_some, Option, Some, None, slice_set, subst, refl, sym, ap, ◌∙◌, inl, inr, arith}
+use Rattle.std.specs.List.{All}
+use Rattle.std.specs.Option.{option_map_or, unwrap_or}
+use Rattle.std.proofs.lemmas.Bool.{and_parts, cases_Bool, ltb-true}
+use Rattle.std.proofs.lemmas.List.Elements.{All-head}
+use Rattle.std.proofs.lemmas.Option.{same_Some}
+use Rattle.std.proofs.lemmas.Slice.Eq.{bytes_eq-Decides}
+use Rattle.kmip_objects.specs.Objects.{Object, object_named}
+use Rattle.kmip_objects.specs.declared.step.Step.{Step}
+use Rattle.kmip_objects.specs.declared.step.Step.TheVariants.{Create, Activate, Revoke, Destroy}
+use Rattle.kmip_messages.specs.Items.{parts_in, replies_in, requests_in, stops_in}
+use Rattle.kmip_messages.specs.Operations.{operation_of}
+use Rattle.kmip_messages.specs.declared.reply.Outcome.{Outcome}
+use Rattle.kmip_messages.specs.declared.reply.Outcome.TheVariants.{Failed}
+use Rattle.kmip_messages.specs.declared.request.Ask.{Ask}
+use Rattle.kmip_messages.specs.declared.request.Request.{Request}
+use Rattle.kmip_messages.specs.declared.standard.TheConstants.{REASON_SERVER_FULL}
+use Rattle.kmip_chains.specs.Chains.{step_at, step_place}
+use Rattle.kmip_chains.specs.declared.key.Key.{Key}
+use Rattle.kmip_plan.specs.Plans.{IsLawful, IsPlanned}
+use Rattle.kmip_knowledge.specs.Knowledge.{chain_length}
+use Rattle.kmip_knowledge.specs.declared.knowledge.Knowledge.{Knowledge}
+use Rattle.kmip_knowledge.specs.declared.knowledge.Phase.{Phase}
+use Rattle.kmip_knowledge.specs.declared.knowledge.Phase.TheVariants as phases
+use Rattle.kmip_client.specs.Clients.{IsAbout, one_if}
+use Rattle.kmip_client.specs.Held.{Held, IsHeld}
+use Rattle.kmip_client.specs.Hearing.{step_of}
+use Rattle.kmip_client.specs.Places.{position}
+use Rattle.kmip_client.specs.Questions.{ask_about, id_of, next_ask, phase_ask, request_about, step_ask}
+use Rattle.kmip_client.specs.declared.question.Question.{Question}
+use Rattle.kmip_server.specs.ServerStep as rows
+use Rattle.kmip_server.specs.ServerStep.{ServerStep}
+use Rattle.kmip_schedule.specs.Calm.{AreTaken}
+use Rattle.kmip_schedule.specs.Clean.{HasRoom, IsClean}
+use Rattle.kmip_schedule.specs.Exchanges.{with_asked}
+use Rattle.kmip_schedule.specs.Past.{Past, is_planned}
+use Rattle.kmip_schedule.specs.Safe.{step_of_ask}
+use Rattle.kmip_schedule.specs.Sound.{Sound}
+use Rattle.kmip_settling.specs.Laws.{known_after_turn}
+use Rattle.kmip_settling.specs.Lawbook.{Lawbook}
+use Rattle.kmip_settling.specs.Losing.{is_id, is_under_way, left_of, left_all, step_id, was_asked}
+use Rattle.kmip_settling.specs.Needs.{need_in, need_of}
+use Rattle.kmip_settling.proofs.ArrivalLemmas.{Arrives, as_it_was, took_effect, delivered_arrives}
+use Rattle.kmip_settling.proofs.AskedLemmas.{ask_is_step, same_parts, step_is_asked}
+use Rattle.kmip_settling.proofs.AskingLemmas.{asks_well, names_apart, other_key, way_same}
+use Rattle.kmip_settling.proofs.ChangeLemmas.{places_same}
+use Rattle.kmip_settling.proofs.HearLemmas.{asked_of, taught_is}
+use Rattle.kmip_settling.proofs.LateLemmas.{all_late, held_late}
+use Rattle.kmip_settling.proofs.LeftLemmas.{is_there, left_beside, left_same, left_within, need_least, same_there}
+use Rattle.kmip_settling.proofs.LeftSumLemmas.{exchange_left, numbers, one_less}
+use Rattle.kmip_settling.proofs.NeedLemmas.{go_even, place_in, working_needs}
+use Rattle.kmip_settling.proofs.PhaseLemmas.{IsWorked, IsNearer}
+use Rattle.kmip_settling.proofs.ReadyLemmas.{sound_here}
+use Rattle.kmip_settling.proofs.SumLemmas.{held_at, one_held}
+use Rattle.kmip_settling.proofs.TurnLemmas.{heard_one, one_taken, phase_nearer}
+
+-- ---- a step that is not refused for want of room is one of a server with room
+
+roomier : (room : ℕ) (old new : List Object) (ask : Ask) (outcome : Outcome) → ServerStep room old ask outcome new → outcome ≢ Failed (Some REASON_SERVER_FULL)
+    → ServerStep (length old + 1) old ask outcome new
+roomier room old new ask outcome (rows.name_taken h) not_full = rows.name_taken h
+roomier room old new ask outcome (rows.full h i) not_full = absurd (not_full refl)
+roomier room old new ask outcome (rows.created free roomy uid_free fits) not_full = rows.created free (let more : length old < length old + 1 = omega arith in more) uid_free fits
+roomier room old new ask outcome rows.searched not_full = rows.searched
+roomier room old new ask outcome (rows.told h) not_full = rows.told h
+roomier room old new ask outcome (rows.unknown h) not_full = rows.unknown h
+roomier room old new ask outcome (rows.compromised h) not_full = rows.compromised h
+roomier room old new ask outcome (rows.not_found h i) not_full = rows.not_found h i
+roomier room old new ask outcome (rows.wrong_state h i j) not_full = rows.wrong_state h i j
+roomier room old new ask outcome (rows.done h i j) not_full = rows.done h i j
+
+-- ---- a key that asks the next step of its object needs the rest of its chain
+
+step_of_step : (key : Key) (uid : List ℕ) (step : Step) → step_of_ask (step_ask key uid step) ≡ Some step
+step_of_step key uid Create = refl
+step_of_step key uid Activate = refl
+step_of_step key uid Revoke = refl
+step_of_step key uid Destroy = refl
+
+place_at : (l : Lawbook) (key : Key) (place : ℕ) (step : Step) → step_at key.target (place + 1) ≡ Some step → step_place key.target step ≡ place + 1
+place_at l key place step is = (l.places key.target (place + 1) step (let some : 1 ≤ place + 1 = omega arith in some)).0 is
+
+rest_by : (l : Lawbook) (key : Key) (phase : Phase) (uid : List ℕ) (d p : ℕ) (there : Bool) (step : Step) → (there ≡ true → 1 ≤ p)
+    → step_of_ask (phase_ask key phase uid d) ≡ Some step → step_at key.target (p + 1) ≡ Some step → need_in phase (chain_length key) d there p ≡ chain_length key - p
+rest_by l key phases.Look uid d p there step from asks stands = absurd cc
+rest_by l key phases.Make uid d p there step from asks stands =
+    let first : step_place key.target step ≡ 1 = ap (step_place key.target) (sym (same_Some Create step asks)) in
+    let none : p ≡ 0 = omega (arith, first, place_at l key p step stands) in
+    by_there there from none where
+      by_there : (there : Bool) → (there ≡ true → 1 ≤ p) → p ≡ 0 → need_in phases.Make (chain_length key) d there p ≡ chain_length key - p
+      by_there true from none = absurd (omega (arith, from refl, none))
+      by_there false from none = omega (arith, none)
+rest_by l key phases.Check uid d p there step from asks stands = absurd cc
+rest_by l key phases.Go uid d p there step from asks stands = by_next (step_at key.target (d + 1)) refl asks where
+  by_next : (found : Option Step) → step_at key.target (d + 1) ≡ found → step_of_ask (next_ask key uid found) ≡ Some step
+      → need_in phases.Go (chain_length key) d there p ≡ chain_length key - p
+  by_next None is asks = absurd cc
+  by_next (Some next) is asks =
+      let same : next ≡ step = same_Some next step (sym (step_of_step key uid next) ∙ asks) in
+      let one = place_at l key d next is in
+      let two = place_at l key p step stands in
+      go_even (chain_length key) d p (omega (arith, one, two, ap (step_place key.target) same))
+
+-- the question is that step
+is_next_step : (key : Key) (known : Knowledge) (step : Step) → is_id (step_id key step) (request_about key known) ≡ true → step_of_ask (ask_about key known) ≡ Some step
+is_next_step key known step same =
+    let parts = same_parts (operation_of (step_ask key [] step)) (operation_of (ask_about key known)) key.attrs.name key.attrs.name
+    ((bytes_eq-Decides (step_id key step) (id_of (operation_of (ask_about key known)) key)).0 same) in
+    sym (ask_is_step (ask_about key known)) ∙ ap step_of (sym parts.0) ∙ step_is_asked key [] step
+
+-- ---- the question's key
+
+-- What was served of a key's question.
+pub record IsTurned (keys : List Key) (before served : Past) (key : Key) (known next : Knowledge) : Type 0 where
+  pub sound : Sound keys before
+  pub sound_after : Sound keys served
+  pub planned : IsPlanned keys key
+  pub held : IsHeld before.objects key known
+  pub held_after : IsHeld served.objects key next
+  pub works : known.done < chain_length key
+  pub nearer : need_of key next served.objects + 1 ≡ need_of key known before.objects
+
+-- nothing more is under way where the object is as it was
+way_as_it_was : (l : Lawbook) (keys : List Key) (before served : Past) (key : Key) (known next : Knowledge) (requests : List Request)
+    → IsTurned keys before served key known next → requests ≡ request_about key known ∷ [] → position key served.objects ≡ position key before.objects
+    → is_under_way key (record before { requests = before.requests ++ requests }) ≡ is_under_way key before
+way_as_it_was l keys before served key known next requests turned one same =
+    way_same key before requests (request_about key known) one (λ step stands. elim (cases_Bool (is_id (step_id key step) (request_about key known))) [
+      | inr other ↦ other
+      | inl own ↦
+          let p : ℕ = position key before.objects in
+          let before_numbers = numbers l keys before key known turned.sound turned.planned turned.held in
+          let rest = rest_by l key known.phase (unwrap_or known.identifier []) known.done p (is_there key before) step before_numbers.from (is_next_step key known step own) stands in
+          let need = working_needs key known known.phase (object_named key.attrs.name before.objects) refl turned.works in
+          let least = need_least key next served.objects turned.held_after.holds.done_true in
+          let nearer = turned.nearer in
+          absurd (omega (arith, rest, need, least, nearer, same))
+    ])
+
+one_there : (b : Bool) → b ≡ true → one_if (not b) ≡ 0
+one_there true is = refl
+one_there false is = absurd cc
+
+key_clean : (l : Lawbook) (keys : List Key) (before asked served : Past) (key : Key) (known next : Knowledge) (requests : List Request)
+    → IsTurned keys before served key known next → requests ≡ request_about key known ∷ [] → asked ≡ record before { requests = before.requests ++ requests }
+    → Arrives key asked served → left_of key next served + 1 ≤ left_of key known before
+key_clean l keys before asked served key known next requests turned one is (as_it_was here way) =
+    let same : position key served.objects ≡ position key before.objects = here ∙ ap (λ (p : Past). position key p.objects) is in
+    let now = numbers l keys served key next turned.sound_after turned.planned turned.held_after in
+    let was = numbers l keys before key known turned.sound turned.planned turned.held in
+    let there = same_there (position key served.objects) (position key before.objects) (is_there key served) (is_there key before) same now.from now.none was.from was.none in
+    let ways : is_under_way key served ≡ is_under_way key before =
+    way ∙ ap (is_under_way key) is ∙ way_as_it_was l keys before served key known next requests turned one same in
+    let nearer = turned.nearer in
+    omega (
+      arith,
+      left_within key next served,
+      left_beside key known before turned.works,
+      ap (λ t. one_if (not t)) there,
+      ap one_if ways,
+      nearer,
+    )
+key_clean l keys before asked served key known next requests turned one is (took_effect further way none) =
+    let now = numbers l keys served key next turned.sound_after turned.planned turned.held_after in
+    let there : is_there key served ≡ true = elim (cases_Bool (is_there key served)) [
+      | inl there ↦ there
+      | inr missing ↦ absurd (omega (arith, further, now.none missing))
+    ] in
+    let nearer = turned.nearer in
+    omega (
+      arith,
+      left_within key next served,
+      left_beside key known before turned.works,
+      one_there (is_there key served) there,
+      ap one_if none,
+      nearer,
+    )
+
+-- ---- the whole exchange
+
+-- What is known after a clean exchange, and what is left then.
+pub record IsLess (keys : List Key) (before served : Past) (knowns nexts : List Knowledge) : Type 0 where
+  pub sound : Sound keys served
+  pub held : Held served.objects keys nexts
+  pub less : left_all keys nexts served + 1 ≤ left_all keys knowns before
+
+served_less : (l : Lawbook) (keys : List Key) (before served : Past) (next : ℕ) (knowns : List Knowledge) (question : Question) (given : List ℕ) → IsLawful keys
+    → Sound keys before → Held before.objects keys knowns → IsAbout keys knowns question
+    → AreTaken (stops_in question.bytes) (parts_in question.bytes) (replies_in given) (with_asked question.bytes before) served → All HasRoom (replies_in given)
+    → IsLess keys before served knowns (known_after_turn keys next knowns question (Some given))
+served_less l keys before served next knowns question given lawful sound held about taken roomy =
+    let key = about.key in
+    let known = about.known in
+    let place : ℕ = question.key in
+    let asked : Past = with_asked question.bytes before in
+    let planned = l.found keys place key lawful about.key_is in
+    let its = held_at keys knowns place key known before.objects held about.key_is about.known_is in
+    let works : known.done < chain_length key = ltb-true known.done (chain_length key) (and_parts (nat_lt known.done (chain_length key)) (not (is_some known.clash)) about.works).0 in
+    let sound_asked = l.asking keys before question.bytes sound (asks_well l keys before knowns question lawful held about) in
+    let delivered = l.taken (is_planned keys) (stops_in question.bytes) (parts_in question.bytes) (replies_in given) asked served taken in
+    let sound_served = l.sound_after keys asked served sound_asked delivered in
+    let (reply, given_is, one) = one_taken (stops_in question.bytes) (replies_in given) asked served (request_about key known)
+    (subst (λ parts. AreTaken (stops_in question.bytes) parts (replies_in given) asked served) about.asks.1 taken) in
+    let has_room : HasRoom reply = All-head HasRoom reply [] (subst (All HasRoom) given_is roomy) in
+    let objects_are : served.objects ≡ one.objects = ap (λ (p : Past). p.objects) one.is in
+    let requests_are : served.requests ≡ asked.requests = ap (λ (p : Past). p.requests) one.is in
+    let here = sound_here l keys before sound in
+    let worked : IsWorked (length before.objects + 1) before.objects key known = record {
+      here = λ o is. here key o planned is;
+      held = its;
+      more = works;
+      fits = l.fit keys lawful place key about.key_is;
+      roomy = λ none. let more : length before.objects < length before.objects + 1 = omega arith in more;
+    } in
+    let nearer = subst (IsNearer key known reply.outcome before.objects) (sym objects_are)
+    (phase_nearer l (length before.objects + 1) before.objects one.objects key known known.phase reply.outcome refl worked
+    (roomier before.room before.objects one.objects (ask_about key known) reply.outcome one.serves.step has_room)) in
+    let others = places_same l keys place key before.objects served.objects lawful about.key_is here nearer.change in
+    let less = key_clean l keys before asked served key known nearer.next (requests_in question.bytes)
+    (record { sound = sound; sound_after = sound_served; planned = planned; held = its; held_after = nearer.held; works = works; nearer = nearer.nearer })
+    about.asks.0 refl (delivered_arrives l keys asked served key sound_asked planned delivered) in
+    let asked_is = asked_of before.objects key (ask_about key known) (l.asks before.objects key known its about.works) in
+    let taught_now = taught_is (record { keys = keys; knowns = knowns; next = next }) question (operation_of (ask_about key known)) key known nearer.next reply
+    l.distinct lawful about.key_is about.known_is about.works asked_is about.operation_is
+    (record { operation_is = one.serves.operation_is; id_is = one.serves.id_is }) nearer.learnt in
+    let known_now : known_after_turn keys next knowns question (Some given) ≡ slice_set knowns place nearer.next =
+    heard_one keys next knowns question given reply given_is ∙ taught_now in
+    subst (IsLess keys before served knowns) (sym known_now) (record {
+      sound = sound_served;
+      held = one_held keys knowns place key nearer.next before.objects served.objects others about.key_is held nearer.held;
+      less = one_less keys knowns place key known nearer.next before served
+          (λ j k kn is at apart.
+          let same = others j k apart is in
+          let name = names_apart l keys j place k key lawful is about.key_is apart in
+          let way : is_under_way k served ≡ is_under_way k before =
+          ap (λ found. option_map_or (was_asked k served.requests) (step_at k.target (place_in k found + 1)) false) same
+          ∙ ap (λ requests. option_map_or (was_asked k requests) (step_at k.target (position k before.objects + 1)) false) requests_are
+          ∙ way_same k before (requests_in question.bytes) (request_about key known) about.asks.0 (λ step stands. other_key k key known step name) in
+          omega (arith, left_same k kn before served same way))
+          about.key_is about.known_is less;
+    })
+
+pub clean_leaves : (l : Lawbook) (keys : List Key) (old new : Past) (next : ℕ) (knowns : List Knowledge) (question : Question) (answer : Option (List ℕ))
+    → IsLawful keys → Sound keys old → Held old.objects keys knowns → IsAbout keys knowns question → IsClean (is_planned keys) old question.bytes answer new
+    → left_all keys (known_after_turn keys next knowns question answer) new + 1 ≤ left_all keys knowns old
+clean_leaves l keys old new next knowns question answer lawful sound held about clean =
+    let sound_before = l.sound_after keys old clean.before sound clean.early in
+    let held_before = held_late l keys old clean.before knowns lawful sound held clean.early in
+    let early = all_late l keys old clean.before knowns lawful sound held clean.early in
+    let less = served_less l keys clean.before clean.served next knowns question clean.given lawful sound_before held_before about clean.taken clean.roomy in
+    let late = all_late l keys clean.served clean.after (known_after_turn keys next knowns question (Some clean.given)) lawful less.sound less.held clean.late in
+    let end : left_all keys (known_after_turn keys next knowns question answer) new ≡ left_all keys (known_after_turn keys next knowns question (Some clean.given)) clean.after =
+    ap (left_all keys (known_after_turn keys next knowns question answer)) clean.is
+    ∙ exchange_left keys (known_after_turn keys next knowns question answer) question.bytes answer clean.after
+    ∙ ap (λ a. left_all keys (known_after_turn keys next knowns question a) clean.after) clean.answer_is in
+    let fewer = less.less in
+    omega (arith, early, fewer, late, end)
