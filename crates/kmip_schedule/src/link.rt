@@ -1,6 +1,7 @@
 //! A link to a server, and why it has no answer.
 ghost use Rattle.std.specs.Prelude.{◌≡◌, ◌≤◌, ◌<◌, ℕ, List, Some, None, Ok, IfErr, OnErr, OnOk, option_map};
 ghost use Rattle.kmip_schedule.specs.Calm.{CalmlyExchanged, CalmlyEnded};
+ghost use Rattle.kmip_schedule.specs.Clean.{Counted, Disturbances, IsRoomy};
 ghost use Rattle.kmip_schedule.specs.Exchanges.{Exchanged, answer_in};
 ghost use Rattle.kmip_schedule.specs.Faults.{link_fault_number, link_fault_name, most_failures};
 ghost use Rattle.kmip_schedule.specs.Moves.{Delivered};
@@ -24,6 +25,10 @@ pub trait Link {
     /// How often its network has failed, up to 2^64 - 1. From then on it sends nothing.
     ghost failures: { Self → ℕ };
 
+    /// How many of its exchanges were disturbed, and how many of those handed over a reply about
+    /// another key.
+    ghost disturbances: { Self → Disturbances };
+
     /// Sends the bytes of a request, and answers the bytes of a reply that came; none where it was
     /// lost, or where the link sends nothing any more.
     ///
@@ -41,7 +46,13 @@ pub trait Link {
         ensures io { IfErr result (λ fault. fault ≡ LinkFault.Io
             → failures self.old < failures self.new) }
         ensures spent { failures self.old ≡ most_failures
-            → answer_in (λ v. v.items) result ≡ Ok None };
+            → answer_in (λ v. v.items) result ≡ Ok None }
+        ensures disturbed { (names : Names) → honest self.old names → Counted names
+            (past self.old) request.now (answer_in (λ v. v.items) result) (past self.new)
+            (disturbances self.old) (disturbances self.new) }
+        ensures undisturbed { (names : Names) → calm self.old names
+            → IsRoomy (answer_in (λ v. v.items) result)
+            → disturbances self.new ≡ disturbances self.old };
 
     /// A run has ended: what is under way over the link may still arrive, or never.
     ///
@@ -55,7 +66,9 @@ pub trait Link {
         ensures counted { failures self.old ≤ failures self.new }
         ensures io { IfErr result (λ fault. fault ≡ LinkFault.Io
             → failures self.old < failures self.new) }
-        ensures spent { failures self.old ≡ most_failures → result ≡ Ok tt };
+        ensures spent { failures self.old ≡ most_failures → result ≡ Ok tt }
+        ensures undisturbed { (names : Names) → honest self.old names
+            → disturbances self.new ≡ disturbances self.old };
 
     /// A calm link is honest, and its network may fail once more; and what it is for names it is for
     /// fewer. Laws, which do nothing.

@@ -7,7 +7,7 @@ use std::alloc::Global;
 
 /// Never known to be honest or calm: a network may do anything.
 impl<D: Dial + Drop> Link for StreamLink<D> {
-    ghost use Rattle.kmip_transport.specs.Links.{unknown_past};
+    ghost use Rattle.kmip_transport.specs.Links.{none_counted, unknown_past};
 
     ghost past = { λ link. unknown_past };
 
@@ -16,6 +16,8 @@ impl<D: Dial + Drop> Link for StreamLink<D> {
     ghost calm = { λ link names. ⊥ };
 
     ghost failures = { λ link. link.failures };
+
+    ghost disturbances = { λ link. none_counted };
 
     fn exchange(&mut self, alloc: Global, request: &[u8]) -> Result<Option<Vec<u8>>, LinkFault> {
         match self.send(request) {

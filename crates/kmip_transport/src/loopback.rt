@@ -133,7 +133,7 @@ impl<R: Net + Clock + Drop, S: Records + Drop> Loopback<R, S> {
 
 /// Never known to be honest or calm: a network may do anything.
 impl<R: Net + Clock + Drop, S: Records + Drop> Link for Loopback<R, S> {
-    ghost use Rattle.kmip_transport.specs.Links.{unknown_past};
+    ghost use Rattle.kmip_transport.specs.Links.{none_counted, unknown_past};
 
     ghost past = { λ loopback. unknown_past };
 
@@ -142,6 +142,8 @@ impl<R: Net + Clock + Drop, S: Records + Drop> Link for Loopback<R, S> {
     ghost calm = { λ loopback names. ⊥ };
 
     ghost failures = { λ loopback. loopback.link.failures };
+
+    ghost disturbances = { λ loopback. none_counted };
 
     fn exchange(&mut self, alloc: Global, request: &[u8]) -> Result<Option<Vec<u8>>, LinkFault> {
         let is_new = !self.link.is_connected();
