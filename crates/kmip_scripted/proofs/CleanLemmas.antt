@@ -1,7 +1,7 @@
 -- An exchange that was not disturbed is clean: what the words before it delivered may as well have happened before it.
-use Rattle.std.proofs.Common.{◌≡◌, ◌==◌, ◌+◌, ◌-◌, ℕ, zero, suc, pos, Bool, true, false, ◌||◌, length, if◌then◌else◌, List, [], ◌∷◌, ◌++◌, drop, Option, Some, None, refl, sym, ap, subst, ◌∙◌, inl, inr, arith, eq-eqb}
+use Rattle.std.proofs.Common.{◌≡◌, ◌==◌, ◌+◌, ◌-◌, ◌≤◌, ℕ, zero, suc, pos, Bool, true, false, ◌||◌, length, if◌then◌else◌, List, [], ◌∷◌, ◌++◌, drop, Option, Some, None, refl, sym, ap, subst, ◌∙◌, inl, inr, arith, eq-eqb}
 use Rattle.std.specs.List.{All, slice_get}
-use Rattle.std.proofs.lemmas.Bool.{cases_Bool, eqb-false, eqb-true, or_parts}
+use Rattle.std.proofs.lemmas.Bool.{cases_Bool, eqb-false, or_parts}
 use Rattle.std.proofs.lemmas.Option.{same_Some}
 use Rattle.kmip_messages.specs.Items.{parts_in, replies_in, requests_in, stops_in}
 use Rattle.kmip_server.specs.Serving.{reply_bytes}
@@ -19,26 +19,29 @@ use Rattle.kmip_scripted.specs.Scenes.{Scene, disturbances_in, past_in, with_dis
 use Rattle.kmip_scripted.specs.Words.{after_word, before_play, exchange_word, first_of, goes_on, message_at, play, played, with_delivered, with_request, with_words, words_after_exchange}
 use Rattle.kmip_scripted.proofs.CountLemmas.{have_room, nothing_strange, played_keeps, prepared_keeps}
 use Rattle.kmip_scripted.proofs.FollowLemmas.{asked_past, handed}
+use Rattle.kmip_scripted.proofs.WordLemmas.{by_other, by_test}
 
 -- ---- what was asked before is found before and behind it
 
-same_place : (messages : List (List ℕ)) (message : List ℕ) (place : ℕ) → (place == length messages) ≡ false
+same_place : (messages : List (List ℕ)) (message : List ℕ) (place : ℕ) → (place ≡ length messages → ⊥)
     → slice_get messages place ≡ slice_get (messages ++ message ∷ []) place
-same_place [] message zero differs = absurd cc
+same_place [] message zero differs = absurd (differs refl)
 same_place [] message (suc place) differs = refl
 same_place (first ∷ messages) message zero differs = refl
-same_place (first ∷ messages) message (suc place) differs = same_place messages message place differs
+same_place (first ∷ messages) message (suc place) differs = same_place messages message place (λ same. differs (ap suc same))
+
+positive : (number : ℕ) → (number == 0) ≡ false → 1 ≤ number
+positive zero is = absurd cc
+positive (suc number) is = omega arith
 
 same_number : (messages : List (List ℕ)) (message : List ℕ) (number : ℕ) → (number == length messages + 1) ≡ false
     → message_at number messages ≡ message_at number (messages ++ message ∷ [])
-same_number messages message zero differs = refl
-same_number messages message (suc place) differs =
-    same_place messages message place (eq_by_next place (length messages) differs) where
-  eq_by_next : (place count : ℕ) → (suc place == count + 1) ≡ false → (place == count) ≡ false
-  eq_by_next place count differs = elim (cases_Bool (place == count)) [
-    | inl same ↦ absurd (eqb-false (suc place) (count + 1) differs (omega (arith, eqb-true place count same)))
-    | inr other ↦ other
-  ]
+same_number messages message number differs = elim (cases_Bool (number == 0)) [
+  | inl none ↦ by_test (number == 0) (slice_get messages (number - 1)) none ∙ sym (by_test (number == 0) (slice_get (messages ++ message ∷ []) (number - 1)) none)
+  | inr some ↦ by_other (number == 0) (slice_get messages (number - 1)) some
+      ∙ same_place messages message (number - 1) (λ same. eqb-false number (length messages + 1) differs (omega (arith, same, positive number some)))
+      ∙ sym (by_other (number == 0) (slice_get (messages ++ message ∷ []) (number - 1)) some)
+]
 
 pub earlier_all : (asked : List (List ℕ)) (request : List ℕ) (words : List Word) → is_repeated (length asked) words ≡ false
     → AreOfEarlier asked (asked ++ request ∷ []) words
@@ -111,8 +114,8 @@ steps_early names asked at_end word s mid new before first goes was is same deli
 
 pub early_twice : (join : DeliveriesJoin) (names : Names) (asked : List (List ℕ)) (s mid new : Scene) → IsEarly names asked s mid
     → (AreOfEarlier asked mid.asked mid.words → IsEarly names asked mid new) → IsEarly names asked s new
-early_twice join names asked s mid new first then =
-    let second = then first.earlier in
+early_twice join names asked s mid new first later =
+    let second = later first.earlier in
     record {
       delivered = join names (past_in (asked_only asked s)) (past_in (asked_only asked mid)) (past_in (asked_only asked new)) first.delivered second.delivered;
       earlier = second.earlier;
@@ -123,8 +126,8 @@ early_twice join names asked s mid new first then =
 pub prepared_early : (names : Names) (request : List ℕ) (s mid new : Scene) → mid ≡ with_request request s
     → (AreOfEarlier s.asked mid.asked mid.words → IsEarly names s.asked mid new) → is_repeated (length s.asked) s.words ≡ false
     → Delivered names (past_in s) (past_in (asked_only s.asked new))
-prepared_early names request s mid new is then unrepeated =
-    let from = subst (λ m. AreOfEarlier s.asked m.asked m.words → IsEarly names s.asked m new) is then in
+prepared_early names request s mid new is later unrepeated =
+    let from = subst (λ m. AreOfEarlier s.asked m.asked m.words → IsEarly names s.asked m new) is later in
     (from (earlier_all s.asked request s.words unrepeated)).delivered
 
 pub request_joins : (request : List ℕ) (s mid new : Scene) → mid ≡ with_request request s → (past_in new).requests ≡ (past_in mid).requests

@@ -1,5 +1,5 @@
 -- The counts of a link in memory: they stay until an exchange is handed over, and what is counted as strange by every name.
-use Rattle.std.proofs.Common.{◌≡◌, ◌≢◌, ◌==◌, ℕ, nat_le, pos, Bool, true, false, not, ◌&&◌, length, if◌then◌else◌, List, [], ◌∷◌, Option, Some, None, Ok, refl, sym, ap, subst, ◌∙◌, inl, inr, eq-eqb}
+use Rattle.std.proofs.Common.{◌≡◌, ◌≢◌, ◌==◌, ℕ, nat_le, pos, Bool, true, false, not, ◌&&◌, length, if◌then◌else◌, List, [], ◌∷◌, Option, Some, None, Ok, refl, sym, ap, subst, ◌∙◌, inl, inr, arith, eq-eqb}
 use Rattle.std.specs.List.{All, list_any}
 use Rattle.std.proofs.lemmas.Bool.{cases_Bool, eqb-true, or_from, or_parts}
 use Rattle.std.proofs.lemmas.List.Elements.{All-cons, All-head, All-nil, All-tail}
@@ -40,9 +40,9 @@ words_keep at_end [] s = refl
 words_keep at_end (word ∷ words) s =
     going (goes_on at_end word) (after_words at_end words (with_words words (after_word word s))) s
     (words_keep at_end words (with_words words (after_word word s)) ∙ word_keeps word s) where
-  going : (goes : Bool) (then s : Scene) → disturbances_in then ≡ disturbances_in s → disturbances_in (if goes then then else s) ≡ disturbances_in s
-  going true then s same = same
-  going false then s same = refl
+  going : (goes : Bool) (gone s : Scene) → disturbances_in gone ≡ disturbances_in s → disturbances_in (if goes then gone else s) ≡ disturbances_in s
+  going true gone s same = same
+  going false gone s same = refl
 
 pub begun_keep : (at_end : Bool) (words : List Word) (s new : Scene) → AreBegun at_end words s new → disturbances_in new ≡ disturbances_in s
 begun_keep at_end [] s new is = ap disturbances_in is
@@ -81,7 +81,7 @@ pub run_keeps : (s : Scene) → disturbances_in (after_run s) ≡ disturbances_i
 run_keeps s = words_keep true s.words s
 
 pub no_fewer : (s new : Scene) → disturbances_in new ≡ disturbances_in s → AreNoFewer (disturbances_in s) (disturbances_in new)
-no_fewer s new same = subst (AreNoFewer (disturbances_in s)) (sym same) (omega, omega)
+no_fewer s new same = subst (AreNoFewer (disturbances_in s)) (sym same) (omega arith, omega arith)
 
 -- ---- room
 

@@ -22,3 +22,8 @@ words-preserved g c =
       early = λ names asked before are. early_twice c.deliveries_join.ensures.join names asked c.args.self.now c.words.self c.step.new.self
           (c.words.invariant.early names asked before are) (c.in_ok-step.ensures.early names asked before);
     }
+
+pub returns-then-not-branch-clause-early : goal.returns-then-not-branch-clause-early
+returns-then-not-branch-clause-early g c = λ names asked before are.
+    early_twice c.deliveries_join.ensures.join names asked c.args.self.now c.words.self c.step.new.self
+    (c.words.invariant.early names asked before are) (c.in_ok-step.ensures.early names asked before)
