@@ -214,10 +214,12 @@ is_counted nothing names request old prepared mid last new word repeated answer 
     let now : disturbances_in new ≡ counted disturbed strange (disturbances_in old) =
     ap disturbances_in steps.new_is ∙ steps.counts_are ∙ ap (counted disturbed strange) kept in
     elim (cases_Bool disturbed) [
-      | inr calm ↦ inl (clean nothing names request old prepared mid last new word repeated answer counts steps (undisturbed word repeated answer calm),
-          now ∙ ap (λ b. counted b strange (disturbances_in old)) calm)
+      | inr calm ↦ inl (
+        clean nothing names request old prepared mid last new word repeated answer counts steps (undisturbed word repeated answer calm),
+        now ∙ ap (λ b. counted b strange (disturbances_in old)) calm,
+      )
       | inl so ↦ elim (cases_Bool strange) [
-          | inr own ↦ inr (inl (nothing_strange names request answer own, now ∙ counts_by disturbed strange (disturbances_in old) true false so own))
-          | inl other ↦ inr (inr (now ∙ counts_by disturbed strange (disturbances_in old) true true so other))
-        ]
+        | inr own ↦ inr (inl (nothing_strange names request answer own, now ∙ counts_by disturbed strange (disturbances_in old) true false so own))
+        | inl other ↦ inr (inr (now ∙ counts_by disturbed strange (disturbances_in old) true true so other))
+      ]
     ]

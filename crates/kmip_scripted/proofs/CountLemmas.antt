@@ -40,9 +40,9 @@ words_keep at_end [] s = refl
 words_keep at_end (word ∷ words) s =
     going (goes_on at_end word) (after_words at_end words (with_words words (after_word word s))) s
     (words_keep at_end words (with_words words (after_word word s)) ∙ word_keeps word s) where
-  going : (goes : Bool) (gone s : Scene) → disturbances_in gone ≡ disturbances_in s → disturbances_in (if goes then gone else s) ≡ disturbances_in s
-  going true gone s same = same
-  going false gone s same = refl
+      going : (goes : Bool) (gone s : Scene) → disturbances_in gone ≡ disturbances_in s → disturbances_in (if goes then gone else s) ≡ disturbances_in s
+      going true gone s same = same
+      going false gone s same = refl
 
 pub begun_keep : (at_end : Bool) (words : List Word) (s new : Scene) → AreBegun at_end words s new → disturbances_in new ≡ disturbances_in s
 begun_keep at_end [] s new is = ap disturbances_in is

@@ -14,7 +14,9 @@ use kmip_server::Records;
 use kmip_ttlv::NoMemory;
 use std::alloc::Global;
 
-/// Honest for every script, and calm once no word is left. Its network never fails.
+/// Honest for every script, and calm once no word is left. Its network never fails. An exchange is
+/// counted as disturbed where its word is not `pass`, where an `again` before it delivered its
+/// message, and where the server had no room for what it asks.
 impl<S: Records> Link for Scripted<S> {
     ghost use Rattle.std.specs.Prelude.{◌≡◌, [], ⊤};
     ghost use Rattle.kmip_scripted.specs.Scenes.{disturbances_in, past_in};

@@ -31,7 +31,8 @@ use std::collections::VecDeque;
 use std::marker::Model;
 
 /// A server in memory and the link to it, which follows a script. A contract sees the records of
-/// the server, all that was asked, given, done, sent and handed over, and the words that are left.
+/// the server, all that was asked, given, done, sent and handed over, how many exchanges were
+/// disturbed, and the words that are left.
 #[derive(Drop)]
 pub struct Scripted<S: Records> {
     server: Server<S>,
