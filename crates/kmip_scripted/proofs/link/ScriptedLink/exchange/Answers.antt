@@ -1,5 +1,5 @@
 -- The counts stay until an exchange is handed over; and where no word is left, and the server has room, then too.
-use Rattle.std.proofs.Common.{Ok, sym, ap, subst, ◌∙◌}
+use Rattle.std.proofs.Common.{Ok, ap, subst, ◌∙◌}
 use Rattle.kmip_schedule.specs.Clean.{IsRoomy}
 use Rattle.kmip_scripted.specs.Scenes.{disturbances_in}
 use Rattle.kmip_scripted.proofs.CountLemmas.{calm_is_kept, exchange_begun_keeps, no_fewer}
