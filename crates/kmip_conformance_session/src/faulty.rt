@@ -162,6 +162,8 @@ impl<S: Records> Link for Faulty<S> {
 
     ghost ended = { λ link. [] };
 
+    ghost disturbances = { λ link. record { disturbed = 0; strange = 0 } };
+
     fn exchange(&mut self, alloc: Global, request: &[u8]) -> Result<Option<Vec<u8>>, LinkFault> {
         if self.failures == u64::MAX {
             return Ok(None);

@@ -56,6 +56,8 @@ impl<L: Link, O: Observer> Link for Observed<L, O> {
 
     ghost ended = { λ observed. L.ended observed.link };
 
+    ghost disturbances = { λ observed. L.disturbances observed.link };
+
     fn exchange(&mut self, alloc: Global, request: &[u8]) -> Result<Option<Vec<u8>>, LinkFault> {
         let answered = self.link.exchange(alloc, request);
         match &answered {

@@ -2,6 +2,7 @@
 ghost use Rattle.std.specs.Prelude.{◌≡◌, ◌≤◌, ◌<◌, ◌+◌, ℕ, None, Ok, false, IfErr, IsTrue};
 ghost use Rattle.kmip_running.specs.Waits.{has_reply, longest_wait, wait_after};
 ghost use Rattle.kmip_schedule.specs.Calm.{CalmlyExchanged};
+ghost use Rattle.kmip_schedule.specs.Clean.{Counted, IsRoomy};
 ghost use Rattle.kmip_schedule.specs.Exchanges.{Exchanged, answer_in};
 ghost use Rattle.kmip_schedule.specs.Faults.{most_failures};
 ghost use Rattle.kmip_schedule.specs.Past.{Names};
@@ -94,6 +95,8 @@ impl<L: Link, C: Clock> Link for Paced<L, C> {
 
     ghost ended = { λ paced. L.ended paced.link };
 
+    ghost disturbances = { λ paced. L.disturbances paced.link };
+
     fn exchange(&mut self, alloc: Global, request: &[u8]) -> Result<Option<Vec<u8>>, LinkFault>
         ensures honest { (names : Names) → L.honest self.old.link names
             → L.honest self.new.link names × Exchanged names (L.past self.old.link) request.now
@@ -108,6 +111,13 @@ impl<L: Link, C: Clock> Link for Paced<L, C> {
             → answer_in (λ v. v.items) result ≡ Ok None }
         ensures ended { (names : Names) → L.honest self.old.link names
             → L.ended self.new.link ≡ L.ended self.old.link }
+        ensures disturbed { (names : Names) → L.honest self.old.link names → Counted names
+            (L.past self.old.link) request.now (answer_in (λ v. v.items) result)
+            (L.past self.new.link) (L.disturbances self.old.link)
+            (L.disturbances self.new.link) }
+        ensures undisturbed { (names : Names) → L.calm self.old.link names
+            → IsRoomy (answer_in (λ v. v.items) result)
+            → L.disturbances self.new.link ≡ L.disturbances self.old.link }
         ensures first { self.new.first ≡ self.old.first }
         ensures replied { IsTrue (has_reply result) → self.new.wait ≡ wait_after self.old.first 0 }
         ensures silent { has_reply result ≡ false → (count : ℕ)

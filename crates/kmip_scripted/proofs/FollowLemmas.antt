@@ -1,17 +1,19 @@
 -- An exchange, put together: what was asked, what happened, and what was handed over.
-use Rattle.std.proofs.Common.{◌≡◌, ℕ, pos, false, List, [], ◌∷◌, ◌++◌, append-nil, Option, Some, None, IfSome, refl, sym, ap, subst, ◌∙◌, inl, inr}
+use Rattle.std.proofs.Common.{◌≡◌, ℕ, pos, Bool, false, List, [], ◌∷◌, ◌++◌, append-nil, length, Option, Some, None, IfSome, refl, sym, ap, subst, ◌∙◌, inl, inr}
 use Rattle.std.specs.List.{All, Contains, flat_map}
 use Rattle.std.proofs.lemmas.Grind.{flat_map-append}
 use Rattle.std.proofs.lemmas.List.Elements.{All-contains_itself, All-weaker, Contains-append_right}
 use Rattle.kmip_messages.specs.Items.{parts_in, replies_in, requests_in, stops_in}
 use Rattle.kmip_server.specs.Serving.{reply_bytes}
 use Rattle.kmip_schedule.specs.Calm.{AreTaken, Calmly}
+use Rattle.kmip_schedule.specs.Clean.{Disturbances, hands_strange}
 use Rattle.kmip_schedule.specs.Exchanges.{AreGiven, HandsOver, with_asked}
 use Rattle.kmip_schedule.specs.Moves.{Delivered}
 use Rattle.kmip_schedule.specs.Past.{Names}
 use Rattle.kmip_scripted.specs.declared.script.Word.{Word}
 use Rattle.kmip_scripted.specs.declared.script.Word.TheVariants.{Pass, LoseRequest, LoseReply, Cut, Stale, Again, Save, Prolong, Restart}
-use Rattle.kmip_scripted.specs.Scenes.{Scene, WasAsked, past_in}
+use Rattle.kmip_scripted.specs.Disturbing.{counted, every_name, is_disturbed, is_repeated}
+use Rattle.kmip_scripted.specs.Scenes.{Scene, WasAsked, disturbances_in, past_in, with_disturbances}
 use Rattle.kmip_scripted.specs.Words.{AreBegun, IsBegun, after_words, before_play, exchange, exchange_word, message_at, play, played, with_request, with_words, words_after_exchange}
 use Rattle.kmip_scripted.proofs.WordLemmas.{said_by_number}
 
@@ -58,25 +60,34 @@ play_given (Restart start) request s = last_is_said replies_in s.given (reply_by
 abbrev pub handed : List ℕ → Word → Option (List ℕ) → Scene → Scene
 handed request word answer s = record s { sent = s.sent ++ request ∷ []; followed = s.followed ++ word ∷ []; handed = s.handed ++ answer ∷ [] }
 
-pub hands_over : (names : Names) (request : List ℕ) (old prepared mid new : Scene) (word : Word) (answer : Option (List ℕ))
+pub hands_over : (names : Names) (request : List ℕ) (old prepared mid last new : Scene) (word : Word) (answer : Option (List ℕ)) (counts : Disturbances)
     → Delivered names (with_asked request (past_in old)) (past_in mid) → mid ≡ (played request prepared).1 → answer ≡ (played request prepared).0
-    → new ≡ handed request word answer mid → HandsOver names (past_in old) request answer (past_in new)
-hands_over names request old prepared mid new word answer delivered was is now = record {
+    → last ≡ handed request word answer mid → new ≡ with_disturbances counts last → HandsOver names (past_in old) request answer (past_in new)
+hands_over names request old prepared mid last new word answer counts delivered was is now more = record {
   between = past_in mid;
   delivered = delivered;
   given = subst (λ a. IfSome a (AreGiven (past_in mid))) (sym is)
       (subst (λ m. IfSome (played request prepared).0 (AreGiven (past_in m))) (sym was)
       (play_given (exchange_word prepared.words) request (with_words (words_after_exchange prepared.words) prepared)));
-  is = ap past_in now;
+  is = ap past_in more ∙ ap past_in now;
 }
 
-pub exact_is : (request : List ℕ) (old prepared mid new : Scene) (word : Word) (answer : Option (List ℕ)) → prepared ≡ before_play request old
-    → word ≡ exchange_word prepared.words → mid ≡ (played request prepared).1
-    → answer ≡ (played request prepared).0 → new ≡ handed request word answer mid → new ≡ (exchange request old).1
-exact_is request old prepared mid new word answer was next then is now =
-    now ∙ ap (λ m. handed request word answer m) then ∙ ap (λ a. handed request word a (played request prepared).1) is
-    ∙ ap (λ w. handed request w (played request prepared).0 (played request prepared).1) next
-    ∙ ap (λ s. handed request (exchange_word s.words) (played request s).0 (played request s).1) was
+-- what is handed over, and counted
+abbrev counted_by : List ℕ → Bool → Word → Option (List ℕ) → Scene → Scene
+counted_by request repeated word answer s =
+    with_disturbances (counted (is_disturbed word repeated answer) (hands_strange every_name request answer) (disturbances_in s)) (handed request word answer s)
+
+pub exact_is : (request : List ℕ) (old prepared mid last new : Scene) (word : Word) (repeated : Bool) (answer : Option (List ℕ)) (counts : Disturbances)
+    → repeated ≡ is_repeated (length old.asked) old.words → prepared ≡ before_play request old → word ≡ exchange_word prepared.words
+    → mid ≡ (played request prepared).1 → answer ≡ (played request prepared).0
+    → counts ≡ counted (is_disturbed word repeated answer) (hands_strange every_name request answer) (disturbances_in mid)
+    → last ≡ handed request word answer mid → new ≡ with_disturbances counts last → new ≡ (exchange request old).1
+exact_is request old prepared mid last new word repeated answer counts again was next left is counts_are now more =
+    more ∙ ap (with_disturbances counts) now ∙ ap (λ d. with_disturbances d (handed request word answer mid)) counts_are
+    ∙ ap (counted_by request repeated word answer) left ∙ ap (λ a. counted_by request repeated word a (played request prepared).1) is
+    ∙ ap (λ w. counted_by request repeated w (played request prepared).0 (played request prepared).1) next
+    ∙ ap (λ r. counted_by request r (exchange_word prepared.words) (played request prepared).0 (played request prepared).1) again
+    ∙ ap (λ s. counted_by request (is_repeated (length old.asked) old.words) (exchange_word s.words) (played request s).0 (played request s).1) was
 
 pub answer_is : (request : List ℕ) (old prepared : Scene) (answer : Option (List ℕ)) → prepared ≡ before_play request old
     → answer ≡ (played request prepared).0 → answer ≡ (exchange request old).0
@@ -93,19 +104,19 @@ calm_answer request s none = ap (λ words. (play (exchange_word words) request (
 calm_words : (request : List ℕ) (s : Scene) → s.words ≡ [] → (played request s).1.words ≡ []
 calm_words request s none = ap (λ words. (play (exchange_word words) request (with_words (words_after_exchange words) s)).1.words) none
 
-pub calmly_done : (request : List ℕ) (old prepared mid new : Scene) (word : Word) (answer : Option (List ℕ)) → old.words ≡ [] → prepared ≡ before_play request old
-    → (prepared.words ≡ [] → AreTaken (stops_in request) (parts_in request) (replies_in (reply_bytes prepared.stock request (pos 0))) (past_in prepared) (past_in mid))
-    → answer ≡ (played request prepared).0 → new ≡ handed request word answer mid → Calmly (past_in old) request answer (past_in new)
-calmly_done request old prepared mid new word answer none was taken is now =
+pub calmly_done : (request : List ℕ) (old prepared mid last new : Scene) (word : Word) (answer : Option (List ℕ)) (counts : Disturbances) → old.words ≡ [] → prepared ≡ before_play request old
+    → (exchange_word prepared.words ≡ Pass → AreTaken (stops_in request) (parts_in request) (replies_in (reply_bytes prepared.stock request (pos 0))) (past_in prepared) (past_in mid))
+    → answer ≡ (played request prepared).0 → last ≡ handed request word answer mid → new ≡ with_disturbances counts last → Calmly (past_in old) request answer (past_in new)
+calmly_done request old prepared mid last new word answer counts none was taken is now more =
     let ready : prepared ≡ with_request request old = was ∙ calm_prepared request old none in
     let empty : prepared.words ≡ [] = ap (λ s. s.words) ready ∙ none in
-    let from = subst (λ s. AreTaken (stops_in request) (parts_in request) (replies_in (reply_bytes s.stock request (pos 0))) (past_in s) (past_in mid)) ready (taken empty) in
+    let from = subst (λ s. AreTaken (stops_in request) (parts_in request) (replies_in (reply_bytes s.stock request (pos 0))) (past_in s) (past_in mid)) ready (taken (ap exchange_word empty)) in
     record {
       given = reply_bytes old.stock request (pos 0);
       between = past_in mid;
       taken = subst (λ p. AreTaken (stops_in request) (parts_in request) (replies_in (reply_bytes old.stock request (pos 0))) p (past_in mid)) (asked_past request old) from;
       answer_is = is ∙ calm_answer request prepared empty ∙ ap (λ s. Some (reply_bytes s.stock request (pos 0))) ready;
-      is = ap past_in now;
+      is = ap past_in more ∙ ap past_in now;
     }
 
 pub calm_stays : (request : List ℕ) (old new : Scene) → old.words ≡ [] → new ≡ (exchange request old).1 → new.words ≡ []

@@ -2,6 +2,8 @@ pub mod DueLemmas
 pub mod ArrivalLemmas
 pub mod WordLemmas
 pub mod FollowLemmas
+pub mod CountLemmas
+pub mod CleanLemmas
 pub mod RunsLemmas
 pub mod SplitLemmas
 pub mod PartLemmas

@@ -104,10 +104,10 @@ said_at f (first ∷ messages) (suc place) message is =
     All-weaker (Contains (flat_map f messages)) (Contains (f first ++ flat_map f messages))
     (λ r has. Contains-append_right (f first) (flat_map f messages) r has) (f message) (said_at f messages place message is)
 
-by_test : (b : Bool) (found : Option (List ℕ)) → b ≡ true → (if b then None else found) ≡ None
+pub by_test : (b : Bool) (found : Option (List ℕ)) → b ≡ true → (if b then None else found) ≡ None
 by_test b found is = rw is refl
 
-by_other : (b : Bool) (found : Option (List ℕ)) → b ≡ false → (if b then None else found) ≡ found
+pub by_other : (b : Bool) (found : Option (List ℕ)) → b ≡ false → (if b then None else found) ≡ found
 by_other b found is = rw is refl
 
 pub said_by_number : {R : Type 0} (f : List ℕ → List R) (number : ℕ) (messages : List (List ℕ)) (message : List ℕ) → message_at number messages ≡ Some message

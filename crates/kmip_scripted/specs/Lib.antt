@@ -2,6 +2,8 @@ pub mod Faults
 pub mod Laws
 pub mod Scenes
 pub mod Serving
+pub mod Disturbing
 pub mod Words
+pub mod Early
 pub mod Wanting
 pub mod Runs

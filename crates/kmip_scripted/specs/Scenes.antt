@@ -7,6 +7,7 @@ use Rattle.kmip_messages.specs.Items.{replies_in, requests_in}
 use Rattle.kmip_server.specs.Shown.{objects_in, room_in}
 use Rattle.kmip_store.specs.Stock.{Stock}
 use Rattle.kmip_schedule.specs.declared.effect.Effect.{Effect}
+use Rattle.kmip_schedule.specs.Clean.{Disturbances}
 use Rattle.kmip_schedule.specs.Past.{Past}
 use Rattle.kmip_scripted.specs.declared.script.Word.{Word}
 
@@ -22,6 +23,9 @@ pub record Scene : Type 0 where
   pub sent : List (List ℕ)
   pub followed : List Word
   pub handed : List (Option (List ℕ))
+  -- how many exchanges were disturbed, and how many of those handed over a reply about another key
+  pub disturbed : ℕ
+  pub strange : ℕ
   -- the words that are left
   pub words : List Word
 
@@ -39,7 +43,14 @@ past_in s = record {
 
 -- where nothing has happened over a server, with these words left
 abbrev pub scene_of : Stock → List Word → Scene
-scene_of stock words = record { stock = stock; asked = []; given = []; effects = []; sent = []; followed = []; handed = []; words = words }
+scene_of stock words = record { stock = stock; asked = []; given = []; effects = []; sent = []; followed = []; handed = []; disturbed = 0; strange = 0; words = words }
+
+-- how many exchanges were disturbed
+abbrev pub disturbances_in : Scene → Disturbances
+disturbances_in s = record { disturbed = s.disturbed; strange = s.strange }
+
+abbrev pub with_disturbances : Disturbances → Scene → Scene
+with_disturbances d s = record s { disturbed = d.disturbed; strange = d.strange }
 
 -- Private: the requests of a message were all asked.
 abbrev pub WasAsked : List ℕ → Scene → Type 0

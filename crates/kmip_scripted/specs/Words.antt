@@ -4,9 +4,11 @@ use Rattle.std.specs.Prelude.{◌≡◌, ◌⊎◌, ◌==◌, ◌-◌, ◌<◌, 
 use Rattle.std.specs.List.{slice_get}
 use Rattle.std.specs.Option.{option_flatten}
 use Rattle.kmip_server.specs.Serving.{reply_bytes}
+use Rattle.kmip_schedule.specs.Clean.{hands_strange}
 use Rattle.kmip_scripted.specs.declared.script.Word.{Word}
 use Rattle.kmip_scripted.specs.declared.script.Word.TheVariants.{Pass, LoseRequest, LoseReply, Cut, Stale, Again, Save, Prolong, Restart}
-use Rattle.kmip_scripted.specs.Scenes.{Scene}
+use Rattle.kmip_scripted.specs.Disturbing.{counted, every_name, is_disturbed, is_repeated}
+use Rattle.kmip_scripted.specs.Scenes.{Scene, disturbances_in, with_disturbances}
 use Rattle.kmip_scripted.specs.Serving.{with_served}
 
 -- the word ends no exchange
@@ -112,9 +114,16 @@ abbrev pub with_handed : List ℕ → Word → Option (List ℕ) × Scene → Op
 with_handed request word p =
     (p.0, record p.1 { sent = p.1.sent ++ request ∷ []; followed = p.1.followed ++ word ∷ []; handed = p.1.handed ++ p.0 ∷ [] })
 
+-- the exchange is counted, where it was disturbed: by the words before it, its own word and what it hands over
+abbrev pub with_counted : List ℕ → Bool → Word → Option (List ℕ) × Scene → Option (List ℕ) × Scene
+with_counted request repeated word p =
+    (p.0, with_disturbances (counted (is_disturbed word repeated p.0) (hands_strange every_name request p.0) (disturbances_in p.1)) p.1)
+
 -- what an exchange hands over, and what it leaves
 abbrev pub exchange : List ℕ → Scene → Option (List ℕ) × Scene
-exchange request s = with_handed request (exchange_word (before_play request s).words) (played request (before_play request s))
+exchange request s =
+    with_counted request (is_repeated (length s.asked) s.words) (exchange_word (before_play request s).words)
+    (with_handed request (exchange_word (before_play request s).words) (played request (before_play request s)))
 
 -- where memory runs out before the word of an exchange is taken: nothing, or the request joined, and of the words that repeat a
 -- beginning is done

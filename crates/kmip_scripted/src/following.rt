@@ -1,14 +1,17 @@
 //! What an exchange and the end of a run do, word by word.
-ghost use Rattle.std.specs.Prelude.{◌≡◌, ◌⊎◌, [], pos, true, false, Some, None, IfOk, OnErr, OnOk, option_map};
+ghost use Rattle.std.specs.Prelude.{◌≡◌, ◌⊎◌, ℕ, List, length, [], pos, true, false, Some, None, IfOk, OnErr, OnOk, option_map};
 ghost use Rattle.kmip_messages.specs.Items.{parts_in, replies_in, stops_in};
 ghost use Rattle.kmip_server.specs.Serving.{reply_bytes};
 ghost use Rattle.kmip_schedule.specs.Calm.{AreTaken, Calmly};
+ghost use Rattle.kmip_schedule.specs.Clean.{IsCounted};
 ghost use Rattle.kmip_schedule.specs.Moves.{Delivered};
 ghost use Rattle.kmip_schedule.specs.Past.{Names};
 ghost use Rattle.kmip_scripted.specs.declared.script.Word.TheVariants.{Pass};
-ghost use Rattle.kmip_scripted.specs.Scenes.{WasAsked, past_in};
+ghost use Rattle.kmip_scripted.specs.Disturbing.{is_repeated};
+ghost use Rattle.kmip_scripted.specs.Early.{AreOfEarlier, IsEarly, IsOfEarlier, asked_only};
+ghost use Rattle.kmip_scripted.specs.Scenes.{WasAsked, disturbances_in, past_in};
 ghost use Rattle.kmip_scripted.specs.Serving.{with_served};
-ghost use Rattle.kmip_scripted.specs.Words.{AreBegun, HasStopped, IsBegun, IsPlaying, IsPreparing, StepsOn, after_word, after_run, after_words, before_play, exchange, message_at, play, played, with_delivered};
+ghost use Rattle.kmip_scripted.specs.Words.{AreBegun, HasStopped, IsBegun, IsPlaying, IsPreparing, StepsOn, after_word, after_run, after_words, before_play, exchange, exchange_word, message_at, play, played, with_delivered};
 ghost use Rattle.kmip_scripted.specs.Wanting.{IsWanting};
 ghost use Rattle.kmip_schedule.specs.Exchanges.{HandsOver, with_asked};
 
@@ -28,6 +31,10 @@ impl<S: Records> Scripted<S> {
         ensures err { OnErr result (self.new ≡ self.old) }
         ensures delivered { (names : Names)
             → Delivered names (past_in self.old) (past_in self.new) }
+        ensures early { OnOk result ((names : Names) (asked : List (List ℕ))
+            → message_at number asked ≡ message_at number self.old.asked
+            → Delivered names (past_in (asked_only asked self.old))
+            (past_in (asked_only asked self.new))) }
     {
         deliveries_join();
         let Some(message) = self.copied_request(alloc, number)? else {
@@ -43,6 +50,10 @@ impl<S: Records> Scripted<S> {
         ensures err { OnErr result (self.new ≡ self.old) }
         ensures delivered { (names : Names)
             → Delivered names (past_in self.old) (past_in self.new) }
+        ensures early { OnOk result ((names : Names) (asked : List (List ℕ))
+            → IsOfEarlier asked self.old.asked word
+            → Delivered names (past_in (asked_only asked self.old))
+            (past_in (asked_only asked self.new))) }
     {
         deliveries_join();
         match word {
@@ -61,6 +72,9 @@ impl<S: Records> Scripted<S> {
         ensures err { OnErr result (self.new ≡ self.old) }
         ensures delivered { (names : Names)
             → Delivered names (past_in self.old) (past_in self.new) }
+        ensures early { OnOk result ((names : Names) (asked : List (List ℕ))
+            → at_end ≡ false → AreOfEarlier asked self.old.asked self.old.words
+            → IsEarly names asked self.old self.new) }
     {
         deliveries_join();
         let Some(word) = self.first_word() else {
@@ -80,6 +94,9 @@ impl<S: Records> Scripted<S> {
         ensures begun { OnErr result (AreBegun at_end self.old.words self.old self.new) }
         ensures delivered { (names : Names)
             → Delivered names (past_in self.old) (past_in self.new) }
+        ensures early { OnOk result ((names : Names) (asked : List (List ℕ))
+            → at_end ≡ false → AreOfEarlier asked self.old.asked self.old.words
+            → IsEarly names asked self.old self.new) }
     {
         deliveries_join();
         'words: loop {
@@ -163,6 +180,11 @@ impl<S: Records> Scripted<S> {
         ensures asked { OnOk result (WasAsked request.now self.new) }
         ensures joined { OnOk result ((names : Names)
             → Delivered names (with_asked request.now (past_in self.old)) (past_in self.new)) }
+        ensures early { OnOk result ((names : Names)
+            → is_repeated (length self.old.asked) self.old.words ≡ false
+            → Delivered names (past_in self.old) (past_in (asked_only self.old.asked self.new))) }
+        ensures joins { OnOk result (past_in self.new
+            ≡ with_asked request.now (past_in (asked_only self.old.asked self.new))) }
         ensures want { OnErr result ((names : Names) → IsWanting names request.now
             (past_in self.old) (past_in self.new)) }
     {
@@ -179,7 +201,8 @@ impl<S: Records> Scripted<S> {
             ≡ (played request.now self.old).0) }
         ensures ok { OnOk result (self.new ≡ (played request.now self.old).1) }
         ensures begun { OnErr result (IsPlaying request.now self.old self.new) }
-        ensures taken { OnOk result (self.old.words ≡ [] → WasAsked request.now self.old
+        ensures taken { OnOk result (exchange_word self.old.words ≡ Pass
+            → WasAsked request.now self.old
             → AreTaken (stops_in request.now) (parts_in request.now)
             (replies_in (reply_bytes self.old.stock request.now (pos 0)))
             (past_in self.old) (past_in self.new)) }
@@ -208,13 +231,20 @@ impl<S: Records> Scripted<S> {
             (past_in self.old) (past_in self.new)) }
         ensures calmly { IfOk result (λ answer. self.old.words ≡ [] → Calmly (past_in self.old)
             request.now (option_map (λ v. v.items) answer) (past_in self.new)) }
+        ensures counted { IfOk result (λ answer. (names : Names) → IsCounted names
+            (past_in self.old) request.now (option_map (λ v. v.items) answer) (past_in self.new)
+            (disturbances_in self.old) (disturbances_in self.new)) }
         ensures stays { self.old.words ≡ [] → self.new.words ≡ [] }
     {
         deliveries_join();
+        let repeated = self.is_repeated();
         self.prepare(alloc, request)?;
         let word = self.next_word();
         let answer = self.take_and_play(alloc, request)?;
-        self.hand_over(alloc, request, word, bytes_of(&answer))?;
+        let handed = bytes_of(&answer);
+        let counts = self.counts_after(alloc, request, word, repeated, handed)?;
+        self.hand_over(alloc, request, word, handed)?;
+        self.count(counts);
         Ok(answer)
     }
 

@@ -2,6 +2,7 @@
 //! where a run ends.
 #![tactic(auto)]
 
+mod disturbing;
 mod effects;
 mod fault;
 mod following;

@@ -1,10 +1,11 @@
 //! The link in memory as a link.
 ghost use Rattle.std.specs.Prelude.{◌≡◌, ◌≢◌, [], Err, IfOk, OnOk, option_map};
 ghost use Rattle.kmip_schedule.specs.Calm.{CalmlyEnded, CalmlyExchanged};
+ghost use Rattle.kmip_schedule.specs.Clean.{Counted, IsRoomy};
 ghost use Rattle.kmip_schedule.specs.Exchanges.{Exchanged, answer_in};
 ghost use Rattle.kmip_schedule.specs.Moves.{Delivered};
 ghost use Rattle.kmip_schedule.specs.Past.{Names};
-ghost use Rattle.kmip_scripted.specs.Scenes.{past_in};
+ghost use Rattle.kmip_scripted.specs.Scenes.{disturbances_in, past_in};
 ghost use Rattle.kmip_scripted.specs.Words.{after_run, exchange};
 
 use crate::scripted::Scripted;
@@ -13,10 +14,12 @@ use kmip_server::Records;
 use kmip_ttlv::NoMemory;
 use std::alloc::Global;
 
-/// Honest for every script, and calm once no word is left. Its network never fails.
+/// Honest for every script, and calm once no word is left. Its network never fails. An exchange is
+/// counted as disturbed where its word is not `pass`, where an `again` before it delivered its
+/// message, and where the server had no room for what it asks.
 impl<S: Records> Link for Scripted<S> {
     ghost use Rattle.std.specs.Prelude.{◌≡◌, [], ⊤};
-    ghost use Rattle.kmip_scripted.specs.Scenes.{past_in};
+    ghost use Rattle.kmip_scripted.specs.Scenes.{disturbances_in, past_in};
 
     ghost past = { past_in };
 
@@ -25,6 +28,8 @@ impl<S: Records> Link for Scripted<S> {
     ghost calm = { λ link names. link.words ≡ [] };
 
     ghost failures = { λ link. 0 };
+
+    ghost disturbances = { disturbances_in };
 
     fn exchange(&mut self, alloc: Global, request: &[u8]) -> Result<Option<Vec<u8>>, LinkFault>
         ensures answer { IfOk result (λ answer. option_map (λ v. v.items) answer
@@ -35,6 +40,12 @@ impl<S: Records> Link for Scripted<S> {
         ensures calm { (names : Names) → self.old.words ≡ [] → (self.new.words ≡ [])
             × CalmlyExchanged names (past_in self.old) request.now
             (answer_in (λ v. v.items) result) (past_in self.new) }
+        ensures disturbed { (names : Names) → Counted names (past_in self.old) request.now
+            (answer_in (λ v. v.items) result) (past_in self.new)
+            (disturbances_in self.old) (disturbances_in self.new) }
+        ensures undisturbed { (names : Names) → self.old.words ≡ []
+            → IsRoomy (answer_in (λ v. v.items) result)
+            → disturbances_in self.new ≡ disturbances_in self.old }
         ensures never_io { result ≢ Err LinkFault.Io }
     {
         match self.follow(alloc, request) {
@@ -49,6 +60,7 @@ impl<S: Records> Link for Scripted<S> {
             → Delivered names (past_in self.old) (past_in self.new) }
         ensures calm { (names : Names) → self.old.words ≡ [] → (self.new.words ≡ [])
             × CalmlyEnded names result (past_in self.old) (past_in self.new) }
+        ensures undisturbed { disturbances_in self.new ≡ disturbances_in self.old }
         ensures never_io { result ≢ Err LinkFault.Io }
     {
         match self.finish_run(alloc) {

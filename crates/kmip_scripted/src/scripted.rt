@@ -1,17 +1,21 @@
 //! A link in memory that follows a script.
-ghost use Rattle.std.specs.Prelude.{◌≡◌, ◌++◌, [], ◌∷◌, pos, drop, length, IfOk, OnErr, OnOk, option_map};
+ghost use Rattle.std.specs.Prelude.{◌≡◌, ℕ, List, ◌++◌, [], ◌∷◌, pos, drop, length, IfOk, OnErr, OnOk, option_map};
 ghost use Rattle.kmip_messages.specs.Items.{parts_in, replies_in, stops_in};
 ghost use Rattle.kmip_messages.specs.Whole.{request_read};
 ghost use Rattle.kmip_server.specs.Messages.{AreServed};
 ghost use Rattle.kmip_server.specs.Serving.{reply_bytes, reply_to};
 ghost use Rattle.kmip_server.specs.Shown.{HasLawfulObjects};
 ghost use Rattle.kmip_schedule.specs.Calm.{AreTaken};
+ghost use Rattle.kmip_schedule.specs.Clean.{hands_strange};
 ghost use Rattle.kmip_schedule.specs.Moves.{Delivered};
 ghost use Rattle.kmip_schedule.specs.Past.{Names};
-ghost use Rattle.kmip_scripted.specs.Scenes.{WasAsked, past_in, scene_of};
+ghost use Rattle.kmip_scripted.specs.Disturbing.{counted, every_name, is_disturbed, is_repeated};
+ghost use Rattle.kmip_scripted.specs.Early.{asked_only};
+ghost use Rattle.kmip_scripted.specs.Scenes.{WasAsked, disturbances_in, past_in, scene_of, with_disturbances};
 ghost use Rattle.kmip_scripted.specs.Serving.{with_served};
 ghost use Rattle.kmip_scripted.specs.Words.{answer_at, exchange_word, first_of, message_at, word_at, next_words, with_request, with_words, words_after_exchange, words_after_run};
 
+use crate::disturbing::{Counts, counts_after, is_repeated};
 use crate::script::{Script, Word};
 use crate::serving::serve_logged;
 use crate::words::{
@@ -27,7 +31,8 @@ use std::collections::VecDeque;
 use std::marker::Model;
 
 /// A server in memory and the link to it, which follows a script. A contract sees the records of
-/// the server, all that was asked, given, done, sent and handed over, and the words that are left.
+/// the server, all that was asked, given, done, sent and handed over, how many exchanges were
+/// disturbed, and the words that are left.
 #[derive(Drop)]
 pub struct Scripted<S: Records> {
     server: Server<S>,
@@ -37,6 +42,7 @@ pub struct Scripted<S: Records> {
     sent: Vec<Bytes>,
     followed: Vec<Word>,
     handed: Vec<Option<Bytes>>,
+    counts: Counts,
     words: VecDeque<Word>,
 }
 
@@ -53,6 +59,8 @@ impl<S: Records> Model for Scripted<S> {
       sent = s.sent.items;
       followed = s.followed.items;
       handed = s.handed.items;
+      disturbed = s.counts.disturbed;
+      strange = s.counts.strange;
       words = s.words.items;
     } };
 }
@@ -72,6 +80,10 @@ impl<S: Records> Scripted<S> {
             sent: Vec::new(alloc),
             followed: Vec::new(alloc),
             handed: Vec::new(alloc),
+            counts: Counts {
+                disturbed: 0,
+                strange: 0,
+            },
             words,
         }
     }
@@ -120,6 +132,20 @@ impl<S: Records> Scripted<S> {
         &self.server
     }
 
+    /// How many exchanges were disturbed.
+    pub fn disturbed(&self) -> usize
+        ensures { result ≡ self.now.disturbed }
+    {
+        self.counts.disturbed
+    }
+
+    /// How many of those handed over a reply about another key than the request was about.
+    pub fn strange(&self) -> usize
+        ensures { result ≡ self.now.strange }
+    {
+        self.counts.strange
+    }
+
     /// The request joins those asked.
     pub(crate) fn ask(&mut self, alloc: Global, request: &[u8]) -> Result<(), NoMemory>
         ensures ok { OnOk result (self.new ≡ with_request request.now self.old) }
@@ -143,6 +169,10 @@ impl<S: Records> Scripted<S> {
             (past_in self.old) (past_in self.new)) }
         ensures delivered { (names : Names) → WasAsked message.now self.old
             → Delivered names (past_in self.old) (past_in self.new) }
+        ensures early { OnOk result ((names : Names) (asked : List (List ℕ))
+            → WasAsked message.now (asked_only asked self.old)
+            → Delivered names (past_in (asked_only asked self.old))
+            (past_in (asked_only asked self.new))) }
     {
         question_laws();
         what_is_done_joins();
@@ -238,6 +268,37 @@ impl<S: Records> Scripted<S> {
         ensures { result ≡ exchange_word self.now.words }
     {
         next_exchange_word(&self.words)
+    }
+
+    /// Whether a word before the next exchange delivers its message.
+    pub(crate) fn is_repeated(&self) -> bool
+        ensures { result ≡ is_repeated (length self.now.asked) self.now.words }
+    {
+        is_repeated(self.asked.as_slice().len(), &self.words)
+    }
+
+    /// The counts after an exchange.
+    pub(crate) fn counts_after(
+        &self,
+        alloc: Global,
+        request: &[u8],
+        word: Word,
+        repeated: bool,
+        answer: Option<&[u8]>,
+    ) -> Result<Counts, NoMemory>
+        ensures { IfOk result (λ c. c ≡ counted
+            (is_disturbed word repeated (option_map (λ m. m.now) answer.entry))
+            (hands_strange every_name request.now (option_map (λ m. m.now) answer.entry))
+            (disturbances_in self.now)) }
+    {
+        counts_after(alloc, self.counts, request, word, repeated, answer)
+    }
+
+    /// Keeps the counts.
+    pub(crate) fn count(&mut self, counts: Counts)
+        ensures { self.new ≡ with_disturbances counts self.old }
+    {
+        self.counts = counts;
     }
 
     /// Keeps what was sent, the word that was followed, and what is handed over.

@@ -1,6 +1,7 @@
 -- What a contract sees of a link over streams, and what happens to it.
 -- Source: own. Nothing is known of what goes over a network: no clause speaks of its bytes.
 use Rattle.std.specs.Prelude.{ℕ, ◌+◌, Bool, true, false, [], Option, Some, None, Result, Ok, Err}
+use Rattle.kmip_schedule.specs.Clean.{Disturbances}
 use Rattle.kmip_schedule.specs.Past.{Past}
 use Rattle.kmip_schedule.specs.declared.link.LinkFault.{LinkFault}
 use Rattle.kmip_schedule.specs.declared.link.LinkFault.TheVariants.{Io, Frame, NoMemory}
@@ -31,3 +32,7 @@ link_after (Err NoMemory) link = closed link
 -- Private: nothing is claimed of what has happened over a network
 abbrev pub unknown_past : Past
 unknown_past = record { room = 0; objects = []; requests = []; replies = []; effects = []; sent = []; handed = [] }
+
+-- Private: and no exchange is counted, clean or disturbed
+abbrev pub none_counted : Disturbances
+none_counted = record { disturbed = 0; strange = 0 }

@@ -8,7 +8,7 @@ use std::alloc::Global;
 /// Never known to be honest or calm: a network may do anything.
 impl<D: Dial + Drop> Link for StreamLink<D> {
     ghost use Rattle.std.specs.Prelude.{[]};
-    ghost use Rattle.kmip_transport.specs.Links.{unknown_past};
+    ghost use Rattle.kmip_transport.specs.Links.{none_counted, unknown_past};
 
     ghost past = { λ link. unknown_past };
 
@@ -19,6 +19,8 @@ impl<D: Dial + Drop> Link for StreamLink<D> {
     ghost failures = { λ link. link.failures };
 
     ghost ended = { λ link. [] };
+
+    ghost disturbances = { λ link. none_counted };
 
     fn exchange(&mut self, alloc: Global, request: &[u8]) -> Result<Option<Vec<u8>>, LinkFault> {
         match self.send(request) {

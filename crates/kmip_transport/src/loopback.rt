@@ -134,7 +134,7 @@ impl<R: Net + Clock + Drop, S: Records + Drop> Loopback<R, S> {
 /// Never known to be honest or calm: a network may do anything.
 impl<R: Net + Clock + Drop, S: Records + Drop> Link for Loopback<R, S> {
     ghost use Rattle.std.specs.Prelude.{[]};
-    ghost use Rattle.kmip_transport.specs.Links.{unknown_past};
+    ghost use Rattle.kmip_transport.specs.Links.{none_counted, unknown_past};
 
     ghost past = { λ loopback. unknown_past };
 
@@ -145,6 +145,8 @@ impl<R: Net + Clock + Drop, S: Records + Drop> Link for Loopback<R, S> {
     ghost failures = { λ loopback. loopback.link.failures };
 
     ghost ended = { λ loopback. [] };
+
+    ghost disturbances = { λ loopback. none_counted };
 
     fn exchange(&mut self, alloc: Global, request: &[u8]) -> Result<Option<Vec<u8>>, LinkFault> {
         let is_new = !self.link.is_connected();

@@ -2,6 +2,7 @@
 use Rattle.std.proofs.Common.{sym, subst, ◌∙◌, rules}
 use Rattle.kmip_scripted.specs.Scenes.{past_in}
 use Rattle.kmip_scripted.specs.Words.{AreBegun}
+use Rattle.kmip_scripted.proofs.CleanLemmas.{early_twice}
 use Rattle.kmip_scripted.proofs.WordLemmas.{nothing_begun, on_err}
 use Rattle.kmip_scripted.proofs.scripted.Scripted.do_words.Goals as goal
 
@@ -18,4 +19,11 @@ words-preserved g c =
       begun = λ last begun. c.words.invariant.begun last (steps.begun last begun);
       delivered = λ names. c.deliveries_join.ensures.join names (past_in c.args.self.now) (past_in c.words.self) (past_in c.step.new.self)
           (c.words.invariant.delivered names) (c.step.ensures.delivered names);
+      early = λ names asked before are. early_twice c.deliveries_join.ensures.join names asked c.args.self.now c.words.self c.step.new.self
+          (c.words.invariant.early names asked before are) (c.in_ok-step.ensures.early names asked before);
     }
+
+pub returns-then-not-branch-clause-early : goal.returns-then-not-branch-clause-early
+returns-then-not-branch-clause-early g c = λ names asked before are.
+    early_twice c.deliveries_join.ensures.join names asked c.args.self.now c.words.self c.step.new.self
+    (c.words.invariant.early names asked before are) (c.in_ok-step.ensures.early names asked before)

@@ -1,9 +1,12 @@
 -- The request was asked, things happened, the word was done, and its answer was handed over.
 use Rattle.std.proofs.Common.{sym, ap, subst, ◌∙◌, inr, option_map}
+use Rattle.kmip_schedule.specs.Clean.{hands_strange}
 use Rattle.kmip_schedule.specs.Moves.{Delivered}
 use Rattle.kmip_schedule.specs.Past.{Names}
 use Rattle.kmip_schedule.specs.Exchanges.{with_asked}
-use Rattle.kmip_scripted.specs.Scenes.{past_in}
+use Rattle.kmip_scripted.specs.Disturbing.{counted, every_name, is_disturbed}
+use Rattle.kmip_scripted.specs.Scenes.{disturbances_in, past_in}
+use Rattle.kmip_scripted.proofs.CleanLemmas.{is_counted}
 use Rattle.kmip_scripted.proofs.FollowLemmas.{handed, hands_over}
 use Rattle.kmip_scripted.proofs.WordLemmas.{on_err}
 use Rattle.kmip_scripted.proofs.scripted.Scripted.follow.Goals as goal
@@ -19,10 +22,36 @@ returns-in_err-hand_over-clause-want g c = on_err c.from_residual-in_err-hand_ov
     (c.deliveries_join.ensures.join names (with_asked c.args.request.now (past_in c.args.self.now)) (past_in c.prepare.new.self) (past_in c.take_and_play.new.self)
     (c.in_ok-prepare.ensures.joined names) (c.take_and_play.ensures.delivered names c.in_ok-prepare.ensures.asked))))
 
+pub returns-in_err-counts-clause-want : goal.returns-in_err-counts-clause-want
+returns-in_err-counts-clause-want g c = on_err c.from_residual-in_err-counts.result (λ (names : Names).
+    inr (c.deliveries_join.ensures.join names (with_asked c.args.request.now (past_in c.args.self.now)) (past_in c.prepare.new.self) (past_in c.take_and_play.new.self)
+    (c.in_ok-prepare.ensures.joined names) (c.take_and_play.ensures.delivered names c.in_ok-prepare.ensures.asked)))
+
 pub returns-clause-hands : goal.returns-clause-hands
 returns-clause-hands g c = λ names.
-    hands_over names c.args.request.now c.args.self.now c.prepare.new.self c.take_and_play.new.self c.hand_over.new.self c.next_word-word.result (option_map (λ v. v.items) c.in_ok-answer.answer)
+    hands_over names c.args.request.now c.args.self.now c.prepare.new.self c.take_and_play.new.self c.hand_over.new.self c.count.new.self c.next_word-word.result
+    (option_map (λ v. v.items) c.in_ok-answer.answer) c.in_ok-counts.counts
     (c.deliveries_join.ensures.join names (with_asked c.args.request.now (past_in c.args.self.now)) (past_in c.prepare.new.self) (past_in c.take_and_play.new.self)
     (c.in_ok-prepare.ensures.joined names) (c.take_and_play.ensures.delivered names c.in_ok-prepare.ensures.asked))
     c.in_ok-answer.ensures.ok c.in_ok-answer.ensures.answer
-    (c.in_ok-hand_over.ensures.ok ∙ ap (λ answer. handed c.args.request.now c.next_word-word.result answer c.take_and_play.new.self) c.bytes_of.ensures)
+    (c.in_ok-hand_over.ensures.ok ∙ ap (λ answer. handed c.args.request.now c.next_word-word.result answer c.take_and_play.new.self) c.bytes_of-handed.ensures)
+    c.count.ensures
+
+pub returns-clause-counted : goal.returns-clause-counted
+returns-clause-counted g c = λ names.
+    let answer = option_map (λ v. v.items) c.in_ok-answer.answer in
+    is_counted c.deliveries_join.ensures.nothing names c.args.request.now c.args.self.now c.prepare.new.self c.take_and_play.new.self c.hand_over.new.self c.count.new.self
+    c.next_word-word.result c.is_repeated-repeated.result answer c.in_ok-counts.counts (record {
+      repeated_is = c.is_repeated-repeated.ensures;
+      prepared_is = c.in_ok-prepare.ensures.ok;
+      early = c.in_ok-prepare.ensures.early names;
+      joins = c.in_ok-prepare.ensures.joins;
+      word_is = c.next_word-word.ensures;
+      taken = λ pass. c.in_ok-answer.ensures.taken pass c.in_ok-prepare.ensures.asked;
+      mid_is = c.in_ok-answer.ensures.ok;
+      answer_is = c.in_ok-answer.ensures.answer;
+      counts_are = c.in_ok-counts.ensures
+          ∙ ap (λ a. counted (is_disturbed c.next_word-word.result c.is_repeated-repeated.result a) (hands_strange every_name c.args.request.now a) (disturbances_in c.take_and_play.new.self)) c.bytes_of-handed.ensures;
+      last_is = c.in_ok-hand_over.ensures.ok ∙ ap (λ a. handed c.args.request.now c.next_word-word.result a c.take_and_play.new.self) c.bytes_of-handed.ensures;
+      new_is = c.count.ensures;
+    })

@@ -1,7 +1,8 @@
 -- The request was asked, and then things happened.
-use Rattle.std.proofs.Common.{true, inr}
+use Rattle.std.proofs.Common.{true, refl, inr}
 use Rattle.kmip_schedule.specs.Past.{Names}
 use Rattle.kmip_scripted.specs.Scenes.{past_in}
+use Rattle.kmip_scripted.proofs.CleanLemmas.{prepared_early, request_joins}
 use Rattle.kmip_scripted.proofs.FollowLemmas.{joined_past, still_asked}
 use Rattle.kmip_scripted.proofs.WordLemmas.{on_err}
 use Rattle.kmip_scripted.proofs.scripted.Scripted.prepare.Goals as goal
@@ -17,3 +18,11 @@ returns-clause-asked g c = still_asked c.args.request.now c.args.self.now c.ask.
 pub returns-clause-joined : goal.returns-clause-joined
 returns-clause-joined g c = λ names.
     joined_past names c.args.request.now c.args.self.now c.ask.new.self c.do_words.new.self c.in_ok-ask.ensures.ok (c.do_words.ensures.delivered names)
+
+pub returns-clause-early : goal.returns-clause-early
+returns-clause-early g c = λ names unrepeated. prepared_early names c.args.request.now c.args.self.now c.ask.new.self c.do_words.new.self c.in_ok-ask.ensures.ok
+    (c.in_ok-do_words.ensures.early names c.args.self.now.asked refl) unrepeated
+
+pub returns-clause-joins : goal.returns-clause-joins
+returns-clause-joins g c = request_joins c.args.request.now c.args.self.now c.ask.new.self c.do_words.new.self c.in_ok-ask.ensures.ok
+    (c.deliveries_keep_the_requests.ensures (λ name. true) (past_in c.ask.new.self) (past_in c.do_words.new.self) (c.do_words.ensures.delivered (λ name. true))).requests

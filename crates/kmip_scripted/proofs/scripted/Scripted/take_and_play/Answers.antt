@@ -1,11 +1,10 @@
 -- The word that is taken is no part of the past.
-use Rattle.std.proofs.Common.{pos, ap, subst, ◌∙◌}
+use Rattle.std.proofs.Common.{pos, subst, ◌∙◌}
 use Rattle.kmip_messages.specs.Items.{parts_in, replies_in, stops_in}
 use Rattle.kmip_server.specs.Serving.{reply_bytes}
 use Rattle.kmip_schedule.specs.Calm.{AreTaken}
 use Rattle.kmip_schedule.specs.Moves.{Delivered}
 use Rattle.kmip_scripted.specs.Scenes.{WasAsked, past_in}
-use Rattle.kmip_scripted.specs.Words.{exchange_word}
 use Rattle.kmip_scripted.proofs.scripted.Scripted.take_and_play.Goals as goal
 
 pub returns-in_err-answer-clause-delivered : goal.returns-in_err-answer-clause-delivered
@@ -13,10 +12,10 @@ returns-in_err-answer-clause-delivered g c = λ names asked.
     subst (λ s. WasAsked c.args.request.now s → Delivered names (past_in s) (past_in c.play.new.self)) c.take_word-word.ensures.rest (c.play.ensures.delivered names) asked
 
 pub returns-clause-taken : goal.returns-clause-taken
-returns-clause-taken g c = λ none asked.
+returns-clause-taken g c = λ pass asked.
     subst (λ s. WasAsked c.args.request.now s
     → AreTaken (stops_in c.args.request.now) (parts_in c.args.request.now) (replies_in (reply_bytes s.stock c.args.request.now (pos 0))) (past_in s) (past_in c.play.new.self))
-    c.take_word-word.ensures.rest (c.in_ok-answer.ensures.taken (c.take_word-word.ensures.word ∙ ap exchange_word none)) asked
+    c.take_word-word.ensures.rest (c.in_ok-answer.ensures.taken (c.take_word-word.ensures.word ∙ pass)) asked
 
 pub returns-clause-delivered : goal.returns-clause-delivered
 returns-clause-delivered g c = λ names asked.

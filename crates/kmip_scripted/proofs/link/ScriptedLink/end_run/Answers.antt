@@ -1,0 +1,11 @@
+-- The end of a run counts nothing.
+use Rattle.std.proofs.Common.{true, ap, ◌∙◌}
+use Rattle.kmip_scripted.specs.Scenes.{disturbances_in}
+use Rattle.kmip_scripted.proofs.CountLemmas.{begun_keep, run_keeps}
+use Rattle.kmip_scripted.proofs.link.ScriptedLink.end_run.Goals as goal
+
+pub returns-in-Ok-clause-undisturbed : goal.returns-in-Ok-clause-undisturbed
+returns-in-Ok-clause-undisturbed g c = ap disturbances_in c.in-Ok.ensures.exact ∙ run_keeps c.args.self.now
+
+pub returns-in-Err-clause-undisturbed : goal.returns-in-Err-clause-undisturbed
+returns-in-Err-clause-undisturbed g c = begun_keep true c.args.self.now.words c.args.self.now c.finish_run.new.self c.in-Err.ensures.begun

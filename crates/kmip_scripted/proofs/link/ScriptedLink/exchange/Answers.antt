@@ -1,0 +1,15 @@
+-- The counts stay until an exchange is handed over; and where no word is left, and the server has room, then too.
+use Rattle.std.proofs.Common.{Ok, ap, subst, ◌∙◌}
+use Rattle.kmip_schedule.specs.Clean.{IsRoomy}
+use Rattle.kmip_scripted.specs.Scenes.{disturbances_in}
+use Rattle.kmip_scripted.proofs.CountLemmas.{calm_is_kept, exchange_begun_keeps, no_fewer}
+use Rattle.kmip_scripted.proofs.link.ScriptedLink.exchange.Goals as goal
+
+pub returns-in-Ok-clause-undisturbed : goal.returns-in-Ok-clause-undisturbed
+returns-in-Ok-clause-undisturbed g c = λ names none roomy.
+    ap disturbances_in c.in-Ok.ensures.exact
+    ∙ calm_is_kept c.args.request.now c.args.self.now none (subst (λ answer. IsRoomy (Ok answer)) c.in-Ok.ensures.answer roomy)
+
+pub returns-in-Err-clause-disturbed : goal.returns-in-Err-clause-disturbed
+returns-in-Err-clause-disturbed g c = λ names.
+    no_fewer c.args.self.now c.follow.new.self (exchange_begun_keeps c.args.request.now c.args.self.now c.follow.new.self c.in-Err.ensures.begun)
