@@ -12,7 +12,8 @@ use kmip_progress::ProgressFault;
 use std::alloc::{AllocError, Global};
 
 /// The line that says how far a run of the plan is, by the text that was kept last: how many keys are
-/// finished, how many exchanges were made, and how many of them brought no reply.
+/// finished, how many more exchanges are made at most if no more is lost, how many were made, and
+/// how many of them brought no reply.
 ///
 /// # Errors
 ///
@@ -34,7 +35,14 @@ pub fn standing_line(
         return Err(ProgressFault::NoMemory);
     };
     let finished = finished_count(verdicts.as_slice());
-    let line = standing_text(alloc, finished, plan.count(), exchanges, silent)?;
+    let line = standing_text(
+        alloc,
+        finished,
+        plan.count(),
+        client.most_left(),
+        exchanges,
+        silent,
+    )?;
     Ok(line)
 }
 
@@ -44,14 +52,16 @@ fn standing_text(
     alloc: Global,
     finished: usize,
     keys: usize,
+    most: usize,
     exchanges: usize,
     silent: usize,
 ) -> Result<String, AllocError>
     ensures { IfOk result (λ text. string_bytes text
-        ≡ standing_text finished keys exchanges silent) }
+        ≡ standing_text finished keys most exchanges silent) }
 {
     let text = format!(in alloc;
-        "{finished} of {keys} keys finished, {exchanges} exchanges, {silent} without a reply"
+        "{finished} of {keys} keys finished, at most {most} more exchanges if nothing more is lost; \
+         {exchanges} made, {silent} without a reply"
     )?;
     Ok(text)
 }
