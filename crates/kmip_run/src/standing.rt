@@ -2,7 +2,7 @@
 ghost use Rattle.std.specs.Prelude.{◌≡◌, IfErr, IfOk, Some, string_bytes};
 ghost use Rattle.kmip_progress.specs.Reading.{FailsProgress};
 ghost use Rattle.kmip_run.specs.RunText.{begin_knowns};
-ghost use Rattle.kmip_run.specs.StandingText.{IsStandingText, standing_text};
+ghost use Rattle.kmip_run.specs.StandingText.{IsStandingText, finished_text, made_text};
 ghost use Rattle.kmip_session.specs.Reporting.{finished_count, is_finished};
 
 use crate::beginning::begin;
@@ -35,33 +35,35 @@ pub fn standing_line(
         return Err(ProgressFault::NoMemory);
     };
     let finished = finished_count(verdicts.as_slice());
-    let line = standing_text(
-        alloc,
-        finished,
-        plan.count(),
-        client.most_left(),
-        exchanges,
-        silent,
-    )?;
+    let mut line = finished_text(alloc, finished, plan.count(), client.most_left())?;
+    let made = made_text(alloc, exchanges, silent)?;
+    line.push_str(made.as_str())?;
     Ok(line)
 }
 
-/// The text of the line.
-#[tactic(auto, unfolding(crate::specs::StandingText::standing_text))]
-fn standing_text(
+/// How many keys are finished, and how many more exchanges are made at most.
+#[tactic(auto, unfolding(crate::specs::StandingText::finished_text))]
+fn finished_text(
     alloc: Global,
     finished: usize,
     keys: usize,
     most: usize,
-    exchanges: usize,
-    silent: usize,
 ) -> Result<String, AllocError>
-    ensures { IfOk result (λ text. string_bytes text
-        ≡ standing_text finished keys most exchanges silent) }
+    ensures { IfOk result (λ text. string_bytes text ≡ finished_text finished keys most) }
 {
     let text = format!(in alloc;
-        "{finished} of {keys} keys finished, at most {most} more exchanges if nothing more is lost; \
-         {exchanges} made, {silent} without a reply"
+        "{finished} of {keys} keys finished, at most {most} more exchanges"
+    )?;
+    Ok(text)
+}
+
+/// How many exchanges were made, and how many of them brought no reply.
+#[tactic(auto, unfolding(crate::specs::StandingText::made_text))]
+fn made_text(alloc: Global, exchanges: usize, silent: usize) -> Result<String, AllocError>
+    ensures { IfOk result (λ text. string_bytes text ≡ made_text exchanges silent) }
+{
+    let text = format!(in alloc;
+        " if nothing more is lost; {exchanges} made, {silent} without a reply"
     )?;
     Ok(text)
 }
