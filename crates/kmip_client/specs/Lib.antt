@@ -2,6 +2,7 @@ pub mod Questions
 pub mod Clients
 pub mod Saving
 pub mod Standing
+pub mod Bounding
 pub mod Shapes
 pub mod Hearing
 pub mod Known

@@ -1,8 +1,10 @@
 //! A client of one plan.
-ghost use Rattle.std.specs.Prelude.{◌≡◌, List, ◌≤◌, ◌<◌, length, map, drop, Some, None, Ok, Err, IfOk, IfErr, IfSome, IsTrue, OnOk, OnErr, option_map};
+ghost use Rattle.std.specs.Prelude.{◌≡◌, List, ◌≤◌, ◌<◌, ◌*◌, length, map, drop, Some, None, Ok, Err, IfOk, IfErr, IfSome, IsTrue, OnOk, OnErr, option_map};
 ghost use Rattle.kmip_messages.specs.Fits.{outcome_fits};
 ghost use Rattle.std.specs.List.{AllZip};
+ghost use Rattle.kmip_plan.specs.Limits.{most_keys};
 ghost use Rattle.kmip_plan.specs.Plans.{IsLawful, EachFits};
+ghost use Rattle.kmip_client.specs.Bounding.{most_left};
 ghost use Rattle.kmip_client.specs.Clients.{
   fresh,
   done_at,
@@ -35,6 +37,7 @@ ghost use Rattle.kmip_client.specs.Truth.{TrueReply, TrueMessage};
 ghost use Rattle.kmip_objects.specs.Objects.{Object};
 ghost use Rattle.kmip_knowledge.specs.Knowledge.{fresh_knowledge};
 
+use crate::bounding::most_left;
 use crate::hearing::{Heard, hear_about};
 use crate::question::{Question, question_about};
 use crate::saving::{all_knowledge, all_known, count_working};
@@ -268,6 +271,16 @@ impl<'p> Client<'p> {
         ensures none { result ≡ 0 → NoneWorks self.now.keys self.now.knowns }
     {
         self.working
+    }
+
+    /// How many more exchanges it makes at most until every key is finished, if no more is lost: 0
+    /// to 7,000. It never rises. A key in conflict counts as one that is not finished. Takes no
+    /// memory.
+    pub fn most_left(&self) -> usize
+        ensures sum { result ≡ most_left self.now.keys self.now.knowns }
+        ensures small { result ≤ 7 * most_keys }
+    {
+        most_left(self.plan.keys(), self.knowns.as_slice())
     }
 
     /// A question about the key at a place from 0 has no answer, or one that did not help: a key

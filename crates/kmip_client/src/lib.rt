@@ -2,6 +2,7 @@
 //! from any bytes that come back. It knows no network.
 #![tactic(auto)]
 
+mod bounding;
 mod client;
 mod hearing;
 pub mod laws;

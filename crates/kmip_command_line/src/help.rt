@@ -186,7 +186,7 @@ The plan is read and judged first (its first fault is printed as by `check`), th
 
 While it works, it shows on standard error how far it is, in one line that is written again after each
 exchange, where that is a terminal and `--verbose` does not tell each exchange there:
-  1 of 3 keys finished, 8 exchanges, 2 without a reply
+  1 of 3 keys finished, at most 9 more exchanges if nothing more is lost; 8 made, 2 without a reply
 
 With `--loopback` the server is one in this process with no object, so it suits a first run.";
 

@@ -40,19 +40,28 @@ const ROWS: [Row; 5] = [
         saved: "kmip-progress 2\nk1 active - 0 -\nk2 active - 0 -\nk3 created - 0 -\nend 3\n",
         exchanges: 1,
         silent: 1,
-        line: Ok("0 of 3 keys finished, 1 exchanges, 1 without a reply"),
+        line: Ok(
+            "0 of 3 keys finished, at most 14 more exchanges if nothing more is lost; \
+             1 made, 1 without a reply",
+        ),
     },
     Row {
         saved: "kmip-progress 2\nk1 active - 2 31\nk2 active - 1 32\nk3 created - 1 33\nend 3\n",
         exchanges: 12,
         silent: 4,
-        line: Ok("2 of 3 keys finished, 12 exchanges, 4 without a reply"),
+        line: Ok(
+            "2 of 3 keys finished, at most 3 more exchanges if nothing more is lost; \
+             12 made, 4 without a reply",
+        ),
     },
     Row {
         saved: "kmip-progress 2\nk1 active - 2 31\nk2 active - 2 32\nk3 created - 1 33\nend 3\n",
         exchanges: 10_000,
         silent: 0,
-        line: Ok("3 of 3 keys finished, 10000 exchanges, 0 without a reply"),
+        line: Ok(
+            "3 of 3 keys finished, at most 0 more exchanges if nothing more is lost; \
+             10000 made, 0 without a reply",
+        ),
     },
     Row {
         saved: "kmip-progress 2\nk1 active - 0 -\n",

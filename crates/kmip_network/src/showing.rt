@@ -6,6 +6,14 @@ use std::cell::Cell;
 use std::io::IsTerminal;
 use std::str::from_utf8;
 
+/// Control sequences (ECMA-48, and DEC's mode 7): the cursor stays at the end of a full line, what
+/// stands behind the cursor in its line is erased, and a full line goes on in the next.
+const KEEP_TO_THE_LINE: &str = "\x1b[?7l";
+
+const ERASE_THE_REST: &str = "\x1b[K";
+
+const GO_ON_IN_THE_NEXT: &str = "\x1b[?7h";
+
 /// How far a run is: shown in one line on standard error, which is written again after each exchange.
 #[derive(Drop)]
 pub(crate) struct Standing<'a> {
@@ -48,7 +56,8 @@ impl<'a> Standing<'a> {
     }
 
     /// Shows the line for what is known now, by the text that is kept of it, in the place of the line
-    /// before it. Where there is no memory for it that line stays.
+    /// before it: what of it passes the terminal's width is not shown. Where there is no memory for it
+    /// that line stays.
     pub(crate) fn show(&self, saved: &[u8]) {
         let Some(plan) = &self.plan else {
             return;
@@ -58,7 +67,9 @@ impl<'a> Standing<'a> {
         };
         let (exchanges, silent) = (self.exchanges.get(), self.silent.get());
         if let Ok(line) = standing_line(self.rt.alloc(), plan, saved, exchanges, silent) {
-            let _ = self.rt.eprint(format_args!("\r{line}"));
+            let _ = self.rt.eprint(format_args!(
+                "\r{KEEP_TO_THE_LINE}{line}{ERASE_THE_REST}{GO_ON_IN_THE_NEXT}"
+            ));
             self.is_open.set(true);
         }
     }

@@ -2,7 +2,7 @@
 ghost use Rattle.std.specs.Prelude.{◌≡◌, IfErr, IfOk, Some, string_bytes};
 ghost use Rattle.kmip_progress.specs.Reading.{FailsProgress};
 ghost use Rattle.kmip_run.specs.RunText.{begin_knowns};
-ghost use Rattle.kmip_run.specs.StandingText.{IsStandingText, standing_text};
+ghost use Rattle.kmip_run.specs.StandingText.{IsStandingText, finished_text, made_text};
 ghost use Rattle.kmip_session.specs.Reporting.{finished_count, is_finished};
 
 use crate::beginning::begin;
@@ -12,7 +12,8 @@ use kmip_progress::ProgressFault;
 use std::alloc::{AllocError, Global};
 
 /// The line that says how far a run of the plan is, by the text that was kept last: how many keys are
-/// finished, how many exchanges were made, and how many of them brought no reply.
+/// finished, how many more exchanges are made at most if no more is lost, how many were made, and
+/// how many of them brought no reply.
 ///
 /// # Errors
 ///
@@ -34,24 +35,35 @@ pub fn standing_line(
         return Err(ProgressFault::NoMemory);
     };
     let finished = finished_count(verdicts.as_slice());
-    let line = standing_text(alloc, finished, plan.count(), exchanges, silent)?;
+    let mut line = finished_text(alloc, finished, plan.count(), client.most_left())?;
+    let made = made_text(alloc, exchanges, silent)?;
+    line.push_str(made.as_str())?;
     Ok(line)
 }
 
-/// The text of the line.
-#[tactic(auto, unfolding(crate::specs::StandingText::standing_text))]
-fn standing_text(
+/// How many keys are finished, and how many more exchanges are made at most.
+#[tactic(auto, unfolding(crate::specs::StandingText::finished_text))]
+fn finished_text(
     alloc: Global,
     finished: usize,
     keys: usize,
-    exchanges: usize,
-    silent: usize,
+    most: usize,
 ) -> Result<String, AllocError>
-    ensures { IfOk result (λ text. string_bytes text
-        ≡ standing_text finished keys exchanges silent) }
+    ensures { IfOk result (λ text. string_bytes text ≡ finished_text finished keys most) }
 {
     let text = format!(in alloc;
-        "{finished} of {keys} keys finished, {exchanges} exchanges, {silent} without a reply"
+        "{finished} of {keys} keys finished, at most {most} more exchanges"
+    )?;
+    Ok(text)
+}
+
+/// How many exchanges were made, and how many of them brought no reply.
+#[tactic(auto, unfolding(crate::specs::StandingText::made_text))]
+fn made_text(alloc: Global, exchanges: usize, silent: usize) -> Result<String, AllocError>
+    ensures { IfOk result (λ text. string_bytes text ≡ made_text exchanges silent) }
+{
+    let text = format!(in alloc;
+        " if nothing more is lost; {exchanges} made, {silent} without a reply"
     )?;
     Ok(text)
 }

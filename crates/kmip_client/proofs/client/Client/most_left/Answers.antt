@@ -1,0 +1,8 @@
+-- Something is known of each key.
+use Rattle.std.proofs.lemmas.Slice.Zip.{AllZip-long}
+use Rattle.kmip_client.specs.Shapes.{IsShaped}
+use Rattle.kmip_client.proofs.client.Client.most_left.Goals as goal
+
+pub most_left-requires-clause-as_many : goal.most_left-requires-clause-as_many
+most_left-requires-clause-as_many c =
+    rw (c.as_slice.ensures.value, c.keys.ensures.value) (AllZip-long IsShaped c.self.inside.plan.now c.self.inside.knowns.items c.self.invariant.each)
