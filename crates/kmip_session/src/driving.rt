@@ -37,6 +37,7 @@ use kmip_settling::laws::{
     room_is_left_for_prolonged_plans, sound_is_ready, the_finished_stand_at_the_end,
     who_needs_nothing_is_finished,
 };
+use kmip_settling::losing_laws::{a_losing_turn_is_bounded, left_is_bounded};
 use kmip_ttlv::NoMemory;
 use std::alloc::Global;
 
@@ -135,6 +136,8 @@ fn laws_below()
     prolonged_plans_are_sound();
     prolonged_plans_keep_the_truth();
     room_is_left_for_prolonged_plans();
+    left_is_bounded();
+    a_losing_turn_is_bounded();
 }
 
 /// The next question, and what comes of it; false where no key is worked on.

@@ -13,7 +13,8 @@ use Rattle.kmip_client.specs.Clients.{one_if}
 use Rattle.kmip_client.specs.Places.{position}
 use Rattle.kmip_client.specs.Shapes.{IsKept, PhaseSuits}
 use Rattle.kmip_schedule.specs.Past.{Past}
-use Rattle.kmip_settling.specs.Losing.{is_under_way, left_of, most_left_of}
+use Rattle.kmip_client.specs.Bounding.{most_left_of}
+use Rattle.kmip_settling.specs.Losing.{is_under_way, left_of}
 use Rattle.kmip_settling.specs.Needs.{need_in, need_of}
 use Rattle.kmip_settling.proofs.NeedLemmas.{go_even, go_behind, no_less, place_in, working_needs}
 

@@ -19,7 +19,8 @@ use Rattle.kmip_schedule.specs.Exchanges.{with_exchange}
 use Rattle.kmip_schedule.specs.Past.{Past}
 use Rattle.kmip_schedule.specs.Sound.{Sound}
 use Rattle.kmip_settling.specs.Lawbook.{Lawbook}
-use Rattle.kmip_settling.specs.Losing.{is_under_way, left_of, left_all, most_left_of, most_left, was_asked}
+use Rattle.kmip_client.specs.Bounding.{most_left_of, most_left}
+use Rattle.kmip_settling.specs.Losing.{is_under_way, left_of, left_all, was_asked}
 use Rattle.kmip_settling.specs.Needs.{need_all}
 use Rattle.kmip_settling.proofs.LeftLemmas.{AreNumbers, is_there, left_by, left_is, need_left, most_falls, most_most}
 use Rattle.kmip_settling.proofs.NeedLemmas.{chain_some, no_less, place_in, position_within, some_there}

@@ -1,10 +1,10 @@
 -- How many exchanges each key of a plan may still take until it is finished, over a link that goes on losing, beside those that the
 -- losses themselves cost. It is what the key needs, and more where a step that was asked may still take effect.
 -- Source: own.
-use Rattle.std.specs.Prelude.{ℕ, ◌+◌, ◌-◌, nat_eq, nat_le, Bool, false, List, [], ◌∷◌, if◌then◌else◌}
+use Rattle.std.specs.Prelude.{ℕ, ◌+◌, nat_eq, nat_le, Bool, false, List, [], ◌∷◌, if◌then◌else◌}
 use Rattle.std.specs.Cmp.Lexicographic.{pointwise}
 use Rattle.std.specs.List.{list_any}
-use Rattle.std.specs.Option.{is_none, is_some, option_map_or}
+use Rattle.std.specs.Option.{is_none, option_map_or}
 use Rattle.kmip_objects.specs.Objects.{object_named}
 use Rattle.kmip_objects.specs.declared.step.Step.{Step}
 use Rattle.kmip_messages.specs.Operations.{operation_of}
@@ -46,15 +46,3 @@ abbrev pub left_all : List Key → List Knowledge → Past → ℕ
 left_all [] knowns p = 0
 left_all (key ∷ keys) [] p = 0
 left_all (key ∷ keys) (known ∷ knowns) p = left_of key known p + left_all keys knowns p
-
--- the most that may be left, by the identifier and the count that are known alone
-abbrev pub most_left_of : Key → Knowledge → ℕ
-most_left_of key known =
-    if nat_le (chain_length key) known.done then 0
-    else if is_some known.identifier then chain_length key + 1 - (known.done - 1)
-    else chain_length key + 3
-
-abbrev pub most_left : List Key → List Knowledge → ℕ
-most_left [] knowns = 0
-most_left (key ∷ keys) [] = 0
-most_left (key ∷ keys) (known ∷ knowns) = most_left_of key known + most_left keys knowns

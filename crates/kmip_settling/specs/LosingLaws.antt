@@ -16,7 +16,8 @@ use Rattle.kmip_schedule.specs.Moves.{Delivered}
 use Rattle.kmip_schedule.specs.Past.{Past, is_planned}
 use Rattle.kmip_schedule.specs.Sound.{Opening, Sound}
 use Rattle.kmip_settling.specs.Laws.{known_after_turn}
-use Rattle.kmip_settling.specs.Losing.{left_all, most_left}
+use Rattle.kmip_client.specs.Bounding.{most_left}
+use Rattle.kmip_settling.specs.Losing.{left_all}
 use Rattle.kmip_settling.specs.Needs.{need_all}
 
 -- what arrives late brings no key further from its end
