@@ -7,6 +7,8 @@ mod again;
 #[cfg(test)]
 mod long;
 #[cfg(test)]
+mod losing;
+#[cfg(test)]
 mod making;
 #[cfg(test)]
 mod prolonging;

@@ -1,0 +1,154 @@
+//! How many exchanges runs take over a link that goes on losing: never more than the plan's bound, and
+//! three for each disturbed one, or four where it handed over a reply about another key.
+
+use crate::making::{TARGETS, plan_of_two, push_key, random_message_word};
+use kmip_plan::{Plan, bound, read_plan};
+use kmip_scripted::{Script, Word, read_script};
+use kmip_session::Stop;
+use kmip_simulation::simulate;
+use rand_chacha::ChaCha20Rng;
+use rand_core::{Rng, SeedableRng};
+use std::alloc::{AllocError, Global};
+use std::test::Fail;
+
+/// The targets of a plan's keys, a script of one run, how many exchanges it takes, and how many of
+/// them are disturbed, and strange.
+struct Row {
+    targets: &'static [&'static str],
+    script: &'static str,
+    exchanges: usize,
+    disturbed: usize,
+    strange: usize,
+}
+
+const ROWS: [Row; 8] = [
+    // Nothing is lost: a look, and the steps.
+    Row {
+        targets: &["active"],
+        script: "",
+        exchanges: 3,
+        disturbed: 0,
+        strange: 0,
+    },
+    // The Create that was lost arrives at last: the one made instead is refused. It takes the bound,
+    // and three.
+    Row {
+        targets: &["active"],
+        script: "pass\nlose-request\npass\nagain 2\n",
+        exchanges: 7,
+        disturbed: 1,
+        strange: 0,
+    },
+    // The same with a Create that has taken effect, whose reply is lost.
+    Row {
+        targets: &["active"],
+        script: "pass\nlose-reply\n",
+        exchanges: 5,
+        disturbed: 1,
+        strange: 0,
+    },
+    // A look that is lost, and one that is cut.
+    Row {
+        targets: &["created"],
+        script: "lose-reply\ncut 8\n",
+        exchanges: 4,
+        disturbed: 2,
+        strange: 0,
+    },
+    // A step that is lost: its object is checked first.
+    Row {
+        targets: &["active"],
+        script: "pass\npass\nlose-request\n",
+        exchanges: 5,
+        disturbed: 1,
+        strange: 0,
+    },
+    // The request is delivered before its turn, and then once more.
+    Row {
+        targets: &["active"],
+        script: "pass\nagain 2\npass\n",
+        exchanges: 5,
+        disturbed: 1,
+        strange: 0,
+    },
+    // The old reply to the question itself, again.
+    Row {
+        targets: &["created"],
+        script: "pass\nlose-reply\nstale 1\n",
+        exchanges: 6,
+        disturbed: 2,
+        strange: 0,
+    },
+    // A reply about the first key in the place of one about the second.
+    Row {
+        targets: &["created", "created"],
+        script: "pass\nstale 1\n",
+        exchanges: 5,
+        disturbed: 1,
+        strange: 1,
+    },
+];
+
+/// The plan of keys with these targets.
+fn plan_with(alloc: Global, targets: &[&str]) -> Result<Plan, Fail> {
+    let mut text = String::new(alloc);
+    for place in 0..targets.len() {
+        push_key(&mut text, place, targets[place])?;
+    }
+    let plan = read_plan(alloc, text.as_str())?;
+    Ok(plan)
+}
+
+#[test]
+fn takes_as_many_exchanges_as_was_worked_out(rt: HostRuntime) -> Result<(), Fail> {
+    for row in &ROWS {
+        let plan = plan_with(rt.alloc(), row.targets)?;
+        let script = read_script(rt.alloc(), row.script)?;
+        assert_eq!(rt; script.prolongings(), 0);
+        let simulation = simulate(rt.alloc(), &plan, script)?;
+        let end = simulation.end.runs.first().ok_or("no run")?;
+        assert_eq!(rt; end.stop, Stop::AllFinished);
+        assert_eq!(rt; end.exchanges, row.exchanges);
+        assert_eq!(rt; simulation.link.disturbed(), row.disturbed);
+        assert_eq!(rt; simulation.link.strange(), row.strange);
+    }
+    Ok(())
+}
+
+/// A script of one run, of at most 31 random words.
+fn random_run(alloc: Global, rng: &mut ChaCha20Rng) -> Result<Script, AllocError> {
+    let mut words: Vec<Word> = Vec::new(alloc);
+    for _ in 0..rng.next_u32() % 32 {
+        words.push(random_message_word(rng))?;
+    }
+    Ok(Script::new(words))
+}
+
+/// Carries out 2,000 random runs, and says how many of their exchanges were disturbed, and how many
+/// exchanges fewer than they might they took at the least.
+#[test]
+fn random_runs_take_no_more_than_the_bound_and_their_losses(rt: HostRuntime) -> Result<(), Fail> {
+    let mut rng = ChaCha20Rng::from_seed([5; 32]);
+    let (mut disturbed, mut strange, mut spared) = (0, 0, usize::MAX);
+    for number in 0..2_000 {
+        let first = TARGETS[number % 5];
+        let second = TARGETS[number / 5 % 5];
+        let plan = plan_of_two(rt.alloc(), first, second)?;
+        let script = random_run(rt.alloc(), &mut rng)?;
+        assert_eq!(rt; script.prolongings(), 0);
+        let simulation = simulate(rt.alloc(), &plan, script)?;
+        let end = simulation.end.runs.first().ok_or("no run")?;
+        assert_eq!(rt; end.stop, Stop::AllFinished);
+        let (lost, other) = (simulation.link.disturbed(), simulation.link.strange());
+        let most = bound(&plan) + 3 * lost + other;
+        assert!(rt; end.exchanges <= most);
+        disturbed += lost;
+        strange += other;
+        spared = spared.min(most - end.exchanges);
+    }
+    rt.println(format_args!(
+        "2,000 runs: {disturbed} exchanges disturbed, {strange} of them strange; the nearest run took \
+         {spared} fewer than the bound"
+    ))?;
+    Ok(())
+}
