@@ -22,6 +22,8 @@ pub record Scene : Type 0 where
   pub sent : List (List ℕ)
   pub followed : List Word
   pub handed : List (Option (List ℕ))
+  -- how many had been sent where each run ended
+  pub ended : List ℕ
   -- the words that are left
   pub words : List Word
 
@@ -39,7 +41,7 @@ past_in s = record {
 
 -- where nothing has happened over a server, with these words left
 abbrev pub scene_of : Stock → List Word → Scene
-scene_of stock words = record { stock = stock; asked = []; given = []; effects = []; sent = []; followed = []; handed = []; words = words }
+scene_of stock words = record { stock = stock; asked = []; given = []; effects = []; sent = []; followed = []; handed = []; ended = []; words = words }
 
 -- Private: the requests of a message were all asked.
 abbrev pub WasAsked : List ℕ → Scene → Type 0

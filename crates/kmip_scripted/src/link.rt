@@ -1,6 +1,7 @@
 //! The link in memory as a link.
-ghost use Rattle.std.specs.Prelude.{◌≡◌, ◌≢◌, [], Err, IfOk, OnOk, option_map};
+ghost use Rattle.std.specs.Prelude.{◌≡◌, ◌≢◌, [], length, Err, IfOk, OnOk, option_map};
 ghost use Rattle.kmip_schedule.specs.Calm.{CalmlyEnded, CalmlyExchanged};
+ghost use Rattle.kmip_schedule.specs.Ending.{Ended};
 ghost use Rattle.kmip_schedule.specs.Exchanges.{Exchanged, answer_in};
 ghost use Rattle.kmip_schedule.specs.Moves.{Delivered};
 ghost use Rattle.kmip_schedule.specs.Past.{Names};
@@ -26,6 +27,8 @@ impl<S: Records> Link for Scripted<S> {
 
     ghost failures = { λ link. 0 };
 
+    ghost ended = { λ link. link.ended };
+
     fn exchange(&mut self, alloc: Global, request: &[u8]) -> Result<Option<Vec<u8>>, LinkFault>
         ensures answer { IfOk result (λ answer. option_map (λ v. v.items) answer
             ≡ (exchange request.now self.old).0) }
@@ -36,6 +39,7 @@ impl<S: Records> Link for Scripted<S> {
             × CalmlyExchanged names (past_in self.old) request.now
             (answer_in (λ v. v.items) result) (past_in self.new) }
         ensures never_io { result ≢ Err LinkFault.Io }
+        ensures ended { self.new.ended ≡ self.old.ended }
     {
         match self.follow(alloc, request) {
             Ok(answer) => Ok(answer),
@@ -50,6 +54,7 @@ impl<S: Records> Link for Scripted<S> {
         ensures calm { (names : Names) → self.old.words ≡ [] → (self.new.words ≡ [])
             × CalmlyEnded names result (past_in self.old) (past_in self.new) }
         ensures never_io { result ≢ Err LinkFault.Io }
+        ensures ended { Ended result (length self.old.sent) self.old.ended self.new.ended }
     {
         match self.finish_run(alloc) {
             Ok(()) => Ok(()),

@@ -10,7 +10,7 @@ ghost use Rattle.kmip_schedule.specs.Moves.{Delivered};
 ghost use Rattle.kmip_schedule.specs.Past.{Names};
 ghost use Rattle.kmip_scripted.specs.Scenes.{WasAsked, past_in, scene_of};
 ghost use Rattle.kmip_scripted.specs.Serving.{with_served};
-ghost use Rattle.kmip_scripted.specs.Words.{answer_at, exchange_word, first_of, message_at, word_at, next_words, with_request, with_words, words_after_exchange, words_after_run};
+ghost use Rattle.kmip_scripted.specs.Words.{answer_at, exchange_word, first_of, message_at, word_at, next_words, with_ended, with_request, with_words, words_after_exchange, words_after_run};
 
 use crate::script::{Script, Word};
 use crate::serving::serve_logged;
@@ -27,7 +27,8 @@ use std::collections::VecDeque;
 use std::marker::Model;
 
 /// A server in memory and the link to it, which follows a script. A contract sees the records of
-/// the server, all that was asked, given, done, sent and handed over, and the words that are left.
+/// the server, all that was asked, given, done, sent and handed over, where runs ended, and the words
+/// that are left.
 #[derive(Drop)]
 pub struct Scripted<S: Records> {
     server: Server<S>,
@@ -37,6 +38,7 @@ pub struct Scripted<S: Records> {
     sent: Vec<Bytes>,
     followed: Vec<Word>,
     handed: Vec<Option<Bytes>>,
+    ended: Vec<usize>,
     words: VecDeque<Word>,
 }
 
@@ -53,6 +55,7 @@ impl<S: Records> Model for Scripted<S> {
       sent = s.sent.items;
       followed = s.followed.items;
       handed = s.handed.items;
+      ended = s.ended.items;
       words = s.words.items;
     } };
 }
@@ -72,6 +75,7 @@ impl<S: Records> Scripted<S> {
             sent: Vec::new(alloc),
             followed: Vec::new(alloc),
             handed: Vec::new(alloc),
+            ended: Vec::new(alloc),
             words,
         }
     }
@@ -111,6 +115,13 @@ impl<S: Records> Scripted<S> {
             Some(Some(message)) => Some(message.as_slice()),
             Some(None) | None => None,
         }
+    }
+
+    /// How many messages had been sent where each run ended, in order.
+    pub fn ended(&self) -> &[usize]
+        ensures { result.now ≡ self.now.ended }
+    {
+        self.ended.as_slice()
     }
 
     /// The server.
@@ -207,6 +218,16 @@ impl<S: Records> Scripted<S> {
         ensures { self.new ≡ with_words (words_after_run self.old.words) self.old }
     {
         take_ending_word(&mut self.words);
+    }
+
+    /// Notes that a run ends here: how many messages were sent.
+    pub(crate) fn note_end(&mut self) -> Result<(), NoMemory>
+        ensures ok { OnOk result (self.new ≡ with_ended self.old) }
+        ensures err { OnErr result (self.new ≡ self.old) }
+    {
+        let sent = self.sent.as_slice().len();
+        self.ended.push(sent)?;
+        Ok(())
     }
 
     /// A copy of the request of this number.
