@@ -4,9 +4,9 @@ use Rattle.std.proofs.lemmas.Bool.{cases_Bool}
 use Rattle.kmip_schedule.specs.Ending.{EndedAt}
 use Rattle.kmip_scripted.specs.declared.script.Word.{Word}
 use Rattle.kmip_scripted.specs.declared.script.Word.TheVariants.{Pass, LoseRequest, LoseReply, Cut, Stale, Again, Save, Prolong, Restart}
-use Rattle.kmip_scripted.specs.Scenes.{Scene, past_in}
+use Rattle.kmip_scripted.specs.Scenes.{Scene}
 use Rattle.kmip_scripted.specs.Serving.{with_served}
-use Rattle.kmip_scripted.specs.Words.{AreBegun, IsBegun, after_run, after_word, after_words, before_play, exchange, exchange_word, goes_on, message_at, play, with_delivered, with_ended, with_request, with_words, words_after_exchange, words_after_run}
+use Rattle.kmip_scripted.specs.Words.{AreBegun, IsBegun, after_run, after_word, after_words, before_play, exchange, exchange_word, goes_on, message_at, play, with_delivered, with_request, with_words, words_after_exchange}
 
 -- nothing was sent, and no run ended
 record NoneEnds (old new : Scene) : Type 0 where
@@ -112,14 +112,3 @@ all_begun at_end (word ∷ words) s = all_by at_end word words s (all_begun at_e
 -- the words of a run were done, and its end was not noted
 pub run_unnoted : (old mid new : Scene) → mid ≡ after_words true old.words old → new ≡ mid → AreBegun true old.words old new
 run_unnoted old mid new done same = subst (AreBegun true old.words old) (sym (same ∙ done)) (all_begun true old.words old)
-
-pub calm_run : (old new : Scene) → old.words ≡ [] → new ≡ after_run old → (new.words ≡ []) × (past_in new ≡ past_in old)
-calm_run old new none is =
-    let at : after_run old ≡ with_words (words_after_run old.words) (with_ended old) =
-    ap (λ words. with_words (words_after_run (after_words true words old).words) (with_ended (after_words true words old))) none in
-    (ap (λ s. s.words) (is ∙ at) ∙ ap words_after_run none, ap past_in (is ∙ at))
-
-pub calm_begun : (old new : Scene) → old.words ≡ [] → AreBegun true old.words old new → (new.words ≡ []) × (past_in new ≡ past_in old)
-calm_begun old new none begun =
-    let same : new ≡ old = subst (λ words. AreBegun true words old new) none begun in
-    (ap (λ s. s.words) same ∙ none, ap past_in same)

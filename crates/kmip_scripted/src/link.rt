@@ -47,6 +47,7 @@ impl<S: Records> Link for Scripted<S> {
         }
     }
 
+    #[tactic(auto, using(crate::proofs::EndingLemmas::run_begun, crate::proofs::EndingLemmas::run_ended))]
     fn end_run(&mut self, alloc: Global) -> Result<(), LinkFault>
         ensures exact { OnOk result (self.new ≡ after_run self.old) }
         ensures honest { (names : Names)
