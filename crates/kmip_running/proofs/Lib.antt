@@ -1,4 +1,5 @@
 pub mod WentLemmas
 pub mod SavedLemmas
 pub mod CarryLemmas
+pub mod EndingLemmas
 pub mod WaitLemmas

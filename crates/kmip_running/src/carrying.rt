@@ -1,9 +1,10 @@
 //! A plan carried out over a link, and saved after each exchange.
-ghost use Rattle.std.specs.Prelude.{◌≡◌, ◌≢◌, ◌≤◌, ◌+◌, ◌++◌, ◌∷◌, [], ℕ, Ok, IfOk, IsTrue, OnErr, OnOk, false};
+ghost use Rattle.std.specs.Prelude.{◌≡◌, ◌≢◌, ◌≤◌, ◌+◌, ◌++◌, ◌∷◌, ◌⊎◌, [], ℕ, length, Ok, IfOk, IsTrue, OnErr, OnOk, false};
 ghost use Rattle.kmip_client.specs.Clients.{SomeWorks};
 ghost use Rattle.kmip_client.specs.Saving.{progress};
 ghost use Rattle.kmip_chains.specs.Chains.{bound};
 ghost use Rattle.kmip_progress.specs.Texts.{progress_text};
+ghost use Rattle.kmip_schedule.specs.Ending.{EndedAt};
 ghost use Rattle.kmip_schedule.specs.Moves.{Delivered};
 ghost use Rattle.kmip_schedule.specs.Past.{Names, is_planned};
 ghost use Rattle.kmip_session.specs.Driving.{IsGood, IsSettling, need, WentOn, Learnt, Grown, Keeps, Stands};
@@ -27,7 +28,9 @@ use std::alloc::Global;
 /// Asks one question after the other over the link and learns from what comes back, until no key
 /// of the plan is worked on any more, or `limit` exchanges were made; after each exchange the
 /// keeper is given the text of what is then known. Where no exchange is made nothing is saved. Then
-/// the run is ended over the link, whose failures are passed over.
+/// the run is ended over the link, once and right behind its last exchange; failures of the link are
+/// passed over. Where memory ran out, or the text of the last exchange was not saved, the run may not
+/// be ended.
 ///
 /// Answers why it stopped, and how many exchanges were made.
 ///
@@ -70,6 +73,12 @@ pub fn carry_out<L: Link, K: Keeper>(
         × (result.1 ≤ bound client.old.keys) }
     ensures no_conflict { IsGood L.past L.honest client.old link.old
         → result.0 ≢ Ok Stop.Conflict }
+    ensures ended { L.honest link.old (is_planned client.old.keys) → IsWhole result.0
+        → EndedAt (length (L.past link.old).sent + result.1) (L.ended link.old)
+        (L.ended link.new) }
+    ensures once { L.honest link.old (is_planned client.old.keys)
+        → EndedAt (length (L.past link.new).sent) (L.ended link.old) (L.ended link.new)
+        ⊎ (L.ended link.new ≡ L.ended link.old) }
 {
     laws_below();
     let _plan = client.plan();
@@ -108,6 +117,12 @@ fn exchange_to_the_end<L: Link, K: Keeper>(
     ensures stands { IfOk result.0 (λ stop. Stands stop client.new.keys client.new.knowns) }
     ensures limit { result.0 ≡ Ok Stop.Limit → result.1 ≡ limit }
     ensures within { result.1 ≤ limit }
+    ensures ended { L.honest link.old (is_planned client.old.keys) → IsWhole result.0
+        → EndedAt (length (L.past link.old).sent + result.1) (L.ended link.old)
+        (L.ended link.new) }
+    ensures once { L.honest link.old (is_planned client.old.keys)
+        → EndedAt (length (L.past link.new).sent) (L.ended link.old) (L.ended link.new)
+        ⊎ (L.ended link.new ≡ L.ended link.old) }
 {
     laws_below();
     let _plan = client.plan();
@@ -133,6 +148,8 @@ fn exchange_in_turn<L: Link, K: Keeper>(
     ensures stands { IfOk result.0 (λ stop. Stands stop client.new.keys client.new.knowns) }
     ensures limit { result.0 ≡ Ok Stop.Limit → result.1 ≡ limit }
     ensures within { result.1 ≤ limit }
+    ensures ended { L.honest link.old (is_planned client.old.keys)
+        → L.ended link.new ≡ L.ended link.old }
 {
     laws_below();
     let _plan = client.plan();
@@ -164,6 +181,8 @@ fn exchange_once<L: Link, K: Keeper>(
     ensures stands { IfOk result.0 (λ stop. Stands stop client.new.keys client.new.knowns) }
     ensures limit { result.0 ≡ Ok Stop.Limit → result.1 ≡ 1 }
     ensures within { result.1 ≤ 1 }
+    ensures ended { (names : Names) → L.honest link.old names
+        → L.ended link.new ≡ L.ended link.old }
 {
     laws_below();
     let (stop, exchanges) = drive(alloc, client, link, 1);
@@ -227,6 +246,11 @@ fn close<L: Link>(alloc: Global, link: &mut L) -> Result<(), NoMemory>
         × Delivered names (L.past link.old) (L.past link.new) }
     ensures calm { (names : Names) → L.calm link.old names → L.calm link.new names
         × OnOk result (L.past link.new ≡ L.past link.old) }
+    ensures ended { (names : Names) → L.honest link.old names → OnOk result (
+        EndedAt (length (L.past link.old).sent) (L.ended link.old) (L.ended link.new)) }
+    ensures once { (names : Names) → L.honest link.old names
+        → EndedAt (length (L.past link.old).sent) (L.ended link.old) (L.ended link.new)
+        ⊎ (L.ended link.new ≡ L.ended link.old) }
 {
     match link.end_run(alloc) {
         Ok(()) | Err(LinkFault::Io) | Err(LinkFault::Frame) => Ok(()),

@@ -4,6 +4,7 @@ pub mod WordLemmas
 pub mod FollowLemmas
 pub mod CountLemmas
 pub mod CleanLemmas
+pub mod EndingLemmas
 pub mod RunsLemmas
 pub mod SplitLemmas
 pub mod PartLemmas

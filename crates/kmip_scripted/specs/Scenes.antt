@@ -26,6 +26,8 @@ pub record Scene : Type 0 where
   -- how many exchanges were disturbed, and how many of those handed over a reply about another key
   pub disturbed : ℕ
   pub strange : ℕ
+  -- how many had been sent where each run ended
+  pub ended : List ℕ
   -- the words that are left
   pub words : List Word
 
@@ -43,7 +45,7 @@ past_in s = record {
 
 -- where nothing has happened over a server, with these words left
 abbrev pub scene_of : Stock → List Word → Scene
-scene_of stock words = record { stock = stock; asked = []; given = []; effects = []; sent = []; followed = []; handed = []; disturbed = 0; strange = 0; words = words }
+scene_of stock words = record { stock = stock; asked = []; given = []; effects = []; sent = []; followed = []; handed = []; disturbed = 0; strange = 0; ended = []; words = words }
 
 -- how many exchanges were disturbed
 abbrev pub disturbances_in : Scene → Disturbances

@@ -148,9 +148,13 @@ abbrev pub words_after_run : List Word → List Word
 words_after_run [] = []
 words_after_run (word ∷ words) = next_words words
 
+-- a run ends here, behind as many messages as were sent
+abbrev pub with_ended : Scene → Scene
+with_ended s = record s { ended = s.ended ++ length s.sent ∷ [] }
+
 -- what the end of a run leaves
 abbrev pub after_run : Scene → Scene
-after_run s = with_words (words_after_run (after_words true s.words s).words) (after_words true s.words s)
+after_run s = with_words (words_after_run (after_words true s.words s).words) (with_ended (after_words true s.words s))
 
 -- Private: the first word, where there is one.
 abbrev pub first_of : List Word → Option Word

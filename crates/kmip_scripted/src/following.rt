@@ -248,8 +248,8 @@ impl<S: Records> Scripted<S> {
         Ok(answer)
     }
 
-    /// Ends a run: what is left of its words is done or dropped, and the word that ends it is
-    /// taken.
+    /// Ends a run: what is left of its words is done or dropped, where it ends is noted, and the word
+    /// that ends it is taken.
     ///
     /// # Errors
     /// Where there is no memory; a beginning of the steps was done.
@@ -258,9 +258,11 @@ impl<S: Records> Scripted<S> {
         ensures begun { OnErr result (AreBegun true self.old.words self.old self.new) }
         ensures delivered { (names : Names)
             → Delivered names (past_in self.old) (past_in self.new) }
-        ensures calm { self.old.words ≡ [] → self.new ≡ self.old }
+        ensures calm { self.old.words ≡ [] → (self.new.words ≡ [])
+            × (past_in self.new ≡ past_in self.old) }
     {
         self.do_words(alloc, true)?;
+        self.note_end()?;
         self.take_ending();
         Ok(())
     }

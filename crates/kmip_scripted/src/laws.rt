@@ -19,10 +19,11 @@ pub fn runs_end_as_the_link_does()
 {}
 
 /// A link in memory is honest for every script, calm once no word of it is left, and what has
-/// happened over it is what its lists say.
+/// happened over it, and where runs ended, is what its lists say.
 pub fn a_link_in_memory_is_honest<S: Records>()
     ensures honest { (link : Scene) (names : Names) → ⟦<Scripted<S> as Link>⟧.honest link names }
     ensures calm { (link : Scene) (names : Names) → link.words ≡ []
         → ⟦<Scripted<S> as Link>⟧.calm link names }
     ensures past { (link : Scene) → ⟦<Scripted<S> as Link>⟧.past link ≡ past_in link }
+    ensures ended { (link : Scene) → ⟦<Scripted<S> as Link>⟧.ended link ≡ link.ended }
 {}

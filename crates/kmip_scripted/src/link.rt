@@ -1,7 +1,8 @@
 //! The link in memory as a link.
-ghost use Rattle.std.specs.Prelude.{◌≡◌, ◌≢◌, [], Err, IfOk, OnOk, option_map};
+ghost use Rattle.std.specs.Prelude.{◌≡◌, ◌≢◌, [], length, Err, IfOk, OnOk, option_map};
 ghost use Rattle.kmip_schedule.specs.Calm.{CalmlyEnded, CalmlyExchanged};
 ghost use Rattle.kmip_schedule.specs.Clean.{Counted, IsRoomy};
+ghost use Rattle.kmip_schedule.specs.Ending.{Ended};
 ghost use Rattle.kmip_schedule.specs.Exchanges.{Exchanged, answer_in};
 ghost use Rattle.kmip_schedule.specs.Moves.{Delivered};
 ghost use Rattle.kmip_schedule.specs.Past.{Names};
@@ -31,6 +32,8 @@ impl<S: Records> Link for Scripted<S> {
 
     ghost disturbances = { disturbances_in };
 
+    ghost ended = { λ link. link.ended };
+
     fn exchange(&mut self, alloc: Global, request: &[u8]) -> Result<Option<Vec<u8>>, LinkFault>
         ensures answer { IfOk result (λ answer. option_map (λ v. v.items) answer
             ≡ (exchange request.now self.old).0) }
@@ -47,6 +50,7 @@ impl<S: Records> Link for Scripted<S> {
             → IsRoomy (answer_in (λ v. v.items) result)
             → disturbances_in self.new ≡ disturbances_in self.old }
         ensures never_io { result ≢ Err LinkFault.Io }
+        ensures ended { self.new.ended ≡ self.old.ended }
     {
         match self.follow(alloc, request) {
             Ok(answer) => Ok(answer),
@@ -54,6 +58,7 @@ impl<S: Records> Link for Scripted<S> {
         }
     }
 
+    #[tactic(auto, using(crate::proofs::EndingLemmas::run_begun, crate::proofs::EndingLemmas::run_ended))]
     fn end_run(&mut self, alloc: Global) -> Result<(), LinkFault>
         ensures exact { OnOk result (self.new ≡ after_run self.old) }
         ensures honest { (names : Names)
@@ -62,6 +67,7 @@ impl<S: Records> Link for Scripted<S> {
             × CalmlyEnded names result (past_in self.old) (past_in self.new) }
         ensures undisturbed { disturbances_in self.new ≡ disturbances_in self.old }
         ensures never_io { result ≢ Err LinkFault.Io }
+        ensures ended { Ended result (length self.old.sent) self.old.ended self.new.ended }
     {
         match self.finish_run(alloc) {
             Ok(()) => Ok(()),

@@ -13,7 +13,7 @@ ghost use Rattle.kmip_scripted.specs.Disturbing.{counted, every_name, is_disturb
 ghost use Rattle.kmip_scripted.specs.Early.{asked_only};
 ghost use Rattle.kmip_scripted.specs.Scenes.{WasAsked, disturbances_in, past_in, scene_of, with_disturbances};
 ghost use Rattle.kmip_scripted.specs.Serving.{with_served};
-ghost use Rattle.kmip_scripted.specs.Words.{answer_at, exchange_word, first_of, message_at, word_at, next_words, with_request, with_words, words_after_exchange, words_after_run};
+ghost use Rattle.kmip_scripted.specs.Words.{answer_at, exchange_word, first_of, message_at, word_at, next_words, with_ended, with_request, with_words, words_after_exchange, words_after_run};
 
 use crate::disturbing::{Counts, counts_after, is_repeated};
 use crate::script::{Script, Word};
@@ -32,7 +32,7 @@ use std::marker::Model;
 
 /// A server in memory and the link to it, which follows a script. A contract sees the records of
 /// the server, all that was asked, given, done, sent and handed over, how many exchanges were
-/// disturbed, and the words that are left.
+/// disturbed, where runs ended, and the words that are left.
 #[derive(Drop)]
 pub struct Scripted<S: Records> {
     server: Server<S>,
@@ -43,6 +43,7 @@ pub struct Scripted<S: Records> {
     followed: Vec<Word>,
     handed: Vec<Option<Bytes>>,
     counts: Counts,
+    ended: Vec<usize>,
     words: VecDeque<Word>,
 }
 
@@ -61,6 +62,7 @@ impl<S: Records> Model for Scripted<S> {
       handed = s.handed.items;
       disturbed = s.counts.disturbed;
       strange = s.counts.strange;
+      ended = s.ended.items;
       words = s.words.items;
     } };
 }
@@ -84,6 +86,7 @@ impl<S: Records> Scripted<S> {
                 disturbed: 0,
                 strange: 0,
             },
+            ended: Vec::new(alloc),
             words,
         }
     }
@@ -123,6 +126,13 @@ impl<S: Records> Scripted<S> {
             Some(Some(message)) => Some(message.as_slice()),
             Some(None) | None => None,
         }
+    }
+
+    /// How many messages had been sent where each run ended, in order.
+    pub fn ended(&self) -> &[usize]
+        ensures { result.now ≡ self.now.ended }
+    {
+        self.ended.as_slice()
     }
 
     /// The server.
@@ -237,6 +247,16 @@ impl<S: Records> Scripted<S> {
         ensures { self.new ≡ with_words (words_after_run self.old.words) self.old }
     {
         take_ending_word(&mut self.words);
+    }
+
+    /// Notes that a run ends here: how many messages were sent.
+    pub(crate) fn note_end(&mut self) -> Result<(), NoMemory>
+        ensures ok { OnOk result (self.new ≡ with_ended self.old) }
+        ensures err { OnErr result (self.new ≡ self.old) }
+    {
+        let sent = self.sent.as_slice().len();
+        self.ended.push(sent)?;
+        Ok(())
     }
 
     /// A copy of the request of this number.

@@ -40,15 +40,15 @@ ended_then : (ends more : List RunEnd) (first whole : Type 0) (sent later : ℕ)
 ended_then ends more first whole sent later old mid new is many before after = record {
   all = λ holds. ended_both ends more sent later old mid new many (before.all is) (after.all holds);
   ended = elim after.ended [
-      | inl all ↦ inl (ended_both ends more sent later old mid new many (before.all is) all)
-      | inr but ↦
-          inr (record {
-            before = ends ++ but.before;
-            last = but.last;
-            ends_are = ap (λ es. ends ++ es) but.ends_are ∙ sym (append_assoc ends but.before (but.last ∷ []));
-            ended_are = ended_both ends but.before sent later old mid new many (before.all is) but.ended_are;
-          })
-    ];
+    | inl all ↦ inl (ended_both ends more sent later old mid new many (before.all is) all)
+    | inr but ↦
+        inr (record {
+          before = ends ++ but.before;
+          last = but.last;
+          ends_are = ap (λ es. ends ++ es) but.ends_are ∙ sym (append_assoc ends but.before (but.last ∷ []));
+          ended_are = ended_both ends but.before sent later old mid new many (before.all is) but.ended_are;
+        })
+  ];
 }
 
 -- ---- more ends join those that were noted
@@ -87,7 +87,7 @@ join_if a b whole other sent later old new to joins = record {
 }
 
 -- what was noted of its own is noted behind the others
-pub join_behind : (a part b : List RunEnd) (whole : Type 0) (sent later : ℕ) (old new : List ℕ) → b ≡ a ++ part → EndsJoin [] part whole sent later old new
+join_behind : (a part b : List RunEnd) (whole : Type 0) (sent later : ℕ) (old new : List ℕ) → b ≡ a ++ part → EndsJoin [] part whole sent later old new
     → EndsJoin a b whole sent later old new
 join_behind a part b whole sent later old new is joins = record {
   ends = joins.ends;
@@ -95,6 +95,12 @@ join_behind a part b whole sent later old new is joins = record {
   are_ended = joins.are_ended;
   made = joins.made;
 }
+
+-- the runs on one plan, noted behind those on the plans before it
+pub join_part : (a part b : List RunEnd) (whole other : Type 0) (sent later : ℕ) (old new : List ℕ) → b ≡ a ++ part → (other → whole)
+    → EndsJoin [] part whole sent later old new → EndsJoin a b other sent later old new
+join_part a part b whole other sent later old new is to joins =
+    join_behind a part b other sent later old new is (join_if [] part whole other sent later old new to joins)
 
 -- all that was noted joined
 pub all_joined : (ends : List RunEnd) (whole : Type 0) (sent later : ℕ) (old new : List ℕ) → EndsJoin [] ends whole sent later old new
@@ -118,9 +124,9 @@ join_one end ends nexts whole sent made later last old mid new joined exchanges 
       are_ended = record {
         all = λ holds. at (closed holds);
         ended = elim once [
-            | inl is ↦ inl (at is)
-            | inr none ↦ inr (record { before = []; last = end; ends_are = refl; ended_are = none ∙ same ∙ sym (append-nil old) })
-          ];
+          | inl is ↦ inl (at is)
+          | inr none ↦ inr (record { before = []; last = end; ends_are = refl; ended_are = none ∙ same ∙ sym (append-nil old) })
+        ];
       };
       made = λ holds. omega (arith, behind, still);
     }

@@ -4,7 +4,7 @@ ghost use Rattle.std.specs.List.{All};
 ghost use Rattle.kmip_plan.specs.Prolonging.{Prolongs};
 ghost use Rattle.kmip_progress.specs.Suiting.{Suits};
 ghost use Rattle.kmip_schedule.specs.Machine.{IsMirrored};
-ghost use Rattle.kmip_schedule.specs.Past.{Names, is_planned};
+ghost use Rattle.kmip_schedule.specs.Past.{is_planned};
 ghost use Rattle.kmip_schedule.specs.Safe.{Safe};
 ghost use Rattle.kmip_schedule.specs.Sound.{Opening};
 ghost use Rattle.kmip_session.specs.Campaign.{GoodLink, HasNoConflict, reported};
@@ -159,7 +159,6 @@ fn run_part<L: Link>(
     ensures ended { L.honest link.old (is_planned plan.now) → EndsJoin end.old.runs.items
         end.new.runs.items (IsOk result) (length (L.past link.old).sent)
         (length (L.past link.new).sent) (L.ended link.old) (L.ended link.new) }
-    ensures honest { (names : Names) → L.honest link.old names → L.honest link.new names }
 {
     end.runs.reserve(runs.len())?;
     end.saved.reserve(runs.len())?;

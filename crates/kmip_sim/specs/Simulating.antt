@@ -7,7 +7,7 @@ use Rattle.kmip_plan.specs.Prolonging.{Prolongs}
 use Rattle.kmip_plan.specs.declared.fault.PlanFault.{PlanFault}
 use Rattle.kmip_chains.specs.declared.key.Key.{Key}
 use Rattle.kmip_session.specs.declared.campaigning.CampaignEnd.{CampaignEnd}
-use Rattle.kmip_scripted.specs.Scenes.{Scene, past_in}
+use Rattle.kmip_scripted.specs.Scenes.{Scene}
 use Rattle.kmip_scripted.specs.Words.{prolongings}
 use Rattle.kmip_scripted.specs.declared.script.Word.{Word}
 use Rattle.kmip_simulation.specs.Simulating.{AreSimulated, IsSimulated}
@@ -56,7 +56,7 @@ TellsSimulation detail keys ended text = TellsRuns detail 0 (λ words end link. 
 
 -- so a script with one `prolong` was simulated for these keys and, behind that word, for the further ones
 abbrev pub TellsSimulations : Detail → List Key → List Key → Result Bool NoMemory → List ℕ → Type 0
-TellsSimulations detail keys further ended text = TellsRuns detail 1 (λ words end link. AreSimulated (keys ∷ further ∷ []) words end (past_in link)) ended text
+TellsSimulations detail keys further ended text = TellsRuns detail 1 (λ words end link. AreSimulated (keys ∷ further ∷ []) words end link) ended text
 
 -- the text is the line of a script that is refused
 pub record TellsScriptFault (ended : Result Bool NoMemory) (text : List ℕ) : Type 0 where

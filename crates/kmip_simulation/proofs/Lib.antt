@@ -1,3 +1,4 @@
 mod RoomLemmas
 pub mod PlansLemmas
 pub mod TextLemmas
+pub mod EndingLemmas

@@ -5,11 +5,12 @@ use Rattle.std.specs.List.{All, AllZip}
 use Rattle.kmip_chains.specs.declared.key.Key.{Key}
 use Rattle.kmip_client.specs.Held.{TrueProgress}
 use Rattle.kmip_schedule.specs.Machine.{IsMirrored}
-use Rattle.kmip_schedule.specs.Past.{Names, Past}
+use Rattle.kmip_schedule.specs.Past.{Names}
 use Rattle.kmip_schedule.specs.Safe.{Safe}
 use Rattle.kmip_schedule.specs.Sound.{Opening, Sound}
 use Rattle.kmip_session.specs.Campaign.{CalmLink, HasNoConflict, IsEnd, Settles, reported, saves}
 use Rattle.kmip_session.specs.Driving.{WentOn}
+use Rattle.kmip_session.specs.Ending.{AreEnded}
 use Rattle.kmip_session.specs.Remembering.{AreKnown}
 use Rattle.kmip_session.specs.Campaigns.{AreInTurn, CalmStart, IsTrueFor, last_plan}
 use Rattle.kmip_session.specs.declared.campaigning.CampaignEnd.{CampaignEnd}
@@ -40,15 +41,18 @@ pub record IsCarriedOut (keys : List Key) (runs : List Run) (end : CampaignEnd) 
   pub known : AreKnown keys runs end.runs.items end.saved.items ⊤ (end.fault ≡ None) (past_in before) (past_in after)
   pub settles : CalmLink past_in HasNoWord keys before → end.fault ≡ None
       → AllZip (Settles keys) runs end.runs.items × CalmLink past_in HasNoWord keys after
+  pub ended : AreEnded end.runs.items (end.fault ≡ None) (length before.sent) before.ended after.ended
 
 -- The runs of a script were made for a plan over a link that began with nothing and followed the script, and ended so: the first of
--- them, and where memory sufficed all. With no word in the script the link was calm, and had room for all keys.
+-- them, and where memory sufficed all. With no word in the script the link was calm, and had room for all keys. No run but these ended
+-- over the link.
 pub record IsSimulated (keys : List Key) (words : List Word) (end : CampaignEnd) (link : Scene) : Type 0 where
   pub begun : Scene
   pub opening : Opening keys (past_in begun)
   pub mirrored : IsMirrored keys (past_in link)
   pub calm : words ≡ [] → CalmLink past_in HasNoWord keys begun
   pub carried : IsCarriedOut keys (runs_of keys words) end begun link
+  pub ended : AreEnded end.runs.items (end.fault ≡ None) 0 [] link.ended
 
 -- After that, a second campaign made these runs for the same plan over the same link.
 pub record IsSimulatedAgain (keys : List Key) (words : List Word) (runs : List Run) (first second : CampaignEnd) (link : Scene) : Type 0 where
@@ -59,13 +63,14 @@ pub record IsSimulatedAgain (keys : List Key) (words : List Word) (runs : List R
 -- The runs of a script with one `prolong` were made for plans in turn, each of which prolongs the one before, over one link that began
 -- with nothing and followed the script, and ended so. All that holds of the runs for one plan holds of these for the last plan, what was
 -- saved under an earlier one included.
-pub record AreSimulated (plans : List (List Key)) (words : List Word) (end : CampaignEnd) (past : Past) : Type 0 where
-  pub safe : Safe (last_plan plans) past (reported (last_plan plans) end.runs.items end.saved.items)
-  pub machine : IsMirrored (last_plan plans) past
-  pub sound : Sound (last_plan plans) past
+pub record AreSimulated (plans : List (List Key)) (words : List Word) (end : CampaignEnd) (link : Scene) : Type 0 where
+  pub safe : Safe (last_plan plans) (past_in link) (reported (last_plan plans) end.runs.items end.saved.items)
+  pub machine : IsMirrored (last_plan plans) (past_in link)
+  pub sound : Sound (last_plan plans) (past_in link)
   pub no_conflict : All HasNoConflict end.runs.items
-  pub true_saved : All (IsTrueFor past.objects (last_plan plans)) end.saved.items
+  pub true_saved : All (IsTrueFor (past_in link).objects (last_plan plans)) end.saved.items
   pub begun : Scene
   pub opening : (keys : List Key) → Opening keys (past_in begun)
   pub in_turn : AreInTurn plans (lists_of (last_plan plans) words) end.runs.items end.saved.items ⊤ (CalmStart past_in HasNoWord plans begun) (end.fault ≡ None)
-      (past_in begun) past
+      (past_in begun) (past_in link)
+  pub ended : AreEnded end.runs.items (end.fault ≡ None) 0 [] link.ended

@@ -85,7 +85,7 @@ pub fn simulate_plans(alloc: Global, plans: &[Plan], script: Script) -> Result<S
     requires two { length plans.now ≡ 2 }
     requires prolong { AreProlonged plans.now }
     requires one { prolongings script ≡ 1 }
-    ensures { IfOk result (λ s. AreSimulated plans.now script s.end (past_in s.link)) }
+    ensures { IfOk result (λ s. AreSimulated plans.now script s.end s.link) }
 {
     nothing_done_is_sound();
     let lists = script.lists(alloc, &plans[1])?;
@@ -100,6 +100,8 @@ fn new_link(alloc: Global, script: Script) -> Scripted<IndexedStore>
     ensures room { (past_in result).room ≡ MOST_ROOM }
     ensures objects { (past_in result).objects ≡ [] }
     ensures words { result.words ≡ next_words script }
+    ensures none_sent { result.sent ≡ [] }
+    ensures none_ended { result.ended ≡ [] }
 {
     let store = IndexedStore::new(alloc, SEED, MOST_ROOM);
     Scripted::new(alloc, Server::new(store), script)

@@ -1,5 +1,6 @@
 -- Exchange by exchange.
-use Rattle.std.proofs.Common.{◌≡◌, Ok, rules, arith}
+use Rattle.std.proofs.Common.{◌≡◌, ◌∙◌, Ok, refl, rules, arith}
+use Rattle.kmip_schedule.specs.Past.{is_planned}
 use Rattle.kmip_session.specs.declared.stop.Stop.TheVariants as stops
 use Rattle.kmip_running.proofs.CarryLemmas.{carried_none, carried_then, carrying_more, carrying_none, drove}
 use Rattle.kmip_running.proofs.carrying.exchange_in_turn.Goals as goal
@@ -17,20 +18,34 @@ returns-then-limit-eq0-clause-carried g c =
     e.calm)
 
 pub loop-made-init : goal.loop-made-init
-loop-made-init g c =
-    carrying_none g.L.Link.past g.L.Link.honest g.L.Link.calm g.K.Keeper.keeps g.K.Keeper.saved c.laws_below.ensures c.args.client.now c.args.link.now c.args.keeper.now
+loop-made-init g c = record {
+  carrying =
+      carrying_none g.L.Link.past g.L.Link.honest g.L.Link.calm g.K.Keeper.keeps g.K.Keeper.saved c.laws_below.ensures c.args.client.now c.args.link.now c.args.keeper.now;
+  ended = λ honest. refl;
+}
 
 pub returns-then-not-is_at_limit-clause-carried : goal.returns-then-not-is_at_limit-clause-carried
 returns-then-not-is_at_limit-clause-carried g c =
     let step = c.exchange_once-carried in
     carried_then g.L.Link.past g.L.Link.honest g.L.Link.calm g.K.Keeper.keeps g.K.Keeper.saved c.laws_below.ensures c.args.client.now c.loop-made.client
     step.new.client c.args.link.now c.loop-made.link step.new.link c.args.keeper.now c.loop-made.keeper step.new.keeper step.result.0 c.loop-made.made step.result.1
-    c.plan-plan.ensures.lawful c.loop-made.invariant.carried step.ensures.carried
+    c.plan-plan.ensures.lawful c.loop-made.invariant.carrying.carried step.ensures.carried
 
 pub loop-made-preserved : goal.loop-made-preserved
 loop-made-preserved g c =
     let step = c.exchange_once-carried in
     let limit : step.result.0 ≡ Ok stops.Limit = search rules in
-    carrying_more g.L.Link.past g.L.Link.honest g.L.Link.calm g.K.Keeper.keeps g.K.Keeper.saved c.laws_below.ensures c.args.client.now c.loop-made.client
-    step.new.client c.args.link.now c.loop-made.link step.new.link c.args.keeper.now c.loop-made.keeper step.new.keeper step.result.0 c.loop-made.made step.result.1
-    c.plan-plan.ensures.lawful c.loop-made.invariant step.ensures.carried limit (step.ensures.limit limit) step.ensures.stands
+    record {
+      carrying =
+          carrying_more g.L.Link.past g.L.Link.honest g.L.Link.calm g.K.Keeper.keeps g.K.Keeper.saved c.laws_below.ensures c.args.client.now c.loop-made.client
+          step.new.client c.args.link.now c.loop-made.link step.new.link c.args.keeper.now c.loop-made.keeper step.new.keeper step.result.0 c.loop-made.made step.result.1
+          c.plan-plan.ensures.lawful c.loop-made.invariant.carrying step.ensures.carried limit (step.ensures.limit limit) step.ensures.stands;
+      ended = λ honest.
+          let still = (c.loop-made.invariant.carrying.carried.went.known honest).0 in
+          step.ensures.ended (is_planned c.args.client.now.keys) still ∙ c.loop-made.invariant.ended honest;
+    }
+
+pub returns-then-not-is_at_limit-clause-ended : goal.returns-then-not-is_at_limit-clause-ended
+returns-then-not-is_at_limit-clause-ended g c = λ honest.
+    let still = (c.loop-made.invariant.carrying.carried.went.known honest).0 in
+    c.exchange_once-carried.ensures.ended (is_planned c.args.client.now.keys) still ∙ c.loop-made.invariant.ended honest

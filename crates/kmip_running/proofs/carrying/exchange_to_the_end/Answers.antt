@@ -1,5 +1,7 @@
 -- And the end of the run.
+use Rattle.kmip_schedule.specs.Past.{is_planned}
 use Rattle.kmip_running.proofs.CarryLemmas.{carried_closed, limit_last, stands_last}
+use Rattle.kmip_running.proofs.EndingLemmas.{ended_once, ended_whole}
 use Rattle.kmip_running.proofs.carrying.exchange_to_the_end.Goals as goal
 
 pub returns-clause-carried : goal.returns-clause-carried
@@ -21,3 +23,25 @@ returns-clause-limit g c = λ is.
     let done = c.exchange_in_turn-carried in
     let end = c.after_close.ensures in
     done.ensures.limit (limit_last c.close-closed.result done.result.0 c.after_close.result end.whole end.stop end.fault is)
+
+pub returns-clause-ended : goal.returns-clause-ended
+returns-clause-ended g c = λ honest.
+    let past = g.L.Link.past in
+    let names = is_planned c.args.client.now.keys in
+    let done = c.exchange_in_turn-carried in
+    let end = c.after_close.ensures in
+    let known = done.ensures.carried.went.known honest in
+    ended_whole c.args.client.now.keys (past c.args.link.now) (past done.new.link) c.args.client.now.knowns done.new.client.knowns c.close-closed.result
+    done.result.0 c.after_close.result done.result.1 (g.L.Link.ended c.args.link.now) (g.L.Link.ended done.new.link) (g.L.Link.ended c.close-closed.new.link)
+    end.whole end.stop end.fault known.1 (done.ensures.ended honest) (c.close-closed.ensures.ended names known.0)
+
+pub returns-clause-once : goal.returns-clause-once
+returns-clause-once g c = λ honest.
+    let past = g.L.Link.past in
+    let names = is_planned c.args.client.now.keys in
+    let done = c.exchange_in_turn-carried in
+    let still = (done.ensures.carried.went.known honest).0 in
+    ended_once (past done.new.link) (past c.close-closed.new.link) (g.L.Link.ended c.args.link.now) (g.L.Link.ended done.new.link)
+    (g.L.Link.ended c.close-closed.new.link)
+    (c.laws_below.ensures.requests names (past done.new.link) (past c.close-closed.new.link) (c.close-closed.ensures.honest names still).1).sent
+    (done.ensures.ended honest) (c.close-closed.ensures.once names still)

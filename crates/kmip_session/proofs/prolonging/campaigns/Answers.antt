@@ -1,9 +1,10 @@
 -- All that is reported was reached, so what is sound for the last plan is safe.
-use Rattle.std.proofs.Common.{flat_map, map}
+use Rattle.std.proofs.Common.{[], flat_map, map}
 use Rattle.std.proofs.lemmas.List.Elements.{All-append}
 use Rattle.kmip_schedule.specs.Laws.{IsReached}
 use Rattle.kmip_session.specs.Campaign.{reported, reported_by}
 use Rattle.kmip_session.specs.Campaigns.{last_plan}
+use Rattle.kmip_session.proofs.EndingLemmas.{all_joined, join_if}
 use Rattle.kmip_session.proofs.PlanLemmas.{in_turn_if}
 use Rattle.kmip_session.proofs.RunLemmas.{ok_of}
 use Rattle.kmip_session.proofs.prolonging.campaigns.Goals as goal
@@ -14,7 +15,7 @@ returns g c =
     let r = c.laws_below.ensures.runs in
     let plans = c.args.plans.now in
     let keys = last_plan plans in
-    let all = c.run_plans.ensures in
+    let all = c.run_plans.ensures.ran in
     let end = c.run_plans.new.end in
     let old = past c.args.link.now in
     let new = past c.run_plans.new.link in
@@ -33,4 +34,7 @@ returns g c =
       goes = λ begun. (all.good begun).went;
       in_turn = in_turn_if plans (map (λ list. list.items) c.args.runs.now) end.runs.items end.saved.items _ _ _ _ old new
           (ok_of c.run_plans.result c.err-fault.result c.err-fault.ensures.value) all.in_turn;
+      ended = λ honest.
+          all_joined end.runs.items _ _ _ _ _
+          (join_if [] end.runs.items _ _ _ _ _ _ (ok_of c.run_plans.result c.err-fault.result c.err-fault.ensures.value) (c.run_plans.ensures.ended honest));
     }

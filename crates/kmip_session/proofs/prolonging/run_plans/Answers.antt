@@ -1,13 +1,16 @@
 -- Plan by plan.
-use Rattle.std.proofs.Common.{◌≡◌, ◌<◌, ◌+◌, ◌-◌, Some, Ok, length, map, suc, slice_get, option_map, refl, ap, rules, subst, sym, ◌∙◌, inl, inr, arith}
+use Rattle.std.proofs.Common.{◌≡◌, ◌<◌, ◌+◌, ◌-◌, [], Some, Ok, length, map, suc, slice_get, option_map, refl, ap, rules, subst, sym, ◌∙◌, inl, inr, arith}
+use Rattle.std.specs.Prelude.{⊤}
 use Rattle.std.specs.List.{All}
 use Rattle.std.proofs.lemmas.List.{length-map}
 use Rattle.std.proofs.lemmas.Option.{slice_get_read}
 use Rattle.kmip_plan.specs.Plans.{IsLawful}
 use Rattle.kmip_progress.specs.Suiting.{Suits}
+use Rattle.kmip_schedule.specs.Past.{is_planned}
 use Rattle.kmip_session.specs.Campaigns.{last_plan}
 use Rattle.kmip_session.specs.CampaignsParts.{HasRunPart, HasRunWhole}
-use Rattle.kmip_session.proofs.PartLemmas.{first_is, last_is}
+use Rattle.kmip_session.proofs.EndingLemmas.{join_if, join_none, join_then}
+use Rattle.kmip_session.proofs.PartLemmas.{first_is, last_is, last_prolongs}
 use Rattle.kmip_session.proofs.PlanLemmas.{Turning, if_next, list_at, lookup_is, plans_all, plans_broken, plans_left, turned, turning_more, turning_none}
 use Rattle.kmip_session.proofs.RememberLemmas.{no_ok}
 use Rattle.kmip_session.proofs.prolonging.run_plans.Goals as goal
@@ -18,17 +21,21 @@ loop-place-init g c =
     let first = slice_get_read plans (length plans) 0 c.index-plans-0.result refl (omega (arith, c.requires.some)) c.index-plans-0.is in
     let most = slice_get_read plans (length plans) (length plans - 1) c.index-plans-plans.result refl (omega (arith, c.requires.some)) c.index-plans-plans.is in
     let first_plan_is = first_is plans c.index-plans-0.result first in
-    turning_none g.L.Link.past g.L.Link.honest g.L.Link.calm plans (map (λ list. list.items) c.args.runs.now) c.laws_below.ensures.runs c.laws_below.ensures.plans
-    c.args.link.now c.args.end.now (last_plan plans) c.new-carried.result.items c.requires.no_end c.requires.none_saved c.new-carried.ensures.items c.requires.prolong
-    (subst (λ ks. IsLawful ks) (sym (last_is plans (length plans - 1) c.index-plans-plans.result (omega (arith, c.requires.some)) most)) c.keys-2.ensures.lawful)
-    (subst (λ ks. IsLawful ks) (sym first_plan_is) c.keys.ensures.lawful) (subst (λ ks. slice_get plans 0 ≡ Some ks) (sym first_plan_is) first)
+    record {
+      turning =
+          turning_none g.L.Link.past g.L.Link.honest g.L.Link.calm plans (map (λ list. list.items) c.args.runs.now) c.laws_below.ensures.runs c.laws_below.ensures.plans
+          c.args.link.now c.args.end.now (last_plan plans) c.new-carried.result.items c.requires.no_end c.requires.none_saved c.new-carried.ensures.items c.requires.prolong
+          (subst (λ ks. IsLawful ks) (sym (last_is plans (length plans - 1) c.index-plans-plans.result (omega (arith, c.requires.some)) most)) c.keys-2.ensures.lawful)
+          (subst (λ ks. IsLawful ks) (sym first_plan_is) c.keys.ensures.lawful) (subst (λ ks. slice_get plans 0 ≡ Some ks) (sym first_plan_is) first);
+      ended = λ honest. join_none [] c.args.end.now.runs.items ⊤ _ _ _ _ c.requires.no_end refl (λ is. refl);
+    }
 
 pub run_part-requires-clause-carried : goal.run_part-requires-clause-carried
 run_part-requires-clause-carried g c =
     let plans = c.args.plans.now in
     let below : c.loop-place.place < length plans = search rules in
     let at = slice_get_read plans (length plans) c.loop-place.place c.index-plans-place.result refl below c.index-plans-place.is in
-    subst (λ saved. All (Suits c.index-plans-place.result) saved) (sym c.as_slice.ensures.value) (c.loop-place.invariant.carried_are c.index-plans-place.result at).1
+    subst (λ saved. All (Suits c.index-plans-place.result) saved) (sym c.as_slice.ensures.value) (c.loop-place.invariant.turning.carried_are c.index-plans-place.result at).1
 
 pub run_part-requires-clause-prolongs : goal.run_part-requires-clause-prolongs
 run_part-requires-clause-prolongs g c =
@@ -40,8 +47,8 @@ run_part-requires-clause-prolongs g c =
     let then : option_map (λ next. next.now) c.get-next.result ≡ slice_get plans (suc c.loop-place.place) = found ∙ ap (λ n. slice_get plans n) further in
     if_next (λ next. next.now) plans c.loop-place.place c.index-plans-place.result c.get-next.result c.requires.prolong at then
 
-pub returns-in_err-carried : goal.returns-in_err-carried
-returns-in_err-carried g c =
+pub returns-in_err-carried-clause-ran : goal.returns-in_err-carried-clause-ran
+returns-in_err-carried-clause-ran g c =
     let past = g.L.Link.past in
     let honest = g.L.Link.honest in
     let calm = g.L.Link.calm in
@@ -60,13 +67,13 @@ returns-in_err-carried g c =
       | inl left ↦
           plans_left past honest calm plans runs c.laws_below.ensures.runs c.laws_below.ensures.plans c.requires.prolong lawful c.calm_laws.ensures.honest
           c.calm_laws.ensures.fewer c.args.link.now c.run_part.new.link place c.loop-place.end c.run_part.new.end c.loop-place.carried.items _ none
-          (subst (λ link. Turning past honest calm plans runs c.args.link.now link place c.loop-place.end c.loop-place.carried.items) (sym left.1) c.loop-place.invariant) left.0
+          (subst (λ link. Turning past honest calm plans runs c.args.link.now link place c.loop-place.end c.loop-place.carried.items) (sym left.1) c.loop-place.invariant.turning) left.0
       | inr ran ↦
           plans_broken past honest calm plans runs c.laws_below.ensures.runs c.laws_below.ensures.plans c.requires.prolong lawful c.calm_laws.ensures.honest
           c.calm_laws.ensures.fewer c.args.link.now c.run_part.new.link place c.run_part.new.end _ none
           (turned past honest calm plans runs c.laws_below.ensures.runs c.laws_below.ensures.plans c.requires.prolong lawful c.calm_laws.ensures.honest
           c.calm_laws.ensures.fewer c.args.link.now c.loop-place.link c.run_part.new.link place c.index-plans-place.result c.as_slice-list.result.now c.loop-place.end
-          c.run_part.new.end c.loop-place.carried.items _ c.keys-in-loop-place.ensures.lawful at so c.loop-place.invariant
+          c.run_part.new.end c.loop-place.carried.items _ c.keys-in-loop-place.ensures.lawful at so c.loop-place.invariant.turning
           (subst (λ saved. HasRunPart past honest calm c.index-plans-place.result saved c.as_slice-list.result.now c.loop-place.link c.run_part.new.link c.loop-place.end
           c.run_part.new.end) c.as_slice.ensures.value ran) (λ is. absurd (none is)))
     ]
@@ -88,16 +95,25 @@ loop-place-preserved g c =
     let lawful = subst (λ ks. IsLawful ks) (sym (last_is plans (length plans - 1) c.index-plans-plans.result (omega (arith, c.requires.some)) most)) c.keys-2.ensures.lawful in
     let further : place + 1 ≡ suc place = omega arith in
     let found = lookup_is (λ next. next.now) plans (place + 1) c.get-next.result c.get-next.ensures.lookup.0 c.get-next.ensures.lookup.1 in
-    subst (λ n. Turning past honest calm plans runs c.args.link.now c.run_part.new.link n c.run_part.new.end c.in_ok-carried.carried.items) (sym further)
-    (turning_more past honest calm plans runs c.laws_below.ensures.runs c.laws_below.ensures.plans c.requires.prolong lawful c.calm_laws.ensures.honest
-    c.calm_laws.ensures.fewer c.args.link.now c.loop-place.link c.run_part.new.link place c.index-plans-place.result _ c.as_slice-list.result.now c.loop-place.end
-    c.run_part.new.end c.loop-place.carried.items c.in_ok-carried.carried.items c.keys-in-loop-place.ensures.lawful at so
-    (found ∙ ap (λ n. slice_get plans n) further) c.laws_below.ensures.plans.longer c.loop-place.invariant
-    (subst (λ saved. HasRunWhole past honest calm c.index-plans-place.result (option_map (λ next. next.now) c.get-next.result) saved c.as_slice-list.result.now
-    c.loop-place.link c.run_part.new.link c.loop-place.end c.run_part.new.end c.in_ok-carried.carried.items) c.as_slice.ensures.value c.in_ok-carried.ensures.ran))
+    let among = c.laws_below.ensures.plans.names (last_plan plans) c.index-plans-place.result lawful (last_prolongs c.laws_below.ensures.plans plans place c.index-plans-place.result c.requires.prolong at) in
+    record {
+      turning =
+          subst (λ n. Turning past honest calm plans runs c.args.link.now c.run_part.new.link n c.run_part.new.end c.in_ok-carried.carried.items) (sym further)
+          (turning_more past honest calm plans runs c.laws_below.ensures.runs c.laws_below.ensures.plans c.requires.prolong lawful c.calm_laws.ensures.honest
+          c.calm_laws.ensures.fewer c.args.link.now c.loop-place.link c.run_part.new.link place c.index-plans-place.result _ c.as_slice-list.result.now c.loop-place.end
+          c.run_part.new.end c.loop-place.carried.items c.in_ok-carried.carried.items c.keys-in-loop-place.ensures.lawful at so
+          (found ∙ ap (λ n. slice_get plans n) further) c.laws_below.ensures.plans.longer c.loop-place.invariant.turning
+          (subst (λ saved. HasRunWhole past honest calm c.index-plans-place.result (option_map (λ next. next.now) c.get-next.result) saved c.as_slice-list.result.now
+          c.loop-place.link c.run_part.new.link c.loop-place.end c.run_part.new.end c.in_ok-carried.carried.items) c.as_slice.ensures.value c.in_ok-carried.ensures.ran));
+      ended = λ far.
+          let near = (c.calm_laws.ensures.fewer c.loop-place.link (is_planned (last_plan plans)) (is_planned c.index-plans-place.result) among).0
+          (c.loop-place.invariant.turning.honest_still (is_planned (last_plan plans)) far) in
+          join_then [] c.loop-place.end.runs.items c.run_part.new.end.runs.items ⊤ ⊤ _ _ _ _ _ _ tt (c.loop-place.invariant.ended far)
+          (join_if c.loop-place.end.runs.items c.run_part.new.end.runs.items _ ⊤ _ _ _ _ (λ is. search rules) (c.run_part.ensures.ended near));
+    }
 
-pub returns : goal.returns
-returns g c =
+pub returns-clause-ran : goal.returns-clause-ran
+returns-clause-ran g c =
     let plans = c.args.plans.now in
     let runs = map (λ list. list.items) c.args.runs.now in
     let most = slice_get_read plans (length plans) (length plans - 1) c.index-plans-plans.result refl (omega (arith, c.requires.some)) c.index-plans-plans.is in
@@ -105,4 +121,24 @@ returns g c =
     let all : c.loop-place.place ≡ length plans = omega (arith, c.loop-place-test.false, c.loop-place.auto.place-end) in
     plans_all g.L.Link.past g.L.Link.honest g.L.Link.calm plans runs c.laws_below.ensures.runs c.laws_below.ensures.plans c.requires.prolong lawful c.calm_laws.ensures.honest
     c.calm_laws.ensures.fewer c.args.link.now c.loop-place.link c.loop-place.place c.loop-place.end c.loop-place.carried.items _ all
-    (length-map c.args.runs.now (λ list. list.items) ∙ c.requires.as_many) c.loop-place.invariant
+    (length-map c.args.runs.now (λ list. list.items) ∙ c.requires.as_many) c.loop-place.invariant.turning
+
+pub returns-in_err-carried-clause-ended : goal.returns-in_err-carried-clause-ended
+returns-in_err-carried-clause-ended g c = λ far.
+    let plans = c.args.plans.now in
+    let place = c.loop-place.place in
+    let keys = c.index-plans-place.result in
+    let l = c.laws_below.ensures.plans in
+    let below : place < length plans = search rules in
+    let at = slice_get_read plans (length plans) place keys refl below c.index-plans-place.is in
+    let most = slice_get_read plans (length plans) (length plans - 1) c.index-plans-plans.result refl (omega (arith, c.requires.some)) c.index-plans-plans.is in
+    let lawful = subst (λ ks. IsLawful ks) (sym (last_is plans (length plans - 1) c.index-plans-plans.result (omega (arith, c.requires.some)) most)) c.keys-2.ensures.lawful in
+    let among = l.names (last_plan plans) keys lawful (last_prolongs l plans place keys c.requires.prolong at) in
+    let near = (c.calm_laws.ensures.fewer c.loop-place.link (is_planned (last_plan plans)) (is_planned keys) among).0
+    (c.loop-place.invariant.turning.honest_still (is_planned (last_plan plans)) far) in
+    join_then [] c.loop-place.end.runs.items c.run_part.new.end.runs.items ⊤ _ _ _ _ _ _ _ tt (c.loop-place.invariant.ended far)
+    (join_if c.loop-place.end.runs.items c.run_part.new.end.runs.items _ _ _ _ _ _ (λ is. no_ok c.from_residual.result tt c.from_residual.ensures.0 is)
+    (c.run_part.ensures.ended near))
+
+pub returns-clause-ended : goal.returns-clause-ended
+returns-clause-ended g c = λ far. join_if [] c.loop-place.end.runs.items ⊤ _ _ _ _ _ (λ is. tt) (c.loop-place.invariant.ended far)

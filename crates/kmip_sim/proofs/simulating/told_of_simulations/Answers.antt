@@ -1,6 +1,5 @@
 -- The script is the one that was read, and the plans are the two.
 use Rattle.std.proofs.Common.{◌≡◌, [], ◌∷◌, rules, subst}
-use Rattle.kmip_scripted.specs.Scenes.{past_in}
 use Rattle.kmip_simulation.specs.Simulating.{AreSimulated}
 use Rattle.kmip_sim.proofs.simulating.told_of_simulations.Goals as goal
 
@@ -13,7 +12,7 @@ returns c =
       as_often = c.requires.one;
       end = simulation.end;
       link = simulation.link;
-      simulated = subst (λ plans. AreSimulated plans c.args.script simulation.end (past_in simulation.link)) both c.in_ok-simulation.ensures;
+      simulated = subst (λ plans. AreSimulated plans c.args.script simulation.end simulation.link) both c.in_ok-simulation.ensures;
       ended_is = c.in_ok-told.ensures.ended;
       text_is = c.in_ok-told.ensures.text;
     }

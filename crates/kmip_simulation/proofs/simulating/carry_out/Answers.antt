@@ -19,4 +19,5 @@ returns c =
       complete = c.campaign.ensures.complete;
       known = c.campaign.ensures.known;
       settles = c.campaign.ensures.settles;
+      ended = c.campaign.ensures.ended tt;
     }

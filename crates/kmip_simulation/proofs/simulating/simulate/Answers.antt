@@ -1,10 +1,11 @@
 -- Nothing has happened yet over the new link, so what the campaign makes of it is good.
-use Rattle.std.proofs.Common.{◌≡◌, subst, ap, sym, ◌∙◌}
+use Rattle.std.proofs.Common.{◌≡◌, None, subst, ap, sym, ◌∙◌}
 use Rattle.kmip_schedule.specs.Sound.{Opening}
 use Rattle.kmip_scripted.specs.Runs.{runs_of}
 use Rattle.kmip_scripted.specs.Scenes.{past_in}
 use Rattle.kmip_scripted.specs.Words.{next_words}
 use Rattle.kmip_simulation.specs.Simulating.{IsCarriedOut}
+use Rattle.kmip_simulation.proofs.EndingLemmas.{ended_from_nothing}
 use Rattle.kmip_simulation.proofs.RoomLemmas.{has_room}
 use Rattle.kmip_simulation.proofs.simulating.simulate.Goals as goal
 
@@ -27,6 +28,8 @@ returns c =
         roomy = has_room keys (past_in link) c.keys.ensures.lawful c.new_link-link.ensures.objects c.new_link-link.ensures.room;
       };
       carried = carried;
+      ended = ended_from_nothing link.sent link.ended end.runs.items (end.fault ≡ None) after.ended c.new_link-link.ensures.none_sent
+          c.new_link-link.ensures.none_ended carried.ended;
     }
 
 pub carry_out-end-requires : goal.carry_out-end-requires

@@ -6,6 +6,7 @@ use Rattle.kmip_scripted.specs.Runs.{lists_of}
 use Rattle.kmip_scripted.specs.Scenes.{past_in}
 use Rattle.kmip_session.specs.Campaigns.{AreInTurn, CalmStart, GoodStart, first_plan, last_plan}
 use Rattle.kmip_simulation.specs.Simulating.{HasNoWord}
+use Rattle.kmip_simulation.proofs.EndingLemmas.{ended_from_nothing}
 use Rattle.kmip_simulation.proofs.PlansLemmas.{second_is}
 use Rattle.kmip_simulation.proofs.simulating.simulate_plans.Goals as goal
 
@@ -33,4 +34,6 @@ returns c =
       opening = opening;
       in_turn = subst (λ rs. AreInTurn plans rs end.runs.items end.saved.items ⊤ (CalmStart past_in HasNoWord plans link) (end.fault ≡ None) (past_in link) (past_in c.campaigns-end.new.link))
           runs c.campaigns-end.ensures.in_turn;
+      ended = ended_from_nothing link.sent link.ended end.runs.items (end.fault ≡ None) c.campaigns-end.new.link.ended c.new_link-link.ensures.none_sent
+          c.new_link-link.ensures.none_ended (c.campaigns-end.ensures.ended tt);
     }

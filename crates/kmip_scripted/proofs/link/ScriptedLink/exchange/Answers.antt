@@ -1,8 +1,9 @@
--- The counts stay until an exchange is handed over; and where no word is left, and the server has room, then too.
+-- The counts stay until an exchange is handed over; and where no word is left, and the server has room, then too. An exchange ends no run.
 use Rattle.std.proofs.Common.{Ok, ap, subst, ◌∙◌}
 use Rattle.kmip_schedule.specs.Clean.{IsRoomy}
 use Rattle.kmip_scripted.specs.Scenes.{disturbances_in}
 use Rattle.kmip_scripted.proofs.CountLemmas.{calm_is_kept, exchange_begun_keeps, no_fewer}
+use Rattle.kmip_scripted.proofs.EndingLemmas.{begun_ended, exchange_ended}
 use Rattle.kmip_scripted.proofs.link.ScriptedLink.exchange.Goals as goal
 
 pub returns-in-Ok-clause-undisturbed : goal.returns-in-Ok-clause-undisturbed
@@ -13,3 +14,9 @@ returns-in-Ok-clause-undisturbed g c = λ names none roomy.
 pub returns-in-Err-clause-disturbed : goal.returns-in-Err-clause-disturbed
 returns-in-Err-clause-disturbed g c = λ names.
     no_fewer c.args.self.now c.follow.new.self (exchange_begun_keeps c.args.request.now c.args.self.now c.follow.new.self c.in-Err.ensures.begun)
+
+pub returns-in-Ok-clause-ended : goal.returns-in-Ok-clause-ended
+returns-in-Ok-clause-ended g c = exchange_ended c.args.request.now c.args.self.now c.follow.new.self c.in-Ok.ensures.exact
+
+pub returns-in-Err-clause-ended : goal.returns-in-Err-clause-ended
+returns-in-Err-clause-ended g c = begun_ended c.args.request.now c.args.self.now c.follow.new.self c.in-Err.ensures.begun

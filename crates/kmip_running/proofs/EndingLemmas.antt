@@ -1,0 +1,41 @@
+-- Where the run is ended: right behind its last exchange.
+use Rattle.std.proofs.Common.{◌≡◌, ◌⊎◌, ℕ, ◌+◌, List, [], ◌∷◌, ◌++◌, length, Result, Ok, Err, OnErr, OnOk, sym, ap, ◌∙◌, inl, inr}
+use Rattle.std.proofs.lemmas.List.{length-append}
+use Rattle.kmip_chains.specs.declared.key.Key.{Key}
+use Rattle.kmip_knowledge.specs.declared.knowledge.Knowledge.{Knowledge}
+use Rattle.kmip_schedule.specs.Ending.{EndedAt}
+use Rattle.kmip_schedule.specs.Past.{Past}
+use Rattle.kmip_session.specs.Driving.{Learnt}
+use Rattle.kmip_session.specs.declared.stop.Stop.{Stop}
+use Rattle.kmip_session.specs.declared.stop.Stop.TheVariants as stops
+use Rattle.kmip_running.specs.Saved.{IsInMemory, IsWhole}
+use Rattle.kmip_running.specs.declared.keeper.SaveFault.{SaveFault}
+use Rattle.kmip_running.proofs.CarryLemmas.{whole_before}
+use Rattle.kmip_running.proofs.WentLemmas.{stop_is}
+
+in_memory : (result : Result Stop SaveFault) → IsWhole result → IsInMemory result
+in_memory (Ok stop) whole = λ is. whole (stop_is stop stops.NoMemory is)
+in_memory (Err fault) whole = absurd whole
+
+sent_long : (keys : List Key) (old new : Past) (knowns nexts : List Knowledge) (made : ℕ) → Learnt keys old new knowns nexts made
+    → length new.sent ≡ length old.sent + made
+sent_long keys old new knowns nexts made learnt =
+    ap length learnt.sent_are ∙ length-append old.sent learnt.questions ∙ ap (λ n. length old.sent + n) learnt.as_many_questions
+
+-- where memory sufficed and all was saved
+pub ended_whole : {V E : Type 0} (keys : List Key) (old mid : Past) (knowns nexts : List Knowledge) (closed : Result V E) (result last : Result Stop SaveFault) (made : ℕ)
+    (before noted after : List ℕ) → OnOk closed (last ≡ result) → OnErr closed (OnOk result (last ≡ Ok stops.NoMemory)) → OnErr result (last ≡ result)
+    → (IsInMemory result → Learnt keys old mid knowns nexts made) → noted ≡ before → OnOk closed (EndedAt (length mid.sent) noted after) → IsWhole last
+    → EndedAt (length old.sent + made) before after
+ended_whole keys old mid knowns nexts closed result last made before noted after same stop fault learnt none close whole =
+    let both = whole_before {P = EndedAt (length mid.sent) noted after} closed result last same stop fault whole in
+    let long = sent_long keys old mid knowns nexts made (learnt (in_memory result both.0)) in
+    both.1 close ∙ ap (λ ns. ns ++ length mid.sent ∷ []) none ∙ ap (λ n. before ++ n ∷ []) long
+
+-- or not
+pub ended_once : (mid new : Past) (before noted after : List ℕ) → new.sent ≡ mid.sent → noted ≡ before → EndedAt (length mid.sent) noted after ⊎ (after ≡ noted)
+    → EndedAt (length new.sent) before after ⊎ (after ≡ before)
+ended_once mid new before noted after same none once = elim once [
+  | inl is ↦ inl (is ∙ ap (λ ns. ns ++ length mid.sent ∷ []) none ∙ ap (λ sent. before ++ length sent ∷ []) (sym same))
+  | inr not ↦ inr (not ∙ none)
+]
