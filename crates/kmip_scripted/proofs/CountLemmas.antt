@@ -14,7 +14,7 @@ use Rattle.kmip_schedule.specs.Clean.{AreNoFewer, HasRoom, IsRoomy, but_of, hand
 use Rattle.kmip_schedule.specs.Past.{Names}
 use Rattle.kmip_scripted.specs.declared.script.Word.{Word}
 use Rattle.kmip_scripted.specs.declared.script.Word.TheVariants.{Pass, LoseRequest, LoseReply, Cut, Stale, Again, Save, Prolong, Restart}
-use Rattle.kmip_scripted.specs.Disturbing.{counted, every_name, is_full, is_full_outcome}
+use Rattle.kmip_losses.specs.Counting.{counted, every_name, is_full, is_full_outcome}
 use Rattle.kmip_scripted.specs.Scenes.{Scene, disturbances_in}
 use Rattle.kmip_scripted.specs.Serving.{with_served}
 use Rattle.kmip_scripted.specs.Words.{AreBegun, IsBegun, after_run, after_word, after_words, before_play, exchange, exchange_word, goes_on, message_at, play, played, with_delivered, with_request, with_words, words_after_exchange}

@@ -12,7 +12,8 @@ use Rattle.kmip_schedule.specs.Moves.{Delivered}
 use Rattle.kmip_schedule.specs.Past.{Names}
 use Rattle.kmip_scripted.specs.declared.script.Word.{Word}
 use Rattle.kmip_scripted.specs.declared.script.Word.TheVariants.{Pass, LoseRequest, LoseReply, Cut, Stale, Again, Save, Prolong, Restart}
-use Rattle.kmip_scripted.specs.Disturbing.{counted, every_name, is_disturbed, is_repeated}
+use Rattle.kmip_losses.specs.Counting.{counted, every_name}
+use Rattle.kmip_scripted.specs.Disturbing.{is_disturbed, is_repeated}
 use Rattle.kmip_scripted.specs.Scenes.{Scene, WasAsked, disturbances_in, past_in, with_disturbances}
 use Rattle.kmip_scripted.specs.Words.{AreBegun, IsBegun, after_words, before_play, exchange, exchange_word, message_at, play, played, with_request, with_words, words_after_exchange}
 use Rattle.kmip_scripted.proofs.WordLemmas.{said_by_number}

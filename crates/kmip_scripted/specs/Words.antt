@@ -7,7 +7,8 @@ use Rattle.kmip_server.specs.Serving.{reply_bytes}
 use Rattle.kmip_schedule.specs.Clean.{hands_strange}
 use Rattle.kmip_scripted.specs.declared.script.Word.{Word}
 use Rattle.kmip_scripted.specs.declared.script.Word.TheVariants.{Pass, LoseRequest, LoseReply, Cut, Stale, Again, Save, Prolong, Restart}
-use Rattle.kmip_scripted.specs.Disturbing.{counted, every_name, is_disturbed, is_repeated}
+use Rattle.kmip_losses.specs.Counting.{counted, every_name}
+use Rattle.kmip_scripted.specs.Disturbing.{is_disturbed, is_repeated}
 use Rattle.kmip_scripted.specs.Scenes.{Scene, disturbances_in, with_disturbances}
 use Rattle.kmip_scripted.specs.Serving.{with_served}
 

@@ -9,18 +9,20 @@ ghost use Rattle.kmip_schedule.specs.Calm.{AreTaken};
 ghost use Rattle.kmip_schedule.specs.Clean.{hands_strange};
 ghost use Rattle.kmip_schedule.specs.Moves.{Delivered};
 ghost use Rattle.kmip_schedule.specs.Past.{Names};
-ghost use Rattle.kmip_scripted.specs.Disturbing.{counted, every_name, is_disturbed, is_repeated};
+ghost use Rattle.kmip_losses.specs.Counting.{counted, every_name};
+ghost use Rattle.kmip_scripted.specs.Disturbing.{is_disturbed, is_repeated};
 ghost use Rattle.kmip_scripted.specs.Early.{asked_only};
 ghost use Rattle.kmip_scripted.specs.Scenes.{WasAsked, disturbances_in, past_in, scene_of, with_disturbances};
 ghost use Rattle.kmip_scripted.specs.Serving.{with_served};
 ghost use Rattle.kmip_scripted.specs.Words.{answer_at, exchange_word, first_of, message_at, word_at, next_words, with_ended, with_request, with_words, words_after_exchange, words_after_run};
 
-use crate::disturbing::{Counts, counts_after, is_repeated};
+use crate::disturbing::{counts_after, is_repeated};
 use crate::script::{Script, Word};
 use crate::serving::serve_logged;
 use crate::words::{
     first_word, next_exchange_word, take_ending_word, take_exchange_word, take_restarts,
 };
+use kmip_losses::Counts;
 use kmip_messages::laws::question_laws;
 use kmip_schedule::Effect;
 use kmip_schedule::laws::{deliveries_join, what_is_done_joins, what_is_taken_is_delivered};

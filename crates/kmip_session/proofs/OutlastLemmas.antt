@@ -53,5 +53,5 @@ module _ {L : Type 0} (past : L → Past) (honest : L → Names → Type 0) (cou
         outlasts = λ enough.
             noted.stop_is
             ∙ outlasts good memory
-                (subst (λ ks. IsEnough ks run.limit (counts x) (counts y)) (sym b_keys) (subst (λ d. IsEnough keys run.limit (counts x) d) same enough));
+            (subst (λ ks. IsEnough ks run.limit (counts x) (counts y)) (sym b_keys) (subst (λ d. IsEnough keys run.limit (counts x) d) same enough));
       }

@@ -4,7 +4,8 @@ use Rattle.kmip_schedule.specs.Clean.{hands_strange}
 use Rattle.kmip_schedule.specs.Moves.{Delivered}
 use Rattle.kmip_schedule.specs.Past.{Names}
 use Rattle.kmip_schedule.specs.Exchanges.{with_asked}
-use Rattle.kmip_scripted.specs.Disturbing.{counted, every_name, is_disturbed}
+use Rattle.kmip_losses.specs.Counting.{counted, every_name}
+use Rattle.kmip_scripted.specs.Disturbing.{is_disturbed}
 use Rattle.kmip_scripted.specs.Scenes.{disturbances_in, past_in}
 use Rattle.kmip_scripted.proofs.CleanLemmas.{is_counted}
 use Rattle.kmip_scripted.proofs.FollowLemmas.{handed, hands_over}
