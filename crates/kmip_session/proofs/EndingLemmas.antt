@@ -7,7 +7,7 @@ use Rattle.kmip_schedule.specs.Moves.{Delivered}
 use Rattle.kmip_schedule.specs.Past.{Names, Past}
 use Rattle.kmip_session.specs.CampaignParts.{HasEnded}
 use Rattle.kmip_session.specs.Driving.{Learnt}
-use Rattle.kmip_session.specs.Ending.{AllButLastEnded, AreEnded, EndsJoin, ended_at, exchanges_in}
+use Rattle.kmip_session.specs.Ending.{AreEnded, EndsJoin, ended_at, exchanges_in}
 use Rattle.kmip_session.specs.declared.campaigning.CampaignEnd.{CampaignEnd}
 use Rattle.kmip_session.specs.declared.campaigning.Run.{Run}
 use Rattle.kmip_session.specs.declared.campaigning.RunEnd.{RunEnd}

@@ -1,5 +1,5 @@
 -- Nothing has happened yet over the new link, so what the campaign makes of it is good.
-use Rattle.std.proofs.Common.{◌≡◌, None, subst, ap, sym, ◌∙◌}
+use Rattle.std.proofs.Common.{◌≡◌, None, subst, ap, ◌∙◌}
 use Rattle.kmip_schedule.specs.Sound.{Opening}
 use Rattle.kmip_scripted.specs.Runs.{runs_of}
 use Rattle.kmip_scripted.specs.Scenes.{past_in}
