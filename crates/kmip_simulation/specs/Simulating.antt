@@ -11,12 +11,13 @@ use Rattle.kmip_schedule.specs.Sound.{Opening, Sound}
 use Rattle.kmip_session.specs.Campaign.{CalmLink, HasNoConflict, IsEnd, Settles, reported, saves}
 use Rattle.kmip_session.specs.Driving.{WentOn}
 use Rattle.kmip_session.specs.Ending.{AreEnded}
+use Rattle.kmip_session.specs.Losing.{AllOutlast}
 use Rattle.kmip_session.specs.Remembering.{AreKnown}
 use Rattle.kmip_session.specs.Campaigns.{AreInTurn, CalmStart, IsTrueFor, last_plan}
 use Rattle.kmip_session.specs.declared.campaigning.CampaignEnd.{CampaignEnd}
 use Rattle.kmip_session.specs.declared.campaigning.Run.{Run}
 use Rattle.kmip_scripted.specs.Runs.{lists_of, runs_of}
-use Rattle.kmip_scripted.specs.Scenes.{Scene, past_in}
+use Rattle.kmip_scripted.specs.Scenes.{Scene, disturbances_in, past_in}
 use Rattle.kmip_scripted.specs.declared.script.Word.{Word}
 
 -- each of the runs was made and has its end, and those that say so were saved
@@ -28,7 +29,8 @@ abbrev pub HasNoWord : Scene → Names → Type 0
 HasNoWord link names = link.words ≡ []
 
 -- What the headline says of a campaign over a link in memory, with its premises met: whatever the link lost, delayed and repeated, what
--- the server did is safe, and a past of the plan machine; no run found a conflict; and over a calm link the runs finish.
+-- the server did is safe, and a past of the plan machine; no run found a conflict; over a calm link the
+-- runs finish; and so they do over any, if they may make as many exchanges as the losses cost.
 pub record IsCarriedOut (keys : List Key) (runs : List Run) (end : CampaignEnd) (before after : Scene) : Type 0 where
   pub safe : Safe keys (past_in after) (reported keys end.runs.items end.saved.items)
   pub machine : IsMirrored keys (past_in before) → IsMirrored keys (past_in after)
@@ -41,6 +43,7 @@ pub record IsCarriedOut (keys : List Key) (runs : List Run) (end : CampaignEnd) 
   pub known : AreKnown keys runs end.runs.items end.saved.items ⊤ (end.fault ≡ None) (past_in before) (past_in after)
   pub settles : CalmLink past_in HasNoWord keys before → end.fault ≡ None
       → AllZip (Settles keys) runs end.runs.items × CalmLink past_in HasNoWord keys after
+  pub outlasts : end.fault ≡ None → AllOutlast keys runs end.runs.items (disturbances_in before) (disturbances_in after)
   pub ended : AreEnded end.runs.items (end.fault ≡ None) (length before.sent) before.ended after.ended
 
 -- The runs of a script were made for a plan over a link that began with nothing and followed the script, and ended so: the first of

@@ -19,5 +19,6 @@ returns c =
       complete = c.campaign.ensures.complete;
       known = c.campaign.ensures.known;
       settles = c.campaign.ensures.settles;
+      outlasts = c.campaign.ensures.outlasts good;
       ended = c.campaign.ensures.ended tt;
     }
