@@ -218,6 +218,19 @@ fn notes_the_runs_before_want_of_memory(rt: HostRuntime) -> Result<(), Fail> {
     Ok(())
 }
 
+#[test]
+fn ends_each_run_behind_its_last_exchange(rt: HostRuntime) -> Result<(), Fail> {
+    let plan = plan_of(rt.alloc(), &["k1"], "active")?;
+    let mut link = calm_link(rt.alloc());
+    let end = campaign(rt.alloc(), &plan, &mut link, &RUNS);
+    assert_eq!(rt; end.fault, None);
+    let ended = link.link().ended();
+    assert_eq!(rt; ended.len(), 2);
+    assert_eq!(rt; ended[0], 2);
+    assert_eq!(rt; ended[1], 3);
+    Ok(())
+}
+
 /// A run that asks Locate and Create, and no more. Their replies are the first two.
 fn run_earlier(
     rt: &impl Abort,
