@@ -182,7 +182,7 @@ object of that name is not what the plan wants or stands beyond it, or `conflict
 
 The plan is read and judged first (its first fault is printed as by `check`), then the progress
 (`progress refused: 2 Cut`), before anything is asked. A progress file that cannot be written prints
-`cannot write PATH`: what was asked last has taken effect, and a later run finds it.
+`cannot write PATH`: what was asked last may have taken effect, and a later run finds it.
 
 While it works, it shows on standard error how far it is, in one line that is written again after each
 exchange, where that is a terminal and `--verbose` does not tell each exchange there:

@@ -7,9 +7,9 @@ use std::io::{Error, ErrorKind};
 use std::process::ExitCode;
 use std::{env, io};
 
-/// Runs the program: reads its command line, does what that asks for over standard input, files and
-/// standard output, and answers the code to end with. Everything is printed on standard output,
-/// help and usage faults too.
+/// Runs the program: reads its command line, does what that asks for over standard streams, files
+/// and sockets, and answers the code to end with. Results, faults, help and usage faults are printed
+/// on standard output; on standard error stands only what `run` shows while it works.
 pub fn run(rt: &HostRuntime) -> ExitCode {
     let status = match run_command(rt) {
         Ok(status) => status,

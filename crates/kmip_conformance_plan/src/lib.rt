@@ -1,4 +1,4 @@
-//! Tests of kmip_plan: texts of plans, and the chains of their keys.
+//! Tests of kmip_plan: texts of plans, the chains of their keys, and which plan prolongs which.
 //!
 //! The expected values come from this project's profile, and never from what the crates wrote.
 #![tactic(auto)]

@@ -1,5 +1,5 @@
-//! Tests of kmip_simulation: random scripts, and long ones, after each of which every key is to be at
-//! its target, with one object.
+//! Tests of kmip_simulation: random scripts, long ones, those of two plans, and second campaigns,
+//! after each of which every key is to be at its target, with one object.
 #![tactic(auto)]
 
 #[cfg(test)]

@@ -1,4 +1,4 @@
-//! Tests of kmip_command_line: what words ask for.
+//! Tests of kmip_command_line: what words ask for, and how the program ends where that is nothing.
 //!
 //! The expected values come from this project's profile, and never from what the crates wrote.
 #![tactic(auto)]

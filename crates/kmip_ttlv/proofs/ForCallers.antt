@@ -1,4 +1,4 @@
--- For the lemma files of kmip_messages, which speak of pure items and bytes that no call stands near: so no clause serves.
+-- For the lemma files of the crates above, which speak of pure items and bytes that no call stands near: so no clause serves.
 use Rattle.std.proofs.Common.{◌≡◌, ℕ, ◌+◌, ◌≤◌, ◌<◌, List, ◌∷◌, ◌++◌, length, take, drop, get_or, Ok}
 use Rattle.kmip_ttlv.specs.declared.item.Item.{Item}
 use Rattle.kmip_ttlv.specs.Node.{Node, Nodes, nodes_of, list_of}

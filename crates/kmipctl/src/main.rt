@@ -1,4 +1,5 @@
-//! `kmipctl`, a program for messages of the Key Management Interoperability Protocol.
+//! `kmipctl`: carries out a plan of symmetric keys on a server of the Key Management
+//! Interoperability Protocol, simulates that, serves it, and answers and shows its messages.
 #![tactic(auto)]
 
 use std::process::ExitCode;

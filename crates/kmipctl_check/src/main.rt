@@ -1,4 +1,4 @@
-//! `kmipctl` once more, for its stored run: `check` of a plan that is lawful.
+//! `kmipctl` once more, for its stored run: `check` of a plan that prolongs an earlier one.
 #![tactic(auto)]
 
 use std::process::ExitCode;
