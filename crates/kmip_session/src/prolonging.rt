@@ -151,8 +151,8 @@ fn run_part<L: Link>(
     requires carried { All (Suits plan.now) carried.now }
     requires prolongs { IfSome next (λ next. Prolongs next.now plan.now) }
     ensures ran { IfOk result (λ read. HasRunWhole L.past L.honest L.calm plan.now
-        (option_map (λ next. next.now) next.entry) carried.now runs.now link.old link.new end.old end.new
-        read.items) }
+        (option_map (λ next. next.now) next.entry) carried.now runs.now link.old link.new
+        end.old end.new read.items) }
     ensures broken { OnErr result ((AreSame end.old end.new × (link.new ≡ link.old))
         ⊎ HasRunPart L.past L.honest L.calm plan.now carried.now runs.now link.old link.new
         end.old end.new) }
