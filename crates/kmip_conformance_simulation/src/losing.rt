@@ -115,6 +115,12 @@ fn takes_as_many_exchanges_as_was_worked_out(rt: HostRuntime) -> Result<(), Fail
     Ok(())
 }
 
+/// What disturbed exchanges may cost: three each, and one more each that was strange.
+fn cost(disturbed: usize, strange: usize) -> usize {
+    let twice = disturbed.saturating_add(disturbed);
+    twice.saturating_add(disturbed).saturating_add(strange)
+}
+
 /// A script of one run, of at most 31 random words.
 fn random_run(alloc: Global, rng: &mut ChaCha20Rng) -> Result<Script, AllocError> {
     let mut words: Vec<Word> = Vec::new(alloc);
@@ -129,7 +135,7 @@ fn random_run(alloc: Global, rng: &mut ChaCha20Rng) -> Result<Script, AllocError
 #[test]
 fn random_runs_take_no_more_than_the_bound_and_their_losses(rt: HostRuntime) -> Result<(), Fail> {
     let mut rng = ChaCha20Rng::from_seed([5; 32]);
-    let (mut disturbed, mut strange, mut spared) = (0, 0, usize::MAX);
+    let (mut disturbed, mut strange, mut spared) = (0usize, 0usize, usize::MAX);
     for number in 0..2_000 {
         let first = TARGETS[number % 5];
         let second = TARGETS[number / 5 % 5];
@@ -140,10 +146,10 @@ fn random_runs_take_no_more_than_the_bound_and_their_losses(rt: HostRuntime) -> 
         let end = simulation.end.runs.first().ok_or("no run")?;
         assert_eq!(rt; end.stop, Stop::AllFinished);
         let (lost, other) = (simulation.link.disturbed(), simulation.link.strange());
-        let most = bound(&plan) + 3 * lost + other;
+        let most = bound(&plan).saturating_add(cost(lost, other));
         assert!(rt; end.exchanges <= most);
-        disturbed += lost;
-        strange += other;
+        disturbed = disturbed.saturating_add(lost);
+        strange = strange.saturating_add(other);
         spared = spared.min(most - end.exchanges);
     }
     rt.println(format_args!(
