@@ -1,4 +1,4 @@
-//! Tests of kmip_sim: plans carried out over networks that follow scripts.
+//! Tests of kmip_sim: plans carried out over networks that follow scripts; and of kmip_wording under it.
 //!
 //! The expected values come from this project's profile, and never from what the crates wrote.
 #![tactic(auto)]
@@ -9,3 +9,5 @@ mod simulating;
 mod simulating_plans;
 #[cfg(test)]
 mod small_plans;
+#[cfg(test)]
+mod wording;

@@ -13,7 +13,7 @@ use Rattle.kmip_running.specs.declared.keeper.SaveFault.{SaveFault}
 use Rattle.kmip_running.proofs.CarryLemmas.{whole_before}
 use Rattle.kmip_running.proofs.WentLemmas.{stop_is}
 
-in_memory : (result : Result Stop SaveFault) → IsWhole result → IsInMemory result
+pub in_memory : (result : Result Stop SaveFault) → IsWhole result → IsInMemory result
 in_memory (Ok stop) whole = λ is. whole (stop_is stop stops.NoMemory is)
 in_memory (Err fault) whole = absurd whole
 

@@ -6,6 +6,7 @@ use Rattle.kmip_client.specs.Laws.{OnwardToItself, OnwardTwice, HeldForGood, Hel
 use Rattle.kmip_schedule.specs.Laws.{DeliveriesKeepSound, DeliveriesKeepTheImage, DeliveriesKeepTheRequests, ObjectsGoOnward}
 use Rattle.kmip_schedule.specs.Past.{Past, Names, is_planned}
 use Rattle.kmip_settling.specs.Laws.{NeedsAreBounded, WhoIsSettledNeedsNothing, WhoNeedsNothingIsFinished}
+use Rattle.kmip_settling.specs.LosingLaws.{LateArrivalsAddNothing, LeftIsBounded, NeedsAreLeft}
 use Rattle.kmip_session.specs.Driving.{Grown, IsGood, IsSettling, Keeps, Learnt, WentOn, need}
 use Rattle.kmip_session.specs.declared.stop.Stop.{Stop}
 use Rattle.kmip_running.specs.Saved.{AreSaved, IsInMemory, IsWhole, moment}
@@ -25,6 +26,9 @@ pub record CarryingLaws : Type 0 where
   pub bounded : NeedsAreBounded
   pub needless : WhoNeedsNothingIsFinished
   pub needed : WhoIsSettledNeedsNothing
+  pub late : LateArrivalsAddNothing
+  pub left_bounded : LeftIsBounded
+  pub needs_left : NeedsAreLeft
 
 -- what so many exchanges keep of what is good, and what they teach
 pub record Went {L : Type 0} (past : L → Past) (honest calm : L → Names → Type 0) (a b : ClientState) (x y : L) (result : Result Stop SaveFault) (made : ℕ) : Type 0 where

@@ -8,6 +8,7 @@ ghost use Rattle.kmip_schedule.specs.Ending.{EndedAt};
 ghost use Rattle.kmip_schedule.specs.Moves.{Delivered};
 ghost use Rattle.kmip_schedule.specs.Past.{Names, is_planned};
 ghost use Rattle.kmip_session.specs.Driving.{IsGood, IsSettling, need, WentOn, Learnt, Grown, Keeps, Stands};
+ghost use Rattle.kmip_session.specs.Losing.{ArePaid, IsEnough, left_for};
 ghost use Rattle.kmip_running.specs.Carried.{Carried, CarryingLaws};
 ghost use Rattle.kmip_running.specs.Saved.{AreSaved, IsInMemory, IsWhole, moment};
 
@@ -22,6 +23,7 @@ use kmip_schedule::laws::{
 use kmip_schedule::{Link, LinkFault};
 use kmip_session::{Stop, drive};
 use kmip_settling::laws::{needs_are_bounded, who_needs_nothing_is_finished};
+use kmip_settling::losing_laws::{late_arrivals_add_nothing, left_is_bounded};
 use kmip_ttlv::NoMemory;
 use std::alloc::Global;
 
@@ -71,6 +73,13 @@ pub fn carry_out<L: Link, K: Keeper>(
         → (result.0 ≡ Ok Stop.AllFinished)
         × (result.1 ≡ need client.old (L.past link.old))
         × (result.1 ≤ bound client.old.keys) }
+    ensures losing { IsGood L.past L.honest client.old link.old → IsInMemory result.0
+        → ArePaid result.1 (left_for client.old (L.past link.old))
+        (left_for client.new (L.past link.new)) (L.disturbances link.old)
+        (L.disturbances link.new) }
+    ensures outlasts { IsGood L.past L.honest client.old link.old → IsWhole result.0
+        → IsEnough client.old.keys limit (L.disturbances link.old) (L.disturbances link.new)
+        → result.0 ≡ Ok Stop.AllFinished }
     ensures no_conflict { IsGood L.past L.honest client.old link.old
         → result.0 ≢ Ok Stop.Conflict }
     ensures ended { L.honest link.old (is_planned client.old.keys) → IsWhole result.0
@@ -99,6 +108,8 @@ fn laws_below()
     the_image_is_kept();
     needs_are_bounded();
     who_needs_nothing_is_finished();
+    left_is_bounded();
+    late_arrivals_add_nothing();
 }
 
 /// Makes exchanges and saves what is known after each, and ends the run over the link.
@@ -117,6 +128,10 @@ fn exchange_to_the_end<L: Link, K: Keeper>(
     ensures stands { IfOk result.0 (λ stop. Stands stop client.new.keys client.new.knowns) }
     ensures limit { result.0 ≡ Ok Stop.Limit → result.1 ≡ limit }
     ensures within { result.1 ≤ limit }
+    ensures losing { IsGood L.past L.honest client.old link.old → IsInMemory result.0
+        → ArePaid result.1 (left_for client.old (L.past link.old))
+        (left_for client.new (L.past link.new)) (L.disturbances link.old)
+        (L.disturbances link.new) }
     ensures ended { L.honest link.old (is_planned client.old.keys) → IsWhole result.0
         → EndedAt (length (L.past link.old).sent + result.1) (L.ended link.old)
         (L.ended link.new) }
@@ -148,6 +163,10 @@ fn exchange_in_turn<L: Link, K: Keeper>(
     ensures stands { IfOk result.0 (λ stop. Stands stop client.new.keys client.new.knowns) }
     ensures limit { result.0 ≡ Ok Stop.Limit → result.1 ≡ limit }
     ensures within { result.1 ≤ limit }
+    ensures losing { IsGood L.past L.honest client.old link.old → IsInMemory result.0
+        → ArePaid result.1 (left_for client.old (L.past link.old))
+        (left_for client.new (L.past link.new)) (L.disturbances link.old)
+        (L.disturbances link.new) }
     ensures ended { L.honest link.old (is_planned client.old.keys)
         → L.ended link.new ≡ L.ended link.old }
 {
@@ -181,6 +200,10 @@ fn exchange_once<L: Link, K: Keeper>(
     ensures stands { IfOk result.0 (λ stop. Stands stop client.new.keys client.new.knowns) }
     ensures limit { result.0 ≡ Ok Stop.Limit → result.1 ≡ 1 }
     ensures within { result.1 ≤ 1 }
+    ensures losing { IsGood L.past L.honest client.old link.old → IsInMemory result.0
+        → ArePaid result.1 (left_for client.old (L.past link.old))
+        (left_for client.new (L.past link.new)) (L.disturbances link.old)
+        (L.disturbances link.new) }
     ensures ended { (names : Names) → L.honest link.old names
         → L.ended link.new ≡ L.ended link.old }
 {
@@ -246,6 +269,8 @@ fn close<L: Link>(alloc: Global, link: &mut L) -> Result<(), NoMemory>
         × Delivered names (L.past link.old) (L.past link.new) }
     ensures calm { (names : Names) → L.calm link.old names → L.calm link.new names
         × OnOk result (L.past link.new ≡ L.past link.old) }
+    ensures undisturbed { (names : Names) → L.honest link.old names
+        → L.disturbances link.new ≡ L.disturbances link.old }
     ensures ended { (names : Names) → L.honest link.old names → OnOk result (
         EndedAt (length (L.past link.old).sent) (L.ended link.old) (L.ended link.new)) }
     ensures once { (names : Names) → L.honest link.old names

@@ -12,7 +12,7 @@ use Rattle.kmip_messages.specs.declared.reply.Outcome.TheVariants.{Created, Loca
 use Rattle.kmip_messages.specs.declared.reply.Reply.{Reply}
 use Rattle.kmip_objects.specs.declared.state.KeyState.{KeyState}
 use Rattle.kmip_wording.specs.Names.{operation_word, state_of, state_word}
-use Rattle.kmip_wording.specs.Questions.{id_asked}
+use Rattle.kmip_wording.specs.Questions.{id_asked, id_name}
 
 -- a space and an identifier
 abbrev pub spaced_text : List ℕ → List ℕ
@@ -64,10 +64,24 @@ is_same_id id other = false
 abbrev pub whose_text : Option (List ℕ) → Option (List ℕ) → List ℕ
 whose_text asked id = if is_same_id asked id then [] else codes "answers " ++ id_text id ++ codes ", "
 
+-- which name is told of an object, where it is not the one that was asked about
+abbrev pub other_name_text : List ℕ → Option (List ℕ) → List ℕ
+other_name_text asked None = codes "unnamed, "
+other_name_text asked (Some name) = if pointwise nat_eq name asked then [] else codes "named " ++ plain_text name ++ codes ", "
+
+-- the same of what an operation told: attributes alone tell a name
+abbrev pub naming_text : List ℕ → Outcome → List ℕ
+naming_text asked (Attributes uid attrs) = other_name_text asked attrs.name
+naming_text asked outcome = []
+
+-- a reply in words, behind the question that it answers: its name is the one in the reply's own id
+abbrev pub reply_text : Reply → List ℕ
+reply_text reply = naming_text (id_name reply.id) reply.outcome ++ outcome_text reply.outcome
+
 -- the first of these replies to the question of this id, in words
 abbrev pub first_reply_text : Option (List ℕ) → List Reply → List ℕ
 first_reply_text asked [] = codes "an unreadable reply"
-first_reply_text asked (reply ∷ others) = whose_text asked reply.id ++ outcome_text reply.outcome
+first_reply_text asked (reply ∷ others) = whose_text asked reply.id ++ reply_text reply
 
 -- what came back for what some bytes ask: other bytes, or nothing
 abbrev pub answer_text : List ℕ → Option (List ℕ) → List ℕ

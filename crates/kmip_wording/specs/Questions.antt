@@ -6,9 +6,13 @@ use Rattle.kmip_messages.specs.Items.{requests_in}
 use Rattle.kmip_messages.specs.declared.request.Request.{Request}
 use Rattle.kmip_wording.specs.Names.{ask_word}
 
+-- the name in an id: what stands behind the operation, which is one byte
+abbrev pub id_name : Option (List ℕ) → List ℕ
+id_name id = drop 1 (unwrap_or id [])
+
 -- the key that a request is about: its id is the operation in one byte, and the key's name
 abbrev pub name_asked : Request → List ℕ
-name_asked request = drop 1 (unwrap_or request.id [])
+name_asked request = id_name request.id
 
 -- the operation that a request asks, and the key that it is about
 abbrev pub request_text : Request → List ℕ

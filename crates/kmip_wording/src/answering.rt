@@ -5,18 +5,30 @@ ghost use Rattle.kmip_messages.specs.Items.{replies_in};
 ghost use Rattle.kmip_objects.specs.Ranges.{is_name_byte};
 ghost use Rattle.kmip_wording.specs.Names.{operation_word};
 ghost use Rattle.kmip_wording.specs.Questions.{id_asked};
-ghost use Rattle.kmip_wording.specs.Answers.{first_reply_text, id_text, is_same_id, named_text, answer_text, whose_text};
+ghost use Rattle.kmip_wording.specs.Answers.{
+  answer_text,
+  first_reply_text,
+  id_text,
+  is_same_id,
+  named_text,
+  naming_text,
+  other_name_text,
+  reply_text,
+  whose_text,
+};
 
-use crate::asking::id_asked;
+use crate::asking::{id_asked, id_name};
 use crate::names::operation_word;
-use crate::outcomes::push_outcome;
-use kmip_messages::read_reply;
-use kmip_ttlv::{Bytes, NoMemory};
+use crate::outcomes::{push_outcome, push_plain};
+use kmip_messages::{Outcome, Reply, read_reply};
+use kmip_ttlv::{Bytes, NoMemory, Text};
 use std::alloc::Global;
 
 /// Appends what came back for the bytes of a request: how the operation went by the bytes of the
 /// reply, `an unreadable reply` where they are none, and `no reply` where none came. Where the reply
-/// has another id than the request, `answers` and the question that its id names stand before it.
+/// has another id than the request, `answers` and the question that its id names stand before it; and
+/// where it tells attributes without the name in its id, `named` and the name that they have, or
+/// `unnamed`.
 ///
 /// # Errors
 /// Where there is no memory for it.
@@ -49,7 +61,7 @@ fn push_reply(
     match read_reply(alloc, reply) {
         Ok(reply) => {
             push_whose(alloc, request, &reply.id, text)?;
-            push_outcome(alloc, &reply.outcome, text)
+            push_told(alloc, &reply, text)
         }
         Err(fault) => {
             if fault.is_no_memory() {
@@ -78,6 +90,54 @@ fn push_whose(
     }
     text.extend_from_slice(b"answers ")?;
     push_id(id, text)?;
+    text.extend_from_slice(b", ")?;
+    Ok(())
+}
+
+/// Appends how the operation went, and before it which name is told, where it is not the one in the
+/// reply's id.
+fn push_told(alloc: Global, reply: &Reply, text: &mut Vec<u8>) -> Result<(), NoMemory>
+    ensures { OnOk result (text.new.items ≡ text.old.items ++ reply_text reply.now) }
+{
+    push_naming(alloc, id_name(&reply.id), &reply.outcome, text)?;
+    push_outcome(alloc, &reply.outcome, text)
+}
+
+/// Appends which name an operation told of an object, where it told attributes without this name.
+fn push_naming(
+    alloc: Global,
+    asked: &[u8],
+    outcome: &Outcome,
+    text: &mut Vec<u8>,
+) -> Result<(), NoMemory>
+    ensures { OnOk result (text.new.items
+        ≡ text.old.items ++ naming_text asked.now outcome.now) }
+{
+    let Outcome::Attributes(_uid, attrs) = outcome else {
+        return Ok(());
+    };
+    push_other_name(alloc, asked, &attrs.name, text)
+}
+
+/// Appends which name is told of an object, where it is not this one.
+fn push_other_name(
+    alloc: Global,
+    asked: &[u8],
+    name: &Option<Text>,
+    text: &mut Vec<u8>,
+) -> Result<(), NoMemory>
+    ensures { OnOk result (text.new.items
+        ≡ text.old.items ++ other_name_text asked.now name.now) }
+{
+    let Some(name) = name else {
+        text.extend_from_slice(b"unnamed, ")?;
+        return Ok(());
+    };
+    if name.as_str().as_bytes() == asked {
+        return Ok(());
+    }
+    text.extend_from_slice(b"named ")?;
+    push_plain(alloc, name, text)?;
     text.extend_from_slice(b", ")?;
     Ok(())
 }

@@ -1,6 +1,6 @@
 //! What was asked, in words.
 ghost use Rattle.std.specs.Prelude.{◌≡◌, ◌++◌, IfOk, OnOk};
-ghost use Rattle.kmip_wording.specs.Questions.{id_asked, name_asked, question_text, request_text};
+ghost use Rattle.kmip_wording.specs.Questions.{id_asked, id_name, name_asked, question_text, request_text};
 
 use crate::names::ask_word;
 use kmip_messages::{Request, read_request};
@@ -11,7 +11,14 @@ use std::alloc::Global;
 pub fn name_asked(request: &Request) -> &[u8]
     ensures { result.now ≡ name_asked request.now }
 {
-    let Some(id) = &request.id else {
+    id_name(&request.id)
+}
+
+/// The name in an id: what stands behind the operation.
+pub(crate) fn id_name(id: &Option<Bytes>) -> &[u8]
+    ensures { result.now ≡ id_name id.now }
+{
+    let Some(id) = id else {
         return &[];
     };
     let Some((_operation, name)) = id.as_slice().split_first() else {

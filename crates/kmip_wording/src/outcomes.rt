@@ -41,11 +41,11 @@ fn push_done(alloc: Global, done: &str, uid: &Text, text: &mut Vec<u8>) -> Resul
     push_plain(alloc, uid, text)
 }
 
-/// Appends an identifier in plain characters.
-fn push_plain(alloc: Global, uid: &Text, text: &mut Vec<u8>) -> Result<(), NoMemory>
-    ensures { OnOk result (text.new.items ≡ text.old.items ++ plain_text uid.now) }
+/// Appends an identifier or a name in plain characters.
+pub(crate) fn push_plain(alloc: Global, told: &Text, text: &mut Vec<u8>) -> Result<(), NoMemory>
+    ensures { OnOk result (text.new.items ≡ text.old.items ++ plain_text told.now) }
 {
-    let plain = plain_text(alloc, uid.as_str())?;
+    let plain = plain_text(alloc, told.as_str())?;
     text.extend_from_slice(plain.as_bytes())?;
     Ok(())
 }

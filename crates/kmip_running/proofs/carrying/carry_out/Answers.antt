@@ -1,5 +1,6 @@
 -- All of it, clause by clause.
 use Rattle.kmip_running.proofs.CarryLemmas.{good_end, settled_end}
+use Rattle.kmip_running.proofs.LosingLemmas.{outlasted}
 use Rattle.kmip_running.proofs.carrying.carry_out.Goals as goal
 
 pub returns-clause-settles : goal.returns-clause-settles
@@ -13,3 +14,10 @@ returns-clause-no_conflict g c =
     let done = c.exchange_to_the_end in
     good_end g.L.Link.past g.L.Link.honest g.L.Link.calm c.laws_below.ensures c.args.client.now done.new.client c.args.link.now done.new.link done.result.0
     done.result.1 done.ensures.carried.went done.ensures.stands
+
+pub returns-clause-outlasts : goal.returns-clause-outlasts
+returns-clause-outlasts g c = λ good whole enough.
+    let done = c.exchange_to_the_end in
+    outlasted g.L.Link.past g.L.Link.honest g.L.Link.disturbances c.laws_below.ensures c.args.client.now done.new.client c.args.link.now done.new.link
+    done.result.0 done.result.1 c.args.limit c.plan-plan.ensures.lawful good (done.ensures.carried.went.good good) (done.ensures.losing good) done.ensures.stands
+    done.ensures.limit whole enough

@@ -1,8 +1,10 @@
 -- Exchange by exchange.
-use Rattle.std.proofs.Common.{◌≡◌, ◌∙◌, Ok, refl, rules, arith}
+use Rattle.std.proofs.Common.{◌≡◌, ◌∙◌, Ok, ap, refl, rules, arith}
 use Rattle.kmip_schedule.specs.Past.{is_planned}
+use Rattle.kmip_session.specs.Losing.{left_for}
 use Rattle.kmip_session.specs.declared.stop.Stop.TheVariants as stops
 use Rattle.kmip_running.proofs.CarryLemmas.{carried_none, carried_then, carrying_more, carrying_none, drove}
+use Rattle.kmip_running.proofs.LosingLemmas.{limit_in_memory, paid_none}
 use Rattle.kmip_running.proofs.carrying.exchange_in_turn.Goals as goal
 
 pub returns-then-limit-eq0-clause-carried : goal.returns-then-limit-eq0-clause-carried
@@ -22,6 +24,7 @@ loop-made-init g c = record {
   carrying =
       carrying_none g.L.Link.past g.L.Link.honest g.L.Link.calm g.K.Keeper.keeps g.K.Keeper.saved c.laws_below.ensures c.args.client.now c.args.link.now c.args.keeper.now;
   ended = λ honest. refl;
+  paid = λ good. paid_none (left_for c.args.client.now (g.L.Link.past c.args.link.now)) (g.L.Link.disturbances c.args.link.now);
 }
 
 pub returns-then-not-is_at_limit-clause-carried : goal.returns-then-not-is_at_limit-clause-carried
@@ -43,9 +46,33 @@ loop-made-preserved g c =
       ended = λ honest.
           let still = (c.loop-made.invariant.carrying.carried.went.known honest).0 in
           step.ensures.ended (is_planned c.args.client.now.keys) still ∙ c.loop-made.invariant.ended honest;
+      paid = λ good.
+          let first = c.loop-made.invariant.paid good in
+          let second = step.ensures.losing (c.loop-made.invariant.carrying.carried.went.good good) (limit_in_memory step.result.0 limit) in
+          let one = step.ensures.limit limit in
+          omega (arith, first, second, one);
     }
 
 pub returns-then-not-is_at_limit-clause-ended : goal.returns-then-not-is_at_limit-clause-ended
 returns-then-not-is_at_limit-clause-ended g c = λ honest.
     let still = (c.loop-made.invariant.carrying.carried.went.known honest).0 in
     c.exchange_once-carried.ensures.ended (is_planned c.args.client.now.keys) still ∙ c.loop-made.invariant.ended honest
+
+pub returns-then-limit-eq0-clause-losing : goal.returns-then-limit-eq0-clause-losing
+returns-then-limit-eq0-clause-losing g c = λ good memory.
+    let e = c.drive-stop.ensures in
+    let none : c.drive-stop.result.1 ≡ 0 = omega (arith, e.within) in
+    let paid = e.losing good (λ is. memory (ap Ok is)) in
+    omega (arith, none, paid)
+
+pub returns-then-not-is_at_limit-clause-losing : goal.returns-then-not-is_at_limit-clause-losing
+returns-then-not-is_at_limit-clause-losing g c = λ good memory.
+    let first = c.loop-made.invariant.paid good in
+    let second = c.exchange_once-carried.ensures.losing (c.loop-made.invariant.carrying.carried.went.good good) memory in
+    omega (arith, first, second)
+
+pub returns-clause-losing : goal.returns-clause-losing
+returns-clause-losing g c = λ good memory.
+    let made : c.loop-made.made ≡ c.args.limit = omega (arith, c.loop-made-test.false, c.loop-made.auto.made-end) in
+    let paid = c.loop-made.invariant.paid good in
+    omega (arith, made, paid)

@@ -1,5 +1,5 @@
 -- One exchange, saved or not.
-use Rattle.std.proofs.Common.{◌≡◌, rules, arith, refl}
+use Rattle.std.proofs.Common.{◌≡◌, Ok, ap, rules, arith, refl}
 use Rattle.kmip_running.proofs.CarryLemmas.{carried_none, carried_not, carried_one, carried_without, drove}
 use Rattle.kmip_running.proofs.carrying.exchange_once.Goals as goal
 
@@ -51,3 +51,26 @@ returns-in-Err-clause-carried g c =
     (λ keeping. let so = c.in-Err.ensures keeping in (so.0, so.2))
     (drove past honest calm c.args.client.now c.drive-stop.new.client c.args.link.now c.drive-stop.new.link c.drive-stop.result e.good e.goes e.known e.grown e.kept
     e.calm)
+
+pub returns-then-is_no_memory-clause-losing : goal.returns-then-is_no_memory-clause-losing
+returns-then-is_no_memory-clause-losing g c = λ good memory. absurd (memory refl)
+
+pub returns-then-exchanges-eq0-clause-losing : goal.returns-then-exchanges-eq0-clause-losing
+returns-then-exchanges-eq0-clause-losing g c = λ good memory.
+    let none : c.drive-stop.result.1 ≡ 0 = search rules in
+    let paid = c.drive-stop.ensures.losing good (λ is. memory (ap Ok is)) in
+    omega (arith, none, paid)
+
+pub returns-in-Ok-clause-losing : goal.returns-in-Ok-clause-losing
+returns-in-Ok-clause-losing g c = λ good memory.
+    let e = c.drive-stop.ensures in
+    let one : c.drive-stop.result.1 ≡ 1 = omega (arith, e.within, c.if-exchanges-eq0.false) in
+    let paid = e.losing good (λ is. memory (ap Ok is)) in
+    omega (arith, one, paid)
+
+pub returns-in-Err-clause-losing : goal.returns-in-Err-clause-losing
+returns-in-Err-clause-losing g c = λ good memory.
+    let e = c.drive-stop.ensures in
+    let one : c.drive-stop.result.1 ≡ 1 = omega (arith, e.within, c.if-exchanges-eq0.false) in
+    let paid = e.losing good (c.if-is_no_memory.ensures refl) in
+    omega (arith, one, paid)

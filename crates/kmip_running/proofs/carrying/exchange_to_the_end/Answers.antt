@@ -1,7 +1,11 @@
 -- And the end of the run.
+use Rattle.std.proofs.Common.{subst, sym}
+use Rattle.kmip_plan.specs.Plans.{IsLawful}
 use Rattle.kmip_schedule.specs.Past.{is_planned}
-use Rattle.kmip_running.proofs.CarryLemmas.{carried_closed, limit_last, stands_last}
+use Rattle.kmip_session.specs.Losing.{left_for}
+use Rattle.kmip_running.proofs.CarryLemmas.{carried_closed, limit_last, memory_before, stands_last}
 use Rattle.kmip_running.proofs.EndingLemmas.{ended_once, ended_whole}
+use Rattle.kmip_running.proofs.LosingLemmas.{paid_closed}
 use Rattle.kmip_running.proofs.carrying.exchange_to_the_end.Goals as goal
 
 pub returns-clause-carried : goal.returns-clause-carried
@@ -45,3 +49,15 @@ returns-clause-once g c = λ honest.
     (g.L.Link.ended c.close-closed.new.link)
     (c.laws_below.ensures.requests names (past done.new.link) (past c.close-closed.new.link) (c.close-closed.ensures.honest names still).1).sent
     (done.ensures.ended honest) (c.close-closed.ensures.once names still)
+
+pub returns-clause-losing : goal.returns-clause-losing
+returns-clause-losing g c = λ good memory.
+    let past = g.L.Link.past in
+    let counts = g.L.Link.disturbances in
+    let done = c.exchange_in_turn-carried in
+    let end = c.after_close.ensures in
+    let went = done.ensures.carried.went in
+    paid_closed past g.L.Link.honest counts c.laws_below.ensures done.new.client done.new.link c.close-closed.new.link done.result.1
+    (left_for c.args.client.now (past c.args.link.now)) (counts c.args.link.now)
+    (subst IsLawful (sym went.keeps.keys_stay) c.plan-plan.ensures.lawful) (went.good good) c.close-closed.ensures.honest c.close-closed.ensures.undisturbed
+    (done.ensures.losing good (memory_before c.close-closed.result done.result.0 c.after_close.result end.whole end.stop end.fault memory))

@@ -1,0 +1,188 @@
+//! Probes of a server of the profile over links that lose, double and delay.
+//!
+//! The questions are 1 and 2 the looks; 3 and 4 the Creates of the first name; 5 to 8 its Locates with
+//! no mask and with 1, 4 and 5; 9 Get Attributes; 10 and 11 Activate; 12 and 13 Revoke; 14 to 16
+//! Create, Activate and Destroy of the second name; 17 and 18 Destroy of the first; 19 its Create, and
+//! 20 to 23 its Locates; 24 and 25 Revoke and Destroy of the second.
+
+use kmip_commands::ExitStatus;
+use kmip_probe::run_probe;
+use kmip_scripted::{Script, Scripted, read_script};
+use kmip_server::{ListStore, Records, Server};
+use std::alloc::Global;
+use std::str::from_utf8;
+use std::test::Fail;
+
+/// Whether a name is unique, stays used, a step counts once, an active object is kept, objects and
+/// destroyed ones are found, attributes are told, and the id is echoed.
+type Told = [&'static str; 8];
+
+const ALL: Told = ["yes"; 8];
+
+/// What a link does, and what is told then.
+struct Row {
+    script: &'static str,
+    told: Told,
+    reasons: &'static str,
+    sum: &'static str,
+}
+
+const KEPT: &str =
+    "the promise holds here: each key is made once, and its steps are made once and in order";
+
+const UNSURE: &str = "not all could be told: probe again, with another prefix";
+
+/// A reason is 53 for a used name, and 67 for a state that has no such step.
+const ROWS: [Row; 9] = [
+    Row {
+        script: "",
+        told: ALL,
+        reasons: "53, 67",
+        sum: KEPT,
+    },
+    // The first Create is made, and the reply is lost: a Locate tells the identifier.
+    Row {
+        script: "pass\npass\nlose-reply\n",
+        told: ["no reply", "yes", "yes", "yes", "yes", "yes", "yes", "yes"],
+        reasons: "53, 67",
+        sum: UNSURE,
+    },
+    // The refusal of the second Create is lost.
+    Row {
+        script: "pass\npass\npass\nlose-reply\n",
+        told: ["no reply", "yes", "yes", "yes", "yes", "yes", "yes", "yes"],
+        reasons: "67, 53",
+        sum: UNSURE,
+    },
+    // In its place the reply to the first comes once more, which has another id.
+    Row {
+        script: "pass\npass\npass\nstale 3\n",
+        told: ["no reply", "yes", "yes", "yes", "yes", "yes", "yes", "yes"],
+        reasons: "67, 53",
+        sum: UNSURE,
+    },
+    // The first Create is made twice, and then the second is refused as it would have been.
+    Row {
+        script: "pass\npass\npass\nagain 3\n",
+        told: ALL,
+        reasons: "53, 67",
+        sum: KEPT,
+    },
+    // The attributes are lost.
+    Row {
+        script: "pass\npass\npass\npass\npass\npass\npass\npass\nlose-request\n",
+        told: ["yes", "yes", "yes", "yes", "yes", "yes", "no reply", "yes"],
+        reasons: "53, 67",
+        sum: UNSURE,
+    },
+    // The first Activate is not served: the second takes the step.
+    Row {
+        script: "pass\npass\npass\npass\npass\npass\npass\npass\npass\nlose-request\n",
+        told: ["yes", "yes", "no reply", "yes", "yes", "yes", "yes", "yes"],
+        reasons: "53, 67",
+        sum: UNSURE,
+    },
+    // The second Create is lost both ways: nothing is asked about an identifier that is not known.
+    Row {
+        script: "pass\npass\npass\npass\npass\npass\npass\npass\npass\npass\npass\npass\npass\nlose-reply\n",
+        told: ["yes", "yes", "yes", "no reply", "yes", "yes", "yes", "yes"],
+        reasons: "53, 67",
+        sum: UNSURE,
+    },
+    // The last Locate is lost.
+    Row {
+        script: "pass\npass\npass\npass\npass\npass\npass\npass\npass\npass\npass\npass\npass\npass\n\
+            pass\npass\npass\npass\npass\npass\npass\npass\nlose-reply\n",
+        told: [
+            "yes", "no reply", "yes", "yes", "yes", "no reply", "yes", "yes",
+        ],
+        reasons: "53, 67",
+        sum: UNSURE,
+    },
+];
+
+/// A link to an empty server, which follows the script.
+fn link_of(alloc: Global, script: Script) -> Scripted<ListStore> {
+    Scripted::new(
+        alloc,
+        Server::new(ListStore::new(alloc, [0; 32], 10_000)),
+        script,
+    )
+}
+
+/// The text of what is told.
+fn wanted(alloc: Global, row: &Row) -> Result<String, Fail> {
+    let [unique, used, once, active, found, destroyed, told, echoed] = row.told;
+    let text = format!(in alloc;
+        "names are unique: {unique}\n\
+         names stay used after Destroy: {used}\n\
+         a step made twice changes nothing: {once}\n\
+         an active object is not destroyed: {active}\n\
+         Locate finds objects by their names: {found}\n\
+         Locate finds destroyed objects: {destroyed}\n\
+         Get Attributes tells all six attributes: {told}\n\
+         the batch id is echoed: {echoed}\n\
+         reasons seen: {}\n\
+         {}\n",
+        row.reasons, row.sum
+    )?;
+    Ok(text)
+}
+
+#[test]
+fn tells_what_a_server_keeps(rt: HostRuntime) -> Result<(), Fail> {
+    let alloc = rt.alloc();
+    for row in &ROWS {
+        let mut link = link_of(alloc, read_script(alloc, row.script)?);
+        let mut text = Vec::new(alloc);
+        let status = run_probe(alloc, "probe", &mut link, &mut text);
+        let wanted = wanted(alloc, row)?;
+        assert_eq!(rt;
+            from_utf8(text.as_slice()),
+            Ok(wanted.as_str()),
+            "{}",
+            row.script
+        );
+        let code = if row.sum == KEPT { 0 } else { 1 };
+        assert_eq!(rt; status.code(), code, "{}", row.script);
+    }
+    Ok(())
+}
+
+#[test]
+fn makes_nothing_where_a_name_is_used(rt: HostRuntime) -> Result<(), Fail> {
+    let alloc = rt.alloc();
+    let mut link = link_of(alloc, read_script(alloc, "")?);
+    let mut text = Vec::new(alloc);
+    assert_eq!(rt;
+        run_probe(alloc, "probe", &mut link, &mut text),
+        ExitStatus::Done
+    );
+    let mut again = Vec::new(alloc);
+    let status = run_probe(alloc, "probe", &mut link, &mut again);
+    assert_eq!(rt; status, ExitStatus::Refused);
+    let wanted = "probe-1 is used already, and nothing was made; its object is 1\n";
+    assert_eq!(rt; from_utf8(again.as_slice()), Ok(wanted));
+    assert_eq!(rt; link.server().records().count(), 2);
+    Ok(())
+}
+
+#[test]
+fn makes_nothing_where_a_look_is_lost(rt: HostRuntime) -> Result<(), Fail> {
+    let alloc = rt.alloc();
+    for (script, name) in [
+        ("lose-reply\n", "probe-1"),
+        ("pass\nlose-request\n", "probe-2"),
+    ] {
+        let mut link = link_of(alloc, read_script(alloc, script)?);
+        let mut text = Vec::new(alloc);
+        let status = run_probe(alloc, "probe", &mut link, &mut text);
+        assert_eq!(rt; status, ExitStatus::Refused, "{script}");
+        let wanted = format!(in alloc;
+            "no reply: whether {name} is free could not be told; nothing was made\n"
+        )?;
+        assert_eq!(rt; from_utf8(text.as_slice()), Ok(wanted.as_str()), "{script}");
+        assert_eq!(rt; link.server().records().count(), 0, "{script}");
+    }
+    Ok(())
+}

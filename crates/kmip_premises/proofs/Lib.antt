@@ -1,0 +1,6 @@
+pub mod PuttingLemmas
+pub mod FittingLemmas
+pub mod ProbingLemmas
+pub mod KeptLemmas
+pub mod StandingLemmas
+pub mod ServedLemmas

@@ -1,0 +1,66 @@
+-- What came of a question of a probe.
+-- Source: KMIP 2.1, Message Structure (Unique Batch Item ID), and Message Data, Result Status.
+use Rattle.std.specs.Prelude.{ℕ, nat_eq, Bool, false, List, [], ◌∷◌, Option, Some, None, IsTrue, if◌then◌else◌}
+use Rattle.std.specs.Cmp.Lexicographic.{pointwise}
+use Rattle.std.specs.List.{All}
+use Rattle.kmip_messages.specs.declared.reply.Outcome.{Outcome}
+use Rattle.kmip_messages.specs.declared.reply.Outcome.TheVariants.{Created, Located, Failed}
+use Rattle.kmip_messages.specs.declared.reply.Reply.{Reply}
+use Rattle.kmip_messages.specs.Items.{replies_in}
+use Rattle.kmip_objects.specs.Ranges.{is_identifier}
+use Rattle.kmip_premises.specs.declared.answer.Answer.{Answer}
+use Rattle.kmip_premises.specs.declared.answer.Answer.TheVariants.{Nothing, Told, Unmarked}
+
+-- the id of the question of a number: the number in one byte, and the prefix
+abbrev pub marker_of : ℕ → List ℕ → List ℕ
+marker_of number prefix = number ∷ prefix
+
+-- the id is that of some question of the probe
+abbrev pub is_marker : List ℕ → List ℕ → Bool
+is_marker prefix [] = false
+is_marker prefix (number ∷ rest) = pointwise nat_eq prefix rest
+
+-- an outcome whose reply has the id of no question: a refusal is passed over
+abbrev pub unmarked : Outcome → Answer
+unmarked (Failed reason) = Nothing
+unmarked outcome = Unmarked outcome
+
+-- An outcome whose reply has no id: a refusal answers the question, as it may leave that out.
+abbrev pub without_id : Outcome → Answer
+without_id (Failed reason) = Told (Failed reason)
+without_id outcome = Unmarked outcome
+
+-- What a reply says of the question of a number: one with its id answers it, and one with the id of another question is late.
+abbrev pub answer_with : ℕ → List ℕ → Option (List ℕ) → Outcome → Answer
+answer_with number prefix None outcome = without_id outcome
+answer_with number prefix (Some id) outcome =
+    if pointwise nat_eq (marker_of number prefix) id then Told outcome
+    else (if is_marker prefix id then Nothing else unmarked outcome)
+
+abbrev pub answer_in : ℕ → List ℕ → List Reply → Answer
+answer_in number prefix [] = Nothing
+answer_in number prefix (reply ∷ replies) = answer_with number prefix reply.id reply.outcome
+
+-- what was handed over says of it; a loss says nothing
+abbrev pub answer_to : ℕ → List ℕ → Option (List ℕ) → Answer
+answer_to number prefix None = Nothing
+answer_to number prefix (Some given) = answer_in number prefix (replies_in given)
+
+-- the outcome of a question, where there is one
+abbrev pub outcome_in : Answer → Option Outcome
+outcome_in Nothing = None
+outcome_in (Told outcome) = Some outcome
+outcome_in (Unmarked outcome) = Some outcome
+
+-- the identifiers that an outcome gives the name that was asked about
+abbrev pub uids_in : Option Outcome → List (List ℕ)
+uids_in (Some (Created uid)) = uid ∷ []
+uids_in (Some (Located uids)) = uids
+uids_in outcome = []
+
+abbrev pub uids_told : Answer → List (List ℕ)
+uids_told answer = uids_in (outcome_in answer)
+
+-- Private: each of them is one
+abbrev pub IsLawful : Answer → Type 0
+IsLawful answer = All (λ uid. IsTrue (is_identifier uid)) (uids_told answer)

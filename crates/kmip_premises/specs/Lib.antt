@@ -1,0 +1,9 @@
+pub mod Inquiries
+pub mod Answers
+pub mod Asking
+pub mod Putting
+pub mod Serving
+pub mod Standing
+pub mod Telling
+pub mod Judging
+pub mod Laws

@@ -1,0 +1,80 @@
+-- Private: how the two objects of a probe stand after so many answers, and the laws of the crates below.
+-- Source: own: how a contract sees the code.
+use Rattle.std.specs.Prelude.{◌≡◌, ◌≤◌, ℕ, ◌+◌, List, [], ◌∷◌, map, take, length, Option, Some, None, option_map}
+use Rattle.std.specs.Prelude.{get_or}
+use Rattle.kmip_objects.specs.ObjectLaws.{
+  NamedIsIdentified,
+  NamedIsAll,
+  NamedBeforeMore,
+  NamedAmongMore,
+  OneMore,
+  OwnIsRestated,
+  OtherIsKept,
+  RestatedKeeps,
+  NamedIsRestated,
+  StaysDistinct,
+}
+use Rattle.kmip_objects.specs.Objects.{DistinctNames, DistinctUids, object_named, object_with}
+use Rattle.kmip_objects.specs.declared.state.KeyState.{KeyState}
+use Rattle.kmip_objects.specs.declared.state.KeyState.TheVariants.{PreActive, Active, Deactivated, Destroyed}
+use Rattle.kmip_schedule.specs.Past.{Past}
+use Rattle.kmip_premises.specs.Inquiries.{name_of}
+use Rattle.kmip_premises.specs.Serving.{object_of, outcomes_of}
+use Rattle.kmip_premises.specs.declared.answer.Answer.{Answer}
+use Rattle.kmip_premises.specs.declared.answer.Answer.TheVariants.{Told}
+use Rattle.kmip_premises.specs.declared.inquiry.Which.{Which}
+use Rattle.kmip_premises.specs.declared.inquiry.Which.TheVariants.{First, Second}
+
+-- the laws of the crates below
+pub record ProbeLaws : Type 0 where
+  pub identified : NamedIsIdentified
+  pub all_named : NamedIsAll
+  pub before : NamedBeforeMore
+  pub among : NamedAmongMore
+  pub names : OneMore DistinctNames (λ o. object_named o.attrs.name)
+  pub uids : OneMore DistinctUids (λ o. object_with o.uid)
+  pub own : OwnIsRestated
+  pub other : OtherIsKept
+  pub keeps : RestatedKeeps
+  pub renamed : NamedIsRestated
+  pub names_stay : StaysDistinct DistinctNames
+  pub uids_stay : StaysDistinct DistinctUids
+
+-- the state of each object after so many answers; none where it is not made yet
+abbrev pub states_of : Which → List (Option KeyState)
+states_of First =
+    None ∷ None ∷ None
+    ∷ Some PreActive ∷ Some PreActive ∷ Some PreActive ∷ Some PreActive ∷ Some PreActive ∷ Some PreActive ∷ Some PreActive
+    ∷ Some Active ∷ Some Active
+    ∷ Some Deactivated ∷ Some Deactivated ∷ Some Deactivated ∷ Some Deactivated ∷ Some Deactivated
+    ∷ Some Destroyed ∷ Some Destroyed ∷ Some Destroyed ∷ Some Destroyed ∷ Some Destroyed ∷ Some Destroyed ∷ Some Destroyed
+    ∷ Some Destroyed ∷ Some Destroyed ∷ []
+states_of Second =
+    None ∷ None ∷ None ∷ None ∷ None ∷ None ∷ None ∷ None ∷ None ∷ None ∷ None ∷ None ∷ None ∷ None
+    ∷ Some PreActive
+    ∷ Some Active ∷ Some Active ∷ Some Active ∷ Some Active ∷ Some Active ∷ Some Active ∷ Some Active ∷ Some Active ∷ Some Active
+    ∷ Some Deactivated
+    ∷ Some Destroyed ∷ []
+
+abbrev pub state_at : Which → ℕ → Option KeyState
+state_at which count = get_or (states_of which) count None
+
+-- one more object is to be made, or none
+abbrev pub missing : Option KeyState → ℕ
+missing None = 1
+missing (Some state) = 0
+
+-- the objects after so many answers
+pub record AreStanding (prefix first second : List ℕ) (count : ℕ) (p : Past) : Type 0 where
+  pub names_differ : DistinctNames p.objects
+  pub uids_differ : DistinctUids p.objects
+  pub first_is : object_named (name_of First prefix) p.objects ≡ option_map (object_of First prefix first) (state_at First count)
+  pub second_is : object_named (name_of Second prefix) p.objects ≡ option_map (object_of Second prefix second) (state_at Second count)
+  pub roomy : length p.objects + missing (state_at First count) + missing (state_at Second count) ≤ p.room
+
+-- so many questions were answered as the profile says
+pub record AreServed (prefix : List ℕ) (answers : List Answer) (p : Past) : Type 0 where
+  pub first : List ℕ
+  pub second : List ℕ
+  pub answers_are : answers ≡ map Told (take (length answers) (outcomes_of prefix first second))
+  pub standing : AreStanding prefix first second (length answers) p

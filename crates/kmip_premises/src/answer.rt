@@ -1,0 +1,140 @@
+//! What came of a question.
+ghost use Rattle.std.specs.Prelude.{◌≡◌, IfOk, option_map, nat_eq};
+ghost use Rattle.std.specs.Cmp.Lexicographic.{pointwise};
+ghost use Rattle.kmip_messages.specs.Fits.{HasValuesInRange};
+ghost use Rattle.kmip_premises.specs.Answers.{answer_to, answer_with, is_marker, marker_of, outcome_in, unmarked, uids_told, without_id, IsLawful};
+ghost use Rattle.kmip_premises.specs.Asking.{is_free};
+
+use kmip_messages::{Outcome, Reply, read_reply};
+use kmip_ttlv::{Bytes, NoMemory, Text};
+use std::alloc::Global;
+
+/// What came of a question.
+#[derive(Debug, Drop)]
+pub enum Answer {
+    /// Nothing that answers it.
+    Nothing,
+    /// Its answer: the reply has its id, or is a refusal, which may leave that out.
+    Told(Outcome),
+    /// A success whose reply has no id, or one that is the id of no question.
+    Unmarked(Outcome),
+}
+
+impl Answer {
+    /// What was said, where something was.
+    pub fn outcome(&self) -> Option<&Outcome>
+        ensures { option_map (λ outcome. outcome.now) result ≡ outcome_in self.now }
+    {
+        match self {
+            Answer::Nothing => None,
+            Answer::Told(outcome) | Answer::Unmarked(outcome) => Some(outcome),
+        }
+    }
+
+    /// The identifiers that are given the name that was asked about.
+    pub fn uids(&self) -> &[Text]
+        ensures { result.now ≡ uids_told self.now }
+    {
+        match self.outcome() {
+            Some(Outcome::Created(uid)) => std::slice::from_ref(uid),
+            Some(Outcome::Located(uids)) => uids.as_slice(),
+            _ => &[],
+        }
+    }
+
+    /// Whether a Locate has found nothing.
+    pub(crate) fn is_free(&self) -> bool
+        ensures { result ≡ is_free self.now }
+    {
+        match self.outcome() {
+            Some(Outcome::Located(uids)) => uids.as_slice().is_empty(),
+            _ => false,
+        }
+    }
+}
+
+/// What was handed over says of the question of a number, from 0.
+///
+/// # Errors
+/// Where there is no memory.
+pub(crate) fn answer_to(
+    alloc: Global,
+    number: u8,
+    prefix: &str,
+    handed: Option<Vec<u8>>,
+) -> Result<Answer, NoMemory>
+    ensures answer { IfOk result (λ answer. answer
+        ≡ answer_to number prefix.now (option_map (λ v. v.items) handed)) }
+    ensures lawful { IfOk result IsLawful }
+{
+    let Some(given) = handed else {
+        return Ok(Answer::Nothing);
+    };
+    match read_reply(alloc, given.as_slice()) {
+        Ok(reply) => Ok(answer_with(number, prefix, reply)),
+        Err(fault) => {
+            if fault.is_no_memory() {
+                return Err(NoMemory);
+            }
+            Ok(Answer::Nothing)
+        }
+    }
+}
+
+/// What a reply says of the question of a number.
+fn answer_with(number: u8, prefix: &str, reply: Reply) -> Answer
+    ensures answer { result ≡ answer_with number prefix.now reply.id reply.outcome }
+    ensures lawful { HasValuesInRange reply → IsLawful result }
+{
+    let Reply { id, outcome, .. } = reply;
+    let Some(id) = id else {
+        return without_id(outcome);
+    };
+    if is_marker_of(number, prefix, &id) {
+        return Answer::Told(outcome);
+    }
+    if is_marker(prefix, &id) {
+        return Answer::Nothing;
+    }
+    unmarked(outcome)
+}
+
+/// What an outcome says whose reply has no id.
+fn without_id(outcome: Outcome) -> Answer
+    ensures { result ≡ without_id outcome }
+{
+    match outcome {
+        Outcome::Failed(reason) => Answer::Told(Outcome::Failed(reason)),
+        outcome => Answer::Unmarked(outcome),
+    }
+}
+
+/// What an outcome says whose reply has the id of no question.
+fn unmarked(outcome: Outcome) -> Answer
+    ensures { result ≡ unmarked outcome }
+{
+    match outcome {
+        Outcome::Failed(_) => Answer::Nothing,
+        outcome => Answer::Unmarked(outcome),
+    }
+}
+
+/// Whether the id is that of the question of a number.
+fn is_marker_of(number: u8, prefix: &str, id: &Bytes) -> bool
+    ensures { result ≡ pointwise nat_eq (marker_of number prefix.now) id.now }
+{
+    match id.as_slice().split_first() {
+        Some((first, rest)) => *first == number && rest == prefix.as_bytes(),
+        None => false,
+    }
+}
+
+/// Whether the id is that of some question.
+fn is_marker(prefix: &str, id: &Bytes) -> bool
+    ensures { result ≡ is_marker prefix.now id.now }
+{
+    match id.as_slice().split_first() {
+        Some((_number, rest)) => rest == prefix.as_bytes(),
+        None => false,
+    }
+}

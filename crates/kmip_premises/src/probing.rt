@@ -1,0 +1,223 @@
+//! The questions, one after the other over a link.
+ghost use Rattle.std.specs.Prelude.{◌≡◌, ◌≤◌, ◌<◌, ◌+◌, ◌-◌, ◌++◌, [], ◌∷◌, ℕ, Some, None, Option, List, length, map, take, drop, flat_map, slice_get, IfOk, IsTrue, Err, OnErr, option_map};
+ghost use Rattle.std.specs.List.{All};
+ghost use Rattle.kmip_schedule.specs.Past.{Names};
+ghost use Rattle.kmip_ttlv.specs.Spelling.{canon};
+ghost use Rattle.kmip_messages.specs.RequestFits.{request_fits};
+ghost use Rattle.kmip_messages.specs.Written.{request_item};
+ghost use Rattle.kmip_schedule.specs.Exchanges.{answer_in};
+ghost use Rattle.kmip_premises.specs.Answers.{answer_to, uids_told, IsLawful};
+ghost use Rattle.kmip_premises.specs.Asking.{is_free_at, next_inquiry, uid_of, request_for, messages_from, AreAnswers};
+ghost use Rattle.kmip_premises.specs.Inquiries.{is_prefix};
+ghost use Rattle.kmip_premises.specs.Serving.{IsUnprobed, outcomes_of};
+ghost use Rattle.kmip_premises.specs.Standing.{ProbeLaws};
+ghost use Rattle.kmip_premises.specs.Putting.{HasAsked, HasReplied, HasSent, HasServedNext, IsHanded};
+
+use crate::answer::{Answer, answer_to};
+use crate::inquiry::{Inquiry, QUESTIONS, Which, ask_of, inquiry_at, name_of};
+use kmip_messages::{Ask, Request, write_request};
+use kmip_objects::laws::{added_laws, found_laws, restated_laws};
+use kmip_schedule::laws::deliveries_keep_the_requests;
+use kmip_schedule::{Link, LinkFault};
+use kmip_ttlv::{Bytes, NoMemory, Text};
+use std::alloc::Global;
+
+/// Asks the questions of a probe over the link, one after the other, and answers what came of each.
+/// Where one of the names is there already, or it could not be told, nothing more is asked, and
+/// nothing was made. A question about an identifier that no answer told is passed over.
+///
+/// # Errors
+/// Where there is no memory; what was made until then stays.
+pub fn probe<L: Link>(alloc: Global, prefix: &str, link: &mut L) -> Result<Vec<Answer>, NoMemory>
+    requires { IsTrue (is_prefix prefix.now) }
+    ensures whole { IfOk result (λ answers. next_inquiry answers.items ≡ None) }
+    ensures few { (names : Names) → L.honest link.old names
+        → length (L.past link.new).sent ≤ length (L.past link.old).sent + QUESTIONS }
+    ensures sent { (names : Names) → L.honest link.old names → L.honest link.new names
+        × IfOk result (λ answers. (L.past link.new).sent
+        ≡ (L.past link.old).sent ++ messages_from prefix.now [] answers.items) }
+    ensures heard { (names : Names) → L.honest link.old names → IfOk result (λ answers.
+        (given : List (Option (List ℕ))) × ((L.past link.new).handed
+        ≡ (L.past link.old).handed ++ given) × AreAnswers prefix.now [] answers.items given) }
+    ensures kept { (names : Names) → L.calm link.old names
+        → IsUnprobed prefix.now (L.past link.old) → IfOk result (λ answers. (first second : List ℕ)
+        × (answers.items ≡ map Answer.Told (outcomes_of prefix.now first second))) }
+{
+    laws_below();
+    L::calm_laws();
+    let mut answers = Vec::new(alloc);
+    for _ in 0..QUESTIONS {
+        let Some(inquiry) = next_inquiry(answers.as_slice()) else {
+            return Ok(answers);
+        };
+        let answer = put(alloc, prefix, link, inquiry, answers.as_slice())?;
+        answers.push(answer)?;
+    }
+    Ok(answers)
+}
+
+/// The laws of the crates below.
+fn laws_below()
+    ensures { ProbeLaws }
+{
+    found_laws();
+    added_laws();
+    restated_laws();
+}
+
+/// The question that follows these answers, where one does.
+fn next_inquiry(answers: &[Answer]) -> Option<Inquiry>
+    ensures { result ≡ next_inquiry answers.now }
+{
+    if !is_free_at(answers, 0) || !is_free_at(answers, 1) {
+        return None;
+    }
+    inquiry_at(answers.len())
+}
+
+/// Whether the answer at a place, where there is one yet, is a Locate that has found nothing.
+pub fn is_free_at(answers: &[Answer], place: usize) -> bool
+    ensures { result ≡ is_free_at answers.now place }
+{
+    match answers.get(place) {
+        Some(answer) => answer.is_free(),
+        None => true,
+    }
+}
+
+/// The answers of the questions from one number on and before another.
+pub(crate) fn part(answers: &[Answer], from: usize, to: usize) -> &[Answer]
+    requires { from ≤ to }
+    ensures { result.now ≡ take (to - from) (drop from answers.now) }
+{
+    let end = to.min(answers.len());
+    &answers[from.min(end)..end]
+}
+
+/// The identifier that answers give a name.
+pub(crate) fn uid_of(which: Which, answers: &[Answer]) -> Option<&Text>
+    ensures { option_map (λ uid. uid.now) result ≡ uid_of which answers.now }
+{
+    match which {
+        Which::First => first_uid(part(answers, 2, 8)),
+        Which::Second => first_uid(part(answers, 13, 14)),
+    }
+}
+
+/// The first identifier that is told.
+fn first_uid(answers: &[Answer]) -> Option<&Text>
+    ensures { option_map (λ uid. uid.now) result ≡ slice_get (flat_map uids_told answers.now) 0 }
+{
+    for answer in answers {
+        if let Some(uid) = answer.uids().first() {
+            return Some(uid);
+        }
+    }
+    None
+}
+
+/// Puts a question over the link, where it can be asked, and reads what comes back.
+///
+/// # Errors
+/// Where there is no memory.
+fn put<L: Link>(
+    alloc: Global,
+    prefix: &str,
+    link: &mut L,
+    inquiry: Inquiry,
+    answers: &[Answer],
+) -> Result<Answer, NoMemory>
+    requires few { length answers.now < QUESTIONS }
+    requires prefix { IsTrue (is_prefix prefix.now) }
+    requires lawful { All IsLawful answers.now }
+    requires next { next_inquiry answers.now ≡ Some inquiry }
+    ensures lawful { IfOk result IsLawful }
+    ensures asked { (names : Names) → L.honest link.old names → L.honest link.new names
+        × IfOk result (λ answer. HasAsked prefix.now answers.now answer (L.past link.old)
+        (L.past link.new)) }
+    ensures few { (names : Names) → L.honest link.old names
+        → length (L.past link.new).sent ≤ length (L.past link.old).sent + 1 }
+    ensures served { (names : Names) → L.calm link.old names → L.calm link.new names
+        × IfOk result (λ answer. HasServedNext prefix.now answers.now answer (L.past link.old)
+        (L.past link.new)) }
+{
+    L::calm_laws();
+    let Some(request) = request_for(alloc, prefix, inquiry, answers)? else {
+        return Ok(Answer::Nothing);
+    };
+    ask(alloc, prefix, link, answers.len() as u8, &request)
+}
+
+/// Sends a request, and answers what comes back says of the question of its number.
+///
+/// # Errors
+/// Where there is no memory.
+fn ask<L: Link>(
+    alloc: Global,
+    prefix: &str,
+    link: &mut L,
+    number: u8,
+    request: &Request,
+) -> Result<Answer, NoMemory>
+    requires { IsTrue (request_fits request.now) }
+    ensures lawful { IfOk result IsLawful }
+    ensures asked { (names : Names) → L.honest link.old names → L.honest link.new names
+        × IfOk result (λ answer. HasSent (canon (request_item request.now)) (answer_to number
+        prefix.now) answer (L.past link.old) (L.past link.new)) }
+    ensures few { (names : Names) → L.honest link.old names
+        → length (L.past link.new).sent ≤ length (L.past link.old).sent + 1 }
+    ensures served { (names : Names) → L.calm link.old names → L.calm link.new names
+        × IfOk result (λ answer. HasReplied request.now number prefix.now answer
+        (L.past link.old) (L.past link.new)) }
+{
+    deliveries_keep_the_requests();
+    L::calm_laws();
+    let bytes = write_request(alloc, request)?;
+    let Ok(handed) = handed_over(link.exchange(alloc, bytes.as_slice())) else {
+        return Err(NoMemory);
+    };
+    answer_to(alloc, number, prefix, handed)
+}
+
+/// What an exchange handed over, where a failure of the network is a loss.
+///
+/// # Errors
+/// Where there is no memory.
+fn handed_over(answered: Result<Option<Vec<u8>>, LinkFault>) -> Result<Option<Vec<u8>>, NoMemory>
+    ensures ok { IfOk result (λ handed. IsHanded (answer_in (λ v. v.items) answered)
+        (option_map (λ v. v.items) handed)) }
+    ensures err { OnErr result (answer_in (λ v. v.items) answered ≡ Err LinkFault.NoMemory) }
+{
+    match answered {
+        Ok(handed) => Ok(handed),
+        Err(LinkFault::Io) | Err(LinkFault::Frame) => Ok(None),
+        Err(LinkFault::NoMemory) => Err(NoMemory),
+    }
+}
+
+/// The question as it is asked after these answers; none where it needs an identifier and none is
+/// known.
+///
+/// # Errors
+/// Where there is no memory.
+fn request_for(
+    alloc: Global,
+    prefix: &str,
+    inquiry: Inquiry,
+    answers: &[Answer],
+) -> Result<Option<Request>, NoMemory>
+    requires few { length answers.now < QUESTIONS }
+    ensures { IfOk result (λ request. request ≡ request_for prefix.now answers.now inquiry) }
+{
+    let Inquiry(which, kind) = inquiry;
+    let name = name_of(alloc, which, prefix)?;
+    let Some(ask) = ask_of(alloc, kind, name, uid_of(which, answers))? else {
+        return Ok(None);
+    };
+    let mut id = vec![in alloc; answers.len() as u8]?;
+    id.extend_from_slice(prefix.as_bytes())?;
+    Ok(Some(Request {
+        id: Some(Bytes::from_vec(id)),
+        ask,
+    }))
+}

@@ -1,0 +1,2 @@
+pub mod Wording
+pub mod ProbeText

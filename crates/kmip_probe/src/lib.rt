@@ -1,0 +1,11 @@
+//! The command `probe`: the questions of a probe over any link, and what their answers say of a server
+//! in words, over any writer.
+#![tactic(auto)]
+
+mod premise;
+mod running;
+mod wording;
+
+pub use premise::{PREMISES, Premise, finding_of};
+pub use running::run_probe;
+pub use wording::{are_all_kept, report};

@@ -1,0 +1,177 @@
+//! The command `probe`: whether a server keeps what the theorem asks of it.
+ghost use Rattle.std.specs.Prelude.{◌≡◌, ◌≤◌, ◌+◌, [], length, false, string_bytes, IfErr, IfOk, IsTrue, option_map};
+ghost use Rattle.std.specs.Io.KnownBytes.{Appends};
+ghost use Rattle.kmip_commands.specs.Printing.{IfFailed, IfWhole, UnlessOutput, fault_line};
+ghost use Rattle.kmip_schedule.specs.Past.{Names};
+ghost use Rattle.kmip_premises.specs.Inquiries.{is_prefix, name_of};
+ghost use Rattle.kmip_premises.specs.Serving.{IsUnprobed};
+ghost use Rattle.kmip_probe.specs.ProbeText.{
+  TellsProbe,
+  WritesProbe,
+  kept_text,
+  look_text,
+  unbegun_text,
+  unsure_text,
+  used_text,
+};
+
+use crate::wording::{are_all_kept, report};
+use kmip_commands::{CommandFault, ExitStatus, finished, send};
+use kmip_messages::Outcome;
+use kmip_premises::laws::the_profile_keeps_all;
+use kmip_premises::{Answer, QUESTIONS, Which, findings, is_free_at, name_of, outcome_at, probe};
+use kmip_schedule::Link;
+use kmip_ttlv::{NoMemory, plain_text};
+use std::alloc::Global;
+use std::io::Write;
+
+/// The text of a probe, and whether a premise is not seen to be kept.
+#[derive(Drop)]
+struct Told {
+    text: String,
+    refused: bool,
+}
+
+/// Runs `probe`, and prints a line for want of memory.
+pub fn run_probe<L: Link, W: Write>(
+    alloc: Global,
+    prefix: &str,
+    link: &mut L,
+    writer: &mut W,
+) -> ExitStatus
+    requires { IsTrue (is_prefix prefix.now) }
+    ensures text { IfWhole result (λ r. WritesProbe L.past L.honest prefix.now link.old link.new r
+        (W.contents writer.old) (W.contents writer.new)) }
+    ensures broken { IfFailed result (λ fault. UnlessOutput fault
+        (Appends (W.contents writer.old) (W.contents writer.new) (fault_line fault))) }
+    ensures few { (names : Names) → L.honest link.old names
+        → length (L.past link.new).sent ≤ length (L.past link.old).sent + QUESTIONS }
+    ensures kept { (names : Names) → L.calm link.old names
+        → IsUnprobed prefix.now (L.past link.old) → IfWhole result (λ r. (r ≡ false)
+        × Appends (W.contents writer.old) (W.contents writer.new) kept_text) }
+{
+    let ended = tell(alloc, prefix, link, writer);
+    finished(ended, writer)
+}
+
+/// Asks the questions of a probe, and writes what their answers tell. Says whether a premise is not
+/// seen to be kept. Nothing is written before all is asked.
+///
+/// # Errors
+///
+/// `Output` where the writer fails, and `NoMemory`: nothing is written then.
+fn tell<L: Link, W: Write>(
+    alloc: Global,
+    prefix: &str,
+    link: &mut L,
+    writer: &mut W,
+) -> Result<bool, CommandFault>
+    requires { IsTrue (is_prefix prefix.now) }
+    ensures text { IfOk result (λ r. WritesProbe L.past L.honest prefix.now link.old link.new r
+        (W.contents writer.old) (W.contents writer.new)) }
+    ensures broken { IfErr result (λ fault. UnlessOutput fault
+        (Appends (W.contents writer.old) (W.contents writer.new) [])) }
+    ensures few { (names : Names) → L.honest link.old names
+        → length (L.past link.new).sent ≤ length (L.past link.old).sent + QUESTIONS }
+    ensures kept { (names : Names) → L.calm link.old names
+        → IsUnprobed prefix.now (L.past link.old) → IfOk result (λ r. (r ≡ false)
+        × Appends (W.contents writer.old) (W.contents writer.new) kept_text) }
+{
+    the_profile_keeps_all();
+    let answers = probe(alloc, prefix, link)?;
+    let told = told_of(alloc, prefix, answers.as_slice())?;
+    send(told.text.as_str().as_bytes(), false, writer)?;
+    Ok(told.refused)
+}
+
+/// What the answers of a probe tell.
+///
+/// # Errors
+/// Where there is no memory.
+fn told_of(alloc: Global, prefix: &str, answers: &[Answer]) -> Result<Told, NoMemory>
+    ensures { IfOk result (λ told. TellsProbe prefix.now answers.now told.refused
+        (string_bytes told.text)) }
+{
+    if let Some(text) = unbegun_text(alloc, prefix, answers)? {
+        return Ok(Told {
+            text,
+            refused: true,
+        });
+    }
+    let findings = findings(alloc, prefix, answers)?;
+    let text = report(alloc, &findings)?;
+    let refused = !are_all_kept(&findings);
+    Ok(Told { text, refused })
+}
+
+/// What is told where a name is not seen to be free; none where both are.
+///
+/// # Errors
+/// Where there is no memory.
+fn unbegun_text(alloc: Global, prefix: &str, answers: &[Answer]) -> Result<Option<String>, NoMemory>
+    ensures { IfOk result (λ text. option_map string_bytes text
+        ≡ unbegun_text prefix.now answers.now) }
+{
+    if !is_free_at(answers, 0) {
+        let text = look_text(alloc, Which::First, prefix, outcome_at(answers, 0))?;
+        return Ok(Some(text));
+    }
+    if !is_free_at(answers, 1) {
+        let text = look_text(alloc, Which::Second, prefix, outcome_at(answers, 1))?;
+        return Ok(Some(text));
+    }
+    Ok(None)
+}
+
+/// Why nothing was made, by the outcome of the look at a name.
+///
+/// # Errors
+/// Where there is no memory.
+fn look_text(
+    alloc: Global,
+    which: Which,
+    prefix: &str,
+    outcome: Option<&Outcome>,
+) -> Result<String, NoMemory>
+    ensures { IfOk result (λ text. string_bytes text
+        ≡ look_text (name_of which prefix.now) (option_map (λ o. o.now) outcome.entry)) }
+{
+    let name = name_of(alloc, which, prefix)?;
+    if let Some(Outcome::Located(uids)) = outcome {
+        if let Some(uid) = uids.as_slice().first() {
+            return used_text(alloc, name.as_str(), uid.as_str());
+        }
+    }
+    unsure_text(alloc, name.as_str())
+}
+
+/// An object has the name.
+///
+/// # Errors
+/// Where there is no memory.
+#[tactic(auto, unfolding(crate::specs::ProbeText::used_text))]
+fn used_text(alloc: Global, name: &str, uid: &str) -> Result<String, NoMemory>
+    ensures { IfOk result (λ text. string_bytes text ≡ used_text name.now uid.now) }
+{
+    let uid = plain_text(alloc, uid)?;
+    let mut text = format!(in alloc;
+        "{name} is used already, and nothing was made; its object is "
+    )?;
+    text.push_str(uid.as_str())?;
+    text.push_str("\n")?;
+    Ok(text)
+}
+
+/// Whether an object has the name could not be told.
+///
+/// # Errors
+/// Where there is no memory.
+#[tactic(auto, unfolding(crate::specs::ProbeText::unsure_text))]
+fn unsure_text(alloc: Global, name: &str) -> Result<String, NoMemory>
+    ensures { IfOk result (λ text. string_bytes text ≡ unsure_text name.now) }
+{
+    let text = format!(in alloc;
+        "no reply: whether {name} is free could not be told; nothing was made\n"
+    )?;
+    Ok(text)
+}
