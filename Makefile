@@ -4,7 +4,7 @@
 # make bench      compares the program with a baseline in plain Rust, and times simulations (needs rustc)
 # make refuse     refuses each growth of memory of the program and of kmip_growths in turn (needs cc, python3)
 # make hostile    gives the program lines of ten megabytes, under limits of memory
-# make storm      carries 200 plans over a network that loses and cuts messages, and kills the runs (needs rustc)
+# make storm      carries 200 plans over a network that loses and cuts messages, kills the runs, and probes (needs rustc)
 # make peers      runs it against peers that answer nothing, rubbish or too late (needs python3)
 # make tls        carries a plan out over TLS between two tunnels, with client certificates (needs openssl, stunnel)
 # make reading    lists the public functions; with FUNCTION=crate::name, what its contract rests on (needs python3)

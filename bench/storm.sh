@@ -1,11 +1,11 @@
 #!/usr/bin/env bash
 # Carries 200 random plans through a network that loses, repeats, delays and cuts messages, and kills the
-# runs: bench/storm.rs says how. Sockets on 127.0.0.1 only.
+# runs; and probes servers through it: bench/storm/main.rs says how. Sockets on 127.0.0.1 only.
 #
 #     bench/storm.sh PROGRAM [PLANS [SEED]]
 #
 # Needs rustc. The last line has `0 wrong`, and the exit status is 0, where every plan was finished
-# within its bound and every step took effect once and in turn.
+# within its bound, every step took effect once and in turn, and no probe said what is not so.
 set -euo pipefail
 
 program=$(realpath "$1")
@@ -15,6 +15,6 @@ cd "$(dirname "$0")/.."
 out=out/storm
 
 mkdir -p "$out"
-rustc --edition 2021 -O -o "$out/storm" bench/storm.rs
+rustc --edition 2021 -O -o "$out/storm" bench/storm/main.rs
 echo "seed $seed"
 exec "$out/storm" "$program" "$out/work" "$plans" "$seed"

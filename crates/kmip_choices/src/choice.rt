@@ -6,7 +6,7 @@ ghost use Rattle.kmip_choices.specs.declared.choice.Choice.TheVariants.{Answer, 
 ghost use Rattle.kmip_sim.specs.declared.detail.Detail.TheVariants.{Runs, Exchanges};
 
 use kmip_commands::Form;
-use kmip_network::{RunOptions, ServeOptions};
+use kmip_network::{ProbeOptions, RunOptions, ServeOptions};
 use kmip_sim::Detail;
 use std::alloc::{AllocError, Global};
 
@@ -40,6 +40,8 @@ pub enum Choice {
     },
     /// Carry out a plan over a network.
     Run(RunOptions),
+    /// Look whether a server keeps what the theorem asks of it.
+    Probe(ProbeOptions),
     /// Serve connections.
     Serve(ServeOptions),
 }

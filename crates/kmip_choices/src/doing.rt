@@ -3,7 +3,7 @@
 use crate::Choice;
 use kmip_check::{check_after_bytes, run_check, run_check_after};
 use kmip_commands::{ExitStatus, Form, run_answer, run_answer_stream, run_show};
-use kmip_network::{refusal_of, run_plan, serve, text_or_why_not};
+use kmip_network::{probe_server, refusal_of, run_plan, serve, text_or_why_not};
 use kmip_sim::{Detail, run_sim};
 use std::io;
 use std::io::{BufReader, BufWriter, Error, ErrorKind};
@@ -28,6 +28,7 @@ pub fn carry_out(rt: &HostRuntime, choice: Choice) -> io::Result<ExitStatus> {
             detail,
         } => simulate_files(rt, detail, plan.as_str(), further, script.as_str()),
         Choice::Run(options) => run_plan(rt, &options),
+        Choice::Probe(options) => probe_server(rt, &options),
         Choice::Serve(options) => serve(rt, &options),
     }
 }

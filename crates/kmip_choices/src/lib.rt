@@ -7,4 +7,4 @@ mod doing;
 
 pub use choice::{Choice, answer_of, check_of, detail_of, form_of, simulation_of};
 pub use doing::carry_out;
-pub use kmip_network::{Peer, RunOptions, ServeOptions};
+pub use kmip_network::{Peer, ProbeOptions, RunOptions, ServeOptions};

@@ -12,9 +12,11 @@ Without words it does `answer`. Everything is printed on standard output, but fo
 it works.
 
 Exit status:
-  0  nothing was refused, and a run, or the last one of a simulation, finished all keys
+  0  nothing was refused, a run, or the last one of a simulation, finished all keys, and a server that was
+     probed keeps every rule
   1  a line, a stream, a plan, a progress or a script was refused, a plan does not prolong the earlier one,
-     a run left keys unfinished, or reading, writing, listening or memory failed
+     a run left keys unfinished, a rule is not seen to be kept, or reading, writing, listening or memory
+     failed
   2  the command line is wrong
 
 Examples, a plan carried out against a server in the same process, and bytes that are no message with the
@@ -190,6 +192,40 @@ exchange, where that is a terminal and `--verbose` does not tell each exchange t
 
 With `--loopback` the server is one in this process with no object, so it suits a first run.";
 
+pub(crate) const PROBE: &str =
+    "Looks whether a server keeps the rules that `run` rests on, with two keys of its own";
+
+pub(crate) const PROBE_LONG: &str = "\
+Asks a server at most 25 questions about two keys of its own, PREFIX-1 and PREFIX-2, and prints whether it
+keeps the rules by which `run` makes no key twice and destroys none too early. Run it before the first plan
+against a new kind of server, and after its software was changed.
+
+It looks for both names first: where one is there already, or that cannot be told, it says so and makes
+nothing. Else it makes the keys, takes each step twice, searches for them before and after they are
+destroyed, and asks for their names once more. Two destroyed objects stay on the server; where replies were
+lost, a key of these names may stay that is not destroyed. They protect nothing: take another PREFIX next
+time.
+
+A line a rule, then the reasons of the server's refusals in decimal (they decide nothing), then what may go
+wrong where a rule is not kept, and the sum:
+  names are unique: yes
+  names stay used after Destroy: no (a second object 3 was made)
+  a step made twice changes nothing: yes
+  an active object is not destroyed: yes
+  Locate finds objects by their names: yes
+  Locate finds destroyed objects: yes
+  Get Attributes tells all six attributes: yes
+  the batch id is echoed: yes
+  reasons seen: 53, 67
+  a destroyed key may be made again by a Create that arrives late
+  the promise does not hold here
+A rule whose replies did not come has `no reply`. The exit status is 0 only where every line says yes.
+
+With `--loopback` the server is one in this process, which keeps them all.";
+
+pub(crate) const NAME_PREFIX: &str =
+    "What its two names begin with: 1 to 62 printable ASCII characters, no space";
+
 pub(crate) const SERVE: &str =
     "Answers connections on this machine by a server that keeps its keys in memory";
 
@@ -228,3 +264,6 @@ pub(crate) const SERVE_TIMEOUT: &str = "The longest that a read or a write of a 
 
 pub(crate) const WRONG_ADDRESS: &str =
     "the value of '--connect <ADDRESS>' is no IPv4 address and port, as 127.0.0.1:5696\n";
+
+pub(crate) const WRONG_PREFIX: &str =
+    "the value of '--name-prefix <PREFIX>' is not 1 to 62 printable ASCII characters without a space\n";

@@ -13,11 +13,14 @@ use clap::error::ErrorKind;
 use clap::{Arg, Command, Error};
 use help::{
     ABOUT, AFTER, AFTER_HELP, ANSWER, ANSWER_LONG, CANON, CHECK, CHECK_LONG, PLAN, SCRIPT, SHOW,
-    SHOW_LONG, SIM, SIM_LONG, STREAM, THEN, TRACE, WRONG_ADDRESS,
+    SHOW_LONG, SIM, SIM_LONG, STREAM, THEN, TRACE,
 };
 use kmip_choices::{Choice, answer_of, check_of, detail_of, form_of, simulation_of};
 use kmip_commands::{CommandFault, ExitStatus};
-use network::{flag, run_command, run_options, serve_command, serve_options};
+use network::{
+    WrongValue, flag, probe_command, probe_options, run_command, run_options, serve_command,
+    serve_options,
+};
 pub use running::run;
 use std::alloc::{AllocError, Global};
 
@@ -46,18 +49,22 @@ pub fn chosen(alloc: Global, words: &[String]) -> Result<Choice, Error> {
             Ok(simulation_of(alloc, plan, further, script, detail)?)
         }
         Some(("run", options)) => match run_options(alloc, options)? {
-            Some(options) => Ok(Choice::Run(options)),
-            None => Err(wrong_address(alloc)?),
+            Ok(options) => Ok(Choice::Run(options)),
+            Err(fault) => Err(wrong_value(run_command(alloc)?, fault)?),
+        },
+        Some(("probe", options)) => match probe_options(alloc, options)? {
+            Ok(options) => Ok(Choice::Probe(options)),
+            Err(fault) => Err(wrong_value(probe_command(alloc)?, fault)?),
         },
         Some(("serve", options)) => Ok(Choice::Serve(serve_options(options))),
         _ => Ok(Choice::Answer),
     }
 }
 
-/// The usage fault of an address that is none.
-fn wrong_address(alloc: Global) -> Result<Error, AllocError> {
-    let mut command = run_command(alloc)?;
-    command.error(ErrorKind::ValueValidation, WRONG_ADDRESS)
+/// The usage fault of a command of which a value is wrong.
+fn wrong_value(command: Command<'_>, fault: WrongValue) -> Result<Error, AllocError> {
+    let mut command = command;
+    command.error(ErrorKind::ValueValidation, fault.text())
 }
 
 /// How the program ends after it printed the text of `error`: `Done` for help and the version, and
@@ -111,6 +118,7 @@ fn command<'a>(alloc: Global) -> Result<Command<'a>, AllocError> {
         .subcommand(check)?
         .subcommand(sim)?
         .subcommand(run_command(alloc)?)?
+        .subcommand(probe_command(alloc)?)?
         .subcommand(serve_command(alloc)?)
 }
 

@@ -1,13 +1,15 @@
-//! The words of `run` and `serve`.
+//! The words of `run`, `probe` and `serve`.
 
 use crate::help::{
-    CONNECT, CONNECTIONS, LIMIT, LOOPBACK, NOW, PLAN, PORT, PROGRESS, RUN, RUN_LONG, SERVE,
-    SERVE_LONG, SERVE_TIMEOUT, SOCKET, TIMEOUT, VERBOSE, WAIT,
+    CONNECT, CONNECTIONS, LIMIT, LOOPBACK, NAME_PREFIX, NOW, PLAN, PORT, PROBE, PROBE_LONG,
+    PROGRESS, RUN, RUN_LONG, SERVE, SERVE_LONG, SERVE_TIMEOUT, SOCKET, TIMEOUT, VERBOSE, WAIT,
+    WRONG_ADDRESS, WRONG_PREFIX,
 };
 use crate::path;
 use clap::builder::ValueParser;
 use clap::{Arg, ArgAction, ArgGroup, ArgMatches, Command};
-use kmip_network::{Peer, RunOptions, ServeOptions};
+use kmip_network::{Peer, ProbeOptions, RunOptions, ServeOptions};
+use kmip_premises::is_prefix;
 use std::alloc::{AllocError, Global};
 use std::net::SocketAddrV4;
 
@@ -20,15 +22,31 @@ const MOST_SECONDS: u64 = 3_600;
 /// The longest first wait, in milliseconds.
 const MOST_WAIT: u64 = 60_000;
 
-/// What `run` is to do, by its words; none where the address is no IPv4 address and port.
+/// A value of an option that is none.
+pub(crate) enum WrongValue {
+    Address,
+    Prefix,
+}
+
+impl WrongValue {
+    /// What is wrong with it.
+    pub(crate) fn text(self) -> &'static str {
+        match self {
+            WrongValue::Address => WRONG_ADDRESS,
+            WrongValue::Prefix => WRONG_PREFIX,
+        }
+    }
+}
+
+/// What `run` is to do, by its words, or which of them is wrong.
 pub(crate) fn run_options(
     alloc: Global,
     options: &ArgMatches<'_>,
-) -> Result<Option<RunOptions>, AllocError> {
+) -> Result<Result<RunOptions, WrongValue>, AllocError> {
     let Some(peer) = peer_of(alloc, options)? else {
-        return Ok(None);
+        return Ok(Err(WrongValue::Address));
     };
-    Ok(Some(RunOptions {
+    Ok(Ok(RunOptions {
         plan: String::from_str(alloc, options.get_str("plan").unwrap_or(""))?,
         progress: String::from_str(alloc, options.get_str("progress").unwrap_or(""))?,
         limit: options.get_one::<u64>("limit").unwrap_or(MOST_COUNT),
@@ -55,6 +73,25 @@ fn peer_of(alloc: Global, options: &ArgMatches<'_>) -> Result<Option<Peer>, Allo
     Ok(address.ok().map(Peer::Tcp))
 }
 
+/// What `probe` is to do, by its words, or which of them is wrong.
+pub(crate) fn probe_options(
+    alloc: Global,
+    options: &ArgMatches<'_>,
+) -> Result<Result<ProbeOptions, WrongValue>, AllocError> {
+    let Some(peer) = peer_of(alloc, options)? else {
+        return Ok(Err(WrongValue::Address));
+    };
+    let prefix = String::from_str(alloc, options.get_str("name-prefix").unwrap_or(""))?;
+    if !is_prefix(prefix.as_str()) {
+        return Ok(Err(WrongValue::Prefix));
+    }
+    Ok(Ok(ProbeOptions {
+        prefix,
+        peer,
+        timeout: options.get_one::<u64>("timeout").unwrap_or(MOST_SECONDS),
+    }))
+}
+
 /// What `serve` is to do, by its words.
 pub(crate) fn serve_options(options: &ArgMatches<'_>) -> ServeOptions {
     ServeOptions {
@@ -67,6 +104,34 @@ pub(crate) fn serve_options(options: &ArgMatches<'_>) -> ServeOptions {
 
 /// The command `run`.
 pub(crate) fn run_command<'a>(alloc: Global) -> Result<Command<'a>, AllocError> {
+    let command = Command::new(alloc, "run")
+        .about(RUN)
+        .long_about(RUN_LONG)
+        .arg(path(alloc, "plan", PLAN))?
+        .arg(path(alloc, "progress", PROGRESS))?;
+    with_server(alloc, command)?
+        .arg(number(alloc, "limit", "N", LIMIT, 0, MOST_COUNT).default_value("10000"))?
+        .arg(timeout(alloc))?
+        .arg(number(alloc, "wait", "MILLISECONDS", WAIT, 0, MOST_WAIT).default_value("100"))?
+        .arg(flag(alloc, "verbose", VERBOSE))
+}
+
+/// The command `probe`.
+pub(crate) fn probe_command<'a>(alloc: Global) -> Result<Command<'a>, AllocError> {
+    let prefix = Arg::new(alloc, "name-prefix")
+        .long("name-prefix")
+        .value_name("PREFIX")
+        .help(NAME_PREFIX)
+        .required(true);
+    let command = Command::new(alloc, "probe")
+        .about(PROBE)
+        .long_about(PROBE_LONG)
+        .arg(prefix)?;
+    with_server(alloc, command)?.arg(timeout(alloc))
+}
+
+/// The command with the options of which one says where the server is.
+fn with_server<'a>(alloc: Global, command: Command<'a>) -> Result<Command<'a>, AllocError> {
     let peers = ArgGroup::new(alloc, "server")
         .arg("connect")?
         .arg("socket")?
@@ -80,19 +145,16 @@ pub(crate) fn run_command<'a>(alloc: Global) -> Result<Command<'a>, AllocError> 
         .long("socket")
         .value_name("PATH")
         .help(SOCKET);
-    Command::new(alloc, "run")
-        .about(RUN)
-        .long_about(RUN_LONG)
-        .arg(path(alloc, "plan", PLAN))?
-        .arg(path(alloc, "progress", PROGRESS))?
+    command
         .arg(connect)?
         .arg(socket)?
         .arg(flag(alloc, "loopback", LOOPBACK))?
-        .group(peers)?
-        .arg(number(alloc, "limit", "N", LIMIT, 0, MOST_COUNT).default_value("10000"))?
-        .arg(number(alloc, "timeout", "SECONDS", TIMEOUT, 1, MOST_SECONDS).default_value("30"))?
-        .arg(number(alloc, "wait", "MILLISECONDS", WAIT, 0, MOST_WAIT).default_value("100"))?
-        .arg(flag(alloc, "verbose", VERBOSE))
+        .group(peers)
+}
+
+/// The option for how long an exchange may take.
+fn timeout<'a>(alloc: Global) -> Arg<'a> {
+    number(alloc, "timeout", "SECONDS", TIMEOUT, 1, MOST_SECONDS).default_value("30")
 }
 
 /// The command `serve`.

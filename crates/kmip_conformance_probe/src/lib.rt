@@ -1,8 +1,15 @@
-//! Tests of kmip_probe, against what a server of the profile answers and what is lost on the way.
+//! Tests of kmip_probe, against what a server of the profile answers and what is lost on the way, and
+//! against servers that break one rule each.
 //!
 //! The expected values come from the questions of a probe and the rules of what their answers say,
 //! and never from what the crate wrote.
 #![tactic(auto)]
 
 #[cfg(test)]
+mod breaches;
+#[cfg(test)]
+mod breaking;
+#[cfg(test)]
 mod losses;
+#[cfg(test)]
+mod report;

@@ -5,6 +5,7 @@
 //! Create, Activate and Destroy of the second name; 17 and 18 Destroy of the first; 19 its Create, and
 //! 20 to 23 its Locates; 24 and 25 Revoke and Destroy of the second.
 
+use crate::report::{ALL, KEPT, Told, report_of};
 use kmip_commands::ExitStatus;
 use kmip_probe::run_probe;
 use kmip_scripted::{Script, Scripted, read_script};
@@ -12,12 +13,6 @@ use kmip_server::{ListStore, Records, Server};
 use std::alloc::Global;
 use std::str::from_utf8;
 use std::test::Fail;
-
-/// Whether a name is unique, stays used, a step counts once, an active object is kept, objects and
-/// destroyed ones are found, attributes are told, and the id is echoed.
-type Told = [&'static str; 8];
-
-const ALL: Told = ["yes"; 8];
 
 /// What a link does, and what is told then.
 struct Row {
@@ -27,13 +22,10 @@ struct Row {
     sum: &'static str,
 }
 
-const KEPT: &str =
-    "the promise holds here: each key is made once, and its steps are made once and in order";
-
 const UNSURE: &str = "not all could be told: probe again, with another prefix";
 
 /// A reason is 53 for a used name, and 67 for a state that has no such step.
-const ROWS: [Row; 9] = [
+const ROWS: [Row; 10] = [
     Row {
         script: "",
         told: ALL,
@@ -89,6 +81,15 @@ const ROWS: [Row; 9] = [
         reasons: "53, 67",
         sum: UNSURE,
     },
+    // No identifier is told before the name is asked for again: its object was never destroyed.
+    Row {
+        script: "pass\npass\nlose-request\nlose-reply\nlose-reply\nlose-reply\nlose-reply\nlose-reply\n",
+        told: [
+            "no reply", "no reply", "no reply", "yes", "no reply", "no reply", "no reply", "yes",
+        ],
+        reasons: "67, 53",
+        sum: UNSURE,
+    },
     // The last Locate is lost.
     Row {
         script: "pass\npass\npass\npass\npass\npass\npass\npass\npass\npass\npass\npass\npass\npass\n\
@@ -110,25 +111,6 @@ fn link_of(alloc: Global, script: Script) -> Scripted<ListStore> {
     )
 }
 
-/// The text of what is told.
-fn wanted(alloc: Global, row: &Row) -> Result<String, Fail> {
-    let [unique, used, once, active, found, destroyed, told, echoed] = row.told;
-    let text = format!(in alloc;
-        "names are unique: {unique}\n\
-         names stay used after Destroy: {used}\n\
-         a step made twice changes nothing: {once}\n\
-         an active object is not destroyed: {active}\n\
-         Locate finds objects by their names: {found}\n\
-         Locate finds destroyed objects: {destroyed}\n\
-         Get Attributes tells all six attributes: {told}\n\
-         the batch id is echoed: {echoed}\n\
-         reasons seen: {}\n\
-         {}\n",
-        row.reasons, row.sum
-    )?;
-    Ok(text)
-}
-
 #[test]
 fn tells_what_a_server_keeps(rt: HostRuntime) -> Result<(), Fail> {
     let alloc = rt.alloc();
@@ -136,7 +118,7 @@ fn tells_what_a_server_keeps(rt: HostRuntime) -> Result<(), Fail> {
         let mut link = link_of(alloc, read_script(alloc, row.script)?);
         let mut text = Vec::new(alloc);
         let status = run_probe(alloc, "probe", &mut link, &mut text);
-        let wanted = wanted(alloc, row)?;
+        let wanted = report_of(alloc, &row.told, row.reasons, "", row.sum)?;
         assert_eq!(rt;
             from_utf8(text.as_slice()),
             Ok(wanted.as_str()),

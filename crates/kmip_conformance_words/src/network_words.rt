@@ -1,7 +1,7 @@
-//! What the words of `run` and `serve` ask for, and what words they refuse.
+//! What the words of `run`, `probe` and `serve` ask for, and what words they refuse.
 
 use crate::words::{is_refused_with, with_name};
-use kmip_choices::{Choice, Peer, RunOptions, ServeOptions};
+use kmip_choices::{Choice, Peer, ProbeOptions, RunOptions, ServeOptions};
 use kmip_command_line::chosen;
 use std::alloc::{AllocError, Global};
 use std::net::{Ipv4Addr, SocketAddrV4};
@@ -84,6 +84,41 @@ fn takes_the_greatest_numbers(rt: HostRuntime) -> Result<(), Fail> {
     Ok(())
 }
 
+/// The longest prefix: 62 characters.
+const LONGEST: &str = "!123456789abcdefghijklmnopqrstuvwxyzABCDEFGHIJKLMNOPQRSTUVWXY~";
+
+#[test]
+fn probes_as_it_is_told(rt: HostRuntime) -> Result<(), Fail> {
+    let alloc = rt.alloc();
+    let said = with_name(alloc, &["probe", "--name-prefix", "p", "--loopback"])?;
+    let choice = chosen(alloc, said.as_slice())?;
+    let wanted = ProbeOptions {
+        prefix: String::from_str(alloc, "p")?,
+        peer: Peer::Loopback,
+        timeout: 30,
+    };
+    assert!(rt; choice == Choice::Probe(wanted));
+    assert_eq!(rt; LONGEST.len(), 62);
+    let said = with_name(
+        alloc,
+        &[
+            "probe",
+            "--timeout=3600",
+            "--socket=s",
+            "--name-prefix",
+            LONGEST,
+        ],
+    )?;
+    let choice = chosen(alloc, said.as_slice())?;
+    let wanted = ProbeOptions {
+        prefix: String::from_str(alloc, LONGEST)?,
+        peer: Peer::Unix(String::from_str(alloc, "s")?),
+        timeout: 3_600,
+    };
+    assert!(rt; choice == Choice::Probe(wanted));
+    Ok(())
+}
+
 #[test]
 fn serves_as_it_is_told(rt: HostRuntime) -> Result<(), Fail> {
     let alloc = rt.alloc();
@@ -118,7 +153,7 @@ fn serves_as_it_is_told(rt: HostRuntime) -> Result<(), Fail> {
 }
 
 /// Words that are refused, and what the text says of them.
-const REFUSED: [(&[&str], &str); 14] = [
+const REFUSED: [(&[&str], &str); 23] = [
     (&["run"], "--plan"),
     (&["run", "--plan=a", "--progress=b"], "--loopback"),
     (&["run", "--plan=a", "--loopback"], "--progress"),
@@ -169,6 +204,40 @@ const REFUSED: [(&[&str], &str); 14] = [
             "--wait=60001",
         ],
         "60001",
+    ),
+    (&["probe", "--loopback"], "--name-prefix"),
+    (&["probe", "--name-prefix=p"], "--connect"),
+    (
+        &["probe", "--name-prefix=p", "--loopback", "--socket=s"],
+        "cannot be used with",
+    ),
+    (
+        &["probe", "--name-prefix=p", "--connect=server:5696"],
+        "IPv4 address and port",
+    ),
+    (
+        &["probe", "--loopback", "--name-prefix="],
+        "1 to 62 printable",
+    ),
+    (
+        &["probe", "--loopback", "--name-prefix=a b"],
+        "1 to 62 printable",
+    ),
+    (
+        &["probe", "--loopback", "--name-prefix=caf\u{e9}"],
+        "1 to 62 printable",
+    ),
+    (
+        &[
+            "probe",
+            "--loopback",
+            "--name-prefix=!123456789abcdefghijklmnopqrstuvwxyzABCDEFGHIJKLMNOPQRSTUVWXY~!",
+        ],
+        "1 to 62 printable",
+    ),
+    (
+        &["probe", "--loopback", "--name-prefix=p", "--timeout=0"],
+        "--timeout",
     ),
     (&["serve", "--port=1"], "--connections"),
     (&["serve", "--connections=1"], "--port"),

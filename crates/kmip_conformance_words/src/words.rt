@@ -23,7 +23,7 @@ enum Wanted {
     Text(ExitStatus, &'static str),
 }
 
-const ROWS: [(&[&str], Wanted); 30] = [
+const ROWS: [(&[&str], Wanted); 31] = [
     (&[], Wanted::Answer),
     (&["answer"], Wanted::Answer),
     (&["answer", "--stream"], Wanted::AnswerStream),
@@ -88,6 +88,10 @@ const ROWS: [(&[&str], Wanted); 30] = [
     (
         &["sim", "--then", "b", "--script", "c"],
         Wanted::Text(ExitStatus::Usage, "--plan"),
+    ),
+    (
+        &["probe", "--help"],
+        Wanted::Text(ExitStatus::Done, "--name-prefix"),
     ),
     (&["check"], Wanted::Text(ExitStatus::Usage, "--plan")),
     (

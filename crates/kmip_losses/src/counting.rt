@@ -33,7 +33,8 @@ impl Model for Counts {
 /// # Errors
 /// Where a count would pass `usize::MAX`.
 fn raised(counts: Counts, strange: bool) -> Result<Counts, NoMemory>
-    ensures { IfOk result (λ c. c ≡ if strange then one_strange counts else one_disturbed counts) }
+    ensures { IfOk result
+        (λ c. c ≡ if strange then one_strange counts else one_disturbed counts) }
 {
     let Some(disturbed) = counts.disturbed.checked_add(1) else {
         return Err(NoMemory);

@@ -1,8 +1,8 @@
 //! The program `run`, over sockets and a file.
 
+use crate::linking::{loopback, refused, tcp_link, unix_link};
 use crate::options::{Peer, RunOptions};
 use crate::reading::{refusal_of, text_or_why_not};
-use crate::serving::new_server;
 use crate::showing::Standing;
 use crate::telling::Teller;
 use kmip_commands::ExitStatus;
@@ -10,12 +10,9 @@ use kmip_progress_file::{LockFault, ProgressFile, ProgressLock};
 use kmip_run::{RunInput, run_run};
 use kmip_running::{Keeper, Observed, Paced, SaveFault};
 use kmip_schedule::Link;
-use kmip_transport::{Loopback, Tcp, TcpLink, Unix, UnixLink};
 use std::alloc::Global;
 use std::io;
 use std::io::{BufWriter, ErrorKind};
-use std::net::SocketAddr;
-use std::os::unix::net;
 use std::time::Duration;
 
 /// Keeps what is known in a file, and shows how far the run is. No clause speaks of a file's bytes.
@@ -104,15 +101,6 @@ fn locked<'a>(
     }
 }
 
-/// Prints what cannot be done with a file, unless there is no memory.
-fn refused(rt: &HostRuntime, error: io::Error, what: &str, path: &str) -> io::Result<ExitStatus> {
-    if error.kind() == ErrorKind::OutOfMemory {
-        return Err(error);
-    }
-    rt.println(format_args!("{what} {path}"))?;
-    Ok(ExitStatus::Refused)
-}
-
 /// Carries out the plan over the link to the server that was named.
 fn run_with(
     rt: &HostRuntime,
@@ -124,22 +112,16 @@ fn run_with(
     let limit = Duration::from_secs(options.timeout);
     match &options.peer {
         Peer::Tcp(address) => {
-            let link = TcpLink::new(Tcp::new(rt, SocketAddr::V4(*address)), limit);
+            let link = tcp_link(rt, *address, limit);
             run_over(rt, options, input, saved, keeper, link)
         }
-        Peer::Unix(path) => match net::SocketAddr::from_pathname(path.as_str()) {
-            Ok(address) => {
-                let link = UnixLink::new(Unix::new(rt, address), limit);
-                run_over(rt, options, input, saved, keeper, link)
-            }
-            Err(error) => refused(rt, error, "cannot connect", path.as_str()),
+        Peer::Unix(path) => match unix_link(rt, path.as_str(), limit)? {
+            Some(link) => run_over(rt, options, input, saved, keeper, link),
+            None => Ok(ExitStatus::Refused),
         },
-        Peer::Loopback => match Loopback::new(rt, new_server(rt), limit) {
-            Ok(link) => run_over(rt, options, input, saved, keeper, link),
-            Err(_) => {
-                rt.println("cannot listen")?;
-                Ok(ExitStatus::Refused)
-            }
+        Peer::Loopback => match loopback(rt, limit)? {
+            Some(link) => run_over(rt, options, input, saved, keeper, link),
+            None => Ok(ExitStatus::Refused),
         },
     }
 }

@@ -1,15 +1,18 @@
-//! The commands `run` and `serve` over the sockets, the files and the standard streams of this machine,
-//! and the texts of files.
+//! The commands `run`, `probe` and `serve` over the sockets, the files and the standard streams of this
+//! machine, and the texts of files.
 #![tactic(auto)]
 
 mod carrying;
+mod linking;
 mod options;
+mod probing;
 mod reading;
 mod serving;
 mod showing;
 mod telling;
 
 pub use carrying::run_plan;
-pub use options::{Peer, RunOptions, ServeOptions};
+pub use options::{Peer, ProbeOptions, RunOptions, ServeOptions};
+pub use probing::probe_server;
 pub use reading::{refusal_of, text_or_why_not};
 pub use serving::serve;

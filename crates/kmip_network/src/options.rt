@@ -1,4 +1,4 @@
-//! What `run` and `serve` are to do.
+//! What `run`, `probe` and `serve` are to do.
 
 use std::net::SocketAddrV4;
 
@@ -19,6 +19,17 @@ pub struct RunOptions {
     pub wait: u64,
     /// Whether each exchange is told on standard error.
     pub is_verbose: bool,
+}
+
+/// What `probe` is to do.
+#[derive(Debug, PartialEq, Eq, Drop)]
+pub struct ProbeOptions {
+    /// What the names of its two objects begin with.
+    pub prefix: String,
+    /// Where the server is.
+    pub peer: Peer,
+    /// How long an exchange may take, in seconds.
+    pub timeout: u64,
 }
 
 /// Where a server is.

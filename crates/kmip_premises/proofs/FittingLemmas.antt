@@ -29,9 +29,10 @@ record IsShort (prefix : List ℕ) : Type 0 where
 
 short_of : (prefix : List ℕ) → IsTrue (is_prefix prefix) → IsShort prefix
 short_of prefix is =
-    let both = and_parts (nat_le 1 (length prefix) && nat_le (length prefix) 62) (list_all is_name_byte prefix) is in
-    let sizes = and_parts (nat_le 1 (length prefix)) (nat_le (length prefix) 62) both.0 in
-    record { some = leb-true 1 (length prefix) sizes.0; few = leb-true (length prefix) 62 sizes.1; bytes = both.1 }
+    let both = and_parts (is_name prefix) (nat_le (length prefix) 62) is in
+    let named = and_parts (nat_le 1 (length prefix) && nat_le (length prefix) 64) (list_all is_name_byte prefix) both.0 in
+    let sizes = and_parts (nat_le 1 (length prefix)) (nat_le (length prefix) 64) named.0 in
+    record { some = leb-true 1 (length prefix) sizes.0; few = leb-true (length prefix) 62 both.1; bytes = named.1 }
 
 with_two : (prefix : List ℕ) (mark digit : ℕ) → is_name_byte mark ≡ true → is_name_byte digit ≡ true → IsShort prefix
     → is_name (prefix ++ mark ∷ digit ∷ []) ≡ true

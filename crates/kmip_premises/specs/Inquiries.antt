@@ -1,11 +1,10 @@
 -- What a probe asks about the objects of two names of its own.
 -- Source: KMIP 2.1, Operations; Enumerations and Masks, Storage Status Mask. The names, the attributes and the reason are own.
 use Rattle.std.specs.Prelude.{ℕ, Bool, ◌&&◌, nat_le, List, ◌++◌, length, codes, Option, Some}
-use Rattle.std.specs.List.{list_all}
 use Rattle.std.specs.Option.{option_map}
 use Rattle.kmip_messages.specs.declared.request.Ask.{Ask}
 use Rattle.kmip_messages.specs.declared.request.Ask.TheVariants as asks
-use Rattle.kmip_objects.specs.Ranges.{is_name_byte}
+use Rattle.kmip_objects.specs.Ranges.{is_name}
 use Rattle.kmip_objects.specs.Searching.{by_name}
 use Rattle.kmip_objects.specs.declared.attributes.KeyAttrs.{KeyAttrs}
 use Rattle.kmip_objects.specs.declared.standard.TheConstants.{ALGORITHM_AES, REVOCATION_UNSPECIFIED}
@@ -15,9 +14,9 @@ use Rattle.kmip_premises.specs.declared.inquiry.Kind.TheVariants.{Locate, Create
 use Rattle.kmip_premises.specs.declared.inquiry.Which.{Which}
 use Rattle.kmip_premises.specs.declared.inquiry.Which.TheVariants.{First, Second}
 
--- what a probe's names begin with: so long that each of them is the name of a key
+-- what a probe's names begin with: the name of a key, so short that each of them is one too
 abbrev pub is_prefix : List ℕ → Bool
-is_prefix s = nat_le 1 (length s) && nat_le (length s) PREFIX_MAX && list_all is_name_byte s
+is_prefix s = is_name s && nat_le (length s) PREFIX_MAX
 
 -- the two names
 abbrev pub name_of : Which → List ℕ → List ℕ

@@ -81,8 +81,10 @@ is_destroyed answers = has_succeeded (answer_at answers 16) || has_succeeded (an
 -- Nor does one once the object is destroyed: no Create and no Locate after that tells an identifier that was not told before.
 abbrev pub names_stay_used : List Answer → Finding
 names_stay_used answers =
-    unless_second (other_than (uids_of First answers) (flat_map uids_told (take 5 (drop 18 answers))))
-    (is_destroyed answers && was_refused (answer_at answers 18) && has_searched (answer_at answers 22))
+    if is_destroyed answers
+    then unless_second (other_than (uids_of First answers) (flat_map uids_told (take 5 (drop 18 answers))))
+    (was_refused (answer_at answers 18) && has_searched (answer_at answers 22))
+    else Untold
 
 -- ---- steps
 

@@ -1,13 +1,13 @@
 //! What a probe asks.
 ghost use Rattle.std.specs.Prelude.{◌≡◌, IfOk, option_map, slice_get};
 ghost use Rattle.kmip_objects.specs.Searching.{by_name};
-ghost use Rattle.kmip_premises.specs.Inquiries.{ask_of, attributes_with, name_of};
+ghost use Rattle.kmip_premises.specs.Inquiries.{ask_of, attributes_with, is_prefix, name_of};
 
 use Kind::{Activate, Create, Destroy, GetAttributes, Locate, Revoke};
 use Which::{First, Second};
 use kmip_messages::Ask;
 use kmip_objects::standard::{ALGORITHM_AES, REVOCATION_UNSPECIFIED};
-use kmip_objects::{Attrs, KeyAttrs};
+use kmip_objects::{Attrs, KeyAttrs, is_name};
 use kmip_ttlv::{NoMemory, Text};
 use std::alloc::Global;
 
@@ -97,6 +97,14 @@ fn inquiries() -> &'static [Inquiry]
     ensures { result.now ≡ INQUIRIES }
 {
     &INQUIRIES
+}
+
+/// Whether a text can begin a probe's names: it is the name of a key, of at most `PREFIX_MAX`
+/// characters.
+pub fn is_prefix(text: &str) -> bool
+    ensures { result ≡ is_prefix text.now }
+{
+    is_name(text) && text.len() <= PREFIX_MAX
 }
 
 /// A name of a probe.

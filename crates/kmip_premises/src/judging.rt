@@ -150,9 +150,12 @@ fn is_destroyed(answers: &[Answer]) -> bool
 fn names_stay_used(alloc: Global, answers: &[Answer]) -> Result<Finding, NoMemory>
     ensures { IfOk result (λ finding. finding ≡ names_stay_used answers.now) }
 {
+    if !is_destroyed(answers) {
+        return Ok(Finding::Untold);
+    }
     let known = uids_told(alloc, part(answers, 2, 8))?;
     let uids = uids_told(alloc, part(answers, 18, 23))?;
-    let kept = is_destroyed(answers) && was_refused(answers, 18) && has_searched(answers, 22);
+    let kept = was_refused(answers, 18) && has_searched(answers, 22);
     unless_second(alloc, other_than(known.as_slice(), uids.as_slice()), kept)
 }
 

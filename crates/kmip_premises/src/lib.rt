@@ -14,6 +14,6 @@ mod telling;
 
 pub use answer::Answer;
 pub use finding::{Attribute, Finding, Findings, Flaw};
-pub use inquiry::{INQUIRIES, Inquiry, Kind, QUESTIONS, Which, name_of};
+pub use inquiry::{INQUIRIES, Inquiry, Kind, PREFIX_MAX, QUESTIONS, Which, is_prefix, name_of};
 pub use judging::{findings, outcome_at};
 pub use probing::{is_free_at, probe};

@@ -17,6 +17,10 @@ use Rattle.kmip_premises.specs.declared.answer.Answer.{Answer}
 use Rattle.kmip_premises.specs.declared.finding.Findings.{Findings}
 use Rattle.kmip_premises.specs.declared.inquiry.Which.TheVariants.{First, Second}
 
+-- the line of a prefix that can't begin names
+abbrev pub unfit_text : List ℕ
+unfit_text = codes "prefix refused: it is not 1 to 62 printable ASCII characters without a space\n"
+
 -- why nothing was made: an object has the name, or it could not be told
 unfoldable pub used_text : List ℕ → List ℕ → List ℕ
 used_text name uid = name ++ codes " is used already, and nothing was made; its object is " ++ plain_text uid ++ codes "\n"

@@ -1,5 +1,5 @@
 //! The command `probe`: whether a server keeps what the theorem asks of it.
-ghost use Rattle.std.specs.Prelude.{◌≡◌, ◌≤◌, ◌+◌, [], length, false, string_bytes, IfErr, IfOk, IsTrue, option_map};
+ghost use Rattle.std.specs.Prelude.{◌≡◌, ◌≤◌, ◌+◌, [], length, false, true, string_bytes, IfErr, IfOk, IsTrue, option_map};
 ghost use Rattle.std.specs.Io.KnownBytes.{Appends};
 ghost use Rattle.kmip_commands.specs.Printing.{IfFailed, IfWhole, UnlessOutput, fault_line};
 ghost use Rattle.kmip_schedule.specs.Past.{Names};
@@ -11,6 +11,7 @@ ghost use Rattle.kmip_probe.specs.ProbeText.{
   kept_text,
   look_text,
   unbegun_text,
+  unfit_text,
   unsure_text,
   used_text,
 };
@@ -19,11 +20,15 @@ use crate::wording::{are_all_kept, report};
 use kmip_commands::{CommandFault, ExitStatus, finished, send};
 use kmip_messages::Outcome;
 use kmip_premises::laws::the_profile_keeps_all;
-use kmip_premises::{Answer, QUESTIONS, Which, findings, is_free_at, name_of, outcome_at, probe};
+use kmip_premises::{Answer, QUESTIONS, Which, findings, is_free_at, is_prefix, name_of, outcome_at, probe};
 use kmip_schedule::Link;
 use kmip_ttlv::{NoMemory, plain_text};
 use std::alloc::Global;
 use std::io::Write;
+
+/// The line of a prefix that can't begin names.
+const UNFIT_PREFIX: &str =
+    "prefix refused: it is not 1 to 62 printable ASCII characters without a space\n";
 
 /// The text of a probe, and whether a premise is not seen to be kept.
 #[derive(Drop)]
@@ -32,26 +37,48 @@ struct Told {
     refused: bool,
 }
 
-/// Runs `probe`, and prints a line for want of memory.
+/// Runs `probe`, and prints a line for want of memory. A prefix that can't begin names is refused by a
+/// line of its own, and nothing is asked.
 pub fn run_probe<L: Link, W: Write>(
     alloc: Global,
     prefix: &str,
     link: &mut L,
     writer: &mut W,
 ) -> ExitStatus
-    requires { IsTrue (is_prefix prefix.now) }
-    ensures text { IfWhole result (λ r. WritesProbe L.past L.honest prefix.now link.old link.new r
+    ensures text { IsTrue (is_prefix prefix.now) → IfWhole result (λ r. WritesProbe
+        L.past L.honest prefix.now link.old link.new r
         (W.contents writer.old) (W.contents writer.new)) }
+    ensures unfit { is_prefix prefix.now ≡ false → (link.new ≡ link.old) × IfWhole result
+        (λ r. (r ≡ true) × Appends (W.contents writer.old) (W.contents writer.new) unfit_text) }
     ensures broken { IfFailed result (λ fault. UnlessOutput fault
         (Appends (W.contents writer.old) (W.contents writer.new) (fault_line fault))) }
     ensures few { (names : Names) → L.honest link.old names
         → length (L.past link.new).sent ≤ length (L.past link.old).sent + QUESTIONS }
-    ensures kept { (names : Names) → L.calm link.old names
+    ensures kept { IsTrue (is_prefix prefix.now) → (names : Names) → L.calm link.old names
         → IsUnprobed prefix.now (L.past link.old) → IfWhole result (λ r. (r ≡ false)
         × Appends (W.contents writer.old) (W.contents writer.new) kept_text) }
 {
-    let ended = tell(alloc, prefix, link, writer);
+    let ended = if is_prefix(prefix) {
+        tell(alloc, prefix, link, writer)
+    } else {
+        refuse_prefix(writer)
+    };
     finished(ended, writer)
+}
+
+/// Writes that the prefix can't begin names; that is refused.
+///
+/// # Errors
+///
+/// `Output` where the writer fails.
+fn refuse_prefix<W: Write>(writer: &mut W) -> Result<bool, CommandFault>
+    ensures text { IfOk result (λ r. (r ≡ true)
+        × Appends (W.contents writer.old) (W.contents writer.new) unfit_text) }
+    ensures broken { IfErr result (λ fault. UnlessOutput fault
+        (Appends (W.contents writer.old) (W.contents writer.new) [])) }
+{
+    send(UNFIT_PREFIX.as_bytes(), false, writer)?;
+    Ok(true)
 }
 
 /// Asks the questions of a probe, and writes what their answers tell. Says whether a premise is not

@@ -119,7 +119,8 @@ impl<L: Link, C: Clock> Link for Paced<L, C> {
             → IsRoomy (answer_in (λ v. v.items) result)
             → L.disturbances self.new.link ≡ L.disturbances self.old.link }
         ensures first { self.new.first ≡ self.old.first }
-        ensures replied { IsTrue (has_reply result) → self.new.wait ≡ wait_after self.old.first 0 }
+        ensures replied { IsTrue (has_reply result)
+            → self.new.wait ≡ wait_after self.old.first 0 }
         ensures silent { has_reply result ≡ false → (count : ℕ)
             → self.old.wait ≡ wait_after self.old.first count
             → self.new.wait ≡ wait_after self.old.first (count + 1) }

@@ -22,7 +22,8 @@ pub fn runs_end_as_the_link_does()
 /// happened over it, where runs ended, and how many exchanges were disturbed, is what its lists and
 /// counts say.
 pub fn a_link_in_memory_is_honest<S: Records>()
-    ensures honest { (link : Scene) (names : Names) → ⟦<Scripted<S> as Link>⟧.honest link names }
+    ensures honest { (link : Scene) (names : Names)
+        → ⟦<Scripted<S> as Link>⟧.honest link names }
     ensures calm { (link : Scene) (names : Names) → link.words ≡ []
         → ⟦<Scripted<S> as Link>⟧.calm link names }
     ensures past { (link : Scene) → ⟦<Scripted<S> as Link>⟧.past link ≡ past_in link }

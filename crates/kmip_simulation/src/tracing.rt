@@ -43,8 +43,8 @@ fn push_exchange(
     answer: Option<&[u8]>,
     text: &mut Vec<u8>,
 ) -> Result<(), NoMemory>
-    ensures { OnOk result (text.new.items ≡ text.old.items ++ exchange_line number request.now word
-        (option_map (λ bytes. bytes.now) answer.entry)) }
+    ensures { OnOk result (text.new.items ≡ text.old.items
+        ++ exchange_line number request.now word (option_map (λ bytes. bytes.now) answer.entry)) }
 {
     push_front(alloc, number, request, word, text)?;
     push_answer(alloc, request, answer, text)?;

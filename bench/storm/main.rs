@@ -1,0 +1,75 @@
+//! Carries random plans by `kmipctl run` through a network that loses, repeats, delays and cuts messages,
+//! kills the runs, puts back old progress files, and says whether any key was made twice or any step taken
+//! twice or out of turn. Then `kmipctl probe` asks through the same network. Plain Rust, with std alone.
+//!
+//!     storm PROGRAM FOLDER PLANS SEED
+//!
+//! A proxy stands between the runs and one `kmipctl serve`. What the server answers is noted there, and
+//! read at the end by `kmipctl show`. For each plan there are some stormy rounds: a run is started, and
+//! killed after a random time if it has not ended. Between two of them the progress file may be put back
+//! to an older copy, or removed. Then the storm ends: what was delayed is delivered or dropped, and one
+//! run more, with the plan's bound as its limit, has to finish all keys.
+//!
+//! Of as many probes no line may say no; and where the proxy makes the server break a rule, its line may
+//! not say yes.
+
+mod breaker;
+mod network;
+mod probes;
+mod runs;
+
+use crate::network::{Shared, proxy};
+use crate::probes::probe_all;
+use crate::runs::carry_plans;
+use std::fs;
+use std::io::{self, BufRead, BufReader};
+use std::path::{Path, PathBuf};
+use std::process::{Child, Command, ExitCode, Stdio};
+use std::sync::Arc;
+
+/// A server, and the port that it listens at.
+fn serve(program: &Path) -> io::Result<(Child, u16)> {
+    let mut server = Command::new(program)
+        .args(["serve", "--port", "0", "--connections", "4294967295", "--timeout", "5"])
+        .stdout(Stdio::piped())
+        .spawn()?;
+    let mut line = String::new();
+    BufReader::new(server.stdout.as_mut().unwrap()).read_line(&mut line)?;
+    let port = line.trim().strip_prefix("listening ").and_then(|port| port.parse().ok());
+    match port {
+        Some(port) => Ok((server, port)),
+        None => Err(io::Error::other(format!("the server said {line:?}"))),
+    }
+}
+
+fn storm(program: &Path, folder: &Path, plans: u64, seed: u64) -> io::Result<bool> {
+    fs::create_dir_all(folder)?;
+    let (mut server, port) = serve(program)?;
+    let shared = Arc::new(Shared::new(port, seed));
+    let port = proxy(Arc::clone(&shared))?;
+    let wrong = carry_plans(&shared, program, folder, port, plans)? + probe_all(&shared, program, port, plans)?;
+    server.kill()?;
+    server.wait()?;
+    println!("{wrong} wrong");
+    Ok(wrong == 0)
+}
+
+fn main() -> ExitCode {
+    let words: Vec<String> = std::env::args().collect();
+    let [_, program, folder, plans, seed] = words.as_slice() else {
+        eprintln!("usage: storm PROGRAM FOLDER PLANS SEED");
+        return ExitCode::from(2);
+    };
+    let (Ok(plans), Ok(seed)) = (plans.parse(), seed.parse()) else {
+        eprintln!("storm: PLANS and SEED are numbers");
+        return ExitCode::from(2);
+    };
+    match storm(Path::new(program), &PathBuf::from(folder), plans, seed) {
+        Ok(true) => ExitCode::SUCCESS,
+        Ok(false) => ExitCode::from(1),
+        Err(error) => {
+            eprintln!("storm: {error}");
+            ExitCode::from(1)
+        }
+    }
+}

@@ -1,0 +1,232 @@
+//! Random plans, carried out in storms by runs that are killed and go on from old progress files.
+
+use crate::network::{Shared, Weather};
+use std::collections::HashMap;
+use std::fs;
+use std::io::{self, BufReader, Read, Write};
+use std::path::Path;
+use std::process::{Child, Command, Stdio};
+use std::sync::atomic::Ordering;
+use std::thread;
+use std::time::Duration;
+
+/// The targets of a plan, and the operations that lead to each.
+const TARGETS: [(&str, &[u8]); 5] = [
+    ("created", &[0x01]),
+    ("active", &[0x01, 0x12]),
+    ("revoked", &[0x01, 0x12, 0x13]),
+    ("destroyed", &[0x01, 0x12, 0x13, 0x14]),
+    ("discarded", &[0x01, 0x14]),
+];
+
+/// A plan: the names of its keys, and the target of each.
+type Plan = Vec<(String, usize)>;
+
+/// A random plan of one to six keys.
+fn random_plan(shared: &Shared, number: u64) -> Plan {
+    let count = 1 + shared.below(6);
+    (0..count)
+        .map(|key| (format!("plan{number}-key{key}"), shared.below(5) as usize))
+        .collect()
+}
+
+/// The text of a plan.
+fn text_of(plan: &Plan) -> String {
+    let mut text = String::new();
+    for (name, target) in plan {
+        text += &format!(
+            "[[key]]\nname = \"{name}\"\nalgorithm = \"AES\"\nlength = 256\nusage = [\"encrypt\", \"decrypt\"]\ntarget = \"{}\"\n\n",
+            TARGETS[*target].0
+        );
+    }
+    text
+}
+
+/// How many exchanges a plan may need: two more for each key than its target has steps.
+fn bound(plan: &Plan) -> usize {
+    plan.iter().map(|(_, target)| TARGETS[*target].1.len() + 2).sum()
+}
+
+/// A run of a plan.
+fn start(program: &Path, folder: &Path, port: u16, limit: usize) -> io::Result<Child> {
+    Command::new(program)
+        .args(["run", "--plan"])
+        .arg(folder.join("plan.toml"))
+        .arg("--progress")
+        .arg(folder.join("progress"))
+        .arg("--connect")
+        .arg(format!("127.0.0.1:{port}"))
+        .args(["--limit", &limit.to_string(), "--timeout", "2", "--wait", "1"])
+        .stdout(Stdio::piped())
+        .spawn()
+}
+
+/// Whether a progress is whole: its head, a line a key, and its end.
+fn is_whole(text: &str, plan: &Plan) -> bool {
+    let lines: Vec<&str> = text.lines().collect();
+    text.ends_with('\n')
+        && lines.len() == plan.len() + 2
+        && lines[0] == "kmip-progress 2"
+        && lines[plan.len() + 1] == format!("end {}", plan.len())
+}
+
+/// What went on.
+#[derive(Default)]
+struct Tally {
+    kills: u64,
+    ends: u64,
+    restores: u64,
+    removals: u64,
+    wrong: u64,
+}
+
+/// Carries one plan through a storm and then to its end.
+fn carry_plan(
+    shared: &Shared,
+    program: &Path,
+    folder: &Path,
+    port: u16,
+    plan: &Plan,
+    tally: &mut Tally,
+) -> io::Result<()> {
+    let progress = folder.join("progress");
+    let _ = fs::remove_file(&progress);
+    fs::write(folder.join("plan.toml"), text_of(plan))?;
+    let mut old = Vec::new();
+    shared.is_calm.store(false, Ordering::SeqCst);
+    for _ in 0..2 + shared.below(6) {
+        let mut run = start(program, folder, port, 10_000)?;
+        thread::sleep(Duration::from_micros(500 + shared.below(40_000)));
+        if run.try_wait()?.is_some() {
+            tally.ends += 1;
+        } else {
+            run.kill()?;
+            tally.kills += 1;
+        }
+        run.wait()?;
+        match fs::read_to_string(&progress) {
+            Ok(text) if is_whole(&text, plan) => old.push(text),
+            Ok(text) => {
+                println!("wrong: a progress that is not whole: {text:?}");
+                tally.wrong += 1;
+            }
+            Err(_) => {}
+        }
+        match shared.below(4) {
+            0 if !old.is_empty() => {
+                let text = &old[shared.below(old.len() as u64) as usize];
+                fs::write(&progress, text)?;
+                tally.restores += 1;
+            }
+            1 => {
+                let _ = fs::remove_file(&progress);
+                tally.removals += 1;
+            }
+            _ => {}
+        }
+    }
+    // The storm ends: what killed runs have sent comes to its end, and what was delayed.
+    shared.end_storm()?;
+    shared.is_calm.store(true, Ordering::SeqCst);
+    let output = start(program, folder, port, bound(plan))?.wait_with_output()?;
+    if !output.status.success() {
+        println!("wrong: not finished within {}:", bound(plan));
+        print!("{}", String::from_utf8_lossy(&output.stdout));
+        tally.wrong += 1;
+    }
+    Ok(())
+}
+
+/// The value of the first line of a shown item with this tag and type.
+fn shown<'a>(text: &'a str, tag: &str) -> Option<&'a str> {
+    text.lines()
+        .find_map(|line| line.trim_start().strip_prefix(tag))
+        .map(str::trim)
+}
+
+/// The operations that succeeded for each name, in order, as `kmipctl show` tells the replies.
+fn effects(program: &Path, replies: &[Vec<u8>]) -> io::Result<HashMap<String, Vec<u8>>> {
+    let mut show = Command::new(program)
+        .arg("show")
+        .stdin(Stdio::piped())
+        .stdout(Stdio::piped())
+        .spawn()?;
+    let mut input = show.stdin.take().unwrap();
+    let lines: Vec<String> = replies
+        .iter()
+        .map(|reply| reply.iter().map(|byte| format!("{byte:02x}")).collect())
+        .collect();
+    let writer = thread::spawn(move || {
+        for line in lines {
+            let _ = writeln!(input, "{line}");
+        }
+    });
+    let mut text = String::new();
+    BufReader::new(show.stdout.take().unwrap()).read_to_string(&mut text)?;
+    writer.join().unwrap();
+    show.wait()?;
+    let mut effects: HashMap<String, Vec<u8>> = HashMap::new();
+    for message in text.split("42007B Structure").skip(1) {
+        let id = shown(message, "420093 ByteString").unwrap_or("");
+        let is_done = shown(message, "42007F Enumeration") == Some("00000000");
+        let bytes: Vec<u8> = (0..id.len() / 2)
+            .filter_map(|place| u8::from_str_radix(&id[2 * place..2 * place + 2], 16).ok())
+            .collect();
+        if let Some((operation, name)) = bytes.split_first() {
+            if is_done && [0x01, 0x12, 0x13, 0x14].contains(operation) {
+                let name = String::from_utf8_lossy(name).into_owned();
+                effects.entry(name).or_default().push(*operation);
+            }
+        }
+    }
+    Ok(effects)
+}
+
+/// Carries plans through storms, and says how much was wrong.
+pub fn carry_plans(
+    shared: &Shared,
+    program: &Path,
+    folder: &Path,
+    port: u16,
+    plans: u64,
+) -> io::Result<u64> {
+    let mut tally = Tally::default();
+    let mut all = Vec::new();
+    for number in 0..plans {
+        let plan = random_plan(shared, number);
+        carry_plan(shared, program, folder, port, &plan, &mut tally)?;
+        all.extend(plan);
+    }
+    let replies = shared.replies.lock().unwrap();
+    let effects = effects(program, &replies)?;
+    for (name, target) in &all {
+        let done = effects.get(name).map_or(&[][..], |done| done.as_slice());
+        if done != TARGETS[*target].1 {
+            println!("wrong: {name}, {}: {done:02x?}", TARGETS[*target].0);
+            tally.wrong += 1;
+        }
+    }
+    report(shared, plans, all.len(), replies.len(), &tally);
+    Ok(tally.wrong)
+}
+
+/// Says what went on.
+fn report(shared: &Shared, plans: u64, keys: usize, replies: usize, tally: &Tally) {
+    let counts = shared.counts.lock().unwrap();
+    let count = |weather| counts.get(&weather).copied().unwrap_or(0);
+    println!("{plans} plans of {keys} keys, {replies} replies of the server");
+    println!(
+        "{} requests lost, {} replies lost, {} delayed, {} doubled, {} requests and {} replies cut, {} garbled",
+        count(Weather::LoseRequest),
+        count(Weather::LoseReply),
+        count(Weather::Delay),
+        count(Weather::Double),
+        count(Weather::CutRequest),
+        count(Weather::CutReply),
+        count(Weather::Reset),
+    );
+    println!(
+        "{} runs killed and {} ended in the storm, {} progress files put back and {} removed",
+        tally.kills, tally.ends, tally.restores, tally.removals
+    );
+}

@@ -1,0 +1,34 @@
+//! The program `probe`, over sockets.
+
+use crate::linking::{loopback, tcp_link, unix_link};
+use crate::options::{Peer, ProbeOptions};
+use kmip_commands::ExitStatus;
+use kmip_probe::run_probe;
+use kmip_schedule::Link;
+use std::io;
+use std::io::BufWriter;
+use std::time::Duration;
+
+/// The command `probe`: the server is asked, and what its answers tell is printed.
+pub fn probe_server(rt: &HostRuntime, options: &ProbeOptions) -> io::Result<ExitStatus> {
+    let limit = Duration::from_secs(options.timeout);
+    let prefix = options.prefix.as_str();
+    match &options.peer {
+        Peer::Tcp(address) => probe_over(rt, prefix, tcp_link(rt, *address, limit)),
+        Peer::Unix(path) => match unix_link(rt, path.as_str(), limit)? {
+            Some(link) => probe_over(rt, prefix, link),
+            None => Ok(ExitStatus::Refused),
+        },
+        Peer::Loopback => match loopback(rt, limit)? {
+            Some(link) => probe_over(rt, prefix, link),
+            None => Ok(ExitStatus::Refused),
+        },
+    }
+}
+
+/// Asks the server behind this link.
+fn probe_over<L: Link + Drop>(rt: &HostRuntime, prefix: &str, link: L) -> io::Result<ExitStatus> {
+    let mut link = link;
+    let mut writer = BufWriter::new(rt.alloc(), io::writer(rt))?;
+    Ok(run_probe(rt.alloc(), prefix, &mut link, &mut writer))
+}
