@@ -23,6 +23,7 @@ const MOST_SECONDS: u64 = 3_600;
 const MOST_WAIT: u64 = 60_000;
 
 /// A value of an option that is none.
+#[derive(Clone, Copy)]
 pub(crate) enum WrongValue {
     Address,
     Prefix,

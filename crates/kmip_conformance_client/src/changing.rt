@@ -301,39 +301,61 @@ fn standing(
     }
 }
 
-/// A client in the phase that these replies bring it to hears a message with one byte changed at this
-/// place. After each that it refuses it stands as it stood.
+/// Two clients in one phase.
+#[derive(Drop)]
+struct Pair<'p> {
+    /// Hears all.
+    trying: Client<'p>,
+    /// Hears what the other refuses.
+    keeping: Client<'p>,
+}
+
+/// Two clients hear a message with the byte at this place changed: the first hears all, and is brought
+/// to its phase again behind each that it takes; what it refuses the second hears and refuses too.
+fn assert_refused_alike<'p>(
+    rt: &impl Abort,
+    alloc: Global,
+    plan: &'p Plan,
+    replies: &[&str],
+    clients: &mut Pair<'p>,
+    bytes: &[u8],
+    place: usize,
+) -> Result<(), Fail>
+    requires { place < length bytes.now }
+{
+    for (kept, turned) in CHANGES {
+        let value = (bytes[place] & kept) ^ turned;
+        let message = changed(alloc, bytes, place, value)?;
+        if clients.trying.hear(alloc, message.as_slice()).is_ok() {
+            clients.trying = client_after(alloc, plan, replies)?;
+        } else {
+            let is_refused = clients.keeping.hear(alloc, message.as_slice()).is_err();
+            assert!(rt; is_refused, "{value:02x} at {place} of {bytes:?}");
+        }
+    }
+    Ok(())
+}
+
+/// A client in the phase that these replies bring it to hears a message with each byte in turn changed.
+/// After all that it refuses it stands as it stood.
 fn assert_kept(
     rt: &impl Abort,
     alloc: Global,
     plan: &Plan,
     replies: &[&str],
     bytes: &[u8],
-    place: usize,
-) -> Result<(), Fail>
-    requires { place < length bytes.now }
-{
-    let mut client = client_after(alloc, plan, replies)?;
-    let (wanted, question) = standing(rt, alloc, &mut client)?;
-    for (kept, turned) in CHANGES {
-        let value = (bytes[place] & kept) ^ turned;
-        let message = changed(alloc, bytes, place, value)?;
-        if client.hear(alloc, message.as_slice()).is_ok() {
-            client = client_after(alloc, plan, replies)?;
-            continue;
-        }
-        let (told, asked) = standing(rt, alloc, &mut client)?;
-        assert_eq!(rt;
-            told.as_str(),
-            wanted.as_str(),
-            "{value:02x} at {place} of {bytes:?}"
-        );
-        assert_eq!(rt;
-            asked.as_slice(),
-            question.as_slice(),
-            "{value:02x} at {place} of {bytes:?}"
-        );
+) -> Result<(), Fail> {
+    let mut clients = Pair {
+        trying: client_after(alloc, plan, replies)?,
+        keeping: client_after(alloc, plan, replies)?,
+    };
+    let (wanted, question) = standing(rt, alloc, &mut clients.keeping)?;
+    for place in 0..bytes.len() {
+        assert_refused_alike(rt, alloc, plan, replies, &mut clients, bytes, place)?;
     }
+    let (told, asked) = standing(rt, alloc, &mut clients.keeping)?;
+    assert_eq!(rt; told.as_str(), wanted.as_str(), "{bytes:?}");
+    assert_eq!(rt; asked.as_slice(), question.as_slice(), "{bytes:?}");
     Ok(())
 }
 
@@ -344,9 +366,7 @@ fn stands_as_it_stood_behind_a_refusal(rt: HostRuntime) -> Result<(), Fail> {
     for replies in PHASES.iter().step_by(2) {
         for (_, text) in &ALL {
             let bytes = hex::decode(rt.alloc(), *text)?;
-            for place in 0..bytes.len() {
-                assert_kept(&rt, rt.alloc(), &plan, replies, bytes.as_slice(), place)?;
-            }
+            assert_kept(&rt, rt.alloc(), &plan, replies, bytes.as_slice())?;
         }
     }
     Ok(())

@@ -20,7 +20,9 @@ use crate::wording::{are_all_kept, report};
 use kmip_commands::{CommandFault, ExitStatus, finished, send};
 use kmip_messages::Outcome;
 use kmip_premises::laws::the_profile_keeps_all;
-use kmip_premises::{Answer, QUESTIONS, Which, findings, is_free_at, is_prefix, name_of, outcome_at, probe};
+use kmip_premises::{
+    Answer, QUESTIONS, Which, findings, is_free_at, is_prefix, name_of, outcome_at, probe,
+};
 use kmip_schedule::Link;
 use kmip_ttlv::{NoMemory, plain_text};
 use std::alloc::Global;
