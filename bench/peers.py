@@ -1,6 +1,6 @@
 #!/usr/bin/env python3
-"""Runs `kmipctl run` against peers that do not do what a server does, and `kmipctl serve` with clients that
-do not do what a client does.
+"""Runs `kmipctl run` and `probe` against peers that do not do what a server does, and `kmipctl serve` with
+clients that do not do what a client does.
 
     bench/peers.py PROGRAM FOLDER
 
@@ -27,6 +27,7 @@ WORKING = 'k1 active 0/2 working\nfinished 0 of 1\nstop Limit 3\n'
 FINISHED = 'k1 active 2/2 finished\nfinished 1 of 1\nstop AllFinished {}\n'
 NOTHING_KNOWN = 'kmip-progress 2\nk1 active - 0 -\nend 1\n'
 ALL_KNOWN = 'kmip-progress 2\nk1 active - 2 31\nend 1\n'
+UNTOLD = 'no reply: whether p-1 is free could not be told; nothing was made\n'
 # The head of a reply of 144 bytes, and a Locate that found nothing of the name k2.
 HEAD = bytes.fromhex('42007b0100000090')
 OF_ANOTHER = HEAD + bytes.fromhex(
@@ -142,6 +143,17 @@ class Peers:
         self.look('a port where nobody listens', (status == 1, status), (printed == WORKING, printed),
                   (self.known() == NOTHING_KNOWN, self.known()))
 
+    def probes(self):
+        for behaviour in (silent, dripping, talking_rubbish, closing_in_the_middle):
+            words = [self.program, 'probe', '--name-prefix', 'p', '--timeout', '1']
+            start = time.monotonic()
+            done = subprocess.run([*words, '--connect', f'127.0.0.1:{listening(behaviour)}'],
+                                  capture_output=True, text=True)
+            took = time.monotonic() - start
+            self.look(f'a probe of a peer that is {behaviour.__name__.replace("_", " ")}',
+                      (done.returncode == 1, done.returncode), (done.stdout == UNTOLD, done.stdout),
+                      (took < 1.5, took))
+
     def files(self):
         self.forget()
         words = self.words(('--connect', f'127.0.0.1:{listening(silent)}'), '--limit', '1', '--timeout', '2')
@@ -209,6 +221,7 @@ def main():
         plan.write(PLAN)
     peers.bad_peers()
     peers.no_peer()
+    peers.probes()
     peers.files()
     peers.no_client()
     peers.bad_clients()

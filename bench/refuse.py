@@ -420,6 +420,7 @@ def commands_of(tools):
     plan, next_year = EXAMPLES / "plan.toml", EXAMPLES / "plan-next-year.toml"
     further = ["--then", EXAMPLES / "goes-further.toml", "--trace"]
     lost, goes_further = EXAMPLES / "lost-create.toml", EXAMPLES / "goes-further.script"
+    probe = ["probe", "--name-prefix", "probe", "--loopback"]
 
     def sim(name, plan, script, more=()):
         return Simulation(
@@ -440,6 +441,7 @@ def commands_of(tools):
         Carrying(tools, destroyed),
         Carrying(tools, destroyed, "--verbose"),
         Carrying(tools, destroyed, begun=FINISHED, shown=", all done before"),
+        Command(tools, probe, shown="probe --loopback"),
         Serving(tools, messages),
     ]
 
