@@ -21,7 +21,7 @@ use network::{
     WrongValue, flag, probe_command, probe_options, run_command, run_options, serve_command,
     serve_options,
 };
-pub use running::run;
+pub use running::{run, run_words};
 use std::alloc::{AllocError, Global};
 
 /// The number of this version.

@@ -11,17 +11,28 @@ use std::{env, io};
 /// and sockets, and answers the code to end with. Results, faults, help and usage faults are printed
 /// on standard output; on standard error stands only what `run` shows while it works.
 pub fn run(rt: &HostRuntime) -> ExitCode {
-    let status = match run_command(rt) {
-        Ok(status) => status,
-        Err(error) => {
-            let fault = fault_of(&error);
-            if fault == CommandFault::NoMemory {
-                let _ = rt.println(fault.text());
-            }
-            ExitStatus::Failed(fault)
-        }
+    let status = match own_words(rt) {
+        Ok(words) => run_words(rt, words.as_slice()),
+        Err(error) => failed(rt, &error),
     };
     ExitCode::from(status.code())
+}
+
+/// The same with these words, the first of which is the program's name: answers how it ended.
+pub fn run_words(rt: &HostRuntime, words: &[String]) -> ExitStatus {
+    match run_command(rt, words) {
+        Ok(status) => status,
+        Err(error) => failed(rt, &error),
+    }
+}
+
+/// Says an error outside the commands, where it is want of memory.
+fn failed(rt: &HostRuntime, error: &Error) -> ExitStatus {
+    let fault = fault_of(error);
+    if fault == CommandFault::NoMemory {
+        let _ = rt.println(fault.text());
+    }
+    ExitStatus::Failed(fault)
 }
 
 /// What an error outside the commands is: want of memory, or else one of the output.
@@ -33,13 +44,18 @@ fn fault_of(error: &Error) -> CommandFault {
     }
 }
 
-/// Does what the command line asks for.
-fn run_command(rt: &HostRuntime) -> io::Result<ExitStatus> {
+/// The words of the program's command line.
+fn own_words(rt: &HostRuntime) -> io::Result<Vec<String>> {
     let mut words = Vec::new(rt.alloc());
     for word in env::args(rt)? {
         words.push(word)?;
     }
-    match chosen(rt.alloc(), words.as_slice()) {
+    Ok(words)
+}
+
+/// Does what the words ask for.
+fn run_command(rt: &HostRuntime, words: &[String]) -> io::Result<ExitStatus> {
+    match chosen(rt.alloc(), words) {
         Ok(choice) => carry_out(rt, choice),
         Err(error) => {
             let status = status_of(&error);

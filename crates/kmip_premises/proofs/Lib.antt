@@ -1,3 +1,4 @@
+pub mod OwnOutcomes
 pub mod PuttingLemmas
 pub mod FittingLemmas
 pub mod ProbingLemmas

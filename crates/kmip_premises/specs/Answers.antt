@@ -1,15 +1,19 @@
 -- What came of a question of a probe.
--- Source: KMIP 2.1, Message Structure (Unique Batch Item ID), and Message Data, Result Status.
-use Rattle.std.specs.Prelude.{ℕ, nat_eq, Bool, false, List, [], ◌∷◌, Option, Some, None, IsTrue, if◌then◌else◌}
+-- Source: KMIP 2.1, Message Structure (Operation, Unique Batch Item ID), and Message Data, Result Status.
+use Rattle.std.specs.Prelude.{ℕ, nat_eq, Bool, true, false, List, [], ◌∷◌, slice_get, Option, Some, None, IsTrue, if◌then◌else◌}
 use Rattle.std.specs.Cmp.Lexicographic.{pointwise}
 use Rattle.std.specs.List.{All}
+use Rattle.std.specs.Option.{option_map_or}
 use Rattle.kmip_messages.specs.declared.reply.Outcome.{Outcome}
-use Rattle.kmip_messages.specs.declared.reply.Outcome.TheVariants.{Created, Located, Failed}
+use Rattle.kmip_messages.specs.declared.reply.Outcome.TheVariants.{Created, Located, Attributes, Activated, Revoked, Destroyed, Failed}
 use Rattle.kmip_messages.specs.declared.reply.Reply.{Reply}
 use Rattle.kmip_messages.specs.Items.{replies_in}
 use Rattle.kmip_objects.specs.Ranges.{is_identifier}
 use Rattle.kmip_premises.specs.declared.answer.Answer.{Answer}
 use Rattle.kmip_premises.specs.declared.answer.Answer.TheVariants.{Nothing, Told, Unmarked}
+use Rattle.kmip_premises.specs.declared.inquiry.TheConstants.{INQUIRIES}
+use Rattle.kmip_premises.specs.declared.inquiry.Kind.{Kind}
+use Rattle.kmip_premises.specs.declared.inquiry.Kind.TheVariants.{Locate, Create, GetAttributes, Activate, Revoke, Destroy}
 
 -- the id of the question of a number: the number in one byte, and the prefix
 abbrev pub marker_of : ℕ → List ℕ → List ℕ
@@ -30,12 +34,31 @@ abbrev pub without_id : Outcome → Answer
 without_id (Failed reason) = Told (Failed reason)
 without_id outcome = Unmarked outcome
 
--- What a reply says of the question of a number: one with its id answers it, and one with the id of another question is late.
-abbrev pub answer_with : ℕ → List ℕ → Option (List ℕ) → Outcome → Answer
-answer_with number prefix None outcome = without_id outcome
-answer_with number prefix (Some id) outcome =
+-- What an outcome says of the question of a number: one with its id answers it, and one with the id of another question is late.
+abbrev pub answer_marked : ℕ → List ℕ → Option (List ℕ) → Outcome → Answer
+answer_marked number prefix None outcome = without_id outcome
+answer_marked number prefix (Some id) outcome =
     if pointwise nat_eq (marker_of number prefix) id then Told outcome
     else (if is_marker prefix id then Nothing else unmarked outcome)
+
+-- a refusal, or the success of the operation that such a question asks for
+abbrev pub is_of : Kind → Outcome → Bool
+is_of kind (Failed reason) = true
+is_of (Locate mask) (Located uids) = true
+is_of Create (Created uid) = true
+is_of GetAttributes (Attributes uid attrs) = true
+is_of Activate (Activated uid) = true
+is_of Revoke (Revoked uid) = true
+is_of Destroy (Destroyed uid) = true
+is_of kind outcome = false
+
+-- the same of the question of a number
+abbrev pub is_asked_for : ℕ → Outcome → Bool
+is_asked_for number outcome = option_map_or (λ inquiry. is_of inquiry.1 outcome) (slice_get INQUIRIES number) false
+
+-- What a reply says of the question of a number: the success of another operation than it asks for says nothing.
+abbrev pub answer_with : ℕ → List ℕ → Option (List ℕ) → Outcome → Answer
+answer_with number prefix id outcome = if is_asked_for number outcome then answer_marked number prefix id outcome else Nothing
 
 abbrev pub answer_in : ℕ → List ℕ → List Reply → Answer
 answer_in number prefix [] = Nothing

@@ -1,25 +1,16 @@
 -- Private: what putting one question over a link does to the past.
 -- Source: own: how a contract sees the code.
-use Rattle.std.specs.Prelude.{◌≡◌, ◌⊎◌, ℕ, List, [], ◌∷◌, ◌++◌, Option, Some, None, Result, Ok, Err, option_and_then, option_to_list}
+use Rattle.std.specs.Prelude.{◌≡◌, ◌⊎◌, ℕ, List, [], ◌∷◌, ◌++◌, Option, Some, None, option_and_then, option_to_list}
 use Rattle.kmip_messages.specs.declared.reply.Outcome.{Outcome}
 use Rattle.kmip_messages.specs.declared.request.Request.{Request}
 use Rattle.kmip_messages.specs.declared.reply.Reply.{Reply}
 use Rattle.kmip_schedule.specs.Moves.{HasFailed}
 use Rattle.kmip_schedule.specs.Past.{Past}
-use Rattle.kmip_schedule.specs.declared.link.LinkFault.{LinkFault}
-use Rattle.kmip_schedule.specs.declared.link.LinkFault.TheVariants as faults
 use Rattle.kmip_server.specs.ServerStep.{ServerStep}
 use Rattle.kmip_premises.specs.Answers.{answer_with}
 use Rattle.kmip_premises.specs.Asking.{AreAnswers, IsNext, messages_from, message_after, next_inquiry, request_for}
 use Rattle.kmip_premises.specs.declared.answer.Answer.{Answer}
 use Rattle.kmip_premises.specs.declared.answer.Answer.TheVariants.{Nothing, Told}
-
--- what an exchange handed over; a failure of the network is a loss
-abbrev pub IsHanded : Result (Option (List ℕ)) LinkFault → Option (List ℕ) → Type 0
-IsHanded (Ok answer) handed = handed ≡ answer
-IsHanded (Err faults.Io) handed = handed ≡ None
-IsHanded (Err faults.Frame) handed = handed ≡ None
-IsHanded (Err faults.NoMemory) handed = ⊥
 
 -- the message was sent, and the answer is what was handed over for it says
 pub record HasSent (message : List ℕ) (says : Option (List ℕ) → Answer) (answer : Answer) (old new : Past) : Type 0 where

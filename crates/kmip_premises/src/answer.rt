@@ -1,10 +1,11 @@
 //! What came of a question.
-ghost use Rattle.std.specs.Prelude.{◌≡◌, IfOk, option_map, nat_eq};
+ghost use Rattle.std.specs.Prelude.{◌≡◌, ℕ, Option, IfOk, IsTrue, option_map, nat_eq};
 ghost use Rattle.std.specs.Cmp.Lexicographic.{pointwise};
-ghost use Rattle.kmip_messages.specs.Fits.{HasValuesInRange};
-ghost use Rattle.kmip_premises.specs.Answers.{answer_to, answer_with, is_marker, marker_of, outcome_in, unmarked, uids_told, without_id, IsLawful};
+ghost use Rattle.kmip_messages.specs.Fits.{HasValuesInRange, outcome_fits};
+ghost use Rattle.kmip_premises.specs.Answers.{answer_marked, answer_to, answer_with, is_asked_for, is_marker, is_of, marker_of, outcome_in, unmarked, uids_told, without_id, IsLawful};
 ghost use Rattle.kmip_premises.specs.Asking.{is_free};
 
+use crate::inquiry::{Kind, inquiry_at};
 use kmip_messages::{Outcome, Reply, read_reply};
 use kmip_ttlv::{Bytes, NoMemory, Text};
 use std::alloc::Global;
@@ -87,6 +88,44 @@ fn answer_with(number: u8, prefix: &str, reply: Reply) -> Answer
     ensures lawful { HasValuesInRange reply → IsLawful result }
 {
     let Reply { id, outcome, .. } = reply;
+    if !is_asked_for(number, &outcome) {
+        return Answer::Nothing;
+    }
+    answer_marked(number, prefix, id, outcome)
+}
+
+/// Whether an outcome is a refusal, or the success of what the question of a number asks for.
+fn is_asked_for(number: u8, outcome: &Outcome) -> bool
+    ensures { result ≡ is_asked_for number outcome.now }
+{
+    match inquiry_at(usize::from(number)) {
+        Some(inquiry) => is_of(inquiry.1, outcome),
+        None => false,
+    }
+}
+
+/// Whether an outcome is a refusal, or the success of what a question of this kind asks for.
+fn is_of(kind: Kind, outcome: &Outcome) -> bool
+    ensures { result ≡ is_of kind outcome.now }
+{
+    match (kind, outcome) {
+        (_, Outcome::Failed(_))
+        | (Kind::Locate(_), Outcome::Located(_))
+        | (Kind::Create, Outcome::Created(_))
+        | (Kind::GetAttributes, Outcome::Attributes(..))
+        | (Kind::Activate, Outcome::Activated(_))
+        | (Kind::Revoke, Outcome::Revoked(_))
+        | (Kind::Destroy, Outcome::Destroyed(_)) => true,
+        _ => false,
+    }
+}
+
+/// What an outcome says of the question of a number, by the id of its reply.
+fn answer_marked(number: u8, prefix: &str, id: Option<Bytes>, outcome: Outcome) -> Answer
+    ensures answer { result ≡ answer_marked number prefix.now id outcome }
+    ensures lawful { (operation : Option ℕ) → IsTrue (outcome_fits operation outcome)
+        → IsLawful result }
+{
     let Some(id) = id else {
         return without_id(outcome);
     };

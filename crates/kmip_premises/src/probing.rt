@@ -1,24 +1,23 @@
 //! The questions, one after the other over a link.
-ghost use Rattle.std.specs.Prelude.{◌≡◌, ◌≤◌, ◌<◌, ◌+◌, ◌-◌, ◌++◌, [], ◌∷◌, ℕ, Some, None, Option, List, length, map, take, drop, flat_map, slice_get, IfOk, IsTrue, Err, OnErr, option_map};
+ghost use Rattle.std.specs.Prelude.{◌≡◌, ◌≤◌, ◌<◌, ◌+◌, ◌-◌, ◌++◌, [], ◌∷◌, ℕ, Some, None, Option, List, length, map, take, drop, flat_map, slice_get, IfOk, IsTrue, option_map};
 ghost use Rattle.std.specs.List.{All};
 ghost use Rattle.kmip_schedule.specs.Past.{Names};
 ghost use Rattle.kmip_ttlv.specs.Spelling.{canon};
 ghost use Rattle.kmip_messages.specs.RequestFits.{request_fits};
 ghost use Rattle.kmip_messages.specs.Written.{request_item};
-ghost use Rattle.kmip_schedule.specs.Exchanges.{answer_in};
 ghost use Rattle.kmip_premises.specs.Answers.{answer_to, uids_told, IsLawful};
 ghost use Rattle.kmip_premises.specs.Asking.{is_free_at, next_inquiry, uid_of, request_for, messages_from, AreAnswers};
 ghost use Rattle.kmip_premises.specs.Inquiries.{is_prefix};
 ghost use Rattle.kmip_premises.specs.Serving.{IsUnprobed, outcomes_of};
 ghost use Rattle.kmip_premises.specs.Standing.{ProbeLaws};
-ghost use Rattle.kmip_premises.specs.Putting.{HasAsked, HasReplied, HasSent, HasServedNext, IsHanded};
+ghost use Rattle.kmip_premises.specs.Putting.{HasAsked, HasReplied, HasSent, HasServedNext};
 
 use crate::answer::{Answer, answer_to};
 use crate::inquiry::{Inquiry, QUESTIONS, Which, ask_of, inquiry_at, name_of};
 use kmip_messages::{Ask, Request, write_request};
 use kmip_objects::laws::{added_laws, found_laws, restated_laws};
 use kmip_schedule::laws::deliveries_keep_the_requests;
-use kmip_schedule::{Link, LinkFault};
+use kmip_schedule::{Link, answer_or_loss};
 use kmip_ttlv::{Bytes, NoMemory, Text};
 use std::alloc::Global;
 
@@ -173,26 +172,10 @@ fn ask<L: Link>(
     deliveries_keep_the_requests();
     L::calm_laws();
     let bytes = write_request(alloc, request)?;
-    let Ok(handed) = handed_over(link.exchange(alloc, bytes.as_slice())) else {
+    let Ok(handed) = answer_or_loss(link.exchange(alloc, bytes.as_slice())) else {
         return Err(NoMemory);
     };
     answer_to(alloc, number, prefix, handed)
-}
-
-/// What an exchange handed over, where a failure of the network is a loss.
-///
-/// # Errors
-/// Where there is no memory.
-fn handed_over(answered: Result<Option<Vec<u8>>, LinkFault>) -> Result<Option<Vec<u8>>, NoMemory>
-    ensures ok { IfOk result (λ handed. IsHanded (answer_in (λ v. v.items) answered)
-        (option_map (λ v. v.items) handed)) }
-    ensures err { OnErr result (answer_in (λ v. v.items) answered ≡ Err LinkFault.NoMemory) }
-{
-    match answered {
-        Ok(handed) => Ok(handed),
-        Err(LinkFault::Io) | Err(LinkFault::Frame) => Ok(None),
-        Err(LinkFault::NoMemory) => Err(NoMemory),
-    }
 }
 
 /// The question as it is asked after these answers; none where it needs an identifier and none is

@@ -4,6 +4,7 @@ pub mod Moves
 pub mod Effects
 pub mod Sound
 pub mod Exchanges
+pub mod Losses
 pub mod Calm
 pub mod Clean
 pub mod Ending

@@ -1,13 +1,16 @@
 //! A link to a server, and why it has no answer.
 ghost use Rattle.std.specs.Prelude.{◌≡◌, ◌≤◌, ◌<◌, ℕ, List, length, Some, None, Ok, IfErr, OnErr, OnOk, option_map};
+ghost use Rattle.std.specs.Result.{result_ok};
 ghost use Rattle.kmip_schedule.specs.Calm.{CalmlyExchanged, CalmlyEnded};
 ghost use Rattle.kmip_schedule.specs.Clean.{Counted, Disturbances, IsRoomy};
 ghost use Rattle.kmip_schedule.specs.Ending.{Ended};
 ghost use Rattle.kmip_schedule.specs.Exchanges.{Exchanged, answer_in};
 ghost use Rattle.kmip_schedule.specs.Faults.{link_fault_number, link_fault_name, most_failures};
+ghost use Rattle.kmip_schedule.specs.Losses.{or_loss};
 ghost use Rattle.kmip_schedule.specs.Moves.{Delivered};
 ghost use Rattle.kmip_schedule.specs.Past.{AreAmong, Past, Names};
 
+use kmip_ttlv::NoMemory;
 use std::alloc::Global;
 use thiserror::Error;
 
@@ -122,5 +125,23 @@ impl LinkFault {
             LinkFault::Frame => "Frame",
             LinkFault::NoMemory => "NoMemory",
         }
+    }
+}
+
+/// What an exchange handed over, where a failure of the network is a loss: it may have been served
+/// or not.
+///
+/// # Errors
+/// Where there is no memory.
+pub fn answer_or_loss(
+    answered: Result<Option<Vec<u8>>, LinkFault>,
+) -> Result<Option<Vec<u8>>, NoMemory>
+    ensures { option_map (option_map (λ v. v.items)) (result_ok result)
+        ≡ or_loss (answer_in (λ v. v.items) answered) }
+{
+    match answered {
+        Ok(answer) => Ok(answer),
+        Err(LinkFault::Io) | Err(LinkFault::Frame) => Ok(None),
+        Err(LinkFault::NoMemory) => Err(NoMemory),
     }
 }

@@ -20,7 +20,7 @@ use Rattle.kmip_session.specs.Campaign.{GoodLink}
 use Rattle.kmip_session.specs.CampaignParts.{CampaignLaws}
 use Rattle.kmip_session.specs.Driving.{IsGood, KeepsFurther, WentOn}
 use Rattle.kmip_session.specs.Lawbook.{Lawbook}
-use Rattle.kmip_session.specs.Losses.{or_loss}
+use Rattle.kmip_schedule.specs.Losses.{or_loss}
 use Rattle.kmip_session.proofs.SettleLemmas.{calmly}
 
 module _ {L : Type 0} (past : L → Past) (honest calm : L → Names → Type 0) where

@@ -17,7 +17,7 @@ use Rattle.kmip_schedule.specs.Sound.{Sound}
 use Rattle.kmip_schedule.specs.declared.link.LinkFault.{LinkFault}
 use Rattle.kmip_session.specs.Driving.{IsGood, Keeps, WentOn}
 use Rattle.kmip_session.specs.Lawbook.{Lawbook}
-use Rattle.kmip_session.specs.Losses.{or_loss}
+use Rattle.kmip_schedule.specs.Losses.{or_loss}
 use Rattle.kmip_session.proofs.KnownLemmas.{handed_over}
 
 -- ---- nothing is taken back

@@ -18,7 +18,7 @@ use Rattle.kmip_schedule.specs.declared.link.LinkFault.{LinkFault}
 use Rattle.kmip_schedule.specs.declared.link.LinkFault.TheVariants.{Io, Frame, NoMemory}
 use Rattle.kmip_session.specs.Driving.{Grown, IsBrokenOff, IsQuestion, Learnt}
 use Rattle.kmip_client.specs.Known.{facts, heard, known_after}
-use Rattle.kmip_session.specs.Losses.{or_loss}
+use Rattle.kmip_schedule.specs.Losses.{or_loss}
 use Rattle.kmip_settling.specs.Turns.{taught}
 use Rattle.kmip_session.proofs.FactLemmas.{known_blind, taught_facts}
 

@@ -15,7 +15,7 @@ use Rattle.kmip_settling.specs.Turns.{taught}
 use Rattle.kmip_session.specs.Driving.{AreFinished, IsGood}
 use Rattle.kmip_session.specs.Lawbook.{Lawbook}
 use Rattle.kmip_session.specs.Losing.{ArePaid, cost, left_for}
-use Rattle.kmip_session.specs.Losses.{or_loss}
+use Rattle.kmip_schedule.specs.Losses.{or_loss}
 use Rattle.kmip_session.proofs.KnownLemmas.{handed_over}
 
 answer_is : (x y : Option (List ℕ)) → Some x ≡ Some y → x ≡ y

@@ -16,7 +16,7 @@ use Rattle.kmip_settling.specs.Ready.{IsReady}
 use Rattle.kmip_settling.specs.Turns.{taught}
 use Rattle.kmip_session.specs.Driving.{AreFinished, IsSettling, Stands, need}
 use Rattle.kmip_session.specs.Lawbook.{Lawbook}
-use Rattle.kmip_session.specs.Losses.{or_loss}
+use Rattle.kmip_schedule.specs.Losses.{or_loss}
 use Rattle.kmip_session.specs.declared.stop.Stop.{Stop}
 use Rattle.kmip_session.specs.declared.stop.Stop.TheVariants as stops
 

@@ -1,5 +1,4 @@
 pub mod Stops
-pub mod Losses
 pub mod Losing
 pub mod Driving
 pub mod Reporting

@@ -1,6 +1,5 @@
 //! Runs of exchanges, until no key is worked on any more or as many were made as may be.
 ghost use Rattle.std.specs.Prelude.{◌≡◌, ◌≢◌, ◌≤◌, ◌<◌, ◌+◌, ℕ, List, length, true, false, Some, None, Ok, Err, IfOk, IsOk, IfSome, OnErr, OnOk, option_map};
-ghost use Rattle.std.specs.Result.{result_ok};
 ghost use Rattle.kmip_objects.specs.Objects.{Object};
 ghost use Rattle.kmip_client.specs.Clients.{lost_at, one_if, AreSettled, IsAbout};
 ghost use Rattle.kmip_client.specs.Held.{Held};
@@ -14,10 +13,8 @@ ghost use Rattle.kmip_client.specs.Known.{facts};
 ghost use Rattle.kmip_schedule.specs.Past.{Past};
 ghost use Rattle.kmip_session.specs.Lawbook.{Lawbook};
 ghost use Rattle.kmip_session.specs.Losing.{ArePaid, IsEnough, left_for};
-ghost use Rattle.kmip_session.specs.Losses.{or_loss};
 ghost use Rattle.kmip_settling.specs.Needs.{chains_and_looks};
 ghost use Rattle.kmip_settling.specs.Turns.{is_answer_to, taught, taught_by};
-ghost use Rattle.kmip_schedule.specs.Exchanges.{answer_in};
 
 use crate::stop::Stop;
 use kmip_chains::laws::states_have_places;
@@ -31,7 +28,7 @@ use kmip_schedule::laws::{
     answers_are_true, deliveries_keep_sound, exchanges_keep_sound, objects_go_onward,
     prolonged_plans_are_sound, the_image_is_kept,
 };
-use kmip_schedule::{Link, LinkFault};
+use kmip_schedule::{Link, answer_or_loss};
 use kmip_settling::laws::{
     a_calm_turn_is_nearer, needs_are_bounded, nothing_made_is_ready,
     room_is_left_for_prolonged_plans, sound_is_ready, the_finished_stand_at_the_end,
@@ -231,18 +228,6 @@ fn put<L: Link>(
         return Err(NoMemory);
     };
     learn(alloc, client, question, answer)
-}
-
-/// What an exchange handed over, where a failure of the network is a loss.
-fn answer_or_loss(answered: Result<Option<Vec<u8>>, LinkFault>) -> Result<Option<Vec<u8>>, NoMemory>
-    ensures { option_map (option_map (λ v. v.items)) (result_ok result)
-        ≡ or_loss (answer_in (λ v. v.items) answered) }
-{
-    match answered {
-        Ok(answer) => Ok(answer),
-        Err(LinkFault::Io) | Err(LinkFault::Frame) => Ok(None),
-        Err(LinkFault::NoMemory) => Err(NoMemory),
-    }
 }
 
 /// Learns from the answer to the question; where there is none, its key is looked at again.

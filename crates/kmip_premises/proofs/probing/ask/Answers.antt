@@ -15,7 +15,7 @@ returns-clause-asked g c = λ names honest.
       weaken c.answer_to.result
           (λ answer told. subst (λ m. HasSent m says answer (g.L.Link.past c.args.link.now) (g.L.Link.past c.exchange.new.self)) is
           (sent_by c.deliveries_keep_the_requests.ensures names (g.L.Link.past c.args.link.now) (g.L.Link.past c.exchange.new.self) c.as_slice.result.now says answer
-          _ _ exchanged c.in-Ok.ensures.ok told))
+          _ _ exchanged (sym c.in-Ok.ensures) told))
           c.answer_to.ensures.answer,
     )
 
@@ -26,7 +26,7 @@ returns-clause-served g c = λ names calm.
       still,
       weaken c.answer_to.result
           (λ answer told. replied_by names (g.L.Link.past c.args.link.now) (g.L.Link.past c.exchange.new.self) c.as_slice.result.now c.args.request.now c.args.number
-          c.args.prefix.now answer _ _ asks exchanged c.in-Ok.ensures.ok told)
+          c.args.prefix.now answer _ _ asks exchanged (sym c.in-Ok.ensures) told)
           c.answer_to.ensures.answer,
     )
 

@@ -5,7 +5,7 @@ use Rattle.kmip_client.specs.Clients.{ClientState}
 use Rattle.kmip_client.specs.Justified.{JustifiedMessage}
 use Rattle.kmip_schedule.specs.Exchanges.{Exchanged, HandsOver, answer_in}
 use Rattle.kmip_schedule.specs.Past.{is_planned}
-use Rattle.kmip_session.specs.Losses.{or_loss}
+use Rattle.kmip_schedule.specs.Losses.{or_loss}
 use Rattle.kmip_session.proofs.FurtherLemmas.{further_asked}
 use Rattle.kmip_session.proofs.GoodLemmas.{good_left, if_handed, left, told}
 use Rattle.kmip_session.proofs.KnownLemmas.{broken_asked, broken_handed, exchanged_grown, handed_over, learnt_one, lost_facts, on_err, on_ok}
