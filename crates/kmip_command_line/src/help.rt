@@ -263,7 +263,7 @@ pub(crate) const NOW: &str =
 pub(crate) const SERVE_TIMEOUT: &str = "The longest that a read or a write of a connection waits";
 
 pub(crate) const WRONG_ADDRESS: &str =
-    "the value of '--connect <ADDRESS>' is no IPv4 address and port, as 127.0.0.1:5696\n";
+    "the value of '--connect <ADDRESS>' is no IPv4 address and port, as 127.0.0.1:5696";
 
 pub(crate) const WRONG_PREFIX: &str =
-    "the value of '--name-prefix <PREFIX>' is not 1 to 62 printable ASCII characters without a space\n";
+    "the value of '--name-prefix <PREFIX>' is not 1 to 62 printable ASCII characters without a space";

@@ -50,20 +50,24 @@ pub fn chosen(alloc: Global, words: &[String]) -> Result<Choice, Error> {
         }
         Some(("run", options)) => match run_options(alloc, options)? {
             Ok(options) => Ok(Choice::Run(options)),
-            Err(fault) => Err(wrong_value(run_command(alloc)?, fault)?),
+            Err(fault) => Err(wrong_value(run_command(alloc)?, "kmipctl run", fault)?),
         },
         Some(("probe", options)) => match probe_options(alloc, options)? {
             Ok(options) => Ok(Choice::Probe(options)),
-            Err(fault) => Err(wrong_value(probe_command(alloc)?, fault)?),
+            Err(fault) => Err(wrong_value(probe_command(alloc)?, "kmipctl probe", fault)?),
         },
         Some(("serve", options)) => Ok(Choice::Serve(serve_options(options))),
         _ => Ok(Choice::Answer),
     }
 }
 
-/// The usage fault of a command of which a value is wrong.
-fn wrong_value(command: Command<'_>, fault: WrongValue) -> Result<Error, AllocError> {
-    let mut command = command;
+/// The usage fault of a command of which a value is wrong, under the words that the command is called by.
+fn wrong_value(
+    command: Command<'_>,
+    called: &str,
+    fault: WrongValue,
+) -> Result<Error, AllocError> {
+    let mut command = command.bin_name(called)?;
     command.error(ErrorKind::ValueValidation, fault.text())
 }
 
