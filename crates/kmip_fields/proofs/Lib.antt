@@ -1,1 +1,4 @@
 mod SiblingLemmas
+pub mod ItemReads
+pub mod TagLemmas
+pub mod FormatParts

@@ -23,8 +23,7 @@ use Rattle.kmip_messages.specs.Requests.{IsPayload, IsRequest}
 use Rattle.kmip_ttlv.specs.Binding.{◌>>=◌}
 use Rattle.kmip_messages.specs.Whole.{item_in, request_read}
 use Rattle.kmip_messages.specs.Written.{request_item}
-use Rattle.kmip_messages.proofs.RequestLaws.{request-law}
-use Rattle.kmip_messages.proofs.RequestRoundTrip.{written_is}
+use Rattle.kmip_messages.proofs.RequestSaid.{request-law, written_is}
 use Rattle.kmip_messages.proofs.RequestsRead.{request_read-law, request_read-complete, written_spells}
 
 -- ---- the questions and what is read

@@ -3,7 +3,7 @@ mod WrittenLemmas
 pub mod ForCallers
 mod Readers
 mod RequestLaws
-mod RequestRoundTrip
+mod RequestSaid
 mod WholeLaws
 mod RequestsRead
 mod ReplyLaws

@@ -5,7 +5,7 @@ use Rattle.std.specs.Ordering.{int_eq}
 use Rattle.std.specs.Option.{option_map}
 use Rattle.std.proofs.lemmas.Bool.{and_parts, or_cases, eqb-true, eq-eqb}
 use Rattle.std.proofs.lemmas.Bool.Decides.{Decides-int_eq}
-use Rattle.kmip_ttlv.specs.Node.{Node, Content, integer, enumeration, text_string, as_structure, as_integer, as_enumeration, as_text_string}
+use Rattle.kmip_ttlv.specs.Node.{Node, Content, integer, enumeration, text_string, as_structure}
 use Rattle.kmip_fields.specs.declared.fault.MessageFault.{MessageFault}
 use Rattle.kmip_fields.specs.declared.fault.MessageFault.TheVariants.{Version, BatchCount, Missing, UnknownOperation}
 use Rattle.kmip_objects.specs.declared.attributes.Attrs.{Attrs}
@@ -52,10 +52,11 @@ use Rattle.kmip_fields.specs.Standing.{Once, AtMostOnce}
 use Rattle.kmip_messages.specs.Marks.{IsIdentifier}
 use Rattle.kmip_messages.specs.Parts.{identifier_at}
 use Rattle.kmip_messages.specs.ReplyReading.{reply_header_at, reply_batch_at, identifier_in, identifiers_in, name_in, any_name_at, attrs_at, attributes_at, located_in, located_at, payload_at, success_in, failed_at, is_status, outcome_at, reply_at}
-use Rattle.kmip_messages.specs.Written.{inside}
+use Rattle.kmip_fields.specs.Formats.{inside, structures, integers, enumerations, texts}
+use Rattle.kmip_fields.proofs.ItemReads.{reads-if, reads-guard, reads-within, reads-the, reads-maybe, reads-typed, reads-sole, structure_kind, integer_kind, enumeration_kind, text_kind}
 use Rattle.kmip_messages.specs.Replies.{IsReplyHeader, IsReplyBatch, IsNameIfAny, AreAttrs, IsObject, IsSuccess, AreFound, IsLocated, IsOutcome, IsReply}
 use Rattle.kmip_ttlv.proofs.ReadSteps.{Reads, reads-ok, reads-bind, reads-bind_known, reads-as}
-use Rattle.kmip_messages.proofs.Readers.{reads-if, reads-guard, reads-within, reads-the, reads-maybe, reads-typed, reads-sole, reads-message, reads-id, reads-identifier, structure_kind, integer_kind, enumeration_kind, text_kind}
+use Rattle.kmip_messages.proofs.Readers.{reads-message, reads-id, reads-identifier}
 
 abbrev ok : (E A : Type 0) → A → Result A E
 ok E A a = Ok a
@@ -91,12 +92,12 @@ reply_header-law message = reads-as (reply_header_at message) _ _
       },
     ))
     (λ u p. (p.0, p.1, (p.2.version, p.2.has_version, (VERSION_MAJOR, p.2.has_major, (p.2.minor, p.2.has_minor, (tt, refl, (pos 1, p.2.has_count, refl)))))))
-    (reads-bind _ _ _ _ (reads-the as_structure inside structure_kind TAG_RESPONSE_HEADER message) (λ header.
-    reads-bind _ _ _ _ (reads-the as_structure inside structure_kind TAG_PROTOCOL_VERSION header) (λ version.
-    reads-bind _ _ _ _ (reads-the as_integer integer integer_kind TAG_PROTOCOL_VERSION_MAJOR version) (λ major.
-    reads-bind _ _ _ _ (reads-the as_integer integer integer_kind TAG_PROTOCOL_VERSION_MINOR version) (λ minor.
+    (reads-bind _ _ _ _ (reads-the structures structure_kind TAG_RESPONSE_HEADER message) (λ header.
+    reads-bind _ _ _ _ (reads-the structures structure_kind TAG_PROTOCOL_VERSION header) (λ version.
+    reads-bind _ _ _ _ (reads-the integers integer_kind TAG_PROTOCOL_VERSION_MAJOR version) (λ major.
+    reads-bind _ _ _ _ (reads-the integers integer_kind TAG_PROTOCOL_VERSION_MINOR version) (λ minor.
     reads-bind _ _ _ _ (reads-guard Version (int_eq major VERSION_MAJOR)) (λ same.
-    reads-bind _ _ _ _ (reads-the as_integer integer integer_kind TAG_BATCH_COUNT header) (λ count.
+    reads-bind _ _ _ _ (reads-the integers integer_kind TAG_BATCH_COUNT header) (λ count.
     reads-guard BatchCount (int_eq count (pos 1)))))))))
 
 reply_batch-law : (n : Node) → Reads (reply_batch_at n) (IsReplyBatch n)
@@ -115,7 +116,7 @@ unfolding identifier_in
 identifier_in-law c = reads-as (identifier_in c) _ (λ uid. (c ≡ text_string uid) × IsTrue (is_identifier uid))
     (λ a p. subst (λ uid. (c ≡ text_string uid) × IsTrue (is_identifier uid)) p.2.2 (p.1, p.2.1))
     (λ a q. (a, q.0, (tt, q.1, refl)))
-    (reads-bind _ _ _ _ (reads-typed as_text_string text_string text_kind TAG_UNIQUE_IDENTIFIER c) (λ uid.
+    (reads-bind _ _ _ _ (reads-typed texts text_kind TAG_UNIQUE_IDENTIFIER c) (λ uid.
     reads-bind _ _ _ _ (reads-within TAG_UNIQUE_IDENTIFIER (is_identifier uid)) (λ fits.
     reads-ok uid)))
 
@@ -181,8 +182,8 @@ name_in-law None = reads-ok None
 name_in-law (Some parts) = reads-as _ _ (IsNameIn (Some parts))
     (λ a (value, has_value, (kind, has_kind, (_, plain, same))). (value, has_value, is_plain kind parts has_kind plain, same))
     (λ a q. (q.0, q.1, (NAME_TYPE_UNINTERPRETED_TEXT_STRING, q.2, (tt, refl, q.3))))
-    (reads-bind _ _ _ _ (reads-the as_text_string text_string text_kind TAG_NAME_VALUE parts) (λ value.
-    reads-bind _ _ _ _ (reads-the as_enumeration enumeration enumeration_kind TAG_NAME_TYPE parts) (λ kind.
+    (reads-bind _ _ _ _ (reads-the texts text_kind TAG_NAME_VALUE parts) (λ value.
+    reads-bind _ _ _ _ (reads-the enumerations enumeration_kind TAG_NAME_TYPE parts) (λ kind.
     reads-bind _ _ _ _ (reads-within TAG_NAME_TYPE (kind == NAME_TYPE_UNINTERPRETED_TEXT_STRING)) (λ plain.
     reads-ok (Some value)))))
 
@@ -204,7 +205,7 @@ unfolding any_name_at
 any_name-law attributes = reads-as (any_name_at attributes) _ (IsNameIfAny attributes)
     (λ a p. name_found attributes p.0 a p.1 p.2)
     (λ a q. name_parts attributes a q)
-    (reads-bind _ _ _ _ (reads-maybe as_structure inside structure_kind TAG_NAME attributes) (λ parts. name_in-law parts))
+    (reads-bind _ _ _ _ (reads-maybe structures structure_kind TAG_NAME attributes) (λ parts. name_in-law parts))
 
 attrs-law : (attributes : List Node) → Reads (attrs_at attributes) (AreAttrs attributes)
 unfolding attrs_at
@@ -218,12 +219,12 @@ attrs-law attributes = reads-as (attrs_at attributes) _ (AreAttrs attributes)
       state = state;
     }))
     (λ a q. (a.object_type, q.object_type, (a.name, q.name, (a.algorithm, q.algorithm, (a.length, q.length, (a.usage, q.usage, (a.state, q.state, refl)))))))
-    (reads-bind _ _ _ _ (reads-maybe as_enumeration enumeration enumeration_kind TAG_OBJECT_TYPE attributes) (λ object.
+    (reads-bind _ _ _ _ (reads-maybe enumerations enumeration_kind TAG_OBJECT_TYPE attributes) (λ object.
     reads-bind _ _ _ _ (any_name-law attributes) (λ called.
-    reads-bind _ _ _ _ (reads-maybe as_enumeration enumeration enumeration_kind TAG_CRYPTOGRAPHIC_ALGORITHM attributes) (λ kind.
-    reads-bind _ _ _ _ (reads-maybe as_integer integer integer_kind TAG_CRYPTOGRAPHIC_LENGTH attributes) (λ bits.
-    reads-bind _ _ _ _ (reads-maybe as_integer integer integer_kind TAG_CRYPTOGRAPHIC_USAGE_MASK attributes) (λ mask.
-    reads-bind _ _ _ _ (reads-maybe as_enumeration enumeration enumeration_kind TAG_STATE attributes) (λ stage.
+    reads-bind _ _ _ _ (reads-maybe enumerations enumeration_kind TAG_CRYPTOGRAPHIC_ALGORITHM attributes) (λ kind.
+    reads-bind _ _ _ _ (reads-maybe integers integer_kind TAG_CRYPTOGRAPHIC_LENGTH attributes) (λ bits.
+    reads-bind _ _ _ _ (reads-maybe integers integer_kind TAG_CRYPTOGRAPHIC_USAGE_MASK attributes) (λ mask.
+    reads-bind _ _ _ _ (reads-maybe enumerations enumeration_kind TAG_STATE attributes) (λ stage.
     reads-ok _)))))))
 
 -- ---- payloads
@@ -236,7 +237,7 @@ object-law payload = reads-as (attributes_at payload) _ _
     (uid, attrs, record { attributes = attributes; is_identifier = identifier; has_attributes = has_attributes; are = are }, same))
     (λ a q. (q.0, q.2.is_identifier, (q.2.attributes, q.2.has_attributes, (q.1, q.2.are, q.3))))
     (reads-bind _ _ _ _ (reads-identifier payload) (λ uid.
-    reads-bind _ _ _ _ (reads-the as_structure inside structure_kind TAG_ATTRIBUTES payload) (λ attributes.
+    reads-bind _ _ _ _ (reads-the structures structure_kind TAG_ATTRIBUTES payload) (λ attributes.
     reads-bind _ _ _ _ (attrs-law attributes) (λ attrs.
     reads-ok (Attributes uid attrs)))))
 
@@ -252,7 +253,7 @@ located-law : (batch : List Node)
     → Reads (located_at batch) (λ o. (payload : Option (List Node)) × AtMostOnce TAG_RESPONSE_PAYLOAD (option_map inside payload) batch
     × ((uids : List (List ℕ)) × AreFound payload uids × (Located uids ≡ o)))
 unfolding located_at
-located-law batch = reads-bind _ _ _ _ (reads-maybe as_structure inside structure_kind TAG_RESPONSE_PAYLOAD batch) (λ payload. located_in-law payload)
+located-law batch = reads-bind _ _ _ _ (reads-maybe structures structure_kind TAG_RESPONSE_PAYLOAD batch) (λ payload. located_in-law payload)
 
 -- a success of an operation that answers with an identifier
 identified : (List ℕ → Outcome) → List Node → Result Outcome MessageFault
@@ -263,7 +264,7 @@ identified-law : (make : List ℕ → Outcome) (batch : List Node)
     × ((uid : List ℕ) × IsIdentifier payload uid × (make uid ≡ o)))
 unfolding identified
 identified-law make batch =
-    reads-bind _ _ _ _ (reads-the as_structure inside structure_kind TAG_RESPONSE_PAYLOAD batch) (λ payload.
+    reads-bind _ _ _ _ (reads-the structures structure_kind TAG_RESPONSE_PAYLOAD batch) (λ payload.
     reads-bind _ _ _ _ (reads-identifier payload) (λ uid.
     reads-ok (make uid)))
 
@@ -276,7 +277,7 @@ object_read-law : (batch : List Node)
     × ((uid : List ℕ) × (attrs : Attrs) × IsObject payload uid attrs × (Attributes uid attrs ≡ o)))
 unfolding object_read
 object_read-law batch =
-    reads-bind _ _ _ _ (reads-the as_structure inside structure_kind TAG_RESPONSE_PAYLOAD batch) (λ payload. object-law payload)
+    reads-bind _ _ _ _ (reads-the structures structure_kind TAG_RESPONSE_PAYLOAD batch) (λ payload. object-law payload)
 
 -- ---- how the operation went
 
@@ -384,7 +385,7 @@ failed-law : (batch : List Node)
     → Reads (failed_at batch) (λ o. (reason : Option ℕ) × AtMostOnce TAG_RESULT_REASON (option_map enumeration reason) batch × (Failed reason ≡ o))
 unfolding failed_at
 failed-law batch =
-    reads-bind _ _ _ _ (reads-maybe as_enumeration enumeration enumeration_kind TAG_RESULT_REASON batch) (λ reason. reads-ok (Failed reason))
+    reads-bind _ _ _ _ (reads-maybe enumerations enumeration_kind TAG_RESULT_REASON batch) (λ reason. reads-ok (Failed reason))
 
 failed_sound : (batch : List Node) (asked : Option ℕ) → HasFailed batch → (a : Outcome) → failed_at batch ≡ Ok a → IsOutcome batch asked a
 failed_sound batch asked status a read =
@@ -431,7 +432,7 @@ unfolding outcome_at
 outcome-law batch asked = reads-as (outcome_at asked batch) _ (IsOutcome batch asked)
     (λ a p. p.2.2)
     (λ a q. let s = has_some_status batch asked a q in (s.0, s.1, (tt, s.2, q)))
-    (reads-bind_known _ _ _ _ (reads-the as_enumeration enumeration enumeration_kind TAG_RESULT_STATUS batch) (λ status once.
+    (reads-bind_known _ _ _ _ (reads-the enumerations enumeration_kind TAG_RESULT_STATUS batch) (λ status once.
     reads-bind_known _ _ _ _ (reads-within TAG_RESULT_STATUS (is_status status)) (λ u known.
     status_read status batch asked once known)))
 
@@ -451,6 +452,6 @@ reply-law n = reads-as (reply_at n) _ (λ r. IsReply r n)
     (λ r q. (q.batch, q.is_batch, (r.id, q.id, (r.operation, q.operation, (r.outcome, q.outcome, refl)))))
     (reads-bind _ _ _ _ (reply_batch-law n) (λ batch.
     reads-bind _ _ _ _ (reads-id batch) (λ mark.
-    reads-bind _ _ _ _ (reads-maybe as_enumeration enumeration enumeration_kind TAG_OPERATION batch) (λ asked.
+    reads-bind _ _ _ _ (reads-maybe enumerations enumeration_kind TAG_OPERATION batch) (λ asked.
     reads-bind _ _ _ _ (outcome-law batch asked) (λ answer.
     reads-ok _)))))

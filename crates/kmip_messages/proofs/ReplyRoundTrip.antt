@@ -13,8 +13,9 @@ use Rattle.kmip_objects.specs.declared.standard.TheConstants.{OBJECT_TYPE_SYMMET
 use Rattle.kmip_messages.specs.Fits.{is_own, outcome_fits, reply_fits}
 use Rattle.kmip_fields.specs.Siblings.{contents}
 use Rattle.kmip_fields.specs.Standing.{AtMostOnce}
-use Rattle.kmip_messages.specs.Written.{given, version_item, uid_item, name_item, attrs_item, success_items, outcome_items, reply_header_item, reply_batch_item, reply_item}
-use Rattle.kmip_messages.proofs.Readers.{contents-append, contents-given}
+use Rattle.kmip_fields.specs.Formats.{given}
+use Rattle.kmip_messages.specs.Written.{version_item, uid_item, name_item, attrs_item, success_items, outcome_items, reply_header_item, reply_batch_item, reply_item}
+use Rattle.kmip_fields.proofs.TagLemmas.{contents-append, contents-given}
 use Rattle.kmip_messages.specs.Replies.{IsReplyBatch, IsNameIfAny, AreAttrs, IsSuccess, IsFailed, IsOutcome, IsReply}
 
 -- ---- attributes
@@ -22,11 +23,11 @@ use Rattle.kmip_messages.specs.Replies.{IsReplyBatch, IsNameIfAny, AreAttrs, IsS
 attributes_of : Attrs → List Node
 attributes_of a =
     given (λ n. node TAG_OBJECT_TYPE (enumeration n)) a.object_type
-    ++ given name_item a.name
-    ++ given (λ n. node TAG_CRYPTOGRAPHIC_ALGORITHM (enumeration n)) a.algorithm
-    ++ given (λ z. node TAG_CRYPTOGRAPHIC_LENGTH (integer z)) a.length
-    ++ given (λ z. node TAG_CRYPTOGRAPHIC_USAGE_MASK (integer z)) a.usage
-    ++ given (λ n. node TAG_STATE (enumeration n)) a.state
+    ++ (given name_item a.name
+    ++ (given (λ n. node TAG_CRYPTOGRAPHIC_ALGORITHM (enumeration n)) a.algorithm
+    ++ (given (λ z. node TAG_CRYPTOGRAPHIC_LENGTH (integer z)) a.length
+    ++ (given (λ z. node TAG_CRYPTOGRAPHIC_USAGE_MASK (integer z)) a.usage
+    ++ given (λ n. node TAG_STATE (enumeration n)) a.state))))
 
 written_name : (attributes : List Node) (o : Option (List ℕ)) → contents TAG_NAME attributes ≡ contents TAG_NAME (given name_item o) → IsNameIfAny attributes o
 written_name attributes None e = e

@@ -16,8 +16,7 @@ use Rattle.kmip_messages.specs.Written.{request_item}
 use Rattle.kmip_ttlv.proofs.ReadSteps.{Reads, reads-bind}
 use Rattle.kmip_messages.proofs.Readers.{reads-refused}
 use Rattle.kmip_messages.proofs.WholeLaws.{item_in-law, item_in-complete}
-use Rattle.kmip_messages.proofs.RequestLaws.{request-law}
-use Rattle.kmip_messages.proofs.RequestRoundTrip.{written_is}
+use Rattle.kmip_messages.proofs.RequestSaid.{request-law, written_is}
 use Rattle.kmip_messages.proofs.WrittenLemmas.{request_writable}
 
 abbrev read_as : Request → Result Request Refusal

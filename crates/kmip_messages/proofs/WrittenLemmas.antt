@@ -1,10 +1,10 @@
 -- Written messages: how deep, how long, and of whole groups.
-use Rattle.std.proofs.Common.{◌≡◌, ℕ, ◌+◌, ◌≤◌, ℤ, pos, true, false, List, [], ◌∷◌, ◌++◌, length, map, Option, Some, None, IsTrue, nat_le, refl, sym, subst, ap, ◌∙◌, inl, inr, lit<, arith}
+use Rattle.std.proofs.Common.{◌≡◌, ℕ, ◌+◌, ◌≤◌, ℤ, pos, true, false, List, [], ◌∷◌, ◌++◌, length, map, Option, Some, None, IsTrue, nat_le, refl, sym, subst, ap, ◌∙◌, inl, inr, arith}
 use Rattle.kmip_ttlv.specs.Node.{Node, node, enumeration, integer, byte_string, nodes_of}
 use Rattle.kmip_ttlv.specs.Fitting.{HasWholeGroups, HaveWholeGroups, depth, depths}
 use Rattle.kmip_ttlv.specs.Sizes.{size, sizes, IsWritable}
 use Rattle.kmip_ttlv.proofs.ForCallers.{writable_of}
-use Rattle.std.proofs.lemmas.Bool.{and_parts, leb-true, le-leb, cases_lt}
+use Rattle.std.proofs.lemmas.Bool.{and_parts, leb-true, cases_lt}
 use Rattle.std.proofs.lemmas.Bool.Decides.{leb_tells}
 use Rattle.kmip_objects.specs.declared.attributes.Attrs.{Attrs}
 use Rattle.kmip_messages.specs.declared.request.Ask.{Ask}
@@ -13,10 +13,13 @@ use Rattle.kmip_messages.specs.declared.request.Request.{Request}
 use Rattle.kmip_messages.specs.declared.reply.Outcome.{Outcome}
 use Rattle.kmip_messages.specs.declared.reply.Outcome.TheVariants.{Created, Located, Attributes, Activated, Revoked, Destroyed, Failed}
 use Rattle.kmip_messages.specs.declared.reply.Reply.{Reply}
-use Rattle.kmip_messages.specs.declared.standard.TheConstants.{TAG_REQUEST_PAYLOAD, TAG_STORAGE_STATUS_MASK, TAG_OPERATION, TAG_UNIQUE_BATCH_ITEM_ID, TAG_OBJECT_TYPE, TAG_CRYPTOGRAPHIC_ALGORITHM, TAG_CRYPTOGRAPHIC_LENGTH, TAG_CRYPTOGRAPHIC_USAGE_MASK, TAG_STATE, TAG_RESULT_REASON}
-use Rattle.kmip_messages.specs.Written.{given, inside, uid_item, name_item, attrs_item, success_items, outcome_items, reply_batch_item, reply_item, ask_items, request_batch_item, request_item}
+use Rattle.kmip_messages.specs.declared.standard.TheConstants.{TAG_BATCH_ITEM, TAG_REQUEST_PAYLOAD, TAG_STORAGE_STATUS_MASK, TAG_OPERATION, TAG_UNIQUE_BATCH_ITEM_ID, TAG_OBJECT_TYPE, TAG_CRYPTOGRAPHIC_ALGORITHM, TAG_CRYPTOGRAPHIC_LENGTH, TAG_CRYPTOGRAPHIC_USAGE_MASK, TAG_STATE, TAG_RESULT_REASON}
+use Rattle.kmip_fields.specs.Formats.{given, inside}
+use Rattle.kmip_messages.specs.Written.{uid_item, name_item, attrs_item, success_items, outcome_items, reply_batch_item, reply_item, request_item}
+use Rattle.kmip_messages.specs.Parts.{id_format, identifier_format}
+use Rattle.kmip_messages.specs.RequestFormats.{name_parts_format, key_attrs_format, filter_format, create_format, locate_format, reason_format, revoke_format, payload_format, version_parts_format, header_parts_format, header_format, known_format, asked_format, item_format, message_format}
 use Rattle.kmip_messages.specs.Operations.{operation_of}
-use Rattle.kmip_objects.specs.Ranges.{is_name, is_identifier}
+use Rattle.kmip_objects.specs.Ranges.{is_name}
 use Rattle.kmip_messages.specs.Ranges.{is_batch_id}
 use Rattle.kmip_messages.specs.RequestFits.{ask_fits, request_fits}
 use Rattle.std.specs.Option.{option_map_or}
@@ -80,7 +83,7 @@ attrs_parts a =
     let bits = integers 2 TAG_CRYPTOGRAPHIC_LENGTH a.length (omega arith) in
     let mask = integers 2 TAG_CRYPTOGRAPHIC_USAGE_MASK a.usage (omega arith) in
     let stage = enumerations 2 TAG_STATE a.state (omega arith) in
-    let all = both_parts 2 _ _ _ _ (both_parts 2 _ _ _ _ (both_parts 2 _ _ _ _ (both_parts 2 _ _ _ _ (both_parts 2 _ _ _ _ object called) kind) bits) mask) stage in
+    let all = both_parts 2 _ _ _ _ object (both_parts 2 _ _ _ _ called (both_parts 2 _ _ _ _ kind (both_parts 2 _ _ _ _ bits (both_parts 2 _ _ _ _ mask stage)))) in
     record { deep = omega (arith, all.deep); groups = (all.groups, tt); long = omega (arith, all.long) }
 
 success_parts : (bytes : ℕ) (payload : List Node) → AreParts 3 bytes payload → AreParts 4 (24 + bytes) (success_items payload)
@@ -174,8 +177,8 @@ ask_size (Activate uid) = text_size uid
 ask_size (Revoke uid code) = text_size uid + 24
 ask_size (Destroy uid) = text_size uid
 
-ask_parts : (a : Ask) → AreParts 4 (ask_size a) (ask_items a)
-unfolding ask_size
+ask_parts : (a : Ask) → AreParts 4 (ask_size a) ((payload_format (operation_of a)).write a)
+unfolding ask_size payload_format create_format key_attrs_format name_parts_format locate_format filter_format revoke_format reason_format identifier_format
 ask_parts (Create k) = record { deep = omega arith; groups = (tt, (((tt, (tt, tt)), (tt, (tt, (tt, tt)))), tt)); long = omega arith }
 ask_parts (Locate mask filter) =
     let first = integers 4 TAG_STORAGE_STATUS_MASK mask (omega arith) in
@@ -220,17 +223,19 @@ ask_bound (Activate uid) h = omega (arith, text_bound uid 64 (uid_length uid h))
 ask_bound (Revoke uid code) h = omega (arith, text_bound uid 64 (uid_length uid (and_parts _ _ h).0))
 ask_bound (Destroy uid) h = omega (arith, text_bound uid 64 (uid_length uid h))
 
-request_batch_parts : (r : Request) → AreParts 6 (32 + size_if_any text_size r.id + ask_size r.ask) (request_batch_item r ∷ [])
+request_batch_parts : (r : Request) → AreParts 6 (32 + size_if_any text_size r.id + ask_size r.ask) (node TAG_BATCH_ITEM (inside (item_format.write r)) ∷ [])
+unfolding item_format known_format asked_format id_format
 request_batch_parts r =
     let operation = one_part 5 16 (node TAG_OPERATION (enumeration (operation_of r.ask))) (omega arith) tt refl in
     let id = given_parts 5 (λ s. node TAG_UNIQUE_BATCH_ITEM_ID (byte_string s)) text_size (λ s. omega arith) (λ s. tt) (λ s. refl) r.id in
     let asks = ask_parts r.ask in
-    let payload : AreParts 5 (8 + ask_size r.ask) (node TAG_REQUEST_PAYLOAD (inside (ask_items r.ask)) ∷ []) =
+    let payload : AreParts 5 (8 + ask_size r.ask) (node TAG_REQUEST_PAYLOAD (inside ((payload_format (operation_of r.ask)).write r.ask)) ∷ []) =
     record { deep = omega (arith, asks.deep); groups = (asks.groups, tt); long = omega (arith, asks.long) } in
     let all = both_parts 5 _ _ _ _ (both_parts 5 _ _ _ _ operation id) payload in
     record { deep = omega (arith, all.deep); groups = (all.groups, tt); long = omega (arith, all.long) }
 
 pub request_writable : (r : Request) → IsTrue (request_fits r) → IsWritable (request_item r)
+unfolding message_format header_format header_parts_format version_parts_format
 request_writable r fits =
     let batch = request_batch_parts r in
     let parts = and_parts (option_map_or is_batch_id r.id true) (ask_fits r.ask) fits in

@@ -3,6 +3,7 @@ pub mod Ranges
 pub mod RequestFits
 pub mod Marks
 pub mod Parts
+pub mod RequestFormats
 pub mod RequestReading
 pub mod ReplyReading
 pub mod Written

@@ -47,7 +47,7 @@ use Rattle.kmip_objects.specs.Ranges.{is_identifier}
 use Rattle.kmip_fields.specs.Siblings.{contents}
 use Rattle.kmip_fields.specs.Standing.{Once, AtMostOnce}
 use Rattle.kmip_messages.specs.Marks.{IsMarked, IsIdentifier}
-use Rattle.kmip_messages.specs.Written.{inside}
+use Rattle.kmip_fields.specs.Formats.{inside}
 
 -- Protocol Version 2 with any minor number, and one Batch Item
 pub record IsReplyHeader (header : List Node) : Type 0 where

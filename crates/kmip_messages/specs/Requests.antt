@@ -40,7 +40,7 @@ use Rattle.kmip_objects.specs.Ranges.{is_name, is_algorithm, is_length, is_usage
 use Rattle.kmip_messages.specs.Operations.{operation_of}
 use Rattle.kmip_fields.specs.Standing.{Once, AtMostOnce, HaveTags}
 use Rattle.kmip_messages.specs.Marks.{IsMarked, IsIdentifier}
-use Rattle.kmip_messages.specs.Written.{inside}
+use Rattle.kmip_fields.specs.Formats.{inside}
 
 -- the Protocol Version 2.1
 pub record IsVersion (header : List Node) : Type 0 where

@@ -1,33 +1,14 @@
 -- The written form of each message.
 -- Source: KMIP 2.1, Message Structure, Operations and Object Attributes; the order of optional items is own.
-use Rattle.std.specs.Prelude.{ℕ, ℤ, pos, List, [], ◌∷◌, ◌++◌, map, Option, Some, None}
-use Rattle.kmip_ttlv.specs.Node.{
-  Node,
-  node,
-  Content,
-  structure,
-  integer,
-  enumeration,
-  text_string,
-  byte_string,
-  date_time,
-  nodes_of,
-}
+use Rattle.std.specs.Prelude.{ℕ, ℤ, pos, List, [], ◌∷◌, ◌++◌, map}
+use Rattle.kmip_ttlv.specs.Node.{Node, node, integer, enumeration, text_string, byte_string, date_time}
 use Rattle.kmip_objects.specs.declared.attributes.Attrs.{Attrs}
-use Rattle.kmip_objects.specs.declared.attributes.KeyAttrs.{KeyAttrs}
-use Rattle.kmip_messages.specs.declared.request.Ask.{Ask}
-use Rattle.kmip_messages.specs.declared.request.Ask.TheVariants.{Create, Locate, GetAttributes, Activate, Revoke, Destroy}
 use Rattle.kmip_messages.specs.declared.request.Request.{Request}
 use Rattle.kmip_messages.specs.declared.reply.Reply.{Reply}
 use Rattle.kmip_messages.specs.declared.reply.Outcome.{Outcome}
 use Rattle.kmip_messages.specs.declared.reply.Outcome.TheVariants.{Created, Located, Attributes, Activated, Revoked, Destroyed, Failed}
 use Rattle.kmip_messages.specs.declared.standard.TheConstants.{
   TAG_REQUEST_MESSAGE,
-  TAG_REQUEST_HEADER,
-  TAG_REQUEST_PAYLOAD,
-  TAG_STORAGE_STATUS_MASK,
-  TAG_REVOCATION_REASON,
-  TAG_REVOCATION_REASON_CODE,
   TAG_RESPONSE_MESSAGE,
   TAG_RESPONSE_HEADER,
   TAG_RESPONSE_PAYLOAD,
@@ -58,15 +39,8 @@ use Rattle.kmip_messages.specs.declared.standard.TheConstants.{
   STATUS_OPERATION_FAILED,
 }
 use Rattle.kmip_objects.specs.declared.standard.TheConstants.{OBJECT_TYPE_SYMMETRIC_KEY}
-use Rattle.kmip_messages.specs.Operations.{operation_of}
-
--- an item where there is a value
-abbrev pub given : {A : Type 0} → (A → Node) → Option A → List Node
-given item None = []
-given item (Some a) = item a ∷ []
-
-abbrev pub inside : List Node → Content
-inside ns = structure (nodes_of ns)
+use Rattle.kmip_fields.specs.Formats.{inside, given}
+use Rattle.kmip_messages.specs.RequestFormats.{message_format}
 
 abbrev pub version_item : Node
 version_item = node TAG_PROTOCOL_VERSION (inside (
@@ -82,11 +56,11 @@ name_item name = node TAG_NAME (inside (
 abbrev pub attrs_item : Attrs → Node
 attrs_item a = node TAG_ATTRIBUTES (inside (
     given (λ n. node TAG_OBJECT_TYPE (enumeration n)) a.object_type
-    ++ given name_item a.name
-    ++ given (λ n. node TAG_CRYPTOGRAPHIC_ALGORITHM (enumeration n)) a.algorithm
-    ++ given (λ z. node TAG_CRYPTOGRAPHIC_LENGTH (integer z)) a.length
-    ++ given (λ z. node TAG_CRYPTOGRAPHIC_USAGE_MASK (integer z)) a.usage
-    ++ given (λ n. node TAG_STATE (enumeration n)) a.state))
+    ++ (given name_item a.name
+    ++ (given (λ n. node TAG_CRYPTOGRAPHIC_ALGORITHM (enumeration n)) a.algorithm
+    ++ (given (λ z. node TAG_CRYPTOGRAPHIC_LENGTH (integer z)) a.length
+    ++ (given (λ z. node TAG_CRYPTOGRAPHIC_USAGE_MASK (integer z)) a.usage
+    ++ given (λ n. node TAG_STATE (enumeration n)) a.state))))))
 
 -- the status of an outcome, and its reason or its payload
 abbrev pub payload_item : List Node → Node
@@ -121,35 +95,6 @@ reply_batch_item r = node TAG_BATCH_ITEM (inside (
 abbrev pub reply_item : Reply → ℤ → Node
 reply_item r now = node TAG_RESPONSE_MESSAGE (inside (reply_header_item now ∷ reply_batch_item r ∷ []))
 
--- what a request asks, in its payload
-abbrev pub key_attrs_item : KeyAttrs → Node
-key_attrs_item k = node TAG_ATTRIBUTES (inside (
-    name_item k.name
-    ∷ node TAG_CRYPTOGRAPHIC_ALGORITHM (enumeration k.algorithm)
-    ∷ node TAG_CRYPTOGRAPHIC_LENGTH (integer k.length)
-    ∷ node TAG_CRYPTOGRAPHIC_USAGE_MASK (integer k.usage)
-    ∷ []))
-
-abbrev pub reason_item : ℕ → Node
-reason_item code = node TAG_REVOCATION_REASON (inside (node TAG_REVOCATION_REASON_CODE (enumeration code) ∷ []))
-
-abbrev pub ask_items : Ask → List Node
-ask_items (Create k) = node TAG_OBJECT_TYPE (enumeration OBJECT_TYPE_SYMMETRIC_KEY) ∷ key_attrs_item k ∷ []
-ask_items (Locate mask filter) = given (λ z. node TAG_STORAGE_STATUS_MASK (integer z)) mask ++ attrs_item filter ∷ []
-ask_items (GetAttributes uid) = uid_item uid ∷ []
-ask_items (Activate uid) = uid_item uid ∷ []
-ask_items (Revoke uid code) = uid_item uid ∷ reason_item code ∷ []
-ask_items (Destroy uid) = uid_item uid ∷ []
-
-abbrev pub request_header_item : Node
-request_header_item = node TAG_REQUEST_HEADER (inside (version_item ∷ node TAG_BATCH_COUNT (integer (pos 1)) ∷ []))
-
-abbrev pub request_batch_item : Request → Node
-request_batch_item r = node TAG_BATCH_ITEM (inside (
-    (node TAG_OPERATION (enumeration (operation_of r.ask)) ∷ [])
-    ++ given (λ id. node TAG_UNIQUE_BATCH_ITEM_ID (byte_string id)) r.id
-    ++ node TAG_REQUEST_PAYLOAD (inside (ask_items r.ask)) ∷ []))
-
 -- the item of a request
 abbrev pub request_item : Request → Node
-request_item r = node TAG_REQUEST_MESSAGE (inside (request_header_item ∷ request_batch_item r ∷ []))
+request_item r = node TAG_REQUEST_MESSAGE (inside (message_format.write r))

@@ -2,7 +2,8 @@
 ghost use Rattle.std.specs.Prelude.{◌≡◌, ◌++◌, ◌∷◌, ◌<◌, ◌^◌, [], IfOk, OnOk};
 ghost use Rattle.kmip_ttlv.specs.Node.{node, integer, enumeration, byte_string};
 ghost use Rattle.kmip_ttlv.specs.View.{view, views};
-ghost use Rattle.kmip_messages.specs.Written.{given, version_item, uid_item, name_item, attrs_item};
+ghost use Rattle.kmip_fields.specs.Formats.{given};
+ghost use Rattle.kmip_messages.specs.Written.{version_item, uid_item, name_item, attrs_item};
 
 use crate::standard::{
     NAME_TYPE_UNINTERPRETED_TEXT_STRING, TAG_ATTRIBUTES, TAG_CRYPTOGRAPHIC_ALGORITHM,

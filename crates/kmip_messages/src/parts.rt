@@ -6,7 +6,7 @@ ghost use Rattle.kmip_objects.specs.Ranges.{is_identifier};
 ghost use Rattle.kmip_messages.specs.Ranges.{is_batch_id};
 ghost use Rattle.kmip_fields.specs.Reading.{Gives};
 ghost use Rattle.kmip_messages.specs.Whole.{item_in};
-ghost use Rattle.kmip_messages.specs.Parts.{message_at, id_at, identifier_at};
+ghost use Rattle.kmip_messages.specs.Parts.{message_at, id_format, identifier_format};
 
 use crate::ranges::is_batch_id;
 use crate::standard::{TAG_UNIQUE_BATCH_ITEM_ID, TAG_UNIQUE_IDENTIFIER};
@@ -50,9 +50,9 @@ pub(crate) fn message_of(item: &Item, tag: u32) -> Result<&[Item], MessageFault>
 }
 
 /// The Unique Batch Item ID, where there is one.
-#[tactic(auto, unfolding(crate::specs::Parts::id_at))]
+#[tactic(auto, unfolding(crate::specs::Parts::id_format))]
 pub(crate) fn id_of(alloc: Global, batch: &[Item]) -> Result<Option<Bytes>, MessageFault>
-    ensures exact { Gives (λ o. o) result (id_at (views batch.now)) }
+    ensures exact { Gives (λ o. o) result (id_format.read (views batch.now)) }
     ensures fits { IfOk result (λ o. IsTrue (option_map_or is_batch_id o true)) }
 {
     match bytes_if_any(batch, TAG_UNIQUE_BATCH_ITEM_ID)? {
@@ -66,9 +66,9 @@ pub(crate) fn id_of(alloc: Global, batch: &[Item]) -> Result<Option<Bytes>, Mess
 }
 
 /// The one Unique Identifier.
-#[tactic(auto, unfolding(crate::specs::Parts::identifier_at))]
+#[tactic(auto, unfolding(crate::specs::Parts::identifier_format))]
 pub(crate) fn identifier_of(alloc: Global, payload: &[Item]) -> Result<Text, MessageFault>
-    ensures exact { Gives (λ s. s) result (identifier_at (views payload.now)) }
+    ensures exact { Gives (λ s. s) result (identifier_format.read (views payload.now)) }
     ensures fits { IfOk result (λ s. IsTrue (is_identifier s)) }
 {
     let uid = the_text(payload, TAG_UNIQUE_IDENTIFIER)?;

@@ -15,19 +15,17 @@ ghost use Rattle.kmip_fields.specs.Reading.{Gives};
 ghost use Rattle.kmip_messages.specs.Whole.{request_read};
 ghost use Rattle.kmip_messages.specs.Requests.{IsRequest};
 ghost use Rattle.kmip_messages.specs.Written.{request_item};
-ghost use Rattle.kmip_messages.specs.RequestReading.{
-  request_header_at,
-  batch_at,
-  name_at,
-  key_attrs_at,
-  filter_at,
-  create_at,
-  locate_at,
-  revoke_at,
-  ask_in,
-  ask_at,
-  request_at,
-  GivesRequest,
+ghost use Rattle.kmip_messages.specs.RequestReading.{request_at, GivesRequest};
+ghost use Rattle.kmip_messages.specs.RequestFormats.{
+  name_format,
+  key_attrs_format,
+  filter_format,
+  create_format,
+  locate_format,
+  revoke_format,
+  payload_format,
+  header_format,
+  asked_format,
 };
 
 use crate::parts::{id_of, identifier_of, message_of, whole_item};
@@ -89,13 +87,15 @@ fn whole_request(alloc: Global, bytes: &[u8]) -> Result<Request, Refusal>
 }
 
 /// The request that an item is.
-#[tactic(auto, unfolding(crate::specs::RequestReading::request_at))]
+#[tactic(auto, unfolding(crate::specs::RequestReading::request_at, crate::specs::RequestFormats::message_format, crate::specs::RequestFormats::known_in_format, crate::specs::RequestFormats::item_format, crate::specs::RequestFormats::known_format))]
 fn request_of(alloc: Global, item: &Item) -> Result<Request, Refusal>
     ensures exact { GivesRequest result (request_at (view item.now)) }
     ensures fits { IfOk result (λ r. IsTrue (request_fits r)) }
     ensures carries { IfErr result (λ e. IsTrue (option_map_or is_batch_id e.id true)) }
 {
-    let batch = batch_of(item)?;
+    let message = message_of(item, TAG_REQUEST_MESSAGE)?;
+    header_of(message)?;
+    let batch = sole_structure(message, TAG_BATCH_ITEM)?;
     let id = id_of(alloc, batch)?;
     let operation = the_enumeration(batch, TAG_OPERATION)?;
     match ask_of(alloc, operation, batch) {
@@ -108,21 +108,10 @@ fn request_of(alloc: Global, item: &Item) -> Result<Request, Refusal>
     }
 }
 
-/// The items of the one Batch Item of a Request Message.
-#[tactic(auto, unfolding(crate::specs::RequestReading::batch_at))]
-fn batch_of(item: &Item) -> Result<&[Item], MessageFault>
-    ensures { Gives (λ s. views s.now) result (batch_at (view item.now)) }
-{
-    let message = message_of(item, TAG_REQUEST_MESSAGE)?;
-    header_of(message)?;
-    let batch = sole_structure(message, TAG_BATCH_ITEM)?;
-    Ok(batch)
-}
-
 /// The header of a request has the version 2.1 and counts one Batch Item.
-#[tactic(auto, unfolding(crate::specs::RequestReading::request_header_at))]
+#[tactic(auto, unfolding(crate::specs::RequestFormats::header_format, crate::specs::RequestFormats::header_parts_format, crate::specs::RequestFormats::version_parts_format))]
 fn header_of(message: &[Item]) -> Result<(), MessageFault>
-    ensures { Gives (λ u. u) result (request_header_at (views message.now)) }
+    ensures { Gives (λ u. u) result (header_format.read (views message.now)) }
 {
     let header = the_structure(message, TAG_REQUEST_HEADER)?;
     let version = the_structure(header, TAG_PROTOCOL_VERSION)?;
@@ -141,9 +130,9 @@ fn is_version(major: i32, minor: i32) -> bool
 }
 
 /// What the Batch Item with this operation asks.
-#[tactic(auto, unfolding(crate::specs::RequestReading::ask_at))]
+#[tactic(auto, unfolding(crate::specs::RequestFormats::asked_format))]
 fn ask_of(alloc: Global, operation: u32, batch: &[Item]) -> Result<Ask, MessageFault>
-    ensures exact { Gives (λ a. a) result (ask_at operation (views batch.now)) }
+    ensures exact { Gives (λ a. a) result ((asked_format operation).read (views batch.now)) }
     ensures fits { IfOk result (λ a. IsTrue (ask_fits a)) }
 {
     check(is_operation(operation), MessageFault::UnknownOperation)?;
@@ -153,8 +142,9 @@ fn ask_of(alloc: Global, operation: u32, batch: &[Item]) -> Result<Ask, MessageF
 }
 
 /// What the payload of one of the six operations asks.
+#[tactic(auto, unfolding(crate::specs::RequestFormats::payload_format))]
 fn payload_of(alloc: Global, operation: u32, payload: &[Item]) -> Result<Ask, MessageFault>
-    ensures exact { Gives (λ a. a) result (ask_in operation (views payload.now)) }
+    ensures exact { Gives (λ a. a) result ((payload_format operation).read (views payload.now)) }
     ensures fits { IfOk result (λ a. IsTrue (ask_fits a)) }
 {
     match operation {
@@ -186,9 +176,9 @@ fn payload_of(alloc: Global, operation: u32, payload: &[Item]) -> Result<Ask, Me
 }
 
 /// The attributes of the key that a Create asks for.
-#[tactic(auto, unfolding(crate::specs::RequestReading::create_at))]
+#[tactic(auto, unfolding(crate::specs::RequestFormats::create_format))]
 fn create_of(alloc: Global, payload: &[Item]) -> Result<KeyAttrs, MessageFault>
-    ensures exact { Gives (λ k. k) result (create_at (views payload.now)) }
+    ensures exact { Gives (λ k. k) result (create_format.read (views payload.now)) }
     ensures fits { IfOk result (λ k. IsTrue (attrs_fit k)) }
 {
     let object_type = the_enumeration(payload, TAG_OBJECT_TYPE)?;
@@ -199,9 +189,9 @@ fn create_of(alloc: Global, payload: &[Item]) -> Result<KeyAttrs, MessageFault>
 }
 
 /// The four attributes of a new key.
-#[tactic(auto, unfolding(crate::specs::RequestReading::key_attrs_at))]
+#[tactic(auto, unfolding(crate::specs::RequestFormats::key_attrs_format))]
 fn key_attrs_of(alloc: Global, attributes: &[Item]) -> Result<KeyAttrs, MessageFault>
-    ensures exact { Gives (λ k. k) result (key_attrs_at (views attributes.now)) }
+    ensures exact { Gives (λ k. k) result (key_attrs_format.read (views attributes.now)) }
     ensures fits { IfOk result (λ k. IsTrue (attrs_fit k)) }
 {
     only(
@@ -229,9 +219,9 @@ fn key_attrs_of(alloc: Global, attributes: &[Item]) -> Result<KeyAttrs, MessageF
 }
 
 /// The Name Value of the one Name, which is an uninterpreted text.
-#[tactic(auto, unfolding(crate::specs::RequestReading::name_at))]
+#[tactic(auto, unfolding(crate::specs::RequestFormats::name_parts_format))]
 fn name_of(alloc: Global, attributes: &[Item]) -> Result<Text, MessageFault>
-    ensures exact { Gives (λ s. s) result (name_at (views attributes.now)) }
+    ensures exact { Gives (λ s. s) result (name_format.read (views attributes.now)) }
     ensures fits { IfOk result (λ s. IsTrue (is_name s)) }
 {
     let parts = the_structure(attributes, TAG_NAME)?;
@@ -244,9 +234,9 @@ fn name_of(alloc: Global, attributes: &[Item]) -> Result<Text, MessageFault>
 }
 
 /// A Locate: the mask and the attributes to look for.
-#[tactic(auto, unfolding(crate::specs::RequestReading::locate_at))]
+#[tactic(auto, unfolding(crate::specs::RequestFormats::locate_format))]
 fn locate_of(alloc: Global, payload: &[Item]) -> Result<Ask, MessageFault>
-    ensures exact { Gives (λ a. a) result (locate_at (views payload.now)) }
+    ensures exact { Gives (λ a. a) result (locate_format.read (views payload.now)) }
     ensures fits { IfOk result (λ a. IsTrue (ask_fits a)) }
 {
     let mask = integer_if_any(payload, TAG_STORAGE_STATUS_MASK)?;
@@ -256,9 +246,9 @@ fn locate_of(alloc: Global, payload: &[Item]) -> Result<Ask, MessageFault>
 }
 
 /// The attributes to look for, the Name among them.
-#[tactic(auto, unfolding(crate::specs::RequestReading::filter_at))]
+#[tactic(auto, unfolding(crate::specs::RequestFormats::filter_format))]
 fn filter_of(alloc: Global, attributes: &[Item]) -> Result<Attrs, MessageFault>
-    ensures exact { Gives (λ a. a) result (filter_at (views attributes.now)) }
+    ensures exact { Gives (λ a. a) result (filter_format.read (views attributes.now)) }
     ensures fits { IfOk result (λ a. IsTrue (option_map_or is_name a.name false)) }
 {
     only(
@@ -289,9 +279,9 @@ fn filter_of(alloc: Global, attributes: &[Item]) -> Result<Attrs, MessageFault>
 }
 
 /// A Revoke: the identifier and the reason's code.
-#[tactic(auto, unfolding(crate::specs::RequestReading::revoke_at))]
+#[tactic(auto, unfolding(crate::specs::RequestFormats::revoke_format, crate::specs::RequestFormats::reason_format))]
 fn revoke_of(alloc: Global, payload: &[Item]) -> Result<Ask, MessageFault>
-    ensures exact { Gives (λ a. a) result (revoke_at (views payload.now)) }
+    ensures exact { Gives (λ a. a) result (revoke_format.read (views payload.now)) }
     ensures fits { IfOk result (λ a. IsTrue (ask_fits a)) }
 {
     let uid = identifier_of(alloc, payload)?;

@@ -1,21 +1,24 @@
 //! Requests to bytes.
 ghost use Rattle.std.specs.Prelude.{◌≡◌, ◌∷◌, [], Ok, IsTrue, IfOk};
-ghost use Rattle.kmip_ttlv.specs.Node.{node, enumeration};
+ghost use Rattle.kmip_ttlv.specs.Node.{node};
 ghost use Rattle.kmip_ttlv.specs.View.{view, views};
 ghost use Rattle.kmip_ttlv.specs.Spelling.{canon};
 ghost use Rattle.kmip_messages.specs.Items.{parts_in, requests_in};
 ghost use Rattle.kmip_messages.specs.RequestFits.{request_fits};
-ghost use Rattle.kmip_messages.specs.declared.request.Ask.TheVariants.{Locate};
-ghost use Rattle.kmip_messages.specs.Written.{
-  uid_item,
-  attrs_item,
-  key_attrs_item,
-  reason_item,
-  ask_items,
-  request_header_item,
-  request_batch_item,
-  request_item,
+ghost use Rattle.kmip_fields.specs.Formats.{inside};
+ghost use Rattle.kmip_messages.specs.Operations.{operation_of};
+ghost use Rattle.kmip_messages.specs.RequestFormats.{
+  key_attrs_format,
+  filter_format,
+  create_format,
+  locate_format,
+  revoke_format,
+  payload_format,
+  header_parts_format,
+  item_format,
 };
+ghost use Rattle.kmip_messages.specs.declared.request.Ask.TheVariants.{Locate, Revoke};
+ghost use Rattle.kmip_messages.specs.Written.{request_item};
 
 use crate::building::{
     attrs_item, name_item, push, push_enumeration, push_id, push_integer, uid_item, version_item,
@@ -50,6 +53,7 @@ pub fn write_request(alloc: Global, request: &Request) -> Result<Vec<u8>, NoMemo
 }
 
 /// The Request Message of the request.
+#[tactic(auto, unfolding(crate::specs::RequestFormats::message_format, crate::specs::RequestFormats::header_format))]
 fn message_item(alloc: Global, request: &Request) -> Result<Item, NoMemory>
     ensures { IfOk result (λ i. view i ≡ request_item request.now) }
 {
@@ -60,8 +64,10 @@ fn message_item(alloc: Global, request: &Request) -> Result<Item, NoMemory>
 }
 
 /// The Request Header: version 2.1, and one Batch Item.
+#[tactic(auto, unfolding(crate::specs::RequestFormats::header_parts_format, crate::specs::RequestFormats::version_parts_format))]
 fn header_item(alloc: Global) -> Result<Item, NoMemory>
-    ensures { IfOk result (λ i. view i ≡ request_header_item) }
+    ensures { IfOk result (λ i. view i
+        ≡ node TAG_REQUEST_HEADER (inside (header_parts_format.write tt))) }
 {
     let version = version_item(alloc)?;
     let count = Item::integer(Tag::new(TAG_BATCH_COUNT), 1);
@@ -70,8 +76,10 @@ fn header_item(alloc: Global) -> Result<Item, NoMemory>
 }
 
 /// The Batch Item of the request.
+#[tactic(auto, unfolding(crate::specs::RequestFormats::item_format, crate::specs::RequestFormats::known_format, crate::specs::RequestFormats::asked_format, crate::specs::Parts::id_format))]
 fn batch_item(alloc: Global, request: &Request) -> Result<Item, NoMemory>
-    ensures { IfOk result (λ i. view i ≡ request_batch_item request.now) }
+    ensures { IfOk result (λ i. view i
+        ≡ node TAG_BATCH_ITEM (inside (item_format.write request.now))) }
 {
     let payload = ask_items(alloc, &request.ask)?;
     let mut items = Vec::new(alloc);
@@ -85,8 +93,10 @@ fn batch_item(alloc: Global, request: &Request) -> Result<Item, NoMemory>
 }
 
 /// The payload's items.
+#[tactic(auto, unfolding(crate::specs::RequestFormats::payload_format, crate::specs::Parts::identifier_format))]
 fn ask_items(alloc: Global, ask: &Ask) -> Result<Vec<Item>, NoMemory>
-    ensures { IfOk result (λ v. views v.items ≡ ask_items ask.now) }
+    ensures { IfOk result (λ v. views v.items
+        ≡ (payload_format (operation_of ask.now)).write ask.now) }
 {
     match ask {
         Ask::Create(attrs) => {
@@ -110,11 +120,9 @@ fn ask_items(alloc: Global, ask: &Ask) -> Result<Vec<Item>, NoMemory>
 }
 
 /// The payload of a Create.
+#[tactic(auto, unfolding(crate::specs::RequestFormats::create_format))]
 fn create_items(alloc: Global, attrs: &KeyAttrs) -> Result<Vec<Item>, NoMemory>
-    ensures { IfOk result (λ v. views v.items
-        ≡ node TAG_OBJECT_TYPE (enumeration OBJECT_TYPE_SYMMETRIC_KEY)
-        ∷ key_attrs_item attrs.now
-        ∷ []) }
+    ensures { IfOk result (λ v. views v.items ≡ create_format.write attrs.now) }
 {
     let object_type = Item::enumeration(Tag::new(TAG_OBJECT_TYPE), OBJECT_TYPE_SYMMETRIC_KEY);
     let attrs = key_attrs_item(alloc, attrs)?;
@@ -123,8 +131,10 @@ fn create_items(alloc: Global, attrs: &KeyAttrs) -> Result<Vec<Item>, NoMemory>
 }
 
 /// The Attributes of a new key.
+#[tactic(auto, unfolding(crate::specs::RequestFormats::key_attrs_format, crate::specs::RequestFormats::name_parts_format))]
 fn key_attrs_item(alloc: Global, attrs: &KeyAttrs) -> Result<Item, NoMemory>
-    ensures { IfOk result (λ i. view i ≡ key_attrs_item attrs.now) }
+    ensures { IfOk result (λ i. view i
+        ≡ node TAG_ATTRIBUTES (inside (key_attrs_format.write attrs.now))) }
 {
     let name = name_item(alloc, &attrs.name)?;
     let algorithm = Item::enumeration(Tag::new(TAG_CRYPTOGRAPHIC_ALGORITHM), attrs.algorithm);
@@ -135,8 +145,9 @@ fn key_attrs_item(alloc: Global, attrs: &KeyAttrs) -> Result<Item, NoMemory>
 }
 
 /// The payload of a Locate.
+#[tactic(auto, unfolding(crate::specs::RequestFormats::locate_format, crate::specs::RequestFormats::filter_format, crate::specs::RequestFormats::name_parts_format))]
 fn locate_items(alloc: Global, mask: Option<i32>, filter: &Attrs) -> Result<Vec<Item>, NoMemory>
-    ensures { IfOk result (λ v. views v.items ≡ ask_items (Locate mask filter.now)) }
+    ensures { IfOk result (λ v. views v.items ≡ locate_format.write (Locate mask filter.now)) }
 {
     let mut items = Vec::new(alloc);
     push_integer(&mut items, TAG_STORAGE_STATUS_MASK, mask)?;
@@ -146,8 +157,9 @@ fn locate_items(alloc: Global, mask: Option<i32>, filter: &Attrs) -> Result<Vec<
 }
 
 /// The payload of a Revoke.
+#[tactic(auto, unfolding(crate::specs::RequestFormats::revoke_format, crate::specs::RequestFormats::reason_format, crate::specs::Parts::identifier_format))]
 fn revoke_items(alloc: Global, uid: &Text, code: u32) -> Result<Vec<Item>, NoMemory>
-    ensures { IfOk result (λ v. views v.items ≡ uid_item uid.now ∷ reason_item code ∷ []) }
+    ensures { IfOk result (λ v. views v.items ≡ revoke_format.write (Revoke uid.now code)) }
 {
     let uid = uid_item(alloc, uid)?;
     let code = Item::enumeration(Tag::new(TAG_REVOCATION_REASON_CODE), code);

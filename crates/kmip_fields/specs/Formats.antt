@@ -1,0 +1,245 @@
+-- A part of a message, described once: how it is written, how it is read and what it says all follow from its format.
+-- Source: KMIP 2.1, Message Structure: items may stand in any order, and those that a reader does not use are skipped.
+use Rattle.std.specs.Prelude.{◌≡◌, ℕ, ℤ, Bool, true, false, ◌&&◌, List, [], ◌∷◌, ◌++◌, Option, Some, Result, Ok, IsTrue, if◌then◌else◌}
+use Rattle.std.specs.Option.{option_map, option_map_or}
+use Rattle.kmip_ttlv.specs.Binding.{◌>>=◌}
+use Rattle.kmip_ttlv.specs.Node.{Node, node, Content, structure, integer, enumeration, text_string, byte_string, nodes_of, as_structure, as_integer, as_enumeration, as_text_string, as_byte_string}
+use Rattle.kmip_fields.specs.declared.fault.MessageFault.{MessageFault}
+use Rattle.kmip_fields.specs.declared.fault.MessageFault.TheVariants.{OutOfRange}
+use Rattle.kmip_fields.specs.Siblings.{contents, guard, sole, the, maybe, only}
+use Rattle.kmip_fields.specs.Standing.{Once, AtMostOnce, HaveTags}
+
+-- a part of a message whose values are these
+pub record Format (A : Type 0) : Type 1 where
+  -- the tags of its items
+  pub tags : List ℕ
+  -- the values that it can say
+  pub fits : A → Bool
+  -- the items that say a value, as they are written
+  pub write : A → List Node
+  -- the value that the items say among their siblings, or the first fault
+  pub read : List Node → Result A MessageFault
+  -- the items say the value among their siblings, in whatever order
+  pub Says : List Node → A → Type 0
+
+-- a type of items: the value that a content of this type has, and the content of a value
+pub record Kind (A : Type 0) : Type 0 where
+  pub of : Content → Option A
+  pub make : A → Content
+
+-- the content of a Structure
+abbrev pub inside : List Node → Content
+inside ns = structure (nodes_of ns)
+
+abbrev pub structures : Kind (List Node)
+structures = record { of = as_structure; make = inside }
+
+abbrev pub integers : Kind ℤ
+integers = record { of = as_integer; make = integer }
+
+abbrev pub enumerations : Kind ℕ
+enumerations = record { of = as_enumeration; make = enumeration }
+
+abbrev pub texts : Kind (List ℕ)
+texts = record { of = as_text_string; make = text_string }
+
+abbrev pub bytes : Kind (List ℕ)
+bytes = record { of = as_byte_string; make = byte_string }
+
+-- the items that say a value, where there is one
+abbrev pub if_given : {A : Type 0} → (A → List Node) → Option A → List Node
+if_given write o = option_map_or write o []
+
+-- the same of one item
+abbrev pub given : {A : Type 0} → (A → Node) → Option A → List Node
+given item o = if_given (λ a. item a ∷ []) o
+
+-- ---- one item
+
+-- just one item with the tag: its value
+abbrev pub required : {A : Type 0} → Kind A → ℕ → Format A
+required k tag = record {
+  tags = tag ∷ [];
+  fits = λ a. true;
+  write = λ a. node tag (k.make a) ∷ [];
+  read = λ ns. the k.of tag ns;
+  Says = λ ns a. Once tag (k.make a) ns;
+}
+
+-- no item with the tag, or one: its value
+abbrev pub optional : {A : Type 0} → Kind A → ℕ → Format (Option A)
+optional k tag = record {
+  tags = tag ∷ [];
+  fits = λ o. true;
+  write = λ o. given (λ a. node tag (k.make a)) o;
+  read = λ ns. maybe k.of tag ns;
+  Says = λ ns o. AtMostOnce tag (option_map k.make o) ns;
+}
+
+-- just one Structure with the tag, whose items say the value
+abbrev pub structure_of : {A : Type 0} → ℕ → Format A → Format A
+structure_of tag f = record {
+  tags = tag ∷ [];
+  fits = f.fits;
+  write = λ a. node tag (inside (f.write a)) ∷ [];
+  read = λ ns. the as_structure tag ns >>= λ parts. f.read parts;
+  Says = λ ns a. (parts : List Node) × Once tag (inside parts) ns × f.Says parts a;
+}
+
+-- the same of the one Batch Item of a message, where any other number is a fault of its own
+abbrev pub sole_structure_of : {A : Type 0} → ℕ → Format A → Format A
+sole_structure_of tag f = record {
+  tags = tag ∷ [];
+  fits = f.fits;
+  write = λ a. node tag (inside (f.write a)) ∷ [];
+  read = λ ns. sole tag (contents tag ns) >>= λ parts. f.read parts;
+  Says = λ ns a. (parts : List Node) × Once tag (inside parts) ns × f.Says parts a;
+}
+
+-- ---- the values
+
+-- only the values of which a test holds; of any other the fault is this
+abbrev pub tested : {A : Type 0} → MessageFault → (A → Bool) → Format A → Format A
+tested fault test f = record {
+  tags = f.tags;
+  fits = λ a. f.fits a && test a;
+  write = f.write;
+  read = λ ns. f.read ns >>= λ a. guard fault (test a) >>= λ u. Ok a;
+  Says = λ ns a. f.Says ns a × IsTrue (test a);
+}
+
+-- only the values in the range of the item with this tag
+abbrev pub ranged : {A : Type 0} → ℕ → (A → Bool) → Format A → Format A
+ranged tag test f = tested (OutOfRange tag) test f
+
+-- some value of which a test holds, and which is not kept; this one is written
+abbrev pub fixed : {A : Type 0} → MessageFault → (A → Bool) → A → Format A → Format (Unit {0})
+fixed fault test value f = record {
+  tags = f.tags;
+  fits = λ u. true;
+  write = λ u. f.write value;
+  read = λ ns. f.read ns >>= λ a. guard fault (test a);
+  Says = λ ns u. (a : _) × f.Says ns a × IsTrue (test a);
+}
+
+-- a value that has to be there, as one that may be
+abbrev pub present : {A : Type 0} → Format A → Format (Option A)
+present f = record {
+  tags = f.tags;
+  fits = λ o. option_map_or f.fits o false;
+  write = λ o. if_given f.write o;
+  read = λ ns. f.read ns >>= λ a. Ok (Some a);
+  Says = λ ns o. (a : _) × f.Says ns a × (Some a ≡ o);
+}
+
+-- the same values in other words, all of them
+abbrev pub as_record : {A B : Type 0} → (A → B) → (B → A) → Format A → Format B
+as_record there back f = record {
+  tags = f.tags;
+  fits = λ b. f.fits (back b);
+  write = λ b. f.write (back b);
+  read = λ ns. f.read ns >>= λ a. Ok (there a);
+  Says = λ ns b. f.Says ns (back b);
+}
+
+-- the same values as one case of several
+abbrev pub as_case : {A B : Type 0} → (A → B) → (B → Option A) → Format A → Format B
+as_case there back f = record {
+  tags = f.tags;
+  fits = λ b. option_map_or f.fits (back b) false;
+  write = λ b. if_given f.write (back b);
+  read = λ ns. f.read ns >>= λ a. Ok (there a);
+  Says = λ ns b. (a : _) × f.Says ns a × (there a ≡ b);
+}
+
+-- ---- two parts
+
+-- two parts, the first of which is read and written first
+infixr 6 ◌⊗◌
+abbrev pub ◌⊗◌ : {A B : Type 0} → Format A → Format B → Format (A × B)
+f ⊗ g = record {
+  tags = f.tags ++ g.tags;
+  fits = λ p. f.fits p.0 && g.fits p.1;
+  write = λ p. f.write p.0 ++ g.write p.1;
+  read = λ ns. f.read ns >>= λ a. g.read ns >>= λ b. Ok (a, b);
+  Says = λ ns p. f.Says ns p.0 × g.Says ns p.1;
+}
+
+-- two parts, the second of which is read first, and the first written first
+infixr 6 ◌⊗ʳ◌
+abbrev pub ◌⊗ʳ◌ : {A B : Type 0} → Format A → Format B → Format (A × B)
+f ⊗ʳ g = record {
+  tags = f.tags ++ g.tags;
+  fits = λ p. f.fits p.0 && g.fits p.1;
+  write = λ p. f.write p.0 ++ g.write p.1;
+  read = λ ns. g.read ns >>= λ b. f.read ns >>= λ a. Ok (a, b);
+  Says = λ ns p. f.Says ns p.0 × g.Says ns p.1;
+}
+
+-- two parts, the second of which says no value
+infixl 5 ◌◁◌
+abbrev pub ◌◁◌ : {A : Type 0} → Format A → Format (Unit {0}) → Format A
+f ◁ g = record {
+  tags = f.tags ++ g.tags;
+  fits = λ a. f.fits a && g.fits tt;
+  write = λ a. f.write a ++ g.write tt;
+  read = λ ns. f.read ns >>= λ a. g.read ns >>= λ u. Ok a;
+  Says = λ ns a. f.Says ns a × g.Says ns tt;
+}
+
+-- two parts, the first of which says no value
+infixr 5 ◌▷◌
+abbrev pub ◌▷◌ : {A : Type 0} → Format (Unit {0}) → Format A → Format A
+f ▷ g = record {
+  tags = f.tags ++ g.tags;
+  fits = λ a. f.fits tt && g.fits a;
+  write = λ a. f.write tt ++ g.write a;
+  read = λ ns. f.read ns >>= λ u. g.read ns;
+  Says = λ ns a. f.Says ns tt × g.Says ns a;
+}
+
+-- a part, and then one whose format the value of the first tells; the second has these tags
+abbrev pub followed : {K A : Type 0} → List ℕ → Format K → (K → Format A) → Format (K × A)
+followed tags f g = record {
+  tags = f.tags ++ tags;
+  fits = λ p. f.fits p.0 && (g p.0).fits p.1;
+  write = λ p. f.write p.0 ++ (g p.0).write p.1;
+  read = λ ns. f.read ns >>= λ k. (g k).read ns >>= λ a. Ok (k, a);
+  Says = λ ns p. f.Says ns p.0 × (g p.0).Says ns p.1;
+}
+
+-- ---- the whole
+
+-- no items but those of the part
+abbrev pub closed : {A : Type 0} → Format A → Format A
+closed f = record {
+  tags = f.tags;
+  fits = f.fits;
+  write = f.write;
+  read = λ ns. only f.tags ns >>= λ u. f.read ns;
+  Says = λ ns a. HaveTags f.tags ns × f.Says ns a;
+}
+
+-- the part where a test holds; else there is this fault, and nothing is looked at
+abbrev pub refusing : {A : Type 0} → MessageFault → Bool → Format A → Format A
+refusing fault test f = record {
+  tags = f.tags;
+  fits = λ a. test && f.fits a;
+  write = f.write;
+  read = λ ns. guard fault test >>= λ u. f.read ns;
+  Says = λ ns a. IsTrue test × f.Says ns a;
+}
+
+-- the first where a test holds, and else the second
+abbrev pub Chosen : Bool → Type 0 → Type 0 → Type 0
+Chosen true P Q = P
+Chosen false P Q = Q
+
+abbrev pub choose : {A : Type 0} → Bool → Format A → Format A → Format A
+choose b f g = record {
+  tags = if b then f.tags else g.tags;
+  fits = λ a. if b then f.fits a else g.fits a;
+  write = λ a. if b then f.write a else g.write a;
+  read = λ ns. if b then f.read ns else g.read ns;
+  Says = λ ns a. Chosen b (f.Says ns a) (g.Says ns a);
+}

@@ -1,0 +1,183 @@
+-- What the formats of requests say is what specs/Requests says by hand, in both directions; so a request is read just where an
+-- item is it, and its written form is it.
+use Rattle.std.proofs.Common.{◌≡◌, ℕ, ℤ, pos, true, List, None, IsTrue, refl, sym, subst}
+use Rattle.std.proofs.lemmas.Bool.{eqb-true, and_parts}
+use Rattle.std.proofs.lemmas.Bool.Decides.{Decides-int_eq}
+use Rattle.std.specs.Ordering.{int_eq}
+use Rattle.kmip_ttlv.specs.Node.{Node, node, integer, enumeration}
+use Rattle.kmip_ttlv.proofs.ReadSteps.{Reads, reads-bind, reads-as}
+use Rattle.kmip_fields.specs.Formats.{inside}
+use Rattle.kmip_fields.specs.Standing.{Once}
+use Rattle.kmip_fields.proofs.FormatParts.{reads}
+use Rattle.kmip_objects.specs.declared.attributes.KeyAttrs.{KeyAttrs}
+use Rattle.kmip_objects.specs.declared.attributes.Attrs.{Attrs}
+use Rattle.kmip_objects.specs.declared.standard.TheConstants.{OBJECT_TYPE_SYMMETRIC_KEY}
+use Rattle.kmip_messages.specs.declared.request.Ask.{Ask}
+use Rattle.kmip_messages.specs.declared.request.Ask.TheVariants.{Create, Locate, GetAttributes, Activate, Revoke, Destroy}
+use Rattle.kmip_messages.specs.declared.request.Request.{Request}
+use Rattle.kmip_messages.specs.declared.standard.TheConstants.{TAG_REQUEST_MESSAGE, TAG_OPERATION, TAG_PROTOCOL_VERSION_MAJOR, TAG_PROTOCOL_VERSION_MINOR, TAG_BATCH_COUNT, TAG_OBJECT_TYPE, TAG_NAME_TYPE, VERSION_MAJOR, VERSION_MINOR, NAME_TYPE_UNINTERPRETED_TEXT_STRING}
+use Rattle.kmip_messages.specs.Operations.{operation_of}
+use Rattle.kmip_messages.specs.RequestFits.{request_fits}
+use Rattle.kmip_messages.specs.RequestFormats.{name_parts_format, name_format, key_attrs_format, filter_format, create_format, locate_format, reason_format, revoke_format, payload_format, version_parts_format, header_parts_format, header_format, known_format, asked_format, item_format, known_in_format, message_format}
+use Rattle.kmip_messages.specs.RequestReading.{request_at}
+use Rattle.kmip_messages.specs.Requests.{IsHeader, IsName, IsKeyAttrs, IsFilter, IsCreate, IsPayload, IsAsk, IsRequest}
+use Rattle.kmip_messages.specs.Written.{request_item}
+use Rattle.kmip_messages.proofs.Readers.{reads-refused, reads-carrying, reads-message, id_is, is_id, identifier_is, is_identifier_said}
+use Rattle.kmip_messages.proofs.RequestLaws.{message-good, message_fits, one_of_six}
+
+-- two numbers that were tested
+same_number : (x y : ℤ) → int_eq x y ≡ true → x ≡ y
+same_number x y h = (Decides-int_eq x y).0 h
+
+-- ---- attributes
+
+name_is : (attributes : List Node) (text : List ℕ) → name_format.Says attributes text → IsName attributes text
+unfolding name_parts_format
+name_is attributes text (parts, stands, ((value, in_range), (kind, has_kind, plain))) = record {
+  parts = parts;
+  stands = stands;
+  value = value;
+  in_range = in_range;
+  plain = subst (λ t. Once TAG_NAME_TYPE (enumeration t) parts) (eqb-true kind NAME_TYPE_UNINTERPRETED_TEXT_STRING plain) has_kind;
+}
+
+is_name_said : (attributes : List Node) (text : List ℕ) → IsName attributes text → name_format.Says attributes text
+unfolding name_parts_format
+is_name_said attributes text p = (p.parts, p.stands, ((p.value, p.in_range), (NAME_TYPE_UNINTERPRETED_TEXT_STRING, p.plain, refl)))
+
+key_is : (attributes : List Node) (k : KeyAttrs) → key_attrs_format.Says attributes k → IsKeyAttrs attributes k
+unfolding key_attrs_format
+key_is attributes k (no_others, (called, ((((kind, kind_fits), bits), bits_fit), (mask, mask_fits)))) = record {
+  no_others = no_others;
+  called = name_is attributes k.name called;
+  algorithm = kind;
+  algorithm_in_range = kind_fits;
+  bits = bits;
+  bits_in_range = bits_fit;
+  mask = mask;
+  mask_in_range = mask_fits;
+}
+
+is_key : (attributes : List Node) (k : KeyAttrs) → IsKeyAttrs attributes k → key_attrs_format.Says attributes k
+unfolding key_attrs_format
+is_key attributes k p =
+    (p.no_others, (is_name_said attributes k.name p.called, ((((p.algorithm, p.algorithm_in_range), p.bits), p.bits_in_range), (p.mask, p.mask_in_range))))
+
+filter_is : (attributes : List Node) (a : Attrs) → filter_format.Says attributes a → IsFilter attributes a
+unfolding filter_format
+filter_is attributes a (no_others, (object, ((text, called, same), (kind, (bits, (mask, stage)))))) = record {
+  no_others = no_others;
+  object_type = object;
+  text = text;
+  has_name = same;
+  called = name_is attributes text called;
+  algorithm = kind;
+  bits = bits;
+  mask = mask;
+  stage = stage;
+}
+
+is_filter : (attributes : List Node) (a : Attrs) → IsFilter attributes a → filter_format.Says attributes a
+unfolding filter_format
+is_filter attributes a p =
+    (p.no_others, (p.object_type, ((p.text, is_name_said attributes p.text p.called, p.has_name), (p.algorithm, (p.bits, (p.mask, p.stage))))))
+
+-- ---- payloads
+
+create_is : (payload : List Node) (k : KeyAttrs) → create_format.Says payload k → IsCreate payload k
+unfolding create_format
+create_is payload k ((object, has_object, symmetric), (attributes, stands, are)) = record {
+  object_type = subst (λ t. Once TAG_OBJECT_TYPE (enumeration t) payload) (eqb-true object OBJECT_TYPE_SYMMETRIC_KEY symmetric) has_object;
+  attributes = attributes;
+  stands = stands;
+  are = key_is attributes k are;
+}
+
+is_create : (payload : List Node) (k : KeyAttrs) → IsCreate payload k → create_format.Says payload k
+unfolding create_format
+is_create payload k p = ((OBJECT_TYPE_SYMMETRIC_KEY, p.object_type, refl), (p.attributes, p.stands, is_key p.attributes k p.are))
+
+-- what the payload of its own operation says
+payload_is : (payload : List Node) (a : Ask) → (payload_format (operation_of a)).Says payload a → IsPayload payload a
+unfolding payload_format locate_format revoke_format reason_format
+payload_is payload (Create k) (x, says, same) = subst (IsPayload payload) same (create_is payload x says)
+payload_is payload (Locate storage filter) (x, (mask, (attributes, stands, are)), same) =
+    subst (IsPayload payload) same (record { mask = mask; attributes = attributes; stands = stands; are = filter_is attributes x.1 are })
+payload_is payload (GetAttributes uid) (x, says, same) = subst (IsPayload payload) same (identifier_is payload x says)
+payload_is payload (Activate uid) (x, says, same) = subst (IsPayload payload) same (identifier_is payload x says)
+payload_is payload (Revoke uid code) (x, (identifier, (reason, stands, (says, in_range))), same) =
+    subst (IsPayload payload) same (record { identifier = identifier_is payload x.0 identifier; reason = reason; stands = stands; says = says; in_range = in_range })
+payload_is payload (Destroy uid) (x, says, same) = subst (IsPayload payload) same (identifier_is payload x says)
+
+is_payload : (payload : List Node) (a : Ask) → IsPayload payload a → (payload_format (operation_of a)).Says payload a
+unfolding payload_format locate_format revoke_format reason_format
+is_payload payload (Create k) p = (k, is_create payload k p, refl)
+is_payload payload (Locate storage filter) p = ((storage, filter), (p.mask, (p.attributes, p.stands, is_filter p.attributes filter p.are)), refl)
+is_payload payload (GetAttributes uid) p = (uid, is_identifier_said payload uid p, refl)
+is_payload payload (Activate uid) p = (uid, is_identifier_said payload uid p, refl)
+is_payload payload (Revoke uid code) p = ((uid, code), (is_identifier_said payload uid p.identifier, (p.reason, p.stands, (p.says, p.in_range))), refl)
+is_payload payload (Destroy uid) p = (uid, is_identifier_said payload uid p, refl)
+
+-- ---- the message
+
+header_is : (message : List Node) → header_format.Says message tt → IsHeader message
+unfolding header_format header_parts_format version_parts_format
+header_is message (header, stands, ((version, has_version, (numbers, (has_major, has_minor), same)), (count, has_count, is_one))) =
+    let each = and_parts (int_eq numbers.0 VERSION_MAJOR) (int_eq numbers.1 VERSION_MINOR) same in
+    record {
+      parts = header;
+      stands = stands;
+      version = record {
+        parts = version;
+        stands = has_version;
+        major = subst (λ z. Once TAG_PROTOCOL_VERSION_MAJOR (integer z) version) (same_number numbers.0 VERSION_MAJOR each.0) has_major;
+        minor = subst (λ z. Once TAG_PROTOCOL_VERSION_MINOR (integer z) version) (same_number numbers.1 VERSION_MINOR each.1) has_minor;
+      };
+      count = subst (λ z. Once TAG_BATCH_COUNT (integer z) header) (same_number count (pos 1) is_one) has_count;
+    }
+
+is_header : (message : List Node) → IsHeader message → header_format.Says message tt
+unfolding header_format header_parts_format version_parts_format
+is_header message p =
+    let version = p.version in
+    (p.parts, p.stands, ((version.parts, version.stands, ((VERSION_MAJOR, VERSION_MINOR), (version.major, version.minor), refl)), (pos 1, p.count, refl)))
+
+ask_is : (batch : List Node) (a : Ask) → (asked_format (operation_of a)).Says batch a
+    → Once TAG_OPERATION (enumeration (operation_of a)) batch → IsAsk batch a
+unfolding asked_format
+ask_is batch a (_, (payload, stands, says)) operation = record { operation = operation; payload = payload; stands = stands; says = payload_is payload a says }
+
+is_ask : (batch : List Node) (a : Ask) → IsAsk batch a → (asked_format (operation_of a)).Says batch a
+unfolding asked_format
+is_ask batch a p = (one_of_six a, (p.payload, p.stands, is_payload p.payload a p.says))
+
+-- What the items of a Request Message say is the request that the message is.
+pub message_is : (r : Request) (message : List Node) → message_format.Says message r → IsRequest r (node TAG_REQUEST_MESSAGE (inside message))
+unfolding message_format item_format known_format
+message_is r message (header, (batch, stands, ((operation, id), ask))) = record {
+  batch = batch;
+  is_batch = record { parts = message; is_message = refl; header = header_is message header; stands = stands };
+  mark = id_is batch r.id id;
+  asks = ask_is batch r.ask ask operation;
+}
+
+-- And a message that is a request has items that say it.
+pub is_message : (r : Request) (n : Node) → IsRequest r n
+    → (message : List Node) × (n ≡ node TAG_REQUEST_MESSAGE (inside message)) × message_format.Says message r
+unfolding message_format item_format known_format
+is_message r n p =
+    let batch = p.is_batch in
+    (batch.parts, batch.is_message, (is_header batch.parts batch.header, (p.batch, batch.stands, ((p.asks.operation, is_id p.batch r.id p.mark), is_ask p.batch r.ask p.asks))))
+
+-- What is read of an item is the request that it is, and an item that is a request is read as it.
+pub request-law : (n : Node) → Reads (request_at n) (λ r. IsRequest r n)
+unfolding request_at
+request-law n = reads-as (request_at n) _ (λ r. IsRequest r n)
+    (λ r p. subst (IsRequest r) (sym p.1) (message_is r p.0 p.2))
+    (λ r p. is_message r n p)
+    (reads-bind _ _ _ _ (reads-refused None None _ _ (reads-message TAG_REQUEST_MESSAGE n)) (λ message.
+    reads-carrying (known_in_format.read message) _ _ (reads message_format message-good message)))
+
+-- The written form of a request is that request.
+pub written_is : (r : Request) → IsTrue (request_fits r) → IsRequest r (request_item r)
+written_is r fits = message_is r (message_format.write r) (message-good.written r (message_fits r fits))

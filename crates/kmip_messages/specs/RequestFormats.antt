@@ -1,0 +1,144 @@
+-- Each part of a request, described once: how it is written, how it is read, in which order of checks, and what it says.
+-- Source: KMIP 2.1, Message Structure (Request Message), Operations (Create, Locate, Get Attributes, Activate, Revoke,
+-- Destroy) and Object Attributes; the ranges, the order of optional items and the order of the checks are own.
+use Rattle.std.specs.Prelude.{ℕ, ℤ, pos, ◌==◌, ◌&&◌, List, [], ◌∷◌, Option, Some, None}
+use Rattle.std.specs.Ordering.{int_eq}
+use Rattle.kmip_fields.specs.declared.fault.MessageFault.TheVariants.{Version, BatchCount, OutOfRange, UnknownOperation}
+use Rattle.kmip_fields.specs.Formats.{Format, integers, enumerations, texts, required, optional, structure_of, sole_structure_of, ranged, fixed, present, as_record, as_case, ◌⊗◌, ◌⊗ʳ◌, ◌◁◌, ◌▷◌, followed, closed, refusing, choose}
+use Rattle.kmip_objects.specs.declared.attributes.KeyAttrs.{KeyAttrs}
+use Rattle.kmip_objects.specs.declared.attributes.Attrs.{Attrs}
+use Rattle.kmip_objects.specs.declared.standard.TheConstants.{OBJECT_TYPE_SYMMETRIC_KEY}
+use Rattle.kmip_objects.specs.Ranges.{is_name, is_algorithm, is_length, is_usage, is_revocation_code}
+use Rattle.kmip_messages.specs.declared.request.Ask.{Ask}
+use Rattle.kmip_messages.specs.declared.request.Ask.TheVariants.{Create, Locate, GetAttributes, Activate, Revoke, Destroy}
+use Rattle.kmip_messages.specs.declared.request.Request.{Request}
+use Rattle.kmip_messages.specs.declared.standard.TheConstants.{TAG_REQUEST_HEADER, TAG_PROTOCOL_VERSION, TAG_PROTOCOL_VERSION_MAJOR, TAG_PROTOCOL_VERSION_MINOR, TAG_BATCH_COUNT, TAG_BATCH_ITEM, TAG_OPERATION, TAG_REQUEST_PAYLOAD, TAG_OBJECT_TYPE, TAG_ATTRIBUTES, TAG_NAME, TAG_NAME_VALUE, TAG_NAME_TYPE, TAG_CRYPTOGRAPHIC_ALGORITHM, TAG_CRYPTOGRAPHIC_LENGTH, TAG_CRYPTOGRAPHIC_USAGE_MASK, TAG_STATE, TAG_STORAGE_STATUS_MASK, TAG_REVOCATION_REASON, TAG_REVOCATION_REASON_CODE, VERSION_MAJOR, VERSION_MINOR, NAME_TYPE_UNINTERPRETED_TEXT_STRING, OPERATION_CREATE, OPERATION_LOCATE, OPERATION_GET_ATTRIBUTES, OPERATION_ACTIVATE, OPERATION_REVOKE}
+use Rattle.kmip_messages.specs.Operations.{operation_of}
+use Rattle.kmip_messages.specs.Parts.{id_format, identifier_format}
+use Rattle.kmip_messages.specs.Ranges.{is_operation}
+
+-- ---- attributes
+
+-- a Name: its value, and the type of an uninterpreted text
+unfoldable pub name_parts_format : Format (List ℕ)
+name_parts_format =
+    ranged TAG_NAME_VALUE is_name (required texts TAG_NAME_VALUE)
+    ◁ fixed (OutOfRange TAG_NAME_TYPE) (λ n. n == NAME_TYPE_UNINTERPRETED_TEXT_STRING) NAME_TYPE_UNINTERPRETED_TEXT_STRING (required enumerations TAG_NAME_TYPE)
+
+abbrev pub name_format : Format (List ℕ)
+name_format = structure_of TAG_NAME name_parts_format
+
+-- the attributes of a new key, all four of them and no others
+unfoldable pub key_attrs_format : Format KeyAttrs
+key_attrs_format = closed (as_record
+    (λ (called, ((kind, bits), mask)). record { name = called; algorithm = kind; length = bits; usage = mask })
+    (λ k. (k.name, ((k.algorithm, k.length), k.usage)))
+    (name_format
+    ⊗ ranged TAG_CRYPTOGRAPHIC_LENGTH (λ p. is_length p.0 p.1)
+    (ranged TAG_CRYPTOGRAPHIC_ALGORITHM is_algorithm (required enumerations TAG_CRYPTOGRAPHIC_ALGORITHM)
+    ⊗ required integers TAG_CRYPTOGRAPHIC_LENGTH)
+    ⊗ ranged TAG_CRYPTOGRAPHIC_USAGE_MASK is_usage (required integers TAG_CRYPTOGRAPHIC_USAGE_MASK)))
+
+-- the attributes to look for, the Name among them, and none outside the profile
+unfoldable pub filter_format : Format Attrs
+filter_format = closed (as_record
+    (λ (object, (called, (kind, (bits, (mask, stage))))). record { object_type = object; name = called; algorithm = kind; length = bits; usage = mask; state = stage })
+    (λ a. (a.object_type, (a.name, (a.algorithm, (a.length, (a.usage, a.state))))))
+    (optional enumerations TAG_OBJECT_TYPE
+    ⊗ present name_format
+    ⊗ optional enumerations TAG_CRYPTOGRAPHIC_ALGORITHM
+    ⊗ optional integers TAG_CRYPTOGRAPHIC_LENGTH
+    ⊗ optional integers TAG_CRYPTOGRAPHIC_USAGE_MASK
+    ⊗ optional enumerations TAG_STATE))
+
+-- ---- payloads
+
+-- what is asked, where it is this operation
+abbrev pub in_create : Ask → Option KeyAttrs
+in_create (Create k) = Some k
+in_create ask = None
+
+abbrev pub in_locate : Ask → Option (Option ℤ × Attrs)
+in_locate (Locate storage filter) = Some (storage, filter)
+in_locate ask = None
+
+abbrev pub in_get_attributes : Ask → Option (List ℕ)
+in_get_attributes (GetAttributes uid) = Some uid
+in_get_attributes ask = None
+
+abbrev pub in_activate : Ask → Option (List ℕ)
+in_activate (Activate uid) = Some uid
+in_activate ask = None
+
+abbrev pub in_revoke : Ask → Option (List ℕ × ℕ)
+in_revoke (Revoke uid code) = Some (uid, code)
+in_revoke ask = None
+
+abbrev pub in_destroy : Ask → Option (List ℕ)
+in_destroy (Destroy uid) = Some uid
+in_destroy ask = None
+
+-- Create: a symmetric key with these attributes
+unfoldable pub create_format : Format KeyAttrs
+create_format =
+    fixed (OutOfRange TAG_OBJECT_TYPE) (λ n. n == OBJECT_TYPE_SYMMETRIC_KEY) OBJECT_TYPE_SYMMETRIC_KEY (required enumerations TAG_OBJECT_TYPE)
+    ▷ structure_of TAG_ATTRIBUTES key_attrs_format
+
+-- Locate: the storage to look in, where it is said, and the attributes to look for
+unfoldable pub locate_format : Format Ask
+locate_format = as_case (λ p. Locate p.0 p.1) in_locate
+    (optional integers TAG_STORAGE_STATUS_MASK ⊗ structure_of TAG_ATTRIBUTES filter_format)
+
+-- Revoke: the key and the reason's code
+unfoldable pub reason_format : Format ℕ
+reason_format = ranged TAG_REVOCATION_REASON_CODE is_revocation_code (required enumerations TAG_REVOCATION_REASON_CODE)
+
+unfoldable pub revoke_format : Format Ask
+revoke_format = as_case (λ p. Revoke p.0 p.1) in_revoke (identifier_format ⊗ structure_of TAG_REVOCATION_REASON reason_format)
+
+-- the payload of one of the six operations
+unfoldable pub payload_format : ℕ → Format Ask
+payload_format operation =
+    choose (operation == OPERATION_CREATE) (as_case Create in_create create_format)
+    (choose (operation == OPERATION_LOCATE) locate_format
+    (choose (operation == OPERATION_GET_ATTRIBUTES) (as_case GetAttributes in_get_attributes identifier_format)
+    (choose (operation == OPERATION_ACTIVATE) (as_case Activate in_activate identifier_format)
+    (choose (operation == OPERATION_REVOKE) revoke_format
+    (as_case Destroy in_destroy identifier_format)))))
+
+-- ---- the message
+
+-- the Protocol Version 2.1
+unfoldable pub version_parts_format : Format (Unit {0})
+version_parts_format = fixed Version (λ p. int_eq p.0 VERSION_MAJOR && int_eq p.1 VERSION_MINOR) (VERSION_MAJOR, VERSION_MINOR)
+    (required integers TAG_PROTOCOL_VERSION_MAJOR ⊗ required integers TAG_PROTOCOL_VERSION_MINOR)
+
+-- the Request Header: the version, and that there is one Batch Item
+unfoldable pub header_parts_format : Format (Unit {0})
+header_parts_format =
+    structure_of TAG_PROTOCOL_VERSION version_parts_format
+    ▷ fixed BatchCount (λ z. int_eq z (pos 1)) (pos 1) (required integers TAG_BATCH_COUNT)
+
+unfoldable pub header_format : Format (Unit {0})
+header_format = structure_of TAG_REQUEST_HEADER header_parts_format
+
+-- the Operation and the Unique Batch Item ID, which the answer to a refused request carries
+unfoldable pub known_format : Format (ℕ × Option (List ℕ))
+known_format = required enumerations TAG_OPERATION ⊗ʳ id_format
+
+-- the Request Payload of this operation, which has to be one of the six
+unfoldable pub asked_format : ℕ → Format Ask
+asked_format operation = refusing UnknownOperation (is_operation operation) (structure_of TAG_REQUEST_PAYLOAD (payload_format operation))
+
+-- the Batch Item
+unfoldable pub item_format : Format Request
+item_format = as_record (λ p. record { id = p.0.1; ask = p.1 }) (λ r. ((operation_of r.ask, r.id), r.ask))
+    (followed (TAG_REQUEST_PAYLOAD ∷ []) known_format (λ known. asked_format known.0))
+
+-- the items of a Request Message
+unfoldable pub message_format : Format Request
+message_format = header_format ▷ sole_structure_of TAG_BATCH_ITEM item_format
+
+-- what is known of a message before its question is read
+unfoldable pub known_in_format : Format (ℕ × Option (List ℕ))
+known_in_format = header_format ▷ sole_structure_of TAG_BATCH_ITEM known_format
