@@ -1,4 +1,5 @@
--- One law for each combinator of formats: of good parts it makes a good part.
+-- For kmip_messages, whose formats are made of these: a law for each combinator, that of good parts it makes a good part. It is of
+-- any type of values, over which no clause can range.
 use Rattle.std.proofs.Common.{◌≡◌, ℕ, Bool, true, false, List, ◌++◌, Option, Some, None, IsTrue, refl, sym, subst, ◌∙◌}
 use Rattle.std.proofs.lemmas.Bool.{and_parts}
 use Rattle.std.specs.Option.{option_map_or}

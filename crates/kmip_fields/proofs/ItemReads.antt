@@ -1,4 +1,5 @@
--- A reader of one item reads what a relation says: a value is read just where the relation holds of it.
+-- For kmip_messages, whose laws are composed of these: a reader of one item reads a value just where a relation holds of it. No call
+-- stands near, as the laws speak of definitions alone.
 use Rattle.std.proofs.Common.{◌≡◌, ℕ, ℤ, Bool, true, false, List, [], ◌∷◌, Option, Some, None, Result, Ok, Err, ◌==◌, if◌then◌else◌, refl, sym, ap, ◌∙◌}
 use Rattle.std.specs.List.{list_any}
 use Rattle.std.specs.Option.{option_map}

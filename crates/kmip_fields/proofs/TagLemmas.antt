@@ -1,4 +1,4 @@
--- The items of one list after those of another, by their tags.
+-- For kmip_messages, as the laws of formats are: the items of one list after those of another, by their tags; inductions over lists.
 use Rattle.std.proofs.Common.{◌≡◌, ℕ, Bool, true, false, not, ◌||◌, ◌==◌, if◌then◌else◌, List, [], ◌∷◌, ◌++◌, Option, Some, None, refl, sym, ap, subst, ◌∙◌}
 use Rattle.std.proofs.lemmas.Bool.{and_parts, eqb-true, eq-eqb}
 use Rattle.std.proofs.lemmas.List.{append-nil}

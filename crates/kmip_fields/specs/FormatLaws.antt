@@ -1,4 +1,4 @@
--- What makes a format a good one: what is read is what is said, and what is written says it again.
+-- Private: what makes a format a good one: what is read is what is said, and what is written says it again.
 -- Source: own: what every combinator of formats keeps.
 use Rattle.std.specs.Prelude.{◌≡◌, ℕ, Bool, true, not, ◌&&◌, ◌==◌, List, [], ◌∷◌, Some, Ok}
 use Rattle.std.specs.List.{list_any}

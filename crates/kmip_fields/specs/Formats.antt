@@ -31,6 +31,7 @@ pub record Kind (A : Type 0) : Type 0 where
 abbrev pub inside : List Node → Content
 inside ns = structure (nodes_of ns)
 
+-- Private: a Structure, by its items
 abbrev pub structures : Kind (List Node)
 structures = record { of = as_structure; make = inside }
 
