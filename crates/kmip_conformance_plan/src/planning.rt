@@ -42,12 +42,17 @@ fn check_refusal(rt: &impl Abort, alloc: Global, text: &str, wanted: &str) -> Re
     Ok(())
 }
 
-#[test]
-fn judges_whole_texts(rt: HostRuntime) -> Result<(), Fail> {
-    for (text, wanted) in TEXTS {
-        check_refusal(&rt, rt.alloc(), text, wanted)?;
+/// Each text is refused as it should be, or read. (A loop over a constant by value is dear to check.)
+fn check_texts(rt: &impl Abort, alloc: Global, rows: &[(&str, &str)]) -> Result<(), Fail> {
+    for (text, wanted) in rows {
+        check_refusal(rt, alloc, text, wanted)?;
     }
     Ok(())
+}
+
+#[test]
+fn judges_whole_texts(rt: HostRuntime) -> Result<(), Fail> {
+    check_texts(&rt, rt.alloc(), &TEXTS)
 }
 
 #[test]

@@ -3,6 +3,7 @@
 use crate::planning::changed;
 use kmip_chains::Target;
 use kmip_plan::{prolongs, read_plan};
+use std::alloc::Global;
 use std::process::Abort;
 use std::test::Fail;
 
@@ -59,58 +60,67 @@ const TWO_TURNED_ROUND: Changes = &[
 ];
 
 /// The new plan, the old one, and whether the new one prolongs it.
-const ROWS: [(Changes, Changes, bool); 31] = [
+struct Row(Changes, Changes, bool);
+
+const ROWS: [Row; 31] = [
     // A plan prolongs itself.
-    (NOTHING, NOTHING, true),
-    (REVOKED, REVOKED, true),
-    (TWO, TWO, true),
+    Row(NOTHING, NOTHING, true),
+    Row(REVOKED, REVOKED, true),
+    Row(TWO, TWO, true),
     // A way goes further.
-    (DISCARDED, CREATED, true),
-    (NOTHING, CREATED, true),
-    (DESTROYED, CREATED, true),
-    (DESTROYED, NOTHING, true),
-    (REVOKED, NOTHING, true),
-    (DESTROYED, REVOKED, true),
+    Row(DISCARDED, CREATED, true),
+    Row(NOTHING, CREATED, true),
+    Row(DESTROYED, CREATED, true),
+    Row(DESTROYED, NOTHING, true),
+    Row(REVOKED, NOTHING, true),
+    Row(DESTROYED, REVOKED, true),
     // A way ends before, or turns off.
-    (CREATED, NOTHING, false),
-    (NOTHING, REVOKED, false),
-    (REVOKED, DESTROYED, false),
-    (CREATED, DISCARDED, false),
-    (NOTHING, DISCARDED, false),
-    (DISCARDED, NOTHING, false),
-    (DESTROYED, DISCARDED, false),
-    (DISCARDED, DESTROYED, false),
+    Row(CREATED, NOTHING, false),
+    Row(NOTHING, REVOKED, false),
+    Row(REVOKED, DESTROYED, false),
+    Row(CREATED, DISCARDED, false),
+    Row(NOTHING, DISCARDED, false),
+    Row(DISCARDED, NOTHING, false),
+    Row(DESTROYED, DISCARDED, false),
+    Row(DISCARDED, DESTROYED, false),
     // The reason of a Revoke on the old way stays, and a new Revoke may have any.
-    (REVOKED_AS_CHANGED, REVOKED, false),
-    (DESTROYED_AS_CHANGED, REVOKED, false),
-    (REVOKED, REVOKED_AS_CHANGED, false),
-    (DESTROYED_AS_CHANGED, REVOKED_AS_CHANGED, true),
-    (DESTROYED_AS_CHANGED, NOTHING, true),
+    Row(REVOKED_AS_CHANGED, REVOKED, false),
+    Row(DESTROYED_AS_CHANGED, REVOKED, false),
+    Row(REVOKED, REVOKED_AS_CHANGED, false),
+    Row(DESTROYED_AS_CHANGED, REVOKED_AS_CHANGED, true),
+    Row(DESTROYED_AS_CHANGED, NOTHING, true),
     // Other attributes.
-    (&[("\"k1\"", "\"k2\"")], NOTHING, false),
-    (&[("AES", "HMAC-SHA256")], NOTHING, false),
-    (&[("256", "192")], NOTHING, false),
-    (&[("\"decrypt\"", "\"sign\"")], NOTHING, false),
+    Row(&[("\"k1\"", "\"k2\"")], NOTHING, false),
+    Row(&[("AES", "HMAC-SHA256")], NOTHING, false),
+    Row(&[("256", "192")], NOTHING, false),
+    Row(&[("\"decrypt\"", "\"sign\"")], NOTHING, false),
     // More keys, fewer keys, another order, and a second key that goes back.
-    (TWO, NOTHING, true),
-    (TWO, TWO_WITH_LESS, true),
-    (NOTHING, TWO, false),
-    (TWO_TURNED_ROUND, TWO, false),
-    (TWO_WITH_LESS, TWO, false),
+    Row(TWO, NOTHING, true),
+    Row(TWO, TWO_WITH_LESS, true),
+    Row(NOTHING, TWO, false),
+    Row(TWO_TURNED_ROUND, TWO, false),
+    Row(TWO_WITH_LESS, TWO, false),
 ];
+
+/// A plan prolongs another, or does not.
+fn check_row(rt: &impl Abort, alloc: Global, row: &Row) -> Result<(), Fail> {
+    let Row(new, old, wanted) = row;
+    let new_text = changed(alloc, new)?;
+    let old_text = changed(alloc, old)?;
+    let new_plan = read_plan(alloc, new_text.as_str())?;
+    let old_plan = read_plan(alloc, old_text.as_str())?;
+    assert_eq!(rt;
+        prolongs(&new_plan, &old_plan),
+        *wanted,
+        "{new_text} after {old_text}"
+    );
+    Ok(())
+}
 
 #[test]
 fn tells_what_prolongs(rt: HostRuntime) -> Result<(), Fail> {
-    for (new, old, wanted) in ROWS {
-        let new_text = changed(rt.alloc(), new)?;
-        let old_text = changed(rt.alloc(), old)?;
-        let new_plan = read_plan(rt.alloc(), new_text.as_str())?;
-        let old_plan = read_plan(rt.alloc(), old_text.as_str())?;
-        assert_eq!(rt;
-            prolongs(&new_plan, &old_plan),
-            wanted,
-            "{new_text} after {old_text}"
-        );
+    for row in &ROWS {
+        check_row(&rt, rt.alloc(), row)?;
     }
     Ok(())
 }

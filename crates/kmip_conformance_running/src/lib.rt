@@ -1,9 +1,15 @@
-//! Tests of kmip_running, and of the command `run` of kmip_run, against runs that were worked out by hand.
+//! Tests of kmip_running, and of the command `run` of kmip_run, against runs that were worked out by
+//! hand; and of kmip_progress_file, with a disk that fails at each step in turn, links, and two runs
+//! at once.
 //!
 //! The expected values come from the rules of a run and of a progress text, and never from what the
 //! crates wrote.
 #![tactic(auto)]
 
+#[cfg(test)]
+mod failing;
+#[cfg(test)]
+mod files;
 #[cfg(test)]
 mod printing;
 #[cfg(test)]

@@ -1,6 +1,6 @@
 //! Long scripts: many keys, many words, and many runs.
 
-use crate::making::{check_at_targets, plan_of, random_message_word};
+use crate::making::{check_at_targets, plan_of_many, random_message_word};
 use kmip_scripted::{Script, Word};
 use kmip_simulation::simulate;
 use rand_chacha::ChaCha20Rng;
@@ -10,7 +10,7 @@ use std::test::Fail;
 #[test]
 fn a_thousand_keys_and_ten_thousand_words(rt: HostRuntime) -> Result<(), Fail> {
     let alloc = rt.alloc();
-    let plan = plan_of(alloc, 1_000)?;
+    let plan = plan_of_many(alloc, 1_000)?;
     let mut rng = ChaCha20Rng::from_seed([19; 32]);
     let mut words = Vec::new(alloc);
     for _ in 0..10_000 {
@@ -27,7 +27,7 @@ fn a_thousand_keys_and_ten_thousand_words(rt: HostRuntime) -> Result<(), Fail> {
 #[test]
 fn fifty_runs_from_nothing_from_before_and_from_saves(rt: HostRuntime) -> Result<(), Fail> {
     let alloc = rt.alloc();
-    let plan = plan_of(alloc, 10)?;
+    let plan = plan_of_many(alloc, 10)?;
     let mut rng = ChaCha20Rng::from_seed([20; 32]);
     let mut words = Vec::new(alloc);
     for number in 0..49 {

@@ -1,8 +1,8 @@
 //! How many exchanges runs take over a link that goes on losing: never more than the plan's bound, and
 //! three for each disturbed one, or four where it handed over a reply about another key.
 
-use crate::making::{TARGETS, plan_of_two, push_key, random_message_word};
-use kmip_plan::{Plan, bound, read_plan};
+use crate::making::{TARGETS, plan_of, plan_of_two, random_message_word};
+use kmip_plan::bound;
 use kmip_scripted::{Script, Word, read_script};
 use kmip_session::Stop;
 use kmip_simulation::simulate;
@@ -11,10 +11,10 @@ use rand_core::{Rng, SeedableRng};
 use std::alloc::{AllocError, Global};
 use std::test::Fail;
 
-/// The targets of a plan's keys, a script of one run, how many exchanges it takes, and how many of
+/// The names of a plan's keys and their targets, a script of one run, how many exchanges it takes, and how many of
 /// them are disturbed, and strange.
 struct Row {
-    targets: &'static [&'static str],
+    keys: &'static [(&'static str, &'static str)],
     script: &'static str,
     exchanges: usize,
     disturbed: usize,
@@ -24,7 +24,7 @@ struct Row {
 const ROWS: [Row; 8] = [
     // Nothing is lost: a look, and the steps.
     Row {
-        targets: &["active"],
+        keys: &[("k0", "active")],
         script: "",
         exchanges: 3,
         disturbed: 0,
@@ -33,7 +33,7 @@ const ROWS: [Row; 8] = [
     // The Create that was lost arrives at last: the one made instead is refused. It takes the bound,
     // and three.
     Row {
-        targets: &["active"],
+        keys: &[("k0", "active")],
         script: "pass\nlose-request\npass\nagain 2\n",
         exchanges: 7,
         disturbed: 1,
@@ -41,7 +41,7 @@ const ROWS: [Row; 8] = [
     },
     // The same with a Create that has taken effect, whose reply is lost.
     Row {
-        targets: &["active"],
+        keys: &[("k0", "active")],
         script: "pass\nlose-reply\n",
         exchanges: 5,
         disturbed: 1,
@@ -49,7 +49,7 @@ const ROWS: [Row; 8] = [
     },
     // A look that is lost, and one that is cut.
     Row {
-        targets: &["created"],
+        keys: &[("k0", "created")],
         script: "lose-reply\ncut 8\n",
         exchanges: 4,
         disturbed: 2,
@@ -57,7 +57,7 @@ const ROWS: [Row; 8] = [
     },
     // A step that is lost: its object is checked first.
     Row {
-        targets: &["active"],
+        keys: &[("k0", "active")],
         script: "pass\npass\nlose-request\n",
         exchanges: 5,
         disturbed: 1,
@@ -65,7 +65,7 @@ const ROWS: [Row; 8] = [
     },
     // The request is delivered before its turn, and then once more.
     Row {
-        targets: &["active"],
+        keys: &[("k0", "active")],
         script: "pass\nagain 2\npass\n",
         exchanges: 5,
         disturbed: 1,
@@ -73,7 +73,7 @@ const ROWS: [Row; 8] = [
     },
     // The old reply to the question itself, again.
     Row {
-        targets: &["created"],
+        keys: &[("k0", "created")],
         script: "pass\nlose-reply\nstale 1\n",
         exchanges: 6,
         disturbed: 2,
@@ -81,7 +81,7 @@ const ROWS: [Row; 8] = [
     },
     // A reply about the first key in the place of one about the second.
     Row {
-        targets: &["created", "created"],
+        keys: &[("k0", "created"), ("k1", "created")],
         script: "pass\nstale 1\n",
         exchanges: 5,
         disturbed: 1,
@@ -89,20 +89,10 @@ const ROWS: [Row; 8] = [
     },
 ];
 
-/// The plan of keys with these targets.
-fn plan_with(alloc: Global, targets: &[&str]) -> Result<Plan, Fail> {
-    let mut text = String::new(alloc);
-    for place in 0..targets.len() {
-        push_key(&mut text, place, targets[place])?;
-    }
-    let plan = read_plan(alloc, text.as_str())?;
-    Ok(plan)
-}
-
 #[test]
 fn takes_as_many_exchanges_as_was_worked_out(rt: HostRuntime) -> Result<(), Fail> {
     for row in &ROWS {
-        let plan = plan_with(rt.alloc(), row.targets)?;
+        let plan = plan_of(rt.alloc(), row.keys)?;
         let script = read_script(rt.alloc(), row.script)?;
         assert_eq!(rt; script.prolongings(), 0);
         let simulation = simulate(rt.alloc(), &plan, script)?;

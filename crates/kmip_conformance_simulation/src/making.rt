@@ -14,11 +14,11 @@ use std::test::Fail;
 /// The words of targets.
 pub const TARGETS: [&str; 5] = ["created", "active", "revoked", "destroyed", "discarded"];
 
-/// Writes a key of a plan at the end of its text: `k` and the number are its name.
-pub fn push_key(text: &mut String, number: usize, target: &str) -> Result<(), AllocError> {
+/// Writes a key of a plan, AES with 256 bits, to encrypt and decrypt, at the end of the plan's text.
+fn push_key(text: &mut String, name: &str, target: &str) -> Result<(), AllocError> {
     writeln!(
         text,
-        "[[key]]\nname = \"k{number}\"\nalgorithm = \"AES\"\nlength = 256"
+        "[[key]]\nname = \"{name}\"\nalgorithm = \"AES\"\nlength = 256"
     )?;
     writeln!(
         text,
@@ -26,20 +26,27 @@ pub fn push_key(text: &mut String, number: usize, target: &str) -> Result<(), Al
     )
 }
 
-/// A plan of two keys with these targets.
-pub fn plan_of_two(alloc: Global, first: &str, second: &str) -> Result<Plan, Fail> {
+/// The plan of keys with these names and targets.
+pub fn plan_of(alloc: Global, keys: &[(&str, &str)]) -> Result<Plan, Fail> {
     let mut text = String::new(alloc);
-    push_key(&mut text, 0, first)?;
-    push_key(&mut text, 1, second)?;
+    for (name, target) in keys {
+        push_key(&mut text, name, target)?;
+    }
     let plan = read_plan(alloc, text.as_str())?;
     Ok(plan)
 }
 
+/// A plan of two keys with these targets.
+pub fn plan_of_two(alloc: Global, first: &str, second: &str) -> Result<Plan, Fail> {
+    plan_of(alloc, &[("k0", first), ("k1", second)])
+}
+
 /// A plan of so many keys, whose targets come in turn.
-pub fn plan_of(alloc: Global, keys: usize) -> Result<Plan, Fail> {
+pub fn plan_of_many(alloc: Global, keys: usize) -> Result<Plan, Fail> {
     let mut text = String::new(alloc);
     for number in 0..keys {
-        push_key(&mut text, number, TARGETS[number % TARGETS.len()])?;
+        let name = format!(in alloc; "k{number}")?;
+        push_key(&mut text, name.as_str(), TARGETS[number % TARGETS.len()])?;
     }
     let plan = read_plan(alloc, text.as_str())?;
     Ok(plan)

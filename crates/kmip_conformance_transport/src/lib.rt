@@ -1,4 +1,5 @@
-//! Tests of kmip_transport: messages over streams, served and exchanged.
+//! Tests of kmip_transport: messages over streams, served and exchanged, and both ends of a socket
+//! where what comes through it is cut.
 //!
 //! The expected values come from the Key Management Interoperability Protocol Specification Version
 //! 2.1 and from this project's profile of it, and never from what the crates wrote.
@@ -6,6 +7,10 @@
 
 #[cfg(test)]
 mod carrying;
+#[cfg(test)]
+mod cut_replies;
+#[cfg(test)]
+mod cut_requests;
 #[cfg(test)]
 mod linking;
 #[cfg(test)]

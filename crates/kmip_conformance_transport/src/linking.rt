@@ -13,7 +13,7 @@ use std::time::Duration;
 use std::{fs, process};
 
 /// A port of this machine that the system picks.
-fn any_port() -> SocketAddr {
+pub fn any_port() -> SocketAddr {
     SocketAddr::V4(SocketAddrV4::new(Ipv4Addr::LOCALHOST, 0))
 }
 

@@ -1,6 +1,7 @@
 //! A reply of before that comes late, and an object of a further name that is another's.
 
-use crate::making::{check_told, link_to, new_server, plan_of, saved_run};
+use crate::making::plan_of;
+use crate::telling::{check_told, link_to, new_server, saved_run};
 use kmip_messages::{Ask, Request, request_fits, write_request};
 use kmip_objects::KeyAttrs;
 use kmip_plan::prolongs;

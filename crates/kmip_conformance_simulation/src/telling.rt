@@ -1,6 +1,5 @@
-//! Plans, runs, a link in memory, and what a campaign over it tells.
+//! Runs, a link in memory, and what a campaign over it tells.
 
-use kmip_plan::{Plan, read_plan};
 use kmip_scripted::{Scripted, read_script};
 use kmip_server::{IndexedStore, Server};
 use kmip_session::{CampaignEnd, Run, Start};
@@ -9,27 +8,6 @@ use std::alloc::Global;
 use std::process::Abort;
 use std::str::from_utf8;
 use std::test::Fail;
-
-/// One key of a plan, AES with 256 bits, to encrypt and decrypt.
-const KEY: &str = "\
-    [[key]]\n\
-    name = \"NAME\"\n\
-    algorithm = \"AES\"\n\
-    length = 256\n\
-    usage = [\"encrypt\", \"decrypt\"]\n\
-    target = \"TARGET\"\n";
-
-/// The plan of keys with these names and targets.
-pub fn plan_of(alloc: Global, keys: &[(&str, &str)]) -> Result<Plan, Fail> {
-    let mut text = String::new(alloc);
-    for (name, target) in keys {
-        let key = KEY.replace(alloc, "NAME", *name)?;
-        let key = key.as_str().replace(alloc, "TARGET", *target)?;
-        text.push_str(key.as_str())?;
-    }
-    let plan = read_plan(alloc, text.as_str())?;
-    Ok(plan)
-}
 
 /// One run, which is saved.
 pub fn saved_run(alloc: Global, start: Start, limit: usize) -> Result<Vec<Run>, Fail> {

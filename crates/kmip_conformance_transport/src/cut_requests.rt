@@ -1,6 +1,7 @@
 //! The server's end of a socket, where a message is cut.
 
-use crate::asking::any_port;
+use crate::linking::any_port;
+use crate::serving::new_server;
 use kmip_objects::KeyState;
 use kmip_server::{ListStore, Records, Server};
 use kmip_transport::{StreamEnd, serve_stream};
@@ -15,7 +16,7 @@ const MATERIAL: &str = "76b8e0ada0f13d90405d6ae55386bd28bdd219b8a08ded1aa836efcc
 
 /// A server with the object `k1` and nothing else.
 fn server_with_k1(alloc: Global) -> Result<Server<ListStore>, Fail> {
-    let mut server = Server::new(ListStore::new(alloc, [0; 32], 10));
+    let mut server = new_server(alloc);
     let request = hex::decode(alloc, CREATE_K1)?;
     server.handle(alloc, request.as_slice(), 0)?;
     Ok(server)

@@ -1,18 +1,14 @@
 //! The client's end of a socket, where a message is cut.
 
+use crate::linking::any_port;
 use kmip_transport::{LinkFault, Tcp, TcpLink};
 use kmip_vectors::{ALL, LOCATE_K1};
 use std::alloc::Global;
 use std::io::{Read, Write};
-use std::net::{Ipv4Addr, Net, OpenListener, SocketAddr, SocketAddrV4};
+use std::net::{Net, OpenListener};
 use std::process::Abort;
 use std::test::Fail;
 use std::time::Duration;
-
-/// A port of this machine that the system picks.
-pub fn any_port() -> SocketAddr {
-    SocketAddr::V4(SocketAddrV4::new(Ipv4Addr::LOCALHOST, 0))
-}
 
 /// How the peer ends a stream: it has read the request, or left it.
 #[derive(Clone, Copy, Debug, PartialEq, Eq)]

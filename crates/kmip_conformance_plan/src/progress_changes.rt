@@ -1,6 +1,6 @@
 //! Every front of a text, and every change of one byte of it.
 
-use crate::plans::{plan_of, said};
+use crate::progresses::{plan_of, said};
 use kmip_plan::Plan;
 use std::alloc::Global;
 use std::process::Abort;

@@ -1,26 +1,18 @@
 //! Plans and progresses in few words.
 
+use crate::plan_rows::KEY;
 use kmip_plan::{Plan, read_plan};
 use kmip_progress::{Known, Progress, suits};
 use kmip_ttlv::Text;
 use std::alloc::{AllocError, Global};
 use std::test::Fail;
 
-/// One key, whose name, target and reason are to be put in.
-const KEY: &str = "\
-    [[key]]\n\
-    name = \"NAME\"\n\
-    algorithm = \"AES\"\n\
-    length = 256\n\
-    usage = [\"encrypt\", \"decrypt\"]\n\
-    target = \"TARGET\"\n";
-
 /// The plan of these keys, each a name, a target and the line of its reason.
 pub fn plan_of(alloc: Global, keys: &[(&str, &str, &str)]) -> Result<Plan, Fail> {
     let mut text = String::new(alloc);
     for (name, target, reason) in keys {
-        let key = KEY.replace(alloc, "NAME", *name)?;
-        let key = key.as_str().replace(alloc, "TARGET", *target)?;
+        let key = KEY.replace(alloc, "k1", *name)?;
+        let key = key.as_str().replace(alloc, "active", *target)?;
         text.push_str(key.as_str())?;
         text.push_str(reason)?;
     }

@@ -1,6 +1,7 @@
 //! Plans that go further, over links that repeat and mix up what was said before.
 
-use crate::making::{check_told, link_to, new_server, plan_of, saved_run};
+use crate::making::plan_of;
+use crate::telling::{check_told, link_to, new_server, saved_run};
 use kmip_plan::prolongs;
 use kmip_session::{Start, campaigns};
 use kmip_simulation::push_records;

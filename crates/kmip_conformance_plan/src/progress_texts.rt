@@ -1,7 +1,7 @@
 //! What is read and what is refused, and the text that is written.
 
-use crate::plans::{known, plan_of, said, written};
-use crate::text_rows::{NOT_ENDED, OTHER, OTHER_FORM, OTHER_REASON, READ, Row};
+use crate::progress_text_rows::{NOT_ENDED, OTHER, OTHER_FORM, OTHER_REASON, READ, Row};
+use crate::progresses::{known, plan_of, said, written};
 use kmip_progress::{Known, Progress, ProgressFault};
 use std::alloc::{AllocError, Global};
 use std::process::Abort;

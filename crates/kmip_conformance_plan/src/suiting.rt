@@ -1,6 +1,6 @@
 //! When a progress suits a plan.
 
-use crate::plans::{known, plan_of};
+use crate::progresses::{known, plan_of};
 use kmip_progress::{Known, Progress, suits};
 use std::alloc::{AllocError, Global};
 use std::process::Abort;
