@@ -1,4 +1,4 @@
-# make            builds the program (a clean clone is proved first, which takes minutes)
+# make            builds the program (a clean clone is proved first, which takes some 40 minutes on 4 cores)
 # make demo       answers the example requests, and carries out a plan over a network that loses a reply
 # make test       the gate: every proof from nothing, the wrong bodies, the tests and the program
 # make bench      compares the program with a baseline in plain Rust, and times simulations (needs rustc)
@@ -20,7 +20,7 @@ sources := crates.txt $(shell find crates -name out -prune -o \( -name '*.rt' -o
 all: $(program)
 
 $(program): $(sources)
-	@echo 'Proving and building kmipctl: from a clean clone this takes some minutes.' >&2
+	@echo 'Proving and building kmipctl: from a clean clone this takes some 40 minutes on 4 cores.' >&2
 	@cd crates/kmipctl && rt run </dev/null >/dev/null
 	@touch $@
 
