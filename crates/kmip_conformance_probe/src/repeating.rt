@@ -2,7 +2,7 @@
 
 use crate::report::report_of;
 use kmip_messages::standard::OPERATION_LOCATE;
-use kmip_messages::{Outcome, Reply, Texts, read_request, write_reply};
+use kmip_messages::{Outcome, Reply, Request, Texts, read_request, reply_fits, write_reply};
 use kmip_probe::run_probe;
 use kmip_schedule::{Link, LinkFault};
 use kmip_ttlv::{Bytes, NoMemory, Text};
@@ -34,24 +34,40 @@ impl Repeating {
         let Ok(request) = read_request(alloc, message) else {
             return Ok(None);
         };
-        let id = match self.mark {
-            Mark::Echoed => request.id,
-            Mark::Missing => None,
-            Mark::Foreign => Some(Bytes::copied(alloc, b"another")?),
-        };
-        let mut uids = Texts::new(alloc);
-        if self.asked < 2 {
-            self.asked += 1;
-        } else {
-            uids.push(Text::copied(alloc, "1")?)?;
+        let Request { id, .. } = request;
+        let mark = self.mark;
+        let asked = self.asked;
+        if asked < 2 {
+            self.asked = asked + 1;
         }
         let reply = Reply {
             operation: Some(OPERATION_LOCATE),
-            id,
-            outcome: Outcome::Located(uids),
+            id: marked(alloc, mark, id)?,
+            outcome: Outcome::Located(found_after(alloc, asked)?),
         };
+        if !reply_fits(&reply) {
+            return Ok(None);
+        }
         Ok(Some(write_reply(alloc, &reply, 0)?))
     }
+}
+
+/// The id of the reply to a question with this one.
+fn marked(alloc: Global, mark: Mark, id: Option<Bytes>) -> Result<Option<Bytes>, NoMemory> {
+    match mark {
+        Mark::Echoed => Ok(id),
+        Mark::Missing => Ok(None),
+        Mark::Foreign => Ok(Some(Bytes::copied(alloc, b"another")?)),
+    }
+}
+
+/// What is told to be found once so many questions were asked.
+fn found_after(alloc: Global, asked: u32) -> Result<Texts, NoMemory> {
+    let mut uids = Texts::new(alloc);
+    if asked >= 2 {
+        uids.push(Text::copied(alloc, "1")?)?;
+    }
+    Ok(uids)
 }
 
 /// Neither honest nor calm, and its past is empty: nothing is claimed of it.
