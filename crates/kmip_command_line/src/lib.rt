@@ -62,11 +62,7 @@ pub fn chosen(alloc: Global, words: &[String]) -> Result<Choice, Error> {
 }
 
 /// The usage fault of a command of which a value is wrong, under the words that the command is called by.
-fn wrong_value(
-    command: Command<'_>,
-    called: &str,
-    fault: WrongValue,
-) -> Result<Error, AllocError> {
+fn wrong_value(command: Command<'_>, called: &str, fault: WrongValue) -> Result<Error, AllocError> {
     let mut command = command.bin_name(called)?;
     command.error(ErrorKind::ValueValidation, fault.text())
 }
