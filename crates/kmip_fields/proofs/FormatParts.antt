@@ -1,17 +1,17 @@
 -- For kmip_messages, whose formats are made of these: a law for each combinator, that of good parts it makes a good part. It is of
 -- any type of values, over which no clause can range.
-use Rattle.std.proofs.Common.{◌≡◌, ℕ, Bool, true, false, List, ◌++◌, Option, Some, None, IsTrue, refl, sym, subst, ◌∙◌}
-use Rattle.std.proofs.lemmas.Bool.{and_parts}
-use Rattle.std.specs.Option.{option_map_or}
-use Rattle.kmip_ttlv.specs.Node.{Node}
-use Rattle.kmip_ttlv.proofs.ReadSteps.{Reads, reads-ok, reads-bind, reads-as}
+use Rattle.std.proofs.Common.{◌≡◌, ◌==◌, ℕ, Bool, true, false, List, [], ◌∷◌, ◌++◌, map, Option, Some, None, Ok, IsTrue, refl, sym, ap, subst, ◌∙◌}
+use Rattle.std.proofs.lemmas.Bool.{and_parts, eqb-true}
+use Rattle.std.specs.Option.{option_map, option_map_or}
+use Rattle.kmip_ttlv.specs.Node.{Node, node, Content}
+use Rattle.kmip_ttlv.proofs.ReadSteps.{Reads, not_ok, reads-ok, reads-bind, reads-as}
 use Rattle.kmip_fields.specs.declared.fault.MessageFault.{MessageFault}
-use Rattle.kmip_fields.specs.Formats.{Format, Kind, inside, if_given, structures, required, optional, structure_of, sole_structure_of, tested, ranged, fixed, present, as_record, as_case, ◌⊗◌, ◌⊗ʳ◌, ◌◁◌, ◌▷◌, followed, closed, refusing, choose}
+use Rattle.kmip_fields.specs.Formats.{Format, Kind, inside, if_given, given, structures, required, optional, unread, repeated, structure_of, read_if_any, SaysIfAny, optional_structure, sole_structure_of, tested, ranged, fixed, present, as_record, as_case, ◌⊗◌, ◌⊗ʳ◌, ◌◁◌, ◌▷◌, followed, read_told, told_by, closed, refusing, choose}
 use Rattle.kmip_fields.specs.FormatLaws.{IsKind, IsGood, Agree, avoid, apart, IsPart}
 use Rattle.kmip_fields.specs.Siblings.{contents}
-use Rattle.kmip_fields.specs.Standing.{HaveTags}
-use Rattle.kmip_fields.proofs.ItemReads.{reads-guard, reads-the, reads-maybe, reads-sole, reads-only, structure_kind}
-use Rattle.kmip_fields.proofs.TagLemmas.{alone, alone_if_any, own_tag, given_has, both_have, agree_first, agree_second, agree_behind, agree_before}
+use Rattle.kmip_fields.specs.Standing.{Once, AtMostOnce, HaveTags}
+use Rattle.kmip_fields.proofs.ItemReads.{same_some, not_some, reads-guard, reads-the, reads-maybe, reads-values, reads-sole, reads-only, structure_kind}
+use Rattle.kmip_fields.proofs.TagLemmas.{contents_first, alone, alone_if_any, own_tag, given_has, first_has, second_has, both_have, agree_first, agree_second, agree_behind, agree_before}
 
 -- what a good format reads
 pub reads : {A : Type 0} (f : Format A) → IsGood f → (ns : List Node) → Reads (f.read ns) (f.Says ns)
@@ -41,6 +41,33 @@ optional-part k tag is = record {
   looks = λ ns ms o agree once. sym agree.0 ∙ once;
 }
 
+pub unread-part : (tag : ℕ) (content : Content) → IsPart (unread tag content)
+unread-part tag content = record {
+  good = good_by (unread tag content)
+      (λ ns. record { sound = λ u e. tt; complete = λ u says. refl })
+      (λ u fits. tt)
+      (λ u. (own_tag tag, tt));
+  looks = λ ns ms u agree says. tt;
+}
+
+-- any number of items
+written_values : {A : Type 0} (k : Kind A) (tag : ℕ) (all : List A) → contents tag (map (λ a. node tag (k.make a)) all) ≡ map k.make all
+written_values k tag [] = refl
+written_values k tag (a ∷ all) = contents_first tag (k.make a) (map (λ b. node tag (k.make b)) all) ∙ ap (λ cs. k.make a ∷ cs) (written_values k tag all)
+
+values_have : {A : Type 0} (k : Kind A) (tag : ℕ) (all : List A) → HaveTags (tag ∷ []) (map (λ a. node tag (k.make a)) all)
+values_have k tag [] = tt
+values_have k tag (a ∷ all) = (own_tag tag, values_have k tag all)
+
+pub repeated-part : {A : Type 0} (k : Kind A) (tag : ℕ) (test : A → Bool) → IsKind k → IsPart (repeated k tag test)
+repeated-part k tag test is = record {
+  good = good_by (repeated k tag test)
+      (λ ns. reads-values k is tag test (contents tag ns))
+      (λ all fits. (written_values k tag all, fits))
+      (λ all. values_have k tag all);
+  looks = λ ns ms all agree says. (sym agree.0 ∙ says.0, says.1);
+}
+
 pub structure-part : {A : Type 0} (tag : ℕ) (f : Format A) → IsGood f → IsPart (structure_of tag f)
 structure-part tag f good = record {
   good = good_by (structure_of tag f)
@@ -48,6 +75,50 @@ structure-part tag f good = record {
       (λ a fits. (f.write a, alone tag (inside (f.write a)), good.written a fits))
       (λ a. (own_tag tag, tt));
   looks = λ ns ms a agree says. (says.0, sym agree.0 ∙ says.1, says.2);
+}
+
+-- a Structure that may be left out, by its items
+InAny : {A : Type 0} → Format A → Option (List Node) → Option A → Type 0
+InAny f None o = None ≡ o
+InAny f (Some parts) o = (a : _) × f.Says parts a × (Some a ≡ o)
+
+reads-if_any : {A : Type 0} (f : Format A) → IsGood f → (parts : Option (List Node)) → Reads (read_if_any f.read parts) (InAny f parts)
+unfolding InAny
+reads-if_any f good None = reads-ok None
+reads-if_any f good (Some parts) = reads-bind _ _ _ _ (reads f good parts) (λ a. reads-ok (Some a))
+
+any_said : {A : Type 0} (tag : ℕ) (f : Format A) (ns : List Node) (parts : Option (List Node)) (o : Option A)
+    → AtMostOnce tag (option_map inside parts) ns → InAny f parts o → SaysIfAny tag f.Says ns o
+unfolding InAny
+any_said tag f ns None o once is = subst (SaysIfAny tag f.Says ns) is once
+any_said tag f ns (Some parts) o once is = subst (SaysIfAny tag f.Says ns) is.2 (parts, once, is.1)
+
+said_any : {A : Type 0} (tag : ℕ) (f : Format A) (ns : List Node) (o : Option A) → SaysIfAny tag f.Says ns o
+    → (parts : Option (List Node)) × AtMostOnce tag (option_map inside parts) ns × InAny f parts o
+unfolding InAny
+said_any tag f ns None says = (None, says, refl)
+said_any tag f ns (Some a) says = (Some says.0, says.1, (a, says.2, refl))
+
+any_written : {A : Type 0} (tag : ℕ) (f : Format A) → IsGood f → (o : Option A) → option_map_or f.fits o true ≡ true
+    → SaysIfAny tag f.Says (given (λ a. node tag (inside (f.write a))) o) o
+any_written tag f good None fits = refl
+any_written tag f good (Some a) fits = (f.write a, alone tag (inside (f.write a)), good.written a fits)
+
+any_looks : {A : Type 0} (tag : ℕ) (f : Format A) (ns ms : List Node) (o : Option A) → Agree (tag ∷ []) ns ms → SaysIfAny tag f.Says ns o
+    → SaysIfAny tag f.Says ms o
+any_looks tag f ns ms None agree says = sym agree.0 ∙ says
+any_looks tag f ns ms (Some a) agree says = (says.0, sym agree.0 ∙ says.1, says.2)
+
+pub optional_structure-part : {A : Type 0} (tag : ℕ) (f : Format A) → IsGood f → IsPart (optional_structure tag f)
+optional_structure-part tag f good = record {
+  good = good_by (optional_structure tag f)
+      (λ ns. reads-as _ _ ((optional_structure tag f).Says ns)
+      (λ o p. any_said tag f ns p.0 o p.1 p.2)
+      (λ o says. said_any tag f ns o says)
+      (reads-bind _ _ _ _ (reads-maybe structures structure_kind tag ns) (λ parts. reads-if_any f good parts)))
+      (λ o fits. any_written tag f good o fits)
+      (λ o. given_has tag (λ a. inside (f.write a)) o);
+  looks = λ ns ms o agree says. any_looks tag f ns ms o agree says;
 }
 
 pub sole-part : {A : Type 0} (tag : ℕ) (f : Format A) → IsGood f → IsPart (sole_structure_of tag f)
@@ -115,12 +186,16 @@ as_record-good there back f again same good = good_by (as_record there back f)
     (λ b fits. good.written (back b) fits)
     (λ b. good.has (back b))
 
-pub as_record-part : {A B : Type 0} (there : A → B) (back : B → A) (f : Format A) → ((a : A) → back (there a) ≡ a) → ((b : B) → there (back b) ≡ b)
-    → IsPart f → IsPart (as_record there back f)
-as_record-part there back f again same part = record {
-  good = as_record-good there back f (λ ns a says. again a) same part.good;
+pub said_record-part : {A B : Type 0} (there : A → B) (back : B → A) (f : Format A) → ((ns : List Node) (a : A) → f.Says ns a → back (there a) ≡ a)
+    → ((b : B) → there (back b) ≡ b) → IsPart f → IsPart (as_record there back f)
+said_record-part there back f again same part = record {
+  good = as_record-good there back f again same part.good;
   looks = λ ns ms b agree says. part.looks ns ms (back b) agree says;
 }
+
+pub as_record-part : {A B : Type 0} (there : A → B) (back : B → A) (f : Format A) → ((a : A) → back (there a) ≡ a) → ((b : B) → there (back b) ≡ b)
+    → IsPart f → IsPart (as_record there back f)
+as_record-part there back f again same part = said_record-part there back f (λ ns a says. again a) same part
 
 case_given : {A B : Type 0} (there : A → B) (f : Format A) → IsGood f → (b : B) (o : Option A) → ((a : A) → o ≡ Some a → there a ≡ b)
     → option_map_or f.fits o false ≡ true → (a : A) × f.Says (if_given f.write o) a × (there a ≡ b)
@@ -133,6 +208,13 @@ as_case-good there back f again good = good_by (as_case there back f)
     (λ ns. reads-bind _ _ _ _ (reads f good ns) (λ a. reads-ok (there a)))
     (λ b fits. case_given there f good b (back b) (again b) fits)
     (λ b. if_given_has f good (back b))
+
+pub as_case-part : {A B : Type 0} (there : A → B) (back : B → Option A) (f : Format A) → ((b : B) (a : A) → back b ≡ Some a → there a ≡ b)
+    → IsPart f → IsPart (as_case there back f)
+as_case-part there back f again part = record {
+  good = as_case-good there back f again part.good;
+  looks = λ ns ms b agree says. (says.0, part.looks ns ms says.0 agree says.1, says.2);
+}
 
 -- ---- two parts
 
@@ -217,6 +299,38 @@ followed-part tags f g others same part other = record {
       both_look f (g p.0) part (other p.0) ns ms p.0 p.1 (subst (λ ts. Agree (f.tags ++ ts) ns ms) (sym (same p.0)) agree) says;
 }
 
+-- what is read goes by the key that is known, which is that of what is said
+told_read : {A : Type 0} (fault : MessageFault) (key : A → ℕ) (known : Option ℕ) (tags : List ℕ) (g : ℕ → Format A)
+    → ((k : ℕ) (ns : List Node) (a : A) → (g k).Says ns a → key a ≡ k) → ((k : ℕ) → IsPart (g k)) → (ns : List Node)
+    → Reads (read_told fault g known ns) ((told_by fault key known tags g).Says ns)
+told_read fault key None tags g own part ns = record {
+  sound = λ a e. not_ok fault a e;
+  complete = λ a says. not_some (key a) says.0;
+}
+told_read fault key (Some k) tags g own part ns = record {
+  sound = λ a e.
+      let says = (part k).good.sound ns a e in
+      (ap Some (sym (own k ns a says)), subst (λ n. (g n).Says ns a) (sym (own k ns a says)) says);
+  complete = λ a says. subst (λ n. (g n).read ns ≡ Ok a) (sym (same_some k (key a) says.0)) ((part (key a)).good.complete ns a says.1);
+}
+
+told_own : (own : ℕ) (known : Option ℕ) → option_map_or (λ k. k == own) known false ≡ true → known ≡ Some own
+told_own own None is = absurd cc
+told_own own (Some k) is = ap Some (eqb-true k own is)
+
+pub told_by-part : {A : Type 0} (fault : MessageFault) (key : A → ℕ) (known : Option ℕ) (tags : List ℕ) (g : ℕ → Format A) → ((k : ℕ) → (g k).tags ≡ tags)
+    → ((k : ℕ) (ns : List Node) (a : A) → (g k).Says ns a → key a ≡ k) → ((k : ℕ) → IsPart (g k)) → IsPart (told_by fault key known tags g)
+told_by-part fault key known tags g same own part = record {
+  good = good_by (told_by fault key known tags g)
+      (λ ns. told_read fault key known tags g own part ns)
+      (λ a fits.
+      let each = and_parts (option_map_or (λ k. k == key a) known false) ((g (key a)).fits a) fits in
+      (told_own (key a) known each.0, (part (key a)).good.written a each.1))
+      (λ a. subst (λ ts. HaveTags ts ((g (key a)).write a)) (same (key a)) ((part (key a)).good.has a));
+  looks = λ ns ms a agree says.
+      (says.0, (part (key a)).looks ns ms a (subst (λ ts. Agree ts ns ms) (sym (same (key a))) agree) says.1);
+}
+
 -- ---- the whole
 
 pub closed-good : {A : Type 0} (f : Format A) → IsGood f → IsGood (closed f)
@@ -241,5 +355,25 @@ refusing-part fault test f part = record {
 }
 
 pub choose-good : {A : Type 0} (b : Bool) (f g : Format A) → IsGood f → IsGood g → IsGood (choose b f g)
-choose-good true f g good other = record { sound = good.sound; complete = good.complete; written = good.written; has = good.has }
-choose-good false f g good other = record { sound = other.sound; complete = other.complete; written = other.written; has = other.has }
+choose-good true f g good other = record {
+  sound = good.sound;
+  complete = good.complete;
+  written = good.written;
+  has = λ a. first_has f.tags g.tags (f.write a) (good.has a);
+}
+choose-good false f g good other = record {
+  sound = other.sound;
+  complete = other.complete;
+  written = other.written;
+  has = λ a. second_has f.tags g.tags (g.write a) (other.has a);
+}
+
+pub choose-part : {A : Type 0} (b : Bool) (f g : Format A) → IsPart f → IsPart g → IsPart (choose b f g)
+choose-part true f g part other = record {
+  good = choose-good true f g part.good other.good;
+  looks = λ ns ms a agree says. part.looks ns ms a (agree_first f.tags g.tags ns ms agree) says;
+}
+choose-part false f g part other = record {
+  good = choose-good false f g part.good other.good;
+  looks = λ ns ms a agree says. other.looks ns ms a (agree_second f.tags g.tags ns ms agree) says;
+}

@@ -1,14 +1,15 @@
 -- For kmip_messages, whose laws are composed of these: a reader of one item reads a value just where a relation holds of it. No call
 -- stands near, as the laws speak of definitions alone.
-use Rattle.std.proofs.Common.{◌≡◌, ℕ, ℤ, Bool, true, false, List, [], ◌∷◌, Option, Some, None, Result, Ok, Err, ◌==◌, if◌then◌else◌, refl, sym, ap, ◌∙◌}
-use Rattle.std.specs.List.{list_any}
+use Rattle.std.proofs.Common.{◌≡◌, ℕ, ℤ, Bool, true, false, List, [], ◌∷◌, map, Option, Some, None, Result, Ok, Err, ◌==◌, ◌&&◌, IsTrue, if◌then◌else◌, refl, sym, ap, subst, ◌∙◌}
+use Rattle.std.proofs.lemmas.Bool.{and_parts}
+use Rattle.std.specs.List.{list_all, list_any}
 use Rattle.std.specs.Option.{option_map}
 use Rattle.kmip_ttlv.specs.Node.{Node, Content, structure, integer, enumeration, text_string, byte_string, tag_of, list_of, as_structure, as_integer, as_enumeration, as_text_string, as_byte_string}
 use Rattle.kmip_ttlv.proofs.ForCallers.{nodes_of-list_of, list_of-nodes_of}
 use Rattle.kmip_ttlv.proofs.ReadSteps.{Reads, same_ok, not_ok, reads-ok, reads-bind, reads-as}
 use Rattle.kmip_fields.specs.declared.fault.MessageFault.{MessageFault}
 use Rattle.kmip_fields.specs.declared.fault.MessageFault.TheVariants.{Missing, Twice, WrongType, OutOfRange, BatchCount}
-use Rattle.kmip_fields.specs.Formats.{Kind, inside, structures, integers, enumerations, texts, bytes}
+use Rattle.kmip_fields.specs.Formats.{Kind, inside, structures, integers, enumerations, texts, bytes, value_in, values_in}
 use Rattle.kmip_fields.specs.FormatLaws.{IsKind}
 use Rattle.kmip_fields.specs.Siblings.{contents, at_most_one_of, one_of, typed, typed_if_any, guard, within, sole, the, maybe, only}
 use Rattle.kmip_fields.specs.Standing.{Once, if_any, AtMostOnce, HaveTags}
@@ -146,6 +147,62 @@ reads-maybe k is tag ns = reads-as (maybe k.of tag ns) _ (λ o. AtMostOnce tag (
     (λ o p. p.1 ∙ ap if_any p.2)
     (λ o p. (option_map k.make o, p, refl))
     (reads-bind _ _ _ _ (reads-at_most_one_of tag (contents tag ns)) (λ c. reads-typed_if_any k is tag c))
+
+-- ---- any number of items, each in its range
+
+pub reads-value : {A : Type 0} (k : Kind A) → IsKind k → (tag : ℕ) (test : A → Bool) (c : Content)
+    → Reads (value_in k tag test c) (λ a. (c ≡ k.make a) × IsTrue (test a))
+unfolding value_in
+reads-value k is tag test c = reads-as (value_in k tag test c) _ (λ a. (c ≡ k.make a) × IsTrue (test a))
+    (λ a p. subst (λ x. (c ≡ k.make x) × IsTrue (test x)) p.2.2 (p.1, p.2.1))
+    (λ a q. (a, q.0, (tt, q.1, refl)))
+    (reads-bind _ _ _ _ (reads-typed k is tag c) (λ a. reads-bind _ _ _ _ (reads-within tag (test a)) (λ u. reads-ok a)))
+
+-- these contents are these values
+Are : {A : Type 0} → Kind A → (A → Bool) → List Content → List A → Type 0
+Are k test cs all = (cs ≡ map k.make all) × IsTrue (list_all test all)
+
+are_none : {A : Type 0} (k : Kind A) (test : A → Bool) (all : List A) → Are k test [] all → [] ≡ all
+unfolding Are
+are_none k test [] p = refl
+are_none k test (a ∷ all) p = absurd (not_none (k.make a) (map k.make all) p.0)
+  where
+    not_none : (c : Content) (cs : List Content) → [] ≡ c ∷ cs → ⊥
+    not_none c cs e = cc
+
+both : (x y : Bool) → x ≡ true → y ≡ true → (x && y) ≡ true
+both x y e d = rw (e, d) refl
+
+are_first : {A : Type 0} (k : Kind A) (test : A → Bool) (c : Content) (cs : List Content) (a : A) (all : List A)
+    → (c ≡ k.make a) × IsTrue (test a) → Are k test cs all → Are k test (c ∷ cs) (a ∷ all)
+unfolding Are
+are_first k test c cs a all p q = (ap (λ d. d ∷ cs) p.0 ∙ ap (λ ds. k.make a ∷ ds) q.0, both (test a) (list_all test all) p.1 q.1)
+
+same_first : (c d : Content) (cs ds : List Content) → (c ∷ cs) ≡ d ∷ ds → c ≡ d
+same_first c d cs ds e = cc
+
+same_rest : (c d : Content) (cs ds : List Content) → (c ∷ cs) ≡ d ∷ ds → cs ≡ ds
+same_rest c d cs ds e = cc
+
+are_split : {A : Type 0} (k : Kind A) (test : A → Bool) (c : Content) (cs : List Content) (all : List A) → Are k test (c ∷ cs) all
+    → (a : A) × ((c ≡ k.make a) × IsTrue (test a)) × ((rest : List A) × Are k test cs rest × ((a ∷ rest) ≡ all))
+unfolding Are
+are_split k test c cs [] p = absurd (not_some_first c cs p.0)
+  where
+    not_some_first : (c : Content) (cs : List Content) → (c ∷ cs) ≡ [] → ⊥
+    not_some_first c cs e = cc
+are_split k test c cs (a ∷ all) p =
+    let fits = and_parts (test a) (list_all test all) p.1 in
+    (a, (same_first c (k.make a) cs (map k.make all) p.0, fits.0), (all, (same_rest c (k.make a) cs (map k.make all) p.0, fits.1), refl))
+
+pub reads-values : {A : Type 0} (k : Kind A) → IsKind k → (tag : ℕ) (test : A → Bool) (cs : List Content)
+    → Reads (values_in k tag test cs) (λ all. (cs ≡ map k.make all) × IsTrue (list_all test all))
+unfolding Are
+reads-values k is tag test [] = reads-as _ _ (Are k test []) (λ a p. subst (Are k test []) p (refl, refl)) (λ a q. are_none k test a q) (reads-ok [])
+reads-values k is tag test (c ∷ cs) = reads-as _ _ (Are k test (c ∷ cs))
+    (λ a p. subst (Are k test (c ∷ cs)) p.2.2 (are_first k test c cs p.0 p.2.0 p.1 p.2.1))
+    (λ a q. are_split k test c cs a q)
+    (reads-bind _ _ _ _ (reads-value k is tag test c) (λ a. reads-bind _ _ _ _ (reads-values k is tag test cs) (λ rest. reads-ok (a ∷ rest))))
 
 -- the one Batch Item
 pub reads-sole : (tag : ℕ) (cs : List Content) → Reads (sole tag cs) (λ items. cs ≡ inside items ∷ [])

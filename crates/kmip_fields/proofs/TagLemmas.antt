@@ -32,9 +32,12 @@ pub contents-given : {A : Type 0} (tag own : ℕ) (make : A → Content) (o : Op
 contents-given tag own make None = none_kept (own == tag)
 contents-given tag own make (Some a) = refl
 
--- an item alone, of its own tag
+-- an item of its own tag before others, and alone
+pub contents_first : (tag : ℕ) (c : Content) (ns : List Node) → contents tag (node tag c ∷ ns) ≡ c ∷ contents tag ns
+contents_first tag c ns = ap (λ b. if b then c ∷ contents tag ns else contents tag ns) (eq-eqb tag tag refl)
+
 pub alone : (tag : ℕ) (c : Content) → contents tag (node tag c ∷ []) ≡ c ∷ []
-alone tag c = ap (λ b. if b then c ∷ [] else []) (eq-eqb tag tag refl)
+alone tag c = contents_first tag c []
 
 pub alone_if_any : {A : Type 0} (tag : ℕ) (make : A → Content) (o : Option A)
     → contents tag (given (λ a. node tag (make a)) o) ≡ if_any (option_map make o)
@@ -66,11 +69,11 @@ any_second : (t : ℕ) (tags others : List ℕ) → list_any (λ s. s == t) othe
 any_second t [] others h = h
 any_second t (tag ∷ tags) others h = or_right (tag == t) (list_any (λ s. s == t) (tags ++ others)) (any_second t tags others h)
 
-first_has : (tags others : List ℕ) (ns : List Node) → HaveTags tags ns → HaveTags (tags ++ others) ns
+pub first_has : (tags others : List ℕ) (ns : List Node) → HaveTags tags ns → HaveTags (tags ++ others) ns
 first_has tags others [] h = tt
 first_has tags others (n ∷ ns) h = (any_first (tag_of n) tags others h.0, first_has tags others ns h.1)
 
-second_has : (tags others : List ℕ) (ns : List Node) → HaveTags others ns → HaveTags (tags ++ others) ns
+pub second_has : (tags others : List ℕ) (ns : List Node) → HaveTags others ns → HaveTags (tags ++ others) ns
 second_has tags others [] h = tt
 second_has tags others (n ∷ ns) h = (any_second (tag_of n) tags others h.0, second_has tags others ns h.1)
 

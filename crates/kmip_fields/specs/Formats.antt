@@ -1,12 +1,13 @@
 -- A part of a message, described once: how it is written, how it is read and what it says all follow from its format.
 -- Source: KMIP 2.1, Message Structure: items may stand in any order, and those that a reader does not use are skipped.
-use Rattle.std.specs.Prelude.{◌≡◌, ℕ, ℤ, Bool, true, false, ◌&&◌, List, [], ◌∷◌, ◌++◌, Option, Some, Result, Ok, IsTrue, if◌then◌else◌}
+use Rattle.std.specs.Prelude.{◌≡◌, ℕ, ℤ, Bool, true, false, ◌&&◌, ◌==◌, List, [], ◌∷◌, ◌++◌, map, Option, Some, None, Result, Ok, Err, IsTrue, if◌then◌else◌}
+use Rattle.std.specs.List.{list_all}
 use Rattle.std.specs.Option.{option_map, option_map_or}
 use Rattle.kmip_ttlv.specs.Binding.{◌>>=◌}
 use Rattle.kmip_ttlv.specs.Node.{Node, node, Content, structure, integer, enumeration, text_string, byte_string, nodes_of, as_structure, as_integer, as_enumeration, as_text_string, as_byte_string}
 use Rattle.kmip_fields.specs.declared.fault.MessageFault.{MessageFault}
 use Rattle.kmip_fields.specs.declared.fault.MessageFault.TheVariants.{OutOfRange}
-use Rattle.kmip_fields.specs.Siblings.{contents, guard, sole, the, maybe, only}
+use Rattle.kmip_fields.specs.Siblings.{contents, guard, typed, within, sole, the, maybe, only}
 use Rattle.kmip_fields.specs.Standing.{Once, AtMostOnce, HaveTags}
 
 -- a part of a message whose values are these
@@ -77,6 +78,34 @@ optional k tag = record {
   Says = λ ns o. AtMostOnce tag (option_map k.make o) ns;
 }
 
+-- an item that is written with this content, and not looked at
+abbrev pub unread : ℕ → Content → Format (Unit {0})
+unread tag content = record {
+  tags = tag ∷ [];
+  fits = λ u. true;
+  write = λ u. node tag content ∷ [];
+  read = λ ns. Ok tt;
+  Says = λ ns u. Unit {0};
+}
+
+-- the value that a content has, in its range; and of some contents each
+unfoldable pub value_in : {A : Type 0} → Kind A → ℕ → (A → Bool) → Content → Result A MessageFault
+value_in k tag test c = typed tag (k.of c) >>= λ a. within tag (test a) >>= λ u. Ok a
+
+abbrev pub values_in : {A : Type 0} → Kind A → ℕ → (A → Bool) → List Content → Result (List A) MessageFault
+values_in k tag test [] = Ok []
+values_in k tag test (c ∷ cs) = value_in k tag test c >>= λ a. values_in k tag test cs >>= λ rest. Ok (a ∷ rest)
+
+-- any number of items with the tag: their values in their order, each in its range
+abbrev pub repeated : {A : Type 0} → Kind A → ℕ → (A → Bool) → Format (List A)
+repeated k tag test = record {
+  tags = tag ∷ [];
+  fits = λ all. list_all test all;
+  write = λ all. map (λ a. node tag (k.make a)) all;
+  read = λ ns. values_in k tag test (contents tag ns);
+  Says = λ ns all. (contents tag ns ≡ map k.make all) × IsTrue (list_all test all);
+}
+
 -- just one Structure with the tag, whose items say the value
 abbrev pub structure_of : {A : Type 0} → ℕ → Format A → Format A
 structure_of tag f = record {
@@ -87,7 +116,25 @@ structure_of tag f = record {
   Says = λ ns a. (parts : List Node) × Once tag (inside parts) ns × f.Says parts a;
 }
 
--- the same of the one Batch Item of a message, where any other number is a fault of its own
+-- no Structure with the tag, or one, whose items say the value
+abbrev pub read_if_any : {A : Type 0} → (List Node → Result A MessageFault) → Option (List Node) → Result (Option A) MessageFault
+read_if_any read None = Ok None
+read_if_any read (Some parts) = read parts >>= λ a. Ok (Some a)
+
+abbrev pub SaysIfAny : {A : Type 0} → ℕ → (List Node → A → Type 0) → List Node → Option A → Type 0
+SaysIfAny tag Says ns None = AtMostOnce tag None ns
+SaysIfAny tag Says ns (Some a) = (parts : List Node) × Once tag (inside parts) ns × Says parts a
+
+abbrev pub optional_structure : {A : Type 0} → ℕ → Format A → Format (Option A)
+optional_structure tag f = record {
+  tags = tag ∷ [];
+  fits = λ o. option_map_or f.fits o true;
+  write = λ o. given (λ a. node tag (inside (f.write a))) o;
+  read = λ ns. maybe as_structure tag ns >>= λ parts. read_if_any f.read parts;
+  Says = λ ns o. SaysIfAny tag f.Says ns o;
+}
+
+-- just one Structure, the Batch Item of a message, where any other number is a fault of its own
 abbrev pub sole_structure_of : {A : Type 0} → ℕ → Format A → Format A
 sole_structure_of tag f = record {
   tags = tag ∷ [];
@@ -209,6 +256,21 @@ followed tags f g = record {
   Says = λ ns p. f.Says ns p.0 × (g p.0).Says ns p.1;
 }
 
+-- The part that a key tells, which was read before: where it was not there it is this fault. What is written, and what is said, goes
+-- by the value's own key.
+abbrev pub read_told : {A : Type 0} → MessageFault → (ℕ → Format A) → Option ℕ → List Node → Result A MessageFault
+read_told fault g None ns = Err fault
+read_told fault g (Some key) ns = (g key).read ns
+
+abbrev pub told_by : {A : Type 0} → MessageFault → (A → ℕ) → Option ℕ → List ℕ → (ℕ → Format A) → Format A
+told_by fault key known tags g = record {
+  tags = tags;
+  fits = λ a. option_map_or (λ k. k == key a) known false && (g (key a)).fits a;
+  write = λ a. (g (key a)).write a;
+  read = λ ns. read_told fault g known ns;
+  Says = λ ns a. (known ≡ Some (key a)) × (g (key a)).Says ns a;
+}
+
 -- ---- the whole
 
 -- no items but those of the part
@@ -238,7 +300,7 @@ Chosen false P Q = Q
 
 abbrev pub choose : {A : Type 0} → Bool → Format A → Format A → Format A
 choose b f g = record {
-  tags = if b then f.tags else g.tags;
+  tags = f.tags ++ g.tags;
   fits = λ a. if b then f.fits a else g.fits a;
   write = λ a. if b then f.write a else g.write a;
   read = λ ns. if b then f.read ns else g.read ns;

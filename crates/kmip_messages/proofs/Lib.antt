@@ -7,7 +7,7 @@ mod RequestSaid
 mod WholeLaws
 mod RequestsRead
 mod ReplyLaws
-mod ReplyRoundTrip
+mod ReplySaid
 mod ReplyBytes
 mod AskedLemmas
 mod SaidLemmas

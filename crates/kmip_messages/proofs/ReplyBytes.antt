@@ -17,8 +17,7 @@ use Rattle.kmip_messages.specs.Replies.{IsReply, SpellReply}
 use Rattle.kmip_ttlv.proofs.ReadSteps.{Reads, reads-bind}
 use Rattle.kmip_messages.proofs.WholeLaws.{item_in-complete, item_in-law}
 use Rattle.kmip_messages.proofs.WrittenLemmas.{reply_fits_writable}
-use Rattle.kmip_messages.proofs.ReplyLaws.{reply-law}
-use Rattle.kmip_messages.proofs.ReplyRoundTrip.{written_is_reply}
+use Rattle.kmip_messages.proofs.ReplySaid.{reply-law, written_is_reply}
 
 -- what a call answers, where a relation is read
 answer_found : {A : Type 0} (answer read : Result A MessageFault) (P : A → Type 0) → Reads read P → Gives (λ a. a) answer read → IfOk answer P

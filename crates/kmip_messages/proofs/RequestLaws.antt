@@ -19,13 +19,13 @@ use Rattle.kmip_messages.specs.Parts.{id_format, identifier_format}
 use Rattle.kmip_messages.specs.Ranges.{is_batch_id, is_operation}
 use Rattle.kmip_messages.specs.RequestFits.{ask_fits, request_fits}
 use Rattle.kmip_messages.specs.RequestFormats.{name_parts_format, name_format, key_attrs_format, filter_format, in_create, in_locate, in_get_attributes, in_activate, in_revoke, in_destroy, create_format, locate_format, reason_format, revoke_format, payload_format, version_parts_format, header_parts_format, header_format, known_format, asked_format, item_format, message_format}
-use Rattle.kmip_messages.proofs.Readers.{id_part, identifier_part}
+use Rattle.kmip_messages.proofs.Readers.{id_part, identifier_part, plain_part, count_part, attrs_with-part}
 
 -- ---- attributes
 
 name_parts-part : IsPart name_parts_format
 unfolding name_parts_format
-name_parts-part = left-part _ _ refl (ranged-part _ _ _ (required-part texts _ text_kind)) (fixed-part _ _ _ _ refl refl (required-part enumerations _ enumeration_kind))
+name_parts-part = left-part _ _ refl (ranged-part _ _ _ (required-part texts _ text_kind)) plain_part
 
 name-part : IsPart name_format
 name-part = structure-part _ _ name_parts-part.good
@@ -39,10 +39,7 @@ key_attrs-good = closed-good _ (as_record-part _ _ _ (λ p. refl) (λ k. refl)
 
 filter-good : IsGood filter_format
 unfolding filter_format
-filter-good = closed-good _ (as_record-part _ _ _ (λ p. refl) (λ a. refl)
-    (both-part _ _ refl (optional-part enumerations _ enumeration_kind) (both-part _ _ refl (present-part _ name-part)
-    (both-part _ _ refl (optional-part enumerations _ enumeration_kind) (both-part _ _ refl (optional-part integers _ integer_kind)
-    (both-part _ _ refl (optional-part integers _ integer_kind) (optional-part enumerations _ enumeration_kind))))))).good
+filter-good = closed-good _ (attrs_with-part _ refl (present-part _ name-part)).good
 
 -- ---- payloads
 
@@ -122,12 +119,12 @@ payload-good operation =
 
 -- ---- what a payload says is of its operation
 
-chosen : {P Q X : Type 0} (b : Bool) → Chosen b P Q → (b ≡ true → P → X) → (b ≡ false → Q → X) → X
+pub chosen : {P Q X : Type 0} (b : Bool) → Chosen b P Q → (b ≡ true → P → X) → (b ≡ false → Q → X) → X
 chosen true says first second = first refl says
 chosen false says first second = second refl says
 
 -- the sixth of six tests, where one of them holds and the first five do not
-sixth : (a b c d e f : Bool) → (a || b || c || d || e || f) ≡ true → a ≡ false → b ≡ false → c ≡ false → d ≡ false → e ≡ false → f ≡ true
+pub sixth : (a b c d e f : Bool) → (a || b || c || d || e || f) ≡ true → a ≡ false → b ≡ false → c ≡ false → d ≡ false → e ≡ false → f ≡ true
 sixth a b c d e f known ha hb hc hd he = rw (ha, hb, hc, hd, he) at known
 
 -- a case of the operation of this number
@@ -155,7 +152,7 @@ version_parts-part = fixed-part _ _ _ _ refl refl (both-part _ _ refl (required-
 
 header_parts-part : IsPart header_parts_format
 unfolding header_parts_format
-header_parts-part = right-part _ _ refl (structure-part _ _ version_parts-part.good) (fixed-part _ _ _ _ refl refl (required-part integers _ integer_kind))
+header_parts-part = right-part _ _ refl (structure-part _ _ version_parts-part.good) count_part
 
 header-part : IsPart header_format
 unfolding header_format

@@ -22,7 +22,7 @@ use Rattle.kmip_messages.specs.RequestFormats.{name_parts_format, name_format, k
 use Rattle.kmip_messages.specs.RequestReading.{request_at}
 use Rattle.kmip_messages.specs.Requests.{IsHeader, IsName, IsKeyAttrs, IsFilter, IsCreate, IsPayload, IsAsk, IsRequest}
 use Rattle.kmip_messages.specs.Written.{request_item}
-use Rattle.kmip_messages.proofs.Readers.{reads-refused, reads-carrying, reads-message, id_is, is_id, identifier_is, is_identifier_said}
+use Rattle.kmip_messages.proofs.Readers.{reads-refused, reads-carrying, reads-message, id_is, is_id, identifier_is, is_identifier_said, one_is, plain_is}
 use Rattle.kmip_messages.proofs.RequestLaws.{message-good, message_fits, one_of_six}
 
 -- two numbers that were tested
@@ -33,12 +33,12 @@ same_number x y h = (Decides-int_eq x y).0 h
 
 name_is : (attributes : List Node) (text : List ℕ) → name_format.Says attributes text → IsName attributes text
 unfolding name_parts_format
-name_is attributes text (parts, stands, ((value, in_range), (kind, has_kind, plain))) = record {
+name_is attributes text (parts, stands, ((value, in_range), plain)) = record {
   parts = parts;
   stands = stands;
   value = value;
   in_range = in_range;
-  plain = subst (λ t. Once TAG_NAME_TYPE (enumeration t) parts) (eqb-true kind NAME_TYPE_UNINTERPRETED_TEXT_STRING plain) has_kind;
+  plain = plain_is parts plain;
 }
 
 is_name_said : (attributes : List Node) (text : List ℕ) → IsName attributes text → name_format.Says attributes text
@@ -122,7 +122,7 @@ is_payload payload (Destroy uid) p = (uid, is_identifier_said payload uid p, ref
 
 header_is : (message : List Node) → header_format.Says message tt → IsHeader message
 unfolding header_format header_parts_format version_parts_format
-header_is message (header, stands, ((version, has_version, (numbers, (has_major, has_minor), same)), (count, has_count, is_one))) =
+header_is message (header, stands, ((version, has_version, (numbers, (has_major, has_minor), same)), one)) =
     let each = and_parts (int_eq numbers.0 VERSION_MAJOR) (int_eq numbers.1 VERSION_MINOR) same in
     record {
       parts = header;
@@ -133,7 +133,7 @@ header_is message (header, stands, ((version, has_version, (numbers, (has_major,
         major = subst (λ z. Once TAG_PROTOCOL_VERSION_MAJOR (integer z) version) (same_number numbers.0 VERSION_MAJOR each.0) has_major;
         minor = subst (λ z. Once TAG_PROTOCOL_VERSION_MINOR (integer z) version) (same_number numbers.1 VERSION_MINOR each.1) has_minor;
       };
-      count = subst (λ z. Once TAG_BATCH_COUNT (integer z) header) (same_number count (pos 1) is_one) has_count;
+      count = one_is header one;
     }
 
 is_header : (message : List Node) → IsHeader message → header_format.Says message tt

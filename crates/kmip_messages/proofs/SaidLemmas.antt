@@ -28,7 +28,7 @@ use Rattle.kmip_ttlv.specs.Binding.{◌>>=◌}
 use Rattle.kmip_messages.specs.Whole.{item_in, request_read, reply_read}
 use Rattle.kmip_messages.specs.Written.{reply_item}
 use Rattle.kmip_messages.proofs.ReplyBytes.{reply_read-law, reply_read-again, written_spell}
-use Rattle.kmip_messages.proofs.ReplyLaws.{reply-law}
+use Rattle.kmip_messages.proofs.ReplySaid.{reply-law}
 use Rattle.kmip_messages.proofs.RequestSaid.{request-law}
 use Rattle.kmip_messages.proofs.AskedLemmas.{asked_is_read}
 

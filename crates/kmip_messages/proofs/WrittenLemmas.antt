@@ -13,9 +13,10 @@ use Rattle.kmip_messages.specs.declared.request.Request.{Request}
 use Rattle.kmip_messages.specs.declared.reply.Outcome.{Outcome}
 use Rattle.kmip_messages.specs.declared.reply.Outcome.TheVariants.{Created, Located, Attributes, Activated, Revoked, Destroyed, Failed}
 use Rattle.kmip_messages.specs.declared.reply.Reply.{Reply}
-use Rattle.kmip_messages.specs.declared.standard.TheConstants.{TAG_BATCH_ITEM, TAG_REQUEST_PAYLOAD, TAG_STORAGE_STATUS_MASK, TAG_OPERATION, TAG_UNIQUE_BATCH_ITEM_ID, TAG_OBJECT_TYPE, TAG_CRYPTOGRAPHIC_ALGORITHM, TAG_CRYPTOGRAPHIC_LENGTH, TAG_CRYPTOGRAPHIC_USAGE_MASK, TAG_STATE, TAG_RESULT_REASON}
+use Rattle.kmip_messages.specs.declared.standard.TheConstants.{TAG_BATCH_ITEM, TAG_REQUEST_PAYLOAD, TAG_RESPONSE_PAYLOAD, TAG_RESULT_STATUS, TAG_ATTRIBUTES, TAG_NAME, STATUS_SUCCESS, TAG_STORAGE_STATUS_MASK, TAG_OPERATION, TAG_UNIQUE_BATCH_ITEM_ID, TAG_OBJECT_TYPE, TAG_CRYPTOGRAPHIC_ALGORITHM, TAG_CRYPTOGRAPHIC_LENGTH, TAG_CRYPTOGRAPHIC_USAGE_MASK, TAG_STATE, TAG_RESULT_REASON}
 use Rattle.kmip_fields.specs.Formats.{given, inside}
-use Rattle.kmip_messages.specs.Written.{uid_item, name_item, attrs_item, success_items, outcome_items, reply_batch_item, reply_item, request_item}
+use Rattle.kmip_messages.specs.Written.{reply_item, request_item}
+use Rattle.kmip_messages.specs.ReplyFormats.{any_name_parts_format, attrs_format, created_format, identifiers_format, object_format, answer_format, located_format, success_of_format, success_format, failed_format, outcome_format, any_version_parts_format, reply_header_parts_format, reply_header_format, answered_format, reply_format}
 use Rattle.kmip_messages.specs.Parts.{id_format, identifier_format}
 use Rattle.kmip_messages.specs.RequestFormats.{name_parts_format, key_attrs_format, filter_format, create_format, locate_format, reason_format, revoke_format, payload_format, version_parts_format, header_parts_format, header_format, known_format, asked_format, item_format, message_format}
 use Rattle.kmip_messages.specs.Operations.{operation_of}
@@ -25,7 +26,7 @@ use Rattle.kmip_messages.specs.RequestFits.{ask_fits, request_fits}
 use Rattle.std.specs.Option.{option_map_or}
 use Rattle.kmip_objects.proofs.ForCallers.{name_length, uid_length}
 use Rattle.kmip_messages.specs.Fits.{reply_fits}
-use Rattle.kmip_messages.specs.MessageSizes.{IsCapped, size_if_any, number_size, text_size, name_size, attrs_size, outcome_size}
+use Rattle.kmip_messages.specs.MessageSizes.{IsCapped, size_if_any, number_size, text_size, texts_size, name_size, attrs_size, outcome_size}
 
 -- the items have at most so many levels, whole groups, and this size together
 pub record AreParts (levels bytes : ℕ) (ns : List Node) : Type 0 where
@@ -66,16 +67,25 @@ enumerations levels tag o some = given_parts levels (λ n. node tag (enumeration
 integers : (levels tag : ℕ) (o : Option ℤ) → 1 ≤ levels → AreParts levels (number_size o) (given (λ z. node tag (integer z)) o)
 integers levels tag o some = given_parts levels (λ z. node tag (integer z)) (λ _. 16) (λ n. omega arith) (λ n. tt) (λ n. refl) o
 
+abbrev name_item : List ℕ → Node
+name_item s = node TAG_NAME (inside (any_name_parts_format.write s))
+
 names : (levels : ℕ) (o : Option (List ℕ)) → 2 ≤ levels → AreParts levels (name_size o) (given name_item o)
+unfolding any_name_parts_format
 names levels o some = given_parts levels name_item (λ s. 24 + text_size s) (λ s. omega arith) (λ s. (tt, (tt, tt))) (λ s. omega arith) o
 
-uids_parts : (uids : List (List ℕ)) → AreParts 1 (sizes (nodes_of (map uid_item uids))) (map uid_item uids)
+uids_parts : (uids : List (List ℕ)) → AreParts 1 (texts_size uids) (identifiers_format.write uids)
+unfolding identifiers_format
 uids_parts [] = record { deep = omega arith; groups = tt; long = refl }
 uids_parts (uid ∷ uids) =
     let rest = uids_parts uids in
-    record { deep = omega (arith, rest.deep); groups = (tt, rest.groups); long = refl }
+    record { deep = omega (arith, rest.deep); groups = (tt, rest.groups); long = omega (arith, rest.long) }
+
+abbrev attrs_item : Attrs → Node
+attrs_item a = node TAG_ATTRIBUTES (inside (attrs_format.write a))
 
 attrs_parts : (a : Attrs) → AreParts 3 (attrs_size a) (attrs_item a ∷ [])
+unfolding attrs_format
 attrs_parts a =
     let object = enumerations 2 TAG_OBJECT_TYPE a.object_type (omega arith) in
     let called = names 2 a.name (omega arith) in
@@ -86,37 +96,44 @@ attrs_parts a =
     let all = both_parts 2 _ _ _ _ object (both_parts 2 _ _ _ _ called (both_parts 2 _ _ _ _ kind (both_parts 2 _ _ _ _ bits (both_parts 2 _ _ _ _ mask stage)))) in
     record { deep = omega (arith, all.deep); groups = (all.groups, tt); long = omega (arith, all.long) }
 
+abbrev success_items : List Node → List Node
+success_items payload = node TAG_RESULT_STATUS (enumeration STATUS_SUCCESS) ∷ node TAG_RESPONSE_PAYLOAD (inside payload) ∷ []
+
 success_parts : (bytes : ℕ) (payload : List Node) → AreParts 3 bytes payload → AreParts 4 (24 + bytes) (success_items payload)
 success_parts bytes payload h = record { deep = omega (arith, h.deep); groups = (tt, (h.groups, tt)); long = omega (arith, h.long) }
 
-uid_parts : (uid : List ℕ) → AreParts 3 (text_size uid) (uid_item uid ∷ [])
+uid_parts : (uid : List ℕ) → AreParts 3 (text_size uid) (identifier_format.write uid)
+unfolding identifier_format
 uid_parts uid = record { deep = omega arith; groups = (tt, tt); long = omega arith }
 
-outcome_parts : (o : Outcome) → AreParts 4 (outcome_size o) (outcome_items o)
-outcome_parts (Created uid) = record { deep = omega arith; groups = (tt, ((tt, (tt, tt)), tt)); long = omega arith }
-outcome_parts (Located uids) =
+outcome_parts : (asked : Option ℕ) (o : Outcome) → AreParts 4 (outcome_size o) ((outcome_format asked).write o)
+unfolding outcome_format success_format success_of_format answer_format created_format object_format located_format identifier_format failed_format
+outcome_parts asked (Created uid) = record { deep = omega arith; groups = (tt, ((tt, (tt, tt)), tt)); long = omega arith }
+outcome_parts asked (Located uids) =
     let h = uids_parts uids in
-    success_parts (sizes (nodes_of (map uid_item uids))) (map uid_item uids) (record { deep = omega (arith, h.deep); groups = h.groups; long = refl })
-outcome_parts (Attributes uid attrs) =
+    success_parts (texts_size uids) (identifiers_format.write uids) (record { deep = omega (arith, h.deep); groups = h.groups; long = h.long })
+outcome_parts asked (Attributes uid attrs) =
     let h = attrs_parts attrs in
     record { deep = omega (arith, h.deep); groups = (tt, ((tt, h.groups), tt)); long = omega (arith, h.long) }
-outcome_parts (Activated uid) = success_parts (text_size uid) (uid_item uid ∷ []) (uid_parts uid)
-outcome_parts (Revoked uid) = success_parts (text_size uid) (uid_item uid ∷ []) (uid_parts uid)
-outcome_parts (Destroyed uid) = success_parts (text_size uid) (uid_item uid ∷ []) (uid_parts uid)
-outcome_parts (Failed reason) =
+outcome_parts asked (Activated uid) = success_parts (text_size uid) (identifier_format.write uid) (uid_parts uid)
+outcome_parts asked (Revoked uid) = success_parts (text_size uid) (identifier_format.write uid) (uid_parts uid)
+outcome_parts asked (Destroyed uid) = success_parts (text_size uid) (identifier_format.write uid) (uid_parts uid)
+outcome_parts asked (Failed reason) =
     let h = enumerations 4 TAG_RESULT_REASON reason (omega arith) in
     record { deep = omega (arith, h.deep); groups = (tt, h.groups); long = omega (arith, h.long) }
 
 batch_parts : (r : Reply)
-    → AreParts 5 (8 + (number_size r.operation + size_if_any text_size r.id + outcome_size r.outcome)) (reply_batch_item r ∷ [])
+    → AreParts 5 (8 + (number_size r.operation + size_if_any text_size r.id + outcome_size r.outcome)) (node TAG_BATCH_ITEM (inside (answered_format.write r)) ∷ [])
+unfolding answered_format id_format
 batch_parts r =
     let operation = enumerations 4 TAG_OPERATION r.operation (omega arith) in
     let id = given_parts 4 (λ s. node TAG_UNIQUE_BATCH_ITEM_ID (byte_string s)) text_size (λ s. omega arith) (λ s. tt) (λ s. refl) r.id in
-    let all = both_parts 4 _ _ _ _ (both_parts 4 _ _ _ _ operation id) (outcome_parts r.outcome) in
+    let all = both_parts 4 _ _ _ _ (both_parts 4 _ _ _ _ operation id) (outcome_parts r.operation r.outcome) in
     record { deep = omega (arith, all.deep); groups = (all.groups, tt); long = omega (arith, all.long) }
 
 -- the size of a written reply
 pub size-reply : (r : Reply) (now : ℤ) → size (reply_item r now) ≡ 96 + (number_size r.operation + size_if_any text_size r.id + outcome_size r.outcome)
+unfolding reply_format reply_header_format reply_header_parts_format any_version_parts_format
 size-reply r now = omega (arith, (batch_parts r).long)
 
 -- capped or not, it is too long or it is not
@@ -157,6 +174,7 @@ is_short_test r operation id outcome is_operation is_id is_outcome =
 
 -- a reply that is not too long can be written
 pub reply_writable : (r : Reply) (now : ℤ) → size (reply_item r (pos 0)) ≤ 8192 → IsWritable (reply_item r now)
+unfolding reply_format reply_header_format reply_header_parts_format any_version_parts_format
 reply_writable r now short =
     let batch = batch_parts r in
     writable_of (reply_item r now) ((((tt, (tt, tt)), (tt, (tt, tt))), batch.groups)) (omega (arith, batch.deep)) (omega (arith, size-reply r now, size-reply r (pos 0)))
@@ -178,7 +196,7 @@ ask_size (Revoke uid code) = text_size uid + 24
 ask_size (Destroy uid) = text_size uid
 
 ask_parts : (a : Ask) → AreParts 4 (ask_size a) ((payload_format (operation_of a)).write a)
-unfolding ask_size payload_format create_format key_attrs_format name_parts_format locate_format filter_format revoke_format reason_format identifier_format
+unfolding ask_size attrs_format any_name_parts_format payload_format create_format key_attrs_format name_parts_format locate_format filter_format revoke_format reason_format identifier_format
 ask_parts (Create k) = record { deep = omega arith; groups = (tt, (((tt, (tt, tt)), (tt, (tt, (tt, tt)))), tt)); long = omega arith }
 ask_parts (Locate mask filter) =
     let first = integers 4 TAG_STORAGE_STATUS_MASK mask (omega arith) in
@@ -189,7 +207,7 @@ ask_parts (Activate uid) = record { deep = omega arith; groups = (tt, tt); long 
 ask_parts (Revoke uid code) = record { deep = omega arith; groups = (tt, ((tt, tt), tt)); long = omega arith }
 ask_parts (Destroy uid) = record { deep = omega arith; groups = (tt, tt); long = omega arith }
 
-number_bound : {A : Type 0} (o : Option A) → number_size o ≤ 16
+pub number_bound : {A : Type 0} (o : Option A) → number_size o ≤ 16
 number_bound None = omega arith
 number_bound (Some a) = omega arith
 

@@ -5,6 +5,7 @@ pub mod Marks
 pub mod Parts
 pub mod RequestFormats
 pub mod RequestReading
+pub mod ReplyFormats
 pub mod ReplyReading
 pub mod Written
 pub mod Requests

@@ -1,13 +1,11 @@
 -- Private: how long the parts of a message are.
 -- Source: KMIP 2.1, TTLV Encoding.
-use Rattle.std.specs.Prelude.{◌≡◌, ℕ, ◌+◌, ◌<◌, ◌≤◌, List, length, map, Option, Some, None}
+use Rattle.std.specs.Prelude.{◌≡◌, ℕ, ◌+◌, ◌<◌, ◌≤◌, List, [], ◌∷◌, length, Option, Some, None}
 use Rattle.kmip_ttlv.specs.Limits.{most_bytes}
-use Rattle.kmip_ttlv.specs.Node.{nodes_of}
-use Rattle.kmip_ttlv.specs.Sizes.{padded, sizes}
+use Rattle.kmip_ttlv.specs.Sizes.{padded}
 use Rattle.kmip_objects.specs.declared.attributes.Attrs.{Attrs}
 use Rattle.kmip_messages.specs.declared.reply.Outcome.{Outcome}
 use Rattle.kmip_messages.specs.declared.reply.Outcome.TheVariants.{Created, Located, Attributes, Activated, Revoked, Destroyed, Failed}
-use Rattle.kmip_messages.specs.Written.{uid_item}
 
 -- a number, a text and bytes, each where it is given
 abbrev pub size_if_any : {A : Type 0} → (A → ℕ) → Option A → ℕ
@@ -20,6 +18,11 @@ number_size o = size_if_any (λ _. 16) o
 abbrev pub text_size : List ℕ → ℕ
 text_size s = 8 + padded (length s)
 
+-- some of them together
+abbrev pub texts_size : List (List ℕ) → ℕ
+texts_size [] = 0
+texts_size (s ∷ rest) = text_size s + texts_size rest
+
 -- a Name has its value and its type
 abbrev pub name_size : Option (List ℕ) → ℕ
 name_size o = size_if_any (λ s. 24 + text_size s) o
@@ -30,7 +33,7 @@ attrs_size a = 8 + (number_size a.object_type + name_size a.name + number_size a
 -- the status, and the reason or the payload
 abbrev pub outcome_size : Outcome → ℕ
 outcome_size (Created uid) = 40 + text_size uid
-outcome_size (Located uids) = 24 + sizes (nodes_of (map uid_item uids))
+outcome_size (Located uids) = 24 + texts_size uids
 outcome_size (Attributes uid attrs) = 24 + text_size uid + attrs_size attrs
 outcome_size (Activated uid) = 24 + text_size uid
 outcome_size (Revoked uid) = 24 + text_size uid

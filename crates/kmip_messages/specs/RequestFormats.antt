@@ -14,7 +14,7 @@ use Rattle.kmip_messages.specs.declared.request.Ask.TheVariants.{Create, Locate,
 use Rattle.kmip_messages.specs.declared.request.Request.{Request}
 use Rattle.kmip_messages.specs.declared.standard.TheConstants.{TAG_REQUEST_HEADER, TAG_PROTOCOL_VERSION, TAG_PROTOCOL_VERSION_MAJOR, TAG_PROTOCOL_VERSION_MINOR, TAG_BATCH_COUNT, TAG_BATCH_ITEM, TAG_OPERATION, TAG_REQUEST_PAYLOAD, TAG_OBJECT_TYPE, TAG_ATTRIBUTES, TAG_NAME, TAG_NAME_VALUE, TAG_NAME_TYPE, TAG_CRYPTOGRAPHIC_ALGORITHM, TAG_CRYPTOGRAPHIC_LENGTH, TAG_CRYPTOGRAPHIC_USAGE_MASK, TAG_STATE, TAG_STORAGE_STATUS_MASK, TAG_REVOCATION_REASON, TAG_REVOCATION_REASON_CODE, VERSION_MAJOR, VERSION_MINOR, NAME_TYPE_UNINTERPRETED_TEXT_STRING, OPERATION_CREATE, OPERATION_LOCATE, OPERATION_GET_ATTRIBUTES, OPERATION_ACTIVATE, OPERATION_REVOKE}
 use Rattle.kmip_messages.specs.Operations.{operation_of}
-use Rattle.kmip_messages.specs.Parts.{id_format, identifier_format}
+use Rattle.kmip_messages.specs.Parts.{id_format, identifier_format, count_format, plain_format, attrs_with}
 use Rattle.kmip_messages.specs.Ranges.{is_operation}
 
 -- ---- attributes
@@ -23,7 +23,7 @@ use Rattle.kmip_messages.specs.Ranges.{is_operation}
 unfoldable pub name_parts_format : Format (List ℕ)
 name_parts_format =
     ranged TAG_NAME_VALUE is_name (required texts TAG_NAME_VALUE)
-    ◁ fixed (OutOfRange TAG_NAME_TYPE) (λ n. n == NAME_TYPE_UNINTERPRETED_TEXT_STRING) NAME_TYPE_UNINTERPRETED_TEXT_STRING (required enumerations TAG_NAME_TYPE)
+    ◁ plain_format
 
 abbrev pub name_format : Format (List ℕ)
 name_format = structure_of TAG_NAME name_parts_format
@@ -41,15 +41,7 @@ key_attrs_format = closed (as_record
 
 -- the attributes to look for, the Name among them, and none outside the profile
 unfoldable pub filter_format : Format Attrs
-filter_format = closed (as_record
-    (λ (object, (called, (kind, (bits, (mask, stage))))). record { object_type = object; name = called; algorithm = kind; length = bits; usage = mask; state = stage })
-    (λ a. (a.object_type, (a.name, (a.algorithm, (a.length, (a.usage, a.state))))))
-    (optional enumerations TAG_OBJECT_TYPE
-    ⊗ present name_format
-    ⊗ optional enumerations TAG_CRYPTOGRAPHIC_ALGORITHM
-    ⊗ optional integers TAG_CRYPTOGRAPHIC_LENGTH
-    ⊗ optional integers TAG_CRYPTOGRAPHIC_USAGE_MASK
-    ⊗ optional enumerations TAG_STATE))
+filter_format = closed (attrs_with (present name_format))
 
 -- ---- payloads
 
@@ -117,7 +109,7 @@ version_parts_format = fixed Version (λ p. int_eq p.0 VERSION_MAJOR && int_eq p
 unfoldable pub header_parts_format : Format (Unit {0})
 header_parts_format =
     structure_of TAG_PROTOCOL_VERSION version_parts_format
-    ▷ fixed BatchCount (λ z. int_eq z (pos 1)) (pos 1) (required integers TAG_BATCH_COUNT)
+    ▷ count_format
 
 unfoldable pub header_format : Format (Unit {0})
 header_format = structure_of TAG_REQUEST_HEADER header_parts_format

@@ -1,9 +1,9 @@
 //! The items that messages are built of.
 ghost use Rattle.std.specs.Prelude.{◌≡◌, ◌++◌, ◌∷◌, ◌<◌, ◌^◌, [], IfOk, OnOk};
-ghost use Rattle.kmip_ttlv.specs.Node.{node, integer, enumeration, byte_string};
+ghost use Rattle.kmip_ttlv.specs.Node.{node, integer, enumeration, text_string, byte_string};
 ghost use Rattle.kmip_ttlv.specs.View.{view, views};
-ghost use Rattle.kmip_fields.specs.Formats.{given};
-ghost use Rattle.kmip_messages.specs.Written.{version_item, uid_item, name_item, attrs_item};
+ghost use Rattle.kmip_fields.specs.Formats.{given, inside};
+ghost use Rattle.kmip_messages.specs.ReplyFormats.{any_name_parts_format, any_version_parts_format, attrs_format};
 
 use crate::standard::{
     NAME_TYPE_UNINTERPRETED_TEXT_STRING, TAG_ATTRIBUTES, TAG_CRYPTOGRAPHIC_ALGORITHM,
@@ -17,8 +17,10 @@ use kmip_ttlv::{Bytes, Item, NoMemory, Tag, Text};
 use std::alloc::Global;
 
 /// The Protocol Version 2.1.
+#[tactic(auto, unfolding(crate::specs::ReplyFormats::any_version_parts_format))]
 pub(crate) fn version_item(alloc: Global) -> Result<Item, NoMemory>
-    ensures { IfOk result (λ i. view i ≡ version_item) }
+    ensures { IfOk result (λ i. view i
+        ≡ node TAG_PROTOCOL_VERSION (inside (any_version_parts_format.write tt))) }
 {
     let major = Item::integer(Tag::new(TAG_PROTOCOL_VERSION_MAJOR), VERSION_MAJOR);
     let minor = Item::integer(Tag::new(TAG_PROTOCOL_VERSION_MINOR), VERSION_MINOR);
@@ -51,15 +53,18 @@ pub(crate) fn push_id(
 
 /// A Unique Identifier.
 pub(crate) fn uid_item(alloc: Global, uid: &Text) -> Result<Item, NoMemory>
-    ensures { IfOk result (λ i. view i ≡ uid_item uid.now) }
+    ensures { IfOk result (λ i. view i
+        ≡ node TAG_UNIQUE_IDENTIFIER (text_string uid.now)) }
 {
     let uid = Text::copied(alloc, uid.as_str())?;
     Ok(Item::text_string(Tag::new(TAG_UNIQUE_IDENTIFIER), uid))
 }
 
 /// The Attributes that are given, in the written order.
+#[tactic(auto, unfolding(crate::specs::ReplyFormats::attrs_format))]
 pub(crate) fn attrs_item(alloc: Global, attrs: &Attrs) -> Result<Item, NoMemory>
-    ensures { IfOk result (λ i. view i ≡ attrs_item attrs.now) }
+    ensures { IfOk result (λ i. view i
+        ≡ node TAG_ATTRIBUTES (inside (attrs_format.write attrs.now))) }
 {
     let mut items = Vec::new(alloc);
     push_enumeration(&mut items, TAG_OBJECT_TYPE, attrs.object_type)?;
@@ -78,7 +83,8 @@ pub(crate) fn push_name(
     name: &Option<Text>,
 ) -> Result<(), NoMemory>
     ensures { OnOk result
-        (views items.new.items ≡ views items.old.items ++ given name_item name.now) }
+        (views items.new.items ≡ views items.old.items
+        ++ given (λ s. node TAG_NAME (inside (any_name_parts_format.write s))) name.now) }
 {
     match name {
         Some(name) => {
@@ -91,8 +97,10 @@ pub(crate) fn push_name(
 }
 
 /// A Name, which is an uninterpreted text.
+#[tactic(auto, unfolding(crate::specs::ReplyFormats::any_name_parts_format))]
 pub(crate) fn name_item(alloc: Global, name: &Text) -> Result<Item, NoMemory>
-    ensures { IfOk result (λ i. view i ≡ name_item name.now) }
+    ensures { IfOk result (λ i. view i
+        ≡ node TAG_NAME (inside (any_name_parts_format.write name.now))) }
 {
     let value = Item::text_string(
         Tag::new(TAG_NAME_VALUE),

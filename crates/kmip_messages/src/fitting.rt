@@ -1,19 +1,19 @@
 //! Which requests and replies have a written form. Nothing here takes memory.
-ghost use Rattle.std.specs.Prelude.{◌≡◌, ◌+◌, ◌≤◌, ◌<◌, ◌==◌, pos, true, false, map, nat_le, length};
+ghost use Rattle.std.specs.Prelude.{◌≡◌, ◌+◌, ◌≤◌, ◌<◌, ◌==◌, pos, true, false, nat_le, length};
 ghost use Rattle.std.specs.List.{list_all};
 ghost use Rattle.std.specs.Option.{option_map_or};
 ghost use Rattle.kmip_ttlv.specs.Limits.{most_bytes};
-ghost use Rattle.kmip_ttlv.specs.Node.{nodes_of};
-ghost use Rattle.kmip_ttlv.specs.Sizes.{size, sizes, padded};
+ghost use Rattle.kmip_ttlv.specs.Sizes.{size, padded};
 ghost use Rattle.kmip_objects.specs.Ranges.{is_name, is_identifier};
 ghost use Rattle.kmip_messages.specs.Ranges.{is_batch_id};
 ghost use Rattle.kmip_messages.specs.RequestFits.{ask_fits, request_fits};
-ghost use Rattle.kmip_messages.specs.Written.{uid_item, reply_item};
+ghost use Rattle.kmip_messages.specs.Written.{reply_item};
 ghost use Rattle.kmip_messages.specs.Fits.{is_own, outcome_fits, reply_fits};
 ghost use Rattle.kmip_messages.specs.MessageSizes.{
   size_if_any,
   number_size,
   text_size,
+  texts_size,
   name_size,
   attrs_size,
   outcome_size,
@@ -187,7 +187,7 @@ fn number_size<T>(number: &Option<T>) -> usize
 
 /// How many bytes the Unique Identifiers take together, or more than a message may have.
 fn texts_size(uids: &[Text]) -> usize
-    ensures size { IsCapped result (sizes (nodes_of (map uid_item uids.now))) }
+    ensures size { IsCapped result (texts_size uids.now) }
     ensures small { result ≤ 50000 }
 {
     let mut size = 0;

@@ -1,34 +1,34 @@
 //! Replies from bytes.
-ghost use Rattle.std.specs.Prelude.{◌≡◌, ℤ, [], ◌∷◌, false, Ok, IsTrue, IfOk, IfErr};
+ghost use Rattle.std.specs.Prelude.{◌≡◌, ℤ, pos, [], ◌∷◌, false, Ok, IsTrue, IfOk, IfErr};
 ghost use Rattle.kmip_ttlv.specs.Fitting.{IsInRange};
 ghost use Rattle.kmip_ttlv.specs.Node.{Node, content_of};
 ghost use Rattle.kmip_ttlv.specs.Spelling.{canon, Spells};
 ghost use Rattle.kmip_ttlv.specs.View.{view, views};
+ghost use Rattle.kmip_objects.specs.Ranges.{is_identifier};
 ghost use Rattle.kmip_messages.specs.declared.reply.Reply.{Reply};
 ghost use Rattle.kmip_fields.specs.Faults.{is_no_memory};
 ghost use Rattle.kmip_messages.specs.Fits.{HasValuesInRange, reply_fits};
 ghost use Rattle.kmip_messages.specs.Items.{replies_in};
 ghost use Rattle.kmip_messages.specs.Replies.{IsReply};
-ghost use Rattle.kmip_fields.specs.Siblings.{contents};
+ghost use Rattle.kmip_fields.specs.Formats.{texts, value_in, optional_structure};
 ghost use Rattle.kmip_fields.specs.Reading.{Gives};
 ghost use Rattle.kmip_messages.specs.Whole.{reply_read};
 ghost use Rattle.kmip_messages.specs.Written.{reply_item};
-ghost use Rattle.kmip_messages.specs.ReplyReading.{
-  reply_header_at,
-  reply_batch_at,
-  identifier_in,
-  identifiers_in,
-  any_name_at,
-  attrs_at,
-  attributes_at,
-  located_at,
-  outcome_in,
-  payload_at,
-  success_in,
-  failed_at,
+ghost use Rattle.kmip_messages.specs.ReplyReading.{reply_at};
+ghost use Rattle.kmip_messages.specs.ReplyFormats.{
+  any_name_parts_format,
+  attrs_format,
+  identifiers_format,
+  object_format,
+  answer_format,
+  located_format,
+  success_of_format,
+  success_format,
+  failed_format,
   is_status,
-  outcome_at,
-  reply_at,
+  outcome_format,
+  reply_header_format,
+  answered_format,
 };
 
 use crate::parts::{id_of, identifier_of, message_of, whole_item};
@@ -88,36 +88,21 @@ fn whole_reply(alloc: Global, bytes: &[u8]) -> Result<Reply, MessageFault>
 }
 
 /// The reply that an item is.
-#[tactic(auto, unfolding(crate::specs::ReplyReading::reply_at))]
+#[tactic(auto, unfolding(crate::specs::ReplyReading::reply_at, crate::specs::ReplyFormats::reply_format))]
 fn reply_of(alloc: Global, item: &Item) -> Result<Reply, MessageFault>
     ensures { Gives (λ r. r) result (reply_at (view item.now)) }
-{
-    let batch = batch_of(item)?;
-    let id = id_of(alloc, batch)?;
-    let operation = enumeration_if_any(batch, TAG_OPERATION)?;
-    let outcome = outcome_of(alloc, operation, batch)?;
-    Ok(Reply {
-        operation,
-        id,
-        outcome,
-    })
-}
-
-/// The items of the one Batch Item of a Response Message.
-#[tactic(auto, unfolding(crate::specs::ReplyReading::reply_batch_at))]
-fn batch_of(item: &Item) -> Result<&[Item], MessageFault>
-    ensures { Gives (λ s. views s.now) result (reply_batch_at (view item.now)) }
 {
     let message = message_of(item, TAG_RESPONSE_MESSAGE)?;
     header_of(message)?;
     let batch = sole_structure(message, TAG_BATCH_ITEM)?;
-    Ok(batch)
+    let reply = answered_of(alloc, batch)?;
+    Ok(reply)
 }
 
 /// The header of a reply has the version 2, with any minor number, and counts one Batch Item.
-#[tactic(auto, unfolding(crate::specs::ReplyReading::reply_header_at))]
+#[tactic(auto, unfolding(crate::specs::ReplyFormats::reply_header_format, crate::specs::ReplyFormats::reply_header_parts_format, crate::specs::ReplyFormats::any_version_parts_format))]
 fn header_of(message: &[Item]) -> Result<(), MessageFault>
-    ensures { Gives (λ u. u) result (reply_header_at (views message.now)) }
+    ensures { Gives (λ u. u) result ((reply_header_format (pos 0)).read (views message.now)) }
 {
     let header = the_structure(message, TAG_RESPONSE_HEADER)?;
     let version = the_structure(header, TAG_PROTOCOL_VERSION)?;
@@ -129,14 +114,29 @@ fn header_of(message: &[Item]) -> Result<(), MessageFault>
     Ok(())
 }
 
+/// The reply that the items of a Batch Item are.
+#[tactic(auto, unfolding(crate::specs::ReplyFormats::answered_format))]
+fn answered_of(alloc: Global, batch: &[Item]) -> Result<Reply, MessageFault>
+    ensures { Gives (λ r. r) result (answered_format.read (views batch.now)) }
+{
+    let id = id_of(alloc, batch)?;
+    let operation = enumeration_if_any(batch, TAG_OPERATION)?;
+    let outcome = outcome_of(alloc, operation, batch)?;
+    Ok(Reply {
+        operation,
+        id,
+        outcome,
+    })
+}
+
 /// How the operation went.
-#[tactic(auto, unfolding(crate::specs::ReplyReading::outcome_at))]
+#[tactic(auto, unfolding(crate::specs::ReplyFormats::outcome_format))]
 fn outcome_of(
     alloc: Global,
     operation: Option<u32>,
     batch: &[Item],
 ) -> Result<Outcome, MessageFault>
-    ensures { Gives (λ o. o) result (outcome_at operation (views batch.now)) }
+    ensures { Gives (λ o. o) result ((outcome_format operation).read (views batch.now)) }
 {
     let status = the_enumeration(batch, TAG_RESULT_STATUS)?;
     within(TAG_RESULT_STATUS, is_status(status))?;
@@ -156,21 +156,22 @@ fn is_status(status: u32) -> bool
 }
 
 /// A failure, with its reason where there is one.
-#[tactic(auto, unfolding(crate::specs::ReplyReading::failed_at))]
+#[tactic(auto, unfolding(crate::specs::ReplyFormats::failed_format))]
 fn failure_of(batch: &[Item]) -> Result<Outcome, MessageFault>
-    ensures { Gives (λ o. o) result (failed_at (views batch.now)) }
+    ensures { Gives (λ o. o) result (failed_format.read (views batch.now)) }
 {
     let reason = enumeration_if_any(batch, TAG_RESULT_REASON)?;
     Ok(Outcome::Failed(reason))
 }
 
 /// A success of this operation, which has to be one of the six.
+#[tactic(auto, unfolding(crate::specs::ReplyFormats::success_format, crate::specs::ReplyFormats::success_of_format))]
 fn success_of(
     alloc: Global,
     operation: Option<u32>,
     batch: &[Item],
 ) -> Result<Outcome, MessageFault>
-    ensures { Gives (λ o. o) result (success_in operation (views batch.now)) }
+    ensures { Gives (λ o. o) result ((success_format operation).read (views batch.now)) }
 {
     let Some(operation) = operation else {
         return Err(MessageFault::Missing(Tag::new(TAG_OPERATION)));
@@ -180,15 +181,16 @@ fn success_of(
         let outcome = located_of(alloc, batch)?;
         Ok(outcome)
     } else {
-        let outcome = payload_of(alloc, operation, batch)?;
+        let payload = the_structure(batch, TAG_RESPONSE_PAYLOAD)?;
+        let outcome = answer_of(alloc, operation, payload)?;
         Ok(outcome)
     }
 }
 
 /// The identifiers that a Locate found; without a payload none.
-#[tactic(auto, unfolding(crate::specs::ReplyReading::located_at))]
+#[tactic(auto, unfolding(crate::specs::ReplyFormats::located_format))]
 fn located_of(alloc: Global, batch: &[Item]) -> Result<Outcome, MessageFault>
-    ensures { Gives (λ o. o) result (located_at (views batch.now)) }
+    ensures { Gives (λ o. o) result (located_format.read (views batch.now)) }
 {
     match structure_if_any(batch, TAG_RESPONSE_PAYLOAD)? {
         None => Ok(Outcome::Located(Texts::new(alloc))),
@@ -200,9 +202,9 @@ fn located_of(alloc: Global, batch: &[Item]) -> Result<Outcome, MessageFault>
 }
 
 /// The Unique Identifiers of a payload, of which there may be any number.
+#[tactic(auto, unfolding(crate::specs::ReplyFormats::identifiers_format))]
 fn identifiers_of(alloc: Global, payload: &[Item]) -> Result<Texts, MessageFault>
-    ensures { Gives (λ t. t) result
-        (identifiers_in (contents TAG_UNIQUE_IDENTIFIER (views payload.now))) }
+    ensures { Gives (λ t. t) result (identifiers_format.read (views payload.now)) }
 {
     let mut uids = Vec::new(alloc);
     for item in payload {
@@ -215,9 +217,10 @@ fn identifiers_of(alloc: Global, payload: &[Item]) -> Result<Texts, MessageFault
 }
 
 /// The identifier that an item is.
-#[tactic(auto, unfolding(crate::specs::ReplyReading::identifier_in))]
+#[tactic(auto, unfolding(kmip_fields::specs::Formats::value_in))]
 fn identifier_in(alloc: Global, item: &Item) -> Result<Text, MessageFault>
-    ensures { Gives (λ t. t) result (identifier_in (content_of (view item.now))) }
+    ensures { Gives (λ t. t) result
+        (value_in texts TAG_UNIQUE_IDENTIFIER is_identifier (content_of (view item.now))) }
 {
     let Some(uid) = item.as_text_string() else {
         return Err(MessageFault::WrongType(Tag::new(TAG_UNIQUE_IDENTIFIER)));
@@ -228,18 +231,9 @@ fn identifier_in(alloc: Global, item: &Item) -> Result<Text, MessageFault>
 }
 
 /// What the payload of an operation other than Locate says.
-#[tactic(auto, unfolding(crate::specs::ReplyReading::payload_at))]
-fn payload_of(alloc: Global, operation: u32, batch: &[Item]) -> Result<Outcome, MessageFault>
-    ensures { Gives (λ o. o) result (payload_at operation (views batch.now)) }
-{
-    let payload = the_structure(batch, TAG_RESPONSE_PAYLOAD)?;
-    let outcome = outcome_in(alloc, operation, payload)?;
-    Ok(outcome)
-}
-
-/// What this payload of the operation says.
-fn outcome_in(alloc: Global, operation: u32, payload: &[Item]) -> Result<Outcome, MessageFault>
-    ensures { Gives (λ o. o) result (outcome_in operation (views payload.now)) }
+#[tactic(auto, unfolding(crate::specs::ReplyFormats::answer_format, crate::specs::ReplyFormats::created_format))]
+fn answer_of(alloc: Global, operation: u32, payload: &[Item]) -> Result<Outcome, MessageFault>
+    ensures { Gives (λ o. o) result ((answer_format operation).read (views payload.now)) }
 {
     match operation {
         OPERATION_CREATE => {
@@ -247,8 +241,8 @@ fn outcome_in(alloc: Global, operation: u32, payload: &[Item]) -> Result<Outcome
             Ok(Outcome::Created(uid))
         }
         OPERATION_GET_ATTRIBUTES => {
-            let outcome = attributes_of(alloc, payload)?;
-            Ok(outcome)
+            let (uid, attrs) = object_of(alloc, payload)?;
+            Ok(Outcome::Attributes(uid, attrs))
         }
         OPERATION_ACTIVATE => {
             let uid = identifier_of(alloc, payload)?;
@@ -266,20 +260,20 @@ fn outcome_in(alloc: Global, operation: u32, payload: &[Item]) -> Result<Outcome
 }
 
 /// The identifier and the attributes that a Get Attributes answers.
-#[tactic(auto, unfolding(crate::specs::ReplyReading::attributes_at))]
-fn attributes_of(alloc: Global, payload: &[Item]) -> Result<Outcome, MessageFault>
-    ensures { Gives (λ o. o) result (attributes_at (views payload.now)) }
+#[tactic(auto, unfolding(crate::specs::ReplyFormats::object_format))]
+fn object_of(alloc: Global, payload: &[Item]) -> Result<(Text, Attrs), MessageFault>
+    ensures { Gives (λ p. p) result (object_format.read (views payload.now)) }
 {
     let uid = identifier_of(alloc, payload)?;
     let attributes = the_structure(payload, TAG_ATTRIBUTES)?;
     let attrs = attrs_of(alloc, attributes)?;
-    Ok(Outcome::Attributes(uid, attrs))
+    Ok((uid, attrs))
 }
 
 /// The attributes of the profile that are given.
-#[tactic(auto, unfolding(crate::specs::ReplyReading::attrs_at))]
+#[tactic(auto, unfolding(crate::specs::ReplyFormats::attrs_format))]
 fn attrs_of(alloc: Global, attributes: &[Item]) -> Result<Attrs, MessageFault>
-    ensures { Gives (λ a. a) result (attrs_at (views attributes.now)) }
+    ensures { Gives (λ a. a) result (attrs_format.read (views attributes.now)) }
 {
     let object_type = enumeration_if_any(attributes, TAG_OBJECT_TYPE)?;
     let name = name_of(alloc, attributes)?;
@@ -298,9 +292,10 @@ fn attrs_of(alloc: Global, attributes: &[Item]) -> Result<Attrs, MessageFault>
 }
 
 /// The Name Value, of any text, where there is a Name.
-#[tactic(auto, unfolding(crate::specs::ReplyReading::any_name_at))]
+#[tactic(auto, unfolding(crate::specs::ReplyFormats::any_name_parts_format))]
 fn name_of(alloc: Global, attributes: &[Item]) -> Result<Option<Text>, MessageFault>
-    ensures { Gives (λ o. o) result (any_name_at (views attributes.now)) }
+    ensures { Gives (λ o. o) result
+        ((optional_structure TAG_NAME any_name_parts_format).read (views attributes.now)) }
 {
     match structure_if_any(attributes, TAG_NAME)? {
         None => Ok(None),

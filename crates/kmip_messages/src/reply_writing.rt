@@ -1,18 +1,20 @@
 //! Replies to bytes.
-ghost use Rattle.std.specs.Prelude.{◌≡◌, ◌++◌, ◌∷◌, [], map, IsTrue, IfOk, OnOk};
+ghost use Rattle.std.specs.Prelude.{◌≡◌, ◌++◌, ◌∷◌, [], None, IsTrue, IfOk, OnOk};
+ghost use Rattle.kmip_fields.specs.Formats.{inside};
+ghost use Rattle.kmip_messages.specs.Parts.{identifier_format};
 ghost use Rattle.kmip_ttlv.specs.Spelling.{canon};
 ghost use Rattle.kmip_messages.specs.Fits.{reply_fits};
 ghost use Rattle.kmip_messages.specs.Items.{replies_in};
 ghost use Rattle.kmip_ttlv.specs.Node.{node, enumeration};
 ghost use Rattle.kmip_ttlv.specs.View.{view, views};
-ghost use Rattle.kmip_messages.specs.Written.{
-  uid_item,
-  attrs_item,
-  success_items,
-  outcome_items,
-  reply_header_item,
-  reply_batch_item,
-  reply_item,
+ghost use Rattle.kmip_messages.specs.Written.{reply_item};
+ghost use Rattle.kmip_messages.specs.ReplyFormats.{
+  created_format,
+  identifiers_format,
+  object_format,
+  outcome_format,
+  reply_header_parts_format,
+  answered_format,
 };
 
 use crate::building::{attrs_item, push, push_enumeration, push_id, uid_item, version_item};
@@ -44,6 +46,7 @@ pub fn write_reply(alloc: Global, reply: &Reply, now: i64) -> Result<Vec<u8>, No
 }
 
 /// The Response Message of the reply.
+#[tactic(auto, unfolding(crate::specs::ReplyFormats::reply_format, crate::specs::ReplyFormats::reply_header_format))]
 fn message_item(alloc: Global, reply: &Reply, now: i64) -> Result<Item, NoMemory>
     ensures { IfOk result (λ i. view i ≡ reply_item reply.now now) }
 {
@@ -54,8 +57,10 @@ fn message_item(alloc: Global, reply: &Reply, now: i64) -> Result<Item, NoMemory
 }
 
 /// The Response Header: version 2.1, the time, and one Batch Item.
+#[tactic(auto, unfolding(crate::specs::ReplyFormats::reply_header_parts_format))]
 fn header_item(alloc: Global, now: i64) -> Result<Item, NoMemory>
-    ensures { IfOk result (λ i. view i ≡ reply_header_item now) }
+    ensures { IfOk result (λ i. view i
+        ≡ node TAG_RESPONSE_HEADER (inside ((reply_header_parts_format now).write tt))) }
 {
     let version = version_item(alloc)?;
     let time = Item::date_time(Tag::new(TAG_TIME_STAMP), now);
@@ -65,8 +70,10 @@ fn header_item(alloc: Global, now: i64) -> Result<Item, NoMemory>
 }
 
 /// The Batch Item of the reply.
+#[tactic(auto, unfolding(crate::specs::ReplyFormats::answered_format, crate::specs::ReplyFormats::outcome_format, crate::specs::ReplyFormats::success_format, crate::specs::Parts::id_format))]
 fn batch_item(alloc: Global, reply: &Reply) -> Result<Item, NoMemory>
-    ensures { IfOk result (λ i. view i ≡ reply_batch_item reply.now) }
+    ensures { IfOk result (λ i. view i
+        ≡ node TAG_BATCH_ITEM (inside (answered_format.write reply.now))) }
 {
     let mut items = Vec::new(alloc);
     push_enumeration(&mut items, TAG_OPERATION, reply.operation)?;
@@ -76,9 +83,11 @@ fn batch_item(alloc: Global, reply: &Reply) -> Result<Item, NoMemory>
 }
 
 /// Puts the status at the end, and then the reason or the payload.
+#[tactic(auto, unfolding(crate::specs::ReplyFormats::outcome_format, crate::specs::ReplyFormats::success_format, crate::specs::ReplyFormats::success_of_format, crate::specs::ReplyFormats::answer_format, crate::specs::ReplyFormats::located_format, crate::specs::ReplyFormats::failed_format))]
 fn push_outcome(alloc: Global, items: &mut Vec<Item>, outcome: &Outcome) -> Result<(), NoMemory>
     ensures { OnOk result
-        (views items.new.items ≡ views items.old.items ++ outcome_items outcome.now) }
+        (views items.new.items ≡ views items.old.items
+        ++ (outcome_format None).write outcome.now) }
 {
     match outcome {
         Outcome::Created(uid) => {
@@ -115,7 +124,9 @@ fn push_outcome(alloc: Global, items: &mut Vec<Item>, outcome: &Outcome) -> Resu
 /// Puts the status Success and a payload of these items at the end.
 fn push_success(items: &mut Vec<Item>, payload: Vec<Item>) -> Result<(), NoMemory>
     ensures { OnOk result
-        (views items.new.items ≡ views items.old.items ++ success_items (views payload.items)) }
+        (views items.new.items ≡ views items.old.items
+        ++ node TAG_RESULT_STATUS (enumeration STATUS_SUCCESS)
+        ∷ node TAG_RESPONSE_PAYLOAD (inside (views payload.items)) ∷ []) }
 {
     push(
         items,
@@ -129,10 +140,9 @@ fn push_success(items: &mut Vec<Item>, payload: Vec<Item>) -> Result<(), NoMemor
 }
 
 /// The payload of a Create.
+#[tactic(auto, unfolding(crate::specs::ReplyFormats::created_format))]
 fn created_items(alloc: Global, uid: &Text) -> Result<Vec<Item>, NoMemory>
-    ensures { IfOk result (λ v. views v.items
-        ≡ node TAG_OBJECT_TYPE (enumeration OBJECT_TYPE_SYMMETRIC_KEY) ∷ uid_item uid.now
-        ∷ []) }
+    ensures { IfOk result (λ v. views v.items ≡ created_format.write uid.now) }
 {
     let object_type = Item::enumeration(Tag::new(TAG_OBJECT_TYPE), OBJECT_TYPE_SYMMETRIC_KEY);
     let uid = uid_item(alloc, uid)?;
@@ -141,8 +151,9 @@ fn created_items(alloc: Global, uid: &Text) -> Result<Vec<Item>, NoMemory>
 }
 
 /// The payload of a Locate.
+#[tactic(auto, unfolding(crate::specs::ReplyFormats::identifiers_format, crate::specs::Parts::identifier_format))]
 fn located_items(alloc: Global, uids: &[Text]) -> Result<Vec<Item>, NoMemory>
-    ensures { IfOk result (λ v. views v.items ≡ map uid_item uids.now) }
+    ensures { IfOk result (λ v. views v.items ≡ identifiers_format.write uids.now) }
 {
     let mut items = Vec::new(alloc);
     for uid in uids {
@@ -153,9 +164,10 @@ fn located_items(alloc: Global, uids: &[Text]) -> Result<Vec<Item>, NoMemory>
 }
 
 /// The payload of a Get Attributes.
+#[tactic(auto, unfolding(crate::specs::ReplyFormats::object_format))]
 fn attributes_items(alloc: Global, uid: &Text, attrs: &Attrs) -> Result<Vec<Item>, NoMemory>
     ensures { IfOk result (λ v. views v.items
-        ≡ uid_item uid.now ∷ attrs_item attrs.now ∷ []) }
+        ≡ object_format.write (uid.now, attrs.now)) }
 {
     let uid = uid_item(alloc, uid)?;
     let attrs = attrs_item(alloc, attrs)?;
@@ -165,7 +177,7 @@ fn attributes_items(alloc: Global, uid: &Text, attrs: &Attrs) -> Result<Vec<Item
 
 /// The payload of the operations that answer with an identifier alone.
 fn identifier_items(alloc: Global, uid: &Text) -> Result<Vec<Item>, NoMemory>
-    ensures { IfOk result (λ v. views v.items ≡ uid_item uid.now ∷ []) }
+    ensures { IfOk result (λ v. views v.items ≡ identifier_format.write uid.now) }
 {
     let uid = uid_item(alloc, uid)?;
     let items = vec![in alloc; uid]?;

@@ -2,12 +2,13 @@
 use Rattle.std.proofs.Common.{◌≡◌, drop}
 use Rattle.kmip_ttlv.specs.View.{views}
 use Rattle.kmip_fields.specs.Siblings.{contents}
-use Rattle.kmip_messages.specs.ReplyReading.{identifiers_in}
+use Rattle.kmip_fields.specs.Formats.{texts, values_in}
+use Rattle.kmip_objects.specs.Ranges.{is_identifier}
 use Rattle.kmip_messages.specs.declared.standard.TheConstants.{TAG_UNIQUE_IDENTIFIER}
 use Rattle.kmip_messages.proofs.IdentifierLemmas.{with_front}
 use Rattle.kmip_messages.proofs.reply_reading.identifiers_of.Given as goal
 
 abbrev pub invariant-loop-item : goal.invariant-loop-item
 invariant-loop-item l =
-    with_front l.uids.items (identifiers_in (contents TAG_UNIQUE_IDENTIFIER (views (drop l.item-index l.payload))))
-    ≡ identifiers_in (contents TAG_UNIQUE_IDENTIFIER (views l.payload))
+    with_front l.uids.items (values_in texts TAG_UNIQUE_IDENTIFIER is_identifier (contents TAG_UNIQUE_IDENTIFIER (views (drop l.item-index l.payload))))
+    ≡ values_in texts TAG_UNIQUE_IDENTIFIER is_identifier (contents TAG_UNIQUE_IDENTIFIER (views l.payload))
