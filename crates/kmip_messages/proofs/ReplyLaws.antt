@@ -1,9 +1,9 @@
 -- The formats of replies are good: what is read is what is said, and what is written says it again.
-use Rattle.std.proofs.Common.{◌≡◌, ℕ, ℤ, pos, Bool, true, false, List, [], ◌∷◌, Option, Some, None, IsTrue, ◌==◌, ◌&&◌, ◌||◌, refl, sym, ap, ◌∙◌}
+use Rattle.std.proofs.Common.{◌≡◌, ℕ, ℤ, Bool, true, false, List, [], ◌∷◌, Option, Some, None, ◌==◌, ◌&&◌, ◌||◌, refl, sym, ap, ◌∙◌}
 use Rattle.std.proofs.lemmas.Bool.{and_parts, eqb-true}
 use Rattle.std.specs.Option.{option_map_or}
 use Rattle.kmip_ttlv.specs.Node.{Node}
-use Rattle.kmip_fields.specs.Formats.{Format, integers, enumerations, texts, choose, Chosen}
+use Rattle.kmip_fields.specs.Formats.{integers, enumerations, texts, choose, Chosen}
 use Rattle.kmip_fields.specs.FormatLaws.{IsGood, IsPart}
 use Rattle.kmip_fields.proofs.ItemReads.{integer_kind, enumeration_kind, text_kind}
 use Rattle.kmip_fields.proofs.FormatParts.{required-part, optional-part, unread-part, repeated-part, structure-part, optional_structure-part, sole-part, ranged-part, as_record-good, said_record-part, as_case-part, both-part, reversed-part, left-part, right-part, fixed-part, followed-part, told_by-part, refusing-part, choose-part}
@@ -14,7 +14,7 @@ use Rattle.kmip_messages.specs.declared.reply.Outcome.TheVariants.{Created, Loca
 use Rattle.kmip_messages.specs.declared.reply.Reply.{Reply}
 use Rattle.kmip_messages.specs.declared.standard.TheConstants.{TAG_RESPONSE_PAYLOAD, TAG_RESULT_STATUS, TAG_RESULT_REASON, STATUS_SUCCESS, STATUS_OPERATION_FAILED, OPERATION_CREATE, OPERATION_LOCATE, OPERATION_GET_ATTRIBUTES, OPERATION_ACTIVATE, OPERATION_REVOKE, OPERATION_DESTROY}
 use Rattle.kmip_messages.specs.Fits.{is_own, outcome_fits, HasValuesInRange}
-use Rattle.kmip_messages.specs.Parts.{id_format, identifier_format, plain_format, count_format}
+use Rattle.kmip_messages.specs.Parts.{id_format, identifier_format}
 use Rattle.kmip_messages.specs.Ranges.{is_operation}
 use Rattle.kmip_messages.specs.ReplyFormats.{any_name_parts_format, attrs_format, in_created, in_located, in_attributes, in_activated, in_revoked, in_destroyed, in_failed, created_format, identifiers_format, object_format, answer_format, located_format, succeeded, success_of_format, success_format, failed_format, is_status, status_of, outcome_format, any_version_parts_format, reply_header_parts_format, reply_header_format, answered_format, reply_format}
 use Rattle.kmip_messages.proofs.Readers.{id_part, identifier_part, plain_part, count_part, attrs_with-part}
@@ -233,10 +233,14 @@ reply-good now = (right-part _ _ refl (reply_header-part now) (sole-part _ _ ans
 both : (a b : Bool) → a ≡ true → b ≡ true → (a && b) ≡ true
 both a b p q = rw (p, q) refl
 
+name_fits_any : (o : Option (List ℕ)) → option_map_or any_name_parts_format.fits o true ≡ true
+unfolding any_name_parts_format
+name_fits_any None = refl
+name_fits_any (Some text) = refl
+
 attrs_fit_any : (a : Attrs) → attrs_format.fits a ≡ true
-unfolding attrs_format any_name_parts_format
-attrs_fit_any (record { name = None }) = refl
-attrs_fit_any (record { name = Some text }) = refl
+unfolding attrs_format
+attrs_fit_any a = both (option_map_or any_name_parts_format.fits a.name true) true (name_fits_any a.name) refl
 
 payload_fits : (o : Outcome) (asked : Option ℕ) → outcome_fits asked o ≡ true → (outcome_format asked).fits o ≡ true
 unfolding outcome_format success_format success_of_format answer_format located_format identifiers_format created_format object_format identifier_format failed_format

@@ -1,6 +1,6 @@
 -- What the formats of replies say is what specs/Replies says by hand, in both directions; so a reply is read just where an item is
 -- it, and its written form is it.
-use Rattle.std.proofs.Common.{◌≡◌, ℕ, ℤ, pos, true, List, [], Option, Some, None, IsTrue, refl, sym, ap, subst, ◌∙◌}
+use Rattle.std.proofs.Common.{◌≡◌, ℕ, ℤ, pos, List, [], Option, Some, None, IsTrue, refl, sym, ap, subst}
 use Rattle.std.proofs.lemmas.Bool.{and_parts}
 use Rattle.std.proofs.lemmas.Bool.Decides.{Decides-int_eq}
 use Rattle.std.specs.Option.{option_map, option_map_or}
@@ -13,9 +13,9 @@ use Rattle.kmip_objects.specs.declared.attributes.Attrs.{Attrs}
 use Rattle.kmip_messages.specs.declared.reply.Outcome.{Outcome}
 use Rattle.kmip_messages.specs.declared.reply.Outcome.TheVariants.{Created, Located, Attributes, Activated, Revoked, Destroyed, Failed}
 use Rattle.kmip_messages.specs.declared.reply.Reply.{Reply}
-use Rattle.kmip_messages.specs.declared.standard.TheConstants.{TAG_RESPONSE_MESSAGE, TAG_PROTOCOL_VERSION_MAJOR, TAG_NAME, TAG_NAME_VALUE, TAG_RESPONSE_PAYLOAD, VERSION_MAJOR, NAME_TYPE_UNINTERPRETED_TEXT_STRING}
+use Rattle.kmip_messages.specs.declared.standard.TheConstants.{TAG_RESPONSE_MESSAGE, TAG_PROTOCOL_VERSION_MAJOR, TAG_NAME, TAG_RESPONSE_PAYLOAD, VERSION_MAJOR, NAME_TYPE_UNINTERPRETED_TEXT_STRING}
 use Rattle.kmip_messages.specs.Fits.{reply_fits}
-use Rattle.kmip_messages.specs.Replies.{IsReplyHeader, IsReplyBatch, AreIdentifiers, IsAnyName, IsNameIfAny, AreAttrs, IsObject, AreFound, IsOutcome, IsReply}
+use Rattle.kmip_messages.specs.Replies.{IsNameIfAny, AreAttrs, IsObject, AreFound, IsOutcome, IsReply}
 use Rattle.kmip_messages.specs.ReplyFormats.{any_name_parts_format, attrs_format, created_format, identifiers_format, object_format, answer_format, located_format, success_of_format, success_format, failed_format, outcome_format, any_version_parts_format, reply_header_parts_format, reply_header_format, answered_format, reply_format}
 use Rattle.kmip_messages.specs.ReplyReading.{reply_at}
 use Rattle.kmip_messages.specs.Written.{reply_item}
@@ -170,12 +170,18 @@ pub is_reply : (r : Reply) (now : ℤ) (n : Node) → IsReply r n
 unfolding reply_format reply_header_format reply_header_parts_format any_version_parts_format answered_format
 is_reply r now n p =
     let batch = p.is_batch in
-    let header = batch.is_header in
-    let version = (header.version, header.has_version, ((VERSION_MAJOR, header.minor), (header.has_major, header.has_minor), refl)) in (
+    let header = batch.is_header in (
       batch.message,
       batch.is_message,
       (
-        (batch.header, batch.has_header, (version, (tt, (pos 1, header.has_count, refl)))),
+        (
+          batch.header,
+          batch.has_header,
+          (
+            (header.version, header.has_version, ((VERSION_MAJOR, header.minor), (header.has_major, header.has_minor), refl)),
+            (tt, (pos 1, header.has_count, refl)),
+          ),
+        ),
         (p.batch, batch.has_batch, ((p.operation, is_id p.batch r.id p.id), is_outcome p.batch r.operation r.outcome p.outcome)),
       ),
     )

@@ -15,7 +15,7 @@ use Rattle.kmip_objects.specs.declared.standard.TheConstants.{OBJECT_TYPE_SYMMET
 use Rattle.kmip_messages.specs.declared.request.Ask.{Ask}
 use Rattle.kmip_messages.specs.declared.request.Ask.TheVariants.{Create, Locate, GetAttributes, Activate, Revoke, Destroy}
 use Rattle.kmip_messages.specs.declared.request.Request.{Request}
-use Rattle.kmip_messages.specs.declared.standard.TheConstants.{TAG_REQUEST_MESSAGE, TAG_OPERATION, TAG_PROTOCOL_VERSION_MAJOR, TAG_PROTOCOL_VERSION_MINOR, TAG_BATCH_COUNT, TAG_OBJECT_TYPE, TAG_NAME_TYPE, VERSION_MAJOR, VERSION_MINOR, NAME_TYPE_UNINTERPRETED_TEXT_STRING}
+use Rattle.kmip_messages.specs.declared.standard.TheConstants.{TAG_REQUEST_MESSAGE, TAG_OPERATION, TAG_PROTOCOL_VERSION_MAJOR, TAG_PROTOCOL_VERSION_MINOR, TAG_OBJECT_TYPE, VERSION_MAJOR, VERSION_MINOR, NAME_TYPE_UNINTERPRETED_TEXT_STRING}
 use Rattle.kmip_messages.specs.Operations.{operation_of}
 use Rattle.kmip_messages.specs.RequestFits.{request_fits}
 use Rattle.kmip_messages.specs.RequestFormats.{name_parts_format, name_format, key_attrs_format, filter_format, create_format, locate_format, reason_format, revoke_format, payload_format, version_parts_format, header_parts_format, header_format, known_format, asked_format, item_format, known_in_format, message_format}

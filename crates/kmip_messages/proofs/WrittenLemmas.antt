@@ -1,5 +1,5 @@
 -- Written messages: how deep, how long, and of whole groups.
-use Rattle.std.proofs.Common.{◌≡◌, ℕ, ◌+◌, ◌≤◌, ℤ, pos, true, false, List, [], ◌∷◌, ◌++◌, length, map, Option, Some, None, IsTrue, nat_le, refl, sym, subst, ap, ◌∙◌, inl, inr, arith}
+use Rattle.std.proofs.Common.{◌≡◌, ℕ, ◌+◌, ◌≤◌, ℤ, pos, true, false, List, [], ◌∷◌, ◌++◌, length, Option, Some, None, IsTrue, nat_le, refl, sym, subst, ap, ◌∙◌, inl, inr, arith}
 use Rattle.kmip_ttlv.specs.Node.{Node, node, enumeration, integer, byte_string, nodes_of}
 use Rattle.kmip_ttlv.specs.Fitting.{HasWholeGroups, HaveWholeGroups, depth, depths}
 use Rattle.kmip_ttlv.specs.Sizes.{size, sizes, IsWritable}

@@ -1,9 +1,9 @@
 -- Each part of a request, described once: how it is written, how it is read, in which order of checks, and what it says.
 -- Source: KMIP 2.1, Message Structure (Request Message), Operations (Create, Locate, Get Attributes, Activate, Revoke,
 -- Destroy) and Object Attributes; the ranges, the order of optional items and the order of the checks are own.
-use Rattle.std.specs.Prelude.{ℕ, ℤ, pos, ◌==◌, ◌&&◌, List, [], ◌∷◌, Option, Some, None}
+use Rattle.std.specs.Prelude.{ℕ, ℤ, ◌==◌, ◌&&◌, List, [], ◌∷◌, Option, Some, None}
 use Rattle.std.specs.Ordering.{int_eq}
-use Rattle.kmip_fields.specs.declared.fault.MessageFault.TheVariants.{Version, BatchCount, OutOfRange, UnknownOperation}
+use Rattle.kmip_fields.specs.declared.fault.MessageFault.TheVariants.{Version, OutOfRange, UnknownOperation}
 use Rattle.kmip_fields.specs.Formats.{Format, integers, enumerations, texts, required, optional, structure_of, sole_structure_of, ranged, fixed, present, as_record, as_case, ◌⊗◌, ◌⊗ʳ◌, ◌◁◌, ◌▷◌, followed, closed, refusing, choose}
 use Rattle.kmip_objects.specs.declared.attributes.KeyAttrs.{KeyAttrs}
 use Rattle.kmip_objects.specs.declared.attributes.Attrs.{Attrs}
@@ -12,7 +12,7 @@ use Rattle.kmip_objects.specs.Ranges.{is_name, is_algorithm, is_length, is_usage
 use Rattle.kmip_messages.specs.declared.request.Ask.{Ask}
 use Rattle.kmip_messages.specs.declared.request.Ask.TheVariants.{Create, Locate, GetAttributes, Activate, Revoke, Destroy}
 use Rattle.kmip_messages.specs.declared.request.Request.{Request}
-use Rattle.kmip_messages.specs.declared.standard.TheConstants.{TAG_REQUEST_HEADER, TAG_PROTOCOL_VERSION, TAG_PROTOCOL_VERSION_MAJOR, TAG_PROTOCOL_VERSION_MINOR, TAG_BATCH_COUNT, TAG_BATCH_ITEM, TAG_OPERATION, TAG_REQUEST_PAYLOAD, TAG_OBJECT_TYPE, TAG_ATTRIBUTES, TAG_NAME, TAG_NAME_VALUE, TAG_NAME_TYPE, TAG_CRYPTOGRAPHIC_ALGORITHM, TAG_CRYPTOGRAPHIC_LENGTH, TAG_CRYPTOGRAPHIC_USAGE_MASK, TAG_STATE, TAG_STORAGE_STATUS_MASK, TAG_REVOCATION_REASON, TAG_REVOCATION_REASON_CODE, VERSION_MAJOR, VERSION_MINOR, NAME_TYPE_UNINTERPRETED_TEXT_STRING, OPERATION_CREATE, OPERATION_LOCATE, OPERATION_GET_ATTRIBUTES, OPERATION_ACTIVATE, OPERATION_REVOKE}
+use Rattle.kmip_messages.specs.declared.standard.TheConstants.{TAG_REQUEST_HEADER, TAG_PROTOCOL_VERSION, TAG_PROTOCOL_VERSION_MAJOR, TAG_PROTOCOL_VERSION_MINOR, TAG_BATCH_ITEM, TAG_OPERATION, TAG_REQUEST_PAYLOAD, TAG_OBJECT_TYPE, TAG_ATTRIBUTES, TAG_NAME, TAG_NAME_VALUE, TAG_CRYPTOGRAPHIC_ALGORITHM, TAG_CRYPTOGRAPHIC_LENGTH, TAG_CRYPTOGRAPHIC_USAGE_MASK, TAG_STORAGE_STATUS_MASK, TAG_REVOCATION_REASON, TAG_REVOCATION_REASON_CODE, VERSION_MAJOR, VERSION_MINOR, OPERATION_CREATE, OPERATION_LOCATE, OPERATION_GET_ATTRIBUTES, OPERATION_ACTIVATE, OPERATION_REVOKE}
 use Rattle.kmip_messages.specs.Operations.{operation_of}
 use Rattle.kmip_messages.specs.Parts.{id_format, identifier_format, count_format, plain_format, attrs_with}
 use Rattle.kmip_messages.specs.Ranges.{is_operation}

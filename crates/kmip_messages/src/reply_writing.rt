@@ -140,7 +140,7 @@ fn push_success(items: &mut Vec<Item>, payload: Vec<Item>) -> Result<(), NoMemor
 }
 
 /// The payload of a Create.
-#[tactic(auto, unfolding(crate::specs::ReplyFormats::created_format))]
+#[tactic(auto, unfolding(crate::specs::ReplyFormats::created_format, crate::specs::Parts::identifier_format))]
 fn created_items(alloc: Global, uid: &Text) -> Result<Vec<Item>, NoMemory>
     ensures { IfOk result (λ v. views v.items ≡ created_format.write uid.now) }
 {
@@ -164,7 +164,7 @@ fn located_items(alloc: Global, uids: &[Text]) -> Result<Vec<Item>, NoMemory>
 }
 
 /// The payload of a Get Attributes.
-#[tactic(auto, unfolding(crate::specs::ReplyFormats::object_format))]
+#[tactic(auto, unfolding(crate::specs::ReplyFormats::object_format, crate::specs::Parts::identifier_format))]
 fn attributes_items(alloc: Global, uid: &Text, attrs: &Attrs) -> Result<Vec<Item>, NoMemory>
     ensures { IfOk result (λ v. views v.items
         ≡ object_format.write (uid.now, attrs.now)) }
@@ -176,6 +176,7 @@ fn attributes_items(alloc: Global, uid: &Text, attrs: &Attrs) -> Result<Vec<Item
 }
 
 /// The payload of the operations that answer with an identifier alone.
+#[tactic(auto, unfolding(crate::specs::Parts::identifier_format))]
 fn identifier_items(alloc: Global, uid: &Text) -> Result<Vec<Item>, NoMemory>
     ensures { IfOk result (λ v. views v.items ≡ identifier_format.write uid.now) }
 {

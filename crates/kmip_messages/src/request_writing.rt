@@ -64,7 +64,7 @@ fn message_item(alloc: Global, request: &Request) -> Result<Item, NoMemory>
 }
 
 /// The Request Header: version 2.1, and one Batch Item.
-#[tactic(auto, unfolding(crate::specs::RequestFormats::header_parts_format, crate::specs::RequestFormats::version_parts_format))]
+#[tactic(auto, unfolding(crate::specs::RequestFormats::header_parts_format, crate::specs::RequestFormats::version_parts_format, crate::specs::ReplyFormats::any_version_parts_format))]
 fn header_item(alloc: Global) -> Result<Item, NoMemory>
     ensures { IfOk result (λ i. view i
         ≡ node TAG_REQUEST_HEADER (inside (header_parts_format.write tt))) }
@@ -131,7 +131,7 @@ fn create_items(alloc: Global, attrs: &KeyAttrs) -> Result<Vec<Item>, NoMemory>
 }
 
 /// The Attributes of a new key.
-#[tactic(auto, unfolding(crate::specs::RequestFormats::key_attrs_format, crate::specs::RequestFormats::name_parts_format))]
+#[tactic(auto, unfolding(crate::specs::RequestFormats::key_attrs_format, crate::specs::RequestFormats::name_parts_format, crate::specs::ReplyFormats::any_name_parts_format))]
 fn key_attrs_item(alloc: Global, attrs: &KeyAttrs) -> Result<Item, NoMemory>
     ensures { IfOk result (λ i. view i
         ≡ node TAG_ATTRIBUTES (inside (key_attrs_format.write attrs.now))) }
@@ -145,7 +145,7 @@ fn key_attrs_item(alloc: Global, attrs: &KeyAttrs) -> Result<Item, NoMemory>
 }
 
 /// The payload of a Locate.
-#[tactic(auto, unfolding(crate::specs::RequestFormats::locate_format, crate::specs::RequestFormats::filter_format, crate::specs::RequestFormats::name_parts_format))]
+#[tactic(auto, unfolding(crate::specs::RequestFormats::locate_format, crate::specs::RequestFormats::filter_format, crate::specs::RequestFormats::name_parts_format, crate::specs::ReplyFormats::attrs_format, crate::specs::ReplyFormats::any_name_parts_format))]
 fn locate_items(alloc: Global, mask: Option<i32>, filter: &Attrs) -> Result<Vec<Item>, NoMemory>
     ensures { IfOk result (λ v. views v.items ≡ locate_format.write (Locate mask filter.now)) }
 {

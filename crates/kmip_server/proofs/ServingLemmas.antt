@@ -1,29 +1,29 @@
 -- Refusals that are answered, and how long a reply of Get Attributes is.
-use Rattle.std.proofs.Common.{◌≡◌, ◌≢◌, ◌≤◌, ◌&&◌, ◌==◌, ℕ, pos, Bool, true, false, List, length, Some, Result, Ok, Err, IfOk, OnOk, IsSome, IsTrue, refl, ap, arith}
+use Rattle.std.proofs.Common.{◌≡◌, ◌≢◌, ◌≤◌, ◌&&◌, ◌==◌, ℕ, ◌+◌, Bool, Option, true, false, List, length, Some, Result, Ok, Err, IfOk, OnOk, IsSome, IsTrue, refl, ap, arith}
 use Rattle.std.specs.Option.{option_map_or}
-use Rattle.std.proofs.lemmas.Bool.{and_parts, le-leb, lt-ltb, le-ltb}
-use Rattle.kmip_ttlv.specs.Sizes.{size}
+use Rattle.std.proofs.lemmas.Bool.{and_parts, lt-ltb, le-ltb}
 use Rattle.kmip_fields.specs.declared.fault.MessageFault.{MessageFault}
 use Rattle.kmip_fields.specs.declared.fault.MessageFault.TheVariants as faults
 use Rattle.kmip_messages.specs.declared.refusal.Refusal.{Refusal}
 use Rattle.kmip_objects.specs.declared.attributes.Attrs.{Attrs}
 use Rattle.kmip_objects.specs.declared.attributes.KeyAttrs.{KeyAttrs}
 use Rattle.kmip_messages.specs.declared.request.Request.{Request}
-use Rattle.kmip_messages.specs.declared.reply.Outcome.TheVariants.{Attributes}
+use Rattle.kmip_messages.specs.declared.reply.Outcome.{Outcome}
+use Rattle.kmip_messages.specs.declared.reply.Outcome.TheVariants.{Attributes, Failed}
 use Rattle.kmip_messages.specs.declared.reply.Reply.{Reply}
 use Rattle.kmip_messages.specs.declared.standard.TheConstants.{OPERATION_GET_ATTRIBUTES}
-use Rattle.kmip_messages.specs.Fits.{reply_fits}
-use Rattle.kmip_messages.specs.MessageSizes.{number_size, attrs_size}
+use Rattle.kmip_messages.specs.Fits.{outcome_fits, reply_fits}
+use Rattle.kmip_messages.specs.MessageSizes.{text_size, attrs_size, outcome_size}
 use Rattle.kmip_objects.specs.Objects.{Object}
 use Rattle.kmip_objects.specs.Ranges.{attrs_fit, is_identifier}
 use Rattle.kmip_messages.specs.Ranges.{is_batch_id}
 use Rattle.kmip_messages.specs.RequestReading.{RefusalIs}
-use Rattle.kmip_messages.specs.Written.{reply_item}
-use Rattle.kmip_messages.proofs.ForCallers.{size-reply, id_bound, text_bound}
+use Rattle.kmip_messages.proofs.ForCallers.{short_fits, number_bound, text_bound}
 use Rattle.kmip_objects.proofs.ForCallers.{name_length, uid_length}
 use Rattle.kmip_store.specs.declared.fault.StoreFault.{StoreFault}
 use Rattle.kmip_store.specs.declared.fault.StoreFault.TheVariants.{NotFound, SameName, WrongState, Full, NoMemory}
 use Rattle.kmip_store.specs.Stock.{Stock, MayRefuse, stock_with, create}
+use Rattle.kmip_server.specs.Answering.{with_outcome}
 use Rattle.kmip_server.specs.Reasons.{message_reason}
 use Rattle.kmip_server.specs.Serving.{attributes_of}
 
@@ -74,15 +74,25 @@ created_made attrs s uid h = rw (h.0, lt-ltb (length s.rows) s.room h.1) refl
 both : {a b : Bool} → a ≡ true → b ≡ true → (a && b) ≡ true
 both h k = rw (h, k) refl
 
+-- ---- the replies are not too long
+
+-- a failure, with its reason
+pub failure_fits : (r : Reply) (reason : Option ℕ) → IsTrue (option_map_or is_batch_id r.id true) → IsTrue (reply_fits (with_outcome r (Failed reason)))
+failure_fits r reason marked = short_fits (with_outcome r (Failed reason)) marked refl (omega (arith, number_bound reason))
+
+-- a success that tells the identifier alone
+pub identified_fits : (r : Reply) (o : Outcome) (uid : List ℕ) → IsTrue (option_map_or is_batch_id r.id true) → IsTrue (outcome_fits r.operation o)
+    → IsTrue (is_identifier uid) → outcome_size o ≤ 40 + text_size uid → IsTrue (reply_fits (with_outcome r o))
+identified_fits r o uid marked own identified short =
+    short_fits (with_outcome r o) marked own (omega (arith, short, text_bound uid 64 (uid_length uid identified)))
+
 -- the reply of Get Attributes is not too long
 pub attributes_fit : (r : Reply) (uid : List ℕ) (a : Attrs) (asked : List ℕ) (o : Object) → uid ≡ asked → a ≡ attributes_of o
     → IsTrue (option_map_or is_batch_id r.id true) → r.operation ≡ Some OPERATION_GET_ATTRIBUTES
     → IsTrue (is_identifier asked) → IsTrue (attrs_fit o.attrs) → IsTrue (reply_fits (record { operation = r.operation; id = r.id; outcome = Attributes uid a }))
 attributes_fit r uid a asked o is are marked own identified fits =
     let name = name_length o.attrs.name (and_parts _ _ (and_parts _ _ (and_parts _ _ fits).0).0).0 in
-    let reply : Reply = record { operation = r.operation; id = r.id; outcome = Attributes uid a } in
-    let short : size (reply_item reply (pos 0)) ≤ 8192 =
-    omega (arith, size-reply reply (pos 0), id_bound r.id marked, text_bound uid 64 (uid_length uid (rw is identified)), text_bound o.attrs.name 64 name, ap number_size own, ap attrs_size are) in
     let under : option_map_or (λ operation. operation == OPERATION_GET_ATTRIBUTES) r.operation false ≡ true = rw own refl in
     let named : is_identifier uid ≡ true = rw is identified in
-    both (both marked (both under named)) (le-leb (size (reply_item reply (pos 0))) 8192 short)
+    short_fits (with_outcome r (Attributes uid a)) marked (both under named)
+    (omega (arith, text_bound uid 64 (uid_length uid named), text_bound o.attrs.name 64 name, ap attrs_size are))
