@@ -1,7 +1,7 @@
 -- Refusals that are answered, and how long a reply of Get Attributes is.
-use Rattle.std.proofs.Common.{◌≡◌, ◌≢◌, ◌≤◌, ◌&&◌, ◌==◌, ℕ, ◌+◌, Bool, Option, true, false, List, length, Some, Result, Ok, Err, IfOk, OnOk, IsSome, IsTrue, refl, ap, arith}
-use Rattle.std.specs.Option.{option_map_or}
-use Rattle.std.proofs.lemmas.Bool.{and_parts, lt-ltb, le-ltb}
+use Rattle.std.proofs.Common.{◌≡◌, ◌≢◌, ◌≤◌, ◌&&◌, ◌==◌, ℕ, ◌+◌, Bool, true, false, List, [], ◌∷◌, length, Option, Some, None, Result, Ok, Err, IfOk, OnOk, IfSome, IsSome, IsTrue, refl, sym, ap, subst, ◌∙◌, arith}
+use Rattle.std.specs.Option.{option_map_or, option_to_list}
+use Rattle.std.proofs.lemmas.Bool.{and_parts, eq-eqb, lt-ltb, le-ltb}
 use Rattle.kmip_fields.specs.declared.fault.MessageFault.{MessageFault}
 use Rattle.kmip_fields.specs.declared.fault.MessageFault.TheVariants as faults
 use Rattle.kmip_messages.specs.declared.refusal.Refusal.{Refusal}
@@ -9,10 +9,10 @@ use Rattle.kmip_objects.specs.declared.attributes.Attrs.{Attrs}
 use Rattle.kmip_objects.specs.declared.attributes.KeyAttrs.{KeyAttrs}
 use Rattle.kmip_messages.specs.declared.request.Request.{Request}
 use Rattle.kmip_messages.specs.declared.reply.Outcome.{Outcome}
-use Rattle.kmip_messages.specs.declared.reply.Outcome.TheVariants.{Attributes, Failed}
+use Rattle.kmip_messages.specs.declared.reply.Outcome.TheVariants.{Located, Attributes, Failed}
 use Rattle.kmip_messages.specs.declared.reply.Reply.{Reply}
-use Rattle.kmip_messages.specs.declared.standard.TheConstants.{OPERATION_GET_ATTRIBUTES}
-use Rattle.kmip_messages.specs.Fits.{outcome_fits, reply_fits}
+use Rattle.kmip_messages.specs.declared.standard.TheConstants.{OPERATION_LOCATE, OPERATION_GET_ATTRIBUTES}
+use Rattle.kmip_messages.specs.Fits.{is_own, outcome_fits, reply_fits}
 use Rattle.kmip_messages.specs.MessageSizes.{text_size, attrs_size, outcome_size}
 use Rattle.kmip_objects.specs.Objects.{Object}
 use Rattle.kmip_objects.specs.Ranges.{attrs_fit, is_identifier}
@@ -80,11 +80,32 @@ both h k = rw (h, k) refl
 pub failure_fits : (r : Reply) (reason : Option ℕ) → IsTrue (option_map_or is_batch_id r.id true) → IsTrue (reply_fits (with_outcome r (Failed reason)))
 failure_fits r reason marked = short_fits (with_outcome r (Failed reason)) marked refl (omega (arith, number_bound reason))
 
+is_own_of : (operation : ℕ) (asked : Option ℕ) → asked ≡ Some operation → is_own operation asked ≡ true
+is_own_of operation asked own = subst (λ o. is_own operation o ≡ true) (sym own) (eq-eqb operation operation refl)
+
 -- a success that tells the identifier alone
-pub identified_fits : (r : Reply) (o : Outcome) (uid : List ℕ) → IsTrue (option_map_or is_batch_id r.id true) → IsTrue (outcome_fits r.operation o)
-    → IsTrue (is_identifier uid) → outcome_size o ≤ 40 + text_size uid → IsTrue (reply_fits (with_outcome r o))
-identified_fits r o uid marked own identified short =
-    short_fits (with_outcome r o) marked own (omega (arith, short, text_bound uid 64 (uid_length uid identified)))
+pub told_fits : (r : Reply) (operation : ℕ) (make : List ℕ → Outcome) (uid asked : List ℕ)
+    → ((u : List ℕ) → outcome_fits r.operation (make u) ≡ (is_own operation r.operation && is_identifier u))
+    → ((u : List ℕ) → outcome_size (make u) ≤ 40 + text_size u) → IsTrue (option_map_or is_batch_id r.id true) → r.operation ≡ Some operation
+    → uid ≡ asked → IsTrue (is_identifier asked) → IsTrue (reply_fits (with_outcome r (make uid)))
+told_fits r operation make uid asked fits short marked own is identified =
+    let named : is_identifier uid ≡ true = rw is identified in
+    short_fits (with_outcome r (make uid)) marked (fits uid ∙ both (is_own_of operation r.operation own) named)
+    (omega (arith, short uid, text_bound uid 64 (uid_length uid named)))
+
+located_one : (r : Reply) (found : Option (List ℕ)) → IsTrue (option_map_or is_batch_id r.id true) → r.operation ≡ Some OPERATION_LOCATE
+    → IfSome found (λ uid. IsTrue (is_identifier uid)) → IsTrue (reply_fits (with_outcome r (Located (option_to_list found))))
+located_one r None marked own identified =
+    short_fits (with_outcome r (Located [])) marked (both (is_own_of OPERATION_LOCATE r.operation own) refl) (omega arith)
+located_one r (Some uid) marked own identified =
+    short_fits (with_outcome r (Located (uid ∷ []))) marked (both (is_own_of OPERATION_LOCATE r.operation own) (both identified refl))
+    (omega (arith, text_bound uid 64 (uid_length uid identified)))
+
+-- a Locate's success, of one object at most
+pub located_fits : (r : Reply) (uids : List (List ℕ)) (found : Option (List ℕ)) → IsTrue (option_map_or is_batch_id r.id true) → r.operation ≡ Some OPERATION_LOCATE
+    → uids ≡ option_to_list found → IfSome found (λ uid. IsTrue (is_identifier uid)) → IsTrue (reply_fits (with_outcome r (Located uids)))
+located_fits r uids found marked own is identified =
+    subst (λ all. IsTrue (reply_fits (with_outcome r (Located all)))) (sym is) (located_one r found marked own identified)
 
 -- the reply of Get Attributes is not too long
 pub attributes_fit : (r : Reply) (uid : List ℕ) (a : Attrs) (asked : List ℕ) (o : Object) → uid ≡ asked → a ≡ attributes_of o
