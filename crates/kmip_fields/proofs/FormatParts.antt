@@ -9,7 +9,7 @@ use Rattle.kmip_fields.specs.declared.fault.MessageFault.{MessageFault}
 use Rattle.kmip_fields.specs.Formats.{Format, Kind, inside, if_given, given, structures, required, optional, unread, repeated, structure_of, read_if_any, SaysIfAny, optional_structure, sole_structure_of, tested, ranged, fixed, present, as_record, as_case, ◌⊗◌, ◌⊗ʳ◌, ◌◁◌, ◌▷◌, followed, read_told, told_by, closed, refusing, choose}
 use Rattle.kmip_fields.specs.FormatLaws.{IsKind, IsGood, Agree, avoid, apart, IsPart}
 use Rattle.kmip_fields.specs.Siblings.{contents}
-use Rattle.kmip_fields.specs.Standing.{Once, AtMostOnce, HaveTags}
+use Rattle.kmip_fields.specs.Standing.{AtMostOnce, HaveTags}
 use Rattle.kmip_fields.proofs.ItemReads.{same_some, not_some, reads-guard, reads-the, reads-maybe, reads-values, reads-sole, reads-only, structure_kind}
 use Rattle.kmip_fields.proofs.TagLemmas.{contents_first, alone, alone_if_any, own_tag, given_has, first_has, second_has, both_have, agree_first, agree_second, agree_behind, agree_before}
 

@@ -19,19 +19,6 @@ pub contents-append : (tag : ℕ) (ms ns : List Node) → contents tag (ms ++ ns
 contents-append tag [] ns = refl
 contents-append tag (m ∷ ms) ns = rw (contents-append tag ms ns) (kept (tag_of m == tag) (content_of m) (contents tag ms) (contents tag ns))
 
-abbrev no_content : List Content
-no_content = []
-
-none_kept : (b : Bool) → no_content ≡ (if b then no_content else no_content)
-none_kept true = refl
-none_kept false = refl
-
--- an item that is written where there is a value
-pub contents-given : {A : Type 0} (tag own : ℕ) (make : A → Content) (o : Option A)
-    → contents tag (given (λ a. node own (make a)) o) ≡ (if own == tag then if_any (option_map make o) else [])
-contents-given tag own make None = none_kept (own == tag)
-contents-given tag own make (Some a) = refl
-
 -- an item of its own tag before others, and alone
 pub contents_first : (tag : ℕ) (c : Content) (ns : List Node) → contents tag (node tag c ∷ ns) ≡ c ∷ contents tag ns
 contents_first tag c ns = ap (λ b. if b then c ∷ contents tag ns else contents tag ns) (eq-eqb tag tag refl)

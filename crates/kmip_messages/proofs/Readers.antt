@@ -3,7 +3,7 @@ use Rattle.std.proofs.Common.{◌≡◌, ℕ, pos, true, List, [], ◌∷◌, �
 use Rattle.std.proofs.lemmas.Bool.{eqb-true, eq-eqb}
 use Rattle.std.proofs.lemmas.Bool.Decides.{Decides-int_eq}
 use Rattle.kmip_ttlv.specs.Node.{Node, node, Content, integer, enumeration, tag_of, content_of, as_structure}
-use Rattle.kmip_ttlv.proofs.ReadSteps.{Reads, err, same_ok, not_ok, reads-ok, reads-as}
+use Rattle.kmip_ttlv.proofs.ReadSteps.{Reads, same_ok, not_ok, reads-ok, reads-as}
 use Rattle.kmip_fields.specs.declared.fault.MessageFault.{MessageFault}
 use Rattle.kmip_fields.specs.declared.fault.MessageFault.TheVariants.{NotMessage}
 use Rattle.kmip_fields.specs.Formats.{Format, inside, integers, enumerations, texts, bytes}
@@ -15,10 +15,6 @@ use Rattle.kmip_fields.specs.Standing.{Once}
 use Rattle.kmip_messages.specs.Marks.{IsMarked, IsIdentifier}
 use Rattle.kmip_messages.specs.Parts.{message_in, message_at, id_format, identifier_format, count_format, plain_format, attrs_with}
 use Rattle.kmip_messages.specs.RequestReading.{refused, carrying}
-
--- a fault
-pub reads-err : {E A : Type 0} (e : E) → Reads (err E A e) (λ a. ⊥)
-reads-err e = record { sound = λ a is. not_ok e a is; complete = λ a never. absurd never }
 
 -- what a refusal carries does not matter
 pub reads-refused : {A : Type 0} (operation : Option ℕ) (id : Option (List ℕ)) (r : Result A MessageFault) (P : A → Type 0)

@@ -55,16 +55,6 @@ pub is_back : (bytes : List ℕ) (answer : Result Reply MessageFault) (r : Reply
 is_back bytes answer r now fits gives small range is =
     is_only bytes answer r (reply_item r now) fits gives (written_spells r now bytes small range is) (written_is_reply r now small)
 
-abbrev read_as : Reply → Result Reply MessageFault
-read_as r = Ok r
-
--- Bytes spell at most one reply.
-pub spell_one : (bytes : List ℕ) (r s : Reply) → SpellReply bytes r → SpellReply bytes s → r ≡ s
-spell_one bytes r s h k = same_read r s (sym (reply_read-again bytes r h) ∙ reply_read-again bytes s k)
-  where
-    same_read : (r s : Reply) → read_as r ≡ read_as s → r ≡ s
-    same_read r s e = cc
-
 -- What was written is spelled.
 pub written_spell : (r : Reply) (now : ℤ) → IsTrue (reply_fits r) → IsInRange (reply_item r now) → SpellReply (canon (reply_item r now)) r
 written_spell r now fits range = (reply_item r now, written_spells r now (canon (reply_item r now)) fits range refl, written_is_reply r now fits)

@@ -19,12 +19,6 @@ use Rattle.kmip_messages.proofs.WholeLaws.{item_in-law, item_in-complete}
 use Rattle.kmip_messages.proofs.RequestSaid.{request-law, written_is}
 use Rattle.kmip_messages.proofs.WrittenLemmas.{request_writable}
 
-abbrev read_as : Request → Result Request Refusal
-read_as r = Ok r
-
-same_read : (r s : Request) → read_as r ≡ read_as s → r ≡ s
-same_read r s e = cc
-
 -- Bytes are read as a request just where they spell an item that is that request.
 pub request_read-law : (bytes : List ℕ) → IsBytes bytes → Reads (request_read bytes) (λ r. (n : Node) × Spells n bytes × IsRequest r n)
 unfolding request_read
@@ -35,10 +29,6 @@ pub request_read-complete : (bytes : List ℕ) (r : Request) (n : Node) → Spel
 unfolding request_read
 request_read-complete bytes r n spells is =
     ap (λ m. refused None None m >>= request_at) (item_in-complete bytes n spells) ∙ (request-law n).complete r is
-
--- No item is two requests.
-pub request_only : (r s : Request) (n : Node) → IsRequest r n → IsRequest s n → r ≡ s
-request_only r s n is other = same_read r s (sym ((request-law n).complete r is) ∙ (request-law n).complete s other)
 
 -- The written form of a request is spelled by its bytes.
 pub written_spells : (r : Request) → IsTrue (request_fits r) → IsInRange (request_item r) → Spells (request_item r) (canon (request_item r))

@@ -1,12 +1,11 @@
 -- Refusals that are answered, and how long a reply of Get Attributes is.
-use Rattle.std.proofs.Common.{◌≡◌, ◌≢◌, ◌≤◌, ◌&&◌, ◌==◌, ℕ, ◌+◌, Bool, true, false, List, [], ◌∷◌, length, Option, Some, None, Result, Ok, Err, IfOk, OnOk, IfSome, IsSome, IsTrue, refl, sym, ap, subst, ◌∙◌, arith}
+use Rattle.std.proofs.Common.{◌≡◌, ◌≤◌, ◌&&◌, ◌==◌, ℕ, ◌+◌, Bool, true, false, List, [], ◌∷◌, Option, Some, None, Result, Ok, Err, IfOk, OnOk, IfSome, IsSome, IsTrue, refl, sym, ap, subst, ◌∙◌, arith}
 use Rattle.std.specs.Option.{option_map_or, option_to_list}
-use Rattle.std.proofs.lemmas.Bool.{and_parts, eq-eqb, lt-ltb, le-ltb}
+use Rattle.std.proofs.lemmas.Bool.{and_parts, eq-eqb}
 use Rattle.kmip_fields.specs.declared.fault.MessageFault.{MessageFault}
 use Rattle.kmip_fields.specs.declared.fault.MessageFault.TheVariants as faults
 use Rattle.kmip_messages.specs.declared.refusal.Refusal.{Refusal}
 use Rattle.kmip_objects.specs.declared.attributes.Attrs.{Attrs}
-use Rattle.kmip_objects.specs.declared.attributes.KeyAttrs.{KeyAttrs}
 use Rattle.kmip_messages.specs.declared.request.Request.{Request}
 use Rattle.kmip_messages.specs.declared.reply.Outcome.{Outcome}
 use Rattle.kmip_messages.specs.declared.reply.Outcome.TheVariants.{Located, Attributes, Failed}
@@ -20,9 +19,6 @@ use Rattle.kmip_messages.specs.Ranges.{is_batch_id}
 use Rattle.kmip_messages.specs.RequestReading.{RefusalIs}
 use Rattle.kmip_messages.proofs.ForCallers.{short_fits, number_bound, text_bound}
 use Rattle.kmip_objects.proofs.ForCallers.{name_length, uid_length}
-use Rattle.kmip_store.specs.declared.fault.StoreFault.{StoreFault}
-use Rattle.kmip_store.specs.declared.fault.StoreFault.TheVariants.{NotFound, SameName, WrongState, Full, NoMemory}
-use Rattle.kmip_store.specs.Stock.{Stock, MayRefuse, stock_with, create}
 use Rattle.kmip_server.specs.Answering.{with_outcome}
 use Rattle.kmip_server.specs.Reasons.{message_reason}
 use Rattle.kmip_server.specs.Serving.{attributes_of}
@@ -53,23 +49,6 @@ refusal_is faults.NoMemory refusal read h some = cc
 pub refusal_read : (refusal : Refusal) (read : Result Request Refusal) → RefusalIs refusal.fault refusal read
     → IsSome (message_reason refusal.fault) → read ≡ Err refusal
 refusal_read refusal read h some = refusal_is refusal.fault refusal read h some
-
-refused : (attrs : KeyAttrs) (s : Stock) (fault : StoreFault) → MayRefuse {A = List ℕ} attrs.name s (Err fault) → fault ≢ NoMemory
-    → create attrs s ≡ Err fault
-refused attrs s NotFound h other = absurd h
-refused attrs s SameName h other = rw h refl
-refused attrs s WrongState h other = absurd h
-refused attrs s Full h other = rw (h.0, le-ltb (length s.rows) s.room h.1) refl
-refused attrs s NoMemory h other = absurd (other refl)
-
--- a Create that is refused, and not for want of memory, is refused by its definition
-pub created_refused : (attrs : KeyAttrs) (s : Stock) (fault : StoreFault) → MayRefuse {A = List ℕ} attrs.name s (Err fault) → fault ≢ NoMemory
-    → create attrs s ≡ Err fault
-created_refused attrs s fault h other = refused attrs s fault h other
-
--- and one that is made, is made by it
-pub created_made : (attrs : KeyAttrs) (s : Stock) (uid : List ℕ) → MayRefuse attrs.name s (Ok uid) → create attrs s ≡ Ok (stock_with attrs s)
-created_made attrs s uid h = rw (h.0, lt-ltb (length s.rows) s.room h.1) refl
 
 both : {a b : Bool} → a ≡ true → b ≡ true → (a && b) ≡ true
 both h k = rw (h, k) refl
