@@ -72,20 +72,33 @@ fn asks_first(rt: &impl Abort, alloc: Global, client: &mut Client<'_>) -> Result
     Ok(())
 }
 
-/// What a fresh client hears in the reply of a row, what it knows then, and what it asks next.
+/// What a client says to a reply, what it then knows, and what it asks, which is this question if any.
+fn told_by(
+    rt: &impl Abort,
+    alloc: Global,
+    client: &mut Client<'_>,
+    bytes: &[u8],
+    question: &str,
+) -> Result<String, Fail> {
+    let said = heard(alloc, client, bytes)?;
+    let told = known(rt, alloc, client, 0)?;
+    let next = asked(alloc, client, question)?;
+    let text = format!(in alloc; "{}; {}; {}", said.as_str(), told.as_str(), next.as_str())?;
+    Ok(text)
+}
+
+/// A fresh client hears the reply of a row.
 fn hears_first(rt: &impl Abort, alloc: Global, plan: &Plan, row: &str) -> Result<(), Fail> {
     let (reply, wanted) = row.split_once(" => ").ok_or("a row")?;
-    let (wanted, rest) = wanted.split_once("; ").ok_or("what is said")?;
-    let (wanted_known, next) = rest.split_once("; ").ok_or("what is known")?;
-    let mut client = Client::fresh(alloc, plan)?;
+    let question = if wanted.ends_with("; 0 8") {
+        LOCATE_K1
+    } else {
+        ""
+    };
     let bytes = message_of(alloc, reply)?;
-    let said = heard(alloc, &mut client, bytes.as_slice())?;
-    assert_eq!(rt; said.as_str(), wanted, "{row}");
-    let told = known(rt, alloc, &client, 0)?;
-    assert_eq!(rt; told.as_str(), wanted_known, "{row}");
-    let first = if next == "0 8" { LOCATE_K1 } else { "" };
-    let question = asked(alloc, &mut client, first)?;
-    assert_eq!(rt; question.as_str(), next, "{row}");
+    let mut client = Client::fresh(alloc, plan)?;
+    let told = told_by(rt, alloc, &mut client, bytes.as_slice(), question)?;
+    assert_eq!(rt; told.as_str(), wanted, "{row}");
     Ok(())
 }
 

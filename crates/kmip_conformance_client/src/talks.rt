@@ -194,6 +194,19 @@ fn take_turn(
     Ok(())
 }
 
+/// This is known of a key at the end of a talk.
+fn check_end(
+    rt: &impl Abort,
+    alloc: Global,
+    client: &Client<'_>,
+    key: usize,
+    wanted: &str,
+) -> Result<(), Fail> {
+    let told = known(rt, alloc, client, key)?;
+    assert_eq!(rt; told.as_str(), wanted, "key {key}");
+    Ok(())
+}
+
 /// Goes through the lines of a talk, and counts the keys that are looked at in the end.
 fn talk_through(
     rt: &impl Abort,
@@ -203,12 +216,12 @@ fn talk_through(
 ) -> Result<usize, Fail> {
     let mut key: usize = 0;
     for line in lines.lines() {
-        if let Some(wanted) = line.strip_prefix("end ") {
-            let told = known(rt, alloc, client, key)?;
-            assert_eq!(rt; told.as_str(), wanted, "key {key} of {lines}");
-            key = key.wrapping_add(1);
-        } else {
-            take_turn(rt, alloc, client, line)?;
+        match line.strip_prefix("end ") {
+            Some(wanted) => {
+                check_end(rt, alloc, client, key, wanted)?;
+                key = key.wrapping_add(1);
+            }
+            None => take_turn(rt, alloc, client, line)?,
         }
     }
     Ok(key)
