@@ -8,57 +8,56 @@ use kmip_ttlv::Text;
 use rand_chacha::ChaCha20Rng;
 use rand_core::{Rng, SeedableRng};
 use std::alloc::{AllocError, Global};
-use std::process::Abort;
 use std::test::Fail;
 
-/// The calls of a store with room for two objects, a row a line: the method, what it is given, and what
-/// it is answered. (As a table of rows they are dear to check.) The material is of the stream of ChaCha20
-/// under a key of zeros (RFC 8439, appendix A.1).
-const ROWS: &str = "\
-    count: => counted 0\n\
-    locate: a => located none\n\
-    find: 1 => found none\n\
-    activate: 1 => refused NotFound\n\
-    revoke: 1 => refused NotFound\n\
-    destroy: 1 => refused NotFound\n\
-    create: a => created 1\n\
-    create: a => refused SameName\n\
-    find: 1 => found 1 with 76b8e0ada0f13d90405d6ae55386bd28\n\
-    locate: a => located 1\n\
-    revoke: 1 => refused WrongState\n\
-    create: b => created 2\n\
-    create: c => refused Full\n\
-    create: b => refused SameName\n\
-    count: => counted 2\n\
-    find: 2 => found 2 with bdd219b8a08ded1aa836efcc8b770dc7\n\
-    find: 3 => found none\n\
-    find: 01 => found none\n\
-    locate: c => located none\n\
-    locate: b => located 2\n\
-    activate: 2 => moved\n\
-    activate: 2 => refused WrongState\n\
-    destroy: 2 => refused WrongState\n\
-    locate: b => located 2\n\
-    revoke: 2 => moved\n\
-    revoke: 2 => refused WrongState\n\
-    activate: 2 => refused WrongState\n\
-    find: 2 => found 2 with bdd219b8a08ded1aa836efcc8b770dc7\n\
-    destroy: 2 => moved\n\
-    destroy: 2 => refused WrongState\n\
-    find: 2 => found 2 with nothing\n\
-    locate: b => located none\n\
-    locate all: b => located 2\n\
-    create: b => refused SameName\n\
-    at: 1 => found 2 with nothing\n\
-    at: 0 => found 1 with 76b8e0ada0f13d90405d6ae55386bd28\n\
-    at: 2 => found none\n\
-    activate: 1 => moved\n\
-    destroy: 1 => refused WrongState\n\
-    count: => counted 2\n\
-    ";
+/// A call by its method and what it is given, and what it is answered.
+#[derive(Drop)]
+struct Row(&'static str, &'static str, &'static str);
 
-/// How many rows these are.
-const ROWS_COUNT: usize = 40;
+/// The calls of a store with room for two objects. The material is of the stream of ChaCha20 under a
+/// key of zeros (RFC 8439, appendix A.1).
+const ROWS: [Row; 40] = [
+    Row("count", "", "counted 0"),
+    Row("locate", "a", "located none"),
+    Row("find", "1", "found none"),
+    Row("activate", "1", "refused NotFound"),
+    Row("revoke", "1", "refused NotFound"),
+    Row("destroy", "1", "refused NotFound"),
+    Row("create", "a", "created 1"),
+    Row("create", "a", "refused SameName"),
+    Row("find", "1", "found 1 with 76b8e0ada0f13d90405d6ae55386bd28"),
+    Row("locate", "a", "located 1"),
+    Row("revoke", "1", "refused WrongState"),
+    Row("create", "b", "created 2"),
+    Row("create", "c", "refused Full"),
+    Row("create", "b", "refused SameName"),
+    Row("count", "", "counted 2"),
+    Row("find", "2", "found 2 with bdd219b8a08ded1aa836efcc8b770dc7"),
+    Row("find", "3", "found none"),
+    Row("find", "01", "found none"),
+    Row("locate", "c", "located none"),
+    Row("locate", "b", "located 2"),
+    Row("activate", "2", "moved"),
+    Row("activate", "2", "refused WrongState"),
+    Row("destroy", "2", "refused WrongState"),
+    Row("locate", "b", "located 2"),
+    Row("revoke", "2", "moved"),
+    Row("revoke", "2", "refused WrongState"),
+    Row("activate", "2", "refused WrongState"),
+    Row("find", "2", "found 2 with bdd219b8a08ded1aa836efcc8b770dc7"),
+    Row("destroy", "2", "moved"),
+    Row("destroy", "2", "refused WrongState"),
+    Row("find", "2", "found 2 with nothing"),
+    Row("locate", "b", "located none"),
+    Row("locate all", "b", "located 2"),
+    Row("create", "b", "refused SameName"),
+    Row("at", "1", "found 2 with nothing"),
+    Row("at", "0", "found 1 with 76b8e0ada0f13d90405d6ae55386bd28"),
+    Row("at", "2", "found none"),
+    Row("activate", "1", "moved"),
+    Row("destroy", "1", "refused WrongState"),
+    Row("count", "", "counted 2"),
+];
 
 /// What the random calls are about.
 const NAMES: [&str; 6] = ["a", "b", "c", "d", "e", "f"];
@@ -176,33 +175,16 @@ fn answers_of(
     Ok(words)
 }
 
-/// Makes the call of a row of both stores, and compares the answers.
-fn check_row(
-    rt: &impl Abort,
-    alloc: Global,
-    store: &mut ListStore,
-    other: &mut IndexedStore,
-    row: &str,
-) -> Result<(), Fail> {
-    let (asked, wanted) = row.split_once(" => ").ok_or("a row")?;
-    let (method, given) = asked.split_once(':').ok_or("a method")?;
-    let call = call_of(alloc, method, given.trim_start(), 128)?;
-    let (ours, theirs) = answers_of(alloc, store, other, call)?;
-    assert_eq!(rt; ours.as_str(), wanted, "{row}");
-    assert_eq!(rt; theirs.as_str(), wanted, "{row}");
-    Ok(())
-}
-
 #[test]
 fn answers_call_by_call(rt: HostRuntime) -> Result<(), Fail> {
     let mut store = ListStore::new(rt.alloc(), [0; 32], 2);
     let mut other = IndexedStore::new(rt.alloc(), [0; 32], 2);
-    let mut count: usize = 0;
-    for row in ROWS.lines() {
-        check_row(&rt, rt.alloc(), &mut store, &mut other, row)?;
-        count = count.wrapping_add(1);
+    for (place, Row(method, given, wanted)) in ROWS.iter().enumerate() {
+        let call = call_of(rt.alloc(), *method, *given, 128)?;
+        let (ours, theirs) = answers_of(rt.alloc(), &mut store, &mut other, call)?;
+        assert_eq!(rt; ours.as_str(), *wanted, "{place}");
+        assert_eq!(rt; theirs.as_str(), *wanted, "{place}");
     }
-    assert_eq!(rt; count, ROWS_COUNT);
     Ok(())
 }
 

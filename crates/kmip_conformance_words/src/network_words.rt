@@ -1,11 +1,10 @@
 //! What the words of `run`, `probe` and `serve` ask for, and what words they refuse.
 
-use crate::words::{is_refused_with, with_name, words_of};
+use crate::words::{is_refused_with, with_name};
 use kmip_choices::{Choice, Peer, ProbeOptions, RunOptions, ServeOptions};
 use kmip_command_line::chosen;
 use std::alloc::{AllocError, Global};
 use std::net::{Ipv4Addr, SocketAddrV4};
-use std::process::Abort;
 use std::test::Fail;
 
 /// The words of a run that says nothing but what it has to.
@@ -153,55 +152,115 @@ fn serves_as_it_is_told(rt: HostRuntime) -> Result<(), Fail> {
     Ok(())
 }
 
-/// Words that are refused, and what the text says of them: a row a line. (As a table of tables these rows
-/// are dear to check.)
-const REFUSED: &str = "\
-    run => --plan\n\
-    run --plan=a --progress=b => --loopback\n\
-    run --plan=a --loopback => --progress\n\
-    run --plan=a --progress=b --loopback --socket=c => cannot be used with\n\
-    run --plan=a --progress=b --connect=localhost:1 => IPv4 address and port\n\
-    run --plan=a --progress=b --connect=127.0.0.1 => IPv4 address and port\n\
-    run --plan=a --progress=b --loopback --limit=4294967296 => 4294967296\n\
-    run --plan=a --progress=b --loopback --timeout=0 => --timeout\n\
-    run --plan=a --progress=b --loopback --wait=60001 => 60001\n\
-    probe --loopback => --name-prefix\n\
-    probe --name-prefix=p => --connect\n\
-    probe --name-prefix=p --loopback --socket=s => cannot be used with\n\
-    probe --name-prefix=p --connect=server:5696 => IPv4 address and port\n\
-    probe --loopback --name-prefix= => 1 to 62 printable\n\
-    probe --loopback --name-prefix=café => 1 to 62 printable\n\
-    probe --loopback --name-prefix=!123456789abcdefghijklmnopqrstuvwxyzABCDEFGHIJKLMNOPQRSTUVWXY~! => 1 to 62 printable\n\
-    probe --loopback --name-prefix=p --timeout=0 => --timeout\n\
-    serve --port=1 => --connections\n\
-    serve --connections=1 => --port\n\
-    serve --port=65536 --connections=1 => 65536\n\
-    serve --port=1 --connections=1 --now=9223372036854775808 => 9223372036854775808\n\
-    serve --port=1 --connections=1 --timeout=3601 => 3601\n\
-    ";
-
-/// The words of a row are refused, with a text that has its part.
-fn check_refused(rt: &impl Abort, alloc: Global, row: &str) -> Result<(), Fail> {
-    let (words, part) = row.split_once(" => ").ok_or("a row")?;
-    let words = words_of(alloc, words)?;
-    assert!(rt; is_refused_with(alloc, words.as_slice(), part)?, "{row}");
-    Ok(())
-}
+/// Words that are refused, and what the text says of them.
+const REFUSED: [(&[&str], &str); 23] = [
+    (&["run"], "--plan"),
+    (&["run", "--plan=a", "--progress=b"], "--loopback"),
+    (&["run", "--plan=a", "--loopback"], "--progress"),
+    (
+        &[
+            "run",
+            "--plan=a",
+            "--progress=b",
+            "--loopback",
+            "--socket=c",
+        ],
+        "cannot be used with",
+    ),
+    (
+        &["run", "--plan=a", "--progress=b", "--connect=localhost:1"],
+        "IPv4 address and port",
+    ),
+    (
+        &["run", "--plan=a", "--progress=b", "--connect=127.0.0.1"],
+        "IPv4 address and port",
+    ),
+    (
+        &[
+            "run",
+            "--plan=a",
+            "--progress=b",
+            "--loopback",
+            "--limit=4294967296",
+        ],
+        "4294967296",
+    ),
+    (
+        &[
+            "run",
+            "--plan=a",
+            "--progress=b",
+            "--loopback",
+            "--timeout=0",
+        ],
+        "--timeout",
+    ),
+    (
+        &[
+            "run",
+            "--plan=a",
+            "--progress=b",
+            "--loopback",
+            "--wait=60001",
+        ],
+        "60001",
+    ),
+    (&["probe", "--loopback"], "--name-prefix"),
+    (&["probe", "--name-prefix=p"], "--connect"),
+    (
+        &["probe", "--name-prefix=p", "--loopback", "--socket=s"],
+        "cannot be used with",
+    ),
+    (
+        &["probe", "--name-prefix=p", "--connect=server:5696"],
+        "IPv4 address and port",
+    ),
+    (
+        &["probe", "--loopback", "--name-prefix="],
+        "1 to 62 printable",
+    ),
+    (
+        &["probe", "--loopback", "--name-prefix=a b"],
+        "1 to 62 printable",
+    ),
+    (
+        &["probe", "--loopback", "--name-prefix=caf\u{e9}"],
+        "1 to 62 printable",
+    ),
+    (
+        &[
+            "probe",
+            "--loopback",
+            "--name-prefix=!123456789abcdefghijklmnopqrstuvwxyzABCDEFGHIJKLMNOPQRSTUVWXY~!",
+        ],
+        "1 to 62 printable",
+    ),
+    (
+        &["probe", "--loopback", "--name-prefix=p", "--timeout=0"],
+        "--timeout",
+    ),
+    (&["serve", "--port=1"], "--connections"),
+    (&["serve", "--connections=1"], "--port"),
+    (&["serve", "--port=65536", "--connections=1"], "65536"),
+    (
+        &[
+            "serve",
+            "--port=1",
+            "--connections=1",
+            "--now=9223372036854775808",
+        ],
+        "9223372036854775808",
+    ),
+    (
+        &["serve", "--port=1", "--connections=1", "--timeout=3601"],
+        "3601",
+    ),
+];
 
 #[test]
 fn refuses_other_words(rt: HostRuntime) -> Result<(), Fail> {
-    let mut count: usize = 0;
-    for row in REFUSED.lines() {
-        check_refused(&rt, rt.alloc(), row)?;
-        count = count.wrapping_add(1);
+    for (words, part) in &REFUSED {
+        assert!(rt; is_refused_with(rt.alloc(), words, part)?, "{words:?}");
     }
-    assert_eq!(rt; count, 22);
-    Ok(())
-}
-
-#[test]
-fn refuses_a_prefix_with_a_space(rt: HostRuntime) -> Result<(), Fail> {
-    let words = ["probe", "--loopback", "--name-prefix=a b"];
-    assert!(rt; is_refused_with(rt.alloc(), &words, "1 to 62 printable")?);
     Ok(())
 }

@@ -4,8 +4,7 @@ use kmip_choices::Choice;
 use kmip_command_line::{chosen, status_of};
 use kmip_commands::{ExitStatus, Form};
 use kmip_sim::Detail;
-use std::alloc::{AllocError, Global};
-use std::process::Abort;
+use std::alloc::Global;
 use std::test::Fail;
 
 /// The words behind the program's name, and what they ask for.
@@ -24,68 +23,96 @@ enum Wanted {
     Text(ExitStatus, &'static str),
 }
 
-/// Words, and what they ask for.
-const CHOICES: [(&str, Wanted); 15] = [
-    ("", Wanted::Answer),
-    ("answer", Wanted::Answer),
-    ("answer --stream", Wanted::AnswerStream),
-    ("show", Wanted::Show(Form::Text)),
-    ("show --canon", Wanted::Show(Form::Canonical)),
-    ("check --plan a.toml", Wanted::Check("a.toml")),
-    ("check --plan=b", Wanted::Check("b")),
+const ROWS: [(&[&str], Wanted); 31] = [
+    (&[], Wanted::Answer),
+    (&["answer"], Wanted::Answer),
+    (&["answer", "--stream"], Wanted::AnswerStream),
+    (&["show"], Wanted::Show(Form::Text)),
+    (&["show", "--canon"], Wanted::Show(Form::Canonical)),
+    (&["check", "--plan", "a.toml"], Wanted::Check("a.toml")),
+    (&["check", "--plan=b"], Wanted::Check("b")),
     (
-        "check --plan a.toml --after b.toml",
+        &["check", "--plan", "a.toml", "--after", "b.toml"],
         Wanted::CheckAfter("a.toml", "b.toml"),
     ),
-    ("check --after=b --plan=a", Wanted::CheckAfter("a", "b")),
     (
-        "sim --plan a.toml --script b",
+        &["check", "--after=b", "--plan=a"],
+        Wanted::CheckAfter("a", "b"),
+    ),
+    (
+        &["sim", "--plan", "a.toml", "--script", "b"],
         Wanted::Simulate("a.toml", "b", Detail::Runs),
     ),
     (
-        "sim --trace --script=b --plan=a",
+        &["sim", "--trace", "--script=b", "--plan=a"],
         Wanted::Simulate("a", "b", Detail::Exchanges),
     ),
     (
-        "sim --plan a --then b --script c",
+        &["sim", "--plan", "a", "--then", "b", "--script", "c"],
         Wanted::SimulateThen("a", "b", "c"),
     ),
     (
-        "sim --script=c --then=b --plan=a",
+        &["sim", "--script=c", "--then=b", "--plan=a"],
         Wanted::SimulateThen("a", "b", "c"),
     ),
     (
-        "--version",
+        &["--version"],
         Wanted::Text(ExitStatus::Done, "kmipctl 0.2.0\n"),
     ),
-    ("-V", Wanted::Text(ExitStatus::Done, "kmipctl 0.2.0\n")),
+    (&["-V"], Wanted::Text(ExitStatus::Done, "kmipctl 0.2.0\n")),
+    (
+        &["--help"],
+        Wanted::Text(ExitStatus::Done, "Usage: kmipctl"),
+    ),
+    (
+        &["show", "--help"],
+        Wanted::Text(ExitStatus::Done, "--canon"),
+    ),
+    (
+        &["help", "answer"],
+        Wanted::Text(ExitStatus::Done, "--stream"),
+    ),
+    (
+        &["check", "--help"],
+        Wanted::Text(ExitStatus::Done, "--after"),
+    ),
+    (
+        &["sim", "--help"],
+        Wanted::Text(ExitStatus::Done, "--trace"),
+    ),
+    (
+        &["sim", "--trace", "--plan", "a"],
+        Wanted::Text(ExitStatus::Usage, "--script"),
+    ),
+    (&["sim", "--help"], Wanted::Text(ExitStatus::Done, "--then")),
+    (
+        &["sim", "--then", "b", "--script", "c"],
+        Wanted::Text(ExitStatus::Usage, "--plan"),
+    ),
+    (
+        &["probe", "--help"],
+        Wanted::Text(ExitStatus::Done, "--name-prefix"),
+    ),
+    (&["check"], Wanted::Text(ExitStatus::Usage, "--plan")),
+    (
+        &["check", "--after", "b"],
+        Wanted::Text(ExitStatus::Usage, "--plan"),
+    ),
+    (
+        &["check", "--plan", "a", "--after"],
+        Wanted::Text(ExitStatus::Usage, "--after"),
+    ),
+    (
+        &["answer", "--canon"],
+        Wanted::Text(ExitStatus::Usage, "--canon"),
+    ),
+    (
+        &["show", "--stream"],
+        Wanted::Text(ExitStatus::Usage, "--stream"),
+    ),
+    (&["ask"], Wanted::Text(ExitStatus::Usage, "ask")),
+    (&["answer", "more"], Wanted::Text(ExitStatus::Usage, "more")),
 ];
-
-/// Words that ask for no command: the status, and a part of the text. (As a table of tables these rows are
-/// dear to check.)
-const ENDS: &str = "\
-    --help => Done Usage: kmipctl\n\
-    show --help => Done --canon\n\
-    help answer => Done --stream\n\
-    check --help => Done --after\n\
-    sim --help => Done --trace\n\
-    sim --trace --plan a => Usage --script\n\
-    sim --help => Done --then\n\
-    sim --then b --script c => Usage --plan\n\
-    probe --help => Done --name-prefix\n\
-    check => Usage --plan\n\
-    check --after b => Usage --plan\n\
-    check --plan a --after => Usage --after\n\
-    answer --canon => Usage --canon\n\
-    show --stream => Usage --stream\n\
-    ask => Usage ask\n\
-    answer more => Usage more\n\
-    ";
-
-/// The words of a line.
-pub(crate) fn words_of(alloc: Global, line: &str) -> Result<Vec<&str>, AllocError> {
-    line.split_whitespace().collect(alloc)
-}
 
 /// The words behind the program's name, as it gets them.
 pub(crate) fn with_name(alloc: Global, words: &[&str]) -> Result<Vec<String>, Fail> {
@@ -162,49 +189,10 @@ pub(crate) fn is_refused_with(alloc: Global, words: &[&str], part: &str) -> Resu
     }
 }
 
-/// The words of a line ask for what is wanted.
-fn check(rt: &impl Abort, alloc: Global, line: &str, wanted: &Wanted) -> Result<(), Fail> {
-    let words = words_of(alloc, line)?;
-    assert!(rt; is_wanted(alloc, words.as_slice(), wanted)?, "{line}");
-    Ok(())
-}
-
-fn check_choices(rt: &impl Abort, alloc: Global, rows: &[(&str, Wanted)]) -> Result<(), Fail> {
-    for (line, wanted) in rows {
-        check(rt, alloc, line, wanted)?;
-    }
-    Ok(())
-}
-
 #[test]
 fn chooses_by_the_words(rt: HostRuntime) -> Result<(), Fail> {
-    check_choices(&rt, rt.alloc(), &CHOICES)
-}
-
-/// The status that a row names.
-fn status_named(name: &str) -> Option<ExitStatus> {
-    match name {
-        "Done" => Some(ExitStatus::Done),
-        "Usage" => Some(ExitStatus::Usage),
-        _ => None,
+    for (words, wanted) in &ROWS {
+        assert!(rt; is_wanted(rt.alloc(), words, wanted)?, "{words:?}");
     }
-}
-
-/// The words of a row ask for no command, and the program ends as it says.
-fn check_end(rt: &impl Abort, alloc: Global, row: &'static str) -> Result<(), Fail> {
-    let (line, wanted) = row.split_once(" => ").ok_or("a row")?;
-    let (status, part) = wanted.split_once(' ').ok_or("a status")?;
-    let status = status_named(status).ok_or("a known status")?;
-    check(rt, alloc, line, &Wanted::Text(status, part))
-}
-
-#[test]
-fn ends_by_the_words(rt: HostRuntime) -> Result<(), Fail> {
-    let mut count: usize = 0;
-    for row in ENDS.lines() {
-        check_end(&rt, rt.alloc(), row)?;
-        count = count.wrapping_add(1);
-    }
-    assert_eq!(rt; count, 16);
     Ok(())
 }
