@@ -1,7 +1,7 @@
 //! Messages with one byte changed, heard by a client.
 ghost use Rattle.std.specs.Prelude.{◌<◌, length};
 
-use crate::phase_rows::PHASES;
+use crate::phase_rows::phases;
 use crate::phases::client_after;
 use crate::talking::{asked, heard, known, plan_of};
 use Saying::{Bare, Found, Made, Refused};
@@ -363,7 +363,7 @@ fn assert_kept(
 fn stands_as_it_stood_behind_a_refusal(rt: HostRuntime) -> Result<(), Fail> {
     let plan = plan_of(rt.alloc(), &["k1"], "destroyed")?;
     // With nothing known, with an object found, and with two steps done.
-    for replies in PHASES.iter().step_by(2) {
+    for replies in phases().iter().step_by(2) {
         for (_, text) in &ALL {
             let bytes = hex::decode(rt.alloc(), *text)?;
             assert_kept(&rt, rt.alloc(), &plan, replies, bytes.as_slice())?;

@@ -9,6 +9,8 @@ mod changing;
 #[cfg(test)]
 mod keeping;
 #[cfg(test)]
+mod named;
+#[cfg(test)]
 mod phase_rows;
 #[cfg(test)]
 mod phases;

@@ -1,19 +1,22 @@
 //! What each reply does in each phase of a key.
 
-use crate::texts::{ACTIVATED, ATTRIBUTES, FAILED_UNNAMED, FOUND_SAME_TWICE, FOUND_TWO};
-use kmip_vectors::{
-    CREATE_K1_LOOSE_REPLY, CREATE_K1_REPLY, LOCATE_K1_FOUND, LOCATE_K1_NONE, NAME_USED_REPLY,
-};
+use crate::texts::ACTIVATED;
+use kmip_vectors::{CREATE_K1_REPLY, LOCATE_K1_FOUND, LOCATE_K1_NONE, NAME_USED_REPLY};
 
 /// Replies that bring a new client to each phase, in this order: a look for the key's name, its making,
 /// a check of its object with nothing known to be done, the third step, and a check with two steps done.
-pub const PHASES: [&[&str]; 5] = [
+const PHASES: [&[&str]; 5] = [
     &[],
     &[LOCATE_K1_NONE],
     &[LOCATE_K1_FOUND],
     &[CREATE_K1_REPLY, ACTIVATED],
     &[CREATE_K1_REPLY, ACTIVATED, NAME_USED_REPLY],
 ];
+
+/// These, as a slice: what it costs to check them is paid here alone.
+pub fn phases() -> &'static [&'static [&'static str]] {
+    &PHASES
+}
 
 /// How each phase is seen before the reply.
 pub const BEFORE: [&str; 5] = [
@@ -24,327 +27,291 @@ pub const BEFORE: [&str; 5] = [
     "2 1 Working 0 b",
 ];
 
-/// A reply with changes; and for each phase what the client says, what it then knows, and what it asks.
-pub struct Row(
-    pub &'static str,
-    pub &'static [(&'static str, &'static str)],
-    pub [&'static str; 5],
-);
+/// For a key that is to be destroyed, a reply by its name and with its changes; and for each phase what the
+/// client says, what it then knows, and what it asks. First failures, what was made and what was found;
+/// then the state after each number of steps; the attributes, which are judged before the state; the name,
+/// which is judged before the attributes, and the identifier before all; and the steps after the first.
+/// (As a table of tables these rows are dear to check.)
+pub const ROWS: &str = r#"name used reply
+0 1 Refused 0 - Working 0 8
+0 1 Refused 0 - Working 0 8
+0 1 Refused 0 1 Working 0 b
+0 1 Refused 2 1 Working 0 b
+0 1 Refused 2 1 Working 0 b
 
-/// The identifier `1`, and `2` in its place.
-const OTHER_OBJECT: (&str, &str) = (
-    "42009407000000013100000000000000",
-    "42009407000000013200000000000000",
-);
+failed unnamed
+0 1 Refused 0 - Working 0 8
+0 1 Refused 0 - Working 0 8
+0 1 Refused 0 1 Working 0 b
+0 1 Refused 2 1 Working 0 b
+0 1 Refused 2 1 Working 0 b
 
-/// The first state, and others in its place.
-const STATE: &str = "42008d05000000040000000100000000";
+create k1 reply
+0 1 Grew 1 1 Working 0 12
+0 1 Grew 1 1 Working 0 12
+0 1 Grew 1 1 Working 0 12
+0 1 Same 2 1 Working 0 13
+0 1 Same 2 1 Working 0 b
 
-const ACTIVE: (&str, &str) = (STATE, "42008d05000000040000000200000000");
+create k1 loose reply
+0 1 Grew 1 1 Working 0 12
+0 1 Grew 1 1 Working 0 12
+0 1 Grew 1 1 Working 0 12
+0 1 Same 2 1 Working 0 13
+0 1 Same 2 1 Working 0 b
 
-const DEACTIVATED: (&str, &str) = (STATE, "42008d05000000040000000300000000");
+create k1 reply: other object
+0 1 Grew 1 2 Working 0 12
+0 1 Grew 1 2 Working 0 12
+OtherIdentifier 0 1 Working 0 b
+OtherIdentifier 2 1 Working 0 13
+OtherIdentifier 2 1 Working 0 b
 
-const COMPROMISED: (&str, &str) = (STATE, "42008d05000000040000000400000000");
+locate k1 none
+0 8 Same 0 - Working 0 1
+0 8 Same 0 - Working 0 1
+0 8 Same 0 1 Working 0 b
+0 8 Same 2 1 Working 0 13
+0 8 Same 2 1 Working 0 b
 
-const DESTROYED: (&str, &str) = (STATE, "42008d05000000040000000500000000");
+locate k1 found
+0 8 Grew 0 1 Working 0 b
+0 8 Grew 0 1 Working 0 b
+0 8 Same 0 1 Working 0 b
+0 8 Same 2 1 Working 0 13
+0 8 Same 2 1 Working 0 b
 
-const DESTROYED_COMPROMISED: (&str, &str) = (STATE, "42008d05000000040000000600000000");
+locate k1 found: other object
+0 8 Grew 0 2 Working 0 b
+0 8 Grew 0 2 Working 0 b
+OtherIdentifier 0 1 Working 0 b
+OtherIdentifier 2 1 Working 0 13
+OtherIdentifier 2 1 Working 0 b
 
-const STATE_0: (&str, &str) = (STATE, "42008d05000000040000000000000000");
+found two
+0 8 Clash 0 - TwoObjects none
+0 8 Clash 0 - TwoObjects none
+0 8 Clash 0 1 TwoObjects none
+0 8 Clash 2 1 TwoObjects none
+0 8 Clash 2 1 TwoObjects none
 
-const STATE_7: (&str, &str) = (STATE, "42008d05000000040000000700000000");
+found same twice
+0 8 Clash 0 - TwoObjects none
+0 8 Clash 0 - TwoObjects none
+0 8 Clash 0 1 TwoObjects none
+0 8 Clash 2 1 TwoObjects none
+0 8 Clash 2 1 TwoObjects none
 
-/// Attributes under a tag that is passed over.
-const NO_STATE: (&str, &str) = ("42008d0500000004", "5400010500000004");
+attributes
+OtherIdentifier 0 - Working 0 8
+OtherIdentifier 0 - Working 0 1
+0 b Grew 1 1 Working 0 12
+0 b Same 2 1 Working 0 13
+0 b Same 2 1 Working 0 b
 
-const NO_OBJECT_TYPE: (&str, &str) = ("4200570500000004", "5400010500000004");
+attributes: active
+OtherIdentifier 0 - Working 0 8
+OtherIdentifier 0 - Working 0 1
+0 b Grew 2 1 Working 0 13
+0 b Same 2 1 Working 0 13
+0 b Same 2 1 Working 0 13
 
-const NO_NAME: (&str, &str) = ("4200530100000020", "5400010100000020");
+attributes: deactivated
+OtherIdentifier 0 - Working 0 8
+OtherIdentifier 0 - Working 0 1
+0 b Grew 3 1 Working 0 14
+0 b Grew 3 1 Working 0 14
+0 b Grew 3 1 Working 0 14
 
-const NO_ALGORITHM: (&str, &str) = ("4200280500000004", "5400010500000004");
+attributes: destroyed
+OtherIdentifier 0 - Working 0 8
+OtherIdentifier 0 - Working 0 1
+0 b Grew 4 1 Finished none
+0 b Grew 4 1 Finished none
+0 b Grew 4 1 Finished none
 
-const NO_LENGTH: (&str, &str) = ("42002a0200000004", "5400010200000004");
+attributes: compromised
+OtherIdentifier 0 - Working 0 8
+OtherIdentifier 0 - Working 0 1
+0 b Clash 0 1 State none
+0 b Clash 2 1 State none
+0 b Clash 2 1 State none
 
-const NO_USAGE: (&str, &str) = ("42002c0200000004", "5400010200000004");
+attributes: destroyed compromised
+OtherIdentifier 0 - Working 0 8
+OtherIdentifier 0 - Working 0 1
+0 b Clash 0 1 State none
+0 b Clash 2 1 State none
+0 b Clash 2 1 State none
 
-/// The public half of a pair, another name, HMAC-SHA256, 128 bits, and to encrypt alone.
-const OTHER_OBJECT_TYPE: (&str, &str) = (
-    "42005705000000040000000200000000",
-    "42005705000000040000000300000000",
-);
+attributes: state 0
+OtherIdentifier 0 - Working 0 8
+OtherIdentifier 0 - Working 0 1
+0 b Clash 0 1 State none
+0 b Clash 2 1 State none
+0 b Clash 2 1 State none
 
-const OTHER_NAME: (&str, &str) = (
-    "42005507000000026b31000000000000",
-    "42005507000000026b32000000000000",
-);
+attributes: state 7
+OtherIdentifier 0 - Working 0 8
+OtherIdentifier 0 - Working 0 1
+0 b Clash 0 1 State none
+0 b Clash 2 1 State none
+0 b Clash 2 1 State none
 
-const LONGER_NAME: (&str, &str) = (
-    "42005507000000026b31000000000000",
-    "42005507000000036b31310000000000",
-);
+attributes: no state
+OtherIdentifier 0 - Working 0 8
+OtherIdentifier 0 - Working 0 1
+0 b Clash 0 1 State none
+0 b Clash 2 1 State none
+0 b Clash 2 1 State none
 
-const OTHER_ALGORITHM: (&str, &str) = (
-    "42002805000000040000000300000000",
-    "42002805000000040000000900000000",
-);
+attributes: no object type
+OtherIdentifier 0 - Working 0 8
+OtherIdentifier 0 - Working 0 1
+0 b Clash 0 1 Attributes none
+0 b Clash 2 1 Attributes none
+0 b Clash 2 1 Attributes none
 
-const OTHER_LENGTH: (&str, &str) = (
-    "42002a02000000040000010000000000",
-    "42002a02000000040000008000000000",
-);
+attributes: other object type
+OtherIdentifier 0 - Working 0 8
+OtherIdentifier 0 - Working 0 1
+0 b Clash 0 1 Attributes none
+0 b Clash 2 1 Attributes none
+0 b Clash 2 1 Attributes none
 
-const OTHER_USAGE: (&str, &str) = (
-    "42002c02000000040000000c00000000",
-    "42002c02000000040000000400000000",
-);
+attributes: no algorithm
+OtherIdentifier 0 - Working 0 8
+OtherIdentifier 0 - Working 0 1
+0 b Clash 0 1 Attributes none
+0 b Clash 2 1 Attributes none
+0 b Clash 2 1 Attributes none
 
-/// Another operation in the place of Activate, and its id.
-const REVOKE: (&str, &str) = ("0000001200000000", "0000001300000000");
+attributes: other algorithm
+OtherIdentifier 0 - Working 0 8
+OtherIdentifier 0 - Working 0 1
+0 b Clash 0 1 Attributes none
+0 b Clash 2 1 Attributes none
+0 b Clash 2 1 Attributes none
 
-const REVOKE_ID: (&str, &str) = ("126b31", "136b31");
+attributes: no length
+OtherIdentifier 0 - Working 0 8
+OtherIdentifier 0 - Working 0 1
+0 b Clash 0 1 Attributes none
+0 b Clash 2 1 Attributes none
+0 b Clash 2 1 Attributes none
 
-const DESTROY: (&str, &str) = ("0000001200000000", "0000001400000000");
+attributes: other length
+OtherIdentifier 0 - Working 0 8
+OtherIdentifier 0 - Working 0 1
+0 b Clash 0 1 Attributes none
+0 b Clash 2 1 Attributes none
+0 b Clash 2 1 Attributes none
 
-const DESTROY_ID: (&str, &str) = ("126b31", "146b31");
+attributes: no usage
+OtherIdentifier 0 - Working 0 8
+OtherIdentifier 0 - Working 0 1
+0 b Clash 0 1 Attributes none
+0 b Clash 2 1 Attributes none
+0 b Clash 2 1 Attributes none
 
-/// Nothing is learnt: of another object than the known one.
-const OTHER: [&str; 5] = [
-    "OtherIdentifier 0 - Working 0 8",
-    "OtherIdentifier 0 - Working 0 1",
-    "OtherIdentifier 0 1 Working 0 b",
-    "OtherIdentifier 2 1 Working 0 13",
-    "OtherIdentifier 2 1 Working 0 b",
-];
+attributes: other usage
+OtherIdentifier 0 - Working 0 8
+OtherIdentifier 0 - Working 0 1
+0 b Clash 0 1 Attributes none
+0 b Clash 2 1 Attributes none
+0 b Clash 2 1 Attributes none
 
-/// Nothing is learnt: of another name.
-const OTHERWISE_NAMED: [&str; 5] = [
-    "OtherIdentifier 0 - Working 0 8",
-    "OtherIdentifier 0 - Working 0 1",
-    "OtherName 0 1 Working 0 b",
-    "OtherName 2 1 Working 0 13",
-    "OtherName 2 1 Working 0 b",
-];
+attributes: other length & no state
+OtherIdentifier 0 - Working 0 8
+OtherIdentifier 0 - Working 0 1
+0 b Clash 0 1 Attributes none
+0 b Clash 2 1 Attributes none
+0 b Clash 2 1 Attributes none
 
-/// Where the object is known, its attributes or its state stand against the plan.
-const ATTRIBUTES_CLASH: [&str; 5] = [
-    "OtherIdentifier 0 - Working 0 8",
-    "OtherIdentifier 0 - Working 0 1",
-    "0 b Clash 0 1 Attributes none",
-    "0 b Clash 2 1 Attributes none",
-    "0 b Clash 2 1 Attributes none",
-];
+attributes: other usage & compromised
+OtherIdentifier 0 - Working 0 8
+OtherIdentifier 0 - Working 0 1
+0 b Clash 0 1 Attributes none
+0 b Clash 2 1 Attributes none
+0 b Clash 2 1 Attributes none
 
-const STATE_CLASH: [&str; 5] = [
-    "OtherIdentifier 0 - Working 0 8",
-    "OtherIdentifier 0 - Working 0 1",
-    "0 b Clash 0 1 State none",
-    "0 b Clash 2 1 State none",
-    "0 b Clash 2 1 State none",
-];
+attributes: no name
+OtherIdentifier 0 - Working 0 8
+OtherIdentifier 0 - Working 0 1
+OtherName 0 1 Working 0 b
+OtherName 2 1 Working 0 13
+OtherName 2 1 Working 0 b
 
-const TWO_OBJECTS: [&str; 5] = [
-    "0 8 Clash 0 - TwoObjects none",
-    "0 8 Clash 0 - TwoObjects none",
-    "0 8 Clash 0 1 TwoObjects none",
-    "0 8 Clash 2 1 TwoObjects none",
-    "0 8 Clash 2 1 TwoObjects none",
-];
+attributes: other name
+OtherIdentifier 0 - Working 0 8
+OtherIdentifier 0 - Working 0 1
+OtherName 0 1 Working 0 b
+OtherName 2 1 Working 0 13
+OtherName 2 1 Working 0 b
 
-const REFUSED: [&str; 5] = [
-    "0 1 Refused 0 - Working 0 8",
-    "0 1 Refused 0 - Working 0 8",
-    "0 1 Refused 0 1 Working 0 b",
-    "0 1 Refused 2 1 Working 0 b",
-    "0 1 Refused 2 1 Working 0 b",
-];
+attributes: longer name & no object type & no state
+OtherIdentifier 0 - Working 0 8
+OtherIdentifier 0 - Working 0 1
+OtherName 0 1 Working 0 b
+OtherName 2 1 Working 0 13
+OtherName 2 1 Working 0 b
 
-const CREATED: [&str; 5] = [
-    "0 1 Grew 1 1 Working 0 12",
-    "0 1 Grew 1 1 Working 0 12",
-    "0 1 Grew 1 1 Working 0 12",
-    "0 1 Same 2 1 Working 0 13",
-    "0 1 Same 2 1 Working 0 b",
-];
+attributes: other object
+OtherIdentifier 0 - Working 0 8
+OtherIdentifier 0 - Working 0 1
+OtherIdentifier 0 1 Working 0 b
+OtherIdentifier 2 1 Working 0 13
+OtherIdentifier 2 1 Working 0 b
 
-/// Failures, what was made and what was found.
-const LOOK_ROWS: [Row; 10] = [
-    Row(NAME_USED_REPLY, &[], REFUSED),
-    Row(FAILED_UNNAMED, &[], REFUSED),
-    Row(CREATE_K1_REPLY, &[], CREATED),
-    Row(CREATE_K1_LOOSE_REPLY, &[], CREATED),
-    Row(
-        CREATE_K1_REPLY,
-        &[OTHER_OBJECT],
-        [
-            "0 1 Grew 1 2 Working 0 12",
-            "0 1 Grew 1 2 Working 0 12",
-            "OtherIdentifier 0 1 Working 0 b",
-            "OtherIdentifier 2 1 Working 0 13",
-            "OtherIdentifier 2 1 Working 0 b",
-        ],
-    ),
-    Row(
-        LOCATE_K1_NONE,
-        &[],
-        [
-            "0 8 Same 0 - Working 0 1",
-            "0 8 Same 0 - Working 0 1",
-            "0 8 Same 0 1 Working 0 b",
-            "0 8 Same 2 1 Working 0 13",
-            "0 8 Same 2 1 Working 0 b",
-        ],
-    ),
-    Row(
-        LOCATE_K1_FOUND,
-        &[],
-        [
-            "0 8 Grew 0 1 Working 0 b",
-            "0 8 Grew 0 1 Working 0 b",
-            "0 8 Same 0 1 Working 0 b",
-            "0 8 Same 2 1 Working 0 13",
-            "0 8 Same 2 1 Working 0 b",
-        ],
-    ),
-    Row(
-        LOCATE_K1_FOUND,
-        &[OTHER_OBJECT],
-        [
-            "0 8 Grew 0 2 Working 0 b",
-            "0 8 Grew 0 2 Working 0 b",
-            "OtherIdentifier 0 1 Working 0 b",
-            "OtherIdentifier 2 1 Working 0 13",
-            "OtherIdentifier 2 1 Working 0 b",
-        ],
-    ),
-    Row(FOUND_TWO, &[], TWO_OBJECTS),
-    Row(FOUND_SAME_TWICE, &[], TWO_OBJECTS),
-];
+attributes: other object & other name & no state
+OtherIdentifier 0 - Working 0 8
+OtherIdentifier 0 - Working 0 1
+OtherIdentifier 0 1 Working 0 b
+OtherIdentifier 2 1 Working 0 13
+OtherIdentifier 2 1 Working 0 b
 
-/// The state after each number of steps.
-const STATE_ROWS: [Row; 9] = [
-    Row(
-        ATTRIBUTES,
-        &[],
-        [
-            "OtherIdentifier 0 - Working 0 8",
-            "OtherIdentifier 0 - Working 0 1",
-            "0 b Grew 1 1 Working 0 12",
-            "0 b Same 2 1 Working 0 13",
-            "0 b Same 2 1 Working 0 b",
-        ],
-    ),
-    Row(
-        ATTRIBUTES,
-        &[ACTIVE],
-        [
-            "OtherIdentifier 0 - Working 0 8",
-            "OtherIdentifier 0 - Working 0 1",
-            "0 b Grew 2 1 Working 0 13",
-            "0 b Same 2 1 Working 0 13",
-            "0 b Same 2 1 Working 0 13",
-        ],
-    ),
-    Row(
-        ATTRIBUTES,
-        &[DEACTIVATED],
-        [
-            "OtherIdentifier 0 - Working 0 8",
-            "OtherIdentifier 0 - Working 0 1",
-            "0 b Grew 3 1 Working 0 14",
-            "0 b Grew 3 1 Working 0 14",
-            "0 b Grew 3 1 Working 0 14",
-        ],
-    ),
-    Row(
-        ATTRIBUTES,
-        &[DESTROYED],
-        [
-            "OtherIdentifier 0 - Working 0 8",
-            "OtherIdentifier 0 - Working 0 1",
-            "0 b Grew 4 1 Finished none",
-            "0 b Grew 4 1 Finished none",
-            "0 b Grew 4 1 Finished none",
-        ],
-    ),
-    Row(ATTRIBUTES, &[COMPROMISED], STATE_CLASH),
-    Row(ATTRIBUTES, &[DESTROYED_COMPROMISED], STATE_CLASH),
-    Row(ATTRIBUTES, &[STATE_0], STATE_CLASH),
-    Row(ATTRIBUTES, &[STATE_7], STATE_CLASH),
-    Row(ATTRIBUTES, &[NO_STATE], STATE_CLASH),
-];
+activated
+OtherIdentifier 0 - Working 0 8
+OtherIdentifier 0 - Working 0 1
+0 12 Grew 2 1 Working 0 13
+0 12 Same 2 1 Working 0 13
+0 12 Same 2 1 Working 0 b
 
-/// The attributes, which are judged before the state.
-const ATTRIBUTE_ROWS: [Row; 10] = [
-    Row(ATTRIBUTES, &[NO_OBJECT_TYPE], ATTRIBUTES_CLASH),
-    Row(ATTRIBUTES, &[OTHER_OBJECT_TYPE], ATTRIBUTES_CLASH),
-    Row(ATTRIBUTES, &[NO_ALGORITHM], ATTRIBUTES_CLASH),
-    Row(ATTRIBUTES, &[OTHER_ALGORITHM], ATTRIBUTES_CLASH),
-    Row(ATTRIBUTES, &[NO_LENGTH], ATTRIBUTES_CLASH),
-    Row(ATTRIBUTES, &[OTHER_LENGTH], ATTRIBUTES_CLASH),
-    Row(ATTRIBUTES, &[NO_USAGE], ATTRIBUTES_CLASH),
-    Row(ATTRIBUTES, &[OTHER_USAGE], ATTRIBUTES_CLASH),
-    Row(ATTRIBUTES, &[OTHER_LENGTH, NO_STATE], ATTRIBUTES_CLASH),
-    Row(ATTRIBUTES, &[OTHER_USAGE, COMPROMISED], ATTRIBUTES_CLASH),
-];
+activated: revoke & revoke id
+OtherIdentifier 0 - Working 0 8
+OtherIdentifier 0 - Working 0 1
+0 13 Grew 3 1 Working 0 14
+0 13 Grew 3 1 Working 0 14
+0 13 Grew 3 1 Working 0 14
 
-/// The name, which is judged before the attributes, and the identifier before all.
-const NAME_ROWS: [Row; 5] = [
-    Row(ATTRIBUTES, &[NO_NAME], OTHERWISE_NAMED),
-    Row(ATTRIBUTES, &[OTHER_NAME], OTHERWISE_NAMED),
-    Row(
-        ATTRIBUTES,
-        &[LONGER_NAME, NO_OBJECT_TYPE, NO_STATE],
-        OTHERWISE_NAMED,
-    ),
-    Row(ATTRIBUTES, &[OTHER_OBJECT], OTHER),
-    Row(ATTRIBUTES, &[OTHER_OBJECT, OTHER_NAME, NO_STATE], OTHER),
-];
+activated: destroy & destroy id
+OtherIdentifier 0 - Working 0 8
+OtherIdentifier 0 - Working 0 1
+0 14 Grew 4 1 Finished none
+0 14 Grew 4 1 Finished none
+0 14 Grew 4 1 Finished none
 
-/// The steps after the first.
-const STEP_ROWS: [Row; 6] = [
-    Row(
-        ACTIVATED,
-        &[],
-        [
-            "OtherIdentifier 0 - Working 0 8",
-            "OtherIdentifier 0 - Working 0 1",
-            "0 12 Grew 2 1 Working 0 13",
-            "0 12 Same 2 1 Working 0 13",
-            "0 12 Same 2 1 Working 0 b",
-        ],
-    ),
-    Row(
-        ACTIVATED,
-        &[REVOKE, REVOKE_ID],
-        [
-            "OtherIdentifier 0 - Working 0 8",
-            "OtherIdentifier 0 - Working 0 1",
-            "0 13 Grew 3 1 Working 0 14",
-            "0 13 Grew 3 1 Working 0 14",
-            "0 13 Grew 3 1 Working 0 14",
-        ],
-    ),
-    Row(
-        ACTIVATED,
-        &[DESTROY, DESTROY_ID],
-        [
-            "OtherIdentifier 0 - Working 0 8",
-            "OtherIdentifier 0 - Working 0 1",
-            "0 14 Grew 4 1 Finished none",
-            "0 14 Grew 4 1 Finished none",
-            "0 14 Grew 4 1 Finished none",
-        ],
-    ),
-    Row(ACTIVATED, &[OTHER_OBJECT], OTHER),
-    Row(ACTIVATED, &[REVOKE, REVOKE_ID, OTHER_OBJECT], OTHER),
-    Row(ACTIVATED, &[DESTROY, DESTROY_ID, OTHER_OBJECT], OTHER),
-];
+activated: other object
+OtherIdentifier 0 - Working 0 8
+OtherIdentifier 0 - Working 0 1
+OtherIdentifier 0 1 Working 0 b
+OtherIdentifier 2 1 Working 0 13
+OtherIdentifier 2 1 Working 0 b
 
-/// All of them, for a key that is to be destroyed.
-pub const TABLES: [&[Row]; 5] = [
-    &LOOK_ROWS,
-    &STATE_ROWS,
-    &ATTRIBUTE_ROWS,
-    &NAME_ROWS,
-    &STEP_ROWS,
-];
+activated: revoke & revoke id & other object
+OtherIdentifier 0 - Working 0 8
+OtherIdentifier 0 - Working 0 1
+OtherIdentifier 0 1 Working 0 b
+OtherIdentifier 2 1 Working 0 13
+OtherIdentifier 2 1 Working 0 b
+
+activated: destroy & destroy id & other object
+OtherIdentifier 0 - Working 0 8
+OtherIdentifier 0 - Working 0 1
+OtherIdentifier 0 1 Working 0 b
+OtherIdentifier 2 1 Working 0 13
+OtherIdentifier 2 1 Working 0 b
+"#;
+
+/// How many rows these are.
+pub const ROWS_COUNT: usize = 40;

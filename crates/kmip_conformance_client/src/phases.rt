@@ -1,7 +1,8 @@
 //! Each reply in each phase, which is seen by what is asked next.
 
-use crate::phase_rows::{BEFORE, PHASES, Row, TABLES};
-use crate::talking::{asked, changed, heard, known, plan_of};
+use crate::named::message_of;
+use crate::phase_rows::{BEFORE, ROWS, ROWS_COUNT, phases};
+use crate::talking::{asked, heard, known, plan_of};
 use kmip_client::Client;
 use kmip_plan::Plan;
 use std::alloc::Global;
@@ -33,7 +34,7 @@ fn standing(rt: &impl Abort, alloc: Global, client: &mut Client<'_>) -> Result<S
 #[test]
 fn comes_to_each_phase(rt: HostRuntime) -> Result<(), Fail> {
     let plan = plan_of(rt.alloc(), &["k1"], "destroyed")?;
-    for (replies, wanted) in PHASES.iter().zip(BEFORE.iter()) {
+    for (replies, wanted) in phases().iter().zip(BEFORE.iter()) {
         let mut client = client_after(rt.alloc(), &plan, replies)?;
         let text = standing(&rt, rt.alloc(), &mut client)?;
         assert_eq!(rt; text.as_str(), *wanted);
@@ -49,7 +50,7 @@ fn hear_in_each(
     bytes: &[u8],
     wanted: &[&str],
 ) -> Result<(), Fail> {
-    for (replies, wanted) in PHASES.iter().zip(wanted.iter()) {
+    for (replies, wanted) in phases().iter().zip(wanted.iter()) {
         let mut client = client_after(alloc, plan, replies)?;
         let said = heard(alloc, &mut client, bytes)?;
         let after = standing(rt, alloc, &mut client)?;
@@ -59,21 +60,23 @@ fn hear_in_each(
     Ok(())
 }
 
-/// Tries the rows of a table.
-fn try_rows(rt: &impl Abort, alloc: Global, plan: &Plan, rows: &[Row]) -> Result<(), Fail> {
-    for Row(text, changes, wanted) in rows {
-        let text = changed(alloc, text, changes)?;
-        let bytes = hex::decode(alloc, text.as_str())?;
-        hear_in_each(rt, alloc, plan, bytes.as_slice(), wanted)?;
-    }
-    Ok(())
+/// The reply of a row is heard in each phase.
+fn try_row(rt: &impl Abort, alloc: Global, plan: &Plan, row: &str) -> Result<(), Fail> {
+    let (reply, wanted) = row.split_once('\n').ok_or("a row")?;
+    let bytes = message_of(alloc, reply)?;
+    let wanted: Vec<&str> = wanted.lines().collect(alloc)?;
+    assert_eq!(rt; wanted.len(), phases().len(), "{row}");
+    hear_in_each(rt, alloc, plan, bytes.as_slice(), wanted.as_slice())
 }
 
 #[test]
 fn hears_each_reply_in_each_phase(rt: HostRuntime) -> Result<(), Fail> {
     let plan = plan_of(rt.alloc(), &["k1"], "destroyed")?;
-    for rows in &TABLES {
-        try_rows(&rt, rt.alloc(), &plan, rows)?;
+    let mut count: usize = 0;
+    for row in ROWS.split("\n\n") {
+        try_row(&rt, rt.alloc(), &plan, row)?;
+        count = count.wrapping_add(1);
     }
+    assert_eq!(rt; count, ROWS_COUNT);
     Ok(())
 }

@@ -39,15 +39,6 @@ pub fn plan_of(alloc: Global, names: &[&str], target: &str) -> Result<Plan, Fail
     Ok(plan)
 }
 
-/// The text with each change made in it, in turn.
-pub fn changed(alloc: Global, text: &str, changes: &[(&str, &str)]) -> Result<String, AllocError> {
-    let mut text = String::from_str(alloc, text)?;
-    for (from, to) in changes {
-        text = text.as_str().replace(alloc, *from, *to)?;
-    }
-    Ok(text)
-}
-
 /// The key and the operation of the next question, with its bytes where they are not the wanted ones.
 pub fn asked(alloc: Global, client: &mut Client<'_>, wanted: &str) -> Result<String, Fail> {
     let Some(question) = client.ask(alloc)? else {
