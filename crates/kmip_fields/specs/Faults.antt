@@ -15,6 +15,7 @@ use Rattle.kmip_fields.specs.declared.fault.MessageFault.TheVariants.{
   OutOfRange,
   UnknownOperation,
   NoMemory,
+  Undo,
 }
 
 -- a fault of the item, where want of memory is the message's own
@@ -38,6 +39,7 @@ message_fault_number (WrongType tag) = 7
 message_fault_number (OutOfRange tag) = 8
 message_fault_number UnknownOperation = 9
 message_fault_number NoMemory = 10
+message_fault_number Undo = 11
 
 abbrev pub message_fault_name : MessageFault → List ℕ
 message_fault_name (Ttlv fault) = codes "Ttlv"
@@ -50,3 +52,4 @@ message_fault_name (WrongType tag) = codes "WrongType"
 message_fault_name (OutOfRange tag) = codes "OutOfRange"
 message_fault_name UnknownOperation = codes "UnknownOperation"
 message_fault_name NoMemory = codes "NoMemory"
+message_fault_name Undo = codes "Undo"

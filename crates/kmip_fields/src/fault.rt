@@ -39,6 +39,9 @@ pub enum MessageFault {
     UnknownOperation,
     #[error("no memory")]
     NoMemory,
+    /// What was done is to be undone at a failure, which no server of the profile does.
+    #[error("undo")]
+    Undo,
 }
 
 impl MessageFault {
@@ -49,7 +52,7 @@ impl MessageFault {
         matches!(self, MessageFault::NoMemory)
     }
 
-    /// The fault's number, 1 to 10.
+    /// The fault's number, 1 to 11.
     pub fn number(self) -> u32
         ensures { result ≡ message_fault_number self }
     {
@@ -64,6 +67,7 @@ impl MessageFault {
             MessageFault::OutOfRange(_) => 8,
             MessageFault::UnknownOperation => 9,
             MessageFault::NoMemory => 10,
+            MessageFault::Undo => 11,
         }
     }
 
@@ -82,6 +86,7 @@ impl MessageFault {
             MessageFault::OutOfRange(_) => "OutOfRange",
             MessageFault::UnknownOperation => "UnknownOperation",
             MessageFault::NoMemory => "NoMemory",
+            MessageFault::Undo => "Undo",
         }
     }
 }

@@ -72,7 +72,7 @@ nothing_is_refused bytes e = none_asked (request_read bytes) (sym (requests_read
 both : (a b : Bool) → a ≡ true → b ≡ true → IsTrue (a && b)
 both a b p q = rw (p, q) refl
 
-payload_fits : (a : Ask) (payload : List Node) → IsPayload payload a → IsTrue (ask_fits a)
+pub payload_fits : (a : Ask) (payload : List Node) → IsPayload payload a → IsTrue (ask_fits a)
 payload_fits (Create key) payload says =
     let k = says.are in
     both _ _ (both _ _ (both _ _ k.called.in_range k.algorithm_in_range) k.bits_in_range) k.mask_in_range

@@ -11,3 +11,5 @@ mod ReplySaid
 mod ReplyBytes
 mod AskedLemmas
 mod SaidLemmas
+pub mod BatchItemLaws
+pub mod BatchItemSizes

@@ -205,7 +205,7 @@ outcome-part asked = said_record-part _ _ _ (λ ns p says. ap (λ s. (s, p.1)) (
 
 -- ---- the message
 
-any_version_parts-part : IsPart any_version_parts_format
+pub any_version_parts-part : IsPart any_version_parts_format
 unfolding any_version_parts_format
 any_version_parts-part = fixed-part _ _ _ _ refl refl (both-part _ _ refl (required-part integers _ integer_kind) (required-part integers _ integer_kind))
 
@@ -218,7 +218,7 @@ reply_header-part : (now : ℤ) → IsPart (reply_header_format now)
 unfolding reply_header_format
 reply_header-part now = structure-part _ _ (reply_header_parts-part now).good
 
-answered-good : IsGood answered_format
+pub answered-good : IsGood answered_format
 unfolding answered_format id_format
 answered-good = as_record-good _ _ _ (λ ns p says. refl) (λ r. refl)
     (followed-part _ _ _ refl (λ known. outcome_tags known.0) (reversed-part _ _ refl (optional-part enumerations _ enumeration_kind) id_part)
@@ -254,6 +254,10 @@ payload_fits (Revoked uid) asked fits = fits
 payload_fits (Destroyed uid) asked fits = fits
 payload_fits (Failed reason) asked fits = refl
 
+pub answer_in_format : (r : Reply) → HasValuesInRange r → answered_format.fits r ≡ true
+unfolding answered_format id_format
+answer_in_format r fits = both _ ((outcome_format r.operation).fits r.outcome) fits.0 (payload_fits r.outcome r.operation fits.1)
+
 pub reply_in_format : (r : Reply) (now : ℤ) → HasValuesInRange r → (reply_format now).fits r ≡ true
-unfolding reply_format reply_header_format reply_header_parts_format any_version_parts_format answered_format id_format
-reply_in_format r now fits = both _ ((outcome_format r.operation).fits r.outcome) fits.0 (payload_fits r.outcome r.operation fits.1)
+unfolding reply_format reply_header_format reply_header_parts_format any_version_parts_format
+reply_in_format r now fits = answer_in_format r fits

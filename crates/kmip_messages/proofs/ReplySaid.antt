@@ -80,7 +80,7 @@ is_object payload uid attrs p = (is_identifier_said payload uid p.is_identifier,
 
 -- ---- outcomes
 
-outcome_is : (batch : List Node) (asked : Option ℕ) (o : Outcome) → (outcome_format asked).Says batch o → IsOutcome batch asked o
+pub outcome_is : (batch : List Node) (asked : Option ℕ) (o : Outcome) → (outcome_format asked).Says batch o → IsOutcome batch asked o
 unfolding outcome_format success_format success_of_format located_format answer_format created_format failed_format
 outcome_is batch asked (Created uid) ((status, _), (own, (_, (payload, stands, (x, (_, says), same))))) = subst (IsOutcome batch asked) same (record {
   is_own = own;
@@ -122,7 +122,7 @@ outcome_is batch asked (Destroyed uid) ((status, _), (own, (_, (payload, stands,
 })
 outcome_is batch asked (Failed reason) ((status, _), (x, says, same)) = subst (IsOutcome batch asked) same (record { has_status = status; has_reason = says })
 
-is_outcome : (batch : List Node) (asked : Option ℕ) (o : Outcome) → IsOutcome batch asked o → (outcome_format asked).Says batch o
+pub is_outcome : (batch : List Node) (asked : Option ℕ) (o : Outcome) → IsOutcome batch asked o → (outcome_format asked).Says batch o
 unfolding outcome_format success_format success_of_format located_format answer_format created_format failed_format
 is_outcome batch asked (Created uid) p =
     ((p.has_status, refl), (p.is_own, (refl, (p.payload, p.has_payload, (uid, (tt, is_identifier_said p.payload uid p.says), refl)))))

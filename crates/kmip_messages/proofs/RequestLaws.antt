@@ -146,7 +146,7 @@ payload_is_own operation payload a known says =
 
 -- ---- the message
 
-version_parts-part : IsPart version_parts_format
+pub version_parts-part : IsPart version_parts_format
 unfolding version_parts_format
 version_parts-part = fixed-part _ _ _ _ refl refl (both-part _ _ refl (required-part integers _ integer_kind) (required-part integers _ integer_kind))
 
@@ -158,11 +158,11 @@ header-part : IsPart header_format
 unfolding header_format
 header-part = structure-part _ _ header_parts-part.good
 
-known-part : IsPart known_format
+pub known-part : IsPart known_format
 unfolding known_format id_format
 known-part = reversed-part _ _ refl (required-part enumerations _ enumeration_kind) id_part
 
-asked-part : (operation : ℕ) → IsPart (asked_format operation)
+pub asked-part : (operation : ℕ) → IsPart (asked_format operation)
 unfolding asked_format
 asked-part operation = refusing-part _ _ _ (structure-part _ _ (payload-good operation))
 
@@ -170,11 +170,11 @@ asked_tags : (operation : ℕ) → (asked_format operation).tags ≡ TAG_REQUEST
 unfolding asked_format
 asked_tags operation = refl
 
-asked_is_own : (operation : ℕ) (batch : List Node) (a : Ask) → (asked_format operation).Says batch a → operation_of a ≡ operation
+pub asked_is_own : (operation : ℕ) (batch : List Node) (a : Ask) → (asked_format operation).Says batch a → operation_of a ≡ operation
 unfolding asked_format
 asked_is_own operation batch a (known, (payload, _, says)) = payload_is_own operation payload a known says
 
-item-good : IsGood item_format
+pub item-good : IsGood item_format
 unfolding item_format known_format id_format
 item-good = as_record-good _ _ _ (λ ns p says. ap (λ o. ((o, p.0.1), p.1)) (asked_is_own p.0.0 ns p.1 says.1)) (λ r. refl)
     (followed-part _ _ _ refl (λ known. asked_tags known.0) known-part (λ known. asked-part known.0)).good
@@ -219,9 +219,13 @@ one_of_six (Activate uid) = refl
 one_of_six (Revoke uid code) = refl
 one_of_six (Destroy uid) = refl
 
-pub message_fits : (r : Request) → request_fits r ≡ true → message_format.fits r ≡ true
-unfolding message_format header_format header_parts_format version_parts_format item_format known_format id_format asked_format
-message_fits r fits =
+pub item_fits : (r : Request) → request_fits r ≡ true → item_format.fits r ≡ true
+unfolding item_format known_format id_format asked_format
+item_fits r fits =
     let parts = and_parts (option_map_or is_batch_id r.id true) (ask_fits r.ask) fits in
     both (option_map_or is_batch_id r.id true) (is_operation (operation_of r.ask) && (payload_format (operation_of r.ask)).fits r.ask) parts.0
     (both (is_operation (operation_of r.ask)) ((payload_format (operation_of r.ask)).fits r.ask) (one_of_six r.ask) (payload_fits r.ask parts.1))
+
+pub message_fits : (r : Request) → request_fits r ≡ true → message_format.fits r ≡ true
+unfolding message_format header_format header_parts_format version_parts_format
+message_fits r fits = item_fits r fits

@@ -6,7 +6,7 @@ use Rattle.std.proofs.lemmas.Bool.Decides.{Decides-int_eq}
 use Rattle.std.specs.Ordering.{int_eq}
 use Rattle.kmip_ttlv.specs.Node.{Node, node, integer, enumeration}
 use Rattle.kmip_ttlv.proofs.ReadSteps.{Reads, reads-bind, reads-as}
-use Rattle.kmip_fields.specs.Formats.{inside}
+use Rattle.kmip_fields.specs.Formats.{inside, structure_of}
 use Rattle.kmip_fields.specs.Standing.{Once}
 use Rattle.kmip_fields.proofs.FormatParts.{reads}
 use Rattle.kmip_objects.specs.declared.attributes.KeyAttrs.{KeyAttrs}
@@ -15,12 +15,12 @@ use Rattle.kmip_objects.specs.declared.standard.TheConstants.{OBJECT_TYPE_SYMMET
 use Rattle.kmip_messages.specs.declared.request.Ask.{Ask}
 use Rattle.kmip_messages.specs.declared.request.Ask.TheVariants.{Create, Locate, GetAttributes, Activate, Revoke, Destroy}
 use Rattle.kmip_messages.specs.declared.request.Request.{Request}
-use Rattle.kmip_messages.specs.declared.standard.TheConstants.{TAG_REQUEST_MESSAGE, TAG_OPERATION, TAG_PROTOCOL_VERSION_MAJOR, TAG_PROTOCOL_VERSION_MINOR, TAG_OBJECT_TYPE, VERSION_MAJOR, VERSION_MINOR, NAME_TYPE_UNINTERPRETED_TEXT_STRING}
+use Rattle.kmip_messages.specs.declared.standard.TheConstants.{TAG_REQUEST_MESSAGE, TAG_OPERATION, TAG_PROTOCOL_VERSION, TAG_PROTOCOL_VERSION_MAJOR, TAG_PROTOCOL_VERSION_MINOR, TAG_OBJECT_TYPE, VERSION_MAJOR, VERSION_MINOR, NAME_TYPE_UNINTERPRETED_TEXT_STRING}
 use Rattle.kmip_messages.specs.Operations.{operation_of}
 use Rattle.kmip_messages.specs.RequestFits.{request_fits}
 use Rattle.kmip_messages.specs.RequestFormats.{name_parts_format, name_format, key_attrs_format, filter_format, create_format, locate_format, reason_format, revoke_format, payload_format, version_parts_format, header_parts_format, header_format, known_format, asked_format, item_format, known_in_format, message_format}
 use Rattle.kmip_messages.specs.RequestReading.{request_at}
-use Rattle.kmip_messages.specs.Requests.{IsHeader, IsName, IsKeyAttrs, IsFilter, IsCreate, IsPayload, IsAsk, IsRequest}
+use Rattle.kmip_messages.specs.Requests.{IsVersion, IsHeader, IsName, IsKeyAttrs, IsFilter, IsCreate, IsPayload, IsAsk, IsRequest}
 use Rattle.kmip_messages.specs.Written.{request_item}
 use Rattle.kmip_messages.proofs.Readers.{reads-refused, reads-carrying, reads-message, id_is, is_id, identifier_is, is_identifier_said, one_is, plain_is}
 use Rattle.kmip_messages.proofs.RequestLaws.{message-good, message_fits, one_of_six}
@@ -120,34 +120,36 @@ is_payload payload (Destroy uid) p = (uid, is_identifier_said payload uid p, ref
 
 -- ---- the message
 
-header_is : (message : List Node) → header_format.Says message tt → IsHeader message
-unfolding header_format header_parts_format version_parts_format
-header_is message (header, stands, ((version, has_version, (numbers, (has_major, has_minor), same)), one)) =
+pub version_is : (header : List Node) → (structure_of TAG_PROTOCOL_VERSION version_parts_format).Says header tt → IsVersion header
+unfolding version_parts_format
+version_is header (version, stands, (numbers, (has_major, has_minor), same)) =
     let each = and_parts (int_eq numbers.0 VERSION_MAJOR) (int_eq numbers.1 VERSION_MINOR) same in
     record {
-      parts = header;
+      parts = version;
       stands = stands;
-      version = record {
-        parts = version;
-        stands = has_version;
-        major = subst (λ z. Once TAG_PROTOCOL_VERSION_MAJOR (integer z) version) (same_number numbers.0 VERSION_MAJOR each.0) has_major;
-        minor = subst (λ z. Once TAG_PROTOCOL_VERSION_MINOR (integer z) version) (same_number numbers.1 VERSION_MINOR each.1) has_minor;
-      };
-      count = one_is header one;
+      major = subst (λ z. Once TAG_PROTOCOL_VERSION_MAJOR (integer z) version) (same_number numbers.0 VERSION_MAJOR each.0) has_major;
+      minor = subst (λ z. Once TAG_PROTOCOL_VERSION_MINOR (integer z) version) (same_number numbers.1 VERSION_MINOR each.1) has_minor;
     }
 
-is_header : (message : List Node) → IsHeader message → header_format.Says message tt
-unfolding header_format header_parts_format version_parts_format
-is_header message p =
-    let version = p.version in
-    (p.parts, p.stands, ((version.parts, version.stands, ((VERSION_MAJOR, VERSION_MINOR), (version.major, version.minor), refl)), (pos 1, p.count, refl)))
+pub is_version : (header : List Node) → IsVersion header → (structure_of TAG_PROTOCOL_VERSION version_parts_format).Says header tt
+unfolding version_parts_format
+is_version header p = (p.parts, p.stands, ((VERSION_MAJOR, VERSION_MINOR), (p.major, p.minor), refl))
 
-ask_is : (batch : List Node) (a : Ask) → (asked_format (operation_of a)).Says batch a
+header_is : (message : List Node) → header_format.Says message tt → IsHeader message
+unfolding header_format header_parts_format
+header_is message (header, stands, (version, one)) =
+    record { parts = header; stands = stands; version = version_is header version; count = one_is header one }
+
+is_header : (message : List Node) → IsHeader message → header_format.Says message tt
+unfolding header_format header_parts_format
+is_header message p = (p.parts, p.stands, (is_version p.parts p.version, (pos 1, p.count, refl)))
+
+pub ask_is : (batch : List Node) (a : Ask) → (asked_format (operation_of a)).Says batch a
     → Once TAG_OPERATION (enumeration (operation_of a)) batch → IsAsk batch a
 unfolding asked_format
 ask_is batch a (_, (payload, stands, says)) operation = record { operation = operation; payload = payload; stands = stands; says = payload_is payload a says }
 
-is_ask : (batch : List Node) (a : Ask) → IsAsk batch a → (asked_format (operation_of a)).Says batch a
+pub is_ask : (batch : List Node) (a : Ask) → IsAsk batch a → (asked_format (operation_of a)).Says batch a
 unfolding asked_format
 is_ask batch a p = (one_of_six a, (p.payload, p.stands, is_payload p.payload a p.says))
 

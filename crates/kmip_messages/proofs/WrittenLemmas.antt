@@ -122,7 +122,7 @@ outcome_parts asked (Failed reason) =
     let h = enumerations 4 TAG_RESULT_REASON reason (omega arith) in
     record { deep = omega (arith, h.deep); groups = (tt, h.groups); long = omega (arith, h.long) }
 
-batch_parts : (r : Reply)
+pub batch_parts : (r : Reply)
     → AreParts 5 (8 + (number_size r.operation + size_if_any text_size r.id + outcome_size r.outcome)) (node TAG_BATCH_ITEM (inside (answered_format.write r)) ∷ [])
 unfolding answered_format id_format
 batch_parts r =
@@ -147,7 +147,7 @@ capped_test n m h = elim (leb_tells m 8192) [
 ]
 
 -- a sum of capped numbers is capped
-capped_sum : (a b m n : ℕ) → IsCapped a m → IsCapped b n → IsCapped (a + b) (m + n)
+pub capped_sum : (a b m n : ℕ) → IsCapped a m → IsCapped b n → IsCapped (a + b) (m + n)
 capped_sum a b m n h k = (
   λ short. omega (arith, h.0 (omega (arith, short)), k.0 (omega (arith, short))),
   λ long. elim (cases_lt 8192 m) [
@@ -159,7 +159,7 @@ capped_sum a b m n h k = (
   ],
 )
 
-exact : (a m : ℕ) → a ≡ m → IsCapped a m
+pub exact : (a m : ℕ) → a ≡ m → IsCapped a m
 exact a m is = (λ short. is, λ long. omega (arith, is))
 
 -- the test of the sizes of the parts is that of the whole
@@ -187,7 +187,7 @@ pub fits_writable : (r : Reply) (now : ℤ) (item : Node) → IsTrue (reply_fits
 fits_writable r now item fits is = subst IsWritable (sym is) (reply_fits_writable r now fits)
 
 -- the same of a request, which is never too long
-ask_size : Ask → ℕ
+pub ask_size : Ask → ℕ
 ask_size (Create k) = 16 + (8 + (24 + text_size k.name + 48))
 ask_size (Locate mask filter) = number_size mask + attrs_size filter
 ask_size (GetAttributes uid) = text_size uid
@@ -222,7 +222,7 @@ pub id_bound : (o : Option (List ℕ)) → option_map_or is_batch_id o true ≡ 
 id_bound None h = omega arith
 id_bound (Some s) h = text_bound s 128 (leb-true _ _ h)
 
-ask_bound : (a : Ask) → ask_fits a ≡ true → ask_size a ≤ 400
+pub ask_bound : (a : Ask) → ask_fits a ≡ true → ask_size a ≤ 400
 unfolding ask_size
 ask_bound (Create k) h = omega (arith, text_bound k.name 64 (name_length k.name (and_parts _ _ (and_parts _ _ (and_parts _ _ h).0).0).0))
 ask_bound (Locate mask filter) h =
@@ -241,7 +241,7 @@ ask_bound (Activate uid) h = omega (arith, text_bound uid 64 (uid_length uid h))
 ask_bound (Revoke uid code) h = omega (arith, text_bound uid 64 (uid_length uid (and_parts _ _ h).0))
 ask_bound (Destroy uid) h = omega (arith, text_bound uid 64 (uid_length uid h))
 
-request_batch_parts : (r : Request) → AreParts 6 (32 + size_if_any text_size r.id + ask_size r.ask) (node TAG_BATCH_ITEM (inside (item_format.write r)) ∷ [])
+pub request_batch_parts : (r : Request) → AreParts 6 (32 + size_if_any text_size r.id + ask_size r.ask) (node TAG_BATCH_ITEM (inside (item_format.write r)) ∷ [])
 unfolding item_format known_format asked_format id_format
 request_batch_parts r =
     let operation = one_part 5 16 (node TAG_OPERATION (enumeration (operation_of r.ask))) (omega arith) tt refl in

@@ -11,6 +11,7 @@ pub mod Written
 pub mod Requests
 pub mod Replies
 pub mod Fits
+pub mod BatchItems
 pub mod MessageSizes
 pub mod Whole
 pub mod Items

@@ -17,8 +17,11 @@ use kmip_ttlv::{Bytes, Item, NoMemory, Tag, Text};
 use std::alloc::Global;
 
 /// The Protocol Version 2.1.
+///
+/// # Errors
+/// Where there is no memory for it.
 #[tactic(auto, unfolding(crate::specs::ReplyFormats::any_version_parts_format))]
-pub(crate) fn version_item(alloc: Global) -> Result<Item, NoMemory>
+pub fn version_item(alloc: Global) -> Result<Item, NoMemory>
     ensures { IfOk result (λ i. view i
         ≡ node TAG_PROTOCOL_VERSION (inside (any_version_parts_format.write tt))) }
 {

@@ -9,6 +9,7 @@ ghost use Rattle.kmip_messages.specs.Ranges.{is_batch_id};
 ghost use Rattle.kmip_messages.specs.RequestFits.{ask_fits, request_fits};
 ghost use Rattle.kmip_messages.specs.Written.{reply_item};
 ghost use Rattle.kmip_messages.specs.Fits.{is_own, outcome_fits, reply_fits};
+ghost use Rattle.kmip_messages.specs.BatchItems.{answer_fits, answer_item};
 ghost use Rattle.kmip_messages.specs.MessageSizes.{
   size_if_any,
   number_size,
@@ -66,7 +67,26 @@ fn is_named(name: &Option<Text>) -> bool
 pub fn reply_fits(reply: &Reply) -> bool
     ensures { result ≡ reply_fits reply.now }
 {
-    id_fits(&reply.id) && outcome_fits(reply.operation, &reply.outcome) && is_short(reply)
+    answer_fits(reply) && is_short(reply)
+}
+
+/// Whether the values of a reply are in their ranges, and a success stands under its own operation.
+/// Takes no memory.
+pub fn answer_fits(reply: &Reply) -> bool
+    ensures { result ≡ answer_fits reply.now }
+{
+    id_fits(&reply.id) && outcome_fits(reply.operation, &reply.outcome)
+}
+
+/// How many bytes the Batch Item of a reply takes, or more than a message may have. Takes no memory.
+pub fn answer_size(reply: &Reply) -> usize
+    ensures size { IsCapped result (size (answer_item reply.now)) }
+    ensures small { result ≤ 200000 }
+{
+    let operation = number_size(&reply.operation);
+    let id = id_size(&reply.id);
+    let outcome = outcome_size(&reply.outcome);
+    8 + operation + id + outcome
 }
 
 /// Whether the Unique Batch Item ID is in its range, where there is one.

@@ -16,8 +16,11 @@ use kmip_ttlv::{Bytes, Item, Text, read};
 use std::alloc::Global;
 
 /// The item that all the bytes are.
+///
+/// # Errors
+/// Where they are none, or bytes follow it; want of memory.
 #[tactic(auto, unfolding(crate::specs::Whole::item_in))]
-pub(crate) fn whole_item(alloc: Global, bytes: &[u8]) -> Result<Item, MessageFault>
+pub fn whole_item(alloc: Global, bytes: &[u8]) -> Result<Item, MessageFault>
     ensures { Gives (λ i. view i) result (item_in bytes.now) }
 {
     match read(alloc, bytes) {
@@ -33,8 +36,11 @@ pub(crate) fn whole_item(alloc: Global, bytes: &[u8]) -> Result<Item, MessageFau
 }
 
 /// The items of a message of this tag.
+///
+/// # Errors
+/// `NotMessage` where the item is none.
 #[tactic(auto, unfolding(crate::specs::Parts::message_at))]
-pub(crate) fn message_of(item: &Item, tag: u32) -> Result<&[Item], MessageFault>
+pub fn message_of(item: &Item, tag: u32) -> Result<&[Item], MessageFault>
     ensures { Gives (λ s. views s.now) result (message_at tag (view item.now)) }
 {
     match item.as_structure() {

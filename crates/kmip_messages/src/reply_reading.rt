@@ -95,7 +95,7 @@ fn reply_of(alloc: Global, item: &Item) -> Result<Reply, MessageFault>
     let message = message_of(item, TAG_RESPONSE_MESSAGE)?;
     header_of(message)?;
     let batch = sole_structure(message, TAG_BATCH_ITEM)?;
-    let reply = answered_of(alloc, batch)?;
+    let reply = read_answer(alloc, batch)?;
     Ok(reply)
 }
 
@@ -115,8 +115,11 @@ fn header_of(message: &[Item]) -> Result<(), MessageFault>
 }
 
 /// The reply that the items of a Batch Item are.
+///
+/// # Errors
+/// Its first fault; want of memory otherwise.
 #[tactic(auto, unfolding(crate::specs::ReplyFormats::answered_format))]
-fn answered_of(alloc: Global, batch: &[Item]) -> Result<Reply, MessageFault>
+pub fn read_answer(alloc: Global, batch: &[Item]) -> Result<Reply, MessageFault>
     ensures { Gives (λ r. r) result (answered_format.read (views batch.now)) }
 {
     let id = id_of(alloc, batch)?;

@@ -4,6 +4,7 @@ ghost use Rattle.kmip_fields.specs.Formats.{inside};
 ghost use Rattle.kmip_messages.specs.Parts.{identifier_format};
 ghost use Rattle.kmip_ttlv.specs.Spelling.{canon};
 ghost use Rattle.kmip_messages.specs.Fits.{reply_fits};
+ghost use Rattle.kmip_messages.specs.BatchItems.{answer_item};
 ghost use Rattle.kmip_messages.specs.Items.{replies_in};
 ghost use Rattle.kmip_ttlv.specs.Node.{node, enumeration};
 ghost use Rattle.kmip_ttlv.specs.View.{view, views};
@@ -51,7 +52,7 @@ fn message_item(alloc: Global, reply: &Reply, now: i64) -> Result<Item, NoMemory
     ensures { IfOk result (λ i. view i ≡ reply_item reply.now now) }
 {
     let header = header_item(alloc, now)?;
-    let batch = batch_item(alloc, reply)?;
+    let batch = write_answer(alloc, reply)?;
     let items = vec![in alloc; header, batch]?;
     Ok(Item::structure(Tag::new(TAG_RESPONSE_MESSAGE), items))
 }
@@ -69,11 +70,13 @@ fn header_item(alloc: Global, now: i64) -> Result<Item, NoMemory>
     Ok(Item::structure(Tag::new(TAG_RESPONSE_HEADER), items))
 }
 
-/// The Batch Item of the reply.
+/// The Batch Item of a reply.
+///
+/// # Errors
+/// Where there is no memory for it.
 #[tactic(auto, unfolding(crate::specs::ReplyFormats::answered_format, crate::specs::ReplyFormats::outcome_format, crate::specs::ReplyFormats::success_format, crate::specs::Parts::id_format))]
-fn batch_item(alloc: Global, reply: &Reply) -> Result<Item, NoMemory>
-    ensures { IfOk result (λ i. view i
-        ≡ node TAG_BATCH_ITEM (inside (answered_format.write reply.now))) }
+pub fn write_answer(alloc: Global, reply: &Reply) -> Result<Item, NoMemory>
+    ensures { IfOk result (λ i. view i ≡ answer_item reply.now) }
 {
     let mut items = Vec::new(alloc);
     push_enumeration(&mut items, TAG_OPERATION, reply.operation)?;

@@ -7,6 +7,7 @@ ghost use Rattle.kmip_ttlv.specs.View.{view, views};
 ghost use Rattle.kmip_ttlv.specs.Fitting.{IsInRange};
 ghost use Rattle.kmip_ttlv.specs.Spelling.{canon, Spells};
 ghost use Rattle.kmip_fields.specs.Faults.{is_no_memory};
+ghost use Rattle.kmip_messages.specs.BatchItems.{question_at};
 ghost use Rattle.kmip_messages.specs.Items.{AsksAlone, AsksNothing};
 ghost use Rattle.kmip_objects.specs.Ranges.{is_name, attrs_fit};
 ghost use Rattle.kmip_messages.specs.Ranges.{is_batch_id};
@@ -105,6 +106,34 @@ fn request_of(alloc: Global, item: &Item) -> Result<Request, Refusal>
             operation: Some(operation),
             id,
         }),
+    }
+}
+
+/// The question that the items of a Batch Item are: a request, or why it is refused.
+///
+/// # Errors
+/// The fault of the Unique Batch Item ID or of the Operation, without which there is no question to
+/// answer; want of memory.
+#[tactic(auto, unfolding(crate::specs::BatchItems::question_at, crate::specs::RequestFormats::known_format))]
+pub fn read_question(
+    alloc: Global,
+    batch: &[Item],
+) -> Result<Result<Request, Refusal>, MessageFault>
+    ensures exact { Gives (λ q. q) result (question_at (views batch.now)) }
+    ensures fits { IfOk result (λ q. IfOk q (λ r. IsTrue (request_fits r))) }
+    ensures carries { IfOk result (λ q.
+        IfErr q (λ e. IsTrue (option_map_or is_batch_id e.id true))) }
+{
+    let id = id_of(alloc, batch)?;
+    let operation = the_enumeration(batch, TAG_OPERATION)?;
+    match ask_of(alloc, operation, batch) {
+        Ok(ask) => Ok(Ok(Request { id, ask })),
+        Err(MessageFault::NoMemory) => Err(MessageFault::NoMemory),
+        Err(fault) => Ok(Err(Refusal {
+            fault,
+            operation: Some(operation),
+            id,
+        })),
     }
 }
 

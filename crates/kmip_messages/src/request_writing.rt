@@ -3,6 +3,7 @@ ghost use Rattle.std.specs.Prelude.{◌≡◌, ◌∷◌, [], Ok, IsTrue, IfOk};
 ghost use Rattle.kmip_ttlv.specs.Node.{node};
 ghost use Rattle.kmip_ttlv.specs.View.{view, views};
 ghost use Rattle.kmip_ttlv.specs.Spelling.{canon};
+ghost use Rattle.kmip_messages.specs.BatchItems.{question_item};
 ghost use Rattle.kmip_messages.specs.Items.{parts_in, requests_in};
 ghost use Rattle.kmip_messages.specs.RequestFits.{request_fits};
 ghost use Rattle.kmip_fields.specs.Formats.{inside};
@@ -58,7 +59,7 @@ fn message_item(alloc: Global, request: &Request) -> Result<Item, NoMemory>
     ensures { IfOk result (λ i. view i ≡ request_item request.now) }
 {
     let header = header_item(alloc)?;
-    let batch = batch_item(alloc, request)?;
+    let batch = write_question(alloc, request)?;
     let items = vec![in alloc; header, batch]?;
     Ok(Item::structure(Tag::new(TAG_REQUEST_MESSAGE), items))
 }
@@ -75,11 +76,13 @@ fn header_item(alloc: Global) -> Result<Item, NoMemory>
     Ok(Item::structure(Tag::new(TAG_REQUEST_HEADER), items))
 }
 
-/// The Batch Item of the request.
+/// The Batch Item of a request.
+///
+/// # Errors
+/// Where there is no memory for it.
 #[tactic(auto, unfolding(crate::specs::RequestFormats::item_format, crate::specs::RequestFormats::known_format, crate::specs::RequestFormats::asked_format, crate::specs::Parts::id_format))]
-fn batch_item(alloc: Global, request: &Request) -> Result<Item, NoMemory>
-    ensures { IfOk result (λ i. view i
-        ≡ node TAG_BATCH_ITEM (inside (item_format.write request.now))) }
+pub fn write_question(alloc: Global, request: &Request) -> Result<Item, NoMemory>
+    ensures { IfOk result (λ i. view i ≡ question_item request.now) }
 {
     let payload = ask_items(alloc, &request.ask)?;
     let mut items = Vec::new(alloc);

@@ -6,6 +6,8 @@
 
 pub const TAG_BATCH_COUNT: u32 = 0x42000D;
 
+pub const TAG_BATCH_ERROR_CONTINUATION_OPTION: u32 = 0x42000E;
+
 pub const TAG_BATCH_ITEM: u32 = 0x42000F;
 
 pub const TAG_CRYPTOGRAPHIC_ALGORITHM: u32 = 0x420028;
@@ -106,11 +108,25 @@ pub const REASON_WRONG_STATE: u32 = 0x43;
 /// All the room of the server is used up (own).
 pub const REASON_SERVER_FULL: u32 = 0x100;
 
+// Batch error continuation options.
+
+/// The questions behind a failure are done.
+pub const CONTINUE: u32 = 0x1;
+
+/// The questions behind a failure are left.
+pub const STOP: u32 = 0x2;
+
+/// The questions before a failure are undone.
+pub const UNDO: u32 = 0x3;
+
 // The version of the protocol.
 
 pub const VERSION_MAJOR: i32 = 2;
 
 pub const VERSION_MINOR: i32 = 1;
+
+/// The most questions of a message (own).
+pub const MOST_QUESTIONS: usize = 8;
 
 /// The most bytes of a Unique Batch Item ID (own).
 pub const ID_MAX: usize = 128;

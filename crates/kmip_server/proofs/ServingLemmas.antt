@@ -44,6 +44,7 @@ refusal_is (faults.WrongType t) refusal read h some = h
 refusal_is (faults.OutOfRange t) refusal read h some = h
 refusal_is faults.UnknownOperation refusal read h some = h
 refusal_is faults.NoMemory refusal read h some = cc
+refusal_is faults.Undo refusal read h some = h
 
 -- a refusal with a reason is that of reading
 pub refusal_read : (refusal : Refusal) (read : Result Request Refusal) → RefusalIs refusal.fault refusal read

@@ -13,10 +13,12 @@ use Rattle.kmip_fields.specs.declared.fault.MessageFault.TheVariants.{
   OutOfRange,
   UnknownOperation,
   NoMemory,
+  Undo,
 }
 use Rattle.kmip_messages.specs.declared.standard.TheConstants.{
   REASON_INVALID_MESSAGE,
   REASON_OPERATION_NOT_SUPPORTED,
+  REASON_FEATURE_NOT_SUPPORTED,
   REASON_MISSING_DATA,
   REASON_INVALID_FIELD,
   REASON_ITEM_NOT_FOUND,
@@ -38,6 +40,7 @@ message_reason (WrongType tag) = Some REASON_INVALID_FIELD
 message_reason (OutOfRange tag) = Some REASON_INVALID_FIELD
 message_reason UnknownOperation = Some REASON_OPERATION_NOT_SUPPORTED
 message_reason NoMemory = None
+message_reason Undo = Some REASON_FEATURE_NOT_SUPPORTED
 
 abbrev pub store_reason : StoreFault → Option ℕ
 store_reason store.NotFound = Some REASON_ITEM_NOT_FOUND

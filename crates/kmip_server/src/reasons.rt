@@ -4,7 +4,7 @@ ghost use Rattle.kmip_server.specs.Reasons.{message_reason, store_reason};
 
 use kmip_messages::MessageFault;
 use kmip_messages::standard::{
-    REASON_INVALID_FIELD, REASON_INVALID_MESSAGE, REASON_ITEM_NOT_FOUND, REASON_MISSING_DATA,
+    REASON_FEATURE_NOT_SUPPORTED, REASON_INVALID_FIELD, REASON_INVALID_MESSAGE, REASON_ITEM_NOT_FOUND, REASON_MISSING_DATA,
     REASON_NON_UNIQUE_NAME, REASON_OPERATION_NOT_SUPPORTED, REASON_SERVER_FULL, REASON_WRONG_STATE,
 };
 use kmip_store::StoreFault;
@@ -24,6 +24,7 @@ pub(crate) fn message_reason(fault: MessageFault) -> Option<u32>
         }
         MessageFault::UnknownOperation => Some(REASON_OPERATION_NOT_SUPPORTED),
         MessageFault::NoMemory => None,
+        MessageFault::Undo => Some(REASON_FEATURE_NOT_SUPPORTED),
     }
 }
 

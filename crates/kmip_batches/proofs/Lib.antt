@@ -1,0 +1,4 @@
+mod MemberLemmas
+mod HeaderLaws
+mod BatchLaws
+mod ReplyLaws

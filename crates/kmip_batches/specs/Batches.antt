@@ -1,0 +1,98 @@
+-- Messages of one to eight Batch Items: the questions of a request, and the replies to them.
+-- Source: KMIP 2.1, Message Structure (Request Message, Response Message) and Batch Error Continuation Option; that a message has one to
+-- eight Batch Items, that Undo is refused, and the order of the checks are own.
+use Rattle.std.specs.Prelude.{◌≡◌, ℕ, ℤ, pos, Bool, true, false, not, ◌==◌, List, length, Option, Result, Ok, Err, IsTrue}
+use Rattle.std.specs.Option.{option_map, option_map_or}
+use Rattle.kmip_ttlv.specs.Binding.{◌>>=◌}
+use Rattle.kmip_ttlv.specs.Node.{Node, node, integer, enumeration}
+use Rattle.kmip_ttlv.specs.Spelling.{Spells}
+use Rattle.kmip_fields.specs.declared.fault.MessageFault.{MessageFault}
+use Rattle.kmip_fields.specs.declared.fault.MessageFault.TheVariants.{BatchCount, Undo}
+use Rattle.kmip_fields.specs.Formats.{inside}
+use Rattle.kmip_fields.specs.Siblings.{contents, guard}
+use Rattle.kmip_fields.specs.Standing.{Once, AtMostOnce}
+use Rattle.kmip_messages.specs.declared.reply.Reply.{Reply}
+use Rattle.kmip_messages.specs.declared.standard.TheConstants.{TAG_REQUEST_MESSAGE, TAG_RESPONSE_MESSAGE, TAG_REQUEST_HEADER, TAG_RESPONSE_HEADER, TAG_PROTOCOL_VERSION, TAG_PROTOCOL_VERSION_MAJOR, TAG_PROTOCOL_VERSION_MINOR, TAG_BATCH_COUNT, TAG_BATCH_ERROR_CONTINUATION_OPTION, TAG_BATCH_ITEM, UNDO, VERSION_MAJOR}
+use Rattle.kmip_messages.specs.BatchItems.{question_at, IsQuestion, IsAnswer}
+use Rattle.kmip_messages.specs.Parts.{message_at}
+use Rattle.kmip_messages.specs.ReplyFormats.{answered_format}
+use Rattle.kmip_messages.specs.Requests.{IsVersion}
+use Rattle.kmip_messages.specs.Whole.{item_in}
+use Rattle.kmip_batches.specs.declared.batch.Batch.{Batch}
+use Rattle.kmip_batches.specs.Headers.{is_option, header_format, reply_header_format}
+use Rattle.kmip_batches.specs.Members.{may_have, is_count, members_at, SayEach}
+
+-- ---- requests
+
+-- what was done before a failure is to be undone
+abbrev pub is_undo : Option ℕ → Bool
+is_undo option = option_map_or (λ o. o == UNDO) option false
+
+-- the Request Header: the version 2.1, the Batch Error Continuation Option where there is one, and the Batch Count
+pub record IsHeader (message : List Node) (option : Option ℕ) (count : ℤ) : Type 0 where
+  pub parts : List Node
+  pub stands : Once TAG_REQUEST_HEADER (inside parts) message
+  pub version : IsVersion parts
+  pub has_option : AtMostOnce TAG_BATCH_ERROR_CONTINUATION_OPTION (option_map enumeration option) parts
+  pub option_in_range : IsTrue (option_map_or is_option option true)
+  pub has_count : Once TAG_BATCH_COUNT (integer count) parts
+
+-- The item is a Request Message of these questions, which are one to eight; nothing is to be undone.
+pub record IsBatch (batch : Batch) (item : Node) : Type 0 where
+  pub message : List Node
+  pub is_message : item ≡ node TAG_REQUEST_MESSAGE (inside message)
+  pub header : IsHeader message batch.option (pos (length batch.items))
+  pub within : IsTrue (may_have (length batch.items))
+  pub keeps : IsTrue (not (is_undo batch.option))
+  pub questions : SayEach IsQuestion (contents TAG_BATCH_ITEM message) batch.items
+
+-- the questions of an item, or its first fault
+unfoldable pub batch_at : Node → Result Batch MessageFault
+batch_at n = do
+  message ← message_at TAG_REQUEST_MESSAGE n
+  header ← header_format.read message
+  counted ← guard BatchCount (is_count header.1 (length (contents TAG_BATCH_ITEM message)))
+  keeps ← guard Undo (not (is_undo header.0))
+  items ← members_at question_at message
+  Ok (record { option = header.0; items = items })
+
+-- the questions of the item that all the bytes are
+unfoldable pub batch_read : List ℕ → Result Batch MessageFault
+batch_read bytes = do
+  n ← item_in bytes
+  batch_at n
+
+-- ---- replies
+
+-- the Response Header: the version 2 with any minor number, and the Batch Count
+pub record IsReplyHeader (message : List Node) (count : ℤ) : Type 0 where
+  pub parts : List Node
+  pub stands : Once TAG_RESPONSE_HEADER (inside parts) message
+  pub version : List Node
+  pub minor : ℤ
+  pub has_version : Once TAG_PROTOCOL_VERSION (inside version) parts
+  pub has_major : Once TAG_PROTOCOL_VERSION_MAJOR (integer VERSION_MAJOR) version
+  pub has_minor : Once TAG_PROTOCOL_VERSION_MINOR (integer minor) version
+  pub has_count : Once TAG_BATCH_COUNT (integer count) parts
+
+-- The item is a Response Message of these replies, which are one to eight.
+pub record AreReplies (replies : List Reply) (item : Node) : Type 0 where
+  pub message : List Node
+  pub is_message : item ≡ node TAG_RESPONSE_MESSAGE (inside message)
+  pub header : IsReplyHeader message (pos (length replies))
+  pub within : IsTrue (may_have (length replies))
+  pub answers : SayEach IsAnswer (contents TAG_BATCH_ITEM message) replies
+
+-- the replies of an item, or its first fault
+unfoldable pub replies_at : Node → Result (List Reply) MessageFault
+replies_at n = do
+  message ← message_at TAG_RESPONSE_MESSAGE n
+  count ← (reply_header_format (pos 0)).read message
+  counted ← guard BatchCount (is_count count (length (contents TAG_BATCH_ITEM message)))
+  members_at answered_format.read message
+
+-- the replies of the item that all the bytes are
+unfoldable pub replies_read : List ℕ → Result (List Reply) MessageFault
+replies_read bytes = do
+  n ← item_in bytes
+  replies_at n

@@ -1,0 +1,4 @@
+pub mod Headers
+pub mod Members
+pub mod Batches
+pub mod Written

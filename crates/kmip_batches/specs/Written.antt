@@ -1,0 +1,46 @@
+-- The item of each message, and which have a written form.
+-- Source: KMIP 2.1, Message Structure; that Continue stands where two questions or more are asked is own.
+use Rattle.std.specs.Prelude.{ℕ, ℤ, pos, Bool, ◌&&◌, nat_le, List, [], ◌∷◌, ◌++◌, length, map, Option, Some, None, Ok}
+use Rattle.std.specs.List.{list_all}
+use Rattle.kmip_ttlv.specs.Limits.{most_bytes}
+use Rattle.kmip_ttlv.specs.Node.{Node, node}
+use Rattle.kmip_ttlv.specs.Sizes.{size}
+use Rattle.kmip_fields.specs.Formats.{inside}
+use Rattle.kmip_messages.specs.declared.reply.Reply.{Reply}
+use Rattle.kmip_messages.specs.declared.request.Request.{Request}
+use Rattle.kmip_messages.specs.declared.standard.TheConstants.{TAG_REQUEST_MESSAGE, TAG_RESPONSE_MESSAGE, CONTINUE}
+use Rattle.kmip_messages.specs.BatchItems.{question_item, answer_item, answer_fits}
+use Rattle.kmip_messages.specs.RequestFits.{request_fits}
+use Rattle.kmip_batches.specs.declared.batch.Batch.{Batch}
+use Rattle.kmip_batches.specs.Headers.{header_format, reply_header_format}
+use Rattle.kmip_batches.specs.Members.{may_have}
+
+-- ---- requests
+
+-- the Batch Error Continuation Option of some questions: Continue, so that all are answered, where there are two or more
+abbrev pub option_of : {A : Type 0} → List A → Option ℕ
+option_of [] = None
+option_of (r ∷ []) = None
+option_of (r ∷ s ∷ rest) = Some CONTINUE
+
+-- the item of some requests
+abbrev pub requests_item : List Request → Node
+requests_item rs = node TAG_REQUEST_MESSAGE (inside (header_format.write (option_of rs, pos (length rs)) ++ map question_item rs))
+
+-- the same, as it is read
+abbrev pub batch_of : List Request → Batch
+batch_of rs = record { option = option_of rs; items = map Ok rs }
+
+-- one to eight requests whose values are in their ranges
+abbrev pub requests_fit : List Request → Bool
+requests_fit rs = may_have (length rs) && list_all request_fits rs
+
+-- ---- replies
+
+-- the item of some replies, written at a time in seconds
+abbrev pub replies_item : List Reply → ℤ → Node
+replies_item rs now = node TAG_RESPONSE_MESSAGE (inside ((reply_header_format now).write (pos (length rs)) ++ map answer_item rs))
+
+-- one to eight replies whose values are in their ranges, and whose message is not too long; it has one length at all times
+abbrev pub replies_fit : List Reply → Bool
+replies_fit rs = may_have (length rs) && list_all answer_fits rs && nat_le (size (replies_item rs (pos 0))) most_bytes

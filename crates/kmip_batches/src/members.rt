@@ -1,0 +1,51 @@
+//! The Batch Items of a message.
+ghost use Rattle.std.specs.Prelude.{◌≡◌, length};
+ghost use Rattle.std.specs.Ordering.{int_eq};
+ghost use Rattle.kmip_ttlv.specs.View.{views};
+ghost use Rattle.kmip_fields.specs.Siblings.{contents};
+ghost use Rattle.kmip_batches.specs.Members.{may_have, is_count, all_structures};
+
+use kmip_fields::MessageFault;
+use kmip_messages::standard::{MOST_QUESTIONS, TAG_BATCH_ITEM};
+use kmip_ttlv::{Item, Tag};
+
+/// How many Batch Items the message has.
+pub(crate) fn count_of(message: &[Item]) -> usize
+    ensures { result ≡ length (contents TAG_BATCH_ITEM (views message.now)) }
+{
+    let mut count = 0;
+    for item in message {
+        if item.tag().number() == TAG_BATCH_ITEM {
+            count += 1;
+        }
+    }
+    count
+}
+
+/// Whether a message may have so many Batch Items: one to eight.
+pub(crate) fn may_have(there: usize) -> bool
+    ensures { result ≡ may_have there }
+{
+    1 <= there && there <= MOST_QUESTIONS
+}
+
+/// Whether there are as many Batch Items as the Batch Count says, and a message may have them.
+pub(crate) fn is_count(count: i32, there: usize) -> bool
+    ensures { result ≡ is_count count there }
+{
+    may_have(there) && i64::from(count) == there as i64
+}
+
+/// Every Batch Item is a Structure.
+pub(crate) fn all_structures(message: &[Item]) -> Result<(), MessageFault>
+    ensures { result ≡ all_structures (contents TAG_BATCH_ITEM (views message.now)) }
+{
+    for item in message {
+        if item.tag().number() == TAG_BATCH_ITEM {
+            if item.as_structure().is_none() {
+                return Err(MessageFault::WrongType(Tag::new(TAG_BATCH_ITEM)));
+            }
+        }
+    }
+    Ok(())
+}

@@ -1,0 +1,129 @@
+//! The questions of a request, from bytes.
+ghost use Rattle.std.specs.Prelude.{◌≡◌, ◌&&◌, true};
+ghost use Rattle.std.specs.Option.{option_map_or};
+ghost use Rattle.std.specs.Ordering.{int_eq};
+ghost use Rattle.kmip_ttlv.specs.Node.{content_of};
+ghost use Rattle.kmip_ttlv.specs.View.{view, views};
+ghost use Rattle.kmip_fields.specs.Reading.{Gives};
+ghost use Rattle.kmip_fields.specs.Siblings.{contents};
+ghost use Rattle.kmip_messages.specs.BatchItems.{question_at};
+ghost use Rattle.kmip_batches.specs.Batches.{is_undo, batch_at, batch_read};
+ghost use Rattle.kmip_batches.specs.Headers.{is_option, header_format};
+ghost use Rattle.kmip_batches.specs.Members.{member_in, members_in};
+
+use crate::batch::{Batch, Questions};
+use crate::members::{count_of, is_count, all_structures};
+use kmip_fields::{
+    MessageFault, check, enumeration_if_any, the_integer, the_structure, within,
+};
+use kmip_messages::standard::{
+    CONTINUE, STOP, TAG_BATCH_COUNT, TAG_BATCH_ERROR_CONTINUATION_OPTION, TAG_BATCH_ITEM,
+    TAG_PROTOCOL_VERSION, TAG_PROTOCOL_VERSION_MAJOR, TAG_PROTOCOL_VERSION_MINOR,
+    TAG_REQUEST_HEADER, TAG_REQUEST_MESSAGE, UNDO, VERSION_MAJOR, VERSION_MINOR,
+};
+use kmip_messages::{Refusal, Request, message_of, read_question, whole_item};
+use kmip_ttlv::{Item, Tag};
+use std::alloc::Global;
+
+/// The questions of the request that all the bytes are.
+///
+/// # Errors
+/// The first fault of the message, which refuses it whole; want of memory otherwise.
+pub fn read_request(alloc: Global, bytes: &[u8]) -> Result<Batch, MessageFault>
+    ensures exact { Gives (λ b. b) result (batch_read bytes.now) }
+{
+    whole_batch(alloc, bytes)
+}
+
+/// The same, by the order of the checks.
+#[tactic(auto, unfolding(crate::specs::Batches::batch_read))]
+fn whole_batch(alloc: Global, bytes: &[u8]) -> Result<Batch, MessageFault>
+    ensures { Gives (λ b. b) result (batch_read bytes.now) }
+{
+    let item = whole_item(alloc, bytes)?;
+    let batch = batch_of(alloc, &item)?;
+    Ok(batch)
+}
+
+/// The questions of the request that an item is.
+#[tactic(auto, unfolding(crate::specs::Batches::batch_at, crate::specs::Members::members_at))]
+fn batch_of(alloc: Global, item: &Item) -> Result<Batch, MessageFault>
+    ensures { Gives (λ b. b) result (batch_at (view item.now)) }
+{
+    let message = message_of(item, TAG_REQUEST_MESSAGE)?;
+    let (option, count) = header_of(message)?;
+    check(is_count(count, count_of(message)), MessageFault::BatchCount)?;
+    check(!is_undo(option), MessageFault::Undo)?;
+    all_structures(message)?;
+    let items = questions_of(alloc, message)?;
+    Ok(Batch { option, items })
+}
+
+/// The option and the count of a request's header, whose version is 2.1.
+#[tactic(auto, unfolding(crate::specs::Headers::header_format, crate::specs::Headers::header_parts_format, crate::specs::Headers::option_format, kmip_messages::specs::RequestFormats::version_parts_format))]
+fn header_of(message: &[Item]) -> Result<(Option<u32>, i32), MessageFault>
+    ensures { Gives (λ p. p) result (header_format.read (views message.now)) }
+{
+    let header = the_structure(message, TAG_REQUEST_HEADER)?;
+    let version = the_structure(header, TAG_PROTOCOL_VERSION)?;
+    let major = the_integer(version, TAG_PROTOCOL_VERSION_MAJOR)?;
+    let minor = the_integer(version, TAG_PROTOCOL_VERSION_MINOR)?;
+    check(is_version(major, minor), MessageFault::Version)?;
+    let option = enumeration_if_any(header, TAG_BATCH_ERROR_CONTINUATION_OPTION)?;
+    within(TAG_BATCH_ERROR_CONTINUATION_OPTION, is_option_if_any(option))?;
+    let count = the_integer(header, TAG_BATCH_COUNT)?;
+    Ok((option, count))
+}
+
+fn is_version(major: i32, minor: i32) -> bool
+    ensures { result ≡ (int_eq major VERSION_MAJOR && int_eq minor VERSION_MINOR) }
+{
+    major == VERSION_MAJOR && minor == VERSION_MINOR
+}
+
+/// Whether there is no option, or one of the standard's three.
+fn is_option_if_any(option: Option<u32>) -> bool
+    ensures { result ≡ option_map_or is_option option true }
+{
+    match option {
+        Some(option) => option == CONTINUE || option == STOP || option == UNDO,
+        None => true,
+    }
+}
+
+/// Whether what was done before a failure is to be undone.
+fn is_undo(option: Option<u32>) -> bool
+    ensures { result ≡ is_undo option }
+{
+    match option {
+        Some(option) => option == UNDO,
+        None => false,
+    }
+}
+
+/// The questions of the Batch Items of a message, in their order.
+fn questions_of(alloc: Global, message: &[Item]) -> Result<Questions, MessageFault>
+    ensures { Gives (λ q. q) result
+        (members_in question_at (contents TAG_BATCH_ITEM (views message.now))) }
+{
+    let mut questions = Vec::new(alloc);
+    for item in message {
+        if item.tag().number() == TAG_BATCH_ITEM {
+            let question = question_in(alloc, item)?;
+            questions.push(question)?;
+        }
+    }
+    Ok(Questions::from_vec(questions))
+}
+
+/// The question that a Batch Item is.
+#[tactic(auto, unfolding(crate::specs::Members::member_in))]
+fn question_in(alloc: Global, item: &Item) -> Result<Result<Request, Refusal>, MessageFault>
+    ensures { Gives (λ q. q) result (member_in question_at (content_of (view item.now))) }
+{
+    let Some(parts) = item.as_structure() else {
+        return Err(MessageFault::WrongType(Tag::new(TAG_BATCH_ITEM)));
+    };
+    let question = read_question(alloc, parts)?;
+    Ok(question)
+}
