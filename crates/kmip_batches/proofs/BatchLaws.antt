@@ -1,5 +1,5 @@
 -- The questions of a request: what is read of an item is what it says, and the written form of some requests says them.
-use Rattle.std.proofs.Common.{◌≡◌, ℕ, ℤ, pos, true, ◌&&◌, not, List, [], ◌∷◌, ◌++◌, map, length, Option, Result, Ok, Err, IsTrue, refl, sym, ap, subst, ◌∙◌}
+use Rattle.std.proofs.Common.{◌≡◌, ℕ, ℤ, pos, Bool, true, false, ◌&&◌, not, nat_le, if◌then◌else◌, List, [], ◌∷◌, ◌++◌, map, length, Option, Some, None, Result, Ok, Err, IsTrue, refl, sym, ap, subst, ◌∙◌}
 use Rattle.std.specs.List.{list_all}
 use Rattle.std.specs.Ordering.{int_eq}
 use Rattle.std.proofs.lemmas.Bool.{and_parts}
@@ -13,17 +13,16 @@ use Rattle.kmip_fields.specs.Siblings.{contents}
 use Rattle.kmip_fields.proofs.FormatParts.{reads}
 use Rattle.kmip_fields.proofs.ItemReads.{reads-guard}
 use Rattle.kmip_messages.specs.declared.request.Request.{Request}
-use Rattle.kmip_messages.specs.declared.standard.TheConstants.{TAG_REQUEST_MESSAGE, TAG_BATCH_ITEM}
+use Rattle.kmip_messages.specs.declared.standard.TheConstants.{TAG_REQUEST_MESSAGE, TAG_BATCH_ITEM, CONTINUE}
 use Rattle.kmip_messages.specs.BatchItems.{Question, question_at, question_item, IsQuestion}
 use Rattle.kmip_messages.specs.RequestFits.{request_fits}
-use Rattle.kmip_messages.specs.RequestFormats.{item_format}
-use Rattle.kmip_messages.proofs.BatchItemLaws.{question-law, question_written}
-use Rattle.kmip_messages.proofs.Readers.{reads-message}
+use Rattle.kmip_messages.specs.RequestFormats.{version_parts_format, item_format}
+use Rattle.kmip_messages.proofs.BatchItemLaws.{message-law, question-law, question_written}
 use Rattle.kmip_batches.specs.declared.batch.Batch.{Batch}
 use Rattle.kmip_batches.specs.Batches.{is_undo, IsHeader, IsBatch, batch_at}
 use Rattle.kmip_batches.specs.Headers.{header_parts_format, header_format, option_format}
 use Rattle.kmip_batches.specs.Members.{may_have, is_count, SayEach}
-use Rattle.kmip_batches.specs.Written.{option_of, requests_item, batch_of, requests_fit}
+use Rattle.kmip_batches.specs.Written.{option_for, requests_item, batch_of, requests_fit}
 use Rattle.kmip_batches.proofs.HeaderLaws.{header-part, header_is, is_header}
 use Rattle.kmip_batches.proofs.MemberLemmas.{reads-members_at, say_length, part_stands, items_stand}
 
@@ -60,7 +59,7 @@ pub batch-law : (n : Node) → Reads (batch_at n) (λ b. IsBatch b n)
 unfolding batch_at
 batch-law n = reads-as (batch_at n) _ (λ b. IsBatch b n)
     (λ b (message, is, (header, says, (_, all, (_, keeps, (items, questions, same))))).
-        subst (λ x. IsBatch x n) same (batch_is n message header.0 header.1 items is says all keeps questions))
+    subst (λ x. IsBatch x n) same (batch_is n message header.0 header.1 items is says all keeps questions))
     (λ b p. (
       p.message,
       p.is_message,
@@ -74,7 +73,7 @@ batch-law n = reads-as (batch_at n) _ (λ b. IsBatch b n)
         ),
       ),
     ))
-    (reads-bind _ _ _ _ (reads-message TAG_REQUEST_MESSAGE n) (λ message.
+    (reads-bind _ _ _ _ (message-law TAG_REQUEST_MESSAGE n) (λ message.
     reads-bind _ _ _ _ (reads header_format header-part.good message) (λ header.
     reads-bind _ _ _ _ (reads-guard BatchCount (is_count header.1 (length (contents TAG_BATCH_ITEM message)))) (λ all.
     reads-bind _ _ _ _ (reads-guard Undo (not (is_undo header.0))) (λ keeps.
@@ -83,16 +82,17 @@ batch-law n = reads-as (batch_at n) _ (λ b. IsBatch b n)
 
 -- ---- written
 
-header_fits : (rs : List Request) (count : ℤ) → header_format.fits (option_of rs, count) ≡ true
-unfolding header_format header_parts_format option_format
-header_fits [] count = refl
-header_fits (r ∷ []) count = refl
-header_fits (r ∷ s ∷ rest) count = refl
+header_fits_by : (b : Bool) (count : ℤ) → header_format.fits (if b then Some CONTINUE else None, count) ≡ true
+unfolding header_format header_parts_format option_format version_parts_format
+header_fits_by true count = refl
+header_fits_by false count = refl
 
-no_undo : (rs : List Request) → not (is_undo (option_of rs)) ≡ true
-no_undo [] = refl
-no_undo (r ∷ []) = refl
-no_undo (r ∷ s ∷ rest) = refl
+no_undo_by : (b : Bool) → not (is_undo (if b then Some CONTINUE else None)) ≡ true
+no_undo_by true = refl
+no_undo_by false = refl
+
+header_fits : (there : ℕ) (count : ℤ) → header_format.fits (option_for there, count) ≡ true
+header_fits there count = header_fits_by (nat_le 2 there) count
 
 questions_written : (rs : List Request) → list_all request_fits rs ≡ true → SayEach IsQuestion (map (λ r. inside (item_format.write r)) rs) (map Ok rs)
 questions_written [] fit = tt
@@ -106,14 +106,14 @@ unfolding header_format
 requests_written rs fit =
     let parts = and_parts (may_have (length rs)) (list_all request_fits rs) fit in
     let count : length rs ≡ length (map Ok rs) = sym (length-map rs _) in
-    let message : List Node = header_format.write (option_of rs, pos (length rs)) ++ map question_item rs in
-    let says = part_stands header_format item_format.write (option_of rs, pos (length rs)) rs header-part refl (header_fits rs (pos (length rs))) in
-    let stand = items_stand header_format item_format.write (option_of rs, pos (length rs)) rs header-part refl in
+    let message : List Node = header_format.write (option_for (length rs), pos (length rs)) ++ map question_item rs in
+    let says = part_stands header_format item_format.write (option_for (length rs), pos (length rs)) rs header-part refl (header_fits (length rs) (pos (length rs))) in
+    let stand = items_stand header_format item_format.write (option_for (length rs), pos (length rs)) rs header-part refl in
     record {
       message = message;
       is_message = refl;
-      header = subst (λ k. IsHeader message (option_of rs) (pos k)) count (header_is message (option_of rs) (pos (length rs)) says);
+      header = subst (λ k. IsHeader message (option_for (length rs)) (pos k)) count (header_is message (option_for (length rs)) (pos (length rs)) says);
       within = subst (λ k. IsTrue (may_have k)) count parts.0;
-      keeps = no_undo rs;
+      keeps = no_undo_by (nat_le 2 (length rs));
       questions = subst (λ cs. SayEach IsQuestion cs (map Ok rs)) (sym stand) (questions_written rs parts.1);
     }

@@ -9,9 +9,7 @@ use Rattle.kmip_fields.proofs.FormatParts.{required-part, optional-part, unread-
 use Rattle.kmip_fields.proofs.ItemReads.{integer_kind, enumeration_kind}
 use Rattle.kmip_messages.specs.declared.standard.TheConstants.{TAG_PROTOCOL_VERSION_MAJOR, VERSION_MAJOR}
 use Rattle.kmip_messages.specs.ReplyFormats.{any_version_parts_format}
-use Rattle.kmip_messages.proofs.ReplyLaws.{any_version_parts-part}
-use Rattle.kmip_messages.proofs.RequestLaws.{version_parts-part}
-use Rattle.kmip_messages.proofs.RequestSaid.{version_is, is_version}
+use Rattle.kmip_messages.proofs.BatchItemLaws.{version-part, any_version-part, version_is, is_version}
 use Rattle.kmip_batches.specs.Batches.{IsHeader, IsReplyHeader}
 use Rattle.kmip_batches.specs.Headers.{option_format, header_parts_format, header_format, reply_header_parts_format, reply_header_format}
 
@@ -24,7 +22,7 @@ option-part = ranged-part _ _ _ (optional-part enumerations _ enumeration_kind)
 header_parts-part : IsPart header_parts_format
 unfolding header_parts_format option_format
 header_parts-part =
-    right-part _ _ refl (structure-part _ _ version_parts-part.good) (both-part _ _ refl option-part (required-part integers _ integer_kind))
+    right-part _ _ refl (structure-part _ _ version-part.good) (both-part _ _ refl option-part (required-part integers _ integer_kind))
 
 pub header-part : IsPart header_format
 unfolding header_format
@@ -50,7 +48,7 @@ is_header message option count p = (p.parts, p.stands, (is_version p.parts p.ver
 reply_header_parts-part : (now : ℤ) → IsPart (reply_header_parts_format now)
 unfolding reply_header_parts_format
 reply_header_parts-part now =
-    right-part _ _ refl (structure-part _ _ any_version_parts-part.good) (right-part _ _ refl (unread-part _ _) (required-part integers _ integer_kind))
+    right-part _ _ refl (structure-part _ _ any_version-part.good) (right-part _ _ refl (unread-part _ _) (required-part integers _ integer_kind))
 
 pub reply_header-part : (now : ℤ) → IsPart (reply_header_format now)
 unfolding reply_header_format

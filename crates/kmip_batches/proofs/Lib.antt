@@ -2,3 +2,5 @@ mod MemberLemmas
 mod HeaderLaws
 mod BatchLaws
 mod ReplyLaws
+mod SizeLemmas
+mod ByteLemmas

@@ -25,8 +25,7 @@ AreStructures (c ∷ cs) = ((parts : List Node) × (c ≡ inside parts)) × AreS
 
 -- a Batch Item that is a Structure
 reads-structure : (c : Content) → Reads (typed TAG_BATCH_ITEM (as_structure c)) (λ parts. c ≡ inside parts)
-reads-structure c = reads-as (typed TAG_BATCH_ITEM (as_structure c)) _ (λ parts. c ≡ inside parts) (λ parts e. sym e) (λ parts e. sym e)
-    (reads-typed structures structure_kind TAG_BATCH_ITEM c)
+reads-structure c = reads-typed structures structure_kind TAG_BATCH_ITEM c
 
 reads-structures : (cs : List Content) → Reads (all_structures cs) (λ u. AreStructures cs)
 unfolding AreStructures

@@ -12,9 +12,8 @@ use Rattle.kmip_fields.proofs.ItemReads.{reads-guard}
 use Rattle.kmip_messages.specs.declared.reply.Reply.{Reply}
 use Rattle.kmip_messages.specs.declared.standard.TheConstants.{TAG_RESPONSE_MESSAGE, TAG_BATCH_ITEM}
 use Rattle.kmip_messages.specs.BatchItems.{IsAnswer, answer_fits, answer_item}
-use Rattle.kmip_messages.specs.ReplyFormats.{answered_format}
-use Rattle.kmip_messages.proofs.BatchItemLaws.{answer-law, answer_written}
-use Rattle.kmip_messages.proofs.Readers.{reads-message}
+use Rattle.kmip_messages.specs.ReplyFormats.{any_version_parts_format, answered_format}
+use Rattle.kmip_messages.proofs.BatchItemLaws.{message-law, answer-law, answer_written}
 use Rattle.kmip_batches.specs.Batches.{AreReplies, replies_at}
 use Rattle.kmip_batches.specs.Headers.{reply_header_format, reply_header_parts_format}
 use Rattle.kmip_batches.specs.Members.{may_have, is_count, SayEach}
@@ -50,7 +49,7 @@ replies-law n = reads-as (replies_at n) _ (λ rs. AreReplies rs n)
         (tt, counted (length (contents TAG_BATCH_ITEM p.message)) (length rs) p.within (say_length IsAnswer _ rs p.answers), p.answers),
       ),
     ))
-    (reads-bind _ _ _ _ (reads-message TAG_RESPONSE_MESSAGE n) (λ message.
+    (reads-bind _ _ _ _ (message-law TAG_RESPONSE_MESSAGE n) (λ message.
     reads-bind _ _ _ _ (reads (reply_header_format (pos 0)) (reply_header-part (pos 0)).good message) (λ count.
     reads-bind _ _ _ _ (reads-guard BatchCount (is_count count (length (contents TAG_BATCH_ITEM message)))) (λ all.
     reads-members_at answered_format.read IsAnswer message answer-law))))
@@ -65,7 +64,7 @@ answers_written (r ∷ rest) fit =
 
 -- The written form of some replies, at any time, gives them.
 pub replies_written : (rs : List Reply) (now : ℤ) → IsTrue (may_have (length rs)) → list_all answer_fits rs ≡ true → AreReplies rs (replies_item rs now)
-unfolding reply_header_format reply_header_parts_format
+unfolding reply_header_format reply_header_parts_format any_version_parts_format
 replies_written rs now within fit =
     let says = part_stands (reply_header_format now) answered_format.write (pos (length rs)) rs (reply_header-part now) refl refl in
     let stand = items_stand (reply_header_format now) answered_format.write (pos (length rs)) rs (reply_header-part now) refl in

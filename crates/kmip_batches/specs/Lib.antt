@@ -2,3 +2,5 @@ pub mod Headers
 pub mod Members
 pub mod Batches
 pub mod Written
+pub mod Items
+pub mod Ranges

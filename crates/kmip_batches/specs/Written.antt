@@ -1,6 +1,6 @@
 -- The item of each message, and which have a written form.
 -- Source: KMIP 2.1, Message Structure; that Continue stands where two questions or more are asked is own.
-use Rattle.std.specs.Prelude.{ℕ, ℤ, pos, Bool, ◌&&◌, nat_le, List, [], ◌∷◌, ◌++◌, length, map, Option, Some, None, Ok}
+use Rattle.std.specs.Prelude.{ℕ, ◌+◌, ℤ, pos, Bool, ◌&&◌, nat_le, if◌then◌else◌, List, [], ◌∷◌, ◌++◌, length, map, Option, Some, None, Ok}
 use Rattle.std.specs.List.{list_all}
 use Rattle.kmip_ttlv.specs.Limits.{most_bytes}
 use Rattle.kmip_ttlv.specs.Node.{Node, node}
@@ -17,19 +17,17 @@ use Rattle.kmip_batches.specs.Members.{may_have}
 
 -- ---- requests
 
--- the Batch Error Continuation Option of some questions: Continue, so that all are answered, where there are two or more
-abbrev pub option_of : {A : Type 0} → List A → Option ℕ
-option_of [] = None
-option_of (r ∷ []) = None
-option_of (r ∷ s ∷ rest) = Some CONTINUE
+-- the Batch Error Continuation Option of so many questions: Continue, so that all are answered, where there are two or more
+abbrev pub option_for : ℕ → Option ℕ
+option_for there = if nat_le 2 there then Some CONTINUE else None
 
 -- the item of some requests
 abbrev pub requests_item : List Request → Node
-requests_item rs = node TAG_REQUEST_MESSAGE (inside (header_format.write (option_of rs, pos (length rs)) ++ map question_item rs))
+requests_item rs = node TAG_REQUEST_MESSAGE (inside (header_format.write (option_for (length rs), pos (length rs)) ++ map question_item rs))
 
 -- the same, as it is read
 abbrev pub batch_of : List Request → Batch
-batch_of rs = record { option = option_of rs; items = map Ok rs }
+batch_of rs = record { option = option_for (length rs); items = map Ok rs }
 
 -- one to eight requests whose values are in their ranges
 abbrev pub requests_fit : List Request → Bool
@@ -40,6 +38,11 @@ requests_fit rs = may_have (length rs) && list_all request_fits rs
 -- the item of some replies, written at a time in seconds
 abbrev pub replies_item : List Reply → ℤ → Node
 replies_item rs now = node TAG_RESPONSE_MESSAGE (inside ((reply_header_format now).write (pos (length rs)) ++ map answer_item rs))
+
+-- Private: how many bytes the Batch Items of some replies take together
+abbrev pub answers_size : List Reply → ℕ
+answers_size [] = 0
+answers_size (r ∷ rest) = size (answer_item r) + answers_size rest
 
 -- one to eight replies whose values are in their ranges, and whose message is not too long; it has one length at all times
 abbrev pub replies_fit : List Reply → Bool

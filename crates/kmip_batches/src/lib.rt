@@ -5,10 +5,16 @@
 #![tactic(auto)]
 
 mod batch;
+mod fitting;
 mod members;
 mod reply_reading;
+mod reply_writing;
 mod request_reading;
+mod request_writing;
 
 pub use batch::{Batch, Questions};
+pub use fitting::{reply_fits, request_fits};
 pub use reply_reading::read_reply;
+pub use reply_writing::write_reply;
 pub use request_reading::read_request;
+pub use request_writing::write_request;

@@ -1,12 +1,12 @@
 //! The Batch Items of a message.
-ghost use Rattle.std.specs.Prelude.{◌≡◌, length};
-ghost use Rattle.std.specs.Ordering.{int_eq};
-ghost use Rattle.kmip_ttlv.specs.View.{views};
+ghost use Rattle.std.specs.Prelude.{◌≡◌, pos, length, IsTrue};
+ghost use Rattle.kmip_ttlv.specs.Node.{node, integer};
+ghost use Rattle.kmip_ttlv.specs.View.{view, views};
 ghost use Rattle.kmip_fields.specs.Siblings.{contents};
 ghost use Rattle.kmip_batches.specs.Members.{may_have, is_count, all_structures};
 
 use kmip_fields::MessageFault;
-use kmip_messages::standard::{MOST_QUESTIONS, TAG_BATCH_ITEM};
+use kmip_messages::standard::{MOST_QUESTIONS, TAG_BATCH_COUNT, TAG_BATCH_ITEM};
 use kmip_ttlv::{Item, Tag};
 
 /// How many Batch Items the message has.
@@ -34,6 +34,14 @@ pub(crate) fn is_count(count: i32, there: usize) -> bool
     ensures { result ≡ is_count count there }
 {
     may_have(there) && i64::from(count) == there as i64
+}
+
+/// The Batch Count of so many Batch Items.
+pub(crate) fn count_item(there: usize) -> Item
+    requires { IsTrue (may_have there) }
+    ensures { view result ≡ node TAG_BATCH_COUNT (integer (pos there)) }
+{
+    Item::integer(Tag::new(TAG_BATCH_COUNT), there as i32)
 }
 
 /// Every Batch Item is a Structure.

@@ -1,15 +1,23 @@
 //! Replies, from bytes.
-ghost use Rattle.std.specs.Prelude.{◌≡◌, pos};
-ghost use Rattle.kmip_ttlv.specs.Node.{content_of};
+ghost use Rattle.std.specs.Prelude.{◌≡◌, ℤ, pos, false, List, [], Ok, IsTrue, IfOk, IfErr};
+ghost use Rattle.std.specs.List.{All};
+ghost use Rattle.kmip_ttlv.specs.Fitting.{IsInRange};
+ghost use Rattle.kmip_ttlv.specs.Node.{Node, content_of};
+ghost use Rattle.kmip_ttlv.specs.Spelling.{canon, Spells};
 ghost use Rattle.kmip_ttlv.specs.View.{view, views};
+ghost use Rattle.kmip_fields.specs.Faults.{is_no_memory};
 ghost use Rattle.kmip_fields.specs.Reading.{Gives};
 ghost use Rattle.kmip_fields.specs.Siblings.{contents};
+ghost use Rattle.kmip_messages.specs.declared.reply.Reply.{Reply};
+ghost use Rattle.kmip_messages.specs.BatchItems.{answer_fits};
 ghost use Rattle.kmip_messages.specs.ReplyFormats.{answered_format};
-ghost use Rattle.kmip_batches.specs.Batches.{replies_at, replies_read};
+ghost use Rattle.kmip_batches.specs.Batches.{AreReplies, replies_at, replies_read};
 ghost use Rattle.kmip_batches.specs.Headers.{reply_header_format};
+ghost use Rattle.kmip_batches.specs.Items.{replies_in};
 ghost use Rattle.kmip_batches.specs.Members.{member_in, members_in};
+ghost use Rattle.kmip_batches.specs.Written.{replies_item, replies_fit};
 
-use crate::members::{count_of, is_count, all_structures};
+use crate::members::{all_structures, count_of, is_count};
 use kmip_fields::{MessageFault, check, the_integer, the_structure};
 use kmip_messages::standard::{
     TAG_BATCH_COUNT, TAG_BATCH_ITEM, TAG_PROTOCOL_VERSION, TAG_PROTOCOL_VERSION_MAJOR,
@@ -24,7 +32,22 @@ use std::alloc::Global;
 /// # Errors
 /// The first fault of the message or of one of its replies; want of memory otherwise.
 pub fn read_reply(alloc: Global, bytes: &[u8]) -> Result<Vec<Reply>, MessageFault>
+    // What is read are the replies of an item that the bytes spell.
+    ensures found { IfOk result (λ v. (n : Node) × Spells n bytes.now × AreReplies v.items n) }
+    // Such replies are read, unless memory runs out.
+    ensures only { (rs : List Reply) (n : Node) → Spells n bytes.now → AreReplies rs n
+        → Gives (λ v. v.items) result (Ok rs) }
+    // What was written is read again.
+    ensures back { (rs : List Reply) (now : ℤ) → IsTrue (replies_fit rs)
+        → IsInRange (replies_item rs now) → bytes.now ≡ canon (replies_item rs now)
+        → Gives (λ v. v.items) result (Ok rs) }
+    // Which fault it is.
     ensures exact { Gives (λ v. v.items) result (replies_read bytes.now) }
+    ensures fits { IfOk result (λ v. All (λ r. IsTrue (answer_fits r)) v.items) }
+    // What the bytes say, as a list.
+    ensures says { IfOk result (λ v. replies_in bytes.now ≡ v.items) }
+    ensures refused { IfErr result (λ e. is_no_memory e ≡ false → replies_in bytes.now
+        ≡ []) }
 {
     whole_replies(alloc, bytes)
 }

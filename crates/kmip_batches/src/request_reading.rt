@@ -1,21 +1,28 @@
 //! The questions of a request, from bytes.
-ghost use Rattle.std.specs.Prelude.{◌≡◌, ◌&&◌, true};
+ghost use Rattle.std.specs.Prelude.{◌≡◌, ◌&&◌, true, false, List, [], ◌∷◌, Ok, Err, IsTrue, IfOk, IfErr};
+ghost use Rattle.std.specs.List.{All};
 ghost use Rattle.std.specs.Option.{option_map_or};
 ghost use Rattle.std.specs.Ordering.{int_eq};
-ghost use Rattle.kmip_ttlv.specs.Node.{content_of};
+ghost use Rattle.kmip_ttlv.specs.Fitting.{IsInRange};
+ghost use Rattle.kmip_ttlv.specs.Node.{Node, content_of};
+ghost use Rattle.kmip_ttlv.specs.Spelling.{canon, Spells};
 ghost use Rattle.kmip_ttlv.specs.View.{view, views};
+ghost use Rattle.kmip_fields.specs.Faults.{is_no_memory};
 ghost use Rattle.kmip_fields.specs.Reading.{Gives};
 ghost use Rattle.kmip_fields.specs.Siblings.{contents};
+ghost use Rattle.kmip_messages.specs.declared.request.Request.{Request};
 ghost use Rattle.kmip_messages.specs.BatchItems.{question_at};
-ghost use Rattle.kmip_batches.specs.Batches.{is_undo, batch_at, batch_read};
+ghost use Rattle.kmip_batches.specs.declared.batch.Batch.{Batch};
+ghost use Rattle.kmip_batches.specs.Batches.{is_undo, IsBatch, batch_at, batch_read};
 ghost use Rattle.kmip_batches.specs.Headers.{is_option, header_format};
+ghost use Rattle.kmip_batches.specs.Items.{refusal_of, parts_in, stops_with, stops_in};
 ghost use Rattle.kmip_batches.specs.Members.{member_in, members_in};
+ghost use Rattle.kmip_batches.specs.Ranges.{QuestionFits};
+ghost use Rattle.kmip_batches.specs.Written.{requests_item, batch_of, requests_fit};
 
 use crate::batch::{Batch, Questions};
-use crate::members::{count_of, is_count, all_structures};
-use kmip_fields::{
-    MessageFault, check, enumeration_if_any, the_integer, the_structure, within,
-};
+use crate::members::{all_structures, count_of, is_count};
+use kmip_fields::{MessageFault, check, enumeration_if_any, the_integer, the_structure, within};
 use kmip_messages::standard::{
     CONTINUE, STOP, TAG_BATCH_COUNT, TAG_BATCH_ERROR_CONTINUATION_OPTION, TAG_BATCH_ITEM,
     TAG_PROTOCOL_VERSION, TAG_PROTOCOL_VERSION_MAJOR, TAG_PROTOCOL_VERSION_MINOR,
@@ -30,7 +37,23 @@ use std::alloc::Global;
 /// # Errors
 /// The first fault of the message, which refuses it whole; want of memory otherwise.
 pub fn read_request(alloc: Global, bytes: &[u8]) -> Result<Batch, MessageFault>
+    // What is read are the questions of an item that the bytes spell.
+    ensures found { IfOk result (λ b. (n : Node) × Spells n bytes.now × IsBatch b n) }
+    // Such questions are read, unless memory runs out.
+    ensures only { (b : Batch) (n : Node) → Spells n bytes.now → IsBatch b n
+        → Gives (λ x. x) result (Ok b) }
+    // What was written is read again.
+    ensures back { (rs : List Request) → IsTrue (requests_fit rs)
+        → IsInRange (requests_item rs) → bytes.now ≡ canon (requests_item rs)
+        → Gives (λ x. x) result (Ok (batch_of rs)) }
+    // Which fault it is.
     ensures exact { Gives (λ b. b) result (batch_read bytes.now) }
+    ensures fits { IfOk result (λ b. All QuestionFits b.items) }
+    // What the bytes ask, as lists.
+    ensures asks { IfOk result (λ b. (parts_in bytes.now ≡ b.items)
+        × (stops_in bytes.now ≡ stops_with b.option)) }
+    ensures refused { IfErr result (λ e. is_no_memory e ≡ false
+        → (parts_in bytes.now ≡ Err (refusal_of e) ∷ []) × (stops_in bytes.now ≡ true)) }
 {
     whole_batch(alloc, bytes)
 }
@@ -70,7 +93,10 @@ fn header_of(message: &[Item]) -> Result<(Option<u32>, i32), MessageFault>
     let minor = the_integer(version, TAG_PROTOCOL_VERSION_MINOR)?;
     check(is_version(major, minor), MessageFault::Version)?;
     let option = enumeration_if_any(header, TAG_BATCH_ERROR_CONTINUATION_OPTION)?;
-    within(TAG_BATCH_ERROR_CONTINUATION_OPTION, is_option_if_any(option))?;
+    within(
+        TAG_BATCH_ERROR_CONTINUATION_OPTION,
+        is_option_if_any(option),
+    )?;
     let count = the_integer(header, TAG_BATCH_COUNT)?;
     Ok((option, count))
 }

@@ -4,30 +4,69 @@ use Rattle.std.proofs.Common.{◌≡◌, ℕ, Bool, true, ◌&&◌, List, Option
 use Rattle.std.specs.Prelude.{IfOk, IfErr}
 use Rattle.std.specs.Option.{option_map_or}
 use Rattle.std.proofs.lemmas.Bool.{and_parts}
-use Rattle.kmip_ttlv.specs.Node.{Node, enumeration}
+use Rattle.kmip_ttlv.specs.Node.{Node, node, enumeration}
+use Rattle.kmip_ttlv.specs.Fitting.{IsBytes}
+use Rattle.kmip_ttlv.specs.Spelling.{Spells}
 use Rattle.kmip_ttlv.proofs.ReadSteps.{Reads, reads-ok, reads-bind, reads-as, err}
 use Rattle.kmip_fields.specs.declared.fault.MessageFault.{MessageFault}
+use Rattle.kmip_fields.specs.Formats.{inside, structure_of}
+use Rattle.kmip_fields.specs.FormatLaws.{IsPart}
 use Rattle.kmip_fields.specs.Standing.{Once}
 use Rattle.kmip_fields.proofs.FormatParts.{reads}
 use Rattle.kmip_messages.specs.declared.refusal.Refusal.{Refusal}
 use Rattle.kmip_messages.specs.declared.request.Ask.{Ask}
 use Rattle.kmip_messages.specs.declared.request.Request.{Request}
 use Rattle.kmip_messages.specs.declared.reply.Reply.{Reply}
-use Rattle.kmip_messages.specs.declared.standard.TheConstants.{TAG_OPERATION}
+use Rattle.kmip_messages.specs.declared.standard.TheConstants.{TAG_OPERATION, TAG_PROTOCOL_VERSION}
 use Rattle.kmip_messages.specs.BatchItems.{Question, question, question_at, IsQuestion, IsAnswer, answer_fits}
 use Rattle.kmip_messages.specs.Fits.{outcome_fits, HasValuesInRange}
 use Rattle.kmip_messages.specs.Operations.{operation_of}
+use Rattle.kmip_messages.specs.Parts.{message_at}
 use Rattle.kmip_messages.specs.Ranges.{is_batch_id}
-use Rattle.kmip_messages.specs.ReplyFormats.{answered_format}
+use Rattle.kmip_messages.specs.ReplyFormats.{any_version_parts_format, answered_format}
 use Rattle.kmip_messages.specs.RequestFits.{ask_fits, request_fits}
-use Rattle.kmip_messages.specs.RequestFormats.{known_format, asked_format, item_format}
+use Rattle.kmip_messages.specs.RequestFormats.{version_parts_format, known_format, asked_format, item_format}
+use Rattle.kmip_messages.specs.Requests.{IsVersion}
+use Rattle.kmip_messages.specs.Whole.{item_in}
 use Rattle.kmip_messages.proofs.AskedLemmas as asked
+use Rattle.kmip_messages.proofs.Readers as readers
 use Rattle.kmip_messages.proofs.Readers.{id_is, is_id}
+use Rattle.kmip_messages.proofs.ReplyLaws as reply_laws
 use Rattle.kmip_messages.proofs.ReplyLaws.{answered-good, answer_in_format}
 use Rattle.kmip_messages.proofs.ReplySaid.{outcome_is, is_outcome}
+use Rattle.kmip_messages.proofs.RequestLaws as request_laws
 use Rattle.kmip_messages.proofs.RequestLaws.{known-part, asked-part, asked_is_own, item-good, item_fits}
+use Rattle.kmip_messages.proofs.RequestSaid as request_said
 use Rattle.kmip_messages.proofs.RequestSaid.{ask_is, is_ask}
 use Rattle.kmip_messages.proofs.SaidLemmas.{outcome_in_range}
+use Rattle.kmip_messages.proofs.WholeLaws as whole
+
+-- ---- messages and their versions
+
+-- the items of a message of this tag
+pub message-law : (tag : ℕ) (n : Node) → Reads (message_at tag n) (λ items. n ≡ node tag (inside items))
+message-law tag n = readers.reads-message tag n
+
+-- the item that all the bytes are
+pub whole-law : (bytes : List ℕ) → IsBytes bytes → Reads (item_in bytes) (λ n. Spells n bytes)
+whole-law bytes octets = whole.item_in-law bytes octets
+
+-- the half of it that holds of all numbers
+pub whole-complete : (bytes : List ℕ) (n : Node) → Spells n bytes → item_in bytes ≡ Ok n
+whole-complete bytes n spells = whole.item_in-complete bytes n spells
+
+-- the Protocol Version of a request, and of a reply
+pub version-part : IsPart version_parts_format
+version-part = request_laws.version_parts-part
+
+pub any_version-part : IsPart any_version_parts_format
+any_version-part = reply_laws.any_version_parts-part
+
+pub version_is : (header : List Node) → (structure_of TAG_PROTOCOL_VERSION version_parts_format).Says header tt → IsVersion header
+version_is header says = request_said.version_is header says
+
+pub is_version : (header : List Node) → IsVersion header → (structure_of TAG_PROTOCOL_VERSION version_parts_format).Says header tt
+is_version header is = request_said.is_version header is
 
 -- ---- questions
 

@@ -115,11 +115,10 @@ pub(crate) fn name_item(alloc: Global, name: &Text) -> Result<Item, NoMemory>
 }
 
 /// Puts an Enumeration at the end, where there is one.
-pub(crate) fn push_enumeration(
-    items: &mut Vec<Item>,
-    tag: u32,
-    value: Option<u32>,
-) -> Result<(), NoMemory>
+///
+/// # Errors
+/// Where there is no memory for it.
+pub fn push_enumeration(items: &mut Vec<Item>, tag: u32, value: Option<u32>) -> Result<(), NoMemory>
     requires { tag < 2 ^ 24 }
     ensures { OnOk result
         (views items.new.items ≡ views items.old.items
@@ -155,7 +154,10 @@ pub(crate) fn push_integer(
 }
 
 /// Puts an item at the end.
-pub(crate) fn push(items: &mut Vec<Item>, item: Item) -> Result<(), NoMemory>
+///
+/// # Errors
+/// Where there is no memory for it.
+pub fn push(items: &mut Vec<Item>, item: Item) -> Result<(), NoMemory>
     ensures { OnOk result (views items.new.items ≡ views items.old.items ++ view item ∷ []) }
 {
     items.push(item)?;

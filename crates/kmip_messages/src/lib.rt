@@ -18,13 +18,13 @@ mod request_reading;
 mod request_writing;
 pub mod standard;
 
-pub use building::version_item;
+pub use building::{push, push_enumeration, version_item};
 pub use fitting::{answer_fits, answer_size, reply_fits, request_fits};
 pub use kmip_fields::MessageFault;
 pub use kmip_objects::{Attrs, KeyAttrs, KeyState, Step, Texts};
+pub use parts::{message_of, whole_item};
 pub use refusal::Refusal;
 pub use reply::{Outcome, Reply};
-pub use parts::{message_of, whole_item};
 pub use reply_reading::{read_answer, read_reply};
 pub use reply_writing::{write_answer, write_reply};
 pub use request::{Ask, Request};
