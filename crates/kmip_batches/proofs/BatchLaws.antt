@@ -1,11 +1,11 @@
 -- The questions of a request: what is read of an item is what it says, and the written form of some requests says them.
-use Rattle.std.proofs.Common.{◌≡◌, ℕ, ℤ, pos, Bool, true, false, ◌&&◌, not, nat_le, if◌then◌else◌, List, [], ◌∷◌, ◌++◌, map, length, Option, Some, None, Result, Ok, Err, IsTrue, refl, sym, ap, subst, ◌∙◌}
+use Rattle.std.proofs.Common.{◌≡◌, ℕ, ℤ, pos, Bool, true, false, ◌&&◌, not, nat_le, if◌then◌else◌, List, [], ◌∷◌, ◌++◌, map, length, Option, Some, None, Ok, IsTrue, refl, sym, ap, subst, ◌∙◌}
 use Rattle.std.specs.List.{list_all}
 use Rattle.std.specs.Ordering.{int_eq}
 use Rattle.std.proofs.lemmas.Bool.{and_parts}
 use Rattle.std.proofs.lemmas.Bool.Decides.{Decides-int_eq}
 use Rattle.std.proofs.lemmas.List.{length-map}
-use Rattle.kmip_ttlv.specs.Node.{Node, node, Content}
+use Rattle.kmip_ttlv.specs.Node.{Node, node}
 use Rattle.kmip_ttlv.proofs.ReadSteps.{Reads, reads-ok, reads-bind, reads-as}
 use Rattle.kmip_fields.specs.declared.fault.MessageFault.TheVariants.{BatchCount, Undo}
 use Rattle.kmip_fields.specs.Formats.{inside}
@@ -18,7 +18,6 @@ use Rattle.kmip_messages.specs.BatchItems.{Question, question_at, question_item,
 use Rattle.kmip_messages.specs.RequestFits.{request_fits}
 use Rattle.kmip_messages.specs.RequestFormats.{version_parts_format, item_format}
 use Rattle.kmip_messages.proofs.BatchItemLaws.{message-law, question-law, question_written}
-use Rattle.kmip_batches.specs.declared.batch.Batch.{Batch}
 use Rattle.kmip_batches.specs.Batches.{is_undo, IsHeader, IsBatch, batch_at}
 use Rattle.kmip_batches.specs.Headers.{header_parts_format, header_format, option_format}
 use Rattle.kmip_batches.specs.Members.{may_have, is_count, SayEach}
@@ -59,7 +58,7 @@ pub batch-law : (n : Node) → Reads (batch_at n) (λ b. IsBatch b n)
 unfolding batch_at
 batch-law n = reads-as (batch_at n) _ (λ b. IsBatch b n)
     (λ b (message, is, (header, says, (_, all, (_, keeps, (items, questions, same))))).
-    subst (λ x. IsBatch x n) same (batch_is n message header.0 header.1 items is says all keeps questions))
+        subst (λ x. IsBatch x n) same (batch_is n message header.0 header.1 items is says all keeps questions))
     (λ b p. (
       p.message,
       p.is_message,

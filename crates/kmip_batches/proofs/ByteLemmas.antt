@@ -1,8 +1,7 @@
 -- What bytes ask and say, by what is read of them.
-use Rattle.std.proofs.Common.{◌≡◌, ℕ, ℤ, pos, Bool, true, false, ◌&&◌, nat_le, not, if◌then◌else◌, List, [], ◌∷◌, ◌++◌, length, map, Option, Some, None, Result, Ok, Err, IsTrue, refl, sym, ap, subst, ◌∙◌}
+use Rattle.std.proofs.Common.{◌≡◌, ℕ, ℤ, Bool, true, false, nat_le, not, if◌then◌else◌, List, [], ◌∷◌, ◌++◌, length, map, Some, None, Result, Ok, Err, IsTrue, refl, ap, subst, ◌∙◌}
 use Rattle.std.specs.Prelude.{IfOk, IfErr}
-use Rattle.std.specs.List.{All, list_all, filter_map}
-use Rattle.std.specs.Option.{option_map_or}
+use Rattle.std.specs.List.{All, filter_map}
 use Rattle.std.specs.Result.{result_ok}
 use Rattle.std.proofs.lemmas.List.Elements.{All-nil, All-cons}
 use Rattle.kmip_ttlv.specs.Binding.{◌>>=◌}
@@ -21,8 +20,6 @@ use Rattle.kmip_messages.specs.declared.reply.Reply.{Reply}
 use Rattle.kmip_messages.specs.declared.request.Request.{Request}
 use Rattle.kmip_messages.specs.declared.standard.TheConstants.{TAG_BATCH_ITEM, CONTINUE}
 use Rattle.kmip_messages.specs.BatchItems.{Question, IsQuestion, IsAnswer, answer_fits}
-use Rattle.kmip_messages.specs.Ranges.{is_batch_id}
-use Rattle.kmip_messages.specs.RequestFits.{request_fits}
 use Rattle.kmip_messages.specs.Whole.{item_in}
 use Rattle.kmip_messages.proofs.BatchItemLaws.{whole-law, whole-complete, question_in_range, refusal_in_range, answer_in_range}
 use Rattle.kmip_batches.specs.declared.batch.Batch.{Batch}
@@ -30,7 +27,7 @@ use Rattle.kmip_batches.specs.Batches.{IsBatch, AreReplies, batch_at, batch_read
 use Rattle.kmip_batches.specs.Items.{refusal_of, parts_of, parts_in, stops_with, stops_of, stops_in, requests_in, replies_of, replies_in}
 use Rattle.kmip_batches.specs.Members.{SayEach}
 use Rattle.kmip_batches.specs.Ranges.{QuestionFits}
-use Rattle.kmip_batches.specs.Written.{option_for, requests_item, batch_of, requests_fit, replies_item, replies_fit}
+use Rattle.kmip_batches.specs.Written.{requests_item, batch_of, requests_fit, replies_item, replies_fit}
 use Rattle.kmip_batches.proofs.BatchLaws.{batch-law, requests_written}
 use Rattle.kmip_batches.proofs.ReplyLaws.{replies-law, replies_written}
 use Rattle.kmip_batches.proofs.SizeLemmas.{requests_writable, replies_writable, replies_fit_parts}

@@ -1,5 +1,5 @@
 -- The headers: what is read of them is what they say, and what is written says it.
-use Rattle.std.proofs.Common.{◌≡◌, ℕ, ℤ, pos, true, List, [], ◌∷◌, Option, refl, subst}
+use Rattle.std.proofs.Common.{ℕ, ℤ, List, Option, refl, subst}
 use Rattle.std.proofs.lemmas.Bool.Decides.{Decides-int_eq}
 use Rattle.kmip_ttlv.specs.Node.{Node, integer}
 use Rattle.kmip_fields.specs.Formats.{integers, enumerations}

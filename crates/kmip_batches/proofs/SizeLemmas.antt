@@ -5,7 +5,7 @@ use Rattle.std.proofs.lemmas.Bool.{and_parts, leb-true, cases_lt}
 use Rattle.std.proofs.lemmas.Bool.Decides.{leb_tells}
 use Rattle.std.proofs.lemmas.List.{drop_all, drop_more}
 use Rattle.kmip_ttlv.specs.Node.{Node, nodes_of}
-use Rattle.kmip_ttlv.specs.Fitting.{HaveWholeGroups, depth, depths}
+use Rattle.kmip_ttlv.specs.Fitting.{HaveWholeGroups, depths}
 use Rattle.kmip_ttlv.specs.Sizes.{size, sizes, IsWritable}
 use Rattle.kmip_ttlv.proofs.ForCallers.{writable_of}
 use Rattle.kmip_messages.specs.declared.reply.Reply.{Reply}
@@ -19,6 +19,7 @@ use Rattle.kmip_messages.specs.RequestFormats.{version_parts_format}
 use Rattle.kmip_messages.proofs.BatchItemSizes.{question_depth, question_groups, question_size, answer_depth, answer_groups}
 use Rattle.kmip_batches.specs.Headers.{option_format, header_parts_format, header_format, reply_header_parts_format, reply_header_format}
 use Rattle.kmip_batches.specs.Members.{may_have}
+use Rattle.kmip_batches.proofs.HeaderLaws.{header-part, reply_header-part}
 use Rattle.kmip_batches.specs.Written.{option_for, requests_item, requests_fit, replies_item, answers_size, replies_fit}
 
 -- the items have at most so many levels, whole groups, and at most this size together
@@ -50,22 +51,29 @@ questions_within (r ∷ rest) fit =
     let parts = and_parts (request_fits r) (list_all request_fits rest) fit in
     let others = questions_within rest parts.1 in
     record {
-      deep = omega (arith, question_depth r, others.deep);
+      deep = omega (arith, question_depth r parts.0, others.deep);
       groups = (question_groups r, others.groups);
       long = omega (arith, question_size r parts.0, others.long);
     }
 
-header_within_by : (b : Bool) (count : ℤ) → AreWithin 6 80 (header_format.write (if b then Some CONTINUE else None, count))
+header_extent_by : (b : Bool) (count : ℤ) → ((header_format.extent (if b then Some CONTINUE else None, count)).size ≤ 80)
+    × ((header_format.extent (if b then Some CONTINUE else None, count)).depth ≤ 6)
 unfolding header_format header_parts_format option_format version_parts_format
-header_within_by true count = record { deep = omega arith; groups = (((tt, (tt, tt)), (tt, (tt, tt))), tt); long = omega arith }
-header_within_by false count = record { deep = omega arith; groups = (((tt, (tt, tt)), (tt, tt)), tt); long = omega arith }
+header_extent_by true count = omega arith
+header_extent_by false count = omega arith
+
+header_within : (there : ℕ) (count : ℤ) → AreWithin 6 80 (header_format.write (option_for there, count))
+header_within there count =
+    let spans = header-part.good.spans (option_for there, count) in
+    let within = header_extent_by (nat_le 2 there) count in
+    record { deep = omega (arith, spans.deep, within.1); groups = spans.groups; long = omega (arith, spans.long, within.0) }
 
 pub requests_writable : (rs : List Request) → IsTrue (requests_fit rs) → IsWritable (requests_item rs)
 requests_writable rs fit =
     let parts = and_parts (may_have (length rs)) (list_all request_fits rs) fit in
     let few = leb-true (length rs) 8 (and_parts (nat_le 1 (length rs)) (nat_le (length rs) 8) parts.0).1 in
     let all = both_within 6 80 (575 * length rs) (header_format.write (option_for (length rs), pos (length rs))) (map question_item rs)
-    (header_within_by (nat_le 2 (length rs)) (pos (length rs))) (questions_within rs parts.1) in
+    (header_within (length rs) (pos (length rs))) (questions_within rs parts.1) in
     writable_of (requests_item rs) all.groups (omega (arith, all.deep)) (omega (arith, all.long, few))
 
 pub requests_fit_writable : (rs : List Request) (item : Node) → IsTrue (requests_fit rs) → item ≡ requests_item rs → IsWritable item
@@ -87,13 +95,21 @@ answers_within (r ∷ rest) =
       long = omega (arith, others.long);
     }
 
-reply_header_within : (now count : ℤ) → AreWithin 6 80 ((reply_header_format now).write count)
+reply_header_extent : (now count : ℤ) → ((reply_header_format now).extent count).size ≡ 80
 unfolding reply_header_format reply_header_parts_format any_version_parts_format
-reply_header_within now count = record { deep = omega arith; groups = (((tt, (tt, tt)), (tt, (tt, tt))), tt); long = omega arith }
+reply_header_extent now count = omega arith
+
+reply_header_levels : (now count : ℤ) → ((reply_header_format now).extent count).depth ≤ 6
+unfolding reply_header_format reply_header_parts_format any_version_parts_format
+reply_header_levels now count = omega arith
 
 reply_header_long : (now count : ℤ) → sizes (nodes_of ((reply_header_format now).write count)) ≡ 80
-unfolding reply_header_format reply_header_parts_format any_version_parts_format
-reply_header_long now count = omega arith
+reply_header_long now count = ((reply_header-part now).good.spans count).long ∙ reply_header_extent now count
+
+reply_header_within : (now count : ℤ) → AreWithin 6 80 ((reply_header_format now).write count)
+reply_header_within now count =
+    let spans = (reply_header-part now).good.spans count in
+    record { deep = omega (arith, spans.deep, reply_header_levels now count); groups = spans.groups; long = omega (arith, reply_header_long now count) }
 
 -- the size of a message of replies, which is the same at all times
 pub size-replies : (rs : List Reply) (now : ℤ) → size (replies_item rs now) ≡ 88 + answers_size rs

@@ -1,11 +1,10 @@
 -- Messages of one to eight Batch Items: the questions of a request, and the replies to them.
 -- Source: KMIP 2.1, Message Structure (Request Message, Response Message) and Batch Error Continuation Option; that a message has one to
 -- eight Batch Items, that Undo is refused, and the order of the checks are own.
-use Rattle.std.specs.Prelude.{◌≡◌, ℕ, ℤ, pos, Bool, true, false, not, ◌==◌, List, length, Option, Result, Ok, Err, IsTrue}
+use Rattle.std.specs.Prelude.{◌≡◌, ℕ, ℤ, pos, Bool, true, false, not, ◌==◌, List, length, Option, Result, Ok, IsTrue}
 use Rattle.std.specs.Option.{option_map, option_map_or}
 use Rattle.kmip_ttlv.specs.Binding.{◌>>=◌}
 use Rattle.kmip_ttlv.specs.Node.{Node, node, integer, enumeration}
-use Rattle.kmip_ttlv.specs.Spelling.{Spells}
 use Rattle.kmip_fields.specs.declared.fault.MessageFault.{MessageFault}
 use Rattle.kmip_fields.specs.declared.fault.MessageFault.TheVariants.{BatchCount, Undo}
 use Rattle.kmip_fields.specs.Formats.{inside}

@@ -1,7 +1,7 @@
 -- The Batch Items of a message, which stand in it in their order, among items that a reader does not use.
 -- Source: KMIP 2.1, Message Structure (Batch Item, Batch Count); that there are one to eight, and that all are looked at for their type
 -- before any is read, is own.
-use Rattle.std.specs.Prelude.{◌≡◌, ℕ, ℤ, pos, Bool, ◌&&◌, nat_le, List, [], ◌∷◌, length, Result, Ok, Err, IsTrue}
+use Rattle.std.specs.Prelude.{◌≡◌, ℕ, ℤ, pos, Bool, ◌&&◌, nat_le, List, [], ◌∷◌, Result, Ok}
 use Rattle.std.specs.Ordering.{int_eq}
 use Rattle.kmip_ttlv.specs.Binding.{◌>>=◌}
 use Rattle.kmip_ttlv.specs.Node.{Node, Content, as_structure}

@@ -7,9 +7,10 @@ use Rattle.kmip_ttlv.specs.Node.{Node, node, Content}
 use Rattle.kmip_ttlv.proofs.ReadSteps.{Reads, not_ok, reads-ok, reads-bind, reads-as}
 use Rattle.kmip_fields.specs.declared.fault.MessageFault.{MessageFault}
 use Rattle.kmip_fields.specs.Formats.{Format, Kind, inside, if_given, given, structures, required, optional, unread, repeated, structure_of, read_if_any, SaysIfAny, optional_structure, sole_structure_of, tested, ranged, fixed, present, as_record, as_case, ◌⊗◌, ◌⊗ʳ◌, ◌◁◌, ◌▷◌, followed, read_told, told_by, closed, refusing, choose}
-use Rattle.kmip_fields.specs.FormatLaws.{IsKind, IsGood, Agree, avoid, apart, IsPart}
+use Rattle.kmip_fields.specs.FormatLaws.{IsFlat, IsFlatKind, Spans, IsGood, Agree, avoid, apart, IsPart}
 use Rattle.kmip_fields.specs.Siblings.{contents}
 use Rattle.kmip_fields.specs.Standing.{AtMostOnce, HaveTags}
+use Rattle.kmip_fields.proofs.ExtentLemmas.{spans_one, spans_around, spans_if_any, spans_if_flat, spans_each, spans_both}
 use Rattle.kmip_fields.proofs.ItemReads.{same_some, not_some, reads-guard, reads-the, reads-maybe, reads-values, reads-sole, reads-only, structure_kind}
 use Rattle.kmip_fields.proofs.TagLemmas.{contents_first, alone, alone_if_any, own_tag, given_has, first_has, second_has, both_have, agree_first, agree_second, agree_behind, agree_before}
 
@@ -19,34 +20,38 @@ reads f good ns = record { sound = good.sound ns; complete = good.complete ns }
 
 -- a format that reads so is good
 pub good_by : {A : Type 0} (f : Format A) → ((ns : List Node) → Reads (f.read ns) (f.Says ns)) → ((a : A) → f.fits a ≡ true → f.Says (f.write a) a)
-    → ((a : A) → HaveTags f.tags (f.write a)) → IsGood f
-good_by f reading written has = record {
+    → ((a : A) → HaveTags f.tags (f.write a)) → ((a : A) → Spans (f.extent a) (f.write a)) → IsGood f
+good_by f reading written has spans = record {
   sound = λ ns a e. (reading ns).sound a e;
   complete = λ ns a says. (reading ns).complete a says;
   written = written;
   has = has;
+  spans = spans;
 }
 
 -- ---- one item
 
-pub required-part : {A : Type 0} (k : Kind A) (tag : ℕ) → IsKind k → IsPart (required k tag)
+pub required-part : {A : Type 0} (k : Kind A) (tag : ℕ) → IsFlatKind k → IsPart (required k tag)
 required-part k tag is = record {
-  good = good_by (required k tag) (λ ns. reads-the k is tag ns) (λ a fits. alone tag (k.make a)) (λ a. (own_tag tag, tt));
+  good = good_by (required k tag) (λ ns. reads-the k is.kind tag ns) (λ a fits. alone tag (k.make a)) (λ a. (own_tag tag, tt))
+      (λ a. spans_one tag (k.make a) (is.flat a));
   looks = λ ns ms a agree once. sym agree.0 ∙ once;
 }
 
-pub optional-part : {A : Type 0} (k : Kind A) (tag : ℕ) → IsKind k → IsPart (optional k tag)
+pub optional-part : {A : Type 0} (k : Kind A) (tag : ℕ) → IsFlatKind k → IsPart (optional k tag)
 optional-part k tag is = record {
-  good = good_by (optional k tag) (λ ns. reads-maybe k is tag ns) (λ o fits. alone_if_any tag k.make o) (λ o. given_has tag k.make o);
+  good = good_by (optional k tag) (λ ns. reads-maybe k is.kind tag ns) (λ o fits. alone_if_any tag k.make o) (λ o. given_has tag k.make o)
+      (λ o. spans_if_flat k tag is o);
   looks = λ ns ms o agree once. sym agree.0 ∙ once;
 }
 
-pub unread-part : (tag : ℕ) (content : Content) → IsPart (unread tag content)
-unread-part tag content = record {
+pub unread-part : (tag : ℕ) (content : Content) → IsFlat content → IsPart (unread tag content)
+unread-part tag content is = record {
   good = good_by (unread tag content)
       (λ ns. record { sound = λ u e. tt; complete = λ u says. refl })
       (λ u fits. tt)
-      (λ u. (own_tag tag, tt));
+      (λ u. (own_tag tag, tt))
+      (λ u. spans_one tag content is);
   looks = λ ns ms u agree says. tt;
 }
 
@@ -59,12 +64,13 @@ values_have : {A : Type 0} (k : Kind A) (tag : ℕ) (all : List A) → HaveTags 
 values_have k tag [] = tt
 values_have k tag (a ∷ all) = (own_tag tag, values_have k tag all)
 
-pub repeated-part : {A : Type 0} (k : Kind A) (tag : ℕ) (test : A → Bool) → IsKind k → IsPart (repeated k tag test)
+pub repeated-part : {A : Type 0} (k : Kind A) (tag : ℕ) (test : A → Bool) → IsFlatKind k → IsPart (repeated k tag test)
 repeated-part k tag test is = record {
   good = good_by (repeated k tag test)
-      (λ ns. reads-values k is tag test (contents tag ns))
+      (λ ns. reads-values k is.kind tag test (contents tag ns))
       (λ all fits. (written_values k tag all, fits))
-      (λ all. values_have k tag all);
+      (λ all. values_have k tag all)
+      (λ all. spans_each k tag is all);
   looks = λ ns ms all agree says. (sym agree.0 ∙ says.0, says.1);
 }
 
@@ -73,7 +79,8 @@ structure-part tag f good = record {
   good = good_by (structure_of tag f)
       (λ ns. reads-bind _ _ _ _ (reads-the structures structure_kind tag ns) (λ parts. reads f good parts))
       (λ a fits. (f.write a, alone tag (inside (f.write a)), good.written a fits))
-      (λ a. (own_tag tag, tt));
+      (λ a. (own_tag tag, tt))
+      (λ a. spans_around tag (f.extent a) (f.write a) (good.spans a));
   looks = λ ns ms a agree says. (says.0, sym agree.0 ∙ says.1, says.2);
 }
 
@@ -117,7 +124,8 @@ optional_structure-part tag f good = record {
       (λ o says. said_any tag f ns o says)
       (reads-bind _ _ _ _ (reads-maybe structures structure_kind tag ns) (λ parts. reads-if_any f good parts)))
       (λ o fits. any_written tag f good o fits)
-      (λ o. given_has tag (λ a. inside (f.write a)) o);
+      (λ o. given_has tag (λ a. inside (f.write a)) o)
+      (λ o. spans_if_any _ (λ a. node tag (inside (f.write a)) ∷ []) (λ a. spans_around tag (f.extent a) (f.write a) (good.spans a)) o);
   looks = λ ns ms o agree says. any_looks tag f ns ms o agree says;
 }
 
@@ -126,7 +134,8 @@ sole-part tag f good = record {
   good = good_by (sole_structure_of tag f)
       (λ ns. reads-bind _ _ _ _ (reads-sole tag (contents tag ns)) (λ parts. reads f good parts))
       (λ a fits. (f.write a, alone tag (inside (f.write a)), good.written a fits))
-      (λ a. (own_tag tag, tt));
+      (λ a. (own_tag tag, tt))
+      (λ a. spans_around tag (f.extent a) (f.write a) (good.spans a));
   looks = λ ns ms a agree says. (says.0, sym agree.0 ∙ says.1, says.2);
 }
 
@@ -140,7 +149,8 @@ tested-part fault test f part = record {
       (λ a p. (a, p.0, (tt, p.1, refl)))
       (reads-bind _ _ _ _ (reads f part.good ns) (λ a. reads-bind _ _ _ _ (reads-guard fault (test a)) (λ u. reads-ok a))))
       (λ a fits. let both = and_parts (f.fits a) (test a) fits in (part.good.written a both.0, both.1))
-      (λ a. part.good.has a);
+      (λ a. part.good.has a)
+      (λ a. part.good.spans a);
   looks = λ ns ms a agree says. (part.looks ns ms a agree says.0, says.1);
 }
 
@@ -153,7 +163,8 @@ fixed-part fault test value f fits holds part = record {
   good = good_by (fixed fault test value f)
       (λ ns. reads-bind _ _ _ _ (reads f part.good ns) (λ a. reads-guard fault (test a)))
       (λ u _. (value, part.good.written value fits, holds))
-      (λ u. part.good.has value);
+      (λ u. part.good.has value)
+      (λ u. part.good.spans value);
   looks = λ ns ms u agree says. (says.0, part.looks ns ms says.0 agree says.1, says.2);
 }
 
@@ -171,7 +182,8 @@ present-part f part = record {
   good = good_by (present f)
       (λ ns. reads-bind _ _ _ _ (reads f part.good ns) (λ a. reads-ok (Some a)))
       (λ o fits. some_given f part.good o fits)
-      (λ o. if_given_has f part.good o);
+      (λ o. if_given_has f part.good o)
+      (λ o. spans_if_any f.extent f.write (λ a. part.good.spans a) o);
   looks = λ ns ms o agree says. (says.0, part.looks ns ms says.0 agree says.1, says.2);
 }
 
@@ -185,6 +197,7 @@ as_record-good there back f again same good = good_by (as_record there back f)
     (reads-bind _ _ _ _ (reads f good ns) (λ a. reads-ok (there a))))
     (λ b fits. good.written (back b) fits)
     (λ b. good.has (back b))
+    (λ b. good.spans (back b))
 
 pub said_record-part : {A B : Type 0} (there : A → B) (back : B → A) (f : Format A) → ((ns : List Node) (a : A) → f.Says ns a → back (there a) ≡ a)
     → ((b : B) → there (back b) ≡ b) → IsPart f → IsPart (as_record there back f)
@@ -208,6 +221,7 @@ as_case-good there back f again good = good_by (as_case there back f)
     (λ ns. reads-bind _ _ _ _ (reads f good ns) (λ a. reads-ok (there a)))
     (λ b fits. case_given there f good b (back b) (again b) fits)
     (λ b. if_given_has f good (back b))
+    (λ b. spans_if_any f.extent f.write (λ a. good.spans a) (back b))
 
 pub as_case-part : {A B : Type 0} (there : A → B) (back : B → Option A) (f : Format A) → ((b : B) (a : A) → back b ≡ Some a → there a ≡ b)
     → IsPart f → IsPart (as_case there back f)
@@ -242,7 +256,8 @@ both-part f g others part other = record {
       (λ p says. (p.0, says.0, (p.1, says.1, refl)))
       (reads-bind _ _ _ _ (reads f part.good ns) (λ a. reads-bind _ _ _ _ (reads g other.good ns) (λ b. reads-ok (a, b)))))
       (λ p fits. let each = and_parts (f.fits p.0) (g.fits p.1) fits in both_written f g others part other p.0 p.1 each.0 each.1)
-      (λ p. both_have f.tags g.tags (f.write p.0) (g.write p.1) (part.good.has p.0) (other.good.has p.1));
+      (λ p. both_have f.tags g.tags (f.write p.0) (g.write p.1) (part.good.has p.0) (other.good.has p.1))
+      (λ p. spans_both (f.extent p.0) (g.extent p.1) (f.write p.0) (g.write p.1) (part.good.spans p.0) (other.good.spans p.1));
   looks = λ ns ms p agree says. both_look f g part other ns ms p.0 p.1 agree says;
 }
 
@@ -254,7 +269,8 @@ reversed-part f g others part other = record {
       (λ p says. (p.1, says.1, (p.0, says.0, refl)))
       (reads-bind _ _ _ _ (reads g other.good ns) (λ b. reads-bind _ _ _ _ (reads f part.good ns) (λ a. reads-ok (a, b)))))
       (λ p fits. let each = and_parts (f.fits p.0) (g.fits p.1) fits in both_written f g others part other p.0 p.1 each.0 each.1)
-      (λ p. both_have f.tags g.tags (f.write p.0) (g.write p.1) (part.good.has p.0) (other.good.has p.1));
+      (λ p. both_have f.tags g.tags (f.write p.0) (g.write p.1) (part.good.has p.0) (other.good.has p.1))
+      (λ p. spans_both (f.extent p.0) (g.extent p.1) (f.write p.0) (g.write p.1) (part.good.spans p.0) (other.good.spans p.1));
   looks = λ ns ms p agree says. both_look f g part other ns ms p.0 p.1 agree says;
 }
 
@@ -266,7 +282,8 @@ left-part f g others part other = record {
       (λ a says. (a, says.0, (tt, says.1, refl)))
       (reads-bind _ _ _ _ (reads f part.good ns) (λ a. reads-bind _ _ _ _ (reads g other.good ns) (λ u. reads-ok a))))
       (λ a fits. let each = and_parts (f.fits a) (g.fits tt) fits in both_written f g others part other a tt each.0 each.1)
-      (λ a. both_have f.tags g.tags (f.write a) (g.write tt) (part.good.has a) (other.good.has tt));
+      (λ a. both_have f.tags g.tags (f.write a) (g.write tt) (part.good.has a) (other.good.has tt))
+      (λ a. spans_both (f.extent a) (g.extent tt) (f.write a) (g.write tt) (part.good.spans a) (other.good.spans tt));
   looks = λ ns ms a agree says. both_look f g part other ns ms a tt agree says;
 }
 
@@ -278,7 +295,8 @@ right-part f g others part other = record {
       (λ a says. (tt, says.0, says.1))
       (reads-bind _ _ _ _ (reads f part.good ns) (λ u. reads g other.good ns)))
       (λ a fits. let each = and_parts (f.fits tt) (g.fits a) fits in both_written f g others part other tt a each.0 each.1)
-      (λ a. both_have f.tags g.tags (f.write tt) (g.write a) (part.good.has tt) (other.good.has a));
+      (λ a. both_have f.tags g.tags (f.write tt) (g.write a) (part.good.has tt) (other.good.has a))
+      (λ a. spans_both (f.extent tt) (g.extent a) (f.write tt) (g.write a) (part.good.spans tt) (other.good.spans a));
   looks = λ ns ms a agree says. both_look f g part other ns ms tt a agree says;
 }
 
@@ -294,7 +312,8 @@ followed-part tags f g others same part other = record {
       let each = and_parts (f.fits p.0) ((g p.0).fits p.1) fits in
       both_written f (g p.0) (subst (λ ts. apart f.tags ts ≡ true) (sym (same p.0)) others) part (other p.0) p.0 p.1 each.0 each.1)
       (λ p. subst (λ ts. HaveTags (f.tags ++ ts) (f.write p.0 ++ (g p.0).write p.1)) (same p.0)
-      (both_have f.tags (g p.0).tags (f.write p.0) ((g p.0).write p.1) (part.good.has p.0) ((other p.0).good.has p.1)));
+      (both_have f.tags (g p.0).tags (f.write p.0) ((g p.0).write p.1) (part.good.has p.0) ((other p.0).good.has p.1)))
+      (λ p. spans_both (f.extent p.0) ((g p.0).extent p.1) (f.write p.0) ((g p.0).write p.1) (part.good.spans p.0) ((other p.0).good.spans p.1));
   looks = λ ns ms p agree says.
       both_look f (g p.0) part (other p.0) ns ms p.0 p.1 (subst (λ ts. Agree (f.tags ++ ts) ns ms) (sym (same p.0)) agree) says;
 }
@@ -326,7 +345,8 @@ told_by-part fault key known tags g same own part = record {
       (λ a fits.
       let each = and_parts (option_map_or (λ k. k == key a) known false) ((g (key a)).fits a) fits in
       (told_own (key a) known each.0, (part (key a)).good.written a each.1))
-      (λ a. subst (λ ts. HaveTags ts ((g (key a)).write a)) (same (key a)) ((part (key a)).good.has a));
+      (λ a. subst (λ ts. HaveTags ts ((g (key a)).write a)) (same (key a)) ((part (key a)).good.has a))
+      (λ a. (part (key a)).good.spans a);
   looks = λ ns ms a agree says.
       (says.0, (part (key a)).looks ns ms a (subst (λ ts. Agree ts ns ms) (sym (same (key a))) agree) says.1);
 }
@@ -341,6 +361,7 @@ closed-good f good = good_by (closed f)
     (reads-bind _ _ _ _ (reads-only f.tags ns) (λ u. reads f good ns)))
     (λ a fits. (good.has a, good.written a fits))
     (λ a. good.has a)
+    (λ a. good.spans a)
 
 pub refusing-part : {A : Type 0} (fault : MessageFault) (test : Bool) (f : Format A) → IsPart f → IsPart (refusing fault test f)
 refusing-part fault test f part = record {
@@ -350,7 +371,8 @@ refusing-part fault test f part = record {
       (λ a says. (tt, says.0, says.1))
       (reads-bind _ _ _ _ (reads-guard fault test) (λ u. reads f part.good ns)))
       (λ a fits. let each = and_parts test (f.fits a) fits in (each.0, part.good.written a each.1))
-      (λ a. part.good.has a);
+      (λ a. part.good.has a)
+      (λ a. part.good.spans a);
   looks = λ ns ms a agree says. (says.0, part.looks ns ms a agree says.1);
 }
 
@@ -360,12 +382,14 @@ choose-good true f g good other = record {
   complete = good.complete;
   written = good.written;
   has = λ a. first_has f.tags g.tags (f.write a) (good.has a);
+  spans = good.spans;
 }
 choose-good false f g good other = record {
   sound = other.sound;
   complete = other.complete;
   written = other.written;
   has = λ a. second_has f.tags g.tags (g.write a) (other.has a);
+  spans = other.spans;
 }
 
 pub choose-part : {A : Type 0} (b : Bool) (f g : Format A) → IsPart f → IsPart g → IsPart (choose b f g)

@@ -10,7 +10,7 @@ use Rattle.kmip_ttlv.proofs.ReadSteps.{Reads, same_ok, not_ok, reads-ok, reads-b
 use Rattle.kmip_fields.specs.declared.fault.MessageFault.{MessageFault}
 use Rattle.kmip_fields.specs.declared.fault.MessageFault.TheVariants.{Missing, Twice, WrongType, OutOfRange, BatchCount}
 use Rattle.kmip_fields.specs.Formats.{Kind, inside, structures, integers, enumerations, texts, bytes, value_in, values_in}
-use Rattle.kmip_fields.specs.FormatLaws.{IsKind}
+use Rattle.kmip_fields.specs.FormatLaws.{IsKind, IsFlatKind}
 use Rattle.kmip_fields.specs.Siblings.{contents, at_most_one_of, one_of, typed, typed_if_any, guard, within, sole, the, maybe, only}
 use Rattle.kmip_fields.specs.Standing.{Once, if_any, AtMostOnce, HaveTags}
 
@@ -47,29 +47,29 @@ told_integer : (c : Content) (z : ℤ) → as_integer c ≡ Some z → integer z
 told_integer (integer y) z e = ap integer (sym (same_some y z e))
 told_integer c z e = not_some z e
 
-pub integer_kind : IsKind integers
-integer_kind = record { made = λ z. refl; told = told_integer }
+pub integer_kind : IsFlatKind integers
+integer_kind = record { kind = record { made = λ z. refl; told = told_integer }; flat = λ a. (refl, tt) }
 
 told_enumeration : (c : Content) (n : ℕ) → as_enumeration c ≡ Some n → enumeration n ≡ c
 told_enumeration (enumeration m) n e = ap enumeration (sym (same_some m n e))
 told_enumeration c n e = not_some n e
 
-pub enumeration_kind : IsKind enumerations
-enumeration_kind = record { made = λ n. refl; told = told_enumeration }
+pub enumeration_kind : IsFlatKind enumerations
+enumeration_kind = record { kind = record { made = λ n. refl; told = told_enumeration }; flat = λ a. (refl, tt) }
 
 told_text : (c : Content) (s : List ℕ) → as_text_string c ≡ Some s → text_string s ≡ c
 told_text (text_string r) s e = ap text_string (sym (same_some r s e))
 told_text c s e = not_some s e
 
-pub text_kind : IsKind texts
-text_kind = record { made = λ s. refl; told = told_text }
+pub text_kind : IsFlatKind texts
+text_kind = record { kind = record { made = λ s. refl; told = told_text }; flat = λ a. (refl, tt) }
 
 told_bytes : (c : Content) (s : List ℕ) → as_byte_string c ≡ Some s → byte_string s ≡ c
 told_bytes (byte_string r) s e = ap byte_string (sym (same_some r s e))
 told_bytes c s e = not_some s e
 
-pub bytes_kind : IsKind bytes
-bytes_kind = record { made = λ s. refl; told = told_bytes }
+pub bytes_kind : IsFlatKind bytes
+bytes_kind = record { kind = record { made = λ s. refl; told = told_bytes }; flat = λ a. (refl, tt) }
 
 -- ---- items by their tags
 

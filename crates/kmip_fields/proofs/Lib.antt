@@ -1,4 +1,5 @@
 mod SiblingLemmas
 pub mod ItemReads
 pub mod TagLemmas
+mod ExtentLemmas
 pub mod FormatParts

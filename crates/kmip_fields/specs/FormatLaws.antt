@@ -1,9 +1,11 @@
--- Private: what makes a format a good one: what is read is what is said, and what is written says it again.
+-- Private: what makes a format a good one: what is read is what is said, and what is written says it again, in the room that is told.
 -- Source: own: what every combinator of formats keeps.
-use Rattle.std.specs.Prelude.{◌≡◌, ℕ, Bool, true, not, ◌&&◌, ◌==◌, List, [], ◌∷◌, Some, Ok}
+use Rattle.std.specs.Prelude.{◌≡◌, ◌≤◌, ℕ, Bool, true, not, ◌&&◌, ◌==◌, List, [], ◌∷◌, Some, Ok}
 use Rattle.std.specs.List.{list_any}
-use Rattle.kmip_ttlv.specs.Node.{Node, Content}
-use Rattle.kmip_fields.specs.Formats.{Format, Kind}
+use Rattle.kmip_ttlv.specs.Fitting.{IsMadeOfWholeGroups, HaveWholeGroups, content_depth, depths}
+use Rattle.kmip_ttlv.specs.Node.{Node, Content, nodes_of}
+use Rattle.kmip_ttlv.specs.Sizes.{sizes}
+use Rattle.kmip_fields.specs.Formats.{Extent, Format, Kind}
 use Rattle.kmip_fields.specs.Siblings.{contents}
 use Rattle.kmip_fields.specs.Standing.{HaveTags}
 
@@ -12,12 +14,29 @@ pub record IsKind {A : Type 0} (k : Kind A) : Type 0 where
   pub made : (a : A) → k.of (k.make a) ≡ Some a
   pub told : (c : Content) (a : A) → k.of c ≡ Some a → k.make a ≡ c
 
--- reading gives just what the items say; a value that fits is said by its written form, whose items have the tags
+-- the content has no items of its own, and is no Big Integer
+abbrev pub IsFlat : Content → Type 0
+IsFlat c = (content_depth c ≡ 0) × IsMadeOfWholeGroups c
+
+-- the same, of a type whose contents have no items of their own
+pub record IsFlatKind {A : Type 0} (k : Kind A) : Type 0 where
+  pub kind : IsKind k
+  pub flat : (a : A) → IsFlat (k.make a)
+
+-- the items have this size together, at most so many levels, and whole groups
+pub record Spans (e : Extent) (ns : List Node) : Type 0 where
+  pub long : sizes (nodes_of ns) ≡ e.size
+  pub deep : depths (nodes_of ns) ≤ e.depth
+  pub groups : HaveWholeGroups (nodes_of ns)
+
+-- reading gives just what the items say; a value that fits is said by its written form, whose items have the tags and
+-- take the room that is told
 pub record IsGood {A : Type 0} (f : Format A) : Type 0 where
   pub sound : (ns : List Node) (a : A) → f.read ns ≡ Ok a → f.Says ns a
   pub complete : (ns : List Node) (a : A) → f.Says ns a → f.read ns ≡ Ok a
   pub written : (a : A) → f.fits a ≡ true → f.Says (f.write a) a
   pub has : (a : A) → HaveTags f.tags (f.write a)
+  pub spans : (a : A) → Spans (f.extent a) (f.write a)
 
 -- two lists have the same items of these tags
 abbrev pub Agree : List ℕ → List Node → List Node → Type 0

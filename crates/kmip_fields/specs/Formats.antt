@@ -1,14 +1,21 @@
 -- A part of a message, described once: how it is written, how it is read and what it says all follow from its format.
 -- Source: KMIP 2.1, Message Structure: items may stand in any order, and those that a reader does not use are skipped.
-use Rattle.std.specs.Prelude.{◌≡◌, ℕ, ℤ, Bool, true, false, ◌&&◌, ◌==◌, List, [], ◌∷◌, ◌++◌, map, Option, Some, None, Result, Ok, Err, IsTrue, if◌then◌else◌}
+use Rattle.std.specs.Prelude.{◌≡◌, ℕ, ◌+◌, max, ℤ, Bool, true, false, ◌&&◌, ◌==◌, List, [], ◌∷◌, ◌++◌, map, Option, Some, None, Result, Ok, Err, IsTrue, if◌then◌else◌}
 use Rattle.std.specs.List.{list_all}
 use Rattle.std.specs.Option.{option_map, option_map_or}
 use Rattle.kmip_ttlv.specs.Binding.{◌>>=◌}
+use Rattle.kmip_ttlv.specs.Limits.{head_size}
 use Rattle.kmip_ttlv.specs.Node.{Node, node, Content, structure, integer, enumeration, text_string, byte_string, nodes_of, as_structure, as_integer, as_enumeration, as_text_string, as_byte_string}
+use Rattle.kmip_ttlv.specs.Sizes.{content_size}
 use Rattle.kmip_fields.specs.declared.fault.MessageFault.{MessageFault}
 use Rattle.kmip_fields.specs.declared.fault.MessageFault.TheVariants.{OutOfRange}
 use Rattle.kmip_fields.specs.Siblings.{contents, guard, typed, within, sole, the, maybe, only}
 use Rattle.kmip_fields.specs.Standing.{Once, AtMostOnce, HaveTags}
+
+-- how many bytes some items take together, and how many levels they have at most
+pub record Extent : Type 0 where
+  pub size : ℕ
+  pub depth : ℕ
 
 -- a part of a message whose values are these
 pub record Format (A : Type 0) : Type 1 where
@@ -18,6 +25,8 @@ pub record Format (A : Type 0) : Type 1 where
   pub fits : A → Bool
   -- the items that say a value, as they are written
   pub write : A → List Node
+  -- how much room the written items take
+  pub extent : A → Extent
   -- the value that the items say among their siblings, or the first fault
   pub read : List Node → Result A MessageFault
   -- the items say the value among their siblings, in whatever order
@@ -56,6 +65,29 @@ if_given write o = option_map_or write o []
 abbrev pub given : {A : Type 0} → (A → Node) → Option A → List Node
 given item o = if_given (λ a. item a ∷ []) o
 
+-- ---- how much room the written items take
+
+-- an item with this content, which has no items of its own
+abbrev pub flat : Content → Extent
+flat content = record { size = head_size + content_size content; depth = 1 }
+
+-- a Structure around some items
+abbrev pub around : Extent → Extent
+around e = record { size = head_size + e.size; depth = 1 + e.depth }
+
+-- some items, and others
+abbrev pub beside : Extent → Extent → Extent
+beside e d = record { size = e.size + d.size; depth = max e.depth d.depth }
+
+-- the items of a value, where there is one
+abbrev pub extent_if_any : {A : Type 0} → (A → Extent) → Option A → Extent
+extent_if_any extent o = record { size = option_map_or (λ a. (extent a).size) o 0; depth = option_map_or (λ a. (extent a).depth) o 0 }
+
+-- the sizes of some values together
+abbrev pub all_sizes : {A : Type 0} → (A → ℕ) → List A → ℕ
+all_sizes size [] = 0
+all_sizes size (a ∷ rest) = size a + all_sizes size rest
+
 -- ---- one item
 
 -- just one item with the tag: its value
@@ -64,6 +96,7 @@ required k tag = record {
   tags = tag ∷ [];
   fits = λ a. true;
   write = λ a. node tag (k.make a) ∷ [];
+  extent = λ a. flat (k.make a);
   read = λ ns. the k.of tag ns;
   Says = λ ns a. Once tag (k.make a) ns;
 }
@@ -74,6 +107,7 @@ optional k tag = record {
   tags = tag ∷ [];
   fits = λ o. true;
   write = λ o. given (λ a. node tag (k.make a)) o;
+  extent = λ o. record { size = option_map_or (λ a. head_size + content_size (k.make a)) o 0; depth = 1 };
   read = λ ns. maybe k.of tag ns;
   Says = λ ns o. AtMostOnce tag (option_map k.make o) ns;
 }
@@ -84,6 +118,7 @@ unread tag content = record {
   tags = tag ∷ [];
   fits = λ u. true;
   write = λ u. node tag content ∷ [];
+  extent = λ u. flat content;
   read = λ ns. Ok tt;
   Says = λ ns u. Unit {0};
 }
@@ -102,6 +137,7 @@ repeated k tag test = record {
   tags = tag ∷ [];
   fits = λ all. list_all test all;
   write = λ all. map (λ a. node tag (k.make a)) all;
+  extent = λ all. record { size = all_sizes (λ a. head_size + content_size (k.make a)) all; depth = 1 };
   read = λ ns. values_in k tag test (contents tag ns);
   Says = λ ns all. (contents tag ns ≡ map k.make all) × IsTrue (list_all test all);
 }
@@ -112,6 +148,7 @@ structure_of tag f = record {
   tags = tag ∷ [];
   fits = f.fits;
   write = λ a. node tag (inside (f.write a)) ∷ [];
+  extent = λ a. around (f.extent a);
   read = λ ns. the as_structure tag ns >>= λ parts. f.read parts;
   Says = λ ns a. (parts : List Node) × Once tag (inside parts) ns × f.Says parts a;
 }
@@ -130,6 +167,7 @@ optional_structure tag f = record {
   tags = tag ∷ [];
   fits = λ o. option_map_or f.fits o true;
   write = λ o. given (λ a. node tag (inside (f.write a))) o;
+  extent = λ o. extent_if_any (λ a. around (f.extent a)) o;
   read = λ ns. maybe as_structure tag ns >>= λ parts. read_if_any f.read parts;
   Says = λ ns o. SaysIfAny tag f.Says ns o;
 }
@@ -140,6 +178,7 @@ sole_structure_of tag f = record {
   tags = tag ∷ [];
   fits = f.fits;
   write = λ a. node tag (inside (f.write a)) ∷ [];
+  extent = λ a. around (f.extent a);
   read = λ ns. sole tag (contents tag ns) >>= λ parts. f.read parts;
   Says = λ ns a. (parts : List Node) × Once tag (inside parts) ns × f.Says parts a;
 }
@@ -152,6 +191,7 @@ tested fault test f = record {
   tags = f.tags;
   fits = λ a. f.fits a && test a;
   write = f.write;
+  extent = f.extent;
   read = λ ns. f.read ns >>= λ a. guard fault (test a) >>= λ u. Ok a;
   Says = λ ns a. f.Says ns a × IsTrue (test a);
 }
@@ -166,6 +206,7 @@ fixed fault test value f = record {
   tags = f.tags;
   fits = λ u. true;
   write = λ u. f.write value;
+  extent = λ u. f.extent value;
   read = λ ns. f.read ns >>= λ a. guard fault (test a);
   Says = λ ns u. (a : _) × f.Says ns a × IsTrue (test a);
 }
@@ -176,6 +217,7 @@ present f = record {
   tags = f.tags;
   fits = λ o. option_map_or f.fits o false;
   write = λ o. if_given f.write o;
+  extent = λ o. extent_if_any f.extent o;
   read = λ ns. f.read ns >>= λ a. Ok (Some a);
   Says = λ ns o. (a : _) × f.Says ns a × (Some a ≡ o);
 }
@@ -186,6 +228,7 @@ as_record there back f = record {
   tags = f.tags;
   fits = λ b. f.fits (back b);
   write = λ b. f.write (back b);
+  extent = λ b. f.extent (back b);
   read = λ ns. f.read ns >>= λ a. Ok (there a);
   Says = λ ns b. f.Says ns (back b);
 }
@@ -196,6 +239,7 @@ as_case there back f = record {
   tags = f.tags;
   fits = λ b. option_map_or f.fits (back b) false;
   write = λ b. if_given f.write (back b);
+  extent = λ b. extent_if_any f.extent (back b);
   read = λ ns. f.read ns >>= λ a. Ok (there a);
   Says = λ ns b. (a : _) × f.Says ns a × (there a ≡ b);
 }
@@ -209,6 +253,7 @@ f ⊗ g = record {
   tags = f.tags ++ g.tags;
   fits = λ p. f.fits p.0 && g.fits p.1;
   write = λ p. f.write p.0 ++ g.write p.1;
+  extent = λ p. beside (f.extent p.0) (g.extent p.1);
   read = λ ns. f.read ns >>= λ a. g.read ns >>= λ b. Ok (a, b);
   Says = λ ns p. f.Says ns p.0 × g.Says ns p.1;
 }
@@ -220,6 +265,7 @@ f ⊗ʳ g = record {
   tags = f.tags ++ g.tags;
   fits = λ p. f.fits p.0 && g.fits p.1;
   write = λ p. f.write p.0 ++ g.write p.1;
+  extent = λ p. beside (f.extent p.0) (g.extent p.1);
   read = λ ns. g.read ns >>= λ b. f.read ns >>= λ a. Ok (a, b);
   Says = λ ns p. f.Says ns p.0 × g.Says ns p.1;
 }
@@ -231,6 +277,7 @@ f ◁ g = record {
   tags = f.tags ++ g.tags;
   fits = λ a. f.fits a && g.fits tt;
   write = λ a. f.write a ++ g.write tt;
+  extent = λ a. beside (f.extent a) (g.extent tt);
   read = λ ns. f.read ns >>= λ a. g.read ns >>= λ u. Ok a;
   Says = λ ns a. f.Says ns a × g.Says ns tt;
 }
@@ -242,6 +289,7 @@ f ▷ g = record {
   tags = f.tags ++ g.tags;
   fits = λ a. f.fits tt && g.fits a;
   write = λ a. f.write tt ++ g.write a;
+  extent = λ a. beside (f.extent tt) (g.extent a);
   read = λ ns. f.read ns >>= λ u. g.read ns;
   Says = λ ns a. f.Says ns tt × g.Says ns a;
 }
@@ -252,6 +300,7 @@ followed tags f g = record {
   tags = f.tags ++ tags;
   fits = λ p. f.fits p.0 && (g p.0).fits p.1;
   write = λ p. f.write p.0 ++ (g p.0).write p.1;
+  extent = λ p. beside (f.extent p.0) ((g p.0).extent p.1);
   read = λ ns. f.read ns >>= λ k. (g k).read ns >>= λ a. Ok (k, a);
   Says = λ ns p. f.Says ns p.0 × (g p.0).Says ns p.1;
 }
@@ -267,6 +316,7 @@ told_by fault key known tags g = record {
   tags = tags;
   fits = λ a. option_map_or (λ k. k == key a) known false && (g (key a)).fits a;
   write = λ a. (g (key a)).write a;
+  extent = λ a. (g (key a)).extent a;
   read = λ ns. read_told fault g known ns;
   Says = λ ns a. (known ≡ Some (key a)) × (g (key a)).Says ns a;
 }
@@ -279,6 +329,7 @@ closed f = record {
   tags = f.tags;
   fits = f.fits;
   write = f.write;
+  extent = f.extent;
   read = λ ns. only f.tags ns >>= λ u. f.read ns;
   Says = λ ns a. HaveTags f.tags ns × f.Says ns a;
 }
@@ -289,6 +340,7 @@ refusing fault test f = record {
   tags = f.tags;
   fits = λ a. test && f.fits a;
   write = f.write;
+  extent = f.extent;
   read = λ ns. guard fault test >>= λ u. f.read ns;
   Says = λ ns a. IsTrue test × f.Says ns a;
 }
@@ -303,6 +355,7 @@ choose b f g = record {
   tags = f.tags ++ g.tags;
   fits = λ a. if b then f.fits a else g.fits a;
   write = λ a. if b then f.write a else g.write a;
+  extent = λ a. if b then f.extent a else g.extent a;
   read = λ ns. if b then f.read ns else g.read ns;
   Says = λ ns a. Chosen b (f.Says ns a) (g.Says ns a);
 }

@@ -7,36 +7,57 @@ use Rattle.kmip_ttlv.specs.Sizes.{size}
 use Rattle.kmip_messages.specs.declared.reply.Reply.{Reply}
 use Rattle.kmip_messages.specs.declared.request.Request.{Request}
 use Rattle.kmip_messages.specs.BatchItems.{question_item, answer_item}
-use Rattle.kmip_messages.specs.MessageSizes.{IsCapped, size_if_any, number_size, text_size, outcome_size}
+use Rattle.kmip_messages.specs.MessageSizes.{IsCapped, number_size}
+use Rattle.kmip_messages.specs.Parts.{id_format}
 use Rattle.kmip_messages.specs.Ranges.{is_batch_id}
+use Rattle.kmip_messages.specs.ReplyFormats.{outcome_format, answered_format}
 use Rattle.kmip_messages.specs.RequestFits.{ask_fits, request_fits}
-use Rattle.kmip_messages.proofs.WrittenLemmas.{request_batch_parts, batch_parts, ask_bound, id_bound, capped_sum, exact}
+use Rattle.kmip_messages.specs.RequestFormats.{known_format, asked_format, item_format}
+use Rattle.kmip_messages.proofs.ReplyLaws.{answered-good}
+use Rattle.kmip_messages.proofs.RequestLaws.{item-good}
+use Rattle.kmip_messages.proofs.WrittenLemmas.{IsWithin, ask_within, id_bound, outcome_depth, capped_sum, exact}
 
--- the Batch Item of a request in its ranges
-pub question_depth : (r : Request) → depth (question_item r) ≤ 6
-question_depth r = omega (arith, (request_batch_parts r).deep)
+-- ---- a question in its ranges
+
+question_within : (r : Request) → request_fits r ≡ true → IsWithin 567 5 (item_format.extent r)
+unfolding item_format known_format asked_format id_format
+question_within r fits =
+    let parts = and_parts (option_map_or is_batch_id r.id true) (ask_fits r.ask) fits in
+    omega (arith, id_bound r.id parts.0, ask_within r.ask parts.1)
+
+pub question_depth : (r : Request) → request_fits r ≡ true → depth (question_item r) ≤ 6
+question_depth r fits = omega (arith, (item-good.spans r).deep, (question_within r fits).1)
 
 pub question_groups : (r : Request) → HasWholeGroups (question_item r)
-question_groups r = (request_batch_parts r).groups.0
+question_groups r = (item-good.spans r).groups
 
-pub question_size : (r : Request) → IsTrue (request_fits r) → size (question_item r) ≤ 575
-question_size r fits =
-    let parts = and_parts (option_map_or is_batch_id r.id true) (ask_fits r.ask) fits in
-    omega (arith, (request_batch_parts r).long, id_bound r.id parts.0, ask_bound r.ask parts.1)
+pub question_size : (r : Request) → request_fits r ≡ true → size (question_item r) ≤ 575
+question_size r fits = omega (arith, (item-good.spans r).long, (question_within r fits).0)
 
--- the Batch Item of a reply
+-- ---- an answer
+
+answer_levels : (r : Reply) → (answered_format.extent r).depth ≤ 5
+unfolding answered_format id_format
+answer_levels r = omega (arith, outcome_depth r.operation r.outcome)
+
 pub answer_depth : (r : Reply) → depth (answer_item r) ≤ 6
-answer_depth r = omega (arith, (batch_parts r).deep)
+answer_depth r = omega (arith, (answered-good.spans r).deep, answer_levels r)
 
 pub answer_groups : (r : Reply) → HasWholeGroups (answer_item r)
-answer_groups r = (batch_parts r).groups.0
+answer_groups r = (answered-good.spans r).groups
+
+answer_size : (r : Reply)
+    → size (answer_item r) ≡ 8 + (number_size r.operation + (id_format.extent r.id).size + ((outcome_format r.operation).extent r.outcome).size)
+unfolding answered_format
+answer_size r = omega (arith, (answered-good.spans r).long)
 
 -- its size is the sum of those of its parts
-pub answer_capped : (r : Reply) (operation id outcome : ℕ) → operation ≡ number_size r.operation → IsCapped id (size_if_any text_size r.id)
-    → IsCapped outcome (outcome_size r.outcome) → IsCapped (8 + operation + id + outcome) (size (answer_item r))
+pub answer_capped : (r : Reply) (operation id outcome : ℕ) → operation ≡ number_size r.operation → IsCapped id (id_format.extent r.id).size
+    → IsCapped outcome ((outcome_format r.operation).extent r.outcome).size → IsCapped (8 + operation + id + outcome) (size (answer_item r))
 answer_capped r operation id outcome is_operation is_id is_outcome =
     let first : 8 + operation ≡ 8 + number_size r.operation = omega (arith, is_operation) in
-    let sum = capped_sum (8 + operation + id) outcome (8 + number_size r.operation + size_if_any text_size r.id) (outcome_size r.outcome)
-    (capped_sum (8 + operation) id (8 + number_size r.operation) (size_if_any text_size r.id) (exact (8 + operation) (8 + number_size r.operation) first) is_id) is_outcome in
-    let whole : 8 + number_size r.operation + size_if_any text_size r.id + outcome_size r.outcome ≡ size (answer_item r) = omega (arith, (batch_parts r).long) in
+    let sum = capped_sum (8 + operation + id) outcome (8 + number_size r.operation + (id_format.extent r.id).size) ((outcome_format r.operation).extent r.outcome).size
+    (capped_sum (8 + operation) id (8 + number_size r.operation) (id_format.extent r.id).size (exact (8 + operation) (8 + number_size r.operation) first) is_id) is_outcome in
+    let whole : 8 + number_size r.operation + (id_format.extent r.id).size + ((outcome_format r.operation).extent r.outcome).size ≡ size (answer_item r) =
+    omega (arith, answer_size r) in
     subst (IsCapped (8 + operation + id + outcome)) whole sum

@@ -98,7 +98,7 @@ failed (Failed reason) x e = cc
 
 created-part : IsPart created_format
 unfolding created_format identifier_format
-created-part = right-part _ _ refl (unread-part _ _) identifier_part
+created-part = right-part _ _ refl (unread-part _ _ (refl, tt)) identifier_part
 
 identifiers-part : IsPart identifiers_format
 unfolding identifiers_format
@@ -212,7 +212,7 @@ any_version_parts-part = fixed-part _ _ _ _ refl refl (both-part _ _ refl (requi
 reply_header_parts-part : (now : ℤ) → IsPart (reply_header_parts_format now)
 unfolding reply_header_parts_format
 reply_header_parts-part now =
-    right-part _ _ refl (structure-part _ _ any_version_parts-part.good) (right-part _ _ refl (unread-part _ _) count_part)
+    right-part _ _ refl (structure-part _ _ any_version_parts-part.good) (right-part _ _ refl (unread-part _ _ (refl, tt)) count_part)
 
 reply_header-part : (now : ℤ) → IsPart (reply_header_format now)
 unfolding reply_header_format

@@ -23,9 +23,12 @@ use Rattle.kmip_messages.specs.Ranges.{is_operation}
 unfoldable pub any_name_parts_format : Format (List ℕ)
 any_name_parts_format = required texts TAG_NAME_VALUE ◁ plain_format
 
+abbrev pub any_name_format : Format (Option (List ℕ))
+any_name_format = optional_structure TAG_NAME any_name_parts_format
+
 -- the attributes that are given, each of any value; others are passed over
 unfoldable pub attrs_format : Format Attrs
-attrs_format = attrs_with (optional_structure TAG_NAME any_name_parts_format)
+attrs_format = attrs_with any_name_format
 
 -- ---- payloads
 

@@ -1,5 +1,5 @@
 //! Which requests and replies have a written form. Nothing here takes memory.
-ghost use Rattle.std.specs.Prelude.{◌≡◌, ◌+◌, ◌≤◌, ◌<◌, ◌==◌, pos, true, false, nat_le, length};
+ghost use Rattle.std.specs.Prelude.{◌≡◌, ℕ, ◌+◌, ◌≤◌, ◌<◌, ◌==◌, pos, true, false, nat_le, length, Option};
 ghost use Rattle.std.specs.List.{list_all};
 ghost use Rattle.std.specs.Option.{option_map_or};
 ghost use Rattle.kmip_ttlv.specs.Limits.{most_bytes};
@@ -10,16 +10,9 @@ ghost use Rattle.kmip_messages.specs.RequestFits.{ask_fits, request_fits};
 ghost use Rattle.kmip_messages.specs.Written.{reply_item};
 ghost use Rattle.kmip_messages.specs.Fits.{is_own, outcome_fits, reply_fits};
 ghost use Rattle.kmip_messages.specs.BatchItems.{answer_fits, answer_item};
-ghost use Rattle.kmip_messages.specs.MessageSizes.{
-  size_if_any,
-  number_size,
-  text_size,
-  texts_size,
-  name_size,
-  attrs_size,
-  outcome_size,
-  IsCapped,
-};
+ghost use Rattle.kmip_messages.specs.MessageSizes.{number_size, text_size, IsCapped};
+ghost use Rattle.kmip_messages.specs.Parts.{id_format};
+ghost use Rattle.kmip_messages.specs.ReplyFormats.{any_name_format, attrs_format, identifiers_format, outcome_format};
 
 use crate::ranges::is_batch_id;
 use crate::reply::{Outcome, Reply};
@@ -144,8 +137,23 @@ fn is_short(reply: &Reply) -> bool
 }
 
 /// How many bytes an outcome takes in its Batch Item, or more than a message may have.
+#[tactic(
+    auto,
+    unfolding(
+        crate::specs::ReplyFormats::outcome_format,
+        crate::specs::ReplyFormats::success_format,
+        crate::specs::ReplyFormats::success_of_format,
+        crate::specs::ReplyFormats::answer_format,
+        crate::specs::ReplyFormats::created_format,
+        crate::specs::ReplyFormats::object_format,
+        crate::specs::ReplyFormats::located_format,
+        crate::specs::ReplyFormats::failed_format,
+        crate::specs::Parts::identifier_format
+    )
+)]
 fn outcome_size(outcome: &Outcome) -> usize
-    ensures size { IsCapped result (outcome_size outcome.now) }
+    ensures size { (asked : Option ℕ)
+        → IsCapped result ((outcome_format asked).extent outcome.now).size }
     ensures small { result ≤ 100000 }
 {
     match outcome {
@@ -160,8 +168,9 @@ fn outcome_size(outcome: &Outcome) -> usize
 }
 
 /// How many bytes the Attributes take, or more than a message may have.
+#[tactic(auto, unfolding(crate::specs::ReplyFormats::attrs_format))]
 fn attrs_size(attrs: &Attrs) -> usize
-    ensures size { IsCapped result (attrs_size attrs.now) }
+    ensures size { IsCapped result (8 + (attrs_format.extent attrs.now).size) }
     ensures small { result ≤ 20000 }
 {
     let numbers = number_size(&attrs.object_type)
@@ -173,8 +182,9 @@ fn attrs_size(attrs: &Attrs) -> usize
 }
 
 /// How many bytes a Name takes, where there is one, or more than a message may have.
+#[tactic(auto, unfolding(crate::specs::ReplyFormats::any_name_parts_format))]
 fn name_size(name: &Option<Text>) -> usize
-    ensures size { IsCapped result (name_size name.now) }
+    ensures size { IsCapped result (any_name_format.extent name.now).size }
     ensures small { result ≤ 17000 }
 {
     match name {
@@ -185,8 +195,9 @@ fn name_size(name: &Option<Text>) -> usize
 
 /// How many bytes a Unique Batch Item ID takes, where there is one, or more than a message may
 /// have.
+#[tactic(auto, unfolding(crate::specs::Parts::id_format))]
 fn id_size(id: &Option<Bytes>) -> usize
-    ensures size { IsCapped result (size_if_any text_size id.now) }
+    ensures size { IsCapped result (id_format.extent id.now).size }
     ensures small { result ≤ 16400 }
 {
     match id {
@@ -206,8 +217,9 @@ fn number_size<T>(number: &Option<T>) -> usize
 }
 
 /// How many bytes the Unique Identifiers take together, or more than a message may have.
+#[tactic(auto, unfolding(crate::specs::ReplyFormats::identifiers_format))]
 fn texts_size(uids: &[Text]) -> usize
-    ensures size { IsCapped result (texts_size uids.now) }
+    ensures size { IsCapped result (identifiers_format.extent uids.now).size }
     ensures small { result ≤ 50000 }
 {
     let mut size = 0;

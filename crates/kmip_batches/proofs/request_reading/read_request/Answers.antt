@@ -1,5 +1,5 @@
 -- Reading is the reading function, whose laws are these.
-use Rattle.std.proofs.Common.{ap, arith, sym, ◌∙◌}
+use Rattle.std.proofs.Common.{ap, arith, ◌∙◌}
 use Rattle.kmip_batches.specs.Batches.{batch_read}
 use Rattle.kmip_batches.proofs.ByteLemmas.{answer_found, answer_only, batch_read-law, batch_read-complete, requests_read, given_fits, given_asks, given_refused}
 use Rattle.kmip_batches.proofs.request_reading.read_request.Goals as goal
