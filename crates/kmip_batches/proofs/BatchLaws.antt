@@ -58,7 +58,7 @@ pub batch-law : (n : Node) → Reads (batch_at n) (λ b. IsBatch b n)
 unfolding batch_at
 batch-law n = reads-as (batch_at n) _ (λ b. IsBatch b n)
     (λ b (message, is, (header, says, (_, all, (_, keeps, (items, questions, same))))).
-        subst (λ x. IsBatch x n) same (batch_is n message header.0 header.1 items is says all keeps questions))
+    subst (λ x. IsBatch x n) same (batch_is n message header.0 header.1 items is says all keeps questions))
     (λ b p. (
       p.message,
       p.is_message,

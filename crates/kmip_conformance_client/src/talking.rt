@@ -97,6 +97,7 @@ fn told_of(fault: MessageFault) -> (&'static str, Option<u32>) {
         MessageFault::OutOfRange(tag) => ("OutOfRange", Some(tag.number())),
         MessageFault::UnknownOperation => ("UnknownOperation", None),
         MessageFault::NoMemory => ("NoMemory", None),
+        MessageFault::Undo => ("Undo", None),
     }
 }
 

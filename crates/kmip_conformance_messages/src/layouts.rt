@@ -2,9 +2,9 @@
 
 use crate::tags::{
     ALGORITHM, ATTRIBUTES, BATCH_COUNT, BATCH_ITEM, HEADER, ID, IDENTIFIER, LENGTH, MAJOR, MASK,
-    MINOR, NAME, NAME_TYPE, NAME_VALUE, OBJECT_TYPE, OPERATION, PAYLOAD, REASON, REQUEST, RESPONSE,
-    RESPONSE_HEADER, RESPONSE_PAYLOAD, REVOCATION_CODE, REVOCATION_REASON, STATE, STATUS, USAGE,
-    VERSION,
+    MINOR, NAME, NAME_TYPE, NAME_VALUE, OBJECT_TYPE, OPERATION, OPTION, PAYLOAD, REASON, REQUEST,
+    RESPONSE, RESPONSE_HEADER, RESPONSE_PAYLOAD, REVOCATION_CODE, REVOCATION_REASON, STATE, STATUS,
+    USAGE, VERSION,
 };
 use kmip_ttlv::{Bytes, Item, Tag, Text, fits, write};
 use std::alloc::{AllocError, Global};
@@ -148,6 +148,36 @@ pub const FAILED: [Line; 3] = [
     Line(2, STATUS, Content::Enumeration(1)),
     Line(2, REASON, Content::Enumeration(0x35)),
 ];
+
+/// A request's lines before its first Batch Item, with the option where there is one.
+pub fn request_head(
+    alloc: Global,
+    option: Option<Content>,
+    count: i32,
+) -> Result<Vec<Line>, AllocError> {
+    let (head, _) = HEAD.split_at(5);
+    let mut lines = Vec::from_slice(alloc, head)?;
+    if let Some(option) = option {
+        lines.push(Line(2, OPTION, option))?;
+    }
+    lines.push(Line(2, BATCH_COUNT, Content::Integer(count)))?;
+    Ok(lines)
+}
+
+/// A reply's lines before its first Batch Item.
+pub fn reply_head(alloc: Global, count: i32) -> Result<Vec<Line>, AllocError> {
+    let (head, _) = REPLY_HEAD.split_at(5);
+    let mut lines = Vec::from_slice(alloc, head)?;
+    lines.push(Line(2, BATCH_COUNT, Content::Integer(count)))?;
+    Ok(lines)
+}
+
+/// Puts one more Batch Item at the end.
+pub fn push_batch(lines: &mut Vec<Line>, batch: &[Line]) -> Result<(), AllocError> {
+    lines.push(Line(1, BATCH_ITEM, Content::Structure))?;
+    lines.extend_from_slice(batch)?;
+    Ok(())
+}
 
 /// A whole reply of one Batch Item.
 pub fn reply(alloc: Global, batch: &[Line]) -> Result<Vec<Line>, AllocError> {

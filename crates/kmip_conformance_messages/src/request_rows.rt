@@ -29,6 +29,7 @@ pub enum Verdict {
     OutOfRange(u32),
     UnknownOperation,
     NoMemory,
+    Undo,
 }
 
 /// The changes made in a request, and what comes of it.

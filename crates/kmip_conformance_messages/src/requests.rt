@@ -23,6 +23,7 @@ pub fn verdict_of(fault: MessageFault) -> Verdict {
         MessageFault::OutOfRange(tag) => Verdict::OutOfRange(tag.number()),
         MessageFault::UnknownOperation => Verdict::UnknownOperation,
         MessageFault::NoMemory => Verdict::NoMemory,
+        MessageFault::Undo => Verdict::Undo,
     }
 }
 

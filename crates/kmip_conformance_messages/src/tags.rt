@@ -4,6 +4,8 @@
 
 pub const BATCH_COUNT: u32 = 0x42000D;
 
+pub const OPTION: u32 = 0x42000E;
+
 pub const BATCH_ITEM: u32 = 0x42000F;
 
 pub const ALGORITHM: u32 = 0x420028;
