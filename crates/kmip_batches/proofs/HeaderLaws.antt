@@ -48,7 +48,7 @@ is_header message option count p = (p.parts, p.stands, (is_version p.parts p.ver
 reply_header_parts-part : (now : ℤ) → IsPart (reply_header_parts_format now)
 unfolding reply_header_parts_format
 reply_header_parts-part now =
-    right-part _ _ refl (structure-part _ _ any_version-part.good) (right-part _ _ refl (unread-part _ _) (required-part integers _ integer_kind))
+    right-part _ _ refl (structure-part _ _ any_version-part.good) (right-part _ _ refl (unread-part _ _ (refl, tt)) (required-part integers _ integer_kind))
 
 pub reply_header-part : (now : ℤ) → IsPart (reply_header_format now)
 unfolding reply_header_format
