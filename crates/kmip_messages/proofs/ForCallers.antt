@@ -1,5 +1,5 @@
 -- For lemma files above, which speak of replies where no call stands near, so that no clause serves: which ones are short.
-use Rattle.std.proofs.Common.{◌≡◌, ℕ, ◌+◌, ◌*◌, ◌≤◌, ◌&&◌, pos, Bool, true, false, List, [], ◌∷◌, length, Option, IsTrue, refl, arith}
+use Rattle.std.proofs.Common.{◌≡◌, ℕ, ◌*◌, ◌≤◌, ◌&&◌, pos, Bool, true, false, List, [], ◌∷◌, length, Option, IsTrue, refl, arith}
 use Rattle.std.proofs.lemmas.Bool.{and_parts, le-leb}
 use Rattle.std.specs.List.{list_all}
 use Rattle.std.specs.Option.{option_map_or}
