@@ -12,11 +12,12 @@ use Rattle.kmip_messages.specs.declared.reply.Outcome.TheVariants.{Located, Attr
 use Rattle.kmip_messages.specs.declared.reply.Reply.{Reply}
 use Rattle.kmip_messages.specs.declared.standard.TheConstants.{OPERATION_LOCATE, OPERATION_GET_ATTRIBUTES}
 use Rattle.kmip_messages.specs.Fits.{is_own, outcome_fits, reply_fits}
+use Rattle.kmip_messages.specs.MessageSizes.{IsBrief}
 use Rattle.kmip_objects.specs.Objects.{Object}
 use Rattle.kmip_objects.specs.Ranges.{attrs_fit, is_identifier}
 use Rattle.kmip_messages.specs.Ranges.{is_batch_id}
 use Rattle.kmip_messages.specs.RequestReading.{RefusalIs}
-use Rattle.kmip_messages.proofs.ForCallers.{IsBrief, short_fits}
+use Rattle.kmip_messages.proofs.ForCallers.{short_fits}
 use Rattle.kmip_server.specs.Answering.{with_outcome}
 use Rattle.kmip_server.specs.Reasons.{message_reason}
 use Rattle.kmip_server.specs.Serving.{attributes_of}
