@@ -50,8 +50,7 @@ unread-part tag content is = record {
   good = good_by (unread tag content)
       (λ ns. record { sound = λ u e. tt; complete = λ u says. refl })
       (λ u fits. tt)
-      (λ u. (own_tag tag, tt))
-      (λ u. spans_one tag content is);
+      (λ u. (own_tag tag, tt)) (λ u. spans_one tag content is);
   looks = λ ns ms u agree says. tt;
 }
 
@@ -69,8 +68,7 @@ repeated-part k tag test is = record {
   good = good_by (repeated k tag test)
       (λ ns. reads-values k is.kind tag test (contents tag ns))
       (λ all fits. (written_values k tag all, fits))
-      (λ all. values_have k tag all)
-      (λ all. spans_each k tag is all);
+      (λ all. values_have k tag all) (λ all. spans_each k tag is all);
   looks = λ ns ms all agree says. (sym agree.0 ∙ says.0, says.1);
 }
 
@@ -79,8 +77,7 @@ structure-part tag f good = record {
   good = good_by (structure_of tag f)
       (λ ns. reads-bind _ _ _ _ (reads-the structures structure_kind tag ns) (λ parts. reads f good parts))
       (λ a fits. (f.write a, alone tag (inside (f.write a)), good.written a fits))
-      (λ a. (own_tag tag, tt))
-      (λ a. spans_around tag (f.extent a) (f.write a) (good.spans a));
+      (λ a. (own_tag tag, tt)) (λ a. spans_around tag (f.extent a) (f.write a) (good.spans a));
   looks = λ ns ms a agree says. (says.0, sym agree.0 ∙ says.1, says.2);
 }
 
@@ -134,8 +131,7 @@ sole-part tag f good = record {
   good = good_by (sole_structure_of tag f)
       (λ ns. reads-bind _ _ _ _ (reads-sole tag (contents tag ns)) (λ parts. reads f good parts))
       (λ a fits. (f.write a, alone tag (inside (f.write a)), good.written a fits))
-      (λ a. (own_tag tag, tt))
-      (λ a. spans_around tag (f.extent a) (f.write a) (good.spans a));
+      (λ a. (own_tag tag, tt)) (λ a. spans_around tag (f.extent a) (f.write a) (good.spans a));
   looks = λ ns ms a agree says. (says.0, sym agree.0 ∙ says.1, says.2);
 }
 
@@ -149,8 +145,7 @@ tested-part fault test f part = record {
       (λ a p. (a, p.0, (tt, p.1, refl)))
       (reads-bind _ _ _ _ (reads f part.good ns) (λ a. reads-bind _ _ _ _ (reads-guard fault (test a)) (λ u. reads-ok a))))
       (λ a fits. let both = and_parts (f.fits a) (test a) fits in (part.good.written a both.0, both.1))
-      (λ a. part.good.has a)
-      (λ a. part.good.spans a);
+      part.good.has part.good.spans;
   looks = λ ns ms a agree says. (part.looks ns ms a agree says.0, says.1);
 }
 
@@ -163,8 +158,7 @@ fixed-part fault test value f fits holds part = record {
   good = good_by (fixed fault test value f)
       (λ ns. reads-bind _ _ _ _ (reads f part.good ns) (λ a. reads-guard fault (test a)))
       (λ u _. (value, part.good.written value fits, holds))
-      (λ u. part.good.has value)
-      (λ u. part.good.spans value);
+      (λ u. part.good.has value) (λ u. part.good.spans value);
   looks = λ ns ms u agree says. (says.0, part.looks ns ms says.0 agree says.1, says.2);
 }
 
@@ -182,8 +176,7 @@ present-part f part = record {
   good = good_by (present f)
       (λ ns. reads-bind _ _ _ _ (reads f part.good ns) (λ a. reads-ok (Some a)))
       (λ o fits. some_given f part.good o fits)
-      (λ o. if_given_has f part.good o)
-      (λ o. spans_if_any f.extent f.write (λ a. part.good.spans a) o);
+      (λ o. if_given_has f part.good o) (λ o. spans_if_any f.extent f.write part.good.spans o);
   looks = λ ns ms o agree says. (says.0, part.looks ns ms says.0 agree says.1, says.2);
 }
 
@@ -196,8 +189,7 @@ as_record-good there back f again same good = good_by (as_record there back f)
     (λ b says. (back b, says, same b))
     (reads-bind _ _ _ _ (reads f good ns) (λ a. reads-ok (there a))))
     (λ b fits. good.written (back b) fits)
-    (λ b. good.has (back b))
-    (λ b. good.spans (back b))
+    (λ b. good.has (back b)) (λ b. good.spans (back b))
 
 pub said_record-part : {A B : Type 0} (there : A → B) (back : B → A) (f : Format A) → ((ns : List Node) (a : A) → f.Says ns a → back (there a) ≡ a)
     → ((b : B) → there (back b) ≡ b) → IsPart f → IsPart (as_record there back f)
@@ -220,8 +212,7 @@ pub as_case-good : {A B : Type 0} (there : A → B) (back : B → Option A) (f :
 as_case-good there back f again good = good_by (as_case there back f)
     (λ ns. reads-bind _ _ _ _ (reads f good ns) (λ a. reads-ok (there a)))
     (λ b fits. case_given there f good b (back b) (again b) fits)
-    (λ b. if_given_has f good (back b))
-    (λ b. spans_if_any f.extent f.write (λ a. good.spans a) (back b))
+    (λ b. if_given_has f good (back b)) (λ b. spans_if_any f.extent f.write good.spans (back b))
 
 pub as_case-part : {A B : Type 0} (there : A → B) (back : B → Option A) (f : Format A) → ((b : B) (a : A) → back b ≡ Some a → there a ≡ b)
     → IsPart f → IsPart (as_case there back f)
@@ -360,8 +351,7 @@ closed-good f good = good_by (closed f)
     (λ a says. (tt, says.0, says.1))
     (reads-bind _ _ _ _ (reads-only f.tags ns) (λ u. reads f good ns)))
     (λ a fits. (good.has a, good.written a fits))
-    (λ a. good.has a)
-    (λ a. good.spans a)
+    good.has good.spans
 
 pub refusing-part : {A : Type 0} (fault : MessageFault) (test : Bool) (f : Format A) → IsPart f → IsPart (refusing fault test f)
 refusing-part fault test f part = record {
@@ -371,8 +361,7 @@ refusing-part fault test f part = record {
       (λ a says. (tt, says.0, says.1))
       (reads-bind _ _ _ _ (reads-guard fault test) (λ u. reads f part.good ns)))
       (λ a fits. let each = and_parts test (f.fits a) fits in (each.0, part.good.written a each.1))
-      (λ a. part.good.has a)
-      (λ a. part.good.spans a);
+      part.good.has part.good.spans;
   looks = λ ns ms a agree says. (says.0, part.looks ns ms a agree says.1);
 }
 

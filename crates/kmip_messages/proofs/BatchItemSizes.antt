@@ -1,5 +1,5 @@
 -- For kmip_batches, as proofs/BatchItemLaws: how deep and how long the Batch Items of a message are, over which it goes by induction.
-use Rattle.std.proofs.Common.{◌≡◌, ℕ, ◌+◌, ◌≤◌, true, IsTrue, subst, arith}
+use Rattle.std.proofs.Common.{◌≡◌, ℕ, ◌+◌, ◌≤◌, true, arith}
 use Rattle.std.specs.Option.{option_map_or}
 use Rattle.std.proofs.lemmas.Bool.{and_parts}
 use Rattle.kmip_ttlv.specs.Fitting.{HasWholeGroups, depth}
@@ -15,7 +15,7 @@ use Rattle.kmip_messages.specs.RequestFits.{ask_fits, request_fits}
 use Rattle.kmip_messages.specs.RequestFormats.{known_format, asked_format, item_format}
 use Rattle.kmip_messages.proofs.ReplyLaws.{answered-good}
 use Rattle.kmip_messages.proofs.RequestLaws.{item-good}
-use Rattle.kmip_messages.proofs.WrittenLemmas.{IsWithin, ask_within, id_bound, outcome_depth, capped_sum, exact}
+use Rattle.kmip_messages.proofs.WrittenLemmas.{IsWithin, ask_within, id_bound, outcome_depth}
 
 -- ---- a question in its ranges
 
@@ -55,9 +55,5 @@ answer_size r = omega (arith, (answered-good.spans r).long)
 pub answer_capped : (r : Reply) (operation id outcome : ℕ) → operation ≡ number_size r.operation → IsCapped id (id_format.extent r.id).size
     → IsCapped outcome ((outcome_format r.operation).extent r.outcome).size → IsCapped (8 + operation + id + outcome) (size (answer_item r))
 answer_capped r operation id outcome is_operation is_id is_outcome =
-    let first : 8 + operation ≡ 8 + number_size r.operation = omega (arith, is_operation) in
-    let sum = capped_sum (8 + operation + id) outcome (8 + number_size r.operation + (id_format.extent r.id).size) ((outcome_format r.operation).extent r.outcome).size
-    (capped_sum (8 + operation) id (8 + number_size r.operation) (id_format.extent r.id).size (exact (8 + operation) (8 + number_size r.operation) first) is_id) is_outcome in
-    let whole : 8 + number_size r.operation + (id_format.extent r.id).size + ((outcome_format r.operation).extent r.outcome).size ≡ size (answer_item r) =
-    omega (arith, answer_size r) in
-    subst (IsCapped (8 + operation + id + outcome)) whole sum
+    let whole = answer_size r in
+    (λ short. grind (arith, whole, is_operation, is_id, is_outcome, short), λ long. grind (arith, whole, is_operation, is_id, is_outcome, long))

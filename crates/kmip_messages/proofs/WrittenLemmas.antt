@@ -1,7 +1,8 @@
 -- Written messages: how deep, how long, and of whole groups.
-use Rattle.std.proofs.Common.{◌≡◌, ℕ, ◌+◌, ◌≤◌, ℤ, pos, true, false, List, length, Option, Some, None, IsTrue, nat_le, refl, sym, subst, ap, ◌∙◌, inl, inr, arith}
-use Rattle.std.proofs.lemmas.Bool.{and_parts, leb-true, cases_lt}
+use Rattle.std.proofs.Common.{◌≡◌, ℕ, ◌+◌, ◌*◌, ◌≤◌, ℤ, pos, true, false, List, [], ◌∷◌, length, Option, Some, None, IsTrue, nat_le, sym, subst, ap, ◌∙◌, inl, inr, arith}
+use Rattle.std.proofs.lemmas.Bool.{and_parts, leb-true}
 use Rattle.std.proofs.lemmas.Bool.Decides.{leb_tells}
+use Rattle.std.specs.List.{list_all}
 use Rattle.std.specs.Option.{option_map_or}
 use Rattle.kmip_ttlv.specs.Node.{Node}
 use Rattle.kmip_ttlv.specs.Sizes.{size, IsWritable}
@@ -15,8 +16,8 @@ use Rattle.kmip_messages.specs.declared.request.Request.{Request}
 use Rattle.kmip_messages.specs.declared.reply.Outcome.{Outcome}
 use Rattle.kmip_messages.specs.declared.reply.Outcome.TheVariants.{Created, Located, Attributes, Activated, Revoked, Destroyed, Failed}
 use Rattle.kmip_messages.specs.declared.reply.Reply.{Reply}
-use Rattle.kmip_messages.specs.Fits.{reply_fits}
-use Rattle.kmip_messages.specs.MessageSizes.{IsCapped, number_size, text_size}
+use Rattle.kmip_messages.specs.Fits.{outcome_fits, reply_fits}
+use Rattle.kmip_messages.specs.MessageSizes.{IsBrief, IsCapped, number_size, text_size}
 use Rattle.kmip_messages.specs.Operations.{operation_of}
 use Rattle.kmip_messages.specs.Parts.{id_format, identifier_format}
 use Rattle.kmip_messages.specs.Ranges.{is_batch_id}
@@ -28,25 +29,28 @@ use Rattle.kmip_messages.proofs.ReplyLaws.{reply-good}
 use Rattle.kmip_messages.proofs.RequestLaws.{message-good}
 
 -- so many bytes and levels at most
-abbrev pub IsWithin : ℕ → ℕ → Extent → Type 0
+abbrev IsWithin : ℕ → ℕ → Extent → Type 0
 IsWithin bytes levels e = (e.size ≤ bytes) × (e.depth ≤ levels)
 
 text_bound : (s : List ℕ) (most : ℕ) → length s ≤ most → text_size s ≤ most + 15
 text_bound s most h = omega (arith, h)
 
-pub uid_bound : (s : List ℕ) → is_identifier s ≡ true → text_size s ≤ 79
+uid_bound : (s : List ℕ) → is_identifier s ≡ true → text_size s ≤ 79
 uid_bound s h = text_bound s 64 (uid_length s h)
 
+at_most : {A : Type 0} (n : ℕ) (o : Option A) → option_map_or (λ _. n) o 0 ≤ n
+at_most n None = omega arith
+at_most n (Some a) = omega arith
+
 pub number_bound : {A : Type 0} (o : Option A) → number_size o ≤ 16
-number_bound None = omega arith
-number_bound (Some a) = omega arith
+number_bound o = at_most 16 o
 
 pub id_bound : (o : Option (List ℕ)) → option_map_or is_batch_id o true ≡ true → (id_format.extent o).size ≤ 143
 unfolding id_format
 id_bound None h = omega arith
 id_bound (Some s) h = text_bound s 128 (leb-true _ _ h)
 
-pub name_within : (o : Option (List ℕ)) → option_map_or is_name o false ≡ true → IsWithin 103 2 (extent_if_any name_format.extent o)
+name_within : (o : Option (List ℕ)) → option_map_or is_name o false ≡ true → IsWithin 103 2 (extent_if_any name_format.extent o)
 unfolding name_parts_format
 name_within None h = omega arith
 name_within (Some s) h = omega (arith, text_bound s 64 (name_length s h))
@@ -79,19 +83,28 @@ request_fits_writable r item fits is = subst IsWritable (sym is) (request_writab
 
 -- ---- replies
 
-at_most : {A : Type 0} (n : ℕ) (o : Option A) → option_map_or (λ _. n) o 0 ≤ n
-at_most n None = omega arith
-at_most n (Some a) = omega arith
-
 pub outcome_depth : (asked : Option ℕ) (o : Outcome) → ((outcome_format asked).extent o).depth ≤ 4
 unfolding outcome_format success_format success_of_format answer_format created_format object_format located_format identifiers_format identifier_format attrs_format any_name_parts_format failed_format
-outcome_depth asked (Created uid) = omega arith
-outcome_depth asked (Located uids) = omega arith
 outcome_depth asked (Attributes uid attrs) = omega (arith, at_most 2 attrs.name)
-outcome_depth asked (Activated uid) = omega arith
-outcome_depth asked (Revoked uid) = omega arith
-outcome_depth asked (Destroyed uid) = omega arith
-outcome_depth asked (Failed reason) = omega arith
+outcome_depth asked o = omega arith
+
+uids_bound : (uids : List (List ℕ)) → list_all is_identifier uids ≡ true → (identifiers_format.extent uids).size ≤ 79 * length uids
+unfolding identifiers_format
+uids_bound [] h = omega arith
+uids_bound (uid ∷ uids) h =
+    let parts = and_parts (is_identifier uid) (list_all is_identifier uids) h in
+    omega (arith, uid_bound uid parts.0, uids_bound uids parts.1)
+
+pub brief_bound : (asked : Option ℕ) (o : Outcome) → outcome_fits asked o ≡ true → IsBrief o → ((outcome_format asked).extent o).size ≤ 1000
+unfolding outcome_format success_format success_of_format answer_format created_format object_format located_format identifier_format attrs_format any_name_parts_format name_parts_format failed_format
+brief_bound asked (Created uid) fits brief = omega (arith, uid_bound uid (and_parts _ _ fits).1)
+brief_bound asked (Located uids) fits brief = omega (arith, uids_bound uids (and_parts _ _ fits).1, brief)
+brief_bound asked (Attributes uid attrs) fits brief =
+    omega (arith, uid_bound uid (and_parts _ _ fits).1, name_within attrs.name brief, number_bound)
+brief_bound asked (Activated uid) fits brief = omega (arith, uid_bound uid (and_parts _ _ fits).1)
+brief_bound asked (Revoked uid) fits brief = omega (arith, uid_bound uid (and_parts _ _ fits).1)
+brief_bound asked (Destroyed uid) fits brief = omega (arith, uid_bound uid (and_parts _ _ fits).1)
+brief_bound asked (Failed reason) fits brief = omega (arith, number_bound reason)
 
 reply_depth : (r : Reply) (now : ℤ) → ((reply_format now).extent r).depth ≤ 15
 unfolding reply_format reply_header_format reply_header_parts_format any_version_parts_format answered_format id_format
@@ -113,32 +126,14 @@ capped_test n m h = elim (leb_tells m 8192) [
   ]
 ]
 
--- a sum of capped numbers is capped
-pub capped_sum : (a b m n : ℕ) → IsCapped a m → IsCapped b n → IsCapped (a + b) (m + n)
-capped_sum a b m n h k = (
-  λ short. omega (arith, h.0 (omega (arith, short)), k.0 (omega (arith, short))),
-  λ long. elim (cases_lt 8192 m) [
-    | inl big ↦ omega (arith, h.1 big)
-    | inr small ↦ elim (cases_lt 8192 n) [
-      | inl big ↦ omega (arith, k.1 big)
-      | inr little ↦ omega (arith, h.0 small, k.0 little, long)
-    ]
-  ],
-)
-
-pub exact : (a m : ℕ) → a ≡ m → IsCapped a m
-exact a m is = (λ short. is, λ long. omega (arith, is))
-
 -- the test of the sizes of the parts is that of the whole
 pub is_short_test : (r : Reply) (operation id outcome : ℕ) → operation ≡ number_size r.operation → IsCapped id (id_format.extent r.id).size
     → IsCapped outcome ((outcome_format r.operation).extent r.outcome).size
     → nat_le (96 + operation + id + outcome) 8192 ≡ nat_le (size (reply_item r (pos 0))) 8192
 is_short_test r operation id outcome is_operation is_id is_outcome =
-    let known = 96 + number_size r.operation in
-    let front = capped_sum (96 + operation) id known (id_format.extent r.id).size (exact (96 + operation) known (omega (arith, is_operation))) is_id in
-    let all = known + (id_format.extent r.id).size + ((outcome_format r.operation).extent r.outcome).size in
-    let whole : all ≡ size (reply_item r (pos 0)) = omega (arith, reply_size r (pos 0)) in
-    capped_test (96 + operation + id + outcome) all (capped_sum (96 + operation + id) outcome _ _ front is_outcome) ∙ ap (λ k. nat_le k 8192) whole
+    let whole = reply_size r (pos 0) in
+    capped_test (96 + operation + id + outcome) (size (reply_item r (pos 0)))
+    (λ short. grind (arith, whole, is_operation, is_id, is_outcome, short), λ long. grind (arith, whole, is_operation, is_id, is_outcome, long))
 
 -- a reply that fits can be written, at any time
 pub reply_fits_writable : (r : Reply) (now : ℤ) → IsTrue (reply_fits r) → IsWritable (reply_item r now)

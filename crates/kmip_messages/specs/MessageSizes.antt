@@ -1,9 +1,12 @@
--- Private: how long numbers and texts are in a message; of all else its format says it.
+-- Private: how long numbers and texts are in a message, and which outcomes are short; of all else its format says it.
 -- Source: KMIP 2.1, TTLV Encoding.
-use Rattle.std.specs.Prelude.{◌≡◌, ℕ, ◌+◌, ◌<◌, ◌≤◌, List, length, Option}
+use Rattle.std.specs.Prelude.{◌≡◌, ℕ, ◌+◌, ◌<◌, ◌≤◌, false, List, length, Option, IsTrue}
 use Rattle.std.specs.Option.{option_map_or}
 use Rattle.kmip_ttlv.specs.Limits.{most_bytes}
 use Rattle.kmip_ttlv.specs.Sizes.{padded}
+use Rattle.kmip_objects.specs.Ranges.{is_name}
+use Rattle.kmip_messages.specs.declared.reply.Outcome.{Outcome}
+use Rattle.kmip_messages.specs.declared.reply.Outcome.TheVariants.{Located, Attributes}
 
 -- a number, where it is given
 abbrev pub number_size : {A : Type 0} → Option A → ℕ
@@ -15,3 +18,9 @@ text_size s = 8 + padded (length s)
 -- the same number, or both are more than a message may have
 abbrev pub IsCapped : ℕ → ℕ → Type 0
 IsCapped n m = (m ≤ most_bytes → n ≡ m) × (most_bytes < m → most_bytes < n)
+
+-- one identifier at most, and attributes with a Name in its range
+abbrev pub IsBrief : Outcome → Type 0
+IsBrief (Located uids) = length uids ≤ 1
+IsBrief (Attributes uid attrs) = IsTrue (option_map_or is_name attrs.name false)
+IsBrief outcome = Unit {0}

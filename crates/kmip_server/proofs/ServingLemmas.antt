@@ -1,5 +1,5 @@
--- Refusals that are answered, and how long a reply of Get Attributes is.
-use Rattle.std.proofs.Common.{◌≡◌, ◌≤◌, ◌&&◌, ◌==◌, ℕ, ◌+◌, Bool, true, false, List, [], ◌∷◌, Option, Some, None, Result, Ok, Err, IfOk, OnOk, IfSome, IsSome, IsTrue, refl, sym, ap, subst, ◌∙◌, arith}
+-- Refusals that are answered, and that the replies have a written form.
+use Rattle.std.proofs.Common.{◌≡◌, ◌&&◌, ◌==◌, ℕ, Bool, true, false, List, [], ◌∷◌, Option, Some, None, Result, Ok, Err, IfOk, OnOk, IfSome, IsSome, IsTrue, refl, sym, subst, ◌∙◌, arith}
 use Rattle.std.specs.Option.{option_map_or, option_to_list}
 use Rattle.std.proofs.lemmas.Bool.{and_parts, eq-eqb}
 use Rattle.kmip_fields.specs.declared.fault.MessageFault.{MessageFault}
@@ -12,13 +12,12 @@ use Rattle.kmip_messages.specs.declared.reply.Outcome.TheVariants.{Located, Attr
 use Rattle.kmip_messages.specs.declared.reply.Reply.{Reply}
 use Rattle.kmip_messages.specs.declared.standard.TheConstants.{OPERATION_LOCATE, OPERATION_GET_ATTRIBUTES}
 use Rattle.kmip_messages.specs.Fits.{is_own, outcome_fits, reply_fits}
-use Rattle.kmip_messages.specs.MessageSizes.{text_size, attrs_size, outcome_size}
+use Rattle.kmip_messages.specs.MessageSizes.{IsBrief}
 use Rattle.kmip_objects.specs.Objects.{Object}
 use Rattle.kmip_objects.specs.Ranges.{attrs_fit, is_identifier}
 use Rattle.kmip_messages.specs.Ranges.{is_batch_id}
 use Rattle.kmip_messages.specs.RequestReading.{RefusalIs}
-use Rattle.kmip_messages.proofs.ForCallers.{short_fits, number_bound, text_bound}
-use Rattle.kmip_objects.proofs.ForCallers.{name_length, uid_length}
+use Rattle.kmip_messages.proofs.ForCallers.{short_fits}
 use Rattle.kmip_server.specs.Answering.{with_outcome}
 use Rattle.kmip_server.specs.Reasons.{message_reason}
 use Rattle.kmip_server.specs.Serving.{attributes_of}
@@ -58,7 +57,7 @@ both h k = rw (h, k) refl
 
 -- a failure, with its reason
 pub failure_fits : (r : Reply) (reason : Option ℕ) → IsTrue (option_map_or is_batch_id r.id true) → IsTrue (reply_fits (with_outcome r (Failed reason)))
-failure_fits r reason marked = short_fits (with_outcome r (Failed reason)) marked refl (omega (arith, number_bound reason))
+failure_fits r reason marked = short_fits (with_outcome r (Failed reason)) marked refl tt
 
 is_own_of : (operation : ℕ) (asked : Option ℕ) → asked ≡ Some operation → is_own operation asked ≡ true
 is_own_of operation asked own = subst (λ o. is_own operation o ≡ true) (sym own) (eq-eqb operation operation refl)
@@ -66,12 +65,11 @@ is_own_of operation asked own = subst (λ o. is_own operation o ≡ true) (sym o
 -- a success that tells the identifier alone
 pub told_fits : (r : Reply) (operation : ℕ) (make : List ℕ → Outcome) (uid asked : List ℕ)
     → ((u : List ℕ) → outcome_fits r.operation (make u) ≡ (is_own operation r.operation && is_identifier u))
-    → ((u : List ℕ) → outcome_size (make u) ≤ 40 + text_size u) → IsTrue (option_map_or is_batch_id r.id true) → r.operation ≡ Some operation
+    → ((u : List ℕ) → IsBrief (make u)) → IsTrue (option_map_or is_batch_id r.id true) → r.operation ≡ Some operation
     → uid ≡ asked → IsTrue (is_identifier asked) → IsTrue (reply_fits (with_outcome r (make uid)))
-told_fits r operation make uid asked fits short marked own is identified =
+told_fits r operation make uid asked fits brief marked own is identified =
     let named : is_identifier uid ≡ true = rw is identified in
-    short_fits (with_outcome r (make uid)) marked (fits uid ∙ both (is_own_of operation r.operation own) named)
-    (omega (arith, short uid, text_bound uid 64 (uid_length uid named)))
+    short_fits (with_outcome r (make uid)) marked (fits uid ∙ both (is_own_of operation r.operation own) named) (brief uid)
 
 located_one : (r : Reply) (found : Option (List ℕ)) → IsTrue (option_map_or is_batch_id r.id true) → r.operation ≡ Some OPERATION_LOCATE
     → IfSome found (λ uid. IsTrue (is_identifier uid)) → IsTrue (reply_fits (with_outcome r (Located (option_to_list found))))
@@ -79,7 +77,7 @@ located_one r None marked own identified =
     short_fits (with_outcome r (Located [])) marked (both (is_own_of OPERATION_LOCATE r.operation own) refl) (omega arith)
 located_one r (Some uid) marked own identified =
     short_fits (with_outcome r (Located (uid ∷ []))) marked (both (is_own_of OPERATION_LOCATE r.operation own) (both identified refl))
-    (omega (arith, text_bound uid 64 (uid_length uid identified)))
+    (omega arith)
 
 -- a Locate's success, of one object at most
 pub located_fits : (r : Reply) (uids : List (List ℕ)) (found : Option (List ℕ)) → IsTrue (option_map_or is_batch_id r.id true) → r.operation ≡ Some OPERATION_LOCATE
@@ -92,8 +90,7 @@ pub attributes_fit : (r : Reply) (uid : List ℕ) (a : Attrs) (asked : List ℕ)
     → IsTrue (option_map_or is_batch_id r.id true) → r.operation ≡ Some OPERATION_GET_ATTRIBUTES
     → IsTrue (is_identifier asked) → IsTrue (attrs_fit o.attrs) → IsTrue (reply_fits (record { operation = r.operation; id = r.id; outcome = Attributes uid a }))
 attributes_fit r uid a asked o is are marked own identified fits =
-    let name = name_length o.attrs.name (and_parts _ _ (and_parts _ _ (and_parts _ _ fits).0).0).0 in
+    let name = (and_parts _ _ (and_parts _ _ (and_parts _ _ fits).0).0).0 in
     let under : option_map_or (λ operation. operation == OPERATION_GET_ATTRIBUTES) r.operation false ≡ true = rw own refl in
     let named : is_identifier uid ≡ true = rw is identified in
-    short_fits (with_outcome r (Attributes uid a)) marked (both under named)
-    (omega (arith, text_bound uid 64 (uid_length uid named), text_bound o.attrs.name 64 name, ap attrs_size are))
+    short_fits (with_outcome r (Attributes uid a)) marked (both under named) (rw are name)
