@@ -29,7 +29,7 @@ use Rattle.kmip_messages.proofs.ReplyLaws.{reply-good}
 use Rattle.kmip_messages.proofs.RequestLaws.{message-good}
 
 -- so many bytes and levels at most
-abbrev IsWithin : ℕ → ℕ → Extent → Type 0
+abbrev pub IsWithin : ℕ → ℕ → Extent → Type 0
 IsWithin bytes levels e = (e.size ≤ bytes) × (e.depth ≤ levels)
 
 text_bound : (s : List ℕ) (most : ℕ) → length s ≤ most → text_size s ≤ most + 15

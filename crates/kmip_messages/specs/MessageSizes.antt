@@ -1,4 +1,4 @@
--- Private: how long numbers and texts are in a message, and which outcomes are short; of all else its format says it.
+-- How long numbers and texts are in a message, and which outcomes are short; of all else its format says it.
 -- Source: KMIP 2.1, TTLV Encoding.
 use Rattle.std.specs.Prelude.{◌≡◌, ℕ, ◌+◌, ◌<◌, ◌≤◌, false, List, length, Option, IsTrue}
 use Rattle.std.specs.Option.{option_map_or}
@@ -8,7 +8,7 @@ use Rattle.kmip_objects.specs.Ranges.{is_name}
 use Rattle.kmip_messages.specs.declared.reply.Outcome.{Outcome}
 use Rattle.kmip_messages.specs.declared.reply.Outcome.TheVariants.{Located, Attributes}
 
--- a number, where it is given
+-- Private: a number, where it is given, and a text
 abbrev pub number_size : {A : Type 0} → Option A → ℕ
 number_size o = option_map_or (λ _. 16) o 0
 
@@ -19,7 +19,7 @@ text_size s = 8 + padded (length s)
 abbrev pub IsCapped : ℕ → ℕ → Type 0
 IsCapped n m = (m ≤ most_bytes → n ≡ m) × (most_bytes < m → most_bytes < n)
 
--- one identifier at most, and attributes with a Name in its range
+-- Private: one identifier at most, and attributes with a Name in its range
 abbrev pub IsBrief : Outcome → Type 0
 IsBrief (Located uids) = length uids ≤ 1
 IsBrief (Attributes uid attrs) = IsTrue (option_map_or is_name attrs.name false)
