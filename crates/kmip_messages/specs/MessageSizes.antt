@@ -12,6 +12,7 @@ use Rattle.kmip_messages.specs.declared.reply.Outcome.TheVariants.{Located, Attr
 abbrev pub number_size : {A : Type 0} → Option A → ℕ
 number_size o = option_map_or (λ _. 16) o 0
 
+-- a text, with its padding
 abbrev pub text_size : List ℕ → ℕ
 text_size s = 8 + padded (length s)
 
