@@ -1,4 +1,4 @@
--- How much room items take, and others behind them.
+-- How long and how deep items are, and those of two parts together.
 use Rattle.std.proofs.Common.{◌+◌, ℕ, List, [], ◌∷◌, ◌++◌, map, Option, Some, None, refl, arith}
 use Rattle.std.specs.Option.{option_map_or}
 use Rattle.kmip_ttlv.specs.Node.{Node, node, Content, nodes_of}

@@ -1,4 +1,4 @@
--- Private: what makes a format a good one: what is read is what is said, and what is written says it again, in the room that is told.
+-- Private: what makes a format a good one: what is read is what is said, and what is written says it again, with the extent that is told.
 -- Source: own: what every combinator of formats keeps.
 use Rattle.std.specs.Prelude.{◌≡◌, ◌≤◌, ℕ, Bool, true, not, ◌&&◌, ◌==◌, List, [], ◌∷◌, Some, Ok}
 use Rattle.std.specs.List.{list_any}
@@ -18,7 +18,7 @@ pub record IsKind {A : Type 0} (k : Kind A) : Type 0 where
 abbrev pub IsFlat : Content → Type 0
 IsFlat c = (content_depth c ≡ 0) × IsMadeOfWholeGroups c
 
--- the same, of a type whose contents have no items of their own
+-- a type whose contents are each said by a value, and are all so
 pub record IsFlatKind {A : Type 0} (k : Kind A) : Type 0 where
   pub kind : IsKind k
   pub flat : (a : A) → IsFlat (k.make a)
@@ -29,8 +29,8 @@ pub record Spans (e : Extent) (ns : List Node) : Type 0 where
   pub deep : depths (nodes_of ns) ≤ e.depth
   pub groups : HaveWholeGroups (nodes_of ns)
 
--- reading gives just what the items say; a value that fits is said by its written form, whose items have the tags and
--- take the room that is told
+-- reading gives just what the items say; a value that fits is said by its written form, whose items have the tags
+-- and the extent
 pub record IsGood {A : Type 0} (f : Format A) : Type 0 where
   pub sound : (ns : List Node) (a : A) → f.read ns ≡ Ok a → f.Says ns a
   pub complete : (ns : List Node) (a : A) → f.Says ns a → f.read ns ≡ Ok a

@@ -25,7 +25,7 @@ pub record Format (A : Type 0) : Type 1 where
   pub fits : A → Bool
   -- the items that say a value, as they are written
   pub write : A → List Node
-  -- how much room the written items take
+  -- how long and how deep these items are
   pub extent : A → Extent
   -- the value that the items say among their siblings, or the first fault
   pub read : List Node → Result A MessageFault
@@ -65,7 +65,7 @@ if_given write o = option_map_or write o []
 abbrev pub given : {A : Type 0} → (A → Node) → Option A → List Node
 given item o = if_given (λ a. item a ∷ []) o
 
--- ---- how much room the written items take
+-- ---- how long and how deep items are
 
 -- an item with this content, which has no items of its own
 abbrev pub flat : Content → Extent

@@ -1,4 +1,4 @@
--- Written messages: how deep, how long, and of whole groups.
+-- Written messages: how deep and how long at most. That they are so deep and so long at all is a law of their formats.
 use Rattle.std.proofs.Common.{◌≡◌, ℕ, ◌+◌, ◌*◌, ◌≤◌, ℤ, pos, true, false, List, [], ◌∷◌, length, Option, Some, None, IsTrue, nat_le, sym, subst, ap, ◌∙◌, inl, inr, arith}
 use Rattle.std.proofs.lemmas.Bool.{and_parts, leb-true}
 use Rattle.std.proofs.lemmas.Bool.Decides.{leb_tells}

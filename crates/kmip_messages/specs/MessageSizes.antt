@@ -8,10 +8,11 @@ use Rattle.kmip_objects.specs.Ranges.{is_name}
 use Rattle.kmip_messages.specs.declared.reply.Outcome.{Outcome}
 use Rattle.kmip_messages.specs.declared.reply.Outcome.TheVariants.{Located, Attributes}
 
--- Private: a number, where it is given, and a text
+-- Private: a number, where it is given
 abbrev pub number_size : {A : Type 0} → Option A → ℕ
 number_size o = option_map_or (λ _. 16) o 0
 
+-- Private: a text, with its padding
 abbrev pub text_size : List ℕ → ℕ
 text_size s = 8 + padded (length s)
 
