@@ -1,16 +1,17 @@
 //! Messages with one byte changed, heard by a client.
 ghost use Rattle.std.specs.Prelude.{◌<◌, length};
 
+use crate::asserting::assert_text;
 use crate::phase_rows::phases;
-use crate::phases::client_after;
-use crate::talking::{asked, heard, known, plan_of};
+use crate::phases::{client_after, told_by};
+use crate::talking::{known, plan_of};
 use Saying::{Bare, Found, Made, Refused};
 use kmip_client::Client;
 use kmip_plan::Plan;
 use kmip_ttlv::Bytes;
 use kmip_vectors::{
-    ALL, CHANGES, CREATE_K1_LOOSE_REPLY, CREATE_K1_REPLY, LOCATE_K1_FOUND, LOCATE_K1_NONE,
-    NAME_USED_REPLY, changed,
+    ALL, CREATE_K1_LOOSE_REPLY, CREATE_K1_REPLY, LOCATE_K1_FOUND, LOCATE_K1_NONE, NAME_USED_REPLY,
+    changed,
 };
 use std::alloc::Global;
 use std::process::Abort;
@@ -251,21 +252,55 @@ fn assert_learnt(
 ) -> Result<(), Fail> {
     let (place, value) = change;
     let mut client = Client::fresh(alloc, plan)?;
-    let said = heard(alloc, &mut client, message)?;
-    let Some((table, saying)) = saying_of(text, place, value) else {
-        let is_refused = !said.as_str().starts_with("0 ");
-        assert!(rt; is_refused, "{value:02x} at {place} of {text}");
-        return Ok(());
-    };
-    let told = known(rt, alloc, &client, 0)?;
-    let next = asked(alloc, &mut client, "")?;
-    let told = format!(in alloc; "{} {} {}", said.as_str(), told.as_str(), next.as_str())?;
-    let wanted = wanted_of(alloc, table, saying, message)?;
-    assert_eq!(rt;
-        told.as_str(),
-        wanted.as_str(),
-        "{value:02x} at {place} of {text}"
-    );
+    let told = told_by(rt, alloc, &mut client, message)?;
+    match saying_of(text, place, value) {
+        Some((table, saying)) => {
+            let wanted = wanted_of(alloc, table, saying, message)?;
+            assert_told(rt, told.as_str(), wanted.as_str(), text, change);
+        }
+        None => assert_refused(rt, told.as_str(), text, change),
+    }
+    Ok(())
+}
+
+/// What is told of a message with this byte at this place is the wanted text.
+fn assert_told(rt: &impl Abort, told: &str, wanted: &str, text: &str, change: (usize, u8)) {
+    let (place, value) = change;
+    assert_eq!(rt; told, wanted, "{value:02x} at {place} of {text}");
+}
+
+/// What is told of a message with this byte at this place is a refusal, of no key.
+fn assert_refused(rt: &impl Abort, told: &str, text: &str, change: (usize, u8)) {
+    let (place, value) = change;
+    assert!(rt; !told.starts_with("0 "), "{value:02x} at {place} of {text}");
+}
+
+/// A client that knows nothing hears a message with each other byte at this place.
+fn learn_at(
+    rt: &impl Abort,
+    alloc: Global,
+    plan: &Plan,
+    text: &str,
+    bytes: &[u8],
+    place: usize,
+) -> Result<(), Fail>
+    requires { place < length bytes.now }
+{
+    for value in 0..=255 {
+        if value != bytes[place] {
+            let message = changed(alloc, bytes, place, value)?;
+            assert_learnt(rt, alloc, plan, text, message.as_slice(), (place, value))?;
+        }
+    }
+    Ok(())
+}
+
+/// A client that knows nothing hears a message with each byte in turn changed to each other one.
+fn learn_from(rt: &impl Abort, alloc: Global, plan: &Plan, text: &str) -> Result<(), Fail> {
+    let bytes = hex::decode(alloc, text)?;
+    for place in 0..bytes.len() {
+        learn_at(rt, alloc, plan, text, bytes.as_slice(), place)?;
+    }
     Ok(())
 }
 
@@ -273,17 +308,7 @@ fn assert_learnt(
 fn learns_what_a_reply_tells(rt: HostRuntime) -> Result<(), Fail> {
     let plan = plan_of(rt.alloc(), &["k1"], "destroyed")?;
     for (_, text) in &ALL {
-        let bytes = hex::decode(rt.alloc(), *text)?;
-        for (place, old) in bytes.iter().enumerate() {
-            for (kept, turned) in CHANGES {
-                let value = (*old & kept) ^ turned;
-                let message = changed(rt.alloc(), bytes.as_slice(), place, value)?;
-                if value != *old {
-                    let change = (place, value);
-                    assert_learnt(&rt, rt.alloc(), &plan, text, message.as_slice(), change)?;
-                }
-            }
-        }
+        learn_from(&rt, rt.alloc(), &plan, text)?;
     }
     Ok(())
 }
@@ -310,8 +335,8 @@ struct Pair<'p> {
     keeping: Client<'p>,
 }
 
-/// Two clients hear a message with the byte at this place changed: the first hears all, and is brought
-/// to its phase again behind each that it takes; what it refuses the second hears and refuses too.
+/// Two clients hear a message with each other byte at this place: the first hears all, and is brought to
+/// its phase again behind each that it takes; what it refuses the second hears and refuses too.
 fn assert_refused_alike<'p>(
     rt: &impl Abort,
     alloc: Global,
@@ -323,17 +348,24 @@ fn assert_refused_alike<'p>(
 ) -> Result<(), Fail>
     requires { place < length bytes.now }
 {
-    for (kept, turned) in CHANGES {
-        let value = (bytes[place] & kept) ^ turned;
+    for value in 0..=255 {
+        if value == bytes[place] {
+            continue;
+        }
         let message = changed(alloc, bytes, place, value)?;
         if clients.trying.hear(alloc, message.as_slice()).is_ok() {
             clients.trying = client_after(alloc, plan, replies)?;
         } else {
-            let is_refused = clients.keeping.hear(alloc, message.as_slice()).is_err();
-            assert!(rt; is_refused, "{value:02x} at {place} of {bytes:?}");
+            refuse(rt, alloc, &mut clients.keeping, message.as_slice());
         }
     }
     Ok(())
+}
+
+/// A client hears a message and refuses it.
+fn refuse(rt: &impl Abort, alloc: Global, client: &mut Client<'_>, message: &[u8]) {
+    let is_refused = client.hear(alloc, message).is_err();
+    assert!(rt; is_refused, "{message:?}");
 }
 
 /// A client in the phase that these replies bring it to hears a message with each byte in turn changed.
@@ -354,8 +386,27 @@ fn assert_kept(
         assert_refused_alike(rt, alloc, plan, replies, &mut clients, bytes, place)?;
     }
     let (told, asked) = standing(rt, alloc, &mut clients.keeping)?;
-    assert_eq!(rt; told.as_str(), wanted.as_str(), "{bytes:?}");
-    assert_eq!(rt; asked.as_slice(), question.as_slice(), "{bytes:?}");
+    assert_text(rt, told.as_str(), wanted.as_str(), wanted.as_str());
+    assert_bytes(rt, asked.as_slice(), question.as_slice());
+    Ok(())
+}
+
+/// The bytes are the wanted ones.
+fn assert_bytes(rt: &impl Abort, bytes: &[u8], wanted: &[u8]) {
+    assert_eq!(rt; bytes, wanted);
+}
+
+/// The same for each of the twelve messages.
+fn keep_through_all(
+    rt: &impl Abort,
+    alloc: Global,
+    plan: &Plan,
+    replies: &[&str],
+) -> Result<(), Fail> {
+    for (_, text) in &ALL {
+        let bytes = hex::decode(alloc, *text)?;
+        assert_kept(rt, alloc, plan, replies, bytes.as_slice())?;
+    }
     Ok(())
 }
 
@@ -364,10 +415,7 @@ fn stands_as_it_stood_behind_a_refusal(rt: HostRuntime) -> Result<(), Fail> {
     let plan = plan_of(rt.alloc(), &["k1"], "destroyed")?;
     // With nothing known, with an object found, and with two steps done.
     for replies in phases().iter().step_by(2) {
-        for (_, text) in &ALL {
-            let bytes = hex::decode(rt.alloc(), *text)?;
-            assert_kept(&rt, rt.alloc(), &plan, replies, bytes.as_slice())?;
-        }
+        keep_through_all(&rt, rt.alloc(), &plan, replies)?;
     }
     Ok(())
 }

@@ -1,9 +1,11 @@
 //! What a client keeps from one run to the next, and what a client asks that goes on from it.
 
+use crate::asserting::assert_text;
 use crate::talking::Act::{self, Hear};
-use crate::talking::{asked, known, plan_of, said_to};
+use crate::talking::{assert_asked, assert_known, plan_of, said_to};
 use crate::texts::{ACTIVATED, ASK_ATTRIBUTES, FOUND_TWO};
 use kmip_client::Client;
+use kmip_plan::Plan;
 use kmip_progress::{Progress, suits};
 use kmip_vectors::{CREATE_K1_REPLY, LOCATE_K1, LOCATE_K1_FOUND};
 use std::alloc::Global;
@@ -61,21 +63,33 @@ const ROWS: &[Row] = &[
 /// Hears what the row says, keeps what is known as a text, and goes on from the text.
 fn keeps(rt: &impl Abort, alloc: Global, row: &Row) -> Result<(), Fail> {
     let plan = plan_of(alloc, &["k1"], "active")?;
-    let mut client = Client::fresh(alloc, &plan)?;
-    for act in row.heard {
-        said_to(rt, alloc, &mut client, *act)?;
-    }
-    let saved = client.progress(alloc)?;
+    let saved = saved_after(rt, alloc, &plan, row.heard)?;
     assert!(rt; suits(&plan, &saved));
     let text = saved.write_text(alloc, &plan)?;
-    assert_eq!(rt; text.as_str(), row.text);
-    let read = Progress::read_text(alloc, &plan, text.as_str())?;
-    let mut next = Client::resume(alloc, &plan, &read)?;
-    let told = known(rt, alloc, &next, 0)?;
-    assert_eq!(rt; told.as_str(), row.known);
-    let question = asked(alloc, &mut next, row.question)?;
-    assert_eq!(rt; question.as_str(), row.asked);
-    Ok(())
+    assert_text(rt, text.as_str(), row.text, row.text);
+    go_on(rt, alloc, &plan, row)
+}
+
+/// What a new client keeps after these acts.
+fn saved_after(
+    rt: &impl Abort,
+    alloc: Global,
+    plan: &Plan,
+    acts: &[Act],
+) -> Result<Progress, Fail> {
+    let mut client = Client::fresh(alloc, plan)?;
+    for act in acts {
+        said_to(rt, alloc, &mut client, *act)?;
+    }
+    Ok(client.progress(alloc)?)
+}
+
+/// A client that goes on from the row's text knows what it says, and asks its question.
+fn go_on(rt: &impl Abort, alloc: Global, plan: &Plan, row: &Row) -> Result<(), Fail> {
+    let read = Progress::read_text(alloc, plan, row.text)?;
+    let mut next = Client::resume(alloc, plan, &read)?;
+    assert_known(rt, alloc, &next, 0, row.known, row.text)?;
+    assert_asked(rt, alloc, &mut next, row.question, row.asked, row.text)
 }
 
 #[test]

@@ -119,12 +119,15 @@ const CHANGES: [(&str, &str, &str); 24] = [
 
 /// The message of a name, in hexadecimal.
 pub fn message(name: &str) -> Option<&'static str> {
-    for (named, text) in &ALL {
-        if *named == name {
-            return Some(*text);
-        }
-    }
-    for (named, text) in &NAMED {
+    message_in(&ALL, name).or(message_in(&NAMED, name))
+}
+
+/// The message of a name among these.
+fn message_in(
+    messages: &'static [(&'static str, &'static str)],
+    name: &str,
+) -> Option<&'static str> {
+    for (named, text) in messages {
         if *named == name {
             return Some(*text);
         }

@@ -1,5 +1,6 @@
 //! Each reply in each phase, which is seen by what is asked next.
 
+use crate::asserting::{assert_number, assert_text};
 use crate::named::message_of;
 use crate::phase_rows::{BEFORE, ROWS, ROWS_COUNT, phases};
 use crate::talking::{asked, heard, known, plan_of};
@@ -17,10 +18,16 @@ pub fn client_after<'p>(
 ) -> Result<Client<'p>, Fail> {
     let mut client = Client::fresh(alloc, plan)?;
     for text in replies {
-        let bytes = hex::decode(alloc, *text)?;
-        heard(alloc, &mut client, bytes.as_slice())?;
+        hear_digits(alloc, &mut client, text)?;
     }
     Ok(client)
+}
+
+/// The client hears a reply in hexadecimal.
+fn hear_digits(alloc: Global, client: &mut Client<'_>, text: &str) -> Result<(), Fail> {
+    let bytes = hex::decode(alloc, text)?;
+    heard(alloc, client, bytes.as_slice())?;
+    Ok(())
 }
 
 /// What a client knows of the first key, and what it asks next.
@@ -31,14 +38,53 @@ fn standing(rt: &impl Abort, alloc: Global, client: &mut Client<'_>) -> Result<S
     Ok(text)
 }
 
+/// A client that has heard these replies stands so.
+fn assert_standing(
+    rt: &impl Abort,
+    alloc: Global,
+    plan: &Plan,
+    replies: &[&str],
+    wanted: &str,
+) -> Result<(), Fail> {
+    let mut client = client_after(alloc, plan, replies)?;
+    let text = standing(rt, alloc, &mut client)?;
+    assert_text(rt, text.as_str(), wanted, "a phase");
+    Ok(())
+}
+
 #[test]
 fn comes_to_each_phase(rt: HostRuntime) -> Result<(), Fail> {
     let plan = plan_of(rt.alloc(), &["k1"], "destroyed")?;
     for (replies, wanted) in phases().iter().zip(BEFORE.iter()) {
-        let mut client = client_after(rt.alloc(), &plan, replies)?;
-        let text = standing(&rt, rt.alloc(), &mut client)?;
-        assert_eq!(rt; text.as_str(), *wanted);
+        assert_standing(&rt, rt.alloc(), &plan, replies, wanted)?;
     }
+    Ok(())
+}
+
+/// What a client says to a reply, what it then knows, and what it asks.
+pub fn told_by(
+    rt: &impl Abort,
+    alloc: Global,
+    client: &mut Client<'_>,
+    bytes: &[u8],
+) -> Result<String, Fail> {
+    let said = heard(alloc, client, bytes)?;
+    let after = standing(rt, alloc, client)?;
+    Ok(format!(in alloc; "{} {}", said.as_str(), after.as_str())?)
+}
+
+/// A reply is heard in the phase that these replies lead to.
+fn hear_in_phase(
+    rt: &impl Abort,
+    alloc: Global,
+    plan: &Plan,
+    replies: &[&str],
+    bytes: &[u8],
+    wanted: &str,
+) -> Result<(), Fail> {
+    let mut client = client_after(alloc, plan, replies)?;
+    let told = told_by(rt, alloc, &mut client, bytes)?;
+    assert_text(rt, told.as_str(), wanted, "a reply in a phase");
     Ok(())
 }
 
@@ -51,11 +97,7 @@ fn hear_in_each(
     wanted: &[&str],
 ) -> Result<(), Fail> {
     for (replies, wanted) in phases().iter().zip(wanted.iter()) {
-        let mut client = client_after(alloc, plan, replies)?;
-        let said = heard(alloc, &mut client, bytes)?;
-        let after = standing(rt, alloc, &mut client)?;
-        let told = format!(in alloc; "{} {}", said.as_str(), after.as_str())?;
-        assert_eq!(rt; told.as_str(), *wanted, "{bytes:?}");
+        hear_in_phase(rt, alloc, plan, replies, bytes, wanted)?;
     }
     Ok(())
 }
@@ -65,7 +107,7 @@ fn try_row(rt: &impl Abort, alloc: Global, plan: &Plan, row: &str) -> Result<(),
     let (reply, wanted) = row.split_once('\n').ok_or("a row")?;
     let bytes = message_of(alloc, reply)?;
     let wanted: Vec<&str> = wanted.lines().collect(alloc)?;
-    assert_eq!(rt; wanted.len(), phases().len(), "{row}");
+    assert_number(rt, wanted.len(), phases().len(), row);
     hear_in_each(rt, alloc, plan, bytes.as_slice(), wanted.as_slice())
 }
 

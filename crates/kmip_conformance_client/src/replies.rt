@@ -1,7 +1,8 @@
 //! Replies that a client hears before it has asked anything, and bytes that are none.
 
+use crate::asserting::assert_text;
 use crate::named::message_of;
-use crate::talking::{asked, heard, known, plan_of};
+use crate::talking::{asked, assert_asked, assert_heard, assert_known, heard, known, plan_of};
 use kmip_client::Client;
 use kmip_plan::Plan;
 use kmip_vectors::{ALL, LOCATE_K1};
@@ -65,11 +66,22 @@ const ROWS_COUNT: usize = 38;
 
 /// The next question of a client that has learnt nothing of `k1` is the first one.
 fn asks_first(rt: &impl Abort, alloc: Global, client: &mut Client<'_>) -> Result<(), Fail> {
-    let told = known(rt, alloc, client, 0)?;
-    assert_eq!(rt; told.as_str(), UNCHANGED);
-    let question = asked(alloc, client, LOCATE_K1)?;
-    assert_eq!(rt; question.as_str(), "0 8");
-    Ok(())
+    assert_known(
+        rt,
+        alloc,
+        client,
+        0,
+        UNCHANGED,
+        "a client that has learnt nothing",
+    )?;
+    assert_asked(
+        rt,
+        alloc,
+        client,
+        LOCATE_K1,
+        "0 8",
+        "a client that has learnt nothing",
+    )
 }
 
 /// What a client says to a reply, what it then knows, and what it asks, which is this question if any.
@@ -81,10 +93,20 @@ fn told_by(
     question: &str,
 ) -> Result<String, Fail> {
     let said = heard(alloc, client, bytes)?;
+    let after = standing(rt, alloc, client, question)?;
+    Ok(format!(in alloc; "{}; {}", said.as_str(), after.as_str())?)
+}
+
+/// What a client knows of the first key, and what it asks next.
+fn standing(
+    rt: &impl Abort,
+    alloc: Global,
+    client: &mut Client<'_>,
+    question: &str,
+) -> Result<String, Fail> {
     let told = known(rt, alloc, client, 0)?;
     let next = asked(alloc, client, question)?;
-    let text = format!(in alloc; "{}; {}; {}", said.as_str(), told.as_str(), next.as_str())?;
-    Ok(text)
+    Ok(format!(in alloc; "{}; {}", told.as_str(), next.as_str())?)
 }
 
 /// A fresh client hears the reply of a row.
@@ -98,7 +120,7 @@ fn hears_first(rt: &impl Abort, alloc: Global, plan: &Plan, row: &str) -> Result
     let bytes = message_of(alloc, reply)?;
     let mut client = Client::fresh(alloc, plan)?;
     let told = told_by(rt, alloc, &mut client, bytes.as_slice(), question)?;
-    assert_eq!(rt; told.as_str(), wanted, "{row}");
+    assert_text(rt, told.as_str(), wanted, row);
     Ok(())
 }
 
@@ -116,24 +138,32 @@ fn hears_a_first_reply(rt: HostRuntime) -> Result<(), Fail> {
     Ok(())
 }
 
+/// A fresh client refuses each front of a message, and the whole of a request, and has learnt nothing.
+fn refuses_fronts(
+    rt: &impl Abort,
+    alloc: Global,
+    plan: &Plan,
+    name: &str,
+    text: &str,
+) -> Result<(), Fail> {
+    let mut client = Client::fresh(alloc, plan)?;
+    let message = hex::decode(alloc, text)?;
+    for size in 0..message.len() {
+        let front = &message[..size];
+        assert_heard(rt, alloc, &mut client, front, "Unreadable Ttlv", name)?;
+    }
+    if text.starts_with("420078") {
+        let whole = message.as_slice();
+        assert_heard(rt, alloc, &mut client, whole, "Unreadable NotMessage", name)?;
+    }
+    asks_first(rt, alloc, &mut client)
+}
+
 #[test]
 fn hears_no_reply(rt: HostRuntime) -> Result<(), Fail> {
     let plan = plan_of(rt.alloc(), &["k1"], "active")?;
     for (name, text) in &ALL {
-        let mut client = Client::fresh(rt.alloc(), &plan)?;
-        let message = hex::decode(rt.alloc(), *text)?;
-        let is_request = text.starts_with("420078");
-        for size in 0..message.len() + usize::from(is_request) {
-            let front = &message[..size.min(message.len())];
-            let said = heard(rt.alloc(), &mut client, front)?;
-            let wanted = if size < message.len() {
-                "Unreadable Ttlv"
-            } else {
-                "Unreadable NotMessage"
-            };
-            assert_eq!(rt; said.as_str(), wanted, "the first {size} bytes of {name}");
-        }
-        asks_first(&rt, rt.alloc(), &mut client)?;
+        refuses_fronts(&rt, rt.alloc(), &plan, name, text)?;
     }
     Ok(())
 }

@@ -1,6 +1,7 @@
 //! A client that is talked to: its plan, what is done to it, and how it answers, in words.
 
-use kmip_client::{Client, HearFault, News, Verdict};
+use crate::asserting::assert_text;
+use kmip_client::{Client, HearFault, News, Question, Verdict};
 use kmip_messages::MessageFault;
 use kmip_plan::{Plan, read_plan};
 use std::alloc::{AllocError, Global};
@@ -31,28 +32,35 @@ pub enum Act {
 pub fn plan_of(alloc: Global, names: &[&str], target: &str) -> Result<Plan, Fail> {
     let mut text = String::new(alloc);
     for name in names {
-        let key = KEY.replace(alloc, "NAME", *name)?;
-        let key = key.as_str().replace(alloc, "TARGET", target)?;
-        text.push_str(key.as_str())?;
+        push_key(alloc, &mut text, name, target)?;
     }
     let plan = read_plan(alloc, text.as_str())?;
     Ok(plan)
 }
 
+/// Writes the lines of a key with this name and this target.
+fn push_key(alloc: Global, text: &mut String, name: &str, target: &str) -> Result<(), AllocError> {
+    let key = KEY.replace(alloc, "NAME", name)?;
+    let key = key.as_str().replace(alloc, "TARGET", target)?;
+    text.push_str(key.as_str())
+}
+
 /// The key and the operation of the next question, with its bytes where they are not the wanted ones.
 pub fn asked(alloc: Global, client: &mut Client<'_>, wanted: &str) -> Result<String, Fail> {
-    let Some(question) = client.ask(alloc)? else {
-        let none = String::from_str(alloc, "none")?;
-        return Ok(none);
-    };
-    let mut said = format!(in alloc; "{} {:x}", question.key, question.operation)?;
-    if !wanted.is_empty() {
-        let text = hex::encode(alloc, question.bytes.as_slice())?;
-        if text.as_str() != wanted {
-            write!(said, " {}", text.as_str())?;
-        }
+    match client.ask(alloc)? {
+        Some(question) => question_text(alloc, &question, wanted),
+        None => Ok(String::from_str(alloc, "none")?),
     }
-    Ok(said)
+}
+
+/// The key and the operation of a question, with its bytes where they are not the wanted ones.
+fn question_text(alloc: Global, question: &Question, wanted: &str) -> Result<String, Fail> {
+    let text = hex::encode(alloc, question.bytes.as_slice())?;
+    let bytes = text.as_str();
+    if wanted.is_empty() || bytes == wanted {
+        return Ok(format!(in alloc; "{} {:x}", question.key, question.operation)?);
+    }
+    Ok(format!(in alloc; "{} {:x} {bytes}", question.key, question.operation)?)
 }
 
 /// The key, the operation and the news of a reply, or the fault.
@@ -109,16 +117,68 @@ pub fn known(
     key: usize,
 ) -> Result<String, AllocError> {
     assert!(rt; key < client.plan().count());
-    let done = client.done(key);
     let uid = match client.identifier(key) {
         Some(uid) => uid.as_str(),
         None => "-",
     };
-    match client.verdict(key) {
-        Verdict::Working => format!(in alloc; "{done} {uid} Working"),
-        Verdict::Finished => format!(in alloc; "{done} {uid} Finished"),
-        Verdict::Conflict(clash) => format!(in alloc; "{done} {uid} {}", clash.name()),
+    let verdict = verdict_word(client.verdict(key));
+    format!(in alloc; "{} {uid} {verdict}", client.done(key))
+}
+
+fn verdict_word(verdict: Verdict) -> &'static str {
+    match verdict {
+        Verdict::Working => "Working",
+        Verdict::Finished => "Finished",
+        Verdict::Conflict(clash) => clash.name(),
     }
+}
+
+/// This is known of the key at a place.
+pub fn assert_known(
+    rt: &impl Abort,
+    alloc: Global,
+    client: &Client<'_>,
+    key: usize,
+    wanted: &str,
+    case: &str,
+) -> Result<(), Fail> {
+    let told = known(rt, alloc, client, key)?;
+    assert_text(rt, told.as_str(), wanted, case);
+    Ok(())
+}
+
+/// This is asked next.
+pub fn assert_asked(
+    rt: &impl Abort,
+    alloc: Global,
+    client: &mut Client<'_>,
+    question: &str,
+    wanted: &str,
+    case: &str,
+) -> Result<(), Fail> {
+    let asked = asked(alloc, client, question)?;
+    assert_text(rt, asked.as_str(), wanted, case);
+    Ok(())
+}
+
+/// This is said to a reply.
+pub fn assert_heard(
+    rt: &impl Abort,
+    alloc: Global,
+    client: &mut Client<'_>,
+    bytes: &[u8],
+    wanted: &str,
+    case: &str,
+) -> Result<(), Fail> {
+    let said = heard(alloc, client, bytes)?;
+    assert_text(rt, said.as_str(), wanted, case);
+    Ok(())
+}
+
+/// The same of a reply in hexadecimal.
+fn heard_in_digits(alloc: Global, client: &mut Client<'_>, text: &str) -> Result<String, Fail> {
+    let bytes = hex::decode(alloc, text)?;
+    Ok(heard(alloc, client, bytes.as_slice())?)
 }
 
 /// Does an act to a client. What the client says to it; nothing where it says nothing.
@@ -130,11 +190,7 @@ pub fn said_to(
 ) -> Result<String, Fail> {
     match act {
         Act::Ask(wanted) => asked(alloc, client, wanted),
-        Act::Hear(text) => {
-            let bytes = hex::decode(alloc, text)?;
-            let said = heard(alloc, client, bytes.as_slice())?;
-            Ok(said)
-        }
+        Act::Hear(text) => heard_in_digits(alloc, client, text),
         Act::Lost(key) => {
             assert!(rt; key < client.plan().count());
             client.lost(key);

@@ -1,8 +1,10 @@
 //! Whole talks with a client: in which order it asks, and what it takes from the replies.
 
+use crate::asserting::{assert_number, assert_text};
 use crate::named::message;
-use crate::talking::{Act, known, plan_of, said_to};
+use crate::talking::{Act, assert_known, plan_of, said_to};
 use kmip_client::Client;
+use kmip_plan::Plan;
 use std::alloc::Global;
 use std::process::Abort;
 use std::test::Fail;
@@ -186,25 +188,11 @@ fn take_turn(
     let (wanted, wanted_known) = wanted.split_once("; ").unwrap_or((wanted, ""));
     let wanted = if wanted == "nothing" { "" } else { wanted };
     let said = said_to(rt, alloc, client, act_of(words)?)?;
-    assert_eq!(rt; said.as_str(), wanted, "{line}");
-    if !wanted_known.is_empty() {
-        let told = known(rt, alloc, client, 0)?;
-        assert_eq!(rt; told.as_str(), wanted_known, "{line}");
+    assert_text(rt, said.as_str(), wanted, line);
+    if wanted_known.is_empty() {
+        return Ok(());
     }
-    Ok(())
-}
-
-/// This is known of a key at the end of a talk.
-fn check_end(
-    rt: &impl Abort,
-    alloc: Global,
-    client: &Client<'_>,
-    key: usize,
-    wanted: &str,
-) -> Result<(), Fail> {
-    let told = known(rt, alloc, client, key)?;
-    assert_eq!(rt; told.as_str(), wanted, "key {key}");
-    Ok(())
+    assert_known(rt, alloc, client, 0, wanted_known, line)
 }
 
 /// Goes through the lines of a talk, and counts the keys that are looked at in the end.
@@ -218,7 +206,7 @@ fn talk_through(
     for line in lines.lines() {
         match line.strip_prefix("end ") {
             Some(wanted) => {
-                check_end(rt, alloc, client, key, wanted)?;
+                assert_known(rt, alloc, client, key, wanted, line)?;
                 key = key.wrapping_add(1);
             }
             None => take_turn(rt, alloc, client, line)?,
@@ -234,9 +222,20 @@ fn talk_with_new(rt: &impl Abort, alloc: Global, talk: &str) -> Result<(), Fail>
     let (keys, target) = given.split_once("; ").ok_or("keys")?;
     let keys: Vec<&str> = keys.split(' ').collect(alloc)?;
     let plan = plan_of(alloc, keys.as_slice(), target)?;
-    let mut client = Client::fresh(alloc, &plan)?;
+    talk_about(rt, alloc, &plan, lines, head)
+}
+
+/// Has a talk about the keys of a plan, each of which is looked at in the end.
+fn talk_about(
+    rt: &impl Abort,
+    alloc: Global,
+    plan: &Plan,
+    lines: &str,
+    head: &str,
+) -> Result<(), Fail> {
+    let mut client = Client::fresh(alloc, plan)?;
     let ends = talk_through(rt, alloc, &mut client, lines)?;
-    assert_eq!(rt; ends, keys.len(), "{head}");
+    assert_number(rt, ends, plan.count(), head);
     Ok(())
 }
 

@@ -1,7 +1,9 @@
 //! A plan as long as one may be, whose replies come in the reverse order of the questions.
 
-use crate::talking::{asked, heard, known, plan_of};
+use crate::asserting::assert_number;
+use crate::talking::{assert_asked, assert_heard, assert_known, plan_of};
 use kmip_client::Client;
+use kmip_plan::Plan;
 use std::alloc::{AllocError, Global};
 use std::process::Abort;
 use std::test::Fail;
@@ -59,9 +61,8 @@ fn ask_all(
     operation: &str,
 ) -> Result<(), Fail> {
     for key in 0..count {
-        let question = asked(alloc, client, "")?;
         let wanted = format!(in alloc; "{key} {operation}")?;
-        assert_eq!(rt; question.as_str(), wanted.as_str());
+        assert_asked(rt, alloc, client, "", wanted.as_str(), operation)?;
     }
     Ok(())
 }
@@ -76,12 +77,39 @@ fn hear_all(
     news: &str,
 ) -> Result<(), Fail> {
     for (key, name) in names.iter().enumerate().rev() {
-        let digits = hex::encode(alloc, name.as_str().as_bytes())?;
-        let text = reply.replace(alloc, "NAME", digits.as_str())?;
-        let bytes = hex::decode(alloc, text.as_str())?;
-        let said = heard(alloc, client, bytes.as_slice())?;
+        let bytes = reply_about(alloc, reply, name.as_str())?;
         let wanted = format!(in alloc; "{key} {news}")?;
-        assert_eq!(rt; said.as_str(), wanted.as_str());
+        assert_heard(rt, alloc, client, bytes.as_slice(), wanted.as_str(), news)?;
+    }
+    Ok(())
+}
+
+/// The bytes of a reply about the key with this name.
+fn reply_about(alloc: Global, reply: &str, name: &str) -> Result<Vec<u8>, Fail> {
+    let digits = hex::encode(alloc, name.as_bytes())?;
+    let text = reply.replace(alloc, "NAME", digits.as_str())?;
+    Ok(hex::decode(alloc, text.as_str())?)
+}
+
+/// The plan of keys with these names, to be active.
+fn plan_of_all(alloc: Global, names: &[String]) -> Result<Plan, Fail> {
+    let mut words = Vec::new(alloc);
+    for name in names {
+        words.push(name.as_str())?;
+    }
+    plan_of(alloc, words.as_slice(), "active")
+}
+
+/// Each key is finished, under an identifier that is its name.
+fn check_finished(
+    rt: &impl Abort,
+    alloc: Global,
+    client: &Client<'_>,
+    names: &[String],
+) -> Result<(), Fail> {
+    for (key, name) in names.iter().enumerate() {
+        let wanted = format!(in alloc; "2 {} Finished", name.as_str())?;
+        assert_known(rt, alloc, client, key, wanted.as_str(), name.as_str())?;
     }
     Ok(())
 }
@@ -89,23 +117,13 @@ fn hear_all(
 #[test]
 fn finishes_a_thousand_keys(rt: HostRuntime) -> Result<(), Fail> {
     let names = names(rt.alloc(), 1_000)?;
-    let mut words = Vec::new(rt.alloc());
-    for name in &names {
-        words.push(name.as_str())?;
-    }
-    let plan = plan_of(rt.alloc(), words.as_slice(), "active")?;
+    let plan = plan_of_all(rt.alloc(), names.as_slice())?;
     let mut client = Client::fresh(rt.alloc(), &plan)?;
-    for (operation, reply, news, working) in ROUNDS {
+    for (operation, reply, news, working) in &ROUNDS {
         ask_all(&rt, rt.alloc(), &mut client, 1_000, operation)?;
         hear_all(&rt, rt.alloc(), &mut client, names.as_slice(), reply, news)?;
-        assert_eq!(rt; client.working(), working);
+        assert_number(&rt, client.working(), *working, operation);
     }
-    for (key, name) in names.iter().enumerate() {
-        let told = known(&rt, rt.alloc(), &client, key)?;
-        let wanted = format!(in rt.alloc(); "2 {} Finished", name.as_str())?;
-        assert_eq!(rt; told.as_str(), wanted.as_str());
-    }
-    let question = asked(rt.alloc(), &mut client, "")?;
-    assert_eq!(rt; question.as_str(), "none");
-    Ok(())
+    check_finished(&rt, rt.alloc(), &client, names.as_slice())?;
+    assert_asked(&rt, rt.alloc(), &mut client, "", "none", "the end")
 }

@@ -2,6 +2,7 @@
 
 use kmip_client::{Clash, HearFault};
 use kmip_messages::MessageFault;
+use std::process::Abort;
 use std::test::Fail;
 
 /// Each fault, with its number and its name.
@@ -25,19 +26,27 @@ const CLASHES: [(Clash, u32, &str); 3] = [
     (Clash::TwoObjects, 3, "TwoObjects"),
 ];
 
+/// A number and a name are the wanted ones.
+fn check_named(rt: &impl Abort, named: (u32, &str), wanted: (u32, &str)) {
+    assert_eq!(rt; named, wanted);
+}
+
+/// Two clashes have different words.
+fn assert_differ(rt: &impl Abort, one: Clash, other: Clash) {
+    assert!(rt; one.words() != other.words(), "{}", one.name());
+}
+
 #[test]
 fn numbers_and_names_each(rt: HostRuntime) -> Result<(), Fail> {
     for (fault, number, name) in &FAULTS {
-        assert_eq!(rt; fault.number(), *number, "{name}");
-        assert_eq!(rt; fault.name(), *name);
+        check_named(&rt, (fault.number(), fault.name()), (*number, name));
     }
     for (clash, number, name) in &CLASHES {
-        assert_eq!(rt; clash.number(), *number, "{name}");
-        assert_eq!(rt; clash.name(), *name);
+        check_named(&rt, (clash.number(), clash.name()), (*number, name));
         assert!(rt; !clash.words().is_empty(), "{name}");
     }
-    assert!(rt; Clash::Attributes.words() != Clash::State.words());
-    assert!(rt; Clash::State.words() != Clash::TwoObjects.words());
-    assert!(rt; Clash::TwoObjects.words() != Clash::Attributes.words());
+    assert_differ(&rt, Clash::Attributes, Clash::State);
+    assert_differ(&rt, Clash::State, Clash::TwoObjects);
+    assert_differ(&rt, Clash::TwoObjects, Clash::Attributes);
     Ok(())
 }

@@ -1,8 +1,10 @@
 //! Texts of a million bytes and more.
 
+use crate::asserting::assert_text;
 use crate::planning::refusal;
 use kmip_plan::read_plan;
 use std::alloc::{AllocError, Global};
+use std::process::Abort;
 use std::test::Fail;
 
 /// How many bytes a long text has at least.
@@ -120,25 +122,32 @@ const ROWS: [Row; 16] = [
 /// The long text of a row.
 fn long_text(alloc: Global, row: &Row) -> Result<String, AllocError> {
     let mut text = String::from_str(alloc, row.front)?;
-    for _ in 0..LONG / row.piece.len().max(1) + 1 {
-        text.push_str(row.piece)?;
-    }
+    let count = LONG / row.piece.len().max(1) + 1;
+    push_pieces(&mut text, row.piece, count)?;
     text.push_str(row.end)?;
     Ok(text)
+}
+
+/// Writes a piece so many times.
+fn push_pieces(text: &mut String, piece: &str, count: usize) -> Result<(), AllocError> {
+    for _ in 0..count {
+        text.push_str(piece)?;
+    }
+    Ok(())
+}
+
+/// The long text of a row is refused as it says.
+fn judge(rt: &impl Abort, alloc: Global, row: &Row) -> Result<(), Fail> {
+    let text = long_text(alloc, row)?;
+    let said = refusal(alloc, text.as_str())?;
+    assert_text(rt, said.as_str(), row.wanted, row.piece);
+    Ok(())
 }
 
 #[test]
 fn judges_long_texts(rt: HostRuntime) -> Result<(), Fail> {
     for row in &ROWS {
-        let text = long_text(rt.alloc(), row)?;
-        let said = refusal(rt.alloc(), text.as_str())?;
-        assert_eq!(rt;
-            said.as_str(),
-            row.wanted,
-            "{} and {} again and again",
-            row.front,
-            row.piece
-        );
+        judge(&rt, rt.alloc(), row)?;
     }
     Ok(())
 }

@@ -1,5 +1,6 @@
 //! Plans as texts: the keys that are read, and the first fault of each text that is no plan.
 
+use crate::asserting::{assert_number, assert_text};
 use crate::plan_rows::{CHANGES, CHANGES_COUNT, KEY, MEANINGS, TARGETS, TEXTS, TargetRow, USAGES};
 use kmip_chains::{Key, Target, chain, chain_length, place_of, state_after};
 use kmip_plan::{Plan, PlanFault, algorithm_word, bound, read_plan};
@@ -43,7 +44,7 @@ fn described(alloc: Global, fault: &PlanFault) -> Result<String, AllocError> {
 /// The text is refused as it should be, or read where nothing is expected.
 fn check_refusal(rt: &impl Abort, alloc: Global, text: &str, wanted: &str) -> Result<(), Fail> {
     let said = refusal(alloc, text)?;
-    assert_eq!(rt; said.as_str(), wanted, "{text}");
+    assert_text(rt, said.as_str(), wanted, text);
     Ok(())
 }
 
@@ -109,34 +110,44 @@ fn many_numbers(alloc: Global, count: u32) -> Result<String, AllocError> {
 
 #[test]
 fn takes_a_thousand_keys(rt: HostRuntime) -> Result<(), Fail> {
-    for (count, wanted) in [(1_000, ""), (1_001, "3 TooMany")] {
-        let text = many_keys(rt.alloc(), count)?;
-        check_refusal(&rt, rt.alloc(), text.as_str(), wanted)?;
-    }
-    Ok(())
+    let text = many_keys(rt.alloc(), 1_000)?;
+    check_refusal(&rt, rt.alloc(), text.as_str(), "")?;
+    let text = many_keys(rt.alloc(), 1_001)?;
+    check_refusal(&rt, rt.alloc(), text.as_str(), "3 TooMany")
 }
 
 #[test]
 fn counts_before_it_looks(rt: HostRuntime) -> Result<(), Fail> {
-    for (count, wanted) in [(1_000, "4 Missing name at key 1"), (1_001, "3 TooMany")] {
-        let text = many_numbers(rt.alloc(), count)?;
-        check_refusal(&rt, rt.alloc(), text.as_str(), wanted)?;
-    }
-    Ok(())
+    let text = many_numbers(rt.alloc(), 1_000)?;
+    check_refusal(&rt, rt.alloc(), text.as_str(), "4 Missing name at key 1")?;
+    let text = many_numbers(rt.alloc(), 1_001)?;
+    check_refusal(&rt, rt.alloc(), text.as_str(), "3 TooMany")
 }
 
 /// The steps and the states on the way to a key's target, as text.
 fn way(alloc: Global, key: &Key) -> Result<String, AllocError> {
     let mut text = String::new(alloc);
     for place in 1..=chain_length(key) {
-        if let Some(step) = chain(key, place) {
-            write!(text, "{} ", step.word())?;
-        }
-        if let Some(state) = state_after(key, place) {
-            write!(text, "{} ", state.number())?;
-        }
+        push_step(&mut text, key, place)?;
+        push_state(&mut text, key, place)?;
     }
     Ok(text)
+}
+
+/// Writes the step at a place of the way.
+fn push_step(text: &mut String, key: &Key, place: usize) -> Result<(), AllocError> {
+    if let Some(step) = chain(key, place) {
+        write!(text, "{} ", step.word())?;
+    }
+    Ok(())
+}
+
+/// Writes the state behind that step.
+fn push_state(text: &mut String, key: &Key, place: usize) -> Result<(), AllocError> {
+    if let Some(state) = state_after(key, place) {
+        write!(text, "{} ", state.number())?;
+    }
+    Ok(())
 }
 
 /// The one key of a plan has this target, reason and way.
@@ -144,22 +155,37 @@ fn check_target(rt: &impl Abort, alloc: Global, plan: &Plan, row: &TargetRow) ->
     let TargetRow(word, _, reason, steps, most) = row;
     let key = plan.key(0).ok_or("a key")?;
     let text = way(alloc, key)?;
-    assert_eq!(rt; key.target.word(), *word);
-    assert_eq!(rt; Target::from_word(word), Some(key.target), "{word}");
-    assert_eq!(rt; key.reason, *reason, "{word}");
-    assert_eq!(rt; text.as_str(), *steps, "{word}");
-    assert_eq!(rt; bound(plan), *most, "{word}");
+    assert_text(rt, text.as_str(), steps, word);
+    assert_text(rt, key.target.word(), word, word);
+    assert_number(rt, bound(plan), *most, word);
+    check_reason(rt, key, word, *reason);
     Ok(())
+}
+
+/// The key has this reason, and its target is what the word says.
+fn check_reason(rt: &impl Abort, key: &Key, word: &str, reason: u32) {
+    assert_eq!(rt; Target::from_word(word), Some(key.target), "{word}");
+    assert_eq!(rt; key.reason, reason, "{word}");
 }
 
 #[test]
 fn reads_each_target(rt: HostRuntime) -> Result<(), Fail> {
     for row in &TARGETS {
-        let text = changed(rt.alloc(), &[("\"active\"\n", row.1)])?;
-        let plan = read_plan(rt.alloc(), text.as_str())?;
+        let plan = plan_with_target(rt.alloc(), row.1)?;
         check_target(&rt, rt.alloc(), &plan, row)?;
     }
     Ok(())
+}
+
+/// The plan of one key, with this in the place of the target and the end of its line.
+fn plan_with_target(alloc: Global, target: &str) -> Result<Plan, Fail> {
+    plan_changed(alloc, &[("\"active\"\n", target)])
+}
+
+/// The plan of one key, after some changes of its text.
+pub fn plan_changed(alloc: Global, changes: &[(&str, &str)]) -> Result<Plan, Fail> {
+    let text = changed(alloc, changes)?;
+    Ok(read_plan(alloc, text.as_str())?)
 }
 
 /// The places of the states with the numbers 0 to 7.
@@ -171,52 +197,77 @@ fn check_places(rt: &impl Abort, key: &Key, wanted: &[Option<usize>]) {
     }
 }
 
+/// A target with the end of its line, and the places of the states with the numbers 0 to 7.
+const PLACES: [(&str, [Option<usize>; 8]); 3] = [
+    (
+        "\"destroyed\"\n",
+        [None, Some(1), Some(2), Some(3), None, Some(4), None, None],
+    ),
+    (
+        "\"discarded\"\n",
+        [None, Some(1), None, None, None, Some(2), None, None],
+    ),
+    (
+        "\"created\"\n",
+        [None, Some(1), None, None, None, None, None, None],
+    ),
+];
+
 #[test]
 fn finds_the_states(rt: HostRuntime) -> Result<(), Fail> {
-    for (target, places) in [
-        (
-            "\"destroyed\"\n",
-            [None, Some(1), Some(2), Some(3), None, Some(4), None, None],
-        ),
-        (
-            "\"discarded\"\n",
-            [None, Some(1), None, None, None, Some(2), None, None],
-        ),
-        (
-            "\"created\"\n",
-            [None, Some(1), None, None, None, None, None, None],
-        ),
-    ] {
-        let text = changed(rt.alloc(), &[("\"active\"\n", target)])?;
-        let plan = read_plan(rt.alloc(), text.as_str())?;
-        check_places(&rt, plan.key(0).ok_or("a key")?, &places);
+    for (target, places) in &PLACES {
+        let plan = plan_with_target(rt.alloc(), target)?;
+        check_places(&rt, plan.key(0).ok_or("a key")?, places);
     }
+    Ok(())
+}
+
+/// These words are read as this mask.
+fn check_usage(rt: &impl Abort, alloc: Global, words: &str, mask: i32) -> Result<(), Fail> {
+    let plan = plan_changed(alloc, &[("\"encrypt\", \"decrypt\"", words)])?;
+    let key = plan.key(0).ok_or("a key")?;
+    assert_eq!(rt; key.attrs.usage, mask, "{words}");
     Ok(())
 }
 
 #[test]
 fn adds_the_usages(rt: HostRuntime) -> Result<(), Fail> {
-    for (words, mask) in USAGES {
-        let text = changed(rt.alloc(), &[("\"encrypt\", \"decrypt\"", words)])?;
-        let plan = read_plan(rt.alloc(), text.as_str())?;
-        let usage = plan.key(0).map(|key| key.attrs.usage);
-        assert_eq!(rt; usage, Some(mask), "{words}");
+    for (words, mask) in &USAGES {
+        check_usage(&rt, rt.alloc(), words, *mask)?;
     }
     Ok(())
 }
 
 #[test]
 fn keeps_the_attributes(rt: HostRuntime) -> Result<(), Fail> {
-    let text = changed(rt.alloc(), &[("AES", "HMAC-SHA256"), ("k1", "k2")])?;
-    let plan = read_plan(rt.alloc(), text.as_str())?;
+    let plan = plan_changed(rt.alloc(), &[("AES", "HMAC-SHA256"), ("k1", "k2")])?;
     let key = plan.key(0).ok_or("a key")?;
-    assert_eq!(rt; plan.count(), 1);
-    assert_eq!(rt; key.attrs.name.as_str(), "k2");
-    assert_eq!(rt; key.attrs.algorithm, 9);
-    assert_eq!(rt; key.attrs.length, 256);
-    assert_eq!(rt; algorithm_word(key.attrs.algorithm), Some("HMAC-SHA256"));
-    assert_eq!(rt; algorithm_word(3), Some("AES"));
-    assert!(rt; algorithm_word(1).is_none());
+    assert_number(&rt, plan.count(), 1, "the keys of the plan");
+    assert_text(&rt, key.attrs.name.as_str(), "k2", "the name");
+    check_size(&rt, key.attrs.algorithm, key.attrs.length);
     assert!(rt; plan.key(1).is_none());
+    Ok(())
+}
+
+/// These are HMAC-SHA256 and 256 bits.
+fn check_size(rt: &impl Abort, algorithm: u32, length: i32) {
+    assert_eq!(rt; (algorithm, length), (9, 256));
+}
+
+/// The algorithm of this number has this word; the empty one where it has none.
+fn check_word(rt: &impl Abort, algorithm: u32, wanted: &str) {
+    assert_text(
+        rt,
+        algorithm_word(algorithm).unwrap_or(""),
+        wanted,
+        "an algorithm",
+    );
+}
+
+#[test]
+fn names_the_algorithms(rt: HostRuntime) -> Result<(), Fail> {
+    check_word(&rt, 9, "HMAC-SHA256");
+    check_word(&rt, 3, "AES");
+    check_word(&rt, 1, "");
     Ok(())
 }

@@ -1,6 +1,7 @@
 //! Every front of a text, and every change of one byte of it.
 
-use crate::progresses::{plan_of, said};
+use crate::asserting::assert_text;
+use crate::progresses::{assert_said, plan_of_three, said};
 use kmip_plan::Plan;
 use std::alloc::Global;
 use std::process::Abort;
@@ -20,29 +21,15 @@ const ACCEPTED: &str = "01\
     0123457\
     0123456789acdef";
 
-fn plan(alloc: Global) -> Result<Plan, Fail> {
-    plan_of(
-        alloc,
-        &[
-            ("k1", "active", ""),
-            ("k2", "revoked", ""),
-            ("k3", "created", ""),
-        ],
-    )
-}
-
 #[test]
 fn refuses_each_front(rt: HostRuntime) -> Result<(), Fail> {
-    let plan = plan(rt.alloc())?;
+    let plan = plan_of_three(rt.alloc())?;
     let mut front = String::new(rt.alloc());
     for letter in TEXT.chars() {
-        let answer = said(rt.alloc(), &plan, front.as_str())?;
-        assert_eq!(&rt; answer.as_str(), "2 Cut", "{front}");
+        assert_said(&rt, rt.alloc(), &plan, front.as_str(), "2 Cut")?;
         front.push(letter)?;
     }
-    let answer = said(rt.alloc(), &plan, front.as_str())?;
-    assert_eq!(&rt; answer.as_str(), TEXT);
-    Ok(())
+    assert_said(&rt, rt.alloc(), &plan, front.as_str(), TEXT)
 }
 
 /// The text with another byte at a place.
@@ -61,25 +48,38 @@ fn is_read(rt: &impl Abort, alloc: Global, plan: &Plan, text: &str) -> Result<bo
     if refused.iter().any(|fault| *fault == answer.as_str()) {
         return Ok(false);
     }
-    assert_eq!(rt; answer.as_str(), text);
+    assert_text(rt, answer.as_str(), text, "a change that is read");
     Ok(true)
+}
+
+/// Notes which bytes are read in the place of the letter at a place.
+fn push_accepted(
+    rt: &impl Abort,
+    alloc: Global,
+    plan: &Plan,
+    place: usize,
+    letter: char,
+    accepted: &mut String,
+) -> Result<(), Fail> {
+    for new in '\0'..='\u{7f}' {
+        if new == letter {
+            continue;
+        }
+        let text = changed(alloc, place, new)?;
+        if is_read(rt, alloc, plan, text.as_str())? {
+            accepted.push(new)?;
+        }
+    }
+    Ok(())
 }
 
 #[test]
 fn reads_each_change_as_what_it_says(rt: HostRuntime) -> Result<(), Fail> {
-    let plan = plan(rt.alloc())?;
+    let plan = plan_of_three(rt.alloc())?;
     let mut accepted = String::new(rt.alloc());
     for (place, letter) in TEXT.chars().enumerate() {
-        for new in '\0'..='\u{7f}' {
-            if new == letter {
-                continue;
-            }
-            let text = changed(rt.alloc(), place, new)?;
-            if is_read(&rt, rt.alloc(), &plan, text.as_str())? {
-                accepted.push(new)?;
-            }
-        }
+        push_accepted(&rt, rt.alloc(), &plan, place, letter, &mut accepted)?;
     }
-    assert_eq!(&rt; accepted.as_str(), ACCEPTED);
+    assert_text(&rt, accepted.as_str(), ACCEPTED, "the bytes that are taken");
     Ok(())
 }
