@@ -1,8 +1,7 @@
 //! The questions of a request, from bytes.
-ghost use Rattle.std.specs.Prelude.{◌≡◌, ◌&&◌, true, false, List, [], ◌∷◌, Ok, Err, IsTrue, IfOk, IfErr};
+ghost use Rattle.std.specs.Prelude.{◌≡◌, true, false, List, [], ◌∷◌, Ok, Err, IsTrue, IfOk, IfErr};
 ghost use Rattle.std.specs.List.{All};
 ghost use Rattle.std.specs.Option.{option_map_or};
-ghost use Rattle.std.specs.Ordering.{int_eq};
 ghost use Rattle.kmip_ttlv.specs.Fitting.{IsInRange};
 ghost use Rattle.kmip_ttlv.specs.Node.{Node, content_of};
 ghost use Rattle.kmip_ttlv.specs.Spelling.{canon, Spells};
@@ -26,9 +25,9 @@ use kmip_fields::{MessageFault, check, enumeration_if_any, the_integer, the_stru
 use kmip_messages::standard::{
     CONTINUE, STOP, TAG_BATCH_COUNT, TAG_BATCH_ERROR_CONTINUATION_OPTION, TAG_BATCH_ITEM,
     TAG_PROTOCOL_VERSION, TAG_PROTOCOL_VERSION_MAJOR, TAG_PROTOCOL_VERSION_MINOR,
-    TAG_REQUEST_HEADER, TAG_REQUEST_MESSAGE, UNDO, VERSION_MAJOR, VERSION_MINOR,
+    TAG_REQUEST_HEADER, TAG_REQUEST_MESSAGE, UNDO,
 };
-use kmip_messages::{Refusal, Request, message_of, read_question, whole_item};
+use kmip_messages::{Refusal, Request, is_version, message_of, read_question, whole_item};
 use kmip_ttlv::{Item, Tag};
 use std::alloc::Global;
 
@@ -99,12 +98,6 @@ fn header_of(message: &[Item]) -> Result<(Option<u32>, i32), MessageFault>
     )?;
     let count = the_integer(header, TAG_BATCH_COUNT)?;
     Ok((option, count))
-}
-
-fn is_version(major: i32, minor: i32) -> bool
-    ensures { result ≡ (int_eq major VERSION_MAJOR && int_eq minor VERSION_MINOR) }
-{
-    major == VERSION_MAJOR && minor == VERSION_MINOR
 }
 
 /// Whether there is no option, or one of the standard's three.

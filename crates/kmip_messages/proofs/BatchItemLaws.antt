@@ -1,6 +1,6 @@
 -- For kmip_batches, which goes through the Batch Items of a message by induction, so that no call stands near and no clause
 -- serves: what is read of one is what it says, and what is written of a question or an answer says it.
-use Rattle.std.proofs.Common.{◌≡◌, ℕ, Bool, true, ◌&&◌, List, Option, Some, Result, Ok, Err, IsTrue, refl, sym, ap, subst, ◌∙◌}
+use Rattle.std.proofs.Common.{◌≡◌, ℕ, Bool, true, ◌&&◌, List, Option, Result, Ok, Err, IsTrue, refl, sym, ap, subst, ◌∙◌}
 use Rattle.std.specs.Prelude.{IfOk, IfErr}
 use Rattle.std.specs.Option.{option_map_or}
 use Rattle.std.proofs.lemmas.Bool.{and_parts}
@@ -24,7 +24,7 @@ use Rattle.kmip_messages.specs.Operations.{operation_of}
 use Rattle.kmip_messages.specs.Parts.{message_at}
 use Rattle.kmip_messages.specs.Ranges.{is_batch_id}
 use Rattle.kmip_messages.specs.ReplyFormats.{any_version_parts_format, answered_format}
-use Rattle.kmip_messages.specs.RequestFits.{ask_fits, request_fits}
+use Rattle.kmip_messages.specs.RequestFits.{request_fits}
 use Rattle.kmip_messages.specs.RequestFormats.{version_parts_format, known_format, asked_format, item_format}
 use Rattle.kmip_messages.specs.Requests.{IsVersion}
 use Rattle.kmip_messages.specs.Whole.{item_in}

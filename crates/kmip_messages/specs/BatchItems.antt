@@ -1,6 +1,6 @@
 -- One Batch Item of a message: the question of a request and the answer of a reply, by what its items say.
 -- Source: KMIP 2.1, Message Structure (Batch Item); what a refusal carries, and the order of the checks, are own.
-use Rattle.std.specs.Prelude.{◌≡◌, ℕ, Bool, true, ◌&&◌, List, [], ◌∷◌, Option, Some, None, Result, Ok, Err}
+use Rattle.std.specs.Prelude.{◌≡◌, ℕ, Bool, true, ◌&&◌, List, Option, Some, Result, Ok, Err}
 use Rattle.std.specs.Option.{option_map, option_map_or}
 use Rattle.kmip_ttlv.specs.Binding.{◌>>=◌}
 use Rattle.kmip_ttlv.specs.Node.{Node, node, enumeration}

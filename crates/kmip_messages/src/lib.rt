@@ -28,5 +28,5 @@ pub use reply::{Outcome, Reply};
 pub use reply_reading::{read_answer, read_reply};
 pub use reply_writing::{write_answer, write_reply};
 pub use request::{Ask, Request};
-pub use request_reading::{read_question, read_request};
+pub use request_reading::{is_version, read_question, read_request};
 pub use request_writing::{write_question, write_request};

@@ -152,7 +152,8 @@ fn header_of(message: &[Item]) -> Result<(), MessageFault>
     Ok(())
 }
 
-fn is_version(major: i32, minor: i32) -> bool
+/// Whether this is the Protocol Version of a request, 2.1.
+pub fn is_version(major: i32, minor: i32) -> bool
     ensures { result ≡ (int_eq major VERSION_MAJOR && int_eq minor VERSION_MINOR) }
 {
     major == VERSION_MAJOR && minor == VERSION_MINOR
