@@ -1,6 +1,7 @@
 //! Messages with one byte changed, answered by a server.
 ghost use Rattle.std.specs.Prelude.{◌<◌, length};
 
+use crate::asserting::assert_number;
 use crate::lifecycle::STREAM;
 use crate::serving::{CREATE_K2, is_k1_alone, reply_to, server_of};
 use kmip_messages::{Outcome, read_reply};
@@ -8,8 +9,8 @@ use kmip_objects::KeyState;
 use kmip_server::Server;
 use kmip_store::{ListStore, Records, Row};
 use kmip_vectors::{
-    ACTIVATE_1, ACTIVATE_1_REPLY, CHANGES, CREATE_K1, CREATE_K1_LOOSE_REPLY, CREATE_K1_REPLY,
-    DESTROY_1, INVALID_MESSAGE_REPLY, LOCATE_K1, LOCATE_K1_FOUND, LOCATE_K1_NONE, NAME_USED_REPLY,
+    ACTIVATE_1, ACTIVATE_1_REPLY, CREATE_K1, CREATE_K1_LOOSE_REPLY, CREATE_K1_REPLY, DESTROY_1,
+    INVALID_MESSAGE_REPLY, LOCATE_K1, LOCATE_K1_FOUND, LOCATE_K1_NONE, NAME_USED_REPLY,
     WRONG_STATE_REPLY, changed,
 };
 use std::alloc::Global;
@@ -200,7 +201,7 @@ fn try_place(
 ) -> Result<usize, Fail>
     requires { place < length bytes.now }
 {
-    let Table(text, effects, _) = table;
+    let Table(_, effects, _) = table;
     let mut server = server_with_both(alloc)?;
     let mut told = 0_usize;
     for value in 0..=255 {
@@ -208,19 +209,8 @@ fn try_place(
             continue;
         }
         let message = changed(alloc, bytes, place, value)?;
-        let reply = server.handle(alloc, message.as_slice(), 0)?;
-        let saying = saying_of(alloc, reply.as_slice())?;
         let rows = rows_after(effects, place, value);
-        let wanted = rows.unwrap_or(&BEFORE);
-        assert!(rt;
-            are_rows(server.records(), wanted, stream, message.as_slice()),
-            "{value:02x} at {place} of {text}"
-        );
-        assert_eq!(rt;
-            saying == Saying::Changed,
-            rows.is_some(),
-            "{value:02x} at {place} of {text}"
-        );
+        let saying = try_message(rt, alloc, &mut server, message.as_slice(), rows, stream)?;
         if rows.is_some() {
             server = server_with_both(alloc)?;
         }
@@ -229,24 +219,60 @@ fn try_place(
     Ok(told)
 }
 
+/// Answers a changed message, after which the rows are these, or `BEFORE` where none are given. What the
+/// reply says, which is `Changed` just where they are given.
+fn try_message(
+    rt: &impl Abort,
+    alloc: Global,
+    server: &mut Server<ListStore>,
+    message: &[u8],
+    rows: Option<&[Wanted]>,
+    stream: &[u8],
+) -> Result<Saying, Fail> {
+    let reply = server.handle(alloc, message, 0)?;
+    let saying = saying_of(alloc, reply.as_slice())?;
+    let wanted = rows.unwrap_or(&BEFORE);
+    let are_wanted = are_rows(server.records(), wanted, stream, message);
+    assert_true(rt, are_wanted, message);
+    assert_true(rt, (saying == Saying::Changed) == rows.is_some(), message);
+    Ok(saying)
+}
+
+/// The condition holds of this message.
+fn assert_true(rt: &impl Abort, condition: bool, message: &[u8]) {
+    assert!(rt; condition, "{message:?}");
+}
+
 /// Answers the messages of the tables with each byte at each place.
 fn try_tables(rt: &impl Abort, alloc: Global, tables: &[Table]) -> Result<(), Fail> {
+    let stream = stream(alloc)?;
+    for table in tables {
+        try_table(rt, alloc, table, stream.as_slice())?;
+    }
+    Ok(())
+}
+
+/// Answers the message of a table with each byte at each place.
+fn try_table(rt: &impl Abort, alloc: Global, table: &Table, stream: &[u8]) -> Result<(), Fail> {
+    let Table(text, _, wanted) = table;
+    let bytes = hex::decode(alloc, *text)?;
+    let mut told = 0_usize;
+    for place in 0..bytes.len() {
+        let count = try_place(rt, alloc, table, bytes.as_slice(), place, stream)?;
+        told = told.saturating_add(count);
+    }
+    assert_number(rt, told, *wanted, text);
+    Ok(())
+}
+
+/// The bytes of the stream that the material is of.
+fn stream(alloc: Global) -> Result<Vec<u8>, Fail> {
     let mut stream = Vec::new(alloc);
     for text in &STREAM {
         let bytes = hex::decode(alloc, *text)?;
         stream.extend_from_slice(bytes.as_slice())?;
     }
-    for table in tables {
-        let Table(text, _, wanted) = table;
-        let bytes = hex::decode(alloc, *text)?;
-        let mut told = 0_usize;
-        for place in 0..bytes.len() {
-            let count = try_place(rt, alloc, table, bytes.as_slice(), place, stream.as_slice())?;
-            told = told.saturating_add(count);
-        }
-        assert_eq!(rt; told, *wanted, "{text}");
-    }
-    Ok(())
+    Ok(stream)
 }
 
 #[test]
@@ -259,21 +285,20 @@ fn steps_as_it_is_asked_alone(rt: HostRuntime) -> Result<(), Fail> {
     try_tables(&rt, rt.alloc(), &OF_IDENTIFIERS)
 }
 
-/// A message, in how many of its first bytes no change makes it a lawful request, and in how many of
-/// these each other byte is tried; behind them it is those of `CHANGES`.
-const MESSAGES: [(&str, usize, usize); 12] = [
-    (LOCATE_K1, 8, 8),
-    (LOCATE_K1_NONE, 152, 8),
-    (CREATE_K1, 8, 8),
-    (CREATE_K1_REPLY, 184, 184),
-    (NAME_USED_REPLY, 160, 8),
-    (LOCATE_K1_FOUND, 168, 168),
-    (INVALID_MESSAGE_REPLY, 128, 8),
-    (ACTIVATE_1, 8, 8),
-    (ACTIVATE_1_REPLY, 152, 8),
-    (DESTROY_1, 8, 8),
-    (WRONG_STATE_REPLY, 144, 8),
-    (CREATE_K1_LOOSE_REPLY, 200, 8),
+/// A message, and in how many of its first bytes no change makes it a lawful request.
+const MESSAGES: [(&str, usize); 12] = [
+    (LOCATE_K1, 8),
+    (LOCATE_K1_NONE, 152),
+    (CREATE_K1, 8),
+    (CREATE_K1_REPLY, 184),
+    (NAME_USED_REPLY, 160),
+    (LOCATE_K1_FOUND, 168),
+    (INVALID_MESSAGE_REPLY, 128),
+    (ACTIVATE_1, 8),
+    (ACTIVATE_1_REPLY, 152),
+    (DESTROY_1, 8),
+    (WRONG_STATE_REPLY, 144),
+    (CREATE_K1_LOOSE_REPLY, 200),
 ];
 
 /// The server refuses a message with this byte at this place, and has the same rows. `replies` are
@@ -301,15 +326,41 @@ fn assert_refused(
     } else {
         invalid
     };
-    assert_eq!(rt;
-        reply.as_slice(),
-        wanted,
-        "{value:02x} at {place} of {bytes:?}"
-    );
-    assert!(rt;
-        is_k1_alone(server.records()),
-        "{value:02x} at {place} of {bytes:?}"
-    );
+    assert_true(rt, reply.as_slice() == wanted, message.as_slice());
+    assert_true(rt, is_k1_alone(server.records()), message.as_slice());
+    Ok(())
+}
+
+/// The server refuses a message with each byte at each of its first places.
+fn refuse_all(
+    rt: &impl Abort,
+    alloc: Global,
+    server: &mut Server<ListStore>,
+    replies: [&[u8]; 2],
+    text: &str,
+    count: usize,
+) -> Result<(), Fail> {
+    let bytes = hex::decode(alloc, text)?;
+    for place in 0..bytes.len().min(count) {
+        refuse_at(rt, alloc, server, replies, bytes.as_slice(), place)?;
+    }
+    Ok(())
+}
+
+/// The server refuses a message with each byte at this place.
+fn refuse_at(
+    rt: &impl Abort,
+    alloc: Global,
+    server: &mut Server<ListStore>,
+    replies: [&[u8]; 2],
+    bytes: &[u8],
+    place: usize,
+) -> Result<(), Fail>
+    requires { place < length bytes.now }
+{
+    for value in 0..=255 {
+        assert_refused(rt, alloc, server, replies, bytes, place, value)?;
+    }
     Ok(())
 }
 
@@ -319,21 +370,8 @@ fn refuses_what_is_no_request(rt: HostRuntime) -> Result<(), Fail> {
     let missing = hex::decode(rt.alloc(), MISSING_REPLY)?;
     let replies = [invalid.as_slice(), missing.as_slice()];
     let mut server = server_with_k1(rt.alloc())?;
-    for (text, count, all) in &MESSAGES {
-        let bytes = hex::decode(rt.alloc(), *text)?;
-        let bytes = bytes.as_slice();
-        for (place, old) in bytes.iter().enumerate().take(*count) {
-            if place < *all {
-                for value in 0..=255 {
-                    assert_refused(&rt, rt.alloc(), &mut server, replies, bytes, place, value)?;
-                }
-                continue;
-            }
-            for (kept, turned) in CHANGES {
-                let value = (*old & kept) ^ turned;
-                assert_refused(&rt, rt.alloc(), &mut server, replies, bytes, place, value)?;
-            }
-        }
+    for (text, count) in &MESSAGES {
+        refuse_all(&rt, rt.alloc(), &mut server, replies, text, *count)?;
     }
     Ok(())
 }

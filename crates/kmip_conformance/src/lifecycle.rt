@@ -1,6 +1,7 @@
 //! A key on its way through the states, its key material, and what is told of it.
 
-use crate::serving::{reply_to, server_of};
+use crate::asserting::{assert_bytes, assert_number};
+use crate::serving::{assert_reply, reply_to, server_of};
 use kmip_objects::KeyState;
 use kmip_server::Server;
 use kmip_store::{ListStore, Records};
@@ -126,6 +127,20 @@ const UNKNOWN: [Turn; 7] = [
     ),
 ];
 
+/// Masks of a Locate, and its replies once the key is destroyed.
+const MASKS: [(&str, &str); 3] = [
+    ("0000000500000000", LOCATE_K1_FOUND),
+    ("0000000400000000", LOCATE_K1_FOUND),
+    ("0000000100000000", LOCATE_K1_NONE),
+];
+
+/// What is asked of an active key, and the replies.
+const ACTIVE: [(&str, &str); 3] = [
+    (CREATE_K1, CREATE_K1_REPLY),
+    (ACTIVATE_1, ACTIVATE_1_REPLY),
+    (DESTROY_1, WRONG_STATE_REPLY),
+];
+
 /// The request of a turn.
 fn request_of(alloc: Global, turn: &Turn) -> Result<String, AllocError> {
     let Turn(_, operation, code, _, _) = turn;
@@ -155,14 +170,19 @@ fn check_row(rt: &impl Abort, records: &ListStore, turn: &Turn) {
     } else {
         32
     };
-    assert_eq!(rt; records.count(), 1, "{name}");
+    assert_number(rt, records.count(), 1, name);
     match records.at(0) {
         Some(row) => {
-            assert_eq!(rt; row.state, *wanted, "{name}");
-            assert_eq!(rt; row.material.as_slice().len(), size, "{name}");
+            assert_state(rt, row.state, *wanted, name);
+            assert_number(rt, row.material.as_slice().len(), size, name);
         }
         None => assert!(rt; false, "{name}"),
     }
+}
+
+/// The state is the wanted one.
+fn assert_state(rt: &impl Abort, state: KeyState, wanted: KeyState, name: &str) {
+    assert_eq!(rt; state, wanted, "{name}");
 }
 
 /// Asks the question of a turn, and compares the reply.
@@ -174,44 +194,42 @@ fn take_turn(
 ) -> Result<(), Fail> {
     let request = request_of(alloc, turn)?;
     let wanted = reply_of(alloc, turn)?;
-    let reply = reply_to(alloc, server, request.as_str())?;
-    assert_eq!(rt; reply.as_str(), wanted.as_str(), "{}", turn.0);
-    Ok(())
+    assert_reply(rt, alloc, server, request.as_str(), wanted.as_str(), turn.0)
+}
+
+/// What a Locate of `k1` with this mask finds, once the key is destroyed.
+fn find_by_mask(
+    rt: &impl Abort,
+    alloc: Global,
+    server: &mut Server<ListStore>,
+    mask: &str,
+    wanted: &str,
+) -> Result<(), Fail> {
+    let request = LOCATE_K1.replace(alloc, "0000000500000000", mask)?;
+    assert_reply(rt, alloc, server, request.as_str(), wanted, mask)
 }
 
 #[test]
 fn goes_through_the_states(rt: HostRuntime) -> Result<(), Fail> {
     let mut server = server_of(rt.alloc(), 10_000);
-    let made = reply_to(rt.alloc(), &mut server, CREATE_K1)?;
-    assert_eq!(rt; made.as_str(), CREATE_K1_REPLY);
+    let made = CREATE_K1_REPLY;
+    assert_reply(&rt, rt.alloc(), &mut server, CREATE_K1, made, "made")?;
     for turn in &LIFE {
         take_turn(&rt, rt.alloc(), &mut server, turn)?;
         check_row(&rt, server.records(), turn);
     }
-    for (mask, wanted) in [
-        ("0000000500000000", LOCATE_K1_FOUND),
-        ("0000000400000000", LOCATE_K1_FOUND),
-        ("0000000100000000", LOCATE_K1_NONE),
-    ] {
-        let request = LOCATE_K1.replace(rt.alloc(), "0000000500000000", mask)?;
-        let reply = reply_to(rt.alloc(), &mut server, request.as_str())?;
-        assert_eq!(rt; reply.as_str(), wanted, "{mask}");
+    for (mask, wanted) in &MASKS {
+        find_by_mask(&rt, rt.alloc(), &mut server, mask, wanted)?;
     }
-    let again = reply_to(rt.alloc(), &mut server, CREATE_K1)?;
-    assert_eq!(rt; again.as_str(), NAME_USED_REPLY);
-    Ok(())
+    let used = NAME_USED_REPLY;
+    assert_reply(&rt, rt.alloc(), &mut server, CREATE_K1, used, "made again")
 }
 
 #[test]
 fn keeps_an_active_key(rt: HostRuntime) -> Result<(), Fail> {
     let mut server = server_of(rt.alloc(), 10_000);
-    for (request, wanted) in [
-        (CREATE_K1, CREATE_K1_REPLY),
-        (ACTIVATE_1, ACTIVATE_1_REPLY),
-        (DESTROY_1, WRONG_STATE_REPLY),
-    ] {
-        let reply = reply_to(rt.alloc(), &mut server, request)?;
-        assert_eq!(rt; reply.as_str(), wanted);
+    for (request, wanted) in &ACTIVE {
+        assert_reply(&rt, rt.alloc(), &mut server, request, wanted, request)?;
     }
     let turn = Turn("destroyed too early", "", "", "", KeyState::Active);
     check_row(&rt, server.records(), &turn);
@@ -223,25 +241,40 @@ fn refuses_an_unknown_identifier(rt: HostRuntime) -> Result<(), Fail> {
     let mut server = server_of(rt.alloc(), 10_000);
     for turn in &UNKNOWN {
         take_turn(&rt, rt.alloc(), &mut server, turn)?;
-        assert_eq!(rt; server.records().count(), 0, "{}", turn.0);
+        assert_number(&rt, server.records().count(), 0, turn.0);
     }
+    Ok(())
+}
+
+/// The key that is made next, under this name, stands at this place and has the stream's bytes there.
+fn draw_material(
+    rt: &impl Abort,
+    alloc: Global,
+    server: &mut Server<ListStore>,
+    place: usize,
+    name: &str,
+) -> Result<(), Fail> {
+    let request = CREATE_K1.replace(alloc, "6b31000000000000", name)?;
+    reply_to(alloc, server, request.as_str())?;
+    let wanted = hex::decode(alloc, STREAM.get(place).ok_or("a piece of the stream")?)?;
+    let row = server.records().at(place).ok_or("a row")?;
+    assert_bytes(rt, row.material.as_slice(), wanted.as_slice(), name);
     Ok(())
 }
 
 #[test]
 fn draws_the_material_in_turn(rt: HostRuntime) -> Result<(), Fail> {
     let mut server = server_of(rt.alloc(), 10_000);
-    for (place, name) in [(0, "6b31000000000000"), (1, "6b32000000000000")] {
-        let request = CREATE_K1.replace(rt.alloc(), "6b31000000000000", name)?;
-        reply_to(rt.alloc(), &mut server, request.as_str())?;
-        let wanted = hex::decode(rt.alloc(), STREAM[place])?;
-        match server.records().at(place) {
-            Some(row) => assert_eq!(rt; row.material.as_slice(), wanted.as_slice(), "{place}"),
-            None => assert!(rt; false, "{place}"),
-        }
-    }
+    draw_material(&rt, rt.alloc(), &mut server, 0, "6b31000000000000")?;
+    draw_material(&rt, rt.alloc(), &mut server, 1, "6b32000000000000")?;
     let request = ACTIVATE_1.replace(rt.alloc(), ACTIVATE, GET_ATTRIBUTES)?;
-    let reply = reply_to(rt.alloc(), &mut server, request.as_str())?;
-    assert_eq!(rt; reply.as_str(), ATTRIBUTES_1_REPLY);
-    Ok(())
+    let wanted = ATTRIBUTES_1_REPLY;
+    assert_reply(
+        &rt,
+        rt.alloc(),
+        &mut server,
+        request.as_str(),
+        wanted,
+        "told of",
+    )
 }

@@ -1,11 +1,12 @@
 //! The greatest values that a request and the records may have, and the first beyond each.
 
-use crate::serving::{FULL_REPLY, reply_to, server_of};
+use crate::asserting::{assert_bytes, assert_number};
+use crate::serving::{FULL_REPLY, assert_reply, server_of};
 use kmip_store::Records;
 use kmip_vectors::{
     CREATE_K1, CREATE_K1_REPLY, INVALID_MESSAGE_REPLY, LOCATE_K1, LOCATE_K1_NONE, NAME_USED_REPLY,
 };
-use std::alloc::Global;
+use std::alloc::{AllocError, Global};
 use std::test::Fail;
 
 /// Digits, and those that are put in their place.
@@ -59,54 +60,88 @@ fn with_changes(alloc: Global, text: &str, changes: &[Change]) -> Result<String,
 /// So many times the digits of one byte, and then of padding.
 fn bytes_of(alloc: Global, byte: &str, count: usize, padding: usize) -> Result<String, Fail> {
     let mut digits = String::new(alloc);
+    push_times(&mut digits, byte, count)?;
+    push_times(&mut digits, "00", padding)?;
+    Ok(digits)
+}
+
+/// Writes the digits of a byte so many times.
+fn push_times(digits: &mut String, byte: &str, count: usize) -> Result<(), AllocError> {
     for _ in 0..count {
         digits.push_str(byte)?;
     }
-    for _ in 0..padding {
-        digits.push_str("00")?;
-    }
-    Ok(digits)
+    Ok(())
 }
 
 #[test]
 fn takes_names_of_64_bytes(rt: HostRuntime) -> Result<(), Fail> {
     let mut server = server_of(rt.alloc(), 10_000);
     let name = bytes_of(rt.alloc(), "6b", 65, 7)?;
-    let request = with_changes(rt.alloc(), CREATE_K1, &ROUND_65)?;
-    let request = request.replace(rt.alloc(), "6b31000000000000", name.as_str())?;
+    let request = with_name(rt.alloc(), &ROUND_65, name.as_str())?;
     let wanted = NAME_USED_REPLY.replace(rt.alloc(), "00000035", "00000007")?;
-    let reply = reply_to(rt.alloc(), &mut server, request.as_str())?;
-    assert_eq!(rt; reply.as_str(), wanted.as_str());
-    assert_eq!(rt; server.records().count(), 0);
+    assert_reply(
+        &rt,
+        rt.alloc(),
+        &mut server,
+        request.as_str(),
+        wanted.as_str(),
+        "a name of 65 bytes",
+    )?;
+    assert_number(&rt, server.records().count(), 0, "a name of 65 bytes");
 
     let name = bytes_of(rt.alloc(), "6b", 64, 0)?;
-    let request = with_changes(rt.alloc(), CREATE_K1, &ROUND_64)?;
-    let request = request.replace(rt.alloc(), "6b31000000000000", name.as_str())?;
-    let reply = reply_to(rt.alloc(), &mut server, request.as_str())?;
-    assert_eq!(rt; reply.as_str(), CREATE_K1_REPLY);
-    assert_eq!(rt; server.records().count(), 1);
+    let request = with_name(rt.alloc(), &ROUND_64, name.as_str())?;
+    assert_reply(
+        &rt,
+        rt.alloc(),
+        &mut server,
+        request.as_str(),
+        CREATE_K1_REPLY,
+        "a name of 64 bytes",
+    )?;
+    assert_number(&rt, server.records().count(), 1, "a name of 64 bytes");
     Ok(())
+}
+
+/// `CREATE_K1` with these lengths and this name.
+fn with_name(alloc: Global, lengths: &[Change], name: &str) -> Result<String, Fail> {
+    let request = with_changes(alloc, CREATE_K1, lengths)?;
+    Ok(request.replace(alloc, "6b31000000000000", name)?)
+}
+
+/// `LOCATE_K1`, or its reply, with these lengths and this Unique Batch Item ID.
+fn with_id(alloc: Global, message: &str, lengths: &[Change], id: &str) -> Result<String, Fail> {
+    let changed = with_changes(alloc, message, lengths)?;
+    Ok(changed.replace(alloc, "086b310000000000", id)?)
 }
 
 #[test]
 fn takes_batch_item_ids_of_128_bytes(rt: HostRuntime) -> Result<(), Fail> {
     let mut server = server_of(rt.alloc(), 10_000);
     let id = bytes_of(rt.alloc(), "a5", 128, 0)?;
-    let request = with_changes(rt.alloc(), LOCATE_K1, &ROUND_128)?;
-    let request = request.replace(rt.alloc(), "086b310000000000", id.as_str())?;
-    let wanted = with_changes(rt.alloc(), LOCATE_K1_NONE, &ROUND_128)?;
-    let wanted = wanted.replace(rt.alloc(), "086b310000000000", id.as_str())?;
-    let reply = reply_to(rt.alloc(), &mut server, request.as_str())?;
-    assert_eq!(rt; reply.as_str(), wanted.as_str());
+    let request = with_id(rt.alloc(), LOCATE_K1, &ROUND_128, id.as_str())?;
+    let wanted = with_id(rt.alloc(), LOCATE_K1_NONE, &ROUND_128, id.as_str())?;
+    assert_reply(
+        &rt,
+        rt.alloc(),
+        &mut server,
+        request.as_str(),
+        wanted.as_str(),
+        "an id of 128 bytes",
+    )?;
 
     let id = bytes_of(rt.alloc(), "a5", 129, 7)?;
-    let request = with_changes(rt.alloc(), LOCATE_K1, &ROUND_129)?;
-    let request = request.replace(rt.alloc(), "086b310000000000", id.as_str())?;
+    let request = with_id(rt.alloc(), LOCATE_K1, &ROUND_129, id.as_str())?;
     let (from, to) = ("42007e050000000400000004", "42007e050000000400000007");
     let wanted = INVALID_MESSAGE_REPLY.replace(rt.alloc(), from, to)?;
-    let reply = reply_to(rt.alloc(), &mut server, request.as_str())?;
-    assert_eq!(rt; reply.as_str(), wanted.as_str());
-    Ok(())
+    assert_reply(
+        &rt,
+        rt.alloc(),
+        &mut server,
+        request.as_str(),
+        wanted.as_str(),
+        "an id of 129 bytes",
+    )
 }
 
 /// What stands round the name in `CREATE_K1`, and the reply to a Create of object `10000`.
@@ -116,6 +151,16 @@ const FIRST: &str = "42009407000000013100000000000000";
 
 const LAST: &str = "42009407000000053130303030000000";
 
+/// A Create of an object whose name is a number of eight digits, between the bytes round it.
+fn named_by(alloc: Global, front: &[u8], number: u32, back: &[u8]) -> Result<Vec<u8>, AllocError> {
+    let name = number.to_string(alloc)?;
+    let mut message = Vec::from_slice(alloc, front)?;
+    message.extend_from_slice(&[0x42, 0x00, 0x55, 0x07, 0, 0, 0, 8])?;
+    message.extend_from_slice(name.as_bytes())?;
+    message.extend_from_slice(back)?;
+    Ok(message)
+}
+
 #[test]
 fn holds_ten_thousand_objects(rt: HostRuntime) -> Result<(), Fail> {
     let mut server = server_of(rt.alloc(), 10_000);
@@ -124,20 +169,22 @@ fn holds_ten_thousand_objects(rt: HostRuntime) -> Result<(), Fail> {
     let back = hex::decode(rt.alloc(), back)?;
     let mut reply = Vec::new(rt.alloc());
     for number in 10_000_000..10_010_000u32 {
-        let name = number.to_string(rt.alloc())?;
-        let mut message = Vec::from_slice(rt.alloc(), front.as_slice())?;
-        message.extend_from_slice(&[0x42, 0x00, 0x55, 0x07, 0, 0, 0, 8])?;
-        message.extend_from_slice(name.as_bytes())?;
-        message.extend_from_slice(back.as_slice())?;
+        let message = named_by(rt.alloc(), front.as_slice(), number, back.as_slice())?;
         reply = server.handle(rt.alloc(), message.as_slice(), 0)?;
     }
     let wanted = CREATE_K1_REPLY.replace(rt.alloc(), FIRST, LAST)?;
     let wanted = hex::decode(rt.alloc(), wanted.as_str())?;
-    assert_eq!(rt; reply.as_slice(), wanted.as_slice());
-    assert_eq!(rt; server.records().count(), 10_000);
-
-    let reply = reply_to(rt.alloc(), &mut server, CREATE_K1)?;
-    assert_eq!(rt; reply.as_str(), FULL_REPLY);
-    assert_eq!(rt; server.records().count(), 10_000);
+    assert_bytes(&rt, reply.as_slice(), wanted.as_slice(), "the last object");
+    assert_number(&rt, server.records().count(), 10_000, "the last object");
+    let full = FULL_REPLY;
+    assert_reply(
+        &rt,
+        rt.alloc(),
+        &mut server,
+        CREATE_K1,
+        full,
+        "one object more",
+    )?;
+    assert_number(&rt, server.records().count(), 10_000, "one object more");
     Ok(())
 }

@@ -1,6 +1,7 @@
 //! Messages answered by a server.
 ghost use Rattle.std.specs.Prelude.{◌≤◌};
 
+use crate::asserting::{assert_bytes, assert_number, assert_text};
 use kmip_objects::KeyState;
 use kmip_server::Server;
 use kmip_store::{ListStore, Records};
@@ -134,6 +135,20 @@ pub fn server_of(alloc: Global, room: usize) -> Server<ListStore>
     Server::new(ListStore::new(alloc, [0; 32], room))
 }
 
+/// The server answers a message with this reply, both in hexadecimal.
+pub fn assert_reply(
+    rt: &impl Abort,
+    alloc: Global,
+    server: &mut Server<ListStore>,
+    message: &str,
+    wanted: &str,
+    case: &str,
+) -> Result<(), Fail> {
+    let reply = reply_to(alloc, server, message)?;
+    assert_text(rt, reply.as_str(), wanted, case);
+    Ok(())
+}
+
 /// Asks the server a request with the row's digits, and compares the reply.
 fn ask(
     rt: &impl Abort,
@@ -144,8 +159,19 @@ fn ask(
     wanted: &str,
 ) -> Result<(), Fail> {
     let message = request.replace(alloc, row.from, row.to)?;
-    let reply = reply_to(alloc, server, message.as_str())?;
-    assert_eq!(rt; reply.as_str(), wanted, "{}", row.name);
+    assert_reply(rt, alloc, server, message.as_str(), wanted, row.name)
+}
+
+/// Asks the server a Create with the row's digits, which it refuses for the row's reason.
+fn refuse(
+    rt: &impl Abort,
+    alloc: Global,
+    server: &mut Server<ListStore>,
+    row: &Row,
+) -> Result<(), Fail> {
+    let wanted = NAME_USED_REPLY.replace(alloc, "00000035", row.answer)?;
+    ask(rt, alloc, server, CREATE_K1, row, wanted.as_str())?;
+    assert_k1_alone(rt, server.records(), row.name);
     Ok(())
 }
 
@@ -164,62 +190,83 @@ pub fn is_k1_alone(records: &ListStore) -> bool {
     }
 }
 
+/// The records are `k1` alone, as it was created.
+pub fn assert_k1_alone(rt: &impl Abort, records: &ListStore, case: &str) {
+    assert!(rt; is_k1_alone(records), "{case}");
+}
+
+/// The server answers the bytes with this reply.
+fn assert_answer(
+    rt: &impl Abort,
+    alloc: Global,
+    server: &mut Server<ListStore>,
+    message: &[u8],
+    wanted: &[u8],
+    case: &str,
+) -> Result<(), Fail> {
+    let reply = server.handle(alloc, message, 0)?;
+    assert_bytes(rt, reply.as_slice(), wanted, case);
+    Ok(())
+}
+
+/// The server answers each front of a message, and the whole of a reply, with this reply.
+fn answer_fronts(
+    rt: &impl Abort,
+    alloc: Global,
+    server: &mut Server<ListStore>,
+    text: &str,
+    wanted: &[u8],
+    name: &str,
+) -> Result<(), Fail> {
+    let message = hex::decode(alloc, text)?;
+    for size in 0..message.len() {
+        assert_answer(rt, alloc, server, &message[..size], wanted, name)?;
+    }
+    if text.starts_with("42007b") {
+        assert_answer(rt, alloc, server, message.as_slice(), wanted, name)?;
+    }
+    Ok(())
+}
+
 #[test]
 fn answers_what_is_no_request(rt: HostRuntime) -> Result<(), Fail> {
     let mut server = server_of(rt.alloc(), 10_000);
     let wanted = hex::decode(rt.alloc(), INVALID_MESSAGE_REPLY)?;
     for (name, text) in &ALL {
-        let message = hex::decode(rt.alloc(), *text)?;
-        let is_reply = text.starts_with("42007b");
-        for size in 0..message.len() + usize::from(is_reply) {
-            let front = &message[..size.min(message.len())];
-            let reply = server.handle(rt.alloc(), front, 0)?;
-            assert_eq!(rt;
-                reply.as_slice(),
-                wanted.as_slice(),
-                "the first {size} bytes of {name}"
-            );
-        }
+        answer_fronts(&rt, rt.alloc(), &mut server, text, wanted.as_slice(), name)?;
     }
-    assert_eq!(rt; server.records().count(), 0);
+    assert_number(&rt, server.records().count(), 0, "the rows");
     Ok(())
 }
 
 #[test]
 fn refuses_and_changes_nothing(rt: HostRuntime) -> Result<(), Fail> {
     let mut server = server_of(rt.alloc(), 10_000);
-    let reply = reply_to(rt.alloc(), &mut server, CREATE_K1)?;
-    assert_eq!(rt; reply.as_str(), CREATE_K1_REPLY);
+    let made = CREATE_K1_REPLY;
+    assert_reply(&rt, rt.alloc(), &mut server, CREATE_K1, made, "made")?;
     for row in &REFUSED {
-        let wanted = NAME_USED_REPLY.replace(rt.alloc(), "00000035", row.answer)?;
-        ask(
-            &rt,
-            rt.alloc(),
-            &mut server,
-            CREATE_K1,
-            row,
-            wanted.as_str(),
-        )?;
-        assert!(rt; is_k1_alone(server.records()), "{}", row.name);
+        refuse(&rt, rt.alloc(), &mut server, row)?;
     }
     for row in &LOCATED {
         ask(&rt, rt.alloc(), &mut server, LOCATE_K1, row, row.answer)?;
     }
-    assert!(rt; is_k1_alone(server.records()));
+    assert_k1_alone(&rt, server.records(), "looked for");
     Ok(())
 }
+
+/// Requests to a server with room for one object, and its replies.
+const FILLING: [(&str, &str); 3] = [
+    (CREATE_K1, CREATE_K1_REPLY),
+    (CREATE_K2, FULL_REPLY),
+    (CREATE_K1, NAME_USED_REPLY),
+];
 
 #[test]
 fn keeps_to_its_room(rt: HostRuntime) -> Result<(), Fail> {
     let mut server = server_of(rt.alloc(), 1);
-    for (request, wanted) in [
-        (CREATE_K1, CREATE_K1_REPLY),
-        (CREATE_K2, FULL_REPLY),
-        (CREATE_K1, NAME_USED_REPLY),
-    ] {
-        let reply = reply_to(rt.alloc(), &mut server, request)?;
-        assert_eq!(rt; reply.as_str(), wanted);
-        assert!(rt; is_k1_alone(server.records()));
+    for (request, wanted) in &FILLING {
+        assert_reply(&rt, rt.alloc(), &mut server, request, wanted, request)?;
+        assert_k1_alone(&rt, server.records(), request);
     }
     Ok(())
 }

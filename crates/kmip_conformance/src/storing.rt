@@ -2,12 +2,14 @@
 ghost use Rattle.std.specs.Prelude.{IfOk, IsTrue};
 ghost use Rattle.kmip_store.specs.Calling.{may_call};
 
+use crate::asserting::assert_text;
 use kmip_objects::{Attrs, KeyAttrs, attrs_fit};
 use kmip_store::{Answer, Call, IndexedStore, ListStore, call_both};
 use kmip_ttlv::Text;
 use rand_chacha::ChaCha20Rng;
 use rand_core::{Rng, SeedableRng};
 use std::alloc::{AllocError, Global};
+use std::process::Abort;
 use std::test::Fail;
 
 /// A call by its method and what it is given, and what it is answered.
@@ -165,26 +167,57 @@ fn answers_of(
     requires { IsTrue (may_call call) }
 {
     let (ours, theirs) = call_both(alloc, store, other, &[call])?;
-    let mut words = (String::new(alloc), String::new(alloc));
-    for answer in &ours {
-        words.0 = words_of(alloc, answer)?;
+    let ours = last_words(alloc, ours.as_slice())?;
+    let theirs = last_words(alloc, theirs.as_slice())?;
+    Ok((ours, theirs))
+}
+
+/// The last of these answers in words; nothing where there is none.
+fn last_words(alloc: Global, answers: &[Answer]) -> Result<String, AllocError> {
+    match answers.last() {
+        Some(answer) => words_of(alloc, answer),
+        None => Ok(String::new(alloc)),
     }
-    for answer in &theirs {
-        words.1 = words_of(alloc, answer)?;
-    }
-    Ok(words)
+}
+
+/// Both stores answer the call of a row as it says.
+fn answer_row(
+    rt: &impl Abort,
+    alloc: Global,
+    store: &mut ListStore,
+    other: &mut IndexedStore,
+    row: &Row,
+) -> Result<(), Fail> {
+    let Row(method, given, wanted) = row;
+    let call = call_of(alloc, method, given, 128)?;
+    let (ours, theirs) = answers_of(alloc, store, other, call)?;
+    assert_text(rt, ours.as_str(), wanted, method);
+    assert_text(rt, theirs.as_str(), wanted, method);
+    Ok(())
 }
 
 #[test]
 fn answers_call_by_call(rt: HostRuntime) -> Result<(), Fail> {
     let mut store = ListStore::new(rt.alloc(), [0; 32], 2);
     let mut other = IndexedStore::new(rt.alloc(), [0; 32], 2);
-    for (place, Row(method, given, wanted)) in ROWS.iter().enumerate() {
-        let call = call_of(rt.alloc(), *method, *given, 128)?;
-        let (ours, theirs) = answers_of(rt.alloc(), &mut store, &mut other, call)?;
-        assert_eq!(rt; ours.as_str(), *wanted, "{place}");
-        assert_eq!(rt; theirs.as_str(), *wanted, "{place}");
+    for row in &ROWS {
+        answer_row(&rt, rt.alloc(), &mut store, &mut other, row)?;
     }
+    Ok(())
+}
+
+/// Both stores answer a random call, and alike.
+fn answer_random(
+    rt: &impl Abort,
+    alloc: Global,
+    rng: &mut ChaCha20Rng,
+    store: &mut ListStore,
+    other: &mut IndexedStore,
+) -> Result<(), Fail> {
+    let call = random_call(alloc, rng)?;
+    let (ours, theirs) = answers_of(alloc, store, other, call)?;
+    assert!(rt; !ours.is_empty());
+    assert_text(rt, ours.as_str(), theirs.as_str(), "a random call");
     Ok(())
 }
 
@@ -194,11 +227,8 @@ fn answers_random_calls_alike(rt: HostRuntime) -> Result<(), Fail> {
     for seed in 0..50 {
         let mut store = ListStore::new(rt.alloc(), [seed; 32], 4);
         let mut other = IndexedStore::new(rt.alloc(), [seed; 32], 4);
-        for place in 0..100 {
-            let call = random_call(rt.alloc(), &mut rng)?;
-            let (ours, theirs) = answers_of(rt.alloc(), &mut store, &mut other, call)?;
-            assert!(rt; !ours.is_empty(), "{seed}, {place}");
-            assert_eq!(rt; ours.as_str(), theirs.as_str(), "{seed}, {place}");
+        for _ in 0..100 {
+            answer_random(&rt, rt.alloc(), &mut rng, &mut store, &mut other)?;
         }
     }
     Ok(())

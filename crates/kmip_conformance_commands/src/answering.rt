@@ -1,5 +1,6 @@
 //! What the command `answer` prints.
 
+use crate::asserting::{assert_refused, assert_status, assert_written};
 use crate::readers::PieceReader;
 use crate::texts::text_of;
 use kmip_commands::{CommandFault, ExitStatus, answer, answer_bytes, run_answer};
@@ -7,7 +8,8 @@ use kmip_vectors::{
     ACTIVATE_1, CREATE_K1, CREATE_K1_REPLY, INVALID_MESSAGE_REPLY, LOCATE_K1, LOCATE_K1_FOUND,
     LOCATE_K1_NONE, NAME_USED_REPLY,
 };
-use std::str::from_utf8;
+use std::alloc::Global;
+use std::process::Abort;
 use std::test::Fail;
 
 /// `LOCATE_K1` in version 2.0.
@@ -85,26 +87,53 @@ const ROWS: [Row; 6] = [
     },
 ];
 
+/// The lines of a row are answered as it says, out of a reader.
+fn assert_answered(
+    rt: &impl Abort,
+    alloc: Global,
+    row: &Row,
+    input: &[u8],
+    output: &str,
+) -> Result<(), Fail> {
+    let mut reader = input;
+    let mut writer = Vec::new(alloc);
+    let is_refused = answer(alloc, &mut reader, &mut writer)?;
+    assert_refused(rt, is_refused, row.is_refused, row.name);
+    assert_written(rt, writer.as_slice(), output, row.name);
+    Ok(())
+}
+
+/// The same where all bytes are there.
+fn assert_answered_whole(
+    rt: &impl Abort,
+    alloc: Global,
+    row: &Row,
+    input: &[u8],
+    output: &str,
+) -> Result<(), Fail> {
+    let mut written = Vec::new(alloc);
+    let is_refused = answer_bytes(alloc, input, &mut written)?;
+    assert_refused(rt, is_refused, row.is_refused, row.name);
+    assert_written(rt, written.as_slice(), output, row.name);
+    Ok(())
+}
+
+/// The command ends so over these bytes, and wrote this.
+fn assert_ends(rt: &impl Abort, alloc: Global, input: &[u8], output: &str, wanted: ExitStatus) {
+    let mut reader = input;
+    let mut writer = Vec::new(alloc);
+    let status = run_answer(alloc, &mut reader, &mut writer);
+    assert_status(rt, status, wanted, output);
+    assert_written(rt, writer.as_slice(), output, output);
+}
+
 #[test]
 fn answers_lines(rt: HostRuntime) -> Result<(), Fail> {
     for row in &ROWS {
-        let name = row.name;
         let input = text_of(rt.alloc(), row.input)?;
         let output = text_of(rt.alloc(), row.output)?;
-        let mut reader = input.as_bytes();
-        let mut writer = Vec::new(rt.alloc());
-        let is_refused = answer(rt.alloc(), &mut reader, &mut writer)?;
-        assert_eq!(rt; is_refused, row.is_refused, "{name}");
-        assert_eq!(rt; from_utf8(writer.as_slice()), Ok(output.as_str()), "{name}");
-
-        let mut written = Vec::new(rt.alloc());
-        let is_refused = answer_bytes(rt.alloc(), input.as_bytes(), &mut written)?;
-        assert_eq!(rt; is_refused, row.is_refused, "{name}");
-        assert_eq!(rt;
-            from_utf8(written.as_slice()),
-            Ok(output.as_str()),
-            "{name}"
-        );
+        assert_answered(&rt, rt.alloc(), row, input.as_bytes(), output.as_str())?;
+        assert_answered_whole(&rt, rt.alloc(), row, input.as_bytes(), output.as_str())?;
     }
     Ok(())
 }
@@ -112,27 +141,24 @@ fn answers_lines(rt: HostRuntime) -> Result<(), Fail> {
 #[test]
 fn takes_a_last_line_without_line_feed(rt: HostRuntime) -> Result<(), Fail> {
     let output = text_of(rt.alloc(), &[LOCATE_K1_NONE])?;
-    let mut reader = LOCATE_K1.as_bytes();
-    let mut writer = Vec::new(rt.alloc());
-    let status = run_answer(rt.alloc(), &mut reader, &mut writer);
-    assert_eq!(rt; status, ExitStatus::Done);
-    assert_eq!(rt; from_utf8(writer.as_slice()), Ok(output.as_str()));
+    let input = LOCATE_K1.as_bytes();
+    assert_ends(&rt, rt.alloc(), input, output.as_str(), ExitStatus::Done);
     Ok(())
 }
 
 #[test]
 fn refuses_a_long_line_by_its_length(rt: HostRuntime) -> Result<(), Fail> {
     let output = text_of(rt.alloc(), &[REFUSED_LENGTH, LOCATE_K1_NONE])?;
-    for byte in [b'4', b'z'] {
-        let mut input = vec![in rt.alloc(); byte; 16_385]?;
-        input.push(b'\n')?;
-        input.extend_from_slice(LOCATE_K1.as_bytes())?;
-        let mut reader = input.as_slice();
-        let mut writer = Vec::new(rt.alloc());
-        let status = run_answer(rt.alloc(), &mut reader, &mut writer);
-        assert_eq!(rt; status, ExitStatus::Refused);
-        assert_eq!(rt; from_utf8(writer.as_slice()), Ok(output.as_str()));
-    }
+    refuse_long(&rt, rt.alloc(), b'4', output.as_str())?;
+    refuse_long(&rt, rt.alloc(), b'z', output.as_str())
+}
+
+/// A line of 16,385 times this byte is refused, and the one behind it answered.
+fn refuse_long(rt: &impl Abort, alloc: Global, byte: u8, output: &str) -> Result<(), Fail> {
+    let mut input = vec![in alloc; byte; 16_385]?;
+    input.push(b'\n')?;
+    input.extend_from_slice(LOCATE_K1.as_bytes())?;
+    assert_ends(rt, alloc, input.as_slice(), output, ExitStatus::Refused);
     Ok(())
 }
 
@@ -140,20 +166,32 @@ fn refuses_a_long_line_by_its_length(rt: HostRuntime) -> Result<(), Fail> {
 fn answers_lines_before_the_reader_fails(rt: HostRuntime) -> Result<(), Fail> {
     let input = text_of(rt.alloc(), &[LOCATE_K1, "42"])?;
     let output = text_of(rt.alloc(), &[LOCATE_K1_NONE, CANNOT_READ])?;
-    for (piece_len, kept) in [(1000, 369), (1000, 371), (7, 369), (7, 371)] {
-        let bytes = &input.as_bytes()[..kept.min(input.len())];
-        let mut writer = Vec::new(rt.alloc());
-        let mut reader = PieceReader::failing(bytes, piece_len);
-        let fault = answer(rt.alloc(), &mut reader, &mut writer);
-        assert_eq!(rt; fault, Err(CommandFault::Input));
-
-        let mut writer = Vec::new(rt.alloc());
-        let mut reader = PieceReader::failing(bytes, piece_len);
-        let status = run_answer(rt.alloc(), &mut reader, &mut writer);
-        assert_eq!(rt; status, ExitStatus::Failed(CommandFault::Input));
-        assert_eq!(rt; from_utf8(writer.as_slice()), Ok(output.as_str()));
+    for (piece_len, kept) in &[(1000, 369), (1000, 371), (7, 369), (7, 371)] {
+        let (bytes, _) = input.as_bytes().split_at(input.len().min(*kept));
+        fail_behind(&rt, rt.alloc(), bytes, *piece_len, output.as_str());
     }
     Ok(())
+}
+
+/// A reader that gives these bytes in pieces of this length, and then fails, ends the command, which wrote
+/// this before.
+fn fail_behind(rt: &impl Abort, alloc: Global, bytes: &[u8], piece_len: usize, output: &str) {
+    let failed = ExitStatus::Failed(CommandFault::Input);
+    let mut writer = Vec::new(alloc);
+    let mut reader = PieceReader::failing(bytes, piece_len);
+    let fault = answer(alloc, &mut reader, &mut writer);
+    assert_fault(rt, fault, CommandFault::Input);
+
+    let mut writer = Vec::new(alloc);
+    let mut reader = PieceReader::failing(bytes, piece_len);
+    let status = run_answer(alloc, &mut reader, &mut writer);
+    assert_status(rt, status, failed, output);
+    assert_written(rt, writer.as_slice(), output, output);
+}
+
+/// The command failed for this fault.
+fn assert_fault(rt: &impl Abort, outcome: Result<bool, CommandFault>, wanted: CommandFault) {
+    assert_eq!(rt; outcome, Err(wanted));
 }
 
 #[test]
@@ -163,10 +201,15 @@ fn ends_where_the_writer_fails(rt: HostRuntime) -> Result<(), Fail> {
     let mut reader = input.as_bytes();
     let mut writer = room.as_mut_slice();
     let status = run_answer(rt.alloc(), &mut reader, &mut writer);
-    assert_eq!(rt; status, ExitStatus::Failed(CommandFault::Output));
+    assert_status(
+        &rt,
+        status,
+        ExitStatus::Failed(CommandFault::Output),
+        "no room",
+    );
     let mut reader = input.as_bytes();
     let mut writer = room.as_mut_slice();
     let fault = answer(rt.alloc(), &mut reader, &mut writer);
-    assert_eq!(rt; fault, Err(CommandFault::Output));
+    assert_fault(&rt, fault, CommandFault::Output);
     Ok(())
 }

@@ -1,7 +1,9 @@
 //! What the command `check` prints.
 
+use crate::asserting::{assert_number, assert_refused, assert_written};
 use kmip_check::{check, check_bytes};
 use std::alloc::{AllocError, Global};
+use std::process::Abort;
 use std::str::from_utf8;
 use std::test::Fail;
 
@@ -266,17 +268,28 @@ disk-array-3 AES 256 0000000c discarded: Create Destroy
 
 #[test]
 fn checks_plans(rt: HostRuntime) -> Result<(), Fail> {
-    for row in &ROWS {
-        let mut writer = Vec::new(rt.alloc());
-        let is_refused = check(rt.alloc(), row.plan, &mut writer)?;
-        assert_eq!(rt; is_refused, row.is_refused, "{}", row.plan);
-        assert_eq!(rt; from_utf8(writer.as_slice()), Ok(row.text), "{}", row.plan);
+    check_rows(&rt, rt.alloc(), &ROWS)
+}
 
-        let mut written = Vec::new(rt.alloc());
-        let is_refused = check_bytes(rt.alloc(), row.plan, &mut written)?;
-        assert_eq!(rt; is_refused, row.is_refused, "{}", row.plan);
-        assert_eq!(rt; from_utf8(written.as_slice()), Ok(row.text), "{}", row.plan);
+/// Each plan is judged as its row says.
+fn check_rows(rt: &impl Abort, alloc: Global, rows: &[Row]) -> Result<(), Fail> {
+    for row in rows {
+        check_row(rt, alloc, row)?;
     }
+    Ok(())
+}
+
+/// A plan is judged as its row says, by a writer and as bytes.
+fn check_row(rt: &impl Abort, alloc: Global, row: &Row) -> Result<(), Fail> {
+    let mut writer = Vec::new(alloc);
+    let is_refused = check(alloc, row.plan, &mut writer)?;
+    assert_refused(rt, is_refused, row.is_refused, row.plan);
+    assert_written(rt, writer.as_slice(), row.text, row.plan);
+
+    let mut written = Vec::new(alloc);
+    let is_refused = check_bytes(alloc, row.plan, &mut written)?;
+    assert_refused(rt, is_refused, row.is_refused, row.plan);
+    assert_written(rt, written.as_slice(), row.text, row.plan);
     Ok(())
 }
 
@@ -298,15 +311,19 @@ fn checks_a_thousand_keys_and_no_more(rt: HostRuntime) -> Result<(), Fail> {
     let plan = keys(rt.alloc(), 1_000)?;
     let mut written = Vec::new(rt.alloc());
     let is_refused = check_bytes(rt.alloc(), plan.as_str(), &mut written)?;
-    assert!(rt; !is_refused);
+    assert_refused(&rt, is_refused, false, "1,000 keys");
     let text = from_utf8(written.as_slice()).unwrap_or("");
-    assert_eq!(rt; text.lines().count(), 1_000);
+    assert_number(&rt, text.lines().count(), 1_000, "1,000 keys");
 
     let plan = keys(rt.alloc(), 1_001)?;
     let mut written = Vec::new(rt.alloc());
     let is_refused = check_bytes(rt.alloc(), plan.as_str(), &mut written)?;
-    assert!(rt; is_refused);
-    let text = from_utf8(written.as_slice());
-    assert_eq!(rt; text, Ok("plan refused: 3 TooMany\n"));
+    assert_refused(&rt, is_refused, true, "1,001 keys");
+    assert_written(
+        &rt,
+        written.as_slice(),
+        "plan refused: 3 TooMany\n",
+        "1,001 keys",
+    );
     Ok(())
 }

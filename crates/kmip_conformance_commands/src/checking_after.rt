@@ -1,8 +1,10 @@
 //! What the command `check --after` prints.
 
+use crate::asserting::{assert_refused, assert_status, assert_written};
 use kmip_check::{check_after, check_after_bytes, run_check_after};
 use kmip_commands::ExitStatus;
-use std::str::from_utf8;
+use std::alloc::Global;
+use std::process::Abort;
 use std::test::Fail;
 
 const CREATED: &str = r#"[[key]]
@@ -150,59 +152,46 @@ prolongs not
 #[test]
 fn checks_plans_after_others(rt: HostRuntime) -> Result<(), Fail> {
     for row in &ROWS {
-        let mut writer = Vec::new(rt.alloc());
-        let is_refused = check_after(rt.alloc(), row.plan, row.earlier, &mut writer)?;
-        assert_eq!(rt;
-            is_refused,
-            row.is_refused,
-            "{} after {}",
-            row.plan, row.earlier
-        );
-        assert_eq!(rt;
-            from_utf8(writer.as_slice()),
-            Ok(row.text),
-            "{} after {}",
-            row.plan,
-            row.earlier
-        );
-
-        let mut written = Vec::new(rt.alloc());
-        let is_refused = check_after_bytes(rt.alloc(), row.plan, row.earlier, &mut written)?;
-        assert_eq!(rt;
-            is_refused,
-            row.is_refused,
-            "{} after {}",
-            row.plan, row.earlier
-        );
-        assert_eq!(rt;
-            from_utf8(written.as_slice()),
-            Ok(row.text),
-            "{} after {}",
-            row.plan,
-            row.earlier
-        );
+        check_row(&rt, rt.alloc(), row)?;
     }
     Ok(())
+}
+
+/// Two plans are judged as their row says, by a writer and as bytes.
+fn check_row(rt: &impl Abort, alloc: Global, row: &Row) -> Result<(), Fail> {
+    let mut writer = Vec::new(alloc);
+    let is_refused = check_after(alloc, row.plan, row.earlier, &mut writer)?;
+    assert_row(rt, row, is_refused, writer.as_slice());
+
+    let mut written = Vec::new(alloc);
+    let is_refused = check_after_bytes(alloc, row.plan, row.earlier, &mut written)?;
+    assert_row(rt, row, is_refused, written.as_slice());
+    Ok(())
+}
+
+/// This was said of the plans of a row, as it wants.
+fn assert_row(rt: &impl Abort, row: &Row, is_refused: bool, written: &[u8]) {
+    assert_refused(rt, is_refused, row.is_refused, row.earlier);
+    assert_written(rt, written, row.text, row.earlier);
 }
 
 #[test]
 fn checks_after_and_ends(rt: HostRuntime) -> Result<(), Fail> {
     for row in &ROWS {
-        let wanted = if row.is_refused {
-            ExitStatus::Refused
-        } else {
-            ExitStatus::Done
-        };
         let mut writer = Vec::new(rt.alloc());
         let status = run_check_after(rt.alloc(), row.plan, row.earlier, &mut writer);
-        assert_eq!(rt; status, wanted, "{} after {}", row.plan, row.earlier);
-        assert_eq!(rt;
-            from_utf8(writer.as_slice()),
-            Ok(row.text),
-            "{} after {}",
-            row.plan,
-            row.earlier
-        );
+        assert_ended(&rt, row, status, writer.as_slice());
     }
     Ok(())
+}
+
+/// The command ended as a row wants, and wrote this.
+fn assert_ended(rt: &impl Abort, row: &Row, status: ExitStatus, written: &[u8]) {
+    let wanted = if row.is_refused {
+        ExitStatus::Refused
+    } else {
+        ExitStatus::Done
+    };
+    assert_status(rt, status, wanted, row.earlier);
+    assert_written(rt, written, row.text, row.earlier);
 }

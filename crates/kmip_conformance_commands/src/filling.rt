@@ -1,11 +1,12 @@
 //! A server that is filled: each identifier in its turn, and why a full one refuses.
 
+use crate::asserting::{assert_number, assert_refused};
 use crate::texts::text_of;
 use kmip_commands::answer_bytes;
 use kmip_vectors::{CREATE_K1, CREATE_K1_REPLY, NAME_USED_REPLY};
 use std::alloc::Global;
 use std::ops::Range;
-use std::str::from_utf8;
+use std::process::Abort;
 use std::test::Fail;
 
 /// The name in `CREATE_K1`, with its tag, its type and its length.
@@ -47,45 +48,39 @@ fn push_lines(
     Ok(())
 }
 
-#[test]
-fn gives_ten_thousand_identifiers(rt: HostRuntime) -> Result<(), Fail> {
-    let mut input = String::new(rt.alloc());
-    push_lines(
-        rt.alloc(),
-        &mut input,
-        CREATE_K1,
-        NAME,
-        10_000_000..10_010_000,
-    )?;
-    let mut output = String::new(rt.alloc());
-    push_lines(
-        rt.alloc(),
-        &mut output,
-        CREATE_K1_REPLY,
-        IDENTIFIER,
-        1..10_001,
-    )?;
-
-    // A name that no object has, and then the last name once more.
+/// A Create of each of ten thousand names, of one that no object has, and then of the last name once more.
+fn requests(alloc: Global) -> Result<String, Fail> {
+    let mut input = String::new(alloc);
+    push_lines(alloc, &mut input, CREATE_K1, NAME, 10_000_000..10_010_000)?;
     input.push_str(CREATE_K1)?;
     input.push('\n')?;
-    push_lines(
-        rt.alloc(),
-        &mut input,
-        CREATE_K1,
-        NAME,
-        10_009_999..10_010_000,
-    )?;
-    let full = NAME_USED_REPLY.replace(rt.alloc(), "00000035", "00000100")?;
-    let refused = text_of(rt.alloc(), &[full.as_str(), NAME_USED_REPLY])?;
-    output.push_str(refused.as_str())?;
+    push_lines(alloc, &mut input, CREATE_K1, NAME, 10_009_999..10_010_000)?;
+    Ok(input)
+}
 
-    let mut written = Vec::new(rt.alloc());
-    assert_eq!(rt;
-        answer_bytes(rt.alloc(), input.as_bytes(), &mut written),
-        Ok(false)
-    );
-    assert_eq!(rt; written.len(), output.len());
-    assert!(rt; from_utf8(written.as_slice()) == Ok(output.as_str()));
+/// The replies: each identifier, and then why there is none.
+fn replies(alloc: Global) -> Result<String, Fail> {
+    let mut output = String::new(alloc);
+    push_lines(alloc, &mut output, CREATE_K1_REPLY, IDENTIFIER, 1..10_001)?;
+    let full = NAME_USED_REPLY.replace(alloc, "00000035", "00000100")?;
+    let refused = text_of(alloc, &[full.as_str(), NAME_USED_REPLY])?;
+    output.push_str(refused.as_str())?;
+    Ok(output)
+}
+
+#[test]
+fn gives_ten_thousand_identifiers(rt: HostRuntime) -> Result<(), Fail> {
+    let input = requests(rt.alloc())?;
+    let output = replies(rt.alloc())?;
+    assert_filled(&rt, rt.alloc(), input.as_bytes(), output.as_bytes())
+}
+
+/// These lines are answered by those.
+fn assert_filled(rt: &impl Abort, alloc: Global, input: &[u8], output: &[u8]) -> Result<(), Fail> {
+    let mut written = Vec::new(alloc);
+    let is_refused = answer_bytes(alloc, input, &mut written)?;
+    assert_refused(rt, is_refused, false, "ten thousand objects");
+    assert_number(rt, written.len(), output.len(), "ten thousand objects");
+    assert!(rt; written.as_slice() == output);
     Ok(())
 }

@@ -5,7 +5,8 @@ use crate::texts::text_of;
 use kmip_commands::{answer, answer_stream};
 use kmip_vectors::{CREATE_K1, CREATE_K1_REPLY, LOCATE_K1, LOCATE_K1_NONE};
 use std::alloc::Global;
-use std::io::{self, Error, ErrorKind, Write};
+use std::io::{self, BufRead, Error, ErrorKind, Write};
+use std::process::Abort;
 use std::test::Fail;
 
 /// A writer that notes how many bytes it had at each flush, once for each number.
@@ -50,20 +51,33 @@ fn sends_each_reply_on_before_the_next_line(rt: HostRuntime) -> Result<(), Fail>
     let mut reader = LineReader {
         rest: input.as_bytes(),
     };
-    let mut writer = NotingWriter::new(rt.alloc());
-    answer(rt.alloc(), &mut reader, &mut writer)?;
-    assert_eq!(rt; writer.flushes.as_slice(), [first, both].as_slice());
+    assert_flushes(&rt, rt.alloc(), &mut reader, &[first, both])?;
+    let mut reader = input.as_bytes();
+    assert_flushes(&rt, rt.alloc(), &mut reader, &[both])?;
 
     let mut reader = LineReader {
         rest: input.as_bytes(),
     };
     let mut writer = NotingWriter::new(rt.alloc());
     answer_stream(rt.alloc(), &mut reader, &mut writer)?;
-    assert_eq!(rt; writer.flushes.as_slice(), [first, both].as_slice());
-
-    let mut reader = input.as_bytes();
-    let mut writer = NotingWriter::new(rt.alloc());
-    answer(rt.alloc(), &mut reader, &mut writer)?;
-    assert_eq!(rt; writer.flushes.as_slice(), [both].as_slice());
+    assert_noted(&rt, &writer, &[first, both]);
     Ok(())
+}
+
+/// The lines of a reader are answered, and sent on at these sizes.
+fn assert_flushes<R: BufRead>(
+    rt: &impl Abort,
+    alloc: Global,
+    reader: &mut R,
+    wanted: &[usize],
+) -> Result<(), Fail> {
+    let mut writer = NotingWriter::new(alloc);
+    answer(alloc, reader, &mut writer)?;
+    assert_noted(rt, &writer, wanted);
+    Ok(())
+}
+
+/// These sizes were noted.
+fn assert_noted(rt: &impl Abort, writer: &NotingWriter, wanted: &[usize]) {
+    assert_eq!(rt; writer.flushes.as_slice(), wanted);
 }

@@ -7,6 +7,8 @@
 #[cfg(test)]
 mod answering;
 #[cfg(test)]
+mod asserting;
+#[cfg(test)]
 mod checking;
 #[cfg(test)]
 mod checking_after;

@@ -1,12 +1,12 @@
 //! The longest line, and many lines.
 
+use crate::asserting::{assert_number, assert_refused, assert_written};
 use crate::readers::PieceReader;
 use crate::texts::text_of;
-use kmip_commands::{InputEnd, StreamOutcome, answer, answer_bytes, answer_stream};
+use kmip_commands::{InputEnd, answer, answer_bytes, answer_stream};
 use kmip_vectors::{INVALID_MESSAGE_REPLY, LOCATE_K1, LOCATE_K1_NONE};
 use std::alloc::Global;
 use std::process::Abort;
-use std::str::from_utf8;
 use std::test::Fail;
 
 /// `LOCATE_K1` with a Byte String of 8,000 zeros behind its items, which a server skips: 8,192 bytes.
@@ -22,40 +22,58 @@ fn longest(alloc: Global) -> Result<String, Fail> {
 #[test]
 fn answers_a_message_of_8192_bytes(rt: HostRuntime) -> Result<(), Fail> {
     let message = longest(rt.alloc())?;
-    assert_eq!(rt; message.len(), 16_384);
+    assert_number(&rt, message.len(), 16_384, "the longest message");
     let input = format!(in rt.alloc(); "{message}\n{message}\n")?;
     let output = text_of(rt.alloc(), &[LOCATE_K1_NONE, LOCATE_K1_NONE])?;
-    for piece_len in [40_000, 16_385, 16_384, 1_000] {
-        let mut reader = PieceReader::ending(input.as_bytes(), piece_len);
-        let mut writer = Vec::new(rt.alloc());
-        assert_eq!(rt; answer(rt.alloc(), &mut reader, &mut writer), Ok(false));
-        assert_eq!(rt;
-            from_utf8(writer.as_slice()),
-            Ok(output.as_str()),
-            "{piece_len}"
-        );
+    for piece_len in &[40_000, 16_385, 16_384, 1_000] {
+        answer_pieces(
+            &rt,
+            rt.alloc(),
+            input.as_bytes(),
+            *piece_len,
+            output.as_str(),
+        )?;
     }
+    Ok(())
+}
+
+/// The lines are answered by this text, where the reader gives pieces of this length.
+fn answer_pieces(
+    rt: &impl Abort,
+    alloc: Global,
+    input: &[u8],
+    piece_len: usize,
+    output: &str,
+) -> Result<(), Fail> {
+    let mut reader = PieceReader::ending(input, piece_len);
+    let mut writer = Vec::new(alloc);
+    let is_refused = answer(alloc, &mut reader, &mut writer)?;
+    assert_refused(rt, is_refused, false, output);
+    assert_written(rt, writer.as_slice(), output, output);
     Ok(())
 }
 
 /// The lines are a stream of two messages, each of which is answered, whatever pieces the reader gives.
 fn assert_streams(rt: &impl Abort, alloc: Global, input: &str) -> Result<(), Fail> {
     let output = text_of(alloc, &[LOCATE_K1_NONE, LOCATE_K1_NONE])?;
-    let whole = StreamOutcome {
-        end: InputEnd::Whole,
-        has_refused: false,
-    };
-    for piece_len in [40_000, 1_000] {
-        let mut reader = PieceReader::ending(input.as_bytes(), piece_len);
-        let mut writer = Vec::new(alloc);
-        let outcome = answer_stream(alloc, &mut reader, &mut writer);
-        assert_eq!(rt; outcome, Ok(whole));
-        assert_eq!(rt;
-            from_utf8(writer.as_slice()),
-            Ok(output.as_str()),
-            "{piece_len}"
-        );
-    }
+    stream_pieces(rt, alloc, input.as_bytes(), 40_000, output.as_str())?;
+    stream_pieces(rt, alloc, input.as_bytes(), 1_000, output.as_str())
+}
+
+/// The lines are a whole stream that is answered by this text, where the reader gives pieces of this
+/// length.
+fn stream_pieces(
+    rt: &impl Abort,
+    alloc: Global,
+    input: &[u8],
+    piece_len: usize,
+    output: &str,
+) -> Result<(), Fail> {
+    let mut reader = PieceReader::ending(input, piece_len);
+    let mut writer = Vec::new(alloc);
+    let outcome = answer_stream(alloc, &mut reader, &mut writer)?;
+    assert!(rt; outcome.end == InputEnd::Whole && !outcome.has_refused);
+    assert_written(rt, writer.as_slice(), output, output);
     Ok(())
 }
 
@@ -78,17 +96,27 @@ fn answers_ten_thousand_lines_and_one(rt: HostRuntime) -> Result<(), Fail> {
         output.push_str(INVALID_MESSAGE_REPLY)?;
         output.push_str("\n")?;
     }
-    let mut reader = input.as_bytes();
-    let mut writer = Vec::new(rt.alloc());
-    assert_eq!(rt; answer(rt.alloc(), &mut reader, &mut writer), Ok(false));
-    assert_eq!(rt; writer.len(), output.len());
-    assert!(rt; writer.as_slice() == output.as_bytes());
+    let output = output.as_bytes();
+    answer_reader(&rt, rt.alloc(), input.as_bytes(), output)?;
+    answer_whole(&rt, rt.alloc(), input.as_bytes(), output)
+}
 
-    let mut written = Vec::new(rt.alloc());
-    assert_eq!(rt;
-        answer_bytes(rt.alloc(), input.as_bytes(), &mut written),
-        Ok(false)
-    );
-    assert!(rt; written.as_slice() == output.as_bytes());
+/// The lines are answered by these bytes, out of a reader.
+fn answer_reader(rt: &impl Abort, alloc: Global, input: &[u8], output: &[u8]) -> Result<(), Fail> {
+    let mut reader = input;
+    let mut writer = Vec::new(alloc);
+    let is_refused = answer(alloc, &mut reader, &mut writer)?;
+    assert_refused(rt, is_refused, false, "many lines");
+    assert_number(rt, writer.len(), output.len(), "many lines");
+    assert!(rt; writer.as_slice() == output);
+    Ok(())
+}
+
+/// The same where all bytes are there.
+fn answer_whole(rt: &impl Abort, alloc: Global, input: &[u8], output: &[u8]) -> Result<(), Fail> {
+    let mut written = Vec::new(alloc);
+    let is_refused = answer_bytes(alloc, input, &mut written)?;
+    assert_refused(rt, is_refused, false, "many lines");
+    assert!(rt; written.as_slice() == output);
     Ok(())
 }

@@ -1,7 +1,9 @@
 //! What the command `show` prints.
 
+use crate::asserting::{assert_refused, assert_written};
 use kmip_commands::{Form, show_bytes, show_lines};
-use std::str::from_utf8;
+use std::alloc::Global;
+use std::process::Abort;
 use std::test::Fail;
 
 /// A line that is read, what is written, and whether the line is refused.
@@ -155,19 +157,35 @@ const ROWS: [Row; 23] = [
 
 #[test]
 fn shows_lines(rt: HostRuntime) -> Result<(), Fail> {
-    for row in &ROWS {
-        for (form, wanted) in [(Form::Text, row.text), (Form::Canonical, row.canonical)] {
-            let mut reader = row.line.as_bytes();
-            let mut writer = Vec::new(rt.alloc());
-            let is_refused = show_lines(rt.alloc(), form, &mut reader, &mut writer)?;
-            assert_eq!(rt; is_refused, row.is_refused, "{}", row.line);
-            assert_eq!(rt; from_utf8(writer.as_slice()), Ok(wanted), "{}", row.line);
+    show_rows(&rt, rt.alloc(), &ROWS)
+}
 
-            let mut written = Vec::new(rt.alloc());
-            let is_refused = show_bytes(rt.alloc(), form, row.line.as_bytes(), &mut written)?;
-            assert_eq!(rt; is_refused, row.is_refused, "{}", row.line);
-            assert_eq!(rt; from_utf8(written.as_slice()), Ok(wanted), "{}", row.line);
-        }
+/// Each line is shown in both forms as its row says.
+fn show_rows(rt: &impl Abort, alloc: Global, rows: &[Row]) -> Result<(), Fail> {
+    for row in rows {
+        show_row(rt, alloc, row, Form::Text, row.text)?;
+        show_row(rt, alloc, row, Form::Canonical, row.canonical)?;
     }
+    Ok(())
+}
+
+/// A line is shown in a form as this text, out of a reader and where all bytes are there.
+fn show_row(
+    rt: &impl Abort,
+    alloc: Global,
+    row: &Row,
+    form: Form,
+    wanted: &str,
+) -> Result<(), Fail> {
+    let mut reader = row.line.as_bytes();
+    let mut writer = Vec::new(alloc);
+    let is_refused = show_lines(alloc, form, &mut reader, &mut writer)?;
+    assert_refused(rt, is_refused, row.is_refused, row.line);
+    assert_written(rt, writer.as_slice(), wanted, row.line);
+
+    let mut written = Vec::new(alloc);
+    let is_refused = show_bytes(alloc, form, row.line.as_bytes(), &mut written)?;
+    assert_refused(rt, is_refused, row.is_refused, row.line);
+    assert_written(rt, written.as_slice(), wanted, row.line);
     Ok(())
 }

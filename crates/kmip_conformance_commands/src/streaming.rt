@@ -1,5 +1,6 @@
 //! What the command `answer --stream` prints.
 
+use crate::asserting::{assert_status, assert_written};
 use crate::readers::PieceReader;
 use crate::texts::text_of;
 use kmip_commands::{
@@ -8,7 +9,7 @@ use kmip_commands::{
 };
 use kmip_frames::FrameFault;
 use kmip_vectors::{CREATE_K1, CREATE_K1_REPLY, INVALID_MESSAGE_REPLY, LOCATE_K1, LOCATE_K1_NONE};
-use std::alloc::Global;
+use std::alloc::{AllocError, Global};
 use std::process::Abort;
 use std::str::from_utf8;
 use std::test::Fail;
@@ -113,49 +114,75 @@ fn assert_answers(
     let mut reader = input;
     let mut writer = Vec::new(alloc);
     let outcome = answer_stream(alloc, &mut reader, &mut writer)?;
-    let whole = StreamOutcome {
-        end: InputEnd::Whole,
-        has_refused,
+    assert_outcome(rt, outcome, InputEnd::Whole, has_refused, "two messages");
+    assert_written(rt, writer.as_slice(), output, "two messages");
+    Ok(())
+}
+
+/// This has become of a stream.
+fn assert_outcome(
+    rt: &impl Abort,
+    outcome: StreamOutcome,
+    end: InputEnd,
+    has_refused: bool,
+    name: &str,
+) {
+    assert_eq!(rt; outcome, StreamOutcome { end, has_refused }, "{name}");
+}
+
+/// The lines of a row are answered as it says, out of a reader.
+fn assert_answered(
+    rt: &impl Abort,
+    alloc: Global,
+    row: &Row,
+    input: &[u8],
+    output: &str,
+) -> Result<(), Fail> {
+    let mut reader = input;
+    let mut writer = Vec::new(alloc);
+    let outcome = answer_stream(alloc, &mut reader, &mut writer)?;
+    assert_outcome(rt, outcome, row.end, row.has_refused, row.name);
+    assert_written(rt, writer.as_slice(), output, row.name);
+    Ok(())
+}
+
+/// The command ends by what became of the stream.
+fn assert_ended(rt: &impl Abort, alloc: Global, row: &Row, input: &[u8], output: &str) {
+    let wanted = if row.end == InputEnd::Whole && !row.has_refused {
+        ExitStatus::Done
+    } else {
+        ExitStatus::Refused
     };
-    assert_eq!(rt; outcome, whole);
-    assert_eq!(rt; from_utf8(writer.as_slice()), Ok(output));
+    let mut reader = input;
+    let mut writer = Vec::new(alloc);
+    let status = run_answer_stream(alloc, &mut reader, &mut writer);
+    assert_status(rt, status, wanted, row.name);
+    assert_written(rt, writer.as_slice(), output, row.name);
+}
+
+/// The lines of a row are answered as it says, where all bytes are there.
+fn assert_answered_whole(
+    rt: &impl Abort,
+    alloc: Global,
+    row: &Row,
+    input: &[u8],
+    output: &str,
+) -> Result<(), Fail> {
+    let mut written = Vec::new(alloc);
+    let outcome = answer_stream_bytes(alloc, input, &mut written)?;
+    assert_outcome(rt, outcome, row.end, row.has_refused, row.name);
+    assert_written(rt, written.as_slice(), output, row.name);
     Ok(())
 }
 
 #[test]
 fn answers_streams(rt: HostRuntime) -> Result<(), Fail> {
     for row in &ROWS {
-        let name = row.name;
         let input = text_of(rt.alloc(), row.input)?;
         let output = text_of(rt.alloc(), row.output)?;
-        let mut reader = input.as_bytes();
-        let mut writer = Vec::new(rt.alloc());
-        let outcome = answer_stream(rt.alloc(), &mut reader, &mut writer)?;
-        assert_eq!(rt; outcome.end, row.end, "{name}");
-        assert_eq!(rt; outcome.has_refused, row.has_refused, "{name}");
-        assert_eq!(rt; from_utf8(writer.as_slice()), Ok(output.as_str()), "{name}");
-
-        let mut reader = input.as_bytes();
-        let mut writer = Vec::new(rt.alloc());
-        let status = run_answer_stream(rt.alloc(), &mut reader, &mut writer);
-        let is_done = row.end == InputEnd::Whole && !row.has_refused;
-        let wanted = if is_done {
-            ExitStatus::Done
-        } else {
-            ExitStatus::Refused
-        };
-        assert_eq!(rt; status, wanted, "{name}");
-        assert_eq!(rt; from_utf8(writer.as_slice()), Ok(output.as_str()), "{name}");
-
-        let mut written = Vec::new(rt.alloc());
-        let outcome = answer_stream_bytes(rt.alloc(), input.as_bytes(), &mut written)?;
-        assert_eq!(rt; outcome.end, row.end, "{name}");
-        assert_eq!(rt; outcome.has_refused, row.has_refused, "{name}");
-        assert_eq!(rt;
-            from_utf8(written.as_slice()),
-            Ok(output.as_str()),
-            "{name}"
-        );
+        assert_answered(&rt, rt.alloc(), row, input.as_bytes(), output.as_str())?;
+        assert_ended(&rt, rt.alloc(), row, input.as_bytes(), output.as_str());
+        assert_answered_whole(&rt, rt.alloc(), row, input.as_bytes(), output.as_str())?;
     }
     Ok(())
 }
@@ -165,21 +192,31 @@ fn answers_however_the_stream_is_cut(rt: HostRuntime) -> Result<(), Fail> {
     let output = text_of(rt.alloc(), &[LOCATE_K1_NONE, CREATE_K1_REPLY])?;
     let text = format!(in rt.alloc(); "{LOCATE_K1}{CREATE_K1}")?;
     let digits = text.as_bytes();
-    let mut input = Vec::new(rt.alloc());
     for place in 0..=digits.len() / 2 {
         let (first, second) = digits.split_at(2 * place);
-        input.clear();
-        input.extend_from_slice(first)?;
-        input.push(b'\n')?;
-        input.extend_from_slice(second)?;
+        let input = cut_at(rt.alloc(), first, second)?;
         assert_answers(&rt, rt.alloc(), input.as_slice(), output.as_str(), false)?;
     }
-    input.clear();
+    let input = byte_by_byte(rt.alloc(), digits)?;
+    assert_answers(&rt, rt.alloc(), input.as_slice(), output.as_str(), false)
+}
+
+/// Two lines.
+fn cut_at(alloc: Global, first: &[u8], second: &[u8]) -> Result<Vec<u8>, AllocError> {
+    let mut input = Vec::from_slice(alloc, first)?;
+    input.push(b'\n')?;
+    input.extend_from_slice(second)?;
+    Ok(input)
+}
+
+/// A line for each byte, of two digits.
+fn byte_by_byte(alloc: Global, digits: &[u8]) -> Result<Vec<u8>, AllocError> {
+    let mut input = Vec::new(alloc);
     for byte in digits.chunks(2) {
         input.extend_from_slice(byte)?;
         input.push(b'\n')?;
     }
-    assert_answers(&rt, rt.alloc(), input.as_slice(), output.as_str(), false)
+    Ok(input)
 }
 
 #[test]
@@ -200,18 +237,25 @@ fn answers_messages_before_the_reader_fails(rt: HostRuntime) -> Result<(), Fail>
     let (first, second) = LOCATE_K1.split_at(200);
     let input = text_of(rt.alloc(), &[first, second, "42"])?;
     let output = text_of(rt.alloc(), &[LOCATE_K1_NONE, "cannot read input"])?;
-    for (piece_len, kept) in [(1000, 370), (1000, 373), (7, 370), (7, 372)] {
-        let bytes = &input.as_bytes()[..kept.min(input.len())];
-        let mut writer = Vec::new(rt.alloc());
-        let mut reader = PieceReader::failing(bytes, piece_len);
-        let fault = answer_stream(rt.alloc(), &mut reader, &mut writer);
-        assert_eq!(rt; fault, Err(CommandFault::Input));
-
-        let mut writer = Vec::new(rt.alloc());
-        let mut reader = PieceReader::failing(bytes, piece_len);
-        let status = run_answer_stream(rt.alloc(), &mut reader, &mut writer);
-        assert_eq!(rt; status, ExitStatus::Failed(CommandFault::Input));
-        assert_eq!(rt; from_utf8(writer.as_slice()), Ok(output.as_str()));
+    for (piece_len, kept) in &[(1000, 370), (1000, 373), (7, 370), (7, 372)] {
+        let (bytes, _) = input.as_bytes().split_at(input.len().min(*kept));
+        fail_behind(&rt, rt.alloc(), bytes, *piece_len, output.as_str());
     }
     Ok(())
+}
+
+/// A reader that gives these bytes in pieces of this length, and then fails, ends the command, which wrote
+/// this before.
+fn fail_behind(rt: &impl Abort, alloc: Global, bytes: &[u8], piece_len: usize, output: &str) {
+    let failed = ExitStatus::Failed(CommandFault::Input);
+    let mut writer = Vec::new(alloc);
+    let mut reader = PieceReader::failing(bytes, piece_len);
+    let fault = answer_stream(alloc, &mut reader, &mut writer).err();
+    assert!(rt; fault == Some(CommandFault::Input), "{piece_len}");
+
+    let mut writer = Vec::new(alloc);
+    let mut reader = PieceReader::failing(bytes, piece_len);
+    let status = run_answer_stream(alloc, &mut reader, &mut writer);
+    assert_status(rt, status, failed, output);
+    assert_written(rt, writer.as_slice(), output, output);
 }

@@ -1,10 +1,13 @@
 //! Messages with one byte changed, read as items and taken from a stream.
 
+ghost use Rattle.std.specs.Prelude.{◌<◌, length};
+
+use crate::asserting::{assert_fed, assert_holds, assert_size};
 use crate::framing::assert_failed;
 use crate::items::size_of;
 use kmip_frames::{FrameFault, Framer};
 use kmip_ttlv::{TtlvFault, fits, read, write};
-use kmip_vectors::{ALL, CHANGES, CREATE_K1, CREATE_K1_REPLY, LOCATE_K1, LOCATE_K1_FOUND, changed};
+use kmip_vectors::{ALL, CREATE_K1, CREATE_K1_REPLY, LOCATE_K1, LOCATE_K1_FOUND, changed};
 use std::alloc::Global;
 use std::process::Abort;
 use std::test::Fail;
@@ -26,6 +29,12 @@ fn is_spelled(written: &[u8], bytes: &[u8]) -> bool {
             .all(|(written, byte)| written == byte || *written == 0)
 }
 
+/// What was written is the bytes but for padding, and is read again to its end.
+fn assert_spelled(rt: &impl Abort, alloc: Global, written: &[u8], bytes: &[u8]) {
+    assert!(rt; is_spelled(written, bytes), "{bytes:?}");
+    assert_size(rt, size_of(rt, alloc, written), Ok(bytes.len()), "written");
+}
+
 /// What is read can be written as it stands in the bytes, and what is refused is at fault in them.
 fn try_bytes(rt: &impl Abort, alloc: Global, bytes: &[u8]) -> Result<(), Fail> {
     match read(alloc, bytes) {
@@ -33,8 +42,7 @@ fn try_bytes(rt: &impl Abort, alloc: Global, bytes: &[u8]) -> Result<(), Fail> {
             assert!(rt; fits(&item) && size <= bytes.len());
             let mut again = Vec::new(alloc);
             write(&item, &mut again)?;
-            assert!(rt; is_spelled(again.as_slice(), &bytes[..size]), "{bytes:?}");
-            assert_eq!(rt; size_of(rt, alloc, again.as_slice()), Ok(size), "{bytes:?}");
+            assert_spelled(rt, alloc, again.as_slice(), &bytes[..size]);
         }
         Err(fault) => {
             let is_inside = fault.offset().is_some_and(|at| at < bytes.len());
@@ -47,14 +55,27 @@ fn try_bytes(rt: &impl Abort, alloc: Global, bytes: &[u8]) -> Result<(), Fail> {
 #[test]
 fn reads_what_it_can_write_again(rt: HostRuntime) -> Result<(), Fail> {
     for (text, _) in &MESSAGES {
-        let bytes = hex::decode(rt.alloc(), *text)?;
-        for (place, old) in bytes.iter().enumerate() {
-            for (kept, turned) in CHANGES {
-                let value = (*old & kept) ^ turned;
-                let changed = changed(rt.alloc(), bytes.as_slice(), place, value)?;
-                try_bytes(&rt, rt.alloc(), changed.as_slice())?;
-            }
-        }
+        try_changes(&rt, rt.alloc(), text)?;
+    }
+    Ok(())
+}
+
+/// The same of a message with each byte in turn changed to each other one.
+fn try_changes(rt: &impl Abort, alloc: Global, text: &str) -> Result<(), Fail> {
+    let bytes = hex::decode(alloc, text)?;
+    for place in 0..bytes.len() {
+        try_place(rt, alloc, bytes.as_slice(), place)?;
+    }
+    Ok(())
+}
+
+/// The same with each byte at this place.
+fn try_place(rt: &impl Abort, alloc: Global, bytes: &[u8], place: usize) -> Result<(), Fail>
+    requires { place < length bytes.now }
+{
+    for value in 0..=255 {
+        let changed = changed(alloc, bytes, place, value)?;
+        try_bytes(rt, alloc, changed.as_slice())?;
     }
     Ok(())
 }
@@ -88,18 +109,36 @@ fn judges_each_head(rt: HostRuntime) -> Result<(), Fail> {
     for (text, header_end) in &MESSAGES {
         let bytes = hex::decode(rt.alloc(), *text)?;
         for place in 0..bytes.len().min(8) {
-            for value in 0..=255 {
-                let changed = changed(rt.alloc(), bytes.as_slice(), place, value)?;
-                let outcome = size_of(&rt, rt.alloc(), changed.as_slice());
-                if let [_, _, _, item_type, a, b, c, d, ..] = changed.as_slice() {
-                    let len = u32::from_be_bytes([*a, *b, *c, *d]) as usize;
-                    let wanted = outcome_of(*item_type, len, bytes.len(), *header_end);
-                    assert_eq!(rt; outcome, wanted, "{value} at {place} of {text}");
-                }
-            }
+            judge_heads(&rt, rt.alloc(), bytes.as_slice(), *header_end, place)?;
         }
     }
     Ok(())
+}
+
+/// What comes of a message with each byte at this place of its head.
+fn judge_heads(
+    rt: &impl Abort,
+    alloc: Global,
+    bytes: &[u8],
+    header_end: usize,
+    place: usize,
+) -> Result<(), Fail>
+    requires { place < length bytes.now }
+{
+    for value in 0..=255 {
+        let changed = changed(alloc, bytes, place, value)?;
+        judge_head(rt, alloc, changed.as_slice(), header_end);
+    }
+    Ok(())
+}
+
+/// What comes of a message with this head.
+fn judge_head(rt: &impl Abort, alloc: Global, bytes: &[u8], header_end: usize) {
+    if let [_, _, _, item_type, a, b, c, d, ..] = bytes {
+        let len = u32::from_be_bytes([*a, *b, *c, *d]) as usize;
+        let wanted = outcome_of(*item_type, len, bytes.len(), header_end);
+        assert_size(rt, size_of(rt, alloc, bytes), wanted, "a head");
+    }
 }
 
 /// The size that the head of a message says, or why it is no head of one.
@@ -128,14 +167,25 @@ fn assert_framed(
     let size = match size_said(head) {
         Ok(size) => size,
         Err(fault) => {
-            assert_eq!(rt; framer.feed(bytes), Err(fault), "{bytes:?}");
+            assert_fed(rt, framer.feed(bytes), Err(fault), fault.name());
             return assert_failed(rt, alloc, framer, fault.name());
         }
     };
+    assert_taken(rt, alloc, framer, bytes, size)
+}
+
+/// A framer that holds nothing takes the bytes of a message of this size, and hands it over where it is
+/// whole.
+fn assert_taken(
+    rt: &impl Abort,
+    alloc: Global,
+    framer: &mut Framer,
+    bytes: &[u8],
+    size: usize,
+) -> Result<(), Fail> {
     let taken = size.min(bytes.len());
-    assert_eq!(rt; framer.feed(bytes), Ok(taken), "{bytes:?}");
-    assert_eq!(rt; framer.pending(), taken, "{bytes:?}");
-    assert_eq!(rt; framer.wants(), size.saturating_sub(taken), "{bytes:?}");
+    assert_fed(rt, framer.feed(bytes), Ok(taken), "a message");
+    assert_holds(rt, framer, taken, size.saturating_sub(taken), "a message");
     match framer.next(alloc)? {
         Some(message) => assert_eq!(rt; message.as_slice(), &bytes[..size.min(taken)]),
         None => assert!(rt; taken < size && framer.pending() == taken, "{bytes:?}"),
@@ -145,17 +195,25 @@ fn assert_framed(
 
 #[test]
 fn frames_by_the_head_alone(rt: HostRuntime) -> Result<(), Fail> {
-    let mut framer = Framer::new(rt.alloc())?;
     for (_, text) in &ALL {
         let bytes = hex::decode(rt.alloc(), *text)?;
         for place in 0..bytes.len() {
-            for value in 0..=255 {
-                let changed = changed(rt.alloc(), bytes.as_slice(), place, value)?;
-                assert_framed(&rt, rt.alloc(), &mut framer, changed.as_slice())?;
-                if framer.pending() > 0 {
-                    framer = Framer::new(rt.alloc())?;
-                }
-            }
+            frame_changes(&rt, rt.alloc(), bytes.as_slice(), place)?;
+        }
+    }
+    Ok(())
+}
+
+/// A framer is fed a message with each byte at this place, one after the other.
+fn frame_changes(rt: &impl Abort, alloc: Global, bytes: &[u8], place: usize) -> Result<(), Fail>
+    requires { place < length bytes.now }
+{
+    let mut framer = Framer::new(alloc)?;
+    for value in 0..=255 {
+        let changed = changed(alloc, bytes, place, value)?;
+        assert_framed(rt, alloc, &mut framer, changed.as_slice())?;
+        if framer.pending() > 0 {
+            framer = Framer::new(alloc)?;
         }
     }
     Ok(())

@@ -1,5 +1,6 @@
 //! Items of TTLV read from bytes and written back.
 
+use crate::asserting::{assert_number, assert_size, assert_text, assert_true};
 use kmip_ttlv::{Bytes, Item, Tag, Text, TtlvFault, fits, read, write};
 use kmip_vectors::{ALL, LOCATE_K1};
 use std::alloc::{AllocError, Global};
@@ -35,20 +36,11 @@ fn example(alloc: Global, place: usize) -> Result<Item, AllocError> {
         0 => structure(alloc, tag),
         1 => Ok(Item::integer(tag, 8)),
         2 => Ok(Item::long_integer(tag, 123_456_789_000_000_000)),
-        3 => {
-            let digits = Bytes::copied(alloc, &DIGITS)?;
-            Ok(Item::big_integer(tag, digits))
-        }
+        3 => Ok(Item::big_integer(tag, Bytes::copied(alloc, &DIGITS)?)),
         4 => Ok(Item::enumeration(tag, 255)),
         5 => Ok(Item::boolean(tag, true)),
-        6 => {
-            let text = Text::copied(alloc, "Hello World")?;
-            Ok(Item::text_string(tag, text))
-        }
-        7 => {
-            let bytes = Bytes::copied(alloc, &[1, 2, 3])?;
-            Ok(Item::byte_string(tag, bytes))
-        }
+        6 => Ok(Item::text_string(tag, Text::copied(alloc, "Hello World")?)),
+        7 => Ok(Item::byte_string(tag, Bytes::copied(alloc, &[1, 2, 3])?)),
         8 => Ok(Item::date_time(tag, 1_205_495_800)),
         9 => Ok(Item::interval(tag, 864_000)),
         _ => Ok(Item::date_time_extended(tag, 1_205_495_800_123_456)),
@@ -74,9 +66,36 @@ pub fn size_of(rt: &impl Abort, alloc: Global, bytes: &[u8]) -> Result<usize, Tt
 fn written_back(rt: &impl Abort, alloc: Global, text: &str) -> Result<String, Fail> {
     let bytes = hex::decode(alloc, text)?;
     let (item, size) = read(alloc, bytes.as_slice())?;
-    assert_eq!(rt; size, bytes.len(), "{text}");
-    let text = written(rt, alloc, &item)?;
-    Ok(text)
+    assert_number(rt, size, bytes.len(), text);
+    written(rt, alloc, &item)
+}
+
+/// The text is read and written back as the wanted one.
+fn write_back(rt: &impl Abort, alloc: Global, text: &str, wanted: &str) -> Result<(), Fail> {
+    let again = written_back(rt, alloc, text)?;
+    assert_text(rt, again.as_str(), wanted, text);
+    Ok(())
+}
+
+/// The item of `EXAMPLES` at a place is read, written back and written as it stands there.
+fn write_example(rt: &impl Abort, alloc: Global, place: usize, text: &str) -> Result<(), Fail> {
+    write_back(rt, alloc, text, text)?;
+    let item = example(alloc, place)?;
+    let first = written(rt, alloc, &item)?;
+    assert_text(rt, first.as_str(), text, text);
+    Ok(())
+}
+
+/// What `read` says of these bytes.
+fn judge(
+    rt: &impl Abort,
+    alloc: Global,
+    text: &str,
+    wanted: Result<usize, TtlvFault>,
+) -> Result<(), Fail> {
+    let bytes = hex::decode(alloc, text)?;
+    assert_size(rt, size_of(rt, alloc, bytes.as_slice()), wanted, text);
+    Ok(())
 }
 
 /// The written form of an item, in hexadecimal.
@@ -147,90 +166,95 @@ const REFUSED: [(&str, TtlvFault); 22] = [
 
 #[test]
 fn reads_and_writes_back(rt: HostRuntime) -> Result<(), Fail> {
-    for (name, text) in &ALL {
-        let again = written_back(&rt, rt.alloc(), text)?;
-        assert_eq!(rt; again.as_str(), *text, "{name}");
+    for (_, text) in &ALL {
+        write_back(&rt, rt.alloc(), text, text)?;
     }
     for (place, text) in EXAMPLES.iter().enumerate() {
-        let again = written_back(&rt, rt.alloc(), text)?;
-        assert_eq!(rt; again.as_str(), *text);
-        let item = example(rt.alloc(), place)?;
-        let first = written(&rt, rt.alloc(), &item)?;
-        assert_eq!(rt; first.as_str(), *text);
+        write_example(&rt, rt.alloc(), place, text)?;
     }
-    let again = written_back(
-        &rt,
-        rt.alloc(),
-        "420020070000000b48656c6c6f20576f726c64ffffffffff",
-    )?;
-    assert_eq!(rt;
-        again.as_str(),
-        "420020070000000b48656c6c6f20576f726c640000000000"
-    );
-    Ok(())
+    let padded = "420020070000000b48656c6c6f20576f726c64ffffffffff";
+    let wanted = "420020070000000b48656c6c6f20576f726c640000000000";
+    write_back(&rt, rt.alloc(), padded, wanted)
 }
 
 #[test]
 fn refuses_with_the_first_fault(rt: HostRuntime) -> Result<(), Fail> {
     for (text, wanted) in &REFUSED {
-        let bytes = hex::decode(rt.alloc(), *text)?;
-        let fault = size_of(&rt, rt.alloc(), bytes.as_slice());
-        assert_eq!(rt; fault, Err(*wanted), "{text}");
+        judge(&rt, rt.alloc(), text, Err(*wanted))?;
     }
     let mut bytes = hex::decode(rt.alloc(), LOCATE_K1)?;
     bytes.push(0)?;
-    let size = size_of(&rt, rt.alloc(), bytes.as_slice());
-    assert_eq!(rt; size, Ok(184));
-    for (len, wanted) in [
-        (0xB8, TtlvFault::Short(0)),
-        (0xA8, TtlvFault::ChildrenOverrun(72)),
-    ] {
-        if let Some(byte) = bytes.get_mut(7) {
-            *byte = len;
-        }
-        let fault = size_of(&rt, rt.alloc(), bytes.as_slice());
-        assert_eq!(rt; fault, Err(wanted), "with a length of {len}");
-    }
+    judge_with_length(&rt, rt.alloc(), &mut bytes, 0xB0, Ok(184));
+    judge_with_length(&rt, rt.alloc(), &mut bytes, 0xB8, Err(TtlvFault::Short(0)));
+    let overrun = Err(TtlvFault::ChildrenOverrun(72));
+    judge_with_length(&rt, rt.alloc(), &mut bytes, 0xA8, overrun);
     Ok(())
+}
+
+/// What `read` says of the bytes with this last byte of the length.
+fn judge_with_length(
+    rt: &impl Abort,
+    alloc: Global,
+    bytes: &mut Vec<u8>,
+    len: u8,
+    wanted: Result<usize, TtlvFault>,
+) {
+    if let Some(byte) = bytes.get_mut(7) {
+        *byte = len;
+    }
+    assert_size(
+        rt,
+        size_of(rt, alloc, bytes.as_slice()),
+        wanted,
+        "another length",
+    );
 }
 
 #[test]
 fn lacks_the_end_of_each_message(rt: HostRuntime) -> Result<(), Fail> {
     for (name, text) in &ALL {
-        let bytes = hex::decode(rt.alloc(), *text)?;
-        for size in 0..bytes.len() {
-            let fault = size_of(&rt, rt.alloc(), &bytes[..size]);
-            assert_eq!(rt;
-                fault,
-                Err(TtlvFault::Short(0)),
-                "the first {size} bytes of {name}"
-            );
-        }
+        lack_each_end(&rt, rt.alloc(), name, text)?;
     }
     Ok(())
 }
 
+/// Each front of a message is too short.
+fn lack_each_end(rt: &impl Abort, alloc: Global, name: &str, text: &str) -> Result<(), Fail> {
+    let bytes = hex::decode(alloc, text)?;
+    for size in 0..bytes.len() {
+        let fault = size_of(rt, alloc, &bytes[..size]);
+        assert_size(rt, fault, Err(TtlvFault::Short(0)), name);
+    }
+    Ok(())
+}
+
+/// How many levels of Structures, and what `read` says of them.
+const LEVELS: [(u32, Result<usize, TtlvFault>); 4] = [
+    (1, Ok(8)),
+    (16, Ok(128)),
+    (17, Err(TtlvFault::TooDeep(128))),
+    (1000, Err(TtlvFault::TooDeep(128))),
+];
+
+/// The length of a Byte String, how many bytes there are of it, and what `read` says of them.
+const LENGTHS: [(u32, usize, Result<usize, TtlvFault>); 4] = [
+    (8184, 8184, Ok(8192)),
+    (8184, 8183, Err(TtlvFault::Short(0))),
+    (8185, 8192, Err(TtlvFault::TooLong(0))),
+    (8185, 8, Err(TtlvFault::TooLong(0))),
+];
+
 #[test]
 fn keeps_to_its_limits(rt: HostRuntime) -> Result<(), Fail> {
-    for (levels, wanted) in [
-        (1, Ok(8)),
-        (16, Ok(128)),
-        (17, Err(TtlvFault::TooDeep(128))),
-        (1000, Err(TtlvFault::TooDeep(128))),
-    ] {
-        let bytes = nested(rt.alloc(), levels)?;
+    for (levels, wanted) in &LEVELS {
+        let bytes = nested(rt.alloc(), *levels)?;
         let outcome = size_of(&rt, rt.alloc(), bytes.as_slice());
-        assert_eq!(rt; outcome, wanted, "{levels} levels");
+        assert_size(&rt, outcome, *wanted, "levels");
     }
-    for (len, bytes_len, wanted) in [
-        (8184, 8184, Ok(8192)),
-        (8184, 8183, Err(TtlvFault::Short(0))),
-        (8185, 8192, Err(TtlvFault::TooLong(0))),
-        (8185, 8, Err(TtlvFault::TooLong(0))),
-    ] {
-        let bytes = byte_string(rt.alloc(), len, bytes_len)?;
+    for (len, bytes_len, wanted) in &LENGTHS {
+        let bytes = byte_string(rt.alloc(), *len, *bytes_len)?;
         let outcome = size_of(&rt, rt.alloc(), bytes.as_slice());
-        assert_eq!(rt; outcome, wanted, "{bytes_len} bytes of {len}");
+        assert_size(&rt, outcome, *wanted, "bytes");
     }
     Ok(())
 }
@@ -238,20 +262,20 @@ fn keeps_to_its_limits(rt: HostRuntime) -> Result<(), Fail> {
 #[test]
 fn fits_what_has_a_written_form(rt: HostRuntime) -> Result<(), Fail> {
     let tag = Tag::new(0x420020);
-    for (len, wanted) in [(0, true), (8184, true), (8185, false), (8192, false)] {
-        let bytes = vec![in rt.alloc(); 0; len]?;
+    for (len, wanted) in &[(0, true), (8184, true), (8185, false), (8192, false)] {
+        let bytes = vec![in rt.alloc(); 0; *len]?;
         let item = Item::byte_string(tag, Bytes::from_vec(bytes));
-        assert_eq!(rt; fits(&item), wanted, "{len} bytes");
+        assert_true(&rt, fits(&item) == *wanted, "bytes");
     }
-    for (len, wanted) in [(0, false), (4, false), (8, true), (12, false), (16, true)] {
-        let bytes = vec![in rt.alloc(); 0; len]?;
+    for (len, wanted) in &[(0, false), (4, false), (8, true), (12, false), (16, true)] {
+        let bytes = vec![in rt.alloc(); 0; *len]?;
         let item = Item::big_integer(tag, Bytes::from_vec(bytes));
-        assert_eq!(rt; fits(&item), wanted, "a number of {len} bytes");
+        assert_true(&rt, fits(&item) == *wanted, "a number");
     }
     let mut item = Item::structure(tag, Vec::new(rt.alloc()));
     for levels in 2..20 {
         item = Item::structure(tag, vec![in rt.alloc(); item]?);
-        assert_eq!(rt; fits(&item), levels <= 16, "{levels} levels");
+        assert_true(&rt, fits(&item) == (levels <= 16), "levels");
     }
     Ok(())
 }

@@ -4,6 +4,7 @@ use crate::items::size_of;
 use rand_chacha::ChaCha20Rng;
 use rand_core::{Rng, SeedableRng};
 use std::alloc::{AllocError, Global};
+use std::process::Abort;
 use std::test::Fail;
 
 const BOOLEAN: u8 = 0x06;
@@ -135,18 +136,21 @@ fn reads_what_is_well_nested(rt: HostRuntime) -> Result<(), Fail> {
         let levels = rng.next_u32() % 41;
         let damage = damage_of(&mut rng, round, levels);
         let bytes = nested(rt.alloc(), &mut rng, levels, damage)?;
-        let size = bytes.len();
-        let outcome = size_of(&rt, rt.alloc(), bytes.as_slice());
-        if damage == Damage::None && levels < 16 && size <= 8192 {
-            assert_eq!(rt; outcome, Ok(size), "{levels} levels, round {round}");
-            read_count = read_count.saturating_add(1);
-        } else {
-            assert!(rt;
-                outcome.is_err(),
-                "{levels} levels, {damage:?}, round {round}"
-            );
-        }
+        let is_whole = damage == Damage::None && levels < 16 && bytes.len() <= 8192;
+        assert_read(&rt, rt.alloc(), bytes.as_slice(), is_whole, round);
+        read_count = read_count.saturating_add(u32::from(is_whole));
     }
     assert!(rt; read_count > 50, "{read_count} read");
     Ok(())
+}
+
+/// The bytes are read to their end where they are whole, and else refused.
+fn assert_read(rt: &impl Abort, alloc: Global, bytes: &[u8], is_whole: bool, round: u32) {
+    let outcome = size_of(rt, alloc, bytes);
+    let is_right = if is_whole {
+        outcome == Ok(bytes.len())
+    } else {
+        outcome.is_err()
+    };
+    assert!(rt; is_right, "round {round}");
 }

@@ -1,0 +1,47 @@
+//! Assertions on what is borrowed: written out in a function that holds owned values they are dear to
+//! check.
+
+use kmip_frames::{FrameFault, Framer};
+use kmip_ttlv::TtlvFault;
+use std::process::Abort;
+
+/// The text is the wanted one; the case says which row it is of.
+pub fn assert_text(rt: &impl Abort, text: &str, wanted: &str, case: &str) {
+    assert_eq!(rt; text, wanted, "{case}");
+}
+
+/// The number is the wanted one.
+pub fn assert_number(rt: &impl Abort, number: usize, wanted: usize, case: &str) {
+    assert_eq!(rt; number, wanted, "{case}");
+}
+
+/// The size of an item, or the fault, is the wanted one.
+pub fn assert_size(
+    rt: &impl Abort,
+    size: Result<usize, TtlvFault>,
+    wanted: Result<usize, TtlvFault>,
+    case: &str,
+) {
+    assert_eq!(rt; size, wanted, "{case}");
+}
+
+/// The condition holds.
+pub fn assert_true(rt: &impl Abort, condition: bool, case: &str) {
+    assert!(rt; condition, "{case}");
+}
+
+/// How many bytes were taken, or the fault, is the wanted one.
+pub fn assert_fed(
+    rt: &impl Abort,
+    taken: Result<usize, FrameFault>,
+    wanted: Result<usize, FrameFault>,
+    case: &str,
+) {
+    assert_eq!(rt; taken, wanted, "{case}");
+}
+
+/// The framer holds this many bytes, and wants this many more.
+pub fn assert_holds(rt: &impl Abort, framer: &Framer, pending: usize, wants: usize, case: &str) {
+    assert_number(rt, framer.pending(), pending, case);
+    assert_number(rt, framer.wants(), wants, case);
+}
