@@ -157,24 +157,6 @@ pub const ASK_ACTIVATE: &str = "\
     4200930800000003126b31000000000042007901000000104200940700000001\
     3100000000000000";
 
-/// How a byte is changed, where not all others are put in its place: which of its bits are kept, and
-/// which are then turned over.
-pub const CHANGES: [(u8, u8); 13] = [
-    (0xFF, 0x01),
-    (0xFF, 0x02),
-    (0xFF, 0x04),
-    (0xFF, 0x08),
-    (0xFF, 0x10),
-    (0xFF, 0x20),
-    (0xFF, 0x40),
-    (0xFF, 0x80),
-    (0x00, 0x00),
-    (0x00, 0x01),
-    (0x00, 0x7F),
-    (0x00, 0x80),
-    (0x00, 0xFF),
-];
-
 /// The bytes with another value at one place.
 ///
 /// # Errors
