@@ -17,22 +17,27 @@ use std::alloc::{AllocError, Global};
 use std::process::Abort;
 use std::test::Fail;
 
-/// The number of the tag that a fault names.
-fn tag_told(fault: MessageFault) -> Option<u32> {
+/// What a fault is called, and the number of the tag that it names.
+fn told_of(fault: MessageFault) -> (&'static str, Option<u32>) {
     match fault {
-        MessageFault::Missing(tag)
-        | MessageFault::Twice(tag)
-        | MessageFault::WrongType(tag)
-        | MessageFault::OutOfRange(tag) => Some(tag.number()),
-        _ => None,
+        MessageFault::Version => ("Version", None),
+        MessageFault::BatchCount => ("BatchCount", None),
+        MessageFault::Missing(tag) => ("Missing", Some(tag.number())),
+        MessageFault::Twice(tag) => ("Twice", Some(tag.number())),
+        MessageFault::WrongType(tag) => ("WrongType", Some(tag.number())),
+        MessageFault::OutOfRange(tag) => ("OutOfRange", Some(tag.number())),
+        MessageFault::UnknownOperation => ("UnknownOperation", None),
+        MessageFault::Undo => ("Undo", None),
+        _ => ("another fault", None),
     }
 }
 
 /// A fault by its name, and the tag that it names.
 fn fault_text(alloc: Global, fault: MessageFault) -> Result<String, AllocError> {
-    match tag_told(fault) {
-        Some(tag) => format!(in alloc; "{} {tag:06x}", fault.name()),
-        None => format!(in alloc; "{}", fault.name()),
+    let (name, tag) = told_of(fault);
+    match tag {
+        Some(tag) => format!(in alloc; "{name} {tag:06x}"),
+        None => format!(in alloc; "{name}"),
     }
 }
 
@@ -114,15 +119,39 @@ fn bytes_with(
     bytes_of(rt, alloc, lines.as_slice())
 }
 
+/// The text is the wanted one.
+fn assert_text(rt: &impl Abort, text: &str, wanted: &str) {
+    assert_eq!(rt; text, wanted);
+}
+
+/// The bytes are the wanted ones.
+fn assert_bytes(rt: &impl Abort, bytes: &[u8], wanted: &[u8]) {
+    assert_eq!(rt; bytes, wanted);
+}
+
+/// What is read of a request with these changes is what the row says.
+fn try_request(rt: &impl Abort, alloc: Global, lines: &[Line], row: &BatchRow) -> Result<(), Fail> {
+    let bytes = bytes_with(rt, alloc, lines, row)?;
+    let told = request_told(alloc, bytes.as_slice())?;
+    assert_text(rt, told.as_str(), row.1);
+    Ok(())
+}
+
+/// What is read of a reply with these changes is what the row says.
+fn try_reply(rt: &impl Abort, alloc: Global, lines: &[Line], row: &BatchRow) -> Result<(), Fail> {
+    let bytes = bytes_with(rt, alloc, lines, row)?;
+    let told = reply_told(alloc, bytes.as_slice())?;
+    assert_text(rt, told.as_str(), row.1);
+    Ok(())
+}
+
 #[test]
 fn reads_two_questions_or_says_why_not(rt: HostRuntime) -> Result<(), Fail> {
     let mut lines = request_head(rt.alloc(), Some(Content::Enumeration(1)), 2)?;
     push_batch(&mut lines, &LOCATE)?;
     push_batch(&mut lines, &CREATE)?;
     for row in &REQUEST_ROWS {
-        let bytes = bytes_with(&rt, rt.alloc(), lines.as_slice(), row)?;
-        let told = request_told(rt.alloc(), bytes.as_slice())?;
-        assert_eq!(rt; told.as_str(), row.1);
+        try_request(&rt, rt.alloc(), lines.as_slice(), row)?;
     }
     Ok(())
 }
@@ -133,21 +162,20 @@ fn reads_two_replies_or_says_why_not(rt: HostRuntime) -> Result<(), Fail> {
     push_batch(&mut lines, &LOCATED)?;
     push_batch(&mut lines, &FAILED)?;
     for row in &REPLY_ROWS {
-        let bytes = bytes_with(&rt, rt.alloc(), lines.as_slice(), row)?;
-        let told = reply_told(rt.alloc(), bytes.as_slice())?;
-        assert_eq!(rt; told.as_str(), row.1);
+        try_reply(&rt, rt.alloc(), lines.as_slice(), row)?;
     }
     Ok(())
 }
 
 /// What is read of a request of these two Batch Items, the second of which is no Structure where it
-/// is none.
-fn told_of_two(
+/// is none, is this.
+fn try_two(
     rt: &impl Abort,
     alloc: Global,
     first: &[Line],
     second: Option<&[Line]>,
-) -> Result<String, Fail> {
+    wanted: &str,
+) -> Result<(), Fail> {
     let mut lines = request_head(alloc, None, 2)?;
     push_batch(&mut lines, first)?;
     match second {
@@ -156,47 +184,44 @@ fn told_of_two(
     }
     let bytes = bytes_of(rt, alloc, lines.as_slice())?;
     let told = request_told(alloc, bytes.as_slice())?;
-    Ok(told)
+    assert_text(rt, told.as_str(), wanted);
+    Ok(())
 }
 
 #[test]
 fn looks_at_all_items_before_any_is_read(rt: HostRuntime) -> Result<(), Fail> {
-    // The last lines of an Activate and of a Create: no Operation among them.
-    let (_, nameless) = ACTIVATE.split_at(1);
-    let told = told_of_two(&rt, rt.alloc(), nameless, None)?;
-    assert_eq!(rt; told.as_str(), "WrongType 42000f");
-    let told = told_of_two(&rt, rt.alloc(), &ACTIVATE, Some(nameless))?;
-    assert_eq!(rt; told.as_str(), "Missing 42005c");
-    let (head, _) = ACTIVATE.split_at(1);
-    let told = told_of_two(&rt, rt.alloc(), head, Some(&ACTIVATE))?;
-    assert_eq!(rt; told.as_str(), "stops: Missing 420079 of 18, 18");
+    // An Activate without its Operation, and with its Operation alone.
+    let (head, nameless) = ACTIVATE.split_at(1);
+    let refused = "stops: Missing 420079 of 18, 18";
+    try_two(&rt, rt.alloc(), nameless, None, "WrongType 42000f")?;
+    try_two(&rt, rt.alloc(), &ACTIVATE, Some(nameless), "Missing 42005c")?;
+    try_two(&rt, rt.alloc(), head, Some(&ACTIVATE), refused)
+}
+
+/// What is read of a request with so many questions, each an Activate, is this.
+fn try_count(rt: &impl Abort, alloc: Global, count: i32, wanted: &str) -> Result<(), Fail> {
+    let mut lines = request_head(alloc, None, count)?;
+    for _ in 0..count {
+        push_batch(&mut lines, &ACTIVATE)?;
+    }
+    let bytes = bytes_of(rt, alloc, lines.as_slice())?;
+    let told = request_told(alloc, bytes.as_slice())?;
+    assert_text(rt, told.as_str(), wanted);
     Ok(())
 }
 
 #[test]
 fn reads_one_to_eight_questions(rt: HostRuntime) -> Result<(), Fail> {
-    for count in 0..10 {
-        let mut lines = request_head(rt.alloc(), None, count)?;
-        for _ in 0..count {
-            push_batch(&mut lines, &ACTIVATE)?;
-        }
-        let bytes = bytes_of(&rt, rt.alloc(), lines.as_slice())?;
-        match read_request(rt.alloc(), bytes.as_slice()) {
-            Ok(batch) => {
-                assert!(rt; 1 <= count && count <= 8, "{count}");
-                assert_eq!(rt; batch.items.as_slice().len(), count as usize);
-            }
-            Err(fault) => {
-                assert_eq!(rt; fault, MessageFault::BatchCount);
-                assert!(rt; count == 0 || count == 9, "{count}");
-            }
-        }
-    }
-    Ok(())
+    try_count(&rt, rt.alloc(), 0, "BatchCount")?;
+    try_count(&rt, rt.alloc(), 1, "stops: 18")?;
+    try_count(&rt, rt.alloc(), 7, "stops: 18, 18, 18, 18, 18, 18, 18")?;
+    try_count(&rt, rt.alloc(), 8, "stops: 18, 18, 18, 18, 18, 18, 18, 18")?;
+    try_count(&rt, rt.alloc(), 9, "BatchCount")
 }
 
-/// The requests that a batch asks, none of which is refused.
-fn requests_of(alloc: Global, batch: Batch) -> Result<Vec<Request>, Fail> {
+/// The requests that the bytes ask, none of which is refused.
+fn requests_of(alloc: Global, bytes: &[u8]) -> Result<Vec<Request>, Fail> {
+    let batch = read_request(alloc, bytes)?;
     let mut requests = Vec::new(alloc);
     for question in batch.items.into_vec() {
         match question {
@@ -207,36 +232,49 @@ fn requests_of(alloc: Global, batch: Batch) -> Result<Vec<Request>, Fail> {
     Ok(requests)
 }
 
+/// The bytes of these requests in one message, which can be written.
+fn written(rt: &impl Abort, alloc: Global, requests: &[Request]) -> Result<Vec<u8>, Fail> {
+    assert!(rt; request_fits(requests));
+    let bytes = write_request(alloc, requests)?;
+    Ok(bytes)
+}
+
+/// A request is read, and written as it was.
+fn try_request_again(rt: &impl Abort, alloc: Global, text: &str) -> Result<(), Fail> {
+    let bytes = hex::decode(alloc, text)?;
+    let requests = requests_of(alloc, bytes.as_slice())?;
+    let again = written(rt, alloc, requests.as_slice())?;
+    assert_bytes(rt, again.as_slice(), bytes.as_slice());
+    Ok(())
+}
+
 #[test]
 fn writes_requests_as_they_are_known(rt: HostRuntime) -> Result<(), Fail> {
-    for (text, option, count) in [(LOCATE_K1, None, 1), (LOCATE_A_AND_B, Some(1), 2)] {
-        let bytes = hex::decode(rt.alloc(), text)?;
-        let batch = read_request(rt.alloc(), bytes.as_slice())?;
-        assert_eq!(rt; batch.option, option);
-        let requests = requests_of(rt.alloc(), batch)?;
-        assert_eq!(rt; requests.len(), count);
-        assert!(rt; request_fits(requests.as_slice()));
-        let again = write_request(rt.alloc(), requests.as_slice())?;
-        assert_eq!(rt; again.as_slice(), bytes.as_slice());
-    }
     assert!(rt; !request_fits(&[]));
+    try_request_again(&rt, rt.alloc(), LOCATE_K1)?;
+    try_request_again(&rt, rt.alloc(), LOCATE_A_AND_B)
+}
+
+/// The bytes of these replies in one message, which can be written.
+fn written_replies(rt: &impl Abort, alloc: Global, replies: &[Reply]) -> Result<Vec<u8>, Fail> {
+    assert!(rt; reply_fits(replies));
+    let bytes = write_reply(alloc, replies, 0)?;
+    Ok(bytes)
+}
+
+/// A reply is read, and written as it was.
+fn try_reply_again(rt: &impl Abort, alloc: Global, text: &str) -> Result<(), Fail> {
+    let bytes = hex::decode(alloc, text)?;
+    let replies = read_reply(alloc, bytes.as_slice())?;
+    let again = written_replies(rt, alloc, replies.as_slice())?;
+    assert_bytes(rt, again.as_slice(), bytes.as_slice());
     Ok(())
 }
 
 #[test]
 fn writes_replies_as_they_are_known(rt: HostRuntime) -> Result<(), Fail> {
-    for (text, count) in [
-        (LOCATE_K1_NONE, 1),
-        (CREATE_K1_REPLY, 1),
-        (LOCATE_A_AND_B_NONE, 2),
-    ] {
-        let bytes = hex::decode(rt.alloc(), text)?;
-        let replies = read_reply(rt.alloc(), bytes.as_slice())?;
-        assert_eq!(rt; replies.len(), count);
-        assert!(rt; reply_fits(replies.as_slice()));
-        let again = write_reply(rt.alloc(), replies.as_slice(), 0)?;
-        assert_eq!(rt; again.as_slice(), bytes.as_slice());
-    }
     assert!(rt; !reply_fits(&[]));
-    Ok(())
+    try_reply_again(&rt, rt.alloc(), LOCATE_K1_NONE)?;
+    try_reply_again(&rt, rt.alloc(), CREATE_K1_REPLY)?;
+    try_reply_again(&rt, rt.alloc(), LOCATE_A_AND_B_NONE)
 }
