@@ -4,3 +4,4 @@ mod BatchLaws
 mod ReplyLaws
 mod SizeLemmas
 mod ByteLemmas
+pub mod ForCallers

@@ -1,6 +1,6 @@
 -- The item of each message, and which have a written form.
 -- Source: KMIP 2.1, Message Structure; that Continue stands where two questions or more are asked is own.
-use Rattle.std.specs.Prelude.{ℕ, ◌+◌, ℤ, pos, Bool, ◌&&◌, nat_le, if◌then◌else◌, List, [], ◌∷◌, ◌++◌, length, map, Option, Some, None, Ok}
+use Rattle.std.specs.Prelude.{ℕ, ◌+◌, ℤ, pos, Bool, ◌&&◌, nat_le, if◌then◌else◌, List, [], ◌∷◌, ◌++◌, length, map, Option, Some, None, Ok, IsTrue}
 use Rattle.std.specs.List.{list_all}
 use Rattle.kmip_ttlv.specs.Limits.{most_bytes}
 use Rattle.kmip_ttlv.specs.Node.{Node, node}
@@ -10,6 +10,7 @@ use Rattle.kmip_messages.specs.declared.reply.Reply.{Reply}
 use Rattle.kmip_messages.specs.declared.request.Request.{Request}
 use Rattle.kmip_messages.specs.declared.standard.TheConstants.{TAG_REQUEST_MESSAGE, TAG_RESPONSE_MESSAGE, CONTINUE}
 use Rattle.kmip_messages.specs.BatchItems.{question_item, answer_item, answer_fits}
+use Rattle.kmip_messages.specs.MessageSizes.{IsBrief}
 use Rattle.kmip_messages.specs.RequestFits.{request_fits}
 use Rattle.kmip_batches.specs.declared.batch.Batch.{Batch}
 use Rattle.kmip_batches.specs.Headers.{header_format, reply_header_format}
@@ -47,3 +48,8 @@ answers_size (r ∷ rest) = size (answer_item r) + answers_size rest
 -- one to eight replies whose values are in their ranges, and whose message is not too long; it has one length at all times
 abbrev pub replies_fit : List Reply → Bool
 replies_fit rs = may_have (length rs) && list_all answer_fits rs && nat_le (size (replies_item rs (pos 0))) most_bytes
+
+-- a reply that can be written beside seven others of its kind: its values are in their ranges, and its outcome is brief
+pub record IsShort (r : Reply) : Type 0 where
+  pub fits : IsTrue (answer_fits r)
+  pub brief : IsBrief r.outcome

@@ -1,6 +1,8 @@
 //! The questions of a request.
 ghost use Rattle.std.specs.Prelude.{◌≡◌};
+ghost use Rattle.kmip_batches.specs.Items.{stops_with};
 
+use kmip_messages::standard::CONTINUE;
 use kmip_messages::{Refusal, Request};
 use std::marker::Model;
 
@@ -17,6 +19,18 @@ pub struct Batch {
 #[derive(Debug, Drop)]
 pub struct Questions {
     items: Vec<Result<Request, Refusal>>,
+}
+
+impl Batch {
+    /// Whether the questions behind the first failure are left: so it is but with the option Continue.
+    pub fn stops(&self) -> bool
+        ensures { result ≡ stops_with self.now.option }
+    {
+        match self.option {
+            Some(option) => option != CONTINUE,
+            None => true,
+        }
+    }
 }
 
 impl Model for Questions {

@@ -1,13 +1,14 @@
 -- For kmip_batches, as proofs/BatchItemLaws: how deep and how long the Batch Items of a message are, over which it goes by induction.
-use Rattle.std.proofs.Common.{◌≡◌, ℕ, ◌+◌, ◌≤◌, true, arith}
+use Rattle.std.proofs.Common.{◌≡◌, ℕ, ◌+◌, ◌≤◌, true, IsTrue, arith}
 use Rattle.std.specs.Option.{option_map_or}
 use Rattle.std.proofs.lemmas.Bool.{and_parts}
 use Rattle.kmip_ttlv.specs.Fitting.{HasWholeGroups, depth}
 use Rattle.kmip_ttlv.specs.Sizes.{size}
 use Rattle.kmip_messages.specs.declared.reply.Reply.{Reply}
 use Rattle.kmip_messages.specs.declared.request.Request.{Request}
-use Rattle.kmip_messages.specs.BatchItems.{question_item, answer_item}
-use Rattle.kmip_messages.specs.MessageSizes.{IsCapped, number_size}
+use Rattle.kmip_messages.specs.BatchItems.{question_item, answer_item, answer_fits}
+use Rattle.kmip_messages.specs.Fits.{outcome_fits}
+use Rattle.kmip_messages.specs.MessageSizes.{IsBrief, IsCapped, number_size}
 use Rattle.kmip_messages.specs.Parts.{id_format}
 use Rattle.kmip_messages.specs.Ranges.{is_batch_id}
 use Rattle.kmip_messages.specs.ReplyFormats.{outcome_format, answered_format}
@@ -15,7 +16,7 @@ use Rattle.kmip_messages.specs.RequestFits.{ask_fits, request_fits}
 use Rattle.kmip_messages.specs.RequestFormats.{known_format, asked_format, item_format}
 use Rattle.kmip_messages.proofs.ReplyLaws.{answered-good}
 use Rattle.kmip_messages.proofs.RequestLaws.{item-good}
-use Rattle.kmip_messages.proofs.WrittenLemmas.{IsWithin, ask_within, id_bound, outcome_depth}
+use Rattle.kmip_messages.proofs.WrittenLemmas.{IsWithin, ask_within, brief_bound, id_bound, number_bound, outcome_depth}
 
 -- ---- a question in its ranges
 
@@ -57,3 +58,9 @@ pub answer_capped : (r : Reply) (operation id outcome : ℕ) → operation ≡ n
 answer_capped r operation id outcome is_operation is_id is_outcome =
     let whole = answer_size r in
     (λ short. grind (arith, whole, is_operation, is_id, is_outcome, short), λ long. grind (arith, whole, is_operation, is_id, is_outcome, long))
+
+-- that of a reply in its ranges whose outcome is brief
+pub brief_size : (r : Reply) → IsTrue (answer_fits r) → IsBrief r.outcome → size (answer_item r) ≤ 567
+brief_size r fits brief =
+    let parts = and_parts (option_map_or is_batch_id r.id true) (outcome_fits r.operation r.outcome) fits in
+    omega (arith, answer_size r, id_bound r.id parts.0, number_bound r.operation, brief_bound r.operation r.outcome parts.1 brief)

@@ -95,7 +95,7 @@ uids_bound (uid ∷ uids) h =
     let parts = and_parts (is_identifier uid) (list_all is_identifier uids) h in
     omega (arith, uid_bound uid parts.0, uids_bound uids parts.1)
 
-pub brief_bound : (asked : Option ℕ) (o : Outcome) → outcome_fits asked o ≡ true → IsBrief o → ((outcome_format asked).extent o).size ≤ 1000
+pub brief_bound : (asked : Option ℕ) (o : Outcome) → outcome_fits asked o ≡ true → IsBrief o → ((outcome_format asked).extent o).size ≤ 400
 unfolding outcome_format success_format success_of_format answer_format created_format object_format located_format identifier_format attrs_format any_name_parts_format name_parts_format failed_format
 brief_bound asked (Created uid) fits brief = omega (arith, uid_bound uid (and_parts _ _ fits).1)
 brief_bound asked (Located uids) fits brief = omega (arith, uids_bound uids (and_parts _ _ fits).1, brief)

@@ -5,3 +5,4 @@ pub mod ChangeLemmas
 pub mod AgainLaws
 pub mod MessageLemmas
 pub mod SearchLaws
+mod BatchLemmas

@@ -5,4 +5,5 @@ pub mod ServerStep
 pub mod Again
 pub mod Shown
 pub mod Messages
+pub mod Batching
 pub mod Laws

@@ -2,7 +2,10 @@
 #![tactic(auto)]
 
 mod answering;
+mod batching;
+mod changing;
 pub mod laws;
+mod promising;
 mod reasons;
 mod server;
 

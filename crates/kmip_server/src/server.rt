@@ -1,5 +1,7 @@
 //! A server over the records of one store.
 ghost use Rattle.std.specs.Prelude.{◌≡◌, [], ◌∷◌, OnErr, OnOk, IfOk};
+ghost use Rattle.kmip_batches.specs.Items as batch;
+ghost use Rattle.kmip_server.specs.Batching.{batch_reply, replies_to, stock_after_batch, AreBegun, IsCutShort};
 ghost use Rattle.kmip_messages.specs.Items.{parts_in, replies_in, stops_in};
 ghost use Rattle.kmip_messages.specs.Whole.{request_read};
 ghost use Rattle.kmip_server.specs.Messages.{AreServed};
@@ -8,6 +10,7 @@ ghost use Rattle.kmip_server.specs.Shown.{HasLawfulObjects};
 ghost use Rattle.kmip_store.specs.Stock.{IsKept};
 
 use crate::answering::{answer, refuse_message};
+use crate::batching::{answer_all, refuse_batch};
 use crate::laws::serving_is_a_step;
 use kmip_messages::laws::question_laws;
 use kmip_messages::read_request;
@@ -77,6 +80,61 @@ impl<S: Records> Server<S> {
         let reply = self.handle_message(alloc, message, now);
         let _after = self.store.count();
         reply
+    }
+
+    /// The reply to a message of one to eight questions, which are answered in turn. With the option
+    /// Continue all are; otherwise those behind the first failure are left.
+    ///
+    /// # Errors
+    /// Where there is no memory. Some of the first questions are served then, and not all of them; so
+    /// nothing has happened where there is one.
+    pub fn handle_batch(
+        &mut self,
+        alloc: Global,
+        message: &[u8],
+        now: i64,
+    ) -> Result<Vec<u8>, NoMemory>
+        ensures reply { IfOk result (λ r. r.items ≡ batch_reply self.old message.now now) }
+        ensures after { OnOk result (self.new ≡ stock_after_batch self.old message.now) }
+        ensures begun { OnErr result (AreBegun (batch.stops_in message.now)
+            (batch.parts_in message.now) self.old self.new) }
+        ensures room { self.new.room ≡ self.old.room }
+        ensures kept_before { IsKept self.old.rows self.old.room }
+        ensures kept { IsKept self.new.rows self.new.room }
+        ensures objects_before { HasLawfulObjects self.old }
+        ensures objects { HasLawfulObjects self.new }
+        ensures served { IfOk result (λ r. AreServed (batch.stops_in message.now)
+            (batch.parts_in message.now) (batch.replies_in r.items) self.old self.new) }
+    {
+        serving_is_a_step();
+        let _before = self.store.count();
+        let reply = self.handle_parts(alloc, message, now);
+        let _after = self.store.count();
+        reply
+    }
+
+    /// The same, of the reply and the records alone.
+    #[tactic(auto, unfolding(crate::specs::Batching::batch_reply, crate::specs::Batching::stock_after_batch))]
+    fn handle_parts(
+        &mut self,
+        alloc: Global,
+        message: &[u8],
+        now: i64,
+    ) -> Result<Vec<u8>, NoMemory>
+        ensures reply { IfOk result (λ r. r.items ≡ batch_reply self.old message.now now) }
+        ensures says { IfOk result (λ r. batch.replies_in r.items
+            ≡ replies_to (batch.stops_in message.now) (batch.parts_in message.now) self.old) }
+        ensures after { OnOk result (self.new ≡ stock_after_batch self.old message.now) }
+        ensures begun { OnErr result (IsCutShort (batch.stops_in message.now)
+            (batch.parts_in message.now) self.old self.new) }
+    {
+        match kmip_batches::read_request(alloc, message) {
+            Ok(batch) => {
+                let stops = batch.stops();
+                answer_all(&mut self.store, alloc, stops, batch.items.as_slice(), now)
+            }
+            Err(fault) => refuse_batch(alloc, fault, now),
+        }
     }
 
     /// The same, of the reply and the records alone.

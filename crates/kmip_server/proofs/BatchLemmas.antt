@@ -1,0 +1,155 @@
+-- Questions answered in turn: what was answered before, and what is left.
+use Rattle.std.proofs.Common.{◌≡◌, ◌+◌, ◌<◌, ◌≤◌, ℕ, Bool, true, false, ◌&&◌, if◌then◌else◌, List, [], ◌∷◌, ◌++◌, length, drop, get_or, Result, Ok, Err, IsTrue, refl, sym, ap, subst, ◌∙◌, inl, inr, arith}
+use Rattle.std.specs.List.{All}
+use Rattle.std.proofs.lemmas.Bool.{and_parts, leb-true, cases_Bool}
+use Rattle.std.proofs.lemmas.List.{append_assoc, drop_all, drop_more}
+use Rattle.std.proofs.lemmas.List.Elements.{All-append, All-cons, All-nil}
+use Rattle.kmip_messages.specs.BatchItems.{Question}
+use Rattle.kmip_messages.specs.declared.refusal.Refusal.{Refusal}
+use Rattle.kmip_messages.specs.declared.reply.Outcome.{Outcome}
+use Rattle.kmip_messages.specs.declared.reply.Outcome.TheVariants as outcomes
+use Rattle.kmip_messages.specs.declared.reply.Reply.{Reply}
+use Rattle.kmip_messages.specs.declared.request.Ask.{Ask}
+use Rattle.kmip_messages.specs.declared.request.Ask.TheVariants as asks
+use Rattle.kmip_messages.specs.declared.request.Request.{Request}
+use Rattle.kmip_batches.specs.Members.{may_have}
+use Rattle.kmip_batches.specs.Written.{IsShort}
+use Rattle.kmip_objects.specs.Ranges.{is_compromise}
+use Rattle.kmip_store.specs.declared.fault.StoreFault.{StoreFault}
+use Rattle.kmip_store.specs.Stock.{Stock}
+use Rattle.kmip_server.specs.Again.{has_failed}
+use Rattle.kmip_server.specs.Batching.{is_last, replies_to, stock_after_all, IsCutShort}
+use Rattle.kmip_server.specs.Serving.{answer, attributes_outcome, outcome_of_change, reply_to, stock_after_read}
+
+-- ---- what failed changed nothing
+
+change_leaves : (success : Outcome) (s : Stock) (r : Result Stock StoreFault) → has_failed success ≡ false
+    → has_failed (outcome_of_change success s r).0 ≡ true → (outcome_of_change success s r).1 ≡ s
+change_leaves success s (Ok new) fine failed = absurd cc
+change_leaves success s (Err fault) fine failed = refl
+
+revoke_leaves : (s : Stock) (uid : List ℕ) (code : ℕ) → has_failed (answer s (asks.Revoke uid code)).0 ≡ true → (answer s (asks.Revoke uid code)).1 ≡ s
+revoke_leaves s uid code failed = elim (cases_Bool (is_compromise code)) [
+  | inl is ↦ rw is refl
+  | inr other ↦ rw other (change_leaves (outcomes.Revoked uid) s _ refl (subst (λ b. has_failed (if b then _ else _).0 ≡ true) other failed))
+]
+
+ask_leaves : (s : Stock) (ask : Ask) → has_failed (answer s ask).0 ≡ true → (answer s ask).1 ≡ s
+ask_leaves s (asks.Create attrs) failed = change_leaves _ s _ refl failed
+ask_leaves s (asks.Locate mask given) failed = refl
+ask_leaves s (asks.GetAttributes uid) failed = refl
+ask_leaves s (asks.Activate uid) failed = change_leaves _ s _ refl failed
+ask_leaves s (asks.Revoke uid code) failed = revoke_leaves s uid code failed
+ask_leaves s (asks.Destroy uid) failed = change_leaves _ s _ refl failed
+
+failed_leaves : (s : Stock) (q : Question) → has_failed (reply_to s q).outcome ≡ true → stock_after_read s q ≡ s
+failed_leaves s (Ok request) failed = ask_leaves s request.ask failed
+failed_leaves s (Err refusal) failed = refl
+
+pub last_leaves : (stops : Bool) (s : Stock) (q : Question) → is_last stops (reply_to s q) ≡ true → stock_after_read s q ≡ s
+last_leaves stops s q over = failed_leaves s q (and_parts stops (has_failed (reply_to s q).outcome) over).1
+
+-- ---- one question and those behind it
+
+ended : (stops : Bool) (q : Question) (qs : List Question) (s : Stock) → is_last stops (reply_to s q) ≡ true
+    → (replies_to stops (q ∷ qs) s ≡ reply_to s q ∷ []) × (stock_after_all stops (q ∷ qs) s ≡ stock_after_read s q)
+ended stops q qs s over = (rw over refl, rw over refl)
+
+goes_on : (stops : Bool) (q : Question) (qs : List Question) (s : Stock) → is_last stops (reply_to s q) ≡ false
+    → (replies_to stops (q ∷ qs) s ≡ reply_to s q ∷ replies_to stops qs (stock_after_read s q))
+    × (stock_after_all stops (q ∷ qs) s ≡ stock_after_all stops qs (stock_after_read s q))
+goes_on stops q qs s on = (rw on refl, rw on refl)
+
+alone : (stops : Bool) (q : Question) (s : Stock)
+    → (replies_to stops (q ∷ []) s ≡ reply_to s q ∷ []) × (stock_after_all stops (q ∷ []) s ≡ stock_after_read s q)
+alone stops q s = elim (cases_Bool (is_last stops (reply_to s q))) [
+  | inl over ↦ ended stops q [] s over
+  | inr on ↦ goes_on stops q [] s on
+]
+
+-- ---- those that were answered
+
+-- What was answered and what is left make up the whole, and where nothing more happens some of the first questions were served.
+pub record AreAnswered (stops : Bool) (qs : List Question) (old : Stock) (place : ℕ) (replies : List Reply) (s : Stock) : Type 0 where
+  pub told : replies ++ replies_to stops (drop place qs) s ≡ replies_to stops qs old
+  pub rest : stock_after_all stops (drop place qs) s ≡ stock_after_all stops qs old
+  pub begun : (new : Stock) → IsCutShort stops (drop place qs) s new → IsCutShort stops qs old new
+  pub short : All IsShort replies
+  pub count : length replies ≡ place
+  pub more : place < length qs
+
+pub none_answered : (stops : Bool) (qs : List Question) (s : Stock) → IsTrue (may_have (length qs)) → AreAnswered stops qs s 0 [] s
+none_answered stops qs s some = record {
+  told = refl;
+  rest = refl;
+  begun = λ new h. h;
+  short = All-nil IsShort;
+  count = refl;
+  more = omega (arith, leb-true 1 (length qs) (and_parts _ _ some).0);
+}
+
+opened : (qs : List Question) (place : ℕ) (q : Question) → place < length qs → q ≡ get_or qs place q → drop place qs ≡ q ∷ drop (place + 1) qs
+opened qs place q below is = drop_more qs place q below ∙ ap (λ x. x ∷ drop (place + 1) qs) (sym is)
+
+-- one more is answered, and another is left
+pub one_more : (stops : Bool) (qs : List Question) (old : Stock) (place : ℕ) (replies : List Reply) (s : Stock) (q : Question)
+    → AreAnswered stops qs old place replies s → q ≡ get_or qs place q → place + 1 < length qs → IsShort (reply_to s q)
+    → is_last stops (reply_to s q) ≡ false
+    → AreAnswered stops qs old (place + 1) (replies ++ reply_to s q ∷ []) (stock_after_read s q)
+one_more stops qs old place replies s q h is below short on =
+    let open_ = opened qs place q h.more is in
+    let step = goes_on stops q (drop (place + 1) qs) s on in
+    record {
+      told =
+          append_assoc replies (reply_to s q ∷ []) (replies_to stops (drop (place + 1) qs) (stock_after_read s q))
+          ∙ ap (λ rs. replies ++ rs) (sym step.0 ∙ ap (λ xs. replies_to stops xs s) (sym open_))
+          ∙ h.told;
+      rest = sym step.1 ∙ ap (λ xs. stock_after_all stops xs s) (sym open_) ∙ h.rest;
+      begun = λ new more. h.begun new (subst (λ xs. IsCutShort stops xs s new) (sym open_) (inr (on, more)));
+      short = All-append IsShort replies (reply_to s q ∷ []) h.short (All-cons IsShort (reply_to s q) [] short (All-nil IsShort));
+      count = grind (arith, h.count);
+      more = below;
+    }
+
+-- nothing more happens
+pub stopped_here : (stops : Bool) (qs : List Question) (old : Stock) (place : ℕ) (replies : List Reply) (s : Stock) (q : Question)
+    → AreAnswered stops qs old place replies s → q ≡ get_or qs place q → IsCutShort stops qs old s
+stopped_here stops qs old place replies s q h is = h.begun s (subst (λ xs. IsCutShort stops xs s s) (sym (opened qs place q h.more is)) (inl refl))
+
+-- nothing more happens behind one more question, which is not the last
+pub stopped_behind : (stops : Bool) (qs : List Question) (old : Stock) (place : ℕ) (replies : List Reply) (s : Stock) (q : Question)
+    → AreAnswered stops qs old place replies s → q ≡ get_or qs place q → place + 1 < length qs → IsCutShort stops qs old (stock_after_read s q)
+stopped_behind stops qs old place replies s q h is below = elim (cases_Bool (is_last stops (reply_to s q))) [
+  | inl over ↦ subst (λ new. IsCutShort stops qs old new) (sym (last_leaves stops s q over)) (stopped_here stops qs old place replies s q h is)
+  | inr on ↦
+      let next = get_or qs (place + 1) q in
+      let behind = opened qs (place + 1) next below (at_place qs (place + 1) q below) in
+      h.begun (stock_after_read s q)
+      (subst (λ xs. IsCutShort stops xs s (stock_after_read s q)) (sym (opened qs place q h.more is))
+      (inr (on, subst (λ xs. IsCutShort stops xs (stock_after_read s q) (stock_after_read s q)) (sym behind) (inl refl))))
+]
+  where
+    at_place : (xs : List Question) (i : ℕ) (x : Question) → i < length xs → get_or xs i x ≡ get_or xs i (get_or xs i x)
+    at_place [] i x below = absurd (omega (arith, below))
+    at_place (y ∷ ys) 0 x below = refl
+    at_place (y ∷ ys) (suc i) x below = at_place ys i x (omega (arith, below))
+
+-- the replies and the records where the others are left
+pub told_over : (stops : Bool) (qs : List Question) (old : Stock) (place : ℕ) (replies : List Reply) (s : Stock) (q : Question)
+    → AreAnswered stops qs old place replies s → q ≡ get_or qs place q → is_last stops (reply_to s q) ≡ true
+    → (replies ++ reply_to s q ∷ [] ≡ replies_to stops qs old) × (stock_after_read s q ≡ stock_after_all stops qs old)
+told_over stops qs old place replies s q h is over =
+    let open_ = opened qs place q h.more is in
+    let step = ended stops q (drop (place + 1) qs) s over in
+    (ap (λ rs. replies ++ rs) (sym step.0 ∙ ap (λ xs. replies_to stops xs s) (sym open_)) ∙ h.told,
+    sym step.1 ∙ ap (λ xs. stock_after_all stops xs s) (sym open_) ∙ h.rest)
+
+-- and behind the last question
+pub told_last : (stops : Bool) (qs : List Question) (old : Stock) (place : ℕ) (replies : List Reply) (s : Stock) (q : Question)
+    → AreAnswered stops qs old place replies s → q ≡ get_or qs place q → place + 1 ≡ length qs
+    → (replies ++ reply_to s q ∷ [] ≡ replies_to stops qs old) × (stock_after_read s q ≡ stock_after_all stops qs old)
+told_last stops qs old place replies s q h is last =
+    let open_ : drop place qs ≡ q ∷ [] = opened qs place q h.more is ∙ ap (λ xs. q ∷ xs) (drop_all qs (place + 1) (omega (arith, last))) in
+    let step = alone stops q s in
+    (ap (λ rs. replies ++ rs) (sym step.0 ∙ ap (λ xs. replies_to stops xs s) (sym open_)) ∙ h.told,
+    sym step.1 ∙ ap (λ xs. stock_after_all stops xs s) (sym open_) ∙ h.rest)

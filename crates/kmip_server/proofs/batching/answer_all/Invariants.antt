@@ -1,0 +1,6 @@
+-- What was answered and what is left make up the whole.
+use Rattle.kmip_server.proofs.BatchLemmas.{AreAnswered}
+use Rattle.kmip_server.proofs.batching.answer_all.Given as goal
+
+abbrev pub invariant-loop-question : goal.invariant-loop-question
+invariant-loop-question g l = AreAnswered l.stops l.questions (g.S.Records.stock l.fn.store) l.question-index l.replies.items (g.S.Records.stock l.store)

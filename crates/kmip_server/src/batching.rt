@@ -1,0 +1,283 @@
+//! The questions of a message, answered in turn, and the message of the replies.
+ghost use Rattle.std.specs.Prelude.{◌≡◌, ◌+◌, ◌++◌, List, [], ◌∷◌, length, true, false, Ok, IfOk, OnErr, OnOk, IsTrue};
+ghost use Rattle.std.specs.List.{All};
+ghost use Rattle.std.specs.Option.{option_map_or};
+ghost use Rattle.kmip_ttlv.specs.Spelling.{canon};
+ghost use Rattle.kmip_fields.specs.Faults.{is_no_memory};
+ghost use Rattle.kmip_messages.specs.Ranges.{is_batch_id};
+ghost use Rattle.kmip_messages.specs.RequestFits.{request_fits};
+ghost use Rattle.kmip_batches.specs.Items.{refusal_of, replies_in};
+ghost use Rattle.kmip_batches.specs.Members.{may_have};
+ghost use Rattle.kmip_batches.specs.Ranges.{QuestionFits};
+ghost use Rattle.kmip_batches.specs.Written.{IsShort, replies_item};
+ghost use Rattle.kmip_server.specs.Again.{has_failed};
+ghost use Rattle.kmip_messages.specs.declared.reply.Outcome.TheVariants.{Failed};
+ghost use Rattle.kmip_messages.specs.declared.reply.Reply.{Reply};
+ghost use Rattle.kmip_server.specs.Answering.{promised_outcome, reply_with};
+ghost use Rattle.kmip_server.specs.Batching.{replies_to, stock_after_all, IsCutShort};
+ghost use Rattle.kmip_server.specs.Serving.{answer, refusal_reply, reply_to, stock_after_read};
+
+use crate::changing::carry_out;
+use crate::promising::promise;
+use crate::reasons::{message_reason, store_reason};
+use kmip_batches::write_reply;
+use kmip_fields::MessageFault;
+use kmip_messages::{Outcome, Refusal, Reply, Request};
+use kmip_store::Records;
+use kmip_ttlv::{Bytes, NoMemory};
+use std::alloc::Global;
+
+/// Answers one to eight questions in turn; those behind a failure where it does not stop them. The
+/// message is written before the records change for the last time.
+///
+/// # Errors
+/// Where there is no memory. Some of the first questions are served then, and not all of them.
+pub(crate) fn answer_all<S: Records>(
+    store: &mut S,
+    alloc: Global,
+    stops: bool,
+    questions: &[Result<Request, Refusal>],
+    now: i64,
+) -> Result<Vec<u8>, NoMemory>
+    requires some { IsTrue (may_have (length questions.now)) }
+    requires fit { All QuestionFits questions.now }
+    ensures bytes { IfOk result (λ v. v.items ≡ canon (replies_item
+        (replies_to stops questions.now (S.stock store.old)) now)) }
+    ensures says { IfOk result (λ v. replies_in v.items
+        ≡ replies_to stops questions.now (S.stock store.old)) }
+    ensures after { OnOk result (S.stock store.new
+        ≡ stock_after_all stops questions.now (S.stock store.old)) }
+    ensures begun { OnErr result (IsCutShort stops questions.now (S.stock store.old)
+        (S.stock store.new)) }
+{
+    let mut replies = Vec::new(alloc);
+    for question in questions {
+        if replies.len() + 1 == questions.len() {
+            return answer_last(store, alloc, question, replies, now);
+        }
+        let reply = answer_one(store, alloc, question)?;
+        let over = stops && has_failed(&reply.outcome);
+        replies.push(reply)?;
+        if over {
+            return write_reply(alloc, replies.as_slice(), now);
+        }
+    }
+    Err(NoMemory)
+}
+
+/// Answers a message that is refused whole, by one reply.
+pub(crate) fn refuse_batch(
+    alloc: Global,
+    fault: MessageFault,
+    now: i64,
+) -> Result<Vec<u8>, NoMemory>
+    ensures bytes { IfOk result (λ v. v.items ≡ canon (replies_item
+        (refusal_reply (refusal_of fault) ∷ []) now)) }
+    ensures says { IfOk result (λ v. replies_in v.items ≡ refusal_reply (refusal_of fault) ∷ []) }
+    ensures told { IfOk result (λ _. is_no_memory fault ≡ false) }
+{
+    if fault.is_no_memory() {
+        return Err(NoMemory);
+    }
+    let reply = Reply {
+        operation: None,
+        id: None,
+        outcome: Outcome::Failed(message_reason(fault)),
+    };
+    let replies = vec![in alloc; reply]?;
+    write_reply(alloc, replies.as_slice(), now)
+}
+
+/// Answers the last question behind these replies, and writes the message.
+fn answer_last<S: Records>(
+    store: &mut S,
+    alloc: Global,
+    question: &Result<Request, Refusal>,
+    mut replies: Vec<Reply>,
+    now: i64,
+) -> Result<Vec<u8>, NoMemory>
+    requires some { IsTrue (may_have (length replies.items + 1)) }
+    requires short { All IsShort replies.items }
+    requires fits { QuestionFits question.now }
+    ensures bytes { IfOk result (λ v. v.items ≡ canon (replies_item
+        (replies.entry.items ++ reply_to (S.stock store.old) question.now ∷ []) now)) }
+    ensures says { IfOk result (λ v. replies_in v.items
+        ≡ replies.entry.items ++ reply_to (S.stock store.old) question.now ∷ []) }
+    ensures after { OnOk result (S.stock store.new
+        ≡ stock_after_read (S.stock store.old) question.now) }
+    ensures same { OnErr result (S.stock store.new ≡ S.stock store.old) }
+{
+    match question {
+        Ok(request) => answer_last_request(store, alloc, request, replies, now),
+        Err(refusal) => {
+            let reply = refusal_reply(alloc, refusal)?;
+            replies.push(reply)?;
+            write_reply(alloc, replies.as_slice(), now)
+        }
+    }
+}
+
+/// The same of a request: the message is written before its change is made.
+fn answer_last_request<S: Records>(
+    store: &mut S,
+    alloc: Global,
+    request: &Request,
+    mut replies: Vec<Reply>,
+    now: i64,
+) -> Result<Vec<u8>, NoMemory>
+    requires some { IsTrue (may_have (length replies.items + 1)) }
+    requires short { All IsShort replies.items }
+    requires fits { IsTrue (request_fits request.now) }
+    ensures bytes { IfOk result (λ v. v.items ≡ canon (replies_item
+        (replies.entry.items ++ reply_to (S.stock store.old) (Ok request.now) ∷ []) now)) }
+    ensures says { IfOk result (λ v. replies_in v.items
+        ≡ replies.entry.items ++ reply_to (S.stock store.old) (Ok request.now) ∷ []) }
+    ensures after { OnOk result (S.stock store.new
+        ≡ (answer (S.stock store.old) request.now.ask).1) }
+    ensures same { OnErr result (S.stock store.new ≡ S.stock store.old) }
+{
+    let reply = promised_reply(store, alloc, request)?;
+    replies.push(reply)?;
+    let written = write_reply(alloc, replies.as_slice(), now)?;
+    match carry_out(store, alloc, &request.ask)? {
+        Ok(()) => Ok(written),
+        Err(fault) => {
+            let reply = refused_reply(alloc, request, store_reason(fault))?;
+            take_back(&mut replies);
+            replies.push(reply)?;
+            write_reply(alloc, replies.as_slice(), now)
+        }
+    }
+}
+
+/// Takes the last reply away again.
+fn take_back(replies: &mut Vec<Reply>)
+    ensures { (front : List Reply) (last : Reply) → replies.old.items ≡ front ++ last ∷ []
+        → replies.new.items ≡ front }
+{
+    let _last = replies.pop();
+}
+
+/// Answers a question that is not the last: its change is made, and no reply is written yet.
+fn answer_one<S: Records>(
+    store: &mut S,
+    alloc: Global,
+    question: &Result<Request, Refusal>,
+) -> Result<Reply, NoMemory>
+    requires { QuestionFits question.now }
+    ensures reply { IfOk result (λ r. r ≡ reply_to (S.stock store.old) question.now) }
+    ensures short { IfOk result (λ r. IsShort r) }
+    ensures after { OnOk result (S.stock store.new
+        ≡ stock_after_read (S.stock store.old) question.now) }
+    ensures same { OnErr result (S.stock store.new ≡ S.stock store.old) }
+{
+    match question {
+        Ok(request) => {
+            let reply = answer_request(store, alloc, request)?;
+            Ok(reply)
+        }
+        Err(refusal) => {
+            let reply = refusal_reply(alloc, refusal)?;
+            Ok(reply)
+        }
+    }
+}
+
+/// The same of a request.
+fn answer_request<S: Records>(
+    store: &mut S,
+    alloc: Global,
+    request: &Request,
+) -> Result<Reply, NoMemory>
+    requires { IsTrue (request_fits request.now) }
+    ensures reply { IfOk result (λ r. r ≡ reply_to (S.stock store.old) (Ok request.now)) }
+    ensures short { IfOk result (λ r. IsShort r) }
+    ensures after { OnOk result (S.stock store.new
+        ≡ (answer (S.stock store.old) request.now.ask).1) }
+    ensures same { OnErr result (S.stock store.new ≡ S.stock store.old) }
+{
+    let mut reply = promised_reply(store, alloc, request)?;
+    match carry_out(store, alloc, &request.ask)? {
+        Ok(()) => Ok(reply),
+        Err(fault) => {
+            reply.outcome = Outcome::Failed(store_reason(fault));
+            Ok(reply)
+        }
+    }
+}
+
+/// The reply to a request where the change that it asks for is made.
+fn promised_reply<S: Records>(
+    store: &S,
+    alloc: Global,
+    request: &Request,
+) -> Result<Reply, NoMemory>
+    requires { IsTrue (request_fits request.now) }
+    ensures reply { IfOk result (λ r. r ≡ reply_with request.now
+        (promised_outcome (S.stock store.now) request.now.ask)) }
+    ensures short { IfOk result (λ r. IsShort r) }
+{
+    let outcome = promise(store, alloc, &request.ask)?;
+    let id = copied_id(alloc, &request.id)?;
+    Ok(Reply {
+        operation: Some(request.ask.operation()),
+        id,
+        outcome,
+    })
+}
+
+/// The reply to a request that is refused with this reason.
+fn refused_reply(alloc: Global, request: &Request, reason: Option<u32>) -> Result<Reply, NoMemory>
+    requires { IsTrue (request_fits request.now) }
+    ensures reply { IfOk result (λ r. r ≡ reply_with request.now (Failed reason)) }
+    ensures short { IfOk result (λ r. IsShort r) }
+{
+    let id = copied_id(alloc, &request.id)?;
+    Ok(Reply {
+        operation: Some(request.ask.operation()),
+        id,
+        outcome: Outcome::Failed(reason),
+    })
+}
+
+/// The reply to a question that is refused.
+pub(crate) fn refusal_reply(alloc: Global, refusal: &Refusal) -> Result<Reply, NoMemory>
+    requires { IsTrue (option_map_or is_batch_id refusal.now.id true) }
+    ensures reply { IfOk result (λ r. r ≡ refusal_reply refusal.now) }
+    ensures short { IfOk result (λ r. IsShort r) }
+{
+    let id = copied_id(alloc, &refusal.id)?;
+    Ok(Reply {
+        operation: refusal.operation,
+        id,
+        outcome: Outcome::Failed(message_reason(refusal.fault)),
+    })
+}
+
+/// A copy of a Unique Batch Item ID, where there is one.
+fn copied_id(alloc: Global, id: &Option<Bytes>) -> Result<Option<Bytes>, NoMemory>
+    ensures { IfOk result (λ copy. copy ≡ id.now) }
+{
+    match id {
+        Some(id) => {
+            let id = Bytes::copied(alloc, id.as_slice())?;
+            Ok(Some(id))
+        }
+        None => Ok(None),
+    }
+}
+
+/// Whether the outcome is a failure.
+fn has_failed(outcome: &Outcome) -> bool
+    ensures { result ≡ has_failed outcome.now }
+{
+    match outcome {
+        Outcome::Failed(_) => true,
+        Outcome::Created(_)
+        | Outcome::Located(_)
+        | Outcome::Attributes(_, _)
+        | Outcome::Activated(_)
+        | Outcome::Revoked(_)
+        | Outcome::Destroyed(_) => false,
+    }
+}
