@@ -1,7 +1,7 @@
 -- What names each attribute of the profile: a search by the name alone, the objects that have what is given, and what is told
 -- of an object.
 -- Source: KMIP 2.1, Operations, Locate and Get Attributes. That the usage mask is compared by equality is own.
-use Rattle.std.specs.Prelude.{ℕ, ◌==◌, nat_eq, Bool, true, ◌&&◌, List, Option, Some, None}
+use Rattle.std.specs.Prelude.{ℕ, ◌==◌, nat_eq, Bool, true, ◌&&◌, List, Some, None}
 use Rattle.std.specs.Cmp.Lexicographic.{pointwise}
 use Rattle.std.specs.Option.{option_map_or}
 use Rattle.std.specs.Ordering.{int_eq}
