@@ -2,6 +2,7 @@ mod IdentifierLemmas
 mod WrittenLemmas
 pub mod ForCallers
 mod Readers
+mod AttributeLaws
 mod RequestLaws
 mod RequestSaid
 mod WholeLaws

@@ -1,19 +1,19 @@
 -- A reader reads what a relation says: a value is read just where the relation holds of it.
-use Rattle.std.proofs.Common.{◌≡◌, ℕ, pos, true, List, [], ◌∷◌, ◌++◌, Option, Some, None, Result, Ok, Err, ◌==◌, refl, sym, ap, subst, ◌∙◌}
+use Rattle.std.proofs.Common.{◌≡◌, ℕ, pos, true, List, Option, Some, None, Result, Ok, Err, ◌==◌, refl, sym, ap, subst, ◌∙◌}
 use Rattle.std.proofs.lemmas.Bool.{eqb-true, eq-eqb}
 use Rattle.std.proofs.lemmas.Bool.Decides.{Decides-int_eq}
 use Rattle.kmip_ttlv.specs.Node.{Node, node, Content, integer, enumeration, tag_of, content_of, as_structure}
 use Rattle.kmip_ttlv.proofs.ReadSteps.{Reads, same_ok, not_ok, reads-ok, reads-as}
 use Rattle.kmip_fields.specs.declared.fault.MessageFault.{MessageFault}
 use Rattle.kmip_fields.specs.declared.fault.MessageFault.TheVariants.{NotMessage}
-use Rattle.kmip_fields.specs.Formats.{Format, inside, integers, enumerations, texts, bytes}
-use Rattle.kmip_fields.specs.FormatLaws.{apart, IsPart}
+use Rattle.kmip_fields.specs.Formats.{inside, integers, enumerations, texts, bytes}
+use Rattle.kmip_fields.specs.FormatLaws.{IsPart}
 use Rattle.kmip_fields.proofs.ItemReads.{reads-if, same_some, not_some, structure_kind, integer_kind, enumeration_kind, text_kind, bytes_kind}
-use Rattle.kmip_fields.proofs.FormatParts.{required-part, optional-part, ranged-part, fixed-part, as_record-part, both-part}
-use Rattle.kmip_messages.specs.declared.standard.TheConstants.{TAG_UNIQUE_BATCH_ITEM_ID, TAG_UNIQUE_IDENTIFIER, TAG_BATCH_COUNT, TAG_OBJECT_TYPE, TAG_NAME, TAG_NAME_TYPE, TAG_CRYPTOGRAPHIC_ALGORITHM, TAG_CRYPTOGRAPHIC_LENGTH, TAG_CRYPTOGRAPHIC_USAGE_MASK, TAG_STATE, NAME_TYPE_UNINTERPRETED_TEXT_STRING}
+use Rattle.kmip_fields.proofs.FormatParts.{required-part, optional-part, ranged-part, fixed-part}
+use Rattle.kmip_messages.specs.declared.standard.TheConstants.{TAG_UNIQUE_BATCH_ITEM_ID, TAG_UNIQUE_IDENTIFIER, TAG_BATCH_COUNT, TAG_NAME_TYPE, NAME_TYPE_UNINTERPRETED_TEXT_STRING}
 use Rattle.kmip_fields.specs.Standing.{Once}
 use Rattle.kmip_messages.specs.Marks.{IsMarked, IsIdentifier}
-use Rattle.kmip_messages.specs.Parts.{message_in, message_at, id_format, identifier_format, count_format, plain_format, attrs_with}
+use Rattle.kmip_messages.specs.Parts.{message_in, message_at, id_format, identifier_format, count_format, plain_format}
 use Rattle.kmip_messages.specs.RequestReading.{refused, carrying}
 
 -- what a refusal carries does not matter
@@ -85,17 +85,6 @@ count_part = fixed-part _ _ _ _ refl refl (required-part integers TAG_BATCH_COUN
 
 pub plain_part : IsPart plain_format
 plain_part = fixed-part _ _ _ _ refl refl (required-part enumerations TAG_NAME_TYPE enumeration_kind)
-
-abbrev others : List ℕ
-others = TAG_CRYPTOGRAPHIC_ALGORITHM ∷ TAG_CRYPTOGRAPHIC_LENGTH ∷ TAG_CRYPTOGRAPHIC_USAGE_MASK ∷ TAG_STATE ∷ []
-
-pub attrs_with-part : (name : Format (Option (List ℕ))) → name.tags ≡ TAG_NAME ∷ [] → IsPart name → IsPart (attrs_with name)
-attrs_with-part name own part = as_record-part _ _ _ (λ p. refl) (λ a. refl)
-    (both-part _ _ (ap (λ tags. apart (TAG_OBJECT_TYPE ∷ []) (tags ++ others)) own) (optional-part enumerations _ enumeration_kind)
-    (both-part _ _ (ap (λ tags. apart tags others) own) part
-    (both-part _ _ refl (optional-part enumerations _ enumeration_kind)
-    (both-part _ _ refl (optional-part integers _ integer_kind)
-    (both-part _ _ refl (optional-part integers _ integer_kind) (optional-part enumerations _ enumeration_kind))))))
 
 -- what they say
 pub one_is : (header : List Node) → count_format.Says header tt → Once TAG_BATCH_COUNT (integer (pos 1)) header

@@ -17,8 +17,9 @@ use Rattle.kmip_messages.specs.Fits.{is_own, outcome_fits, HasValuesInRange}
 use Rattle.kmip_messages.specs.Parts.{id_format, identifier_format}
 use Rattle.kmip_messages.specs.Ranges.{is_operation}
 use Rattle.kmip_messages.specs.ReplyFormats.{any_name_parts_format, attrs_format, in_created, in_located, in_attributes, in_activated, in_revoked, in_destroyed, in_failed, created_format, identifiers_format, object_format, answer_format, located_format, succeeded, success_of_format, success_format, failed_format, is_status, status_of, outcome_format, any_version_parts_format, reply_header_parts_format, reply_header_format, answered_format, reply_format}
-use Rattle.kmip_messages.proofs.Readers.{id_part, identifier_part, plain_part, count_part, attrs_with-part}
-use Rattle.kmip_messages.proofs.RequestLaws.{chosen, sixth}
+use Rattle.kmip_messages.proofs.AttributeLaws.{attrs_with-part}
+use Rattle.kmip_messages.proofs.Readers.{id_part, identifier_part, plain_part, count_part}
+use Rattle.kmip_messages.proofs.RequestLaws.{chosen, last_holds}
 
 -- ---- attributes
 
@@ -145,7 +146,7 @@ answer_is_own operation payload a known not_locate says =
     chosen (operation == OPERATION_ACTIVATE) others (λ is (x, _, same). of_case operation OPERATION_ACTIVATE a (Activated x) refl same is) (λ not_activate others.
     chosen (operation == OPERATION_REVOKE) others (λ is (x, _, same). of_case operation OPERATION_REVOKE a (Revoked x) refl same is) (λ not_revoke last.
     of_case operation OPERATION_DESTROY a (Destroyed last.0) refl last.2
-    (sixth (operation == OPERATION_CREATE) (operation == OPERATION_LOCATE) (operation == OPERATION_GET_ATTRIBUTES) (operation == OPERATION_ACTIVATE)
+    (last_holds (operation == OPERATION_CREATE) (operation == OPERATION_LOCATE) (operation == OPERATION_GET_ATTRIBUTES) (operation == OPERATION_ACTIVATE)
     (operation == OPERATION_REVOKE) (operation == OPERATION_DESTROY) known not_create not_locate not_attributes not_activate not_revoke)))))
 
 success_is_own : (operation : ℕ) (batch : List Node) (a : Outcome) → (success_of_format operation).Says batch a → succeeded a ≡ operation

@@ -13,42 +13,15 @@ use Rattle.kmip_objects.specs.declared.attributes.Attrs.{Attrs}
 use Rattle.kmip_messages.specs.declared.reply.Outcome.{Outcome}
 use Rattle.kmip_messages.specs.declared.reply.Outcome.TheVariants.{Created, Located, Attributes, Activated, Revoked, Destroyed, Failed}
 use Rattle.kmip_messages.specs.declared.reply.Reply.{Reply}
-use Rattle.kmip_messages.specs.declared.standard.TheConstants.{TAG_RESPONSE_MESSAGE, TAG_PROTOCOL_VERSION_MAJOR, TAG_NAME, TAG_RESPONSE_PAYLOAD, VERSION_MAJOR, NAME_TYPE_UNINTERPRETED_TEXT_STRING}
+use Rattle.kmip_messages.specs.declared.standard.TheConstants.{TAG_RESPONSE_MESSAGE, TAG_PROTOCOL_VERSION_MAJOR, TAG_RESPONSE_PAYLOAD, VERSION_MAJOR}
 use Rattle.kmip_messages.specs.Fits.{reply_fits}
-use Rattle.kmip_messages.specs.Replies.{IsNameIfAny, AreAttrs, IsObject, AreFound, IsOutcome, IsReply}
-use Rattle.kmip_messages.specs.ReplyFormats.{any_name_parts_format, attrs_format, created_format, identifiers_format, object_format, answer_format, located_format, success_of_format, success_format, failed_format, outcome_format, any_version_parts_format, reply_header_parts_format, reply_header_format, answered_format, reply_format}
+use Rattle.kmip_messages.specs.Replies.{IsObject, AreFound, IsOutcome, IsReply}
+use Rattle.kmip_messages.specs.ReplyFormats.{created_format, identifiers_format, object_format, answer_format, located_format, success_of_format, success_format, failed_format, outcome_format, any_version_parts_format, reply_header_parts_format, reply_header_format, answered_format, reply_format}
 use Rattle.kmip_messages.specs.ReplyReading.{reply_at}
 use Rattle.kmip_messages.specs.Written.{reply_item}
-use Rattle.kmip_messages.proofs.Readers.{reads-message, id_is, is_id, identifier_is, is_identifier_said, one_is, plain_is}
+use Rattle.kmip_messages.proofs.Readers.{reads-message, id_is, is_id, identifier_is, is_identifier_said, one_is}
+use Rattle.kmip_messages.proofs.AttributeLaws.{attrs_are, are_attrs}
 use Rattle.kmip_messages.proofs.ReplyLaws.{reply-good, reply_in_format}
-
--- ---- attributes
-
-any_name_is : (attributes : List Node) (o : Option (List ℕ)) → SaysIfAny TAG_NAME any_name_parts_format.Says attributes o → IsNameIfAny attributes o
-unfolding any_name_parts_format
-any_name_is attributes None says = says
-any_name_is attributes (Some text) (parts, stands, (value, plain)) =
-    record { parts = parts; has_name = stands; has_value = value; has_type = plain_is parts plain }
-
-is_any_name : (attributes : List Node) (o : Option (List ℕ)) → IsNameIfAny attributes o → SaysIfAny TAG_NAME any_name_parts_format.Says attributes o
-unfolding any_name_parts_format
-is_any_name attributes None is = is
-is_any_name attributes (Some text) is = (is.parts, is.has_name, (is.has_value, (NAME_TYPE_UNINTERPRETED_TEXT_STRING, is.has_type, refl)))
-
-attrs_are : (attributes : List Node) (a : Attrs) → attrs_format.Says attributes a → AreAttrs attributes a
-unfolding attrs_format
-attrs_are attributes a (object, (called, (kind, (bits, (mask, stage))))) = record {
-  object_type = object;
-  name = any_name_is attributes a.name called;
-  algorithm = kind;
-  length = bits;
-  usage = mask;
-  state = stage;
-}
-
-are_attrs : (attributes : List Node) (a : Attrs) → AreAttrs attributes a → attrs_format.Says attributes a
-unfolding attrs_format
-are_attrs attributes a p = (p.object_type, (is_any_name attributes a.name p.name, (p.algorithm, (p.length, (p.usage, p.state)))))
 
 -- ---- payloads
 

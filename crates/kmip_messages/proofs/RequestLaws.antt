@@ -19,7 +19,8 @@ use Rattle.kmip_messages.specs.Parts.{id_format, identifier_format}
 use Rattle.kmip_messages.specs.Ranges.{is_batch_id, is_operation}
 use Rattle.kmip_messages.specs.RequestFits.{ask_fits, request_fits}
 use Rattle.kmip_messages.specs.RequestFormats.{name_parts_format, name_format, key_attrs_format, filter_format, in_create, in_locate, in_get_attributes, in_activate, in_revoke, in_destroy, create_format, locate_format, reason_format, revoke_format, payload_format, version_parts_format, header_parts_format, header_format, known_format, asked_format, item_format, message_format}
-use Rattle.kmip_messages.proofs.Readers.{id_part, identifier_part, plain_part, count_part, attrs_with-part}
+use Rattle.kmip_messages.proofs.AttributeLaws.{attrs_with-part}
+use Rattle.kmip_messages.proofs.Readers.{id_part, identifier_part, plain_part, count_part}
 
 -- ---- attributes
 
@@ -123,9 +124,9 @@ pub chosen : {P Q X : Type 0} (b : Bool) → Chosen b P Q → (b ≡ true → P 
 chosen true says first second = first refl says
 chosen false says first second = second refl says
 
--- the sixth of six tests, where one of them holds and the first five do not
-pub sixth : (a b c d e f : Bool) → (a || b || c || d || e || f) ≡ true → a ≡ false → b ≡ false → c ≡ false → d ≡ false → e ≡ false → f ≡ true
-sixth a b c d e f known ha hb hc hd he = rw (ha, hb, hc, hd, he) at known
+-- the last of the tests, where one of them holds and those before it do not
+pub last_holds : (a b c d e f : Bool) → (a || b || c || d || e || f) ≡ true → a ≡ false → b ≡ false → c ≡ false → d ≡ false → e ≡ false → f ≡ true
+last_holds a b c d e f known ha hb hc hd he = rw (ha, hb, hc, hd, he) at known
 
 -- a case of the operation of this number
 of_case : (operation own : ℕ) (a b : Ask) → operation_of b ≡ own → b ≡ a → (operation == own) ≡ true → operation_of a ≡ operation
@@ -141,7 +142,7 @@ payload_is_own operation payload a known says =
     chosen (operation == OPERATION_ACTIVATE) others (λ is (x, _, same). of_case operation OPERATION_ACTIVATE a (Activate x) refl same is) (λ not_activate others.
     chosen (operation == OPERATION_REVOKE) others (λ is (x, _, same). of_case operation OPERATION_REVOKE a (Revoke x.0 x.1) refl same is) (λ not_revoke last.
     of_case operation OPERATION_DESTROY a (Destroy last.0) refl last.2
-    (sixth (operation == OPERATION_CREATE) (operation == OPERATION_LOCATE) (operation == OPERATION_GET_ATTRIBUTES) (operation == OPERATION_ACTIVATE)
+    (last_holds (operation == OPERATION_CREATE) (operation == OPERATION_LOCATE) (operation == OPERATION_GET_ATTRIBUTES) (operation == OPERATION_ACTIVATE)
     (operation == OPERATION_REVOKE) (operation == OPERATION_DESTROY) known not_create not_locate not_attributes not_activate not_revoke))))))
 
 -- ---- the message
@@ -211,20 +212,20 @@ payload_fits (Revoke uid code) fits = fits
 payload_fits (Destroy uid) fits = fits
 
 -- the number of what is asked is that of an operation
-pub one_of_six : (a : Ask) → is_operation (operation_of a) ≡ true
-one_of_six (Create k) = refl
-one_of_six (Locate storage filter) = refl
-one_of_six (GetAttributes uid) = refl
-one_of_six (Activate uid) = refl
-one_of_six (Revoke uid code) = refl
-one_of_six (Destroy uid) = refl
+pub asked_is_operation : (a : Ask) → is_operation (operation_of a) ≡ true
+asked_is_operation (Create k) = refl
+asked_is_operation (Locate storage filter) = refl
+asked_is_operation (GetAttributes uid) = refl
+asked_is_operation (Activate uid) = refl
+asked_is_operation (Revoke uid code) = refl
+asked_is_operation (Destroy uid) = refl
 
 pub item_fits : (r : Request) → request_fits r ≡ true → item_format.fits r ≡ true
 unfolding item_format known_format id_format asked_format
 item_fits r fits =
     let parts = and_parts (option_map_or is_batch_id r.id true) (ask_fits r.ask) fits in
     both (option_map_or is_batch_id r.id true) (is_operation (operation_of r.ask) && (payload_format (operation_of r.ask)).fits r.ask) parts.0
-    (both (is_operation (operation_of r.ask)) ((payload_format (operation_of r.ask)).fits r.ask) (one_of_six r.ask) (payload_fits r.ask parts.1))
+    (both (is_operation (operation_of r.ask)) ((payload_format (operation_of r.ask)).fits r.ask) (asked_is_operation r.ask) (payload_fits r.ask parts.1))
 
 pub message_fits : (r : Request) → request_fits r ≡ true → message_format.fits r ≡ true
 unfolding message_format header_format header_parts_format version_parts_format

@@ -1,6 +1,6 @@
 -- What the formats of requests say is what specs/Requests says by hand, in both directions; so a request is read just where an
 -- item is it, and its written form is it.
-use Rattle.std.proofs.Common.{◌≡◌, ℕ, ℤ, pos, true, List, None, IsTrue, refl, sym, subst}
+use Rattle.std.proofs.Common.{◌≡◌, ℤ, pos, true, List, None, IsTrue, refl, sym, subst}
 use Rattle.std.proofs.lemmas.Bool.{eqb-true, and_parts}
 use Rattle.std.proofs.lemmas.Bool.Decides.{Decides-int_eq}
 use Rattle.std.specs.Ordering.{int_eq}
@@ -10,40 +10,26 @@ use Rattle.kmip_fields.specs.Formats.{inside, structure_of}
 use Rattle.kmip_fields.specs.Standing.{Once}
 use Rattle.kmip_fields.proofs.FormatParts.{reads}
 use Rattle.kmip_objects.specs.declared.attributes.KeyAttrs.{KeyAttrs}
-use Rattle.kmip_objects.specs.declared.attributes.Attrs.{Attrs}
 use Rattle.kmip_objects.specs.declared.standard.TheConstants.{OBJECT_TYPE_SYMMETRIC_KEY}
 use Rattle.kmip_messages.specs.declared.request.Ask.{Ask}
 use Rattle.kmip_messages.specs.declared.request.Ask.TheVariants.{Create, Locate, GetAttributes, Activate, Revoke, Destroy}
 use Rattle.kmip_messages.specs.declared.request.Request.{Request}
-use Rattle.kmip_messages.specs.declared.standard.TheConstants.{TAG_REQUEST_MESSAGE, TAG_OPERATION, TAG_PROTOCOL_VERSION, TAG_PROTOCOL_VERSION_MAJOR, TAG_PROTOCOL_VERSION_MINOR, TAG_OBJECT_TYPE, VERSION_MAJOR, VERSION_MINOR, NAME_TYPE_UNINTERPRETED_TEXT_STRING}
+use Rattle.kmip_messages.specs.declared.standard.TheConstants.{TAG_REQUEST_MESSAGE, TAG_OPERATION, TAG_PROTOCOL_VERSION, TAG_PROTOCOL_VERSION_MAJOR, TAG_PROTOCOL_VERSION_MINOR, TAG_OBJECT_TYPE, VERSION_MAJOR, VERSION_MINOR}
 use Rattle.kmip_messages.specs.Operations.{operation_of}
 use Rattle.kmip_messages.specs.RequestFits.{request_fits}
-use Rattle.kmip_messages.specs.RequestFormats.{name_parts_format, name_format, key_attrs_format, filter_format, create_format, locate_format, reason_format, revoke_format, payload_format, version_parts_format, header_parts_format, header_format, known_format, asked_format, item_format, known_in_format, message_format}
+use Rattle.kmip_messages.specs.RequestFormats.{key_attrs_format, create_format, locate_format, reason_format, revoke_format, payload_format, version_parts_format, header_parts_format, header_format, known_format, asked_format, item_format, known_in_format, message_format}
 use Rattle.kmip_messages.specs.RequestReading.{request_at}
-use Rattle.kmip_messages.specs.Requests.{IsVersion, IsHeader, IsName, IsKeyAttrs, IsFilter, IsCreate, IsPayload, IsAsk, IsRequest}
+use Rattle.kmip_messages.specs.Requests.{IsVersion, IsHeader, IsKeyAttrs, IsCreate, IsPayload, IsAsk, IsRequest}
 use Rattle.kmip_messages.specs.Written.{request_item}
-use Rattle.kmip_messages.proofs.Readers.{reads-refused, reads-carrying, reads-message, id_is, is_id, identifier_is, is_identifier_said, one_is, plain_is}
-use Rattle.kmip_messages.proofs.RequestLaws.{message-good, message_fits, one_of_six}
+use Rattle.kmip_messages.proofs.Readers.{reads-refused, reads-carrying, reads-message, id_is, is_id, identifier_is, is_identifier_said, one_is}
+use Rattle.kmip_messages.proofs.AttributeLaws.{name_is, is_name_said, filter_is, is_filter}
+use Rattle.kmip_messages.proofs.RequestLaws.{message-good, message_fits, asked_is_operation}
 
 -- two numbers that were tested
 same_number : (x y : ℤ) → int_eq x y ≡ true → x ≡ y
 same_number x y h = (Decides-int_eq x y).0 h
 
 -- ---- attributes
-
-name_is : (attributes : List Node) (text : List ℕ) → name_format.Says attributes text → IsName attributes text
-unfolding name_parts_format
-name_is attributes text (parts, stands, ((value, in_range), plain)) = record {
-  parts = parts;
-  stands = stands;
-  value = value;
-  in_range = in_range;
-  plain = plain_is parts plain;
-}
-
-is_name_said : (attributes : List Node) (text : List ℕ) → IsName attributes text → name_format.Says attributes text
-unfolding name_parts_format
-is_name_said attributes text p = (p.parts, p.stands, ((p.value, p.in_range), (NAME_TYPE_UNINTERPRETED_TEXT_STRING, p.plain, refl)))
 
 key_is : (attributes : List Node) (k : KeyAttrs) → key_attrs_format.Says attributes k → IsKeyAttrs attributes k
 unfolding key_attrs_format
@@ -62,25 +48,6 @@ is_key : (attributes : List Node) (k : KeyAttrs) → IsKeyAttrs attributes k →
 unfolding key_attrs_format
 is_key attributes k p =
     (p.no_others, (is_name_said attributes k.name p.called, ((((p.algorithm, p.algorithm_in_range), p.bits), p.bits_in_range), (p.mask, p.mask_in_range))))
-
-filter_is : (attributes : List Node) (a : Attrs) → filter_format.Says attributes a → IsFilter attributes a
-unfolding filter_format
-filter_is attributes a (no_others, (object, ((text, called, same), (kind, (bits, (mask, stage)))))) = record {
-  no_others = no_others;
-  object_type = object;
-  text = text;
-  has_name = same;
-  called = name_is attributes text called;
-  algorithm = kind;
-  bits = bits;
-  mask = mask;
-  stage = stage;
-}
-
-is_filter : (attributes : List Node) (a : Attrs) → IsFilter attributes a → filter_format.Says attributes a
-unfolding filter_format
-is_filter attributes a p =
-    (p.no_others, (p.object_type, ((p.text, is_name_said attributes p.text p.called, p.has_name), (p.algorithm, (p.bits, (p.mask, p.stage))))))
 
 -- ---- payloads
 
@@ -151,7 +118,7 @@ ask_is batch a (_, (payload, stands, says)) operation = record { operation = ope
 
 pub is_ask : (batch : List Node) (a : Ask) → IsAsk batch a → (asked_format (operation_of a)).Says batch a
 unfolding asked_format
-is_ask batch a p = (one_of_six a, (p.payload, p.stands, is_payload p.payload a p.says))
+is_ask batch a p = (asked_is_operation a, (p.payload, p.stands, is_payload p.payload a p.says))
 
 -- What the items of a Request Message say is the request that the message is.
 pub message_is : (r : Request) (message : List Node) → message_format.Says message r → IsRequest r (node TAG_REQUEST_MESSAGE (inside message))

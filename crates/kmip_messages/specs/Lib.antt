@@ -2,6 +2,7 @@ pub mod Operations
 pub mod Ranges
 pub mod RequestFits
 pub mod Marks
+pub mod Attributes
 pub mod Parts
 pub mod RequestFormats
 pub mod RequestReading

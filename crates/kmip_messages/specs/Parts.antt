@@ -1,14 +1,14 @@
--- What both kinds of message have: their items, the Unique Batch Item ID, the Batch Count, Unique Identifiers and attributes.
--- Source: KMIP 2.1, Message Structure and Object Attributes; the order of optional attributes is own.
+-- What both kinds of message have: their items, the Unique Batch Item ID, the Batch Count, Unique Identifiers and the type of a
+-- Name.
+-- Source: KMIP 2.1, Message Structure and Object Attributes.
 use Rattle.std.specs.Prelude.{ℕ, pos, ◌==◌, true, List, Option, Some, None, Result, Ok, Err, if◌then◌else◌}
 use Rattle.std.specs.Option.{option_map_or}
 use Rattle.std.specs.Ordering.{int_eq}
 use Rattle.kmip_ttlv.specs.Node.{Node, tag_of, content_of, as_structure}
 use Rattle.kmip_fields.specs.declared.fault.MessageFault.{MessageFault}
 use Rattle.kmip_fields.specs.declared.fault.MessageFault.TheVariants.{NotMessage, BatchCount, OutOfRange}
-use Rattle.kmip_fields.specs.Formats.{Format, integers, enumerations, texts, bytes, required, optional, ranged, fixed, as_record, ◌⊗◌}
-use Rattle.kmip_objects.specs.declared.attributes.Attrs.{Attrs}
-use Rattle.kmip_messages.specs.declared.standard.TheConstants.{TAG_UNIQUE_BATCH_ITEM_ID, TAG_UNIQUE_IDENTIFIER, TAG_BATCH_COUNT, TAG_NAME_TYPE, TAG_OBJECT_TYPE, TAG_CRYPTOGRAPHIC_ALGORITHM, TAG_CRYPTOGRAPHIC_LENGTH, TAG_CRYPTOGRAPHIC_USAGE_MASK, TAG_STATE, NAME_TYPE_UNINTERPRETED_TEXT_STRING}
+use Rattle.kmip_fields.specs.Formats.{Format, integers, enumerations, texts, bytes, required, optional, ranged, fixed}
+use Rattle.kmip_messages.specs.declared.standard.TheConstants.{TAG_UNIQUE_BATCH_ITEM_ID, TAG_UNIQUE_IDENTIFIER, TAG_BATCH_COUNT, TAG_NAME_TYPE, NAME_TYPE_UNINTERPRETED_TEXT_STRING}
 use Rattle.kmip_objects.specs.Ranges.{is_identifier}
 use Rattle.kmip_messages.specs.Ranges.{is_batch_id}
 
@@ -36,15 +36,3 @@ count_format = fixed BatchCount (λ z. int_eq z (pos 1)) (pos 1) (required integ
 abbrev pub plain_format : Format (Unit {0})
 plain_format = fixed (OutOfRange TAG_NAME_TYPE) (λ n. n == NAME_TYPE_UNINTERPRETED_TEXT_STRING) NAME_TYPE_UNINTERPRETED_TEXT_STRING
     (required enumerations TAG_NAME_TYPE)
-
--- the attributes of an object, the Name among them told so
-abbrev pub attrs_with : Format (Option (List ℕ)) → Format Attrs
-attrs_with name = as_record
-    (λ (object, (called, (kind, (bits, (mask, stage))))). record { object_type = object; name = called; algorithm = kind; length = bits; usage = mask; state = stage })
-    (λ a. (a.object_type, (a.name, (a.algorithm, (a.length, (a.usage, a.state))))))
-    (optional enumerations TAG_OBJECT_TYPE
-    ⊗ name
-    ⊗ optional enumerations TAG_CRYPTOGRAPHIC_ALGORITHM
-    ⊗ optional integers TAG_CRYPTOGRAPHIC_LENGTH
-    ⊗ optional integers TAG_CRYPTOGRAPHIC_USAGE_MASK
-    ⊗ optional enumerations TAG_STATE)

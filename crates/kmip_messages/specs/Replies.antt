@@ -10,42 +10,11 @@ use Rattle.kmip_objects.specs.declared.attributes.Attrs.{Attrs}
 use Rattle.kmip_messages.specs.declared.reply.Outcome.{Outcome}
 use Rattle.kmip_messages.specs.declared.reply.Outcome.TheVariants.{Created, Located, Attributes, Activated, Revoked, Destroyed, Failed}
 use Rattle.kmip_messages.specs.declared.reply.Reply.{Reply}
-use Rattle.kmip_messages.specs.declared.standard.TheConstants.{
-  TAG_RESPONSE_MESSAGE,
-  TAG_RESPONSE_HEADER,
-  TAG_PROTOCOL_VERSION,
-  TAG_PROTOCOL_VERSION_MAJOR,
-  TAG_PROTOCOL_VERSION_MINOR,
-  TAG_BATCH_COUNT,
-  TAG_BATCH_ITEM,
-  TAG_OPERATION,
-  TAG_RESULT_STATUS,
-  TAG_RESULT_REASON,
-  TAG_RESPONSE_PAYLOAD,
-  TAG_OBJECT_TYPE,
-  TAG_ATTRIBUTES,
-  TAG_NAME,
-  TAG_NAME_VALUE,
-  TAG_NAME_TYPE,
-  TAG_CRYPTOGRAPHIC_ALGORITHM,
-  TAG_CRYPTOGRAPHIC_LENGTH,
-  TAG_CRYPTOGRAPHIC_USAGE_MASK,
-  TAG_STATE,
-  TAG_UNIQUE_IDENTIFIER,
-  VERSION_MAJOR,
-  NAME_TYPE_UNINTERPRETED_TEXT_STRING,
-  STATUS_SUCCESS,
-  STATUS_OPERATION_FAILED,
-  OPERATION_CREATE,
-  OPERATION_LOCATE,
-  OPERATION_GET_ATTRIBUTES,
-  OPERATION_ACTIVATE,
-  OPERATION_REVOKE,
-  OPERATION_DESTROY,
-}
+use Rattle.kmip_messages.specs.declared.standard.TheConstants.{TAG_RESPONSE_MESSAGE, TAG_RESPONSE_HEADER, TAG_PROTOCOL_VERSION, TAG_PROTOCOL_VERSION_MAJOR, TAG_PROTOCOL_VERSION_MINOR, TAG_BATCH_COUNT, TAG_BATCH_ITEM, TAG_OPERATION, TAG_RESULT_STATUS, TAG_RESULT_REASON, TAG_RESPONSE_PAYLOAD, TAG_ATTRIBUTES, TAG_UNIQUE_IDENTIFIER, VERSION_MAJOR, STATUS_SUCCESS, STATUS_OPERATION_FAILED, OPERATION_CREATE, OPERATION_LOCATE, OPERATION_GET_ATTRIBUTES, OPERATION_ACTIVATE, OPERATION_REVOKE, OPERATION_DESTROY}
 use Rattle.kmip_objects.specs.Ranges.{is_identifier}
 use Rattle.kmip_fields.specs.Siblings.{contents}
 use Rattle.kmip_fields.specs.Standing.{Once, AtMostOnce}
+use Rattle.kmip_messages.specs.Attributes.{AreAttrs}
 use Rattle.kmip_messages.specs.Marks.{IsMarked, IsIdentifier}
 use Rattle.kmip_fields.specs.Formats.{inside}
 
@@ -71,26 +40,6 @@ pub record IsReplyBatch (item : Node) (batch : List Node) : Type 0 where
 pub record AreIdentifiers (payload : List Node) (uids : List (List ℕ)) : Type 0 where
   pub stand : contents TAG_UNIQUE_IDENTIFIER payload ≡ map text_string uids
   pub in_range : IsTrue (list_all is_identifier uids)
-
--- a Name with any text
-pub record IsAnyName (attributes : List Node) (name : List ℕ) : Type 0 where
-  pub parts : List Node
-  pub has_name : Once TAG_NAME (inside parts) attributes
-  pub has_value : Once TAG_NAME_VALUE (text_string name) parts
-  pub has_type : Once TAG_NAME_TYPE (enumeration NAME_TYPE_UNINTERPRETED_TEXT_STRING) parts
-
-abbrev pub IsNameIfAny : List Node → Option (List ℕ) → Type 0
-IsNameIfAny attributes None = AtMostOnce TAG_NAME None attributes
-IsNameIfAny attributes (Some name) = IsAnyName attributes name
-
--- the attributes that a reply gives, each of any value
-pub record AreAttrs (attributes : List Node) (attrs : Attrs) : Type 0 where
-  pub object_type : AtMostOnce TAG_OBJECT_TYPE (option_map enumeration attrs.object_type) attributes
-  pub name : IsNameIfAny attributes attrs.name
-  pub algorithm : AtMostOnce TAG_CRYPTOGRAPHIC_ALGORITHM (option_map enumeration attrs.algorithm) attributes
-  pub length : AtMostOnce TAG_CRYPTOGRAPHIC_LENGTH (option_map integer attrs.length) attributes
-  pub usage : AtMostOnce TAG_CRYPTOGRAPHIC_USAGE_MASK (option_map integer attrs.usage) attributes
-  pub state : AtMostOnce TAG_STATE (option_map enumeration attrs.state) attributes
 
 -- the payload of Get Attributes: an identifier, and the attributes of its object
 pub record IsObject (payload : List Node) (uid : List ℕ) (attrs : Attrs) : Type 0 where

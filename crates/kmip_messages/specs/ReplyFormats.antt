@@ -14,7 +14,8 @@ use Rattle.kmip_messages.specs.declared.reply.Outcome.{Outcome}
 use Rattle.kmip_messages.specs.declared.reply.Outcome.TheVariants.{Created, Located, Attributes, Activated, Revoked, Destroyed, Failed}
 use Rattle.kmip_messages.specs.declared.reply.Reply.{Reply}
 use Rattle.kmip_messages.specs.declared.standard.TheConstants.{TAG_RESPONSE_HEADER, TAG_PROTOCOL_VERSION, TAG_PROTOCOL_VERSION_MAJOR, TAG_PROTOCOL_VERSION_MINOR, TAG_TIME_STAMP, TAG_BATCH_ITEM, TAG_OPERATION, TAG_RESULT_STATUS, TAG_RESULT_REASON, TAG_RESPONSE_PAYLOAD, TAG_OBJECT_TYPE, TAG_ATTRIBUTES, TAG_NAME, TAG_NAME_VALUE, TAG_UNIQUE_IDENTIFIER, VERSION_MAJOR, VERSION_MINOR, STATUS_SUCCESS, STATUS_OPERATION_FAILED, OPERATION_CREATE, OPERATION_LOCATE, OPERATION_GET_ATTRIBUTES, OPERATION_ACTIVATE, OPERATION_REVOKE, OPERATION_DESTROY}
-use Rattle.kmip_messages.specs.Parts.{id_format, identifier_format, count_format, plain_format, attrs_with}
+use Rattle.kmip_messages.specs.Attributes.{attrs_with}
+use Rattle.kmip_messages.specs.Parts.{id_format, identifier_format, count_format, plain_format}
 use Rattle.kmip_messages.specs.Ranges.{is_operation}
 
 -- ---- attributes

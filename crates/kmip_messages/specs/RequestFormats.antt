@@ -14,7 +14,8 @@ use Rattle.kmip_messages.specs.declared.request.Ask.TheVariants.{Create, Locate,
 use Rattle.kmip_messages.specs.declared.request.Request.{Request}
 use Rattle.kmip_messages.specs.declared.standard.TheConstants.{TAG_REQUEST_HEADER, TAG_PROTOCOL_VERSION, TAG_PROTOCOL_VERSION_MAJOR, TAG_PROTOCOL_VERSION_MINOR, TAG_BATCH_ITEM, TAG_OPERATION, TAG_REQUEST_PAYLOAD, TAG_OBJECT_TYPE, TAG_ATTRIBUTES, TAG_NAME, TAG_NAME_VALUE, TAG_CRYPTOGRAPHIC_ALGORITHM, TAG_CRYPTOGRAPHIC_LENGTH, TAG_CRYPTOGRAPHIC_USAGE_MASK, TAG_STORAGE_STATUS_MASK, TAG_REVOCATION_REASON, TAG_REVOCATION_REASON_CODE, VERSION_MAJOR, VERSION_MINOR, OPERATION_CREATE, OPERATION_LOCATE, OPERATION_GET_ATTRIBUTES, OPERATION_ACTIVATE, OPERATION_REVOKE}
 use Rattle.kmip_messages.specs.Operations.{operation_of}
-use Rattle.kmip_messages.specs.Parts.{id_format, identifier_format, count_format, plain_format, attrs_with}
+use Rattle.kmip_messages.specs.Attributes.{attrs_with}
+use Rattle.kmip_messages.specs.Parts.{id_format, identifier_format, count_format, plain_format}
 use Rattle.kmip_messages.specs.Ranges.{is_operation}
 
 -- ---- attributes

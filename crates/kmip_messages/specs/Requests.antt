@@ -1,9 +1,9 @@
 -- What a request says, whatever the order of its items: no faults, and no reading.
 -- Source: KMIP 2.1, Message Structure (Request Message), Operations (Create, Locate, Get Attributes, Activate, Revoke,
 -- Destroy) and Object Attributes; the ranges of names, identifiers and key attributes are own.
-use Rattle.std.specs.Prelude.{◌≡◌, ℕ, ℤ, pos, List, [], ◌∷◌, Option, Some, IsTrue}
+use Rattle.std.specs.Prelude.{◌≡◌, ℕ, ℤ, pos, List, [], ◌∷◌, Option, IsTrue}
 use Rattle.std.specs.Option.{option_map}
-use Rattle.kmip_ttlv.specs.Node.{Node, node, integer, enumeration, text_string}
+use Rattle.kmip_ttlv.specs.Node.{Node, node, integer, enumeration}
 use Rattle.kmip_objects.specs.declared.attributes.KeyAttrs.{KeyAttrs}
 use Rattle.kmip_objects.specs.declared.attributes.Attrs.{Attrs}
 use Rattle.kmip_messages.specs.declared.request.Ask.{Ask}
@@ -22,23 +22,20 @@ use Rattle.kmip_messages.specs.declared.standard.TheConstants.{
   TAG_OBJECT_TYPE,
   TAG_ATTRIBUTES,
   TAG_NAME,
-  TAG_NAME_VALUE,
-  TAG_NAME_TYPE,
   TAG_CRYPTOGRAPHIC_ALGORITHM,
   TAG_CRYPTOGRAPHIC_LENGTH,
   TAG_CRYPTOGRAPHIC_USAGE_MASK,
-  TAG_STATE,
   TAG_STORAGE_STATUS_MASK,
   TAG_REVOCATION_REASON,
   TAG_REVOCATION_REASON_CODE,
   VERSION_MAJOR,
   VERSION_MINOR,
-  NAME_TYPE_UNINTERPRETED_TEXT_STRING,
 }
 use Rattle.kmip_objects.specs.declared.standard.TheConstants.{OBJECT_TYPE_SYMMETRIC_KEY}
-use Rattle.kmip_objects.specs.Ranges.{is_name, is_algorithm, is_length, is_usage, is_revocation_code}
+use Rattle.kmip_objects.specs.Ranges.{is_algorithm, is_length, is_usage, is_revocation_code}
 use Rattle.kmip_messages.specs.Operations.{operation_of}
 use Rattle.kmip_fields.specs.Standing.{Once, AtMostOnce, HaveTags}
+use Rattle.kmip_messages.specs.Attributes.{IsName, IsFilter}
 use Rattle.kmip_messages.specs.Marks.{IsMarked, IsIdentifier}
 use Rattle.kmip_fields.specs.Formats.{inside}
 
@@ -63,20 +60,9 @@ pub record IsBatch (item : Node) (batch : List Node) : Type 0 where
   pub header : IsHeader parts
   pub stands : Once TAG_BATCH_ITEM (inside batch) parts
 
--- the Name, an uninterpreted text
-pub record IsName (attributes : List Node) (text : List ℕ) : Type 0 where
-  pub parts : List Node
-  pub stands : Once TAG_NAME (inside parts) attributes
-  pub value : Once TAG_NAME_VALUE (text_string text) parts
-  pub in_range : IsTrue (is_name text)
-  pub plain : Once TAG_NAME_TYPE (enumeration NAME_TYPE_UNINTERPRETED_TEXT_STRING) parts
-
--- the attributes of a new key, and those that keys are looked for by
+-- the attributes of a new key
 abbrev pub key_tags : List ℕ
 key_tags = TAG_NAME ∷ TAG_CRYPTOGRAPHIC_ALGORITHM ∷ TAG_CRYPTOGRAPHIC_LENGTH ∷ TAG_CRYPTOGRAPHIC_USAGE_MASK ∷ []
-
-abbrev pub filter_tags : List ℕ
-filter_tags = TAG_OBJECT_TYPE ∷ TAG_NAME ∷ TAG_CRYPTOGRAPHIC_ALGORITHM ∷ TAG_CRYPTOGRAPHIC_LENGTH ∷ TAG_CRYPTOGRAPHIC_USAGE_MASK ∷ TAG_STATE ∷ []
 
 -- the attributes of a new key, all four of them and no others
 pub record IsKeyAttrs (attributes : List Node) (key : KeyAttrs) : Type 0 where
@@ -88,18 +74,6 @@ pub record IsKeyAttrs (attributes : List Node) (key : KeyAttrs) : Type 0 where
   pub bits_in_range : IsTrue (is_length key.algorithm key.length)
   pub mask : Once TAG_CRYPTOGRAPHIC_USAGE_MASK (integer key.usage) attributes
   pub mask_in_range : IsTrue (is_usage key.usage)
-
--- the attributes to look for, the Name among them, and no attributes outside the profile
-pub record IsFilter (attributes : List Node) (filter : Attrs) : Type 0 where
-  pub no_others : HaveTags filter_tags attributes
-  pub object_type : AtMostOnce TAG_OBJECT_TYPE (option_map enumeration filter.object_type) attributes
-  pub text : List ℕ
-  pub has_name : Some text ≡ filter.name
-  pub called : IsName attributes text
-  pub algorithm : AtMostOnce TAG_CRYPTOGRAPHIC_ALGORITHM (option_map enumeration filter.algorithm) attributes
-  pub bits : AtMostOnce TAG_CRYPTOGRAPHIC_LENGTH (option_map integer filter.length) attributes
-  pub mask : AtMostOnce TAG_CRYPTOGRAPHIC_USAGE_MASK (option_map integer filter.usage) attributes
-  pub stage : AtMostOnce TAG_STATE (option_map enumeration filter.state) attributes
 
 -- Create: a symmetric key with these attributes
 pub record IsCreate (payload : List Node) (key : KeyAttrs) : Type 0 where

@@ -3,16 +3,13 @@ ghost use Rattle.std.specs.Prelude.{◌≡◌, ◌++◌, ◌∷◌, ◌<◌, ◌
 ghost use Rattle.kmip_ttlv.specs.Node.{node, integer, enumeration, text_string, byte_string};
 ghost use Rattle.kmip_ttlv.specs.View.{view, views};
 ghost use Rattle.kmip_fields.specs.Formats.{given, inside};
-ghost use Rattle.kmip_messages.specs.ReplyFormats.{any_name_parts_format, any_version_parts_format, attrs_format};
+ghost use Rattle.kmip_messages.specs.ReplyFormats.{any_name_parts_format, any_version_parts_format};
 
 use crate::standard::{
-    NAME_TYPE_UNINTERPRETED_TEXT_STRING, TAG_ATTRIBUTES, TAG_CRYPTOGRAPHIC_ALGORITHM,
-    TAG_CRYPTOGRAPHIC_LENGTH, TAG_CRYPTOGRAPHIC_USAGE_MASK, TAG_NAME, TAG_NAME_TYPE,
-    TAG_NAME_VALUE, TAG_OBJECT_TYPE, TAG_PROTOCOL_VERSION, TAG_PROTOCOL_VERSION_MAJOR,
-    TAG_PROTOCOL_VERSION_MINOR, TAG_STATE, TAG_UNIQUE_BATCH_ITEM_ID, TAG_UNIQUE_IDENTIFIER,
-    VERSION_MAJOR, VERSION_MINOR,
+    NAME_TYPE_UNINTERPRETED_TEXT_STRING, TAG_NAME, TAG_NAME_TYPE, TAG_NAME_VALUE,
+    TAG_PROTOCOL_VERSION, TAG_PROTOCOL_VERSION_MAJOR, TAG_PROTOCOL_VERSION_MINOR,
+    TAG_UNIQUE_BATCH_ITEM_ID, TAG_UNIQUE_IDENTIFIER, VERSION_MAJOR, VERSION_MINOR,
 };
-use kmip_objects::Attrs;
 use kmip_ttlv::{Bytes, Item, NoMemory, Tag, Text};
 use std::alloc::Global;
 
@@ -61,22 +58,6 @@ pub(crate) fn uid_item(alloc: Global, uid: &Text) -> Result<Item, NoMemory>
 {
     let uid = Text::copied(alloc, uid.as_str())?;
     Ok(Item::text_string(Tag::new(TAG_UNIQUE_IDENTIFIER), uid))
-}
-
-/// The Attributes that are given, in the written order.
-#[tactic(auto, unfolding(crate::specs::ReplyFormats::attrs_format))]
-pub(crate) fn attrs_item(alloc: Global, attrs: &Attrs) -> Result<Item, NoMemory>
-    ensures { IfOk result (λ i. view i
-        ≡ node TAG_ATTRIBUTES (inside (attrs_format.write attrs.now))) }
-{
-    let mut items = Vec::new(alloc);
-    push_enumeration(&mut items, TAG_OBJECT_TYPE, attrs.object_type)?;
-    push_name(alloc, &mut items, &attrs.name)?;
-    push_enumeration(&mut items, TAG_CRYPTOGRAPHIC_ALGORITHM, attrs.algorithm)?;
-    push_integer(&mut items, TAG_CRYPTOGRAPHIC_LENGTH, attrs.length)?;
-    push_integer(&mut items, TAG_CRYPTOGRAPHIC_USAGE_MASK, attrs.usage)?;
-    push_enumeration(&mut items, TAG_STATE, attrs.state)?;
-    Ok(Item::structure(Tag::new(TAG_ATTRIBUTES), items))
 }
 
 /// Puts a Name of this value at the end, where there is one.

@@ -12,8 +12,9 @@ ghost use Rattle.kmip_messages.specs.Fits.{is_own, outcome_fits, reply_fits};
 ghost use Rattle.kmip_messages.specs.BatchItems.{answer_fits, answer_item};
 ghost use Rattle.kmip_messages.specs.MessageSizes.{number_size, text_size, IsCapped};
 ghost use Rattle.kmip_messages.specs.Parts.{id_format};
-ghost use Rattle.kmip_messages.specs.ReplyFormats.{any_name_format, attrs_format, identifiers_format, outcome_format};
+ghost use Rattle.kmip_messages.specs.ReplyFormats.{any_name_format, identifiers_format, outcome_format};
 
+use crate::attributes::attrs_size;
 use crate::ranges::is_batch_id;
 use crate::reply::{Outcome, Reply};
 use crate::request::{Ask, Request};
@@ -21,7 +22,7 @@ use crate::standard::{
     OPERATION_ACTIVATE, OPERATION_CREATE, OPERATION_DESTROY, OPERATION_GET_ATTRIBUTES,
     OPERATION_LOCATE, OPERATION_REVOKE,
 };
-use kmip_objects::{Attrs, attrs_fit, is_identifier, is_name, is_revocation_code};
+use kmip_objects::{attrs_fit, is_identifier, is_name, is_revocation_code};
 use kmip_ttlv::{Bytes, MAX_SIZE, Text};
 
 /// Whether the request has a written form: its values are in their ranges. Takes no memory.
@@ -154,23 +155,9 @@ fn outcome_size(outcome: &Outcome) -> usize
     }
 }
 
-/// How many bytes the Attributes take, or more than a message may have.
-#[tactic(auto, unfolding(crate::specs::ReplyFormats::attrs_format))]
-fn attrs_size(attrs: &Attrs) -> usize
-    ensures size { IsCapped result (8 + (attrs_format.extent attrs.now).size) }
-    ensures small { result ≤ 20000 }
-{
-    let numbers = number_size(&attrs.object_type)
-        + number_size(&attrs.algorithm)
-        + number_size(&attrs.length)
-        + number_size(&attrs.usage)
-        + number_size(&attrs.state);
-    8 + numbers + name_size(&attrs.name)
-}
-
 /// How many bytes a Name takes, where there is one, or more than a message may have.
 #[tactic(auto, unfolding(crate::specs::ReplyFormats::any_name_parts_format))]
-fn name_size(name: &Option<Text>) -> usize
+pub(crate) fn name_size(name: &Option<Text>) -> usize
     ensures size { IsCapped result (any_name_format.extent name.now).size }
     ensures small { result ≤ 17000 }
 {
@@ -194,7 +181,7 @@ fn id_size(id: &Option<Bytes>) -> usize
 }
 
 /// How many bytes a number takes, where there is one.
-fn number_size<T>(number: &Option<T>) -> usize
+pub(crate) fn number_size<T>(number: &Option<T>) -> usize
     ensures { result ≡ number_size number.now }
 {
     match number {

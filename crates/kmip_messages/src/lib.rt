@@ -4,6 +4,7 @@
 //! docs/DECISIONS.md.
 #![tactic(auto)]
 
+mod attributes;
 mod building;
 mod fitting;
 pub mod laws;

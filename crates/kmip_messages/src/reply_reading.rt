@@ -17,7 +17,6 @@ ghost use Rattle.kmip_messages.specs.Written.{reply_item};
 ghost use Rattle.kmip_messages.specs.ReplyReading.{reply_at};
 ghost use Rattle.kmip_messages.specs.ReplyFormats.{
   any_name_parts_format,
-  attrs_format,
   identifiers_format,
   object_format,
   answer_format,
@@ -31,22 +30,21 @@ ghost use Rattle.kmip_messages.specs.ReplyFormats.{
   answered_format,
 };
 
+use crate::attributes::attrs_of;
 use crate::parts::{id_of, identifier_of, message_of, whole_item};
 use crate::ranges::is_operation;
 use crate::reply::{Outcome, Reply};
 use crate::standard::{
     NAME_TYPE_UNINTERPRETED_TEXT_STRING, OPERATION_ACTIVATE, OPERATION_CREATE,
     OPERATION_GET_ATTRIBUTES, OPERATION_LOCATE, OPERATION_REVOKE, STATUS_OPERATION_FAILED,
-    STATUS_SUCCESS, TAG_ATTRIBUTES, TAG_BATCH_COUNT, TAG_BATCH_ITEM, TAG_CRYPTOGRAPHIC_ALGORITHM,
-    TAG_CRYPTOGRAPHIC_LENGTH, TAG_CRYPTOGRAPHIC_USAGE_MASK, TAG_NAME, TAG_NAME_TYPE,
-    TAG_NAME_VALUE, TAG_OBJECT_TYPE, TAG_OPERATION, TAG_PROTOCOL_VERSION,
-    TAG_PROTOCOL_VERSION_MAJOR, TAG_PROTOCOL_VERSION_MINOR, TAG_RESPONSE_HEADER,
-    TAG_RESPONSE_MESSAGE, TAG_RESPONSE_PAYLOAD, TAG_RESULT_REASON, TAG_RESULT_STATUS, TAG_STATE,
-    TAG_UNIQUE_IDENTIFIER, VERSION_MAJOR,
+    STATUS_SUCCESS, TAG_ATTRIBUTES, TAG_BATCH_COUNT, TAG_BATCH_ITEM, TAG_NAME, TAG_NAME_TYPE,
+    TAG_NAME_VALUE, TAG_OPERATION, TAG_PROTOCOL_VERSION, TAG_PROTOCOL_VERSION_MAJOR,
+    TAG_PROTOCOL_VERSION_MINOR, TAG_RESPONSE_HEADER, TAG_RESPONSE_MESSAGE, TAG_RESPONSE_PAYLOAD,
+    TAG_RESULT_REASON, TAG_RESULT_STATUS, TAG_UNIQUE_IDENTIFIER, VERSION_MAJOR,
 };
 use kmip_fields::{
-    MessageFault, check, enumeration_if_any, integer_if_any, sole_structure, structure_if_any,
-    the_enumeration, the_integer, the_structure, the_text, within,
+    MessageFault, check, enumeration_if_any, sole_structure, structure_if_any, the_enumeration,
+    the_integer, the_structure, the_text, within,
 };
 use kmip_objects::{Attrs, Texts, is_identifier};
 use kmip_ttlv::{Item, Tag, Text};
@@ -273,30 +271,9 @@ fn object_of(alloc: Global, payload: &[Item]) -> Result<(Text, Attrs), MessageFa
     Ok((uid, attrs))
 }
 
-/// The attributes of the profile that are given.
-#[tactic(auto, unfolding(crate::specs::ReplyFormats::attrs_format))]
-fn attrs_of(alloc: Global, attributes: &[Item]) -> Result<Attrs, MessageFault>
-    ensures { Gives (λ a. a) result (attrs_format.read (views attributes.now)) }
-{
-    let object_type = enumeration_if_any(attributes, TAG_OBJECT_TYPE)?;
-    let name = name_of(alloc, attributes)?;
-    let algorithm = enumeration_if_any(attributes, TAG_CRYPTOGRAPHIC_ALGORITHM)?;
-    let length = integer_if_any(attributes, TAG_CRYPTOGRAPHIC_LENGTH)?;
-    let usage = integer_if_any(attributes, TAG_CRYPTOGRAPHIC_USAGE_MASK)?;
-    let state = enumeration_if_any(attributes, TAG_STATE)?;
-    Ok(Attrs {
-        object_type,
-        name,
-        algorithm,
-        length,
-        usage,
-        state,
-    })
-}
-
 /// The Name Value, of any text, where there is a Name.
 #[tactic(auto, unfolding(crate::specs::ReplyFormats::any_name_parts_format))]
-fn name_of(alloc: Global, attributes: &[Item]) -> Result<Option<Text>, MessageFault>
+pub(crate) fn any_name_of(alloc: Global, attributes: &[Item]) -> Result<Option<Text>, MessageFault>
     ensures { Gives (λ o. o) result
         ((optional_structure TAG_NAME any_name_parts_format).read (views attributes.now)) }
 {

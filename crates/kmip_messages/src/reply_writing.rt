@@ -18,7 +18,8 @@ ghost use Rattle.kmip_messages.specs.ReplyFormats.{
   answered_format,
 };
 
-use crate::building::{attrs_item, push, push_enumeration, push_id, uid_item, version_item};
+use crate::attributes::attrs_item;
+use crate::building::{push, push_enumeration, push_id, uid_item, version_item};
 use crate::reply::{Outcome, Reply};
 use crate::standard::{
     STATUS_OPERATION_FAILED, STATUS_SUCCESS, TAG_BATCH_COUNT, TAG_BATCH_ITEM, TAG_OBJECT_TYPE,

@@ -20,7 +20,6 @@ ghost use Rattle.kmip_messages.specs.RequestReading.{request_at, GivesRequest};
 ghost use Rattle.kmip_messages.specs.RequestFormats.{
   name_format,
   key_attrs_format,
-  filter_format,
   create_format,
   locate_format,
   revoke_format,
@@ -29,6 +28,7 @@ ghost use Rattle.kmip_messages.specs.RequestFormats.{
   asked_format,
 };
 
+use crate::attributes::filter_of;
 use crate::parts::{id_of, identifier_of, message_of, whole_item};
 use crate::ranges::is_operation;
 use crate::refusal::Refusal;
@@ -40,16 +40,14 @@ use crate::standard::{
     TAG_CRYPTOGRAPHIC_USAGE_MASK, TAG_NAME, TAG_NAME_TYPE, TAG_NAME_VALUE, TAG_OBJECT_TYPE,
     TAG_OPERATION, TAG_PROTOCOL_VERSION, TAG_PROTOCOL_VERSION_MAJOR, TAG_PROTOCOL_VERSION_MINOR,
     TAG_REQUEST_HEADER, TAG_REQUEST_MESSAGE, TAG_REQUEST_PAYLOAD, TAG_REVOCATION_REASON,
-    TAG_REVOCATION_REASON_CODE, TAG_STATE, TAG_STORAGE_STATUS_MASK, VERSION_MAJOR, VERSION_MINOR,
+    TAG_REVOCATION_REASON_CODE, TAG_STORAGE_STATUS_MASK, VERSION_MAJOR, VERSION_MINOR,
 };
 use kmip_fields::{
-    MessageFault, check, enumeration_if_any, integer_if_any, only, sole_structure, the_enumeration,
-    the_integer, the_structure, the_text, within,
+    MessageFault, check, integer_if_any, only, sole_structure, the_enumeration, the_integer,
+    the_structure, the_text, within,
 };
 use kmip_objects::standard::OBJECT_TYPE_SYMMETRIC_KEY;
-use kmip_objects::{
-    Attrs, KeyAttrs, is_algorithm, is_length, is_name, is_revocation_code, is_usage,
-};
+use kmip_objects::{KeyAttrs, is_algorithm, is_length, is_name, is_revocation_code, is_usage};
 use kmip_ttlv::{Item, Text};
 use std::alloc::Global;
 
@@ -250,7 +248,7 @@ fn key_attrs_of(alloc: Global, attributes: &[Item]) -> Result<KeyAttrs, MessageF
 
 /// The Name Value of the one Name, which is an uninterpreted text.
 #[tactic(auto, unfolding(crate::specs::RequestFormats::name_parts_format))]
-fn name_of(alloc: Global, attributes: &[Item]) -> Result<Text, MessageFault>
+pub(crate) fn name_of(alloc: Global, attributes: &[Item]) -> Result<Text, MessageFault>
     ensures exact { Gives (λ s. s) result (name_format.read (views attributes.now)) }
     ensures fits { IfOk result (λ s. IsTrue (is_name s)) }
 {
@@ -273,39 +271,6 @@ fn locate_of(alloc: Global, payload: &[Item]) -> Result<Ask, MessageFault>
     let attributes = the_structure(payload, TAG_ATTRIBUTES)?;
     let filter = filter_of(alloc, attributes)?;
     Ok(Ask::Locate { mask, filter })
-}
-
-/// The attributes to look for, the Name among them.
-#[tactic(auto, unfolding(crate::specs::RequestFormats::filter_format))]
-fn filter_of(alloc: Global, attributes: &[Item]) -> Result<Attrs, MessageFault>
-    ensures exact { Gives (λ a. a) result (filter_format.read (views attributes.now)) }
-    ensures fits { IfOk result (λ a. IsTrue (option_map_or is_name a.name false)) }
-{
-    only(
-        &[
-            TAG_OBJECT_TYPE,
-            TAG_NAME,
-            TAG_CRYPTOGRAPHIC_ALGORITHM,
-            TAG_CRYPTOGRAPHIC_LENGTH,
-            TAG_CRYPTOGRAPHIC_USAGE_MASK,
-            TAG_STATE,
-        ],
-        attributes,
-    )?;
-    let object_type = enumeration_if_any(attributes, TAG_OBJECT_TYPE)?;
-    let name = name_of(alloc, attributes)?;
-    let algorithm = enumeration_if_any(attributes, TAG_CRYPTOGRAPHIC_ALGORITHM)?;
-    let length = integer_if_any(attributes, TAG_CRYPTOGRAPHIC_LENGTH)?;
-    let usage = integer_if_any(attributes, TAG_CRYPTOGRAPHIC_USAGE_MASK)?;
-    let state = enumeration_if_any(attributes, TAG_STATE)?;
-    Ok(Attrs {
-        object_type,
-        name: Some(name),
-        algorithm,
-        length,
-        usage,
-        state,
-    })
 }
 
 /// A Revoke: the identifier and the reason's code.

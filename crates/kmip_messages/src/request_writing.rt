@@ -21,8 +21,9 @@ ghost use Rattle.kmip_messages.specs.RequestFormats.{
 ghost use Rattle.kmip_messages.specs.declared.request.Ask.TheVariants.{Locate, Revoke};
 ghost use Rattle.kmip_messages.specs.Written.{request_item};
 
+use crate::attributes::attrs_item;
 use crate::building::{
-    attrs_item, name_item, push, push_enumeration, push_id, push_integer, uid_item, version_item,
+    name_item, push, push_enumeration, push_id, push_integer, uid_item, version_item,
 };
 use crate::request::{Ask, Request};
 use crate::standard::{

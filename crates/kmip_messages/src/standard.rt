@@ -2,7 +2,7 @@
 //!
 //! Source: KMIP 2.1, Tags and Enumerations. What is marked "own" is this project's profile.
 
-// Tags.
+// Tags. Those that stand among attributes alone are in attributes.rt.
 
 pub const TAG_BATCH_COUNT: u32 = 0x42000D;
 
@@ -51,8 +51,6 @@ pub const TAG_RESULT_STATUS: u32 = 0x42007F;
 pub const TAG_REVOCATION_REASON: u32 = 0x420081;
 
 pub const TAG_REVOCATION_REASON_CODE: u32 = 0x420082;
-
-pub const TAG_STATE: u32 = 0x42008D;
 
 pub const TAG_STORAGE_STATUS_MASK: u32 = 0x42008E;
 

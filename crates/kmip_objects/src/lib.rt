@@ -12,7 +12,7 @@ mod state;
 mod step;
 mod texts;
 
-pub use attributes::{Attrs, KeyAttrs};
+pub use attributes::{Attrs, KeyAttrs, attributes_of, has_given};
 pub use ranges::{
     attrs_fit, is_algorithm, is_compromise, is_identifier, is_length, is_name, is_revocation_code,
     is_usage,
