@@ -25,7 +25,7 @@ use Rattle.kmip_messages.proofs.BatchItemLaws.{whole-law, whole-complete, questi
 use Rattle.kmip_batches.specs.declared.batch.Batch.{Batch}
 use Rattle.kmip_batches.specs.Batches.{IsBatch, AreReplies, batch_at, batch_read, replies_at, replies_read}
 use Rattle.kmip_batches.specs.Items.{refusal_of, parts_of, parts_in, stops_with, stops_of, stops_in, requests_in, replies_of, replies_in}
-use Rattle.kmip_batches.specs.Members.{SayEach}
+use Rattle.kmip_batches.specs.Members.{may_have, SayEach}
 use Rattle.kmip_batches.specs.Ranges.{QuestionFits}
 use Rattle.kmip_batches.specs.Written.{requests_item, batch_of, requests_fit, replies_item, replies_fit}
 use Rattle.kmip_batches.proofs.BatchLaws.{batch-law, requests_written}
@@ -83,6 +83,29 @@ batch_fits bytes b e =
     let found = item_read (item_in bytes) batch_at b e in
     let is = (batch-law found.0).sound b found.1 in
     questions_fit (contents TAG_BATCH_ITEM is.message) b.items is.questions
+
+batch_few : (bytes : List ℕ) (b : Batch) → batch_read bytes ≡ Ok b → IsTrue (may_have (length b.items))
+unfolding batch_read
+batch_few bytes b e =
+    let found = item_read (item_in bytes) batch_at b e in
+    ((batch-law found.0).sound b found.1).within
+
+few_of : (read : Result Batch MessageFault) → ((b : Batch) → read ≡ Ok b → IsTrue (may_have (length b.items))) → IsTrue (may_have (length (parts_of read)))
+few_of (Ok b) h = h b refl
+few_of (Err fault) h = refl
+
+fit_of : (read : Result Batch MessageFault) → ((b : Batch) → read ≡ Ok b → All QuestionFits b.items) → All QuestionFits (parts_of read)
+fit_of (Ok b) h = h b refl
+fit_of (Err fault) h = All-cons QuestionFits (Err (refusal_of fault)) [] (tt, refl) (All-nil QuestionFits)
+
+-- any bytes have one to eight questions, each in its ranges
+pub parts_are_few : (bytes : List ℕ) → IsTrue (may_have (length (parts_in bytes)))
+unfolding parts_in
+parts_are_few bytes = few_of (batch_read bytes) (batch_few bytes)
+
+pub parts_fit : (bytes : List ℕ) → All QuestionFits (parts_in bytes)
+unfolding parts_in
+parts_fit bytes = fit_of (batch_read bytes) (batch_fits bytes)
 
 -- what a reader of requests gave
 pub given_fits : (bytes : List ℕ) (answer : Result Batch MessageFault) → Gives (λ b. b) answer (batch_read bytes) → IfOk answer (λ b. All QuestionFits b.items)

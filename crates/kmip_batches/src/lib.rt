@@ -6,6 +6,7 @@
 
 mod batch;
 mod fitting;
+pub mod laws;
 mod members;
 mod reply_reading;
 mod reply_writing;

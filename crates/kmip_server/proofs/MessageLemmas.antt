@@ -1,14 +1,23 @@
 -- A message of one question is served by the one reply to it.
-use Rattle.std.proofs.Common.{◌≡◌, ℕ, Bool, ◌&&◌, List, [], ◌∷◌, Result, Ok, Err, IfOk, OnOk, subst, refl, sym, inl, inr}
-use Rattle.std.proofs.lemmas.Bool.{cases_Bool}
+use Rattle.std.proofs.Common.{◌≡◌, ℕ, Bool, ◌&&◌, List, [], ◌∷◌, Result, Ok, Err, IfOk, OnErr, OnOk, subst, refl, sym, inl, inr}
+use Rattle.std.specs.List.{All, AllByRecursion}
+use Rattle.std.specs.Option.{option_map_or}
+use Rattle.std.proofs.lemmas.Bool.{and_parts, cases_Bool}
+use Rattle.std.proofs.lemmas.List.Elements.{recursion_from_All}
+use Rattle.kmip_messages.specs.BatchItems.{Question}
+use Rattle.kmip_messages.specs.Ranges.{is_batch_id}
+use Rattle.kmip_messages.specs.RequestFits.{ask_fits}
+use Rattle.kmip_batches.specs.Ranges.{QuestionFits}
 use Rattle.kmip_messages.specs.Whole.{request_read}
 use Rattle.kmip_messages.specs.Items.{replies_in}
+use Rattle.kmip_batches.specs.Items as batch
 use Rattle.kmip_messages.specs.declared.refusal.Refusal.{Refusal}
 use Rattle.kmip_messages.specs.declared.reply.Reply.{Reply}
 use Rattle.kmip_messages.specs.declared.request.Ask.{Ask}
 use Rattle.kmip_messages.specs.declared.request.Request.{Request}
 use Rattle.kmip_store.specs.Stock.{IsKept, Stock}
 use Rattle.kmip_server.specs.Again.{has_failed}
+use Rattle.kmip_server.specs.Batching.{is_last, replies_to, stock_after_all, AreBegun, IsCutShort}
 use Rattle.kmip_server.specs.Messages.{AreServed, IsServedBy}
 use Rattle.kmip_server.specs.ServerStep.{ServerStep}
 use Rattle.kmip_server.specs.Serving.{answer, reply_to, stock_after, stock_after_read}
@@ -20,6 +29,10 @@ abbrev pub AnswersAreSteps : Type 0
 AnswersAreSteps =
     (s : Stock) (ask : Ask) → IsKept s.rows s.room
     → ServerStep (room_in s) (objects_in s) ask (answer s ask).0 (objects_in (answer s ask).1)
+
+-- and keeps what holds of the records
+abbrev pub AnswersKeep : Type 0
+AnswersKeep = (s : Stock) (ask : Ask) → ask_fits ask ≡ true → IsKept s.rows s.room → IsKept (answer s ask).1.rows (answer s ask).1.room
 
 part_served : AnswersAreSteps → (s : Stock) (part : Result Request Refusal) → IsKept s.rows s.room
     → IsServedBy part (reply_to s part) s (stock_after_read s part)
@@ -55,3 +68,44 @@ served_message steps (Ok v) bytes old new message stops parts kept one says afte
     (subst (λ s. AreServed stops (request_read message ∷ []) (reply_to old (request_read message) ∷ []) old s) (sym after)
     (message_served steps old message stops kept)))
 served_message steps (Err e) bytes old new message stops parts kept one says after = tt
+
+-- ---- several questions
+
+part_kept : AnswersKeep → (s : Stock) (q : Question) → QuestionFits q → IsKept s.rows s.room → IsKept (stock_after_read s q).rows (stock_after_read s q).room
+part_kept keep s (Ok request) fits kept = keep s request.ask (and_parts (option_map_or is_batch_id request.id true) (ask_fits request.ask) fits.0).1 kept
+part_kept keep s (Err refusal) fits kept = kept
+
+all_served : AnswersAreSteps → AnswersKeep → (stops : Bool) (qs : List Question) (s : Stock) → AllByRecursion QuestionFits qs → IsKept s.rows s.room
+    → AreServed stops qs (replies_to stops qs s) s (stock_after_all stops qs s)
+all_served steps keep stops [] s fit kept = refl
+all_served steps keep stops (q ∷ qs) s fit kept =
+    let served = part_served steps s q kept in
+    let rest = all_served steps keep stops qs (stock_after_read s q) fit.1 (part_kept keep s q fit.0 kept) in
+    elim (cases_Bool (is_last stops (reply_to s q))) [
+      | inl over ↦ (stock_after_read s q, served, inl (over, rw over refl, rw over refl))
+      | inr on ↦ (stock_after_read s q, served, inr (on, rw on rest))
+    ]
+
+pub batch_served : AnswersAreSteps → AnswersKeep → {A E : Type 0} (r : Result A E) (bytes : A → List ℕ) (old new : Stock) (stops : Bool)
+    (parts : List Question) → All QuestionFits parts → IsKept old.rows old.room
+    → IfOk r (λ v. batch.replies_in (bytes v) ≡ replies_to stops parts old) → OnOk r (new ≡ stock_after_all stops parts old)
+    → IfOk r (λ v. AreServed stops parts (batch.replies_in (bytes v)) old new)
+batch_served steps keep (Ok v) bytes old new stops parts fit kept says after =
+    subst (λ rs. AreServed stops parts rs old new) (sym says)
+    (subst (λ s. AreServed stops parts (replies_to stops parts old) old s) (sym after)
+    (all_served steps keep stops parts old (recursion_from_All QuestionFits parts fit) kept))
+batch_served steps keep (Err e) bytes old new stops parts fit kept says after = tt
+
+cut_begun : AnswersAreSteps → AnswersKeep → (stops : Bool) (qs : List Question) (s new : Stock) → AllByRecursion QuestionFits qs → IsKept s.rows s.room
+    → IsCutShort stops qs s new → AreBegun stops qs s new
+cut_begun steps keep stops [] s new fit kept none = none
+cut_begun steps keep stops (q ∷ qs) s new fit kept (inl same) = inl same
+cut_begun steps keep stops (q ∷ qs) s new fit kept (inr more) =
+    inr (reply_to s q, stock_after_read s q, part_served steps s q kept, more.0,
+    cut_begun steps keep stops qs (stock_after_read s q) new fit.1 (part_kept keep s q fit.0 kept) more.1)
+
+pub batch_begun : AnswersAreSteps → AnswersKeep → {A E : Type 0} (r : Result A E) (old new : Stock) (stops : Bool) (parts : List Question)
+    → All QuestionFits parts → IsKept old.rows old.room → OnErr r (IsCutShort stops parts old new) → OnErr r (AreBegun stops parts old new)
+batch_begun steps keep (Ok v) old new stops parts fit kept cut = tt
+batch_begun steps keep (Err e) old new stops parts fit kept cut =
+    cut_begun steps keep stops parts old new (recursion_from_All QuestionFits parts fit) kept cut

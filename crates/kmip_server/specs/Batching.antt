@@ -20,7 +20,7 @@ is_last stops reply = stops && has_failed reply.outcome
 abbrev pub replies_to : Bool → List Question → Stock → List Reply
 replies_to stops [] s = []
 replies_to stops (q ∷ qs) s =
-    if is_last stops (reply_to s q) then reply_to s q ∷ [] else reply_to s q ∷ replies_to stops qs (stock_after_read s q)
+    reply_to s q ∷ (if is_last stops (reply_to s q) then [] else replies_to stops qs (stock_after_read s q))
 
 -- the records after them
 abbrev pub stock_after_all : Bool → List Question → Stock → Stock

@@ -1,0 +1,9 @@
+-- By what is read of the bytes.
+use Rattle.kmip_batches.proofs.ByteLemmas.{parts_are_few, parts_fit}
+use Rattle.kmip_batches.proofs.laws.question_laws.Goals as goal
+
+pub returns-clause-number : goal.returns-clause-number
+returns-clause-number c = λ bytes. parts_are_few bytes
+
+pub returns-clause-fit : goal.returns-clause-fit
+returns-clause-fit c = λ bytes. parts_fit bytes
