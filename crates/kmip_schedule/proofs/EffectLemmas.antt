@@ -18,7 +18,7 @@ use Rattle.kmip_objects.specs.declared.step.Step.TheVariants as steps
 use Rattle.kmip_server.specs.Again.{has_failed}
 use Rattle.kmip_server.specs.ServerStep as rows
 use Rattle.kmip_server.specs.ServerStep.{ServerStep, step_asked, success_of}
-use Rattle.kmip_schedule.specs.Effects.{effect_of, effect_asked, effect_on}
+use Rattle.kmip_server.specs.Effects.{effect_of, effect_asked, effect_on}
 use Rattle.kmip_schedule.specs.Lawbook.{Lawbook}
 use Rattle.kmip_schedule.specs.Moves.{Joins}
 use Rattle.kmip_schedule.specs.Past.{change}

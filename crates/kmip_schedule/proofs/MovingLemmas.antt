@@ -23,7 +23,7 @@ use Rattle.kmip_client.specs.Justified.{StepIsDue, MayAsk}
 use Rattle.kmip_client.specs.Places.{position, uid_of}
 use Rattle.kmip_server.specs.ServerStep as rows
 use Rattle.kmip_server.specs.ServerStep.{ServerStep, step_asked}
-use Rattle.kmip_schedule.specs.declared.effect.Effect.{Effect}
+use Rattle.kmip_server.specs.declared.effect.Effect.{Effect}
 use Rattle.kmip_schedule.specs.Lawbook.{Lawbook}
 use Rattle.kmip_schedule.specs.Moves.{Joins, IsNew, IsForeign}
 use Rattle.kmip_schedule.specs.Past.{Past, is_planned, steps_on, change}

@@ -25,7 +25,7 @@ use Rattle.kmip_client.specs.Truth.{AreFound, StepIsDone, TrueOutcome}
 use Rattle.kmip_server.specs.ServerStep as rows
 use Rattle.kmip_server.specs.ServerStep.{ServerStep, success_of}
 use Rattle.kmip_server.specs.Serving.{attributes_of}
-use Rattle.kmip_schedule.specs.declared.effect.Effect.{Effect}
+use Rattle.kmip_server.specs.declared.effect.Effect.{Effect}
 use Rattle.kmip_schedule.specs.Lawbook.{Lawbook}
 use Rattle.kmip_schedule.specs.Moves.{HasFailed, Serves}
 use Rattle.kmip_schedule.specs.Past.{Past}

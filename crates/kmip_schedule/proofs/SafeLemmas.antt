@@ -9,7 +9,7 @@ use Rattle.kmip_chains.specs.declared.key.Key.{Key}
 use Rattle.kmip_chains.specs.declared.target.Target.{Target}
 use Rattle.kmip_client.specs.Justified.{Justified}
 use Rattle.kmip_client.specs.Places.{position}
-use Rattle.kmip_schedule.specs.declared.effect.Effect.{Effect}
+use Rattle.kmip_server.specs.declared.effect.Effect.{Effect}
 use Rattle.kmip_schedule.specs.Lawbook.{Lawbook}
 use Rattle.kmip_schedule.specs.Laws.{IsReached}
 use Rattle.kmip_schedule.specs.Past.{Past, steps_on}

@@ -18,7 +18,7 @@ use Rattle.kmip_plan.specs.Plans.{IsPlanned}
 use Rattle.kmip_chains.specs.declared.key.Key.{Key}
 use Rattle.kmip_client.specs.Justified.{Justified, MayAsk}
 use Rattle.kmip_client.specs.Places.{position}
-use Rattle.kmip_schedule.specs.declared.effect.Effect.{Effect}
+use Rattle.kmip_server.specs.declared.effect.Effect.{Effect}
 use Rattle.kmip_schedule.specs.Machine.{IsMirrored, Machine, Mirrors, MayTurn, AllMayTurn, Pair, Turn, Add, Take, after_turn, after_turns, at_start, pair_asked, pair_by_id, pair_done, pair_of, with_place}
 use Rattle.kmip_schedule.specs.Moves.{Joins}
 use Rattle.kmip_schedule.specs.Past.{Past, steps_on}

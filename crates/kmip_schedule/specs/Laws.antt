@@ -17,11 +17,11 @@ use Rattle.kmip_client.specs.Truth.{TrueMessage}
 use Rattle.kmip_messages.specs.declared.refusal.Refusal.{Refusal}
 use Rattle.kmip_messages.specs.declared.request.Request.{Request}
 use Rattle.kmip_schedule.specs.Calm.{AreTaken, CalmlyExchanged}
-use Rattle.kmip_schedule.specs.declared.effect.Effect.{Effect}
+use Rattle.kmip_server.specs.declared.effect.Effect.{Effect}
 use Rattle.kmip_schedule.specs.declared.link.LinkFault.{LinkFault}
 use Rattle.kmip_schedule.specs.Exchanges.{AreGiven, Exchanged, with_asked}
 use Rattle.kmip_schedule.specs.Machine.{IsMirrored}
-use Rattle.kmip_schedule.specs.Effects.{effect_of}
+use Rattle.kmip_server.specs.Effects.{effect_of}
 use Rattle.kmip_schedule.specs.Moves.{Delivered, Joins}
 use Rattle.kmip_schedule.specs.Past.{AreAmong, Past, Names, is_planned}
 use Rattle.kmip_schedule.specs.Safe.{Safe}

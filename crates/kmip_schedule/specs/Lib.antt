@@ -1,7 +1,6 @@
 pub mod Faults
 pub mod Past
 pub mod Moves
-pub mod Effects
 pub mod Sound
 pub mod Exchanges
 pub mod Losses

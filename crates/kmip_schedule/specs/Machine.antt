@@ -10,7 +10,7 @@ use Rattle.kmip_chains.specs.Chains.{step_place}
 use Rattle.kmip_plan.specs.Plans.{IsPlanned, key_named}
 use Rattle.kmip_chains.specs.declared.key.Key.{Key}
 use Rattle.kmip_client.specs.Places.{position}
-use Rattle.kmip_schedule.specs.declared.effect.Effect.{Effect}
+use Rattle.kmip_server.specs.declared.effect.Effect.{Effect}
 use Rattle.kmip_schedule.specs.Past.{Past}
 use Rattle.kmip_schedule.specs.Safe.{step_of_ask}
 

@@ -13,7 +13,7 @@ use Rattle.kmip_objects.specs.declared.step.Step.{Step}
 use Rattle.kmip_objects.specs.declared.step.Step.TheVariants.{Create, Activate, Revoke, Destroy}
 use Rattle.kmip_plan.specs.Plans.{key_named}
 use Rattle.kmip_chains.specs.declared.key.Key.{Key}
-use Rattle.kmip_schedule.specs.declared.effect.Effect.{Effect}
+use Rattle.kmip_server.specs.declared.effect.Effect.{Effect}
 
 pub record Past : Type 0 where
   -- how many objects there may be, and those that there are

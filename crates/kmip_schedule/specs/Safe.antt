@@ -15,7 +15,7 @@ use Rattle.kmip_plan.specs.Plans.{IsPlanned}
 use Rattle.kmip_chains.specs.declared.key.Key.{Key}
 use Rattle.kmip_client.specs.Places.{position}
 use Rattle.kmip_server.specs.ServerStep.{ServerStep}
-use Rattle.kmip_schedule.specs.declared.effect.Effect.{Effect}
+use Rattle.kmip_server.specs.declared.effect.Effect.{Effect}
 use Rattle.kmip_schedule.specs.Past.{Past, steps_on}
 
 -- the step that a request asks

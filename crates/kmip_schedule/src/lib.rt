@@ -3,9 +3,7 @@
 //! and what a failed exchange is to its caller.
 #![tactic(auto)]
 
-mod effect;
 pub mod laws;
 mod link;
 
-pub use effect::Effect;
 pub use link::{Link, LinkFault, answer_or_loss};

@@ -21,7 +21,7 @@ use Rattle.kmip_store.specs.Stock.{Stock, object_of}
 use Rattle.kmip_schedule.specs.Calm.{AreTaken, IsTaken}
 use Rattle.kmip_schedule.specs.Laws.{WhatIsDoneJoins}
 use Rattle.kmip_schedule.specs.Past.{Past}
-use Rattle.kmip_schedule.specs.declared.effect.Effect.{Effect}
+use Rattle.kmip_server.specs.declared.effect.Effect.{Effect}
 use Rattle.kmip_scripted.specs.Scenes.{Scene, WasAsked, past_in}
 use Rattle.kmip_scripted.specs.Serving.{effect_due, effect_in, effect_of_read, is_create, with_served}
 use Rattle.kmip_scripted.proofs.DueLemmas.{seen_is_done}

@@ -18,8 +18,8 @@ use Rattle.kmip_server.specs.ServerStep.{ServerStep, step_asked, success_of}
 use Rattle.kmip_store.specs.Stepping.{row_with}
 use Rattle.kmip_store.specs.Stock.{object_of, objects_of}
 use Rattle.kmip_store.specs.declared.row.Row.{Row}
-use Rattle.kmip_schedule.specs.declared.effect.Effect.{Effect}
-use Rattle.kmip_schedule.specs.Effects.{effect_of, effect_asked, effect_on}
+use Rattle.kmip_server.specs.declared.effect.Effect.{Effect}
+use Rattle.kmip_server.specs.Effects.{effect_of, effect_asked, effect_on}
 use Rattle.kmip_scripted.specs.Serving.{due_by, due_on, effect_seen}
 
 -- the object with an identifier is that of the row with it

@@ -14,8 +14,8 @@ use Rattle.kmip_server.specs.ServerStep.{step_asked}
 use Rattle.kmip_server.specs.Serving.{answer, reply_bytes, stock_after}
 use Rattle.kmip_server.specs.Shown.{objects_in}
 use Rattle.kmip_store.specs.Stock.{Stock}
-use Rattle.kmip_schedule.specs.declared.effect.Effect.{Effect}
-use Rattle.kmip_schedule.specs.Effects.{effect_of}
+use Rattle.kmip_server.specs.declared.effect.Effect.{Effect}
+use Rattle.kmip_server.specs.Effects.{effect_of}
 use Rattle.kmip_scripted.specs.Scenes.{Scene}
 
 -- what the question of a message did to these records, and nothing where it is none

@@ -6,7 +6,7 @@ ghost use Rattle.kmip_scripted.specs.Serving.{due_on, effect_due, is_create};
 
 use kmip_messages::Ask;
 use kmip_objects::{Step, is_compromise};
-use kmip_schedule::Effect;
+use kmip_server::Effect;
 use kmip_store::Records;
 use kmip_ttlv::{NoMemory, Text};
 use std::alloc::Global;

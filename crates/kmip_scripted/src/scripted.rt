@@ -24,9 +24,8 @@ use crate::words::{
 };
 use kmip_losses::Counts;
 use kmip_messages::laws::question_laws;
-use kmip_schedule::Effect;
 use kmip_schedule::laws::{deliveries_join, what_is_done_joins, what_is_taken_is_delivered};
-use kmip_server::{Records, Server};
+use kmip_server::{Effect, Records, Server};
 use kmip_ttlv::{Bytes, NoMemory};
 use std::alloc::Global;
 use std::collections::VecDeque;

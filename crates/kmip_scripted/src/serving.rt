@@ -10,8 +10,7 @@ ghost use Rattle.kmip_scripted.specs.Serving.{effect_in, is_create};
 use crate::effects::{effect_due, is_create};
 use kmip_messages::laws::question_laws;
 use kmip_messages::{Ask, Request, read_request};
-use kmip_schedule::Effect;
-use kmip_server::{Records, Server};
+use kmip_server::{Effect, Records, Server};
 use kmip_ttlv::{Bytes, NoMemory};
 use std::alloc::Global;
 

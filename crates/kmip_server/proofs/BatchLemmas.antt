@@ -1,5 +1,5 @@
 -- Questions answered in turn: what was answered before, and what is left.
-use Rattle.std.proofs.Common.{◌≡◌, ◌+◌, ◌<◌, ◌≤◌, ℕ, Bool, true, false, ◌&&◌, if◌then◌else◌, List, [], ◌∷◌, ◌++◌, length, drop, get_or, Result, Ok, Err, IsTrue, refl, sym, ap, subst, ◌∙◌, inl, inr, arith}
+use Rattle.std.proofs.Common.{◌≡◌, ◌+◌, ◌<◌, ◌≤◌, ℕ, Bool, true, false, ◌&&◌, nat_le, if◌then◌else◌, append-nil, option_to_list, Option, None, List, [], ◌∷◌, ◌++◌, length, drop, get_or, Result, Ok, Err, IsTrue, refl, sym, ap, subst, ◌∙◌, inl, inr, arith}
 use Rattle.std.specs.List.{All}
 use Rattle.std.proofs.lemmas.Bool.{and_parts, leb-true, cases_Bool}
 use Rattle.std.proofs.lemmas.List.{append_assoc, drop_all, drop_more}
@@ -18,8 +18,11 @@ use Rattle.kmip_objects.specs.Ranges.{is_compromise}
 use Rattle.kmip_store.specs.declared.fault.StoreFault.{StoreFault}
 use Rattle.kmip_store.specs.Stock.{Stock}
 use Rattle.kmip_server.specs.Again.{has_failed}
-use Rattle.kmip_server.specs.Batching.{is_last, replies_to, stock_after_all, IsCutShort}
-use Rattle.kmip_server.specs.Serving.{answer, attributes_outcome, outcome_of_change, reply_to, stock_after_read}
+use Rattle.kmip_server.specs.Batching.{effect_by, effects_of, is_last, replies_to, stock_after_all, IsCutShort}
+use Rattle.kmip_server.specs.Effects.{effect_of}
+use Rattle.kmip_server.specs.Serving.{answer, outcome_of_change, reply_to, stock_after_read}
+use Rattle.kmip_server.specs.Shown.{objects_in}
+use Rattle.kmip_server.specs.declared.effect.Effect.{Effect}
 
 -- ---- what failed changed nothing
 
@@ -49,107 +52,159 @@ failed_leaves s (Err refusal) failed = refl
 pub last_leaves : (stops : Bool) (s : Stock) (q : Question) → is_last stops (reply_to s q) ≡ true → stock_after_read s q ≡ s
 last_leaves stops s q over = failed_leaves s q (and_parts stops (has_failed (reply_to s q).outcome) over).1
 
+-- and did nothing
+last_does_nothing : (stops : Bool) (s : Stock) (q : Question) → is_last stops (reply_to s q) ≡ true → effect_by (objects_in s) q (reply_to s q) ≡ None
+last_does_nothing stops s (Ok request) over =
+    let failed : has_failed (answer s request.ask).0 ≡ true = (and_parts stops (has_failed (answer s request.ask).0) over).1 in
+    rw failed refl
+last_does_nothing stops s (Err refusal) over = refl
+
 -- ---- one question and those behind it
 
+-- what it did, as a list
+abbrev own : Stock → Question → List Effect
+own s q = option_to_list (effect_by (objects_in s) q (reply_to s q))
+
+-- the replies, the records and what was done, where these are those of a question and then of others
+record Answers (stops : Bool) (qs : List Question) (s : Stock) (replies : List Reply) (new : Stock) (effects : List Effect) : Type 0 where
+  pub told : replies_to stops qs s ≡ replies
+  pub rest : stock_after_all stops qs s ≡ new
+  pub done : effects_of stops qs s ≡ effects
+
 ended : (stops : Bool) (q : Question) (qs : List Question) (s : Stock) → is_last stops (reply_to s q) ≡ true
-    → (replies_to stops (q ∷ qs) s ≡ reply_to s q ∷ []) × (stock_after_all stops (q ∷ qs) s ≡ stock_after_read s q)
-ended stops q qs s over = (rw over refl, rw over refl)
+    → Answers stops (q ∷ qs) s (reply_to s q ∷ []) (stock_after_read s q) (own s q)
+ended stops q qs s over = record { told = rw over refl; rest = rw over refl; done = rw over (append-nil (own s q)) }
 
 goes_on : (stops : Bool) (q : Question) (qs : List Question) (s : Stock) → is_last stops (reply_to s q) ≡ false
-    → (replies_to stops (q ∷ qs) s ≡ reply_to s q ∷ replies_to stops qs (stock_after_read s q))
-    × (stock_after_all stops (q ∷ qs) s ≡ stock_after_all stops qs (stock_after_read s q))
-goes_on stops q qs s on = (rw on refl, rw on refl)
+    → Answers stops (q ∷ qs) s (reply_to s q ∷ replies_to stops qs (stock_after_read s q)) (stock_after_all stops qs (stock_after_read s q))
+    (own s q ++ effects_of stops qs (stock_after_read s q))
+goes_on stops q qs s on = record { told = rw on refl; rest = rw on refl; done = rw on refl }
 
-alone : (stops : Bool) (q : Question) (s : Stock)
-    → (replies_to stops (q ∷ []) s ≡ reply_to s q ∷ []) × (stock_after_all stops (q ∷ []) s ≡ stock_after_read s q)
+alone : (stops : Bool) (q : Question) (s : Stock) → Answers stops (q ∷ []) s (reply_to s q ∷ []) (stock_after_read s q) (own s q)
 alone stops q s = elim (cases_Bool (is_last stops (reply_to s q))) [
   | inl over ↦ ended stops q [] s over
-  | inr on ↦ goes_on stops q [] s on
+  | inr on ↦
+      let step = goes_on stops q [] s on in
+      record { told = step.told; rest = step.rest; done = step.done ∙ append-nil (own s q) }
 ]
 
 -- ---- those that were answered
 
 -- What was answered and what is left make up the whole, and where nothing more happens some of the first questions were served.
-pub record AreAnswered (stops : Bool) (qs : List Question) (old : Stock) (place : ℕ) (replies : List Reply) (s : Stock) : Type 0 where
+pub record AreAnswered (stops : Bool) (qs : List Question) (old : Stock) (place : ℕ) (replies : List Reply) (effects : List Effect) (s : Stock) : Type 0 where
   pub told : replies ++ replies_to stops (drop place qs) s ≡ replies_to stops qs old
   pub rest : stock_after_all stops (drop place qs) s ≡ stock_after_all stops qs old
-  pub begun : (new : Stock) → IsCutShort stops (drop place qs) s new → IsCutShort stops qs old new
+  pub done : effects ++ effects_of stops (drop place qs) s ≡ effects_of stops qs old
+  pub begun : (more : List Effect) (new : Stock) → IsCutShort stops (drop place qs) more s new → IsCutShort stops qs (effects ++ more) old new
   pub short : All IsShort replies
   pub count : length replies ≡ place
   pub more : place < length qs
 
-pub none_answered : (stops : Bool) (qs : List Question) (s : Stock) → IsTrue (may_have (length qs)) → AreAnswered stops qs s 0 [] s
+pub none_answered : (stops : Bool) (qs : List Question) (s : Stock) → IsTrue (may_have (length qs)) → AreAnswered stops qs s 0 [] [] s
 none_answered stops qs s some = record {
   told = refl;
   rest = refl;
-  begun = λ new h. h;
+  done = refl;
+  begun = λ more new h. h;
   short = All-nil IsShort;
   count = refl;
-  more = omega (arith, leb-true 1 (length qs) (and_parts _ _ some).0);
+  more = omega (arith, leb-true 1 (length qs) (and_parts (nat_le 1 (length qs)) (nat_le (length qs) 8) some).0);
 }
 
 opened : (qs : List Question) (place : ℕ) (q : Question) → place < length qs → q ≡ get_or qs place q → drop place qs ≡ q ∷ drop (place + 1) qs
 opened qs place q below is = drop_more qs place q below ∙ ap (λ x. x ∷ drop (place + 1) qs) (sym is)
 
 -- one more is answered, and another is left
-pub one_more : (stops : Bool) (qs : List Question) (old : Stock) (place : ℕ) (replies : List Reply) (s : Stock) (q : Question)
-    → AreAnswered stops qs old place replies s → q ≡ get_or qs place q → place + 1 < length qs → IsShort (reply_to s q)
+pub one_more : (stops : Bool) (qs : List Question) (old : Stock) (place : ℕ) (replies : List Reply) (effects : List Effect) (s : Stock) (q : Question)
+    → AreAnswered stops qs old place replies effects s → q ≡ get_or qs place q → place + 1 < length qs → IsShort (reply_to s q)
     → is_last stops (reply_to s q) ≡ false
-    → AreAnswered stops qs old (place + 1) (replies ++ reply_to s q ∷ []) (stock_after_read s q)
-one_more stops qs old place replies s q h is below short on =
+    → AreAnswered stops qs old (place + 1) (replies ++ reply_to s q ∷ []) (effects ++ own s q) (stock_after_read s q)
+one_more stops qs old place replies effects s q h is below short on =
     let open_ = opened qs place q h.more is in
     let step = goes_on stops q (drop (place + 1) qs) s on in
     record {
       told =
           append_assoc replies (reply_to s q ∷ []) (replies_to stops (drop (place + 1) qs) (stock_after_read s q))
-          ∙ ap (λ rs. replies ++ rs) (sym step.0 ∙ ap (λ xs. replies_to stops xs s) (sym open_))
+          ∙ ap (λ rs. replies ++ rs) (sym step.told ∙ ap (λ xs. replies_to stops xs s) (sym open_))
           ∙ h.told;
-      rest = sym step.1 ∙ ap (λ xs. stock_after_all stops xs s) (sym open_) ∙ h.rest;
-      begun = λ new more. h.begun new (subst (λ xs. IsCutShort stops xs s new) (sym open_) (inr (on, more)));
+      rest = sym step.rest ∙ ap (λ xs. stock_after_all stops xs s) (sym open_) ∙ h.rest;
+      done =
+          append_assoc effects (own s q) (effects_of stops (drop (place + 1) qs) (stock_after_read s q))
+          ∙ ap (λ es. effects ++ es) (sym step.done ∙ ap (λ xs. effects_of stops xs s) (sym open_))
+          ∙ h.done;
+      begun = λ more new cut.
+          subst (λ es. IsCutShort stops qs es old new) (sym (append_assoc effects (own s q) more))
+          (h.begun (own s q ++ more) new (subst (λ xs. IsCutShort stops xs (own s q ++ more) s new) (sym open_) (inr (more, refl, on, cut))));
       short = All-append IsShort replies (reply_to s q ∷ []) h.short (All-cons IsShort (reply_to s q) [] short (All-nil IsShort));
       count = grind (arith, h.count);
       more = below;
     }
 
 -- nothing more happens
-pub stopped_here : (stops : Bool) (qs : List Question) (old : Stock) (place : ℕ) (replies : List Reply) (s : Stock) (q : Question)
-    → AreAnswered stops qs old place replies s → q ≡ get_or qs place q → IsCutShort stops qs old s
-stopped_here stops qs old place replies s q h is = h.begun s (subst (λ xs. IsCutShort stops xs s s) (sym (opened qs place q h.more is)) (inl refl))
+pub stopped_here : (stops : Bool) (qs : List Question) (old : Stock) (place : ℕ) (replies : List Reply) (effects : List Effect) (s : Stock) (q : Question)
+    → AreAnswered stops qs old place replies effects s → q ≡ get_or qs place q → IsCutShort stops qs effects old s
+stopped_here stops qs old place replies effects s q h is =
+    subst (λ es. IsCutShort stops qs es old s) (append-nil effects)
+    (h.begun [] s (subst (λ xs. IsCutShort stops xs [] s s) (sym (opened qs place q h.more is)) (inl (refl, refl))))
 
--- nothing more happens behind one more question, which is not the last
-pub stopped_behind : (stops : Bool) (qs : List Question) (old : Stock) (place : ℕ) (replies : List Reply) (s : Stock) (q : Question)
-    → AreAnswered stops qs old place replies s → q ≡ get_or qs place q → place + 1 < length qs → IsCutShort stops qs old (stock_after_read s q)
-stopped_behind stops qs old place replies s q h is below = elim (cases_Bool (is_last stops (reply_to s q))) [
-  | inl over ↦ subst (λ new. IsCutShort stops qs old new) (sym (last_leaves stops s q over)) (stopped_here stops qs old place replies s q h is)
+-- nothing more happens behind one more question, which is the last or is not
+pub stopped_over : (stops : Bool) (qs : List Question) (old : Stock) (place : ℕ) (replies : List Reply) (effects : List Effect) (s : Stock) (q : Question)
+    → AreAnswered stops qs old place replies effects s → q ≡ get_or qs place q → is_last stops (reply_to s q) ≡ true
+    → IsCutShort stops qs (effects ++ own s q) old (stock_after_read s q)
+stopped_over stops qs old place replies effects s q h is over =
+    let none : effects ++ own s q ≡ effects = ap (λ e. effects ++ option_to_list e) (last_does_nothing stops s q over) ∙ append-nil effects in
+    subst (λ es. IsCutShort stops qs es old (stock_after_read s q)) (sym none)
+    (subst (λ new. IsCutShort stops qs effects old new) (sym (last_leaves stops s q over))
+    (stopped_here stops qs old place replies effects s q h is))
+
+at_place : (xs : List Question) (i : ℕ) (x : Question) → i < length xs → get_or xs i x ≡ get_or xs i (get_or xs i x)
+at_place [] i x below = absurd (omega (arith, below))
+at_place (y ∷ ys) 0 x below = refl
+at_place (y ∷ ys) (suc i) x below = at_place ys i x (omega (arith, below))
+
+pub stopped_behind : (stops : Bool) (qs : List Question) (old : Stock) (place : ℕ) (replies : List Reply) (effects : List Effect) (s : Stock) (q : Question)
+    → AreAnswered stops qs old place replies effects s → q ≡ get_or qs place q → place + 1 < length qs
+    → IsCutShort stops qs (effects ++ own s q) old (stock_after_read s q)
+stopped_behind stops qs old place replies effects s q h is below = elim (cases_Bool (is_last stops (reply_to s q))) [
+  | inl over ↦ stopped_over stops qs old place replies effects s q h is over
   | inr on ↦
       let next = get_or qs (place + 1) q in
+      let new = stock_after_read s q in
       let behind = opened qs (place + 1) next below (at_place qs (place + 1) q below) in
-      h.begun (stock_after_read s q)
-      (subst (λ xs. IsCutShort stops xs s (stock_after_read s q)) (sym (opened qs place q h.more is))
-      (inr (on, subst (λ xs. IsCutShort stops xs (stock_after_read s q) (stock_after_read s q)) (sym behind) (inl refl))))
+      let rest : IsCutShort stops (drop (place + 1) qs) [] new new = subst (λ xs. IsCutShort stops xs [] new new) (sym behind) (inl (refl, refl)) in
+      h.begun (own s q) new
+      (subst (λ xs. IsCutShort stops xs (own s q) s new) (sym (opened qs place q h.more is)) (inr ([], sym (append-nil (own s q)), on, rest)))
 ]
-  where
-    at_place : (xs : List Question) (i : ℕ) (x : Question) → i < length xs → get_or xs i x ≡ get_or xs i (get_or xs i x)
-    at_place [] i x below = absurd (omega (arith, below))
-    at_place (y ∷ ys) 0 x below = refl
-    at_place (y ∷ ys) (suc i) x below = at_place ys i x (omega (arith, below))
 
--- the replies and the records where the others are left
-pub told_over : (stops : Bool) (qs : List Question) (old : Stock) (place : ℕ) (replies : List Reply) (s : Stock) (q : Question)
-    → AreAnswered stops qs old place replies s → q ≡ get_or qs place q → is_last stops (reply_to s q) ≡ true
-    → (replies ++ reply_to s q ∷ [] ≡ replies_to stops qs old) × (stock_after_read s q ≡ stock_after_all stops qs old)
-told_over stops qs old place replies s q h is over =
-    let open_ = opened qs place q h.more is in
-    let step = ended stops q (drop (place + 1) qs) s over in
-    (ap (λ rs. replies ++ rs) (sym step.0 ∙ ap (λ xs. replies_to stops xs s) (sym open_)) ∙ h.told,
-    sym step.1 ∙ ap (λ xs. stock_after_all stops xs s) (sym open_) ∙ h.rest)
+-- what was answered, what the records are and what was done in the end
+pub record IsWhole (stops : Bool) (qs : List Question) (old : Stock) (replies : List Reply) (effects : List Effect) (new : Stock) : Type 0 where
+  pub told : replies ≡ replies_to stops qs old
+  pub after : new ≡ stock_after_all stops qs old
+  pub done : effects ≡ effects_of stops qs old
+
+whole : (stops : Bool) (qs : List Question) (old : Stock) (place : ℕ) (replies : List Reply) (effects : List Effect) (s : Stock) (q : Question)
+    → AreAnswered stops qs old place replies effects s → Answers stops (drop place qs) s (reply_to s q ∷ []) (stock_after_read s q) (own s q)
+    → IsWhole stops qs old (replies ++ reply_to s q ∷ []) (effects ++ own s q) (stock_after_read s q)
+whole stops qs old place replies effects s q h step = record {
+  told = ap (λ rs. replies ++ rs) (sym step.told) ∙ h.told;
+  after = sym step.rest ∙ h.rest;
+  done = ap (λ es. effects ++ es) (sym step.done) ∙ h.done;
+}
+
+-- where the others are left
+pub told_over : (stops : Bool) (qs : List Question) (old : Stock) (place : ℕ) (replies : List Reply) (effects : List Effect) (s : Stock) (q : Question)
+    → AreAnswered stops qs old place replies effects s → q ≡ get_or qs place q → is_last stops (reply_to s q) ≡ true
+    → IsWhole stops qs old (replies ++ reply_to s q ∷ []) (effects ++ own s q) (stock_after_read s q)
+told_over stops qs old place replies effects s q h is over =
+    whole stops qs old place replies effects s q h
+    (subst (λ xs. Answers stops xs s (reply_to s q ∷ []) (stock_after_read s q) (own s q)) (sym (opened qs place q h.more is))
+    (ended stops q (drop (place + 1) qs) s over))
 
 -- and behind the last question
-pub told_last : (stops : Bool) (qs : List Question) (old : Stock) (place : ℕ) (replies : List Reply) (s : Stock) (q : Question)
-    → AreAnswered stops qs old place replies s → q ≡ get_or qs place q → place + 1 ≡ length qs
-    → (replies ++ reply_to s q ∷ [] ≡ replies_to stops qs old) × (stock_after_read s q ≡ stock_after_all stops qs old)
-told_last stops qs old place replies s q h is last =
-    let open_ : drop place qs ≡ q ∷ [] = opened qs place q h.more is ∙ ap (λ xs. q ∷ xs) (drop_all qs (place + 1) (omega (arith, last))) in
-    let step = alone stops q s in
-    (ap (λ rs. replies ++ rs) (sym step.0 ∙ ap (λ xs. replies_to stops xs s) (sym open_)) ∙ h.told,
-    sym step.1 ∙ ap (λ xs. stock_after_all stops xs s) (sym open_) ∙ h.rest)
+pub told_last : (stops : Bool) (qs : List Question) (old : Stock) (place : ℕ) (replies : List Reply) (effects : List Effect) (s : Stock) (q : Question)
+    → AreAnswered stops qs old place replies effects s → q ≡ get_or qs place q → place + 1 ≡ length qs
+    → IsWhole stops qs old (replies ++ reply_to s q ∷ []) (effects ++ own s q) (stock_after_read s q)
+told_last stops qs old place replies effects s q h is last =
+    let one : drop place qs ≡ q ∷ [] = opened qs place q h.more is ∙ ap (λ xs. q ∷ xs) (drop_all qs (place + 1) (omega (arith, last))) in
+    whole stops qs old place replies effects s q h
+    (subst (λ xs. Answers stops xs s (reply_to s q ∷ []) (stock_after_read s q) (own s q)) (sym one) (alone stops q s))

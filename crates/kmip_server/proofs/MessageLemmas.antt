@@ -10,14 +10,16 @@ use Rattle.kmip_messages.specs.RequestFits.{ask_fits}
 use Rattle.kmip_batches.specs.Ranges.{QuestionFits}
 use Rattle.kmip_messages.specs.Whole.{request_read}
 use Rattle.kmip_messages.specs.Items.{replies_in}
-use Rattle.kmip_batches.specs.Items as batch
+use Rattle.kmip_batches.specs.Items as items
 use Rattle.kmip_messages.specs.declared.refusal.Refusal.{Refusal}
 use Rattle.kmip_messages.specs.declared.reply.Reply.{Reply}
 use Rattle.kmip_messages.specs.declared.request.Ask.{Ask}
 use Rattle.kmip_messages.specs.declared.request.Request.{Request}
 use Rattle.kmip_store.specs.Stock.{IsKept, Stock}
 use Rattle.kmip_server.specs.Again.{has_failed}
-use Rattle.kmip_server.specs.Batching.{is_last, replies_to, stock_after_all, AreBegun, IsCutShort}
+use Rattle.kmip_server.specs.Batching as batch
+use Rattle.kmip_server.specs.Batching.{effects_of, is_last, replies_to, stock_after_all, AreBegun, IsCutShort, JoinsBegun}
+use Rattle.kmip_server.specs.declared.effect.Effect.{Effect}
 use Rattle.kmip_server.specs.Messages.{AreServed, IsServedBy}
 use Rattle.kmip_server.specs.ServerStep.{ServerStep}
 use Rattle.kmip_server.specs.Serving.{answer, reply_to, stock_after, stock_after_read}
@@ -76,36 +78,40 @@ part_kept keep s (Ok request) fits kept = keep s request.ask (and_parts (option_
 part_kept keep s (Err refusal) fits kept = kept
 
 all_served : AnswersAreSteps → AnswersKeep → (stops : Bool) (qs : List Question) (s : Stock) → AllByRecursion QuestionFits qs → IsKept s.rows s.room
-    → AreServed stops qs (replies_to stops qs s) s (stock_after_all stops qs s)
-all_served steps keep stops [] s fit kept = refl
+    → batch.AreServed stops qs (replies_to stops qs s) (effects_of stops qs s) s (stock_after_all stops qs s)
+all_served steps keep stops [] s fit kept = (refl, refl)
 all_served steps keep stops (q ∷ qs) s fit kept =
     let served = part_served steps s q kept in
     let rest = all_served steps keep stops qs (stock_after_read s q) fit.1 (part_kept keep s q fit.0 kept) in
     elim (cases_Bool (is_last stops (reply_to s q))) [
-      | inl over ↦ (stock_after_read s q, served, inl (over, rw over refl, rw over refl))
-      | inr on ↦ (stock_after_read s q, served, inr (on, rw on rest))
+      | inl over ↦ (stock_after_read s q, [], served, rw over refl, inl (over, rw over refl, refl, rw over refl))
+      | inr on ↦ (stock_after_read s q, effects_of stops qs (stock_after_read s q), served, rw on refl, inr (on, rw on rest))
     ]
 
 pub batch_served : AnswersAreSteps → AnswersKeep → {A E : Type 0} (r : Result A E) (bytes : A → List ℕ) (old new : Stock) (stops : Bool)
+    (parts : List Question) (effects : List Effect) → All QuestionFits parts → IsKept old.rows old.room
+    → IfOk r (λ v. items.replies_in (bytes v) ≡ replies_to stops parts old) → OnOk r (new ≡ stock_after_all stops parts old)
+    → effects ≡ effects_of stops parts old
+    → IfOk r (λ v. batch.AreServed stops parts (items.replies_in (bytes v)) effects old new)
+batch_served steps keep (Ok v) bytes old new stops parts effects fit kept says after done =
+    subst (λ rs. batch.AreServed stops parts rs effects old new) (sym says)
+    (subst (λ s. batch.AreServed stops parts (replies_to stops parts old) effects old s) (sym after)
+    (subst (λ es. batch.AreServed stops parts (replies_to stops parts old) es old (stock_after_all stops parts old)) (sym done)
+    (all_served steps keep stops parts old (recursion_from_All QuestionFits parts fit) kept)))
+batch_served steps keep (Err e) bytes old new stops parts effects fit kept says after done = tt
+
+cut_begun : AnswersAreSteps → AnswersKeep → (stops : Bool) (qs : List Question) (effects : List Effect) (s new : Stock) → AllByRecursion QuestionFits qs
+    → IsKept s.rows s.room → IsCutShort stops qs effects s new → AreBegun stops qs effects s new
+cut_begun steps keep stops [] effects s new fit kept none = none
+cut_begun steps keep stops (q ∷ qs) effects s new fit kept (inl same) = inl same
+cut_begun steps keep stops (q ∷ qs) effects s new fit kept (inr (more, is, on, cut)) =
+    inr (reply_to s q, stock_after_read s q, more, part_served steps s q kept, is, on,
+    cut_begun steps keep stops qs more (stock_after_read s q) new fit.1 (part_kept keep s q fit.0 kept) cut)
+
+pub batch_begun : AnswersAreSteps → AnswersKeep → {A E : Type 0} (r : Result A E) (old new : Stock) (before after : List Effect) (stops : Bool)
     (parts : List Question) → All QuestionFits parts → IsKept old.rows old.room
-    → IfOk r (λ v. batch.replies_in (bytes v) ≡ replies_to stops parts old) → OnOk r (new ≡ stock_after_all stops parts old)
-    → IfOk r (λ v. AreServed stops parts (batch.replies_in (bytes v)) old new)
-batch_served steps keep (Ok v) bytes old new stops parts fit kept says after =
-    subst (λ rs. AreServed stops parts rs old new) (sym says)
-    (subst (λ s. AreServed stops parts (replies_to stops parts old) old s) (sym after)
-    (all_served steps keep stops parts old (recursion_from_All QuestionFits parts fit) kept))
-batch_served steps keep (Err e) bytes old new stops parts fit kept says after = tt
-
-cut_begun : AnswersAreSteps → AnswersKeep → (stops : Bool) (qs : List Question) (s new : Stock) → AllByRecursion QuestionFits qs → IsKept s.rows s.room
-    → IsCutShort stops qs s new → AreBegun stops qs s new
-cut_begun steps keep stops [] s new fit kept none = none
-cut_begun steps keep stops (q ∷ qs) s new fit kept (inl same) = inl same
-cut_begun steps keep stops (q ∷ qs) s new fit kept (inr more) =
-    inr (reply_to s q, stock_after_read s q, part_served steps s q kept, more.0,
-    cut_begun steps keep stops qs (stock_after_read s q) new fit.1 (part_kept keep s q fit.0 kept) more.1)
-
-pub batch_begun : AnswersAreSteps → AnswersKeep → {A E : Type 0} (r : Result A E) (old new : Stock) (stops : Bool) (parts : List Question)
-    → All QuestionFits parts → IsKept old.rows old.room → OnErr r (IsCutShort stops parts old new) → OnErr r (AreBegun stops parts old new)
-batch_begun steps keep (Ok v) old new stops parts fit kept cut = tt
-batch_begun steps keep (Err e) old new stops parts fit kept cut =
-    cut_begun steps keep stops parts old new (recursion_from_All QuestionFits parts fit) kept cut
+    → OnErr r (JoinsBegun (λ more. IsCutShort stops parts more old new) before after)
+    → OnErr r (JoinsBegun (λ more. AreBegun stops parts more old new) before after)
+batch_begun steps keep (Ok v) old new before after stops parts fit kept cut = tt
+batch_begun steps keep (Err e) old new before after stops parts fit kept (more, is, cut) =
+    (more, is, cut_begun steps keep stops parts more old new (recursion_from_All QuestionFits parts fit) kept cut)

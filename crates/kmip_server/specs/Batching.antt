@@ -1,16 +1,20 @@
 -- What the server answers the questions of a message in turn, and what its records are after them.
 -- Source: KMIP 2.1, Message Structure, Batch Error Continuation Option; that the questions behind a failure are left where there is no
 -- option is own.
-use Rattle.std.specs.Prelude.{◌≡◌, ℕ, ℤ, Bool, true, false, ◌&&◌, ◌⊎◌, List, [], ◌∷◌, if◌then◌else◌}
+use Rattle.std.specs.Prelude.{◌≡◌, ℕ, ℤ, Bool, true, false, ◌&&◌, ◌⊎◌, List, [], ◌∷◌, ◌++◌, Option, None, Ok, Err, option_to_list, if◌then◌else◌}
 use Rattle.kmip_ttlv.specs.Spelling.{canon}
+use Rattle.kmip_objects.specs.Objects.{Object}
 use Rattle.kmip_messages.specs.BatchItems.{Question}
 use Rattle.kmip_messages.specs.declared.reply.Reply.{Reply}
 use Rattle.kmip_batches.specs.Items.{parts_in, stops_in}
 use Rattle.kmip_batches.specs.Written.{replies_item}
 use Rattle.kmip_store.specs.Stock.{Stock}
 use Rattle.kmip_server.specs.Again.{has_failed}
+use Rattle.kmip_server.specs.Effects.{effect_of}
 use Rattle.kmip_server.specs.Messages.{IsServedBy}
 use Rattle.kmip_server.specs.Serving.{reply_to, stock_after_read}
+use Rattle.kmip_server.specs.Shown.{objects_in}
+use Rattle.kmip_server.specs.declared.effect.Effect.{Effect}
 
 -- the questions behind this reply are left: it failed, and a failure stops them
 abbrev pub is_last : Bool → Reply → Bool
@@ -28,6 +32,18 @@ stock_after_all stops [] s = s
 stock_after_all stops (q ∷ qs) s =
     if is_last stops (reply_to s q) then stock_after_read s q else stock_after_all stops qs (stock_after_read s q)
 
+-- what a question did, by its reply
+abbrev pub effect_by : List Object → Question → Reply → Option Effect
+effect_by objects (Ok request) reply = effect_of objects request.ask reply.outcome
+effect_by objects (Err refusal) reply = None
+
+-- what the questions that are answered did, in order
+abbrev pub effects_of : Bool → List Question → Stock → List Effect
+effects_of stops [] s = []
+effects_of stops (q ∷ qs) s =
+    option_to_list (effect_by (objects_in s) q (reply_to s q))
+    ++ (if is_last stops (reply_to s q) then [] else effects_of stops qs (stock_after_read s q))
+
 -- the bytes of the reply to the bytes of a message, at a time in seconds since the start of 1970
 unfoldable pub batch_reply : Stock → List ℕ → ℤ → List ℕ
 batch_reply s message now = canon (replies_item (replies_to (stops_in message) (parts_in message) s) now)
@@ -36,15 +52,39 @@ batch_reply s message now = canon (replies_item (replies_to (stops_in message) (
 unfoldable pub stock_after_batch : Stock → List ℕ → Stock
 stock_after_batch s message = stock_after_all (stops_in message) (parts_in message) s
 
+-- what a message did
+unfoldable pub effects_in : Stock → List ℕ → List Effect
+effects_in s message = effects_of (stops_in message) (parts_in message) s
+
+-- The questions are served in turn, each once, with these replies, and these steps took effect; those behind a failure that stops
+-- them are left.
+abbrev pub AreServed : Bool → List Question → List Reply → List Effect → Stock → Stock → Type 0
+AreServed stops [] [] effects old new = (effects ≡ []) × (new ≡ old)
+AreServed stops [] (reply ∷ replies) effects old new = ⊥
+AreServed stops (q ∷ qs) [] effects old new = ⊥
+AreServed stops (q ∷ qs) (reply ∷ replies) effects old new =
+    (between : Stock) × (more : List Effect) × IsServedBy q reply old between
+    × (effects ≡ option_to_list (effect_by (objects_in old) q reply) ++ more)
+    × (((is_last stops reply ≡ true) × (replies ≡ []) × (more ≡ []) × (new ≡ between))
+    ⊎ ((is_last stops reply ≡ false) × AreServed stops qs replies more between new))
+
 -- Some of the first questions are served in turn, not all of them, and no reply is written. So nothing happens where there is one.
-abbrev pub AreBegun : Bool → List Question → Stock → Stock → Type 0
-AreBegun stops [] old new = ⊥
-AreBegun stops (q ∷ qs) old new =
-    (new ≡ old)
-    ⊎ ((reply : Reply) × (between : Stock) × IsServedBy q reply old between × (is_last stops reply ≡ false) × AreBegun stops qs between new)
+abbrev pub AreBegun : Bool → List Question → List Effect → Stock → Stock → Type 0
+AreBegun stops [] effects old new = ⊥
+AreBegun stops (q ∷ qs) effects old new =
+    ((effects ≡ []) × (new ≡ old))
+    ⊎ ((reply : Reply) × (between : Stock) × (more : List Effect) × IsServedBy q reply old between
+    × (effects ≡ option_to_list (effect_by (objects_in old) q reply) ++ more)
+    × (is_last stops reply ≡ false) × AreBegun stops qs more between new)
 
 -- Private: the same, where each reply is the one that the server gives.
-abbrev pub IsCutShort : Bool → List Question → Stock → Stock → Type 0
-IsCutShort stops [] old new = ⊥
-IsCutShort stops (q ∷ qs) old new =
-    (new ≡ old) ⊎ ((is_last stops (reply_to old q) ≡ false) × IsCutShort stops qs (stock_after_read old q) new)
+abbrev pub IsCutShort : Bool → List Question → List Effect → Stock → Stock → Type 0
+IsCutShort stops [] effects old new = ⊥
+IsCutShort stops (q ∷ qs) effects old new =
+    ((effects ≡ []) × (new ≡ old))
+    ⊎ ((more : List Effect) × (effects ≡ option_to_list (effect_by (objects_in old) q (reply_to old q)) ++ more)
+    × (is_last stops (reply_to old q) ≡ false) × IsCutShort stops qs more (stock_after_read old q) new)
+
+-- Private: the same of what joined a list of effects.
+abbrev pub JoinsBegun : (List Effect → Type 0) → List Effect → List Effect → Type 0
+JoinsBegun P old new = (more : List Effect) × (new ≡ old ++ more) × P more

@@ -3,6 +3,7 @@ pub mod Serving
 pub mod Answering
 pub mod ServerStep
 pub mod Again
+pub mod Effects
 pub mod Shown
 pub mod Messages
 pub mod Batching

@@ -1,5 +1,5 @@
 //! The questions of a message, answered in turn, and the message of the replies.
-ghost use Rattle.std.specs.Prelude.{◌≡◌, ◌+◌, ◌++◌, List, [], ◌∷◌, length, true, false, Ok, IfOk, OnErr, OnOk, IsTrue};
+ghost use Rattle.std.specs.Prelude.{◌≡◌, ◌+◌, ◌++◌, List, [], ◌∷◌, length, true, false, Ok, IfOk, OnErr, OnOk, IsTrue, option_to_list};
 ghost use Rattle.std.specs.List.{All};
 ghost use Rattle.std.specs.Option.{option_map_or};
 ghost use Rattle.kmip_ttlv.specs.Spelling.{canon};
@@ -14,10 +14,12 @@ ghost use Rattle.kmip_server.specs.Again.{has_failed};
 ghost use Rattle.kmip_messages.specs.declared.reply.Outcome.TheVariants.{Failed};
 ghost use Rattle.kmip_messages.specs.declared.reply.Reply.{Reply};
 ghost use Rattle.kmip_server.specs.Answering.{promised_outcome, reply_with};
-ghost use Rattle.kmip_server.specs.Batching.{replies_to, stock_after_all, IsCutShort};
+ghost use Rattle.kmip_server.specs.Batching.{effect_by, effects_of, replies_to, stock_after_all, IsCutShort, JoinsBegun};
+ghost use Rattle.kmip_server.specs.Effects.{effect_of};
 ghost use Rattle.kmip_server.specs.Serving.{answer, refusal_reply, reply_to, stock_after_read};
+ghost use Rattle.kmip_server.specs.Shown.{objects_in};
 
-use crate::changing::carry_out;
+use crate::effect::{Effect, carry_out_noted};
 use crate::promising::promise;
 use crate::reasons::{message_reason, store_reason};
 use kmip_batches::write_reply;
@@ -34,6 +36,7 @@ use std::alloc::Global;
 /// Where there is no memory. Some of the first questions are served then, and not all of them.
 pub(crate) fn answer_all<S: Records>(
     store: &mut S,
+    effects: &mut Vec<Effect>,
     alloc: Global,
     stops: bool,
     questions: &[Result<Request, Refusal>],
@@ -47,15 +50,17 @@ pub(crate) fn answer_all<S: Records>(
         ≡ replies_to stops questions.now (S.stock store.old)) }
     ensures after { OnOk result (S.stock store.new
         ≡ stock_after_all stops questions.now (S.stock store.old)) }
-    ensures begun { OnErr result (IsCutShort stops questions.now (S.stock store.old)
-        (S.stock store.new)) }
+    ensures effects { OnOk result (effects.new.items
+        ≡ effects.old.items ++ effects_of stops questions.now (S.stock store.old)) }
+    ensures begun { OnErr result (JoinsBegun (λ more. IsCutShort stops questions.now more
+        (S.stock store.old) (S.stock store.new)) effects.old.items effects.new.items) }
 {
     let mut replies = Vec::new(alloc);
     for question in questions {
         if replies.len() + 1 == questions.len() {
-            return answer_last(store, alloc, question, replies, now);
+            return answer_last(store, effects, alloc, question, replies, now);
         }
-        let reply = answer_one(store, alloc, question)?;
+        let reply = answer_one(store, effects, alloc, question)?;
         let over = stops && has_failed(&reply.outcome);
         replies.push(reply)?;
         if over {
@@ -91,6 +96,7 @@ pub(crate) fn refuse_batch(
 /// Answers the last question behind these replies, and writes the message.
 fn answer_last<S: Records>(
     store: &mut S,
+    effects: &mut Vec<Effect>,
     alloc: Global,
     question: &Result<Request, Refusal>,
     mut replies: Vec<Reply>,
@@ -105,10 +111,14 @@ fn answer_last<S: Records>(
         ≡ replies.entry.items ++ reply_to (S.stock store.old) question.now ∷ []) }
     ensures after { OnOk result (S.stock store.new
         ≡ stock_after_read (S.stock store.old) question.now) }
+    ensures effects { OnOk result (effects.new.items ≡ effects.old.items ++ option_to_list
+        (effect_by (objects_in (S.stock store.old)) question.now
+        (reply_to (S.stock store.old) question.now))) }
     ensures same { OnErr result (S.stock store.new ≡ S.stock store.old) }
+    ensures same_effects { OnErr result (effects.new.items ≡ effects.old.items) }
 {
     match question {
-        Ok(request) => answer_last_request(store, alloc, request, replies, now),
+        Ok(request) => answer_last_request(store, effects, alloc, request, replies, now),
         Err(refusal) => {
             let reply = refusal_reply(alloc, refusal)?;
             replies.push(reply)?;
@@ -120,6 +130,7 @@ fn answer_last<S: Records>(
 /// The same of a request: the message is written before its change is made.
 fn answer_last_request<S: Records>(
     store: &mut S,
+    effects: &mut Vec<Effect>,
     alloc: Global,
     request: &Request,
     mut replies: Vec<Reply>,
@@ -134,12 +145,16 @@ fn answer_last_request<S: Records>(
         ≡ replies.entry.items ++ reply_to (S.stock store.old) (Ok request.now) ∷ []) }
     ensures after { OnOk result (S.stock store.new
         ≡ (answer (S.stock store.old) request.now.ask).1) }
+    ensures effects { OnOk result (effects.new.items ≡ effects.old.items ++ option_to_list
+        (effect_of (objects_in (S.stock store.old)) request.now.ask
+        (answer (S.stock store.old) request.now.ask).0)) }
     ensures same { OnErr result (S.stock store.new ≡ S.stock store.old) }
+    ensures same_effects { OnErr result (effects.new.items ≡ effects.old.items) }
 {
     let reply = promised_reply(store, alloc, request)?;
     replies.push(reply)?;
     let written = write_reply(alloc, replies.as_slice(), now)?;
-    match carry_out(store, alloc, &request.ask)? {
+    match carry_out_noted(store, effects, alloc, &request.ask)? {
         Ok(()) => Ok(written),
         Err(fault) => {
             let reply = refused_reply(alloc, request, store_reason(fault))?;
@@ -161,6 +176,7 @@ fn take_back(replies: &mut Vec<Reply>)
 /// Answers a question that is not the last: its change is made, and no reply is written yet.
 fn answer_one<S: Records>(
     store: &mut S,
+    effects: &mut Vec<Effect>,
     alloc: Global,
     question: &Result<Request, Refusal>,
 ) -> Result<Reply, NoMemory>
@@ -169,11 +185,15 @@ fn answer_one<S: Records>(
     ensures short { IfOk result (λ r. IsShort r) }
     ensures after { OnOk result (S.stock store.new
         ≡ stock_after_read (S.stock store.old) question.now) }
+    ensures effects { OnOk result (effects.new.items ≡ effects.old.items ++ option_to_list
+        (effect_by (objects_in (S.stock store.old)) question.now
+        (reply_to (S.stock store.old) question.now))) }
     ensures same { OnErr result (S.stock store.new ≡ S.stock store.old) }
+    ensures same_effects { OnErr result (effects.new.items ≡ effects.old.items) }
 {
     match question {
         Ok(request) => {
-            let reply = answer_request(store, alloc, request)?;
+            let reply = answer_request(store, effects, alloc, request)?;
             Ok(reply)
         }
         Err(refusal) => {
@@ -186,6 +206,7 @@ fn answer_one<S: Records>(
 /// The same of a request.
 fn answer_request<S: Records>(
     store: &mut S,
+    effects: &mut Vec<Effect>,
     alloc: Global,
     request: &Request,
 ) -> Result<Reply, NoMemory>
@@ -194,10 +215,14 @@ fn answer_request<S: Records>(
     ensures short { IfOk result (λ r. IsShort r) }
     ensures after { OnOk result (S.stock store.new
         ≡ (answer (S.stock store.old) request.now.ask).1) }
+    ensures effects { OnOk result (effects.new.items ≡ effects.old.items ++ option_to_list
+        (effect_of (objects_in (S.stock store.old)) request.now.ask
+        (answer (S.stock store.old) request.now.ask).0)) }
     ensures same { OnErr result (S.stock store.new ≡ S.stock store.old) }
+    ensures same_effects { OnErr result (effects.new.items ≡ effects.old.items) }
 {
     let mut reply = promised_reply(store, alloc, request)?;
-    match carry_out(store, alloc, &request.ask)? {
+    match carry_out_noted(store, effects, alloc, &request.ask)? {
         Ok(()) => Ok(reply),
         Err(fault) => {
             reply.outcome = Outcome::Failed(store_reason(fault));

@@ -4,10 +4,12 @@
 mod answering;
 mod batching;
 mod changing;
+mod effect;
 pub mod laws;
 mod promising;
 mod reasons;
 mod server;
 
+pub use effect::Effect;
 pub use kmip_store::{IndexedStore, ListStore, Records};
 pub use server::Server;

@@ -1,7 +1,8 @@
 //! A server over the records of one store.
-ghost use Rattle.std.specs.Prelude.{◌≡◌, [], ◌∷◌, OnErr, OnOk, IfOk};
+ghost use Rattle.std.specs.Prelude.{◌≡◌, ◌++◌, [], ◌∷◌, OnErr, OnOk, IfOk};
 ghost use Rattle.kmip_batches.specs.Items as batch;
-ghost use Rattle.kmip_server.specs.Batching.{batch_reply, replies_to, stock_after_batch, AreBegun, IsCutShort};
+ghost use Rattle.kmip_server.specs.Batching as batching;
+ghost use Rattle.kmip_server.specs.Batching.{batch_reply, effects_in, replies_to, stock_after_batch, AreBegun, IsCutShort, JoinsBegun};
 ghost use Rattle.kmip_messages.specs.Items.{parts_in, replies_in, stops_in};
 ghost use Rattle.kmip_messages.specs.Whole.{request_read};
 ghost use Rattle.kmip_server.specs.Messages.{AreServed};
@@ -11,7 +12,8 @@ ghost use Rattle.kmip_store.specs.Stock.{IsKept};
 
 use crate::answering::{answer, refuse_message};
 use crate::batching::{answer_all, refuse_batch};
-use crate::laws::serving_is_a_step;
+use crate::effect::Effect;
+use crate::laws::{serving_is_a_step, serving_keeps_the_records};
 use kmip_messages::laws::question_laws;
 use kmip_messages::read_request;
 use kmip_store::Records;
@@ -93,45 +95,56 @@ impl<S: Records> Server<S> {
         alloc: Global,
         message: &[u8],
         now: i64,
+        effects: &mut Vec<Effect>,
     ) -> Result<Vec<u8>, NoMemory>
         ensures reply { IfOk result (λ r. r.items ≡ batch_reply self.old message.now now) }
         ensures after { OnOk result (self.new ≡ stock_after_batch self.old message.now) }
-        ensures begun { OnErr result (AreBegun (batch.stops_in message.now)
-            (batch.parts_in message.now) self.old self.new) }
+        ensures effects { OnOk result (effects.new.items
+            ≡ effects.old.items ++ effects_in self.old message.now) }
+        ensures begun { OnErr result (JoinsBegun (λ more. AreBegun (batch.stops_in message.now)
+            (batch.parts_in message.now) more self.old self.new)
+            effects.old.items effects.new.items) }
         ensures room { self.new.room ≡ self.old.room }
         ensures kept_before { IsKept self.old.rows self.old.room }
         ensures kept { IsKept self.new.rows self.new.room }
         ensures objects_before { HasLawfulObjects self.old }
         ensures objects { HasLawfulObjects self.new }
-        ensures served { IfOk result (λ r. AreServed (batch.stops_in message.now)
-            (batch.parts_in message.now) (batch.replies_in r.items) self.old self.new) }
+        ensures served { IfOk result (λ r. batching.AreServed (batch.stops_in message.now)
+            (batch.parts_in message.now) (batch.replies_in r.items)
+            (effects_in self.old message.now) self.old self.new) }
     {
+        kmip_batches::laws::question_laws();
         serving_is_a_step();
+        serving_keeps_the_records();
         let _before = self.store.count();
-        let reply = self.handle_parts(alloc, message, now);
+        let reply = self.handle_parts(alloc, message, now, effects);
         let _after = self.store.count();
         reply
     }
 
     /// The same, of the reply and the records alone.
-    #[tactic(auto, unfolding(crate::specs::Batching::batch_reply, crate::specs::Batching::stock_after_batch))]
+    #[tactic(auto, unfolding(crate::specs::Batching::batch_reply, crate::specs::Batching::stock_after_batch, crate::specs::Batching::effects_in))]
     fn handle_parts(
         &mut self,
         alloc: Global,
         message: &[u8],
         now: i64,
+        effects: &mut Vec<Effect>,
     ) -> Result<Vec<u8>, NoMemory>
         ensures reply { IfOk result (λ r. r.items ≡ batch_reply self.old message.now now) }
         ensures says { IfOk result (λ r. batch.replies_in r.items
             ≡ replies_to (batch.stops_in message.now) (batch.parts_in message.now) self.old) }
         ensures after { OnOk result (self.new ≡ stock_after_batch self.old message.now) }
-        ensures begun { OnErr result (IsCutShort (batch.stops_in message.now)
-            (batch.parts_in message.now) self.old self.new) }
+        ensures effects { OnOk result (effects.new.items
+            ≡ effects.old.items ++ effects_in self.old message.now) }
+        ensures begun { OnErr result (JoinsBegun (λ more. IsCutShort (batch.stops_in message.now)
+            (batch.parts_in message.now) more self.old self.new)
+            effects.old.items effects.new.items) }
     {
         match kmip_batches::read_request(alloc, message) {
             Ok(batch) => {
                 let stops = batch.stops();
-                answer_all(&mut self.store, alloc, stops, batch.items.as_slice(), now)
+                answer_all(&mut self.store, effects, alloc, stops, batch.items.as_slice(), now)
             }
             Err(fault) => refuse_batch(alloc, fault, now),
         }

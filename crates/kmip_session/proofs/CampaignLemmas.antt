@@ -21,7 +21,7 @@ use Rattle.kmip_schedule.specs.Laws.{IsReached}
 use Rattle.kmip_schedule.specs.Moves.{Delivered}
 use Rattle.kmip_schedule.specs.Past.{Names, Past, is_planned}
 use Rattle.kmip_schedule.specs.Sound.{Sound}
-use Rattle.kmip_schedule.specs.declared.effect.Effect.{Effect}
+use Rattle.kmip_server.specs.declared.effect.Effect.{Effect}
 use Rattle.kmip_session.specs.Campaign.{GoodLink, HasNoConflict, IsNoClash, reported, reported_by, steps_counted}
 use Rattle.kmip_session.specs.CampaignParts.{CampaignLaws, Campaigned, IsEndOf, Noted, Reaches, Standing}
 use Rattle.kmip_session.specs.Driving.{IsGood, WentOn}

@@ -11,7 +11,7 @@ use Rattle.kmip_knowledge.specs.declared.knowledge.Verdict.{Verdict}
 use Rattle.kmip_knowledge.specs.declared.knowledge.Verdict.TheVariants.{Working, Finished, Conflict}
 use Rattle.kmip_schedule.specs.Past.{Past, Names, is_planned}
 use Rattle.kmip_schedule.specs.Sound.{Sound}
-use Rattle.kmip_schedule.specs.declared.effect.Effect.{Effect}
+use Rattle.kmip_server.specs.declared.effect.Effect.{Effect}
 use Rattle.kmip_settling.specs.Needs.{missing}
 use Rattle.kmip_session.specs.Reporting.{report_text}
 use Rattle.kmip_session.specs.declared.campaigning.Run.{Run}

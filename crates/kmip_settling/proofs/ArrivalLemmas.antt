@@ -14,11 +14,11 @@ use Rattle.kmip_chains.specs.Chains.{chain, step_at}
 use Rattle.kmip_chains.specs.declared.key.Key.{Key}
 use Rattle.kmip_plan.specs.Plans.{IsPlanned}
 use Rattle.kmip_client.specs.Places.{position}
-use Rattle.kmip_schedule.specs.Effects.{effect_of}
+use Rattle.kmip_server.specs.Effects.{effect_of}
 use Rattle.kmip_schedule.specs.Moves.{Move, Serve, Unanswered, Refuse, Comes, Changes, after_move, MayHappen, AllMayHappen, after_moves, Delivered, Serves}
 use Rattle.kmip_schedule.specs.Past.{Past, is_planned, steps_on}
 use Rattle.kmip_schedule.specs.Sound.{Sound}
-use Rattle.kmip_schedule.specs.declared.effect.Effect.{Effect}
+use Rattle.kmip_server.specs.declared.effect.Effect.{Effect}
 use Rattle.kmip_settling.specs.Lawbook.{Lawbook}
 use Rattle.kmip_settling.specs.Losing.{is_under_way, was_asked}
 use Rattle.kmip_settling.proofs.AskedLemmas.{effect_was_asked, none_beyond}

@@ -25,11 +25,11 @@ use Rattle.kmip_client.specs.Justified.{Justified, MayAsk}
 use Rattle.kmip_client.specs.Places.{position, uid_of}
 use Rattle.kmip_client.specs.Questions.{id_of, step_ask}
 use Rattle.kmip_server.specs.Again.{has_failed}
-use Rattle.kmip_schedule.specs.Effects.{effect_asked, effect_of, effect_on}
+use Rattle.kmip_server.specs.Effects.{effect_asked, effect_of, effect_on}
 use Rattle.kmip_schedule.specs.Past.{Past}
 use Rattle.kmip_schedule.specs.Safe.{step_of_ask}
 use Rattle.kmip_schedule.specs.Sound.{Sound}
-use Rattle.kmip_schedule.specs.declared.effect.Effect.{Effect}
+use Rattle.kmip_server.specs.declared.effect.Effect.{Effect}
 use Rattle.kmip_settling.specs.Lawbook.{Lawbook}
 use Rattle.kmip_settling.specs.Losing.{is_id, step_id, was_asked}
 use Rattle.kmip_settling.proofs.ChangeLemmas.{same_key}

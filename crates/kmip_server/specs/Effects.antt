@@ -9,7 +9,7 @@ use Rattle.kmip_objects.specs.declared.step.Step.{Step}
 use Rattle.kmip_objects.specs.declared.step.Step.TheVariants as steps
 use Rattle.kmip_server.specs.Again.{has_failed}
 use Rattle.kmip_server.specs.ServerStep.{step_asked}
-use Rattle.kmip_schedule.specs.declared.effect.Effect.{Effect}
+use Rattle.kmip_server.specs.declared.effect.Effect.{Effect}
 
 -- a step on the object with an identifier, by the object's name
 abbrev pub effect_on : List Object → Option (Step × List ℕ) → Option Effect
