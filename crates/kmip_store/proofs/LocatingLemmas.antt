@@ -12,7 +12,8 @@ use Rattle.kmip_store.specs.declared.row.Row.{Row}
 use Rattle.kmip_store.specs.Stock.{object_of, objects_of, has_row_named, HaveOwnNames}
 use Rattle.kmip_store.proofs.PlaceLemmas.{none_passes, any_map}
 use Rattle.kmip_store.specs.Indexing.{names_of}
-use Rattle.kmip_store.specs.Locating.{is_searched, has_given, is_wanted, locate}
+use Rattle.kmip_objects.specs.Attributes.{has_given}
+use Rattle.kmip_store.specs.Locating.{is_searched, is_wanted, locate}
 
 -- the test of a row by what a Locate gives
 abbrev pub wants : Option ℤ → Attrs → Row → Bool
@@ -21,7 +22,7 @@ wants mask given r = is_wanted mask given (object_of r)
 -- an object with another name is not wanted
 unwanted : (mask : Option ℤ) (given : Attrs) (name : List ℕ) (o : Object) → given.name ≡ Some name
     → pointwise nat_eq name o.attrs.name ≡ false → is_wanted mask given o ≡ false
-unwanted mask given name o is other = and_right (is_searched mask o.state) (has_given given o) (rw (is, other) refl)
+unwanted mask given name o is other = and_right (is_searched mask o.state) (has_given given o.attrs o.state) (rw (is, other) refl)
 
 none_named : (mask : Option ℤ) (given : Attrs) (name : List ℕ) (rows : List Row) → given.name ≡ Some name
     → has_row_named name rows ≡ false → locate mask given (objects_of rows) ≡ []

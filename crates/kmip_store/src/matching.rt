@@ -1,10 +1,8 @@
 //! Rows found by name, by identifier, and by what a Locate gives.
-ghost use Rattle.std.specs.Prelude.{◌≡◌, ◌≤◌, ◌==◌, nat_eq, length, true, IsSome};
-ghost use Rattle.std.specs.Cmp.Lexicographic.{pointwise};
+ghost use Rattle.std.specs.Prelude.{◌≡◌, ◌≤◌, length, IsSome};
 ghost use Rattle.std.specs.List.{find};
-ghost use Rattle.std.specs.Option.{option_copied, option_map_or};
-ghost use Rattle.std.specs.Ordering.{int_eq};
-ghost use Rattle.kmip_store.specs.Locating.{storage_bit, is_searched, has_given, is_wanted};
+ghost use Rattle.std.specs.Option.{option_copied};
+ghost use Rattle.kmip_store.specs.Locating.{storage_bit, is_searched, is_wanted};
 ghost use Rattle.kmip_store.specs.Stepping.{row_with};
 ghost use Rattle.kmip_store.specs.Stock.{has_row_named, object_of, AreNumbered, HaveOwnNames, most_room};
 ghost use Rattle.kmip_store.specs.Indexing.{texts, names_of};
@@ -13,8 +11,8 @@ use crate::numbering::{place_of_uid, row_at};
 use crate::places::place_of;
 use crate::row::Row;
 use indexmap::IndexSet;
-use kmip_objects::standard::{OBJECT_TYPE_SYMMETRIC_KEY, STORAGE_DESTROYED, STORAGE_ON_LINE};
-use kmip_objects::{Attrs, KeyState};
+use kmip_objects::standard::{STORAGE_DESTROYED, STORAGE_ON_LINE};
+use kmip_objects::{Attrs, KeyState, has_given};
 
 /// Whether a row has the name.
 pub(crate) fn has_row_named(rows: &[Row], name: &str) -> bool
@@ -76,7 +74,7 @@ pub(crate) fn wanted_by_index<'a>(
 fn is_wanted(row: &Row, mask: Option<i32>, filter: &Attrs) -> bool
     ensures { result ≡ is_wanted mask filter.now (object_of row.now) }
 {
-    is_searched(mask, row.state) && has_given(filter, row)
+    is_searched(mask, row.state) && has_given(filter, &row.attrs, row.state)
 }
 
 /// Whether rows of the state are searched under a Storage Status Mask.
@@ -97,46 +95,5 @@ fn storage_bit(state: KeyState) -> u32
     match state {
         KeyState::Destroyed => STORAGE_DESTROYED,
         _ => STORAGE_ON_LINE,
-    }
-}
-
-/// Whether the row has every attribute that is given. The usage mask is compared by equality (own).
-fn has_given(filter: &Attrs, row: &Row) -> bool
-    ensures { result ≡ has_given filter.now (object_of row.now) }
-{
-    is_named(filter, row)
-        && is_given_number(filter.object_type, OBJECT_TYPE_SYMMETRIC_KEY)
-        && is_given_number(filter.algorithm, row.attrs.algorithm)
-        && is_given_integer(filter.length, row.attrs.length)
-        && is_given_integer(filter.usage, row.attrs.usage)
-        && is_given_number(filter.state, row.state.number())
-}
-
-/// Whether the row has the name that is given.
-fn is_named(filter: &Attrs, row: &Row) -> bool
-    ensures { result ≡ option_map_or
-        (λ name. pointwise nat_eq name row.now.attrs.name) filter.now.name true }
-{
-    match &filter.name {
-        Some(name) => name.as_str() == row.attrs.name.as_str(),
-        None => true,
-    }
-}
-
-fn is_given_number(given: Option<u32>, own: u32) -> bool
-    ensures { result ≡ option_map_or (λ n. n == own) given true }
-{
-    match given {
-        Some(given) => given == own,
-        None => true,
-    }
-}
-
-fn is_given_integer(given: Option<i32>, own: i32) -> bool
-    ensures { result ≡ option_map_or (λ n. int_eq n own) given true }
-{
-    match given {
-        Some(given) => given == own,
-        None => true,
     }
 }
