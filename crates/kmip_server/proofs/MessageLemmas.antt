@@ -1,5 +1,5 @@
 -- A message of one question is served by the one reply to it.
-use Rattle.std.proofs.Common.{◌≡◌, ℕ, Bool, ◌&&◌, List, [], ◌∷◌, Result, Ok, Err, IfOk, OnErr, OnOk, subst, refl, sym, inl, inr}
+use Rattle.std.proofs.Common.{◌≡◌, ℕ, Bool, ◌&&◌, List, [], ◌∷◌, Result, Ok, Err, IfOk, OnErr, OnOk, ap, subst, refl, sym, ◌∙◌, inl, inr}
 use Rattle.std.specs.List.{All, AllByRecursion}
 use Rattle.std.specs.Option.{option_map_or}
 use Rattle.std.proofs.lemmas.Bool.{and_parts, cases_Bool}
@@ -115,3 +115,29 @@ pub batch_begun : AnswersAreSteps → AnswersKeep → {A E : Type 0} (r : Result
 batch_begun steps keep (Ok v) old new before after stops parts fit kept cut = tt
 batch_begun steps keep (Err e) old new before after stops parts fit kept (more, is, cut) =
     (more, is, cut_begun steps keep stops parts more old new (recursion_from_All QuestionFits parts fit) kept cut)
+
+-- ---- how many objects there may be
+
+part_room : (s : Stock) (q : Question) → (stock_after_read s q).room ≡ s.room
+part_room s (Ok request) = room_stays s request.ask (answer s request.ask).1 (follows s request.ask)
+part_room s (Err refusal) = refl
+
+all_room : (stops : Bool) (qs : List Question) (s : Stock) → (stock_after_all stops qs s).room ≡ s.room
+all_room stops [] s = refl
+all_room stops (q ∷ qs) s =
+    let rest = all_room stops qs (stock_after_read s q) in
+    elim (cases_Bool (is_last stops (reply_to s q))) [
+      | inl over ↦ rw over (part_room s q)
+      | inr on ↦ rw on (rest ∙ part_room s q)
+    ]
+
+cut_room : (stops : Bool) (qs : List Question) (effects : List Effect) (s new : Stock) → IsCutShort stops qs effects s new → new.room ≡ s.room
+cut_room stops [] effects s new none = absurd none
+cut_room stops (q ∷ qs) effects s new (inl same) = ap (λ t. t.room) same.1
+cut_room stops (q ∷ qs) effects s new (inr (more, is, on, cut)) = cut_room stops qs more (stock_after_read s q) new cut ∙ part_room s q
+
+pub batch_room : {A E : Type 0} (r : Result A E) (old new : Stock) (before after : List Effect) (stops : Bool) (parts : List Question)
+    → OnOk r (new ≡ stock_after_all stops parts old) → OnErr r (JoinsBegun (λ more. IsCutShort stops parts more old new) before after)
+    → new.room ≡ old.room
+batch_room (Ok v) old new before after stops parts done cut = ap (λ t. t.room) done ∙ all_room stops parts old
+batch_room (Err e) old new before after stops parts done (more, is, cut) = cut_room stops parts more old new cut

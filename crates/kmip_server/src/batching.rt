@@ -106,9 +106,9 @@ fn answer_last<S: Records>(
     requires short { All IsShort replies.items }
     requires fits { QuestionFits question.now }
     ensures bytes { IfOk result (λ v. v.items ≡ canon (replies_item
-        (replies.entry.items ++ reply_to (S.stock store.old) question.now ∷ []) now)) }
+        (replies.items ++ reply_to (S.stock store.old) question.now ∷ []) now)) }
     ensures says { IfOk result (λ v. replies_in v.items
-        ≡ replies.entry.items ++ reply_to (S.stock store.old) question.now ∷ []) }
+        ≡ replies.items ++ reply_to (S.stock store.old) question.now ∷ []) }
     ensures after { OnOk result (S.stock store.new
         ≡ stock_after_read (S.stock store.old) question.now) }
     ensures effects { OnOk result (effects.new.items ≡ effects.old.items ++ option_to_list
@@ -140,9 +140,9 @@ fn answer_last_request<S: Records>(
     requires short { All IsShort replies.items }
     requires fits { IsTrue (request_fits request.now) }
     ensures bytes { IfOk result (λ v. v.items ≡ canon (replies_item
-        (replies.entry.items ++ reply_to (S.stock store.old) (Ok request.now) ∷ []) now)) }
+        (replies.items ++ reply_to (S.stock store.old) (Ok request.now) ∷ []) now)) }
     ensures says { IfOk result (λ v. replies_in v.items
-        ≡ replies.entry.items ++ reply_to (S.stock store.old) (Ok request.now) ∷ []) }
+        ≡ replies.items ++ reply_to (S.stock store.old) (Ok request.now) ∷ []) }
     ensures after { OnOk result (S.stock store.new
         ≡ (answer (S.stock store.old) request.now.ask).1) }
     ensures effects { OnOk result (effects.new.items ≡ effects.old.items ++ option_to_list

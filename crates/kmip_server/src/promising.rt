@@ -8,15 +8,13 @@ ghost use Rattle.kmip_messages.specs.declared.request.Ask.TheVariants as asks;
 ghost use Rattle.kmip_messages.specs.declared.standard.TheConstants.{OPERATION_LOCATE, OPERATION_GET_ATTRIBUTES};
 ghost use Rattle.kmip_objects.specs.Ranges.{is_identifier};
 ghost use Rattle.kmip_server.specs.Answering.{promised_outcome};
-ghost use Rattle.kmip_server.specs.Serving.{answer, attributes_of};
-ghost use Rattle.kmip_store.specs.Stock.{object_of};
+ghost use Rattle.kmip_server.specs.Serving.{answer};
 
 use crate::reasons::store_reason;
 use kmip_messages::standard::REASON_FEATURE_NOT_SUPPORTED;
 use kmip_messages::{Ask, Outcome};
-use kmip_objects::standard::OBJECT_TYPE_SYMMETRIC_KEY;
-use kmip_objects::{Attrs, Texts, is_compromise};
-use kmip_store::{Records, Row, StoreFault, identifier_at};
+use kmip_objects::{Attrs, Texts, attributes_of, is_compromise};
+use kmip_store::{Records, StoreFault, identifier_at};
 use kmip_ttlv::{NoMemory, Text};
 use std::alloc::Global;
 
@@ -112,21 +110,6 @@ fn get_attributes<S: Records>(store: &S, alloc: Global, uid: &str) -> Result<Out
         return Ok(Outcome::Failed(store_reason(StoreFault::NotFound)));
     };
     let uid = Text::copied(alloc, uid)?;
-    let attrs = attributes_of(alloc, row)?;
+    let attrs = attributes_of(alloc, &row.attrs, row.state)?;
     Ok(Outcome::Attributes(uid, attrs))
-}
-
-/// What Get Attributes tells of a row.
-fn attributes_of(alloc: Global, row: &Row) -> Result<Attrs, NoMemory>
-    ensures { IfOk result (λ a. a ≡ attributes_of (object_of row.now)) }
-{
-    let name = Text::copied(alloc, row.attrs.name.as_str())?;
-    Ok(Attrs {
-        object_type: Some(OBJECT_TYPE_SYMMETRIC_KEY),
-        name: Some(name),
-        algorithm: Some(row.attrs.algorithm),
-        length: Some(row.attrs.length),
-        usage: Some(row.attrs.usage),
-        state: Some(row.state.number()),
-    })
 }
