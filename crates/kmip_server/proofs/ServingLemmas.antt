@@ -17,6 +17,8 @@ use Rattle.kmip_objects.specs.Objects.{Object}
 use Rattle.kmip_objects.specs.Ranges.{attrs_fit, is_identifier}
 use Rattle.kmip_messages.specs.Ranges.{is_batch_id}
 use Rattle.kmip_messages.specs.RequestReading.{RefusalIs}
+use Rattle.kmip_messages.proofs.ForCallers.{short_fits}
+use Rattle.kmip_server.specs.Answering.{with_outcome}
 use Rattle.kmip_server.specs.Reasons.{message_reason}
 use Rattle.kmip_objects.specs.Attributes.{attributes_of}
 
@@ -51,24 +53,44 @@ refusal_read refusal read h some = refusal_is refusal.fault refusal read h some
 both : {a b : Bool} → a ≡ true → b ≡ true → (a && b) ≡ true
 both h k = rw (h, k) refl
 
--- ---- the outcomes are in their ranges, and brief
+-- ---- the replies are not too long
 
-located_one : (found : Option (List ℕ)) → IfSome found (λ uid. IsTrue (is_identifier uid))
-    → IsTrue (outcome_fits (Some OPERATION_LOCATE) (Located (option_to_list found))) × IsBrief (Located (option_to_list found))
-located_one None identified = (refl, omega arith)
-located_one (Some uid) identified = (both refl (both identified refl), omega arith)
+-- a failure, with its reason
+pub failure_fits : (r : Reply) (reason : Option ℕ) → IsTrue (option_map_or is_batch_id r.id true) → IsTrue (reply_fits (with_outcome r (Failed reason)))
+failure_fits r reason marked = short_fits (with_outcome r (Failed reason)) marked refl tt
+
+is_own_of : (operation : ℕ) (asked : Option ℕ) → asked ≡ Some operation → is_own operation asked ≡ true
+is_own_of operation asked own = subst (λ o. is_own operation o ≡ true) (sym own) (eq-eqb operation operation refl)
+
+-- a success that tells the identifier alone
+pub told_fits : (r : Reply) (operation : ℕ) (make : List ℕ → Outcome) (uid asked : List ℕ)
+    → ((u : List ℕ) → outcome_fits r.operation (make u) ≡ (is_own operation r.operation && is_identifier u))
+    → ((u : List ℕ) → IsBrief (make u)) → IsTrue (option_map_or is_batch_id r.id true) → r.operation ≡ Some operation
+    → uid ≡ asked → IsTrue (is_identifier asked) → IsTrue (reply_fits (with_outcome r (make uid)))
+told_fits r operation make uid asked fits brief marked own is identified =
+    let named : is_identifier uid ≡ true = rw is identified in
+    short_fits (with_outcome r (make uid)) marked (fits uid ∙ both (is_own_of operation r.operation own) named) (brief uid)
+
+located_one : (r : Reply) (found : Option (List ℕ)) → IsTrue (option_map_or is_batch_id r.id true) → r.operation ≡ Some OPERATION_LOCATE
+    → IfSome found (λ uid. IsTrue (is_identifier uid)) → IsTrue (reply_fits (with_outcome r (Located (option_to_list found))))
+located_one r None marked own identified =
+    short_fits (with_outcome r (Located [])) marked (both (is_own_of OPERATION_LOCATE r.operation own) refl) (omega arith)
+located_one r (Some uid) marked own identified =
+    short_fits (with_outcome r (Located (uid ∷ []))) marked (both (is_own_of OPERATION_LOCATE r.operation own) (both identified refl))
+    (omega arith)
 
 -- a Locate's success, of one object at most
-pub located_fits : (uids : List (List ℕ)) (found : Option (List ℕ)) → uids ≡ option_to_list found → IfSome found (λ uid. IsTrue (is_identifier uid))
-    → IsTrue (outcome_fits (Some OPERATION_LOCATE) (Located uids)) × IsBrief (Located uids)
-located_fits uids found is identified =
-    subst (λ all. IsTrue (outcome_fits (Some OPERATION_LOCATE) (Located all)) × IsBrief (Located all)) (sym is) (located_one found identified)
+pub located_fits : (r : Reply) (uids : List (List ℕ)) (found : Option (List ℕ)) → IsTrue (option_map_or is_batch_id r.id true) → r.operation ≡ Some OPERATION_LOCATE
+    → uids ≡ option_to_list found → IfSome found (λ uid. IsTrue (is_identifier uid)) → IsTrue (reply_fits (with_outcome r (Located uids)))
+located_fits r uids found marked own is identified =
+    subst (λ all. IsTrue (reply_fits (with_outcome r (Located all)))) (sym is) (located_one r found marked own identified)
 
--- what Get Attributes tells of an object
-pub attributes_fit : (uid : List ℕ) (a : Attrs) (asked : List ℕ) (o : Object) → uid ≡ asked → a ≡ attributes_of o
-    → IsTrue (is_identifier asked) → IsTrue (attrs_fit o.attrs)
-    → IsTrue (outcome_fits (Some OPERATION_GET_ATTRIBUTES) (Attributes uid a)) × IsBrief (Attributes uid a)
-attributes_fit uid a asked o is are identified fits =
+-- the reply of Get Attributes is not too long
+pub attributes_fit : (r : Reply) (uid : List ℕ) (a : Attrs) (asked : List ℕ) (o : Object) → uid ≡ asked → a ≡ attributes_of o
+    → IsTrue (option_map_or is_batch_id r.id true) → r.operation ≡ Some OPERATION_GET_ATTRIBUTES
+    → IsTrue (is_identifier asked) → IsTrue (attrs_fit o.attrs) → IsTrue (reply_fits (record { operation = r.operation; id = r.id; outcome = Attributes uid a }))
+attributes_fit r uid a asked o is are marked own identified fits =
     let name = (and_parts _ _ (and_parts _ _ (and_parts _ _ fits).0).0).0 in
+    let under : option_map_or (λ operation. operation == OPERATION_GET_ATTRIBUTES) r.operation false ≡ true = rw own refl in
     let named : is_identifier uid ≡ true = rw is identified in
-    (both refl named, rw are name)
+    short_fits (with_outcome r (Attributes uid a)) marked (both under named) (rw are name)
