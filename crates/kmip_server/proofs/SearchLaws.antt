@@ -3,10 +3,12 @@ use Rattle.std.proofs.Common.{map, filter, ◌≡◌, ℕ, ℤ, Bool, true, fals
 use Rattle.std.specs.Cmp.Lexicographic.{pointwise}
 use Rattle.std.specs.Option.{option_map, option_to_list}
 use Rattle.std.proofs.lemmas.Bool.{cases_Bool, cond-true, cond-false}
+use Rattle.std.proofs.Math.Bool.{and-true}
 use Rattle.std.proofs.lemmas.Option.{none-some}
 use Rattle.std.proofs.lemmas.Slice.Eq.{bytes_eq-Decides}
 use Rattle.kmip_objects.specs.Objects.{DistinctNames, Object, object_named}
-use Rattle.kmip_objects.specs.Searching.{by_name, every_state}
+use Rattle.kmip_objects.specs.Attributes.{by_name, has_given}
+use Rattle.kmip_objects.specs.Searching.{every_state}
 use Rattle.kmip_objects.specs.declared.state.KeyState.{KeyState}
 use Rattle.kmip_objects.specs.declared.state.KeyState.TheVariants.{PreActive, Active, Deactivated, Compromised, Destroyed, DestroyedCompromised}
 use Rattle.kmip_messages.specs.declared.reply.Outcome.{Outcome}
@@ -17,7 +19,7 @@ use Rattle.kmip_objects.specs.declared.attributes.Attrs.{Attrs}
 use Rattle.kmip_server.specs.Laws.{LocateFindsAllNamed, LocateFindsTheName}
 use Rattle.kmip_server.specs.ServerStep as rules_of
 use Rattle.kmip_server.specs.ServerStep.{ServerStep, step_asked}
-use Rattle.kmip_store.specs.Locating.{has_given, is_searched, is_wanted, locate}
+use Rattle.kmip_store.specs.Locating.{is_searched, is_wanted, locate}
 
 abbrev locating : Option ℤ → Attrs → Ask
 locating mask given = Locate mask given
@@ -31,10 +33,6 @@ searched Compromised = refl
 searched Destroyed = refl
 searched DestroyedCompromised = refl
 
-and_trues : (b : Bool) → (b && true && true && true && true && true) ≡ b
-and_trues true = refl
-and_trues false = refl
-
 and_first : (a b : Bool) → a ≡ true → (a && b) ≡ b
 and_first true b is = refl
 and_first false b is = absurd cc
@@ -42,8 +40,8 @@ and_first false b is = absurd cc
 -- the name alone decides
 pub wanted_by_name : (name : List ℕ) (o : Object) → is_wanted (Some every_state) (by_name name) o ≡ pointwise nat_eq name o.attrs.name
 wanted_by_name name o =
-    and_first (is_searched (Some every_state) o.state) (has_given (by_name name) o) (searched o.state)
-    ∙ and_trues (pointwise nat_eq name o.attrs.name)
+    and_first (is_searched (Some every_state) o.state) (has_given (by_name name) o.attrs o.state) (searched o.state)
+    ∙ simp (and-true) refl
 
 -- no object of another name is wanted
 none_wanted : (name : List ℕ) (objects : List Object) → object_named name objects ≡ None

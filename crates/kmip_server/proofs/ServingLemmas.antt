@@ -20,7 +20,7 @@ use Rattle.kmip_messages.specs.RequestReading.{RefusalIs}
 use Rattle.kmip_messages.proofs.ForCallers.{short_fits}
 use Rattle.kmip_server.specs.Answering.{with_outcome}
 use Rattle.kmip_server.specs.Reasons.{message_reason}
-use Rattle.kmip_server.specs.Serving.{attributes_of}
+use Rattle.kmip_objects.specs.Attributes.{attributes_of}
 
 -- what holds of a value where this and that do
 pub if_ok : {A E : Type 0} (r : Result A E) (P Q : A → Type 0) (C : Type 0) → IfOk r P → IfOk r (λ _. C) → (C → (a : A) → P a → Q a) → IfOk r Q

@@ -4,7 +4,8 @@ use Rattle.std.specs.Prelude.{◌≡◌, ℕ, nat_eq, List, map, filter, Some, o
 use Rattle.std.specs.Cmp.Lexicographic.{pointwise}
 use Rattle.std.specs.Option.{option_map}
 use Rattle.kmip_objects.specs.Objects.{DistinctNames, Object, object_named}
-use Rattle.kmip_objects.specs.Searching.{by_name, every_state}
+use Rattle.kmip_objects.specs.Attributes.{by_name}
+use Rattle.kmip_objects.specs.Searching.{every_state}
 use Rattle.kmip_messages.specs.declared.reply.Outcome.{Outcome}
 use Rattle.kmip_messages.specs.declared.reply.Outcome.TheVariants.{Located}
 use Rattle.kmip_messages.specs.declared.request.Ask.TheVariants.{Locate}

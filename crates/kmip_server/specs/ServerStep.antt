@@ -23,7 +23,7 @@ use Rattle.kmip_objects.specs.declared.state.KeyState.TheVariants.{PreActive}
 use Rattle.kmip_objects.specs.declared.step.Step.{Step}
 use Rattle.kmip_objects.specs.declared.step.Step.TheVariants as steps
 use Rattle.kmip_store.specs.Locating.{locate}
-use Rattle.kmip_server.specs.Serving.{attributes_of}
+use Rattle.kmip_objects.specs.Attributes.{attributes_of}
 
 -- the step that a question asks of an object, and the object's identifier; a compromise is none
 abbrev pub step_asked : Ask → Option (Step × List ℕ)

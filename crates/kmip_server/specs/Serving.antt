@@ -2,10 +2,9 @@
 -- Source: KMIP 2.1, Operations. Which reason answers which refusal is own, and that a compromise is refused.
 use Rattle.std.specs.Prelude.{ℕ, ℤ, List, length, Option, Some, None, Result, Ok, Err, if◌then◌else◌}
 use Rattle.kmip_ttlv.specs.Spelling.{canon}
-use Rattle.kmip_objects.specs.Objects.{Object}
+use Rattle.kmip_objects.specs.Attributes.{attributes_of}
 use Rattle.kmip_messages.specs.Operations.{operation_of}
 use Rattle.kmip_objects.specs.Ranges.{is_compromise}
-use Rattle.kmip_objects.specs.States.{state_number}
 use Rattle.kmip_messages.specs.Whole.{request_read}
 use Rattle.kmip_messages.specs.Written.{reply_item}
 use Rattle.kmip_messages.specs.declared.refusal.Refusal.{Refusal}
@@ -14,9 +13,7 @@ use Rattle.kmip_messages.specs.declared.reply.Outcome.TheVariants.{Created, Loca
 use Rattle.kmip_messages.specs.declared.reply.Reply.{Reply}
 use Rattle.kmip_messages.specs.declared.request.Ask.{Ask}
 use Rattle.kmip_messages.specs.declared.request.Ask.TheVariants.{Create, Locate, GetAttributes, Activate, Revoke, Destroy}
-use Rattle.kmip_objects.specs.declared.attributes.Attrs.{Attrs}
 use Rattle.kmip_messages.specs.declared.request.Request.{Request}
-use Rattle.kmip_objects.specs.declared.standard.TheConstants.{OBJECT_TYPE_SYMMETRIC_KEY}
 use Rattle.kmip_messages.specs.declared.standard.TheConstants.{REASON_FEATURE_NOT_SUPPORTED}
 use Rattle.kmip_objects.specs.declared.step.Step.TheVariants as steps
 use Rattle.kmip_store.specs.declared.fault.StoreFault.{StoreFault}
@@ -27,17 +24,7 @@ use Rattle.kmip_store.specs.Stepping.{row_with, take_step}
 use Rattle.kmip_store.specs.Locating.{locate}
 use Rattle.kmip_server.specs.Reasons.{message_reason, store_reason}
 
--- the attributes that Get Attributes tells of an object
-abbrev pub attributes_of : Object → Attrs
-attributes_of o = record {
-  object_type = Some OBJECT_TYPE_SYMMETRIC_KEY;
-  name = Some o.attrs.name;
-  algorithm = Some o.attrs.algorithm;
-  length = Some o.attrs.length;
-  usage = Some o.attrs.usage;
-  state = Some (state_number o.state);
-}
-
+-- what Get Attributes tells of a row, where there is one
 abbrev pub attributes_outcome : List ℕ → Option Row → Outcome
 attributes_outcome uid None = Failed (store_reason NotFound)
 attributes_outcome uid (Some row) = Attributes uid (attributes_of (object_of row))

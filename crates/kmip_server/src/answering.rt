@@ -12,16 +12,15 @@ ghost use Rattle.kmip_messages.specs.declared.request.Ask.TheVariants as asks;
 ghost use Rattle.kmip_messages.specs.Items.{replies_in};
 ghost use Rattle.kmip_server.specs.Answering.{with_outcome, written_with};
 ghost use Rattle.kmip_server.specs.Reasons.{message_reason};
-ghost use Rattle.kmip_server.specs.Serving.{answer, attributes_of, refusal_reply, reply_to};
+ghost use Rattle.kmip_server.specs.Serving.{answer, refusal_reply, reply_to};
 ghost use Rattle.kmip_store.specs.Stepping.{Becomes};
-ghost use Rattle.kmip_store.specs.Stock.{create, object_of};
+ghost use Rattle.kmip_store.specs.Stock.{create};
 
 use crate::reasons::{message_reason, store_reason};
 use kmip_messages::standard::REASON_FEATURE_NOT_SUPPORTED;
 use kmip_messages::{Ask, Outcome, Refusal, Reply, Request, write_reply};
-use kmip_objects::standard::OBJECT_TYPE_SYMMETRIC_KEY;
-use kmip_objects::{Attrs, KeyAttrs, Texts, is_compromise};
-use kmip_store::{Records, Row, StoreFault, identifier_at};
+use kmip_objects::{Attrs, KeyAttrs, Texts, attributes_of, is_compromise};
+use kmip_store::{Records, StoreFault, identifier_at};
 use kmip_ttlv::{Bytes, NoMemory, Text};
 use std::alloc::Global;
 
@@ -207,23 +206,8 @@ fn get_attributes<S: Records>(
         return refuse(alloc, reply, store_reason(StoreFault::NotFound), now);
     };
     let uid = Text::copied(alloc, uid)?;
-    reply.outcome = Outcome::Attributes(uid, attributes_of(alloc, row)?);
+    reply.outcome = Outcome::Attributes(uid, attributes_of(alloc, &row.attrs, row.state)?);
     write_reply(alloc, &reply, now)
-}
-
-/// What Get Attributes tells of a row.
-fn attributes_of(alloc: Global, row: &Row) -> Result<Attrs, NoMemory>
-    ensures { IfOk result (λ a. a ≡ attributes_of (object_of row.now)) }
-{
-    let name = Text::copied(alloc, row.attrs.name.as_str())?;
-    Ok(Attrs {
-        object_type: Some(OBJECT_TYPE_SYMMETRIC_KEY),
-        name: Some(name),
-        algorithm: Some(row.attrs.algorithm),
-        length: Some(row.attrs.length),
-        usage: Some(row.attrs.usage),
-        state: Some(row.state.number()),
-    })
 }
 
 /// Makes the object Active.
