@@ -2,7 +2,7 @@
 use Rattle.std.proofs.Common.{◌≡◌, ◌<◌, ℕ, true, List, [], ◌∷◌, Some, refl, ap, sym, ◌∙◌, arith}
 use Rattle.kmip_objects.specs.Objects.{Object}
 use Rattle.kmip_messages.specs.Operations.{operation_of}
-use Rattle.kmip_objects.specs.Searching.{by_name}
+use Rattle.kmip_objects.specs.Attributes.{by_name}
 use Rattle.kmip_messages.specs.declared.reply.Outcome.{Outcome}
 use Rattle.kmip_messages.specs.declared.reply.Outcome.TheVariants.{Created, Located, Attributes, Activated, Revoked, Destroyed, Failed}
 use Rattle.kmip_messages.specs.declared.request.Ask.{Ask}

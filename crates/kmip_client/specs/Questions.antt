@@ -4,7 +4,8 @@ use Rattle.std.specs.Prelude.{ℕ, ◌+◌, List, [], ◌∷◌, Option, Some, N
 use Rattle.std.specs.Option.{unwrap_or}
 use Rattle.kmip_messages.specs.Operations.{operation_of}
 use Rattle.kmip_messages.specs.Written.{request_item}
-use Rattle.kmip_objects.specs.Searching.{by_name, every_state}
+use Rattle.kmip_objects.specs.Attributes.{by_name}
+use Rattle.kmip_objects.specs.Searching.{every_state}
 use Rattle.kmip_messages.specs.declared.request.Ask.{Ask}
 use Rattle.kmip_messages.specs.declared.request.Ask.TheVariants as asks
 use Rattle.kmip_messages.specs.declared.request.Request.{Request}

@@ -2,7 +2,6 @@
 ghost use Rattle.std.specs.Prelude.{◌≡◌, ◌<◌, [], IfOk, IsTrue, option_map};
 ghost use Rattle.std.specs.Option.{unwrap_or};
 ghost use Rattle.kmip_messages.specs.Items.{AsksAlone};
-ghost use Rattle.kmip_objects.specs.Searching.{by_name};
 ghost use Rattle.kmip_plan.specs.Plans.{key_fits};
 ghost use Rattle.kmip_client.specs.Questions.{
   next_ask,
@@ -92,7 +91,7 @@ fn ask_about(alloc: Global, key: &Key, known: &Knowledge) -> Result<Ask, NoMemor
     match known.phase {
         Phase::Look => Ok(Ask::Locate {
             mask: Some(EVERY_STATE),
-            filter: by_name(alloc, key.attrs.name.as_str())?,
+            filter: Attrs::by_name(Text::copied(alloc, key.attrs.name.as_str())?),
         }),
         Phase::Make => Ok(Ask::Create(key.attrs.copied(alloc)?)),
         Phase::Check => Ok(Ask::GetAttributes(Text::copied(alloc, uid)?)),
@@ -108,20 +107,6 @@ fn uid_of(known: &Knowledge) -> &str
         Some(uid) => uid.as_str(),
         None => "",
     }
-}
-
-/// The attributes that give the name alone.
-fn by_name(alloc: Global, name: &str) -> Result<Attrs, NoMemory>
-    ensures { IfOk result (λ attrs. attrs ≡ by_name name.now) }
-{
-    Ok(Attrs {
-        object_type: None,
-        name: Some(Text::copied(alloc, name)?),
-        algorithm: None,
-        length: None,
-        usage: None,
-        state: None,
-    })
 }
 
 /// The next step on the object with the identifier; where there is none, a look at its attributes.
