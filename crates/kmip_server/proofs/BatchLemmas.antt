@@ -1,8 +1,8 @@
 -- Questions answered in turn: what was answered before, and what is left.
-use Rattle.std.proofs.Common.{◌≡◌, ◌+◌, ◌<◌, ◌≤◌, ℕ, Bool, true, false, ◌&&◌, nat_le, if◌then◌else◌, append-nil, option_to_list, Option, None, List, [], ◌∷◌, ◌++◌, length, drop, get_or, Result, Ok, Err, IsTrue, refl, sym, ap, subst, ◌∙◌, inl, inr, arith}
+use Rattle.std.proofs.Common.{◌≡◌, ◌+◌, ◌<◌, ◌≤◌, ℕ, Bool, true, false, ◌&&◌, nat_le, if◌then◌else◌, append-nil, option_to_list, Option, Some, None, List, [], ◌∷◌, ◌++◌, length, drop, get_or, Result, Ok, Err, OnErr, OnOk, IsTrue, refl, sym, ap, subst, ◌∙◌, inl, inr, arith}
 use Rattle.std.specs.List.{All}
 use Rattle.std.proofs.lemmas.Bool.{and_parts, leb-true, cases_Bool}
-use Rattle.std.proofs.lemmas.List.{append_assoc, drop_all, drop_more}
+use Rattle.std.proofs.lemmas.List.{append_assoc, drop_all, drop_more, length-append}
 use Rattle.std.proofs.lemmas.List.Elements.{All-append, All-cons, All-nil}
 use Rattle.kmip_messages.specs.BatchItems.{Question}
 use Rattle.kmip_messages.specs.declared.refusal.Refusal.{Refusal}
@@ -16,9 +16,12 @@ use Rattle.kmip_batches.specs.Members.{may_have}
 use Rattle.kmip_batches.specs.Written.{IsShort}
 use Rattle.kmip_objects.specs.Ranges.{is_compromise}
 use Rattle.kmip_store.specs.declared.fault.StoreFault.{StoreFault}
-use Rattle.kmip_store.specs.Stock.{Stock}
+use Rattle.kmip_objects.specs.declared.step.Step.TheVariants as steps
+use Rattle.kmip_messages.specs.declared.standard.TheConstants.{REASON_FEATURE_NOT_SUPPORTED}
+use Rattle.kmip_store.specs.Stepping.{take_step}
+use Rattle.kmip_store.specs.Stock.{Stock, create, identifier_at}
 use Rattle.kmip_server.specs.Again.{has_failed}
-use Rattle.kmip_server.specs.Batching.{effect_by, effects_of, is_last, replies_to, stock_after_all, IsCutShort}
+use Rattle.kmip_server.specs.Batching.{effect_by, effects_of, is_last, replies_to, stock_after_all, IsCutShort, JoinsBegun}
 use Rattle.kmip_server.specs.Effects.{effect_of}
 use Rattle.kmip_server.specs.Serving.{answer, outcome_of_change, reply_to, stock_after_read}
 use Rattle.kmip_server.specs.Shown.{objects_in}
@@ -31,19 +34,23 @@ change_leaves : (success : Outcome) (s : Stock) (r : Result Stock StoreFault) �
 change_leaves success s (Ok new) fine failed = absurd cc
 change_leaves success s (Err fault) fine failed = refl
 
-revoke_leaves : (s : Stock) (uid : List ℕ) (code : ℕ) → has_failed (answer s (asks.Revoke uid code)).0 ≡ true → (answer s (asks.Revoke uid code)).1 ≡ s
-revoke_leaves s uid code failed = elim (cases_Bool (is_compromise code)) [
-  | inl is ↦ rw is refl
-  | inr other ↦ rw other (change_leaves (outcomes.Revoked uid) s _ refl (subst (λ b. has_failed (if b then _ else _).0 ≡ true) other failed))
-]
+abbrev Leaves : Stock → Outcome × Stock → Type 0
+Leaves s r = has_failed r.0 ≡ true → r.1 ≡ s
 
-ask_leaves : (s : Stock) (ask : Ask) → has_failed (answer s ask).0 ≡ true → (answer s ask).1 ≡ s
-ask_leaves s (asks.Create attrs) failed = change_leaves _ s _ refl failed
-ask_leaves s (asks.Locate mask given) failed = refl
-ask_leaves s (asks.GetAttributes uid) failed = refl
-ask_leaves s (asks.Activate uid) failed = change_leaves _ s _ refl failed
-ask_leaves s (asks.Revoke uid code) failed = revoke_leaves s uid code failed
-ask_leaves s (asks.Destroy uid) failed = change_leaves _ s _ refl failed
+chosen_leaves : (s : Stock) (b : Bool) (x y : Outcome × Stock) → Leaves s x → Leaves s y → Leaves s (if b then x else y)
+chosen_leaves s true x y h k = h
+chosen_leaves s false x y h k = k
+
+ask_leaves : (s : Stock) (ask : Ask) → Leaves s (answer s ask)
+ask_leaves s (asks.Create attrs) = change_leaves (outcomes.Created (identifier_at (length s.rows))) s (create attrs s) refl
+ask_leaves s (asks.Locate mask given) = λ failed. refl
+ask_leaves s (asks.GetAttributes uid) = λ failed. refl
+ask_leaves s (asks.Activate uid) = change_leaves (outcomes.Activated uid) s (take_step steps.Activate uid s) refl
+ask_leaves s (asks.Revoke uid code) =
+    chosen_leaves s (is_compromise code) (outcomes.Failed (Some REASON_FEATURE_NOT_SUPPORTED), s)
+    (outcome_of_change (outcomes.Revoked uid) s (take_step steps.Revoke uid s)) (λ failed. refl)
+    (change_leaves (outcomes.Revoked uid) s (take_step steps.Revoke uid s) refl)
+ask_leaves s (asks.Destroy uid) = change_leaves (outcomes.Destroyed uid) s (take_step steps.Destroy uid s) refl
 
 failed_leaves : (s : Stock) (q : Question) → has_failed (reply_to s q).outcome ≡ true → stock_after_read s q ≡ s
 failed_leaves s (Ok request) failed = ask_leaves s request.ask failed
@@ -136,7 +143,7 @@ one_more stops qs old place replies effects s q h is below short on =
           subst (λ es. IsCutShort stops qs es old new) (sym (append_assoc effects (own s q) more))
           (h.begun (own s q ++ more) new (subst (λ xs. IsCutShort stops xs (own s q ++ more) s new) (sym open_) (inr (more, refl, on, cut))));
       short = All-append IsShort replies (reply_to s q ∷ []) h.short (All-cons IsShort (reply_to s q) [] short (All-nil IsShort));
-      count = grind (arith, h.count);
+      count = omega (arith, length-append replies (reply_to s q ∷ []), h.count);
       more = below;
     }
 
@@ -157,20 +164,14 @@ stopped_over stops qs old place replies effects s q h is over =
     (subst (λ new. IsCutShort stops qs effects old new) (sym (last_leaves stops s q over))
     (stopped_here stops qs old place replies effects s q h is))
 
-at_place : (xs : List Question) (i : ℕ) (x : Question) → i < length xs → get_or xs i x ≡ get_or xs i (get_or xs i x)
-at_place [] i x below = absurd (omega (arith, below))
-at_place (y ∷ ys) 0 x below = refl
-at_place (y ∷ ys) (suc i) x below = at_place ys i x (omega (arith, below))
-
 pub stopped_behind : (stops : Bool) (qs : List Question) (old : Stock) (place : ℕ) (replies : List Reply) (effects : List Effect) (s : Stock) (q : Question)
     → AreAnswered stops qs old place replies effects s → q ≡ get_or qs place q → place + 1 < length qs
     → IsCutShort stops qs (effects ++ own s q) old (stock_after_read s q)
 stopped_behind stops qs old place replies effects s q h is below = elim (cases_Bool (is_last stops (reply_to s q))) [
   | inl over ↦ stopped_over stops qs old place replies effects s q h is over
   | inr on ↦
-      let next = get_or qs (place + 1) q in
       let new = stock_after_read s q in
-      let behind = opened qs (place + 1) next below (at_place qs (place + 1) q below) in
+      let behind = drop_more qs (place + 1) q below in
       let rest : IsCutShort stops (drop (place + 1) qs) [] new new = subst (λ xs. IsCutShort stops xs [] new new) (sym behind) (inl (refl, refl)) in
       h.begun (own s q) new
       (subst (λ xs. IsCutShort stops xs (own s q) s new) (sym (opened qs place q h.more is)) (inr ([], sym (append-nil (own s q)), on, rest)))
@@ -205,6 +206,53 @@ pub told_last : (stops : Bool) (qs : List Question) (old : Stock) (place : ℕ) 
     → AreAnswered stops qs old place replies effects s → q ≡ get_or qs place q → place + 1 ≡ length qs
     → IsWhole stops qs old (replies ++ reply_to s q ∷ []) (effects ++ own s q) (stock_after_read s q)
 told_last stops qs old place replies effects s q h is last =
-    let one : drop place qs ≡ q ∷ [] = opened qs place q h.more is ∙ ap (λ xs. q ∷ xs) (drop_all qs (place + 1) (omega (arith, last))) in
+    let one : drop place qs ≡ q ∷ [] = opened qs place q h.more is ∙ ap (λ xs. q ∷ xs) (drop_all (place + 1) qs (omega (arith, last))) in
     whole stops qs old place replies effects s q h
     (subst (λ xs. Answers stops xs s (reply_to s q ∷ []) (stock_after_read s q) (own s q)) (sym one) (alone stops q s))
+
+-- ---- replies that may stand together
+
+pub short_more : (replies all : List Reply) (reply : Reply) → all ≡ replies ++ reply ∷ [] → All IsShort replies → IsShort reply → All IsShort all
+short_more replies all reply is short one =
+    subst (All IsShort) (sym is) (All-append IsShort replies (reply ∷ []) short (All-cons IsShort reply [] one (All-nil IsShort)))
+
+-- ---- what a call left
+
+-- where memory ran out and nothing more happened
+pub begun_here : {A E : Type 0} (r : Result A E) (stops : Bool) (qs : List Question) (old s new : Stock) (before so_far after joined : List Effect)
+    → so_far ≡ before ++ joined → IsCutShort stops qs joined old s → OnErr r (new ≡ s) → OnErr r (after ≡ so_far)
+    → OnErr r (JoinsBegun (λ more. IsCutShort stops qs more old new) before after)
+begun_here (Ok v) stops qs old s new before so_far after joined is cut same same_effects = tt
+begun_here (Err e) stops qs old s new before so_far after joined is cut same same_effects =
+    (joined, same_effects ∙ is, subst (IsCutShort stops qs joined old) (sym same) cut)
+
+-- the same where it is known already what was left
+pub begun_so : {A E : Type 0} (r : Result A E) (stops : Bool) (qs : List Question) (old s new : Stock) (before after joined : List Effect)
+    → after ≡ before ++ joined → new ≡ s → IsCutShort stops qs joined old s → OnErr r (JoinsBegun (λ more. IsCutShort stops qs more old new) before after)
+begun_so (Ok v) stops qs old s new before after joined is same cut = tt
+begun_so (Err e) stops qs old s new before after joined is same cut = (joined, is, subst (IsCutShort stops qs joined old) (sym same) cut)
+
+-- nothing happened
+pub nothing_begun : (stops : Bool) (qs : List Question) (s : Stock) → IsTrue (may_have (length qs)) → IsCutShort stops qs [] s s
+nothing_begun stops [] s some = absurd cc
+nothing_begun stops (q ∷ qs) s some = inl (refl, refl)
+
+pub ok_so : {A E : Type 0} (r : Result A E) (P : Type 0) → P → OnOk r P
+ok_so (Ok v) P p = p
+ok_so (Err e) P p = tt
+
+-- one more is answered, as a call left it
+pub goes_further : (stops : Bool) (qs : List Question) (old : Stock) (place : ℕ) (replies all : List Reply) (effects : List Effect) (s new : Stock) (q : Question) (reply : Reply)
+    → AreAnswered stops qs old place replies effects s → q ≡ get_or qs place q → place + 1 < length qs → all ≡ replies ++ reply ∷ []
+    → reply ≡ reply_to s q → IsShort reply → new ≡ stock_after_read s q → is_last stops (reply_to s q) ≡ false
+    → AreAnswered stops qs old (place + 1) all (effects ++ own s q) new
+goes_further stops qs old place replies all effects s new q reply h is below all_is reply_is short new_is on =
+    subst (λ t. AreAnswered stops qs old (place + 1) all (effects ++ own s q) t) (sym new_is)
+    (subst (λ rs. AreAnswered stops qs old (place + 1) rs (effects ++ own s q) (stock_after_read s q))
+    (sym (all_is ∙ ap (λ r. replies ++ r ∷ []) reply_is))
+    (one_more stops qs old place replies effects s q h is below (subst IsShort reply_is short) on))
+
+-- what joined the effects in the end
+pub joined_all : (before so_far joined own all : List Effect) → so_far ≡ before ++ joined → joined ++ own ≡ all → so_far ++ own ≡ before ++ all
+joined_all before so_far joined own all is whole =
+    ap (λ es. es ++ own) is ∙ append_assoc before joined own ∙ ap (λ es. before ++ es) whole

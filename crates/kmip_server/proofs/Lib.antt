@@ -6,3 +6,4 @@ pub mod AgainLaws
 pub mod MessageLemmas
 pub mod SearchLaws
 mod BatchLemmas
+mod PromiseLemmas

@@ -1,5 +1,5 @@
 -- A message of one question is served by the one reply to it.
-use Rattle.std.proofs.Common.{◌≡◌, ℕ, Bool, ◌&&◌, List, [], ◌∷◌, Result, Ok, Err, IfOk, OnErr, OnOk, ap, subst, refl, sym, ◌∙◌, inl, inr}
+use Rattle.std.proofs.Common.{◌≡◌, ℕ, ℤ, Bool, true, ◌&&◌, List, [], ◌∷◌, Result, Ok, Err, IfOk, OnErr, OnOk, ap, subst, refl, sym, ◌∙◌, inl, inr}
 use Rattle.std.specs.List.{All, AllByRecursion}
 use Rattle.std.specs.Option.{option_map_or}
 use Rattle.std.proofs.lemmas.Bool.{and_parts, cases_Bool}
@@ -10,13 +10,16 @@ use Rattle.kmip_messages.specs.RequestFits.{ask_fits}
 use Rattle.kmip_batches.specs.Ranges.{QuestionFits}
 use Rattle.kmip_messages.specs.Whole.{request_read}
 use Rattle.kmip_messages.specs.Items.{replies_in}
+use Rattle.kmip_ttlv.specs.Spelling.{canon}
 use Rattle.kmip_batches.specs.Items as items
+use Rattle.kmip_batches.specs.Written.{replies_item}
 use Rattle.kmip_messages.specs.declared.refusal.Refusal.{Refusal}
 use Rattle.kmip_messages.specs.declared.reply.Reply.{Reply}
 use Rattle.kmip_messages.specs.declared.request.Ask.{Ask}
 use Rattle.kmip_messages.specs.declared.request.Request.{Request}
 use Rattle.kmip_store.specs.Stock.{IsKept, Stock}
 use Rattle.kmip_server.specs.Again.{has_failed}
+use Rattle.kmip_server.specs.Answering.{Tells}
 use Rattle.kmip_server.specs.Batching as batch
 use Rattle.kmip_server.specs.Batching.{effects_of, is_last, replies_to, stock_after_all, AreBegun, IsCutShort, JoinsBegun}
 use Rattle.kmip_server.specs.declared.effect.Effect.{Effect}
@@ -88,25 +91,37 @@ all_served steps keep stops (q ∷ qs) s fit kept =
       | inr on ↦ (stock_after_read s q, effects_of stops qs (stock_after_read s q), served, rw on refl, inr (on, rw on rest))
     ]
 
+pub told_bytes : {A E : Type 0} (r : Result A E) (bytes : A → List ℕ) (replies : List Reply) (now z : ℤ) → z ≡ now
+    → IfOk r (λ v. Tells (bytes v) replies z) → IfOk r (λ v. bytes v ≡ canon (replies_item replies now))
+told_bytes (Ok v) bytes replies now z is tells = tells.bytes_are ∙ ap (λ t. canon (replies_item replies t)) is
+told_bytes (Err e) bytes replies now z is tells = tt
+
 pub batch_served : AnswersAreSteps → AnswersKeep → {A E : Type 0} (r : Result A E) (bytes : A → List ℕ) (old new : Stock) (stops : Bool)
-    (parts : List Question) (effects : List Effect) → All QuestionFits parts → IsKept old.rows old.room
-    → IfOk r (λ v. items.replies_in (bytes v) ≡ replies_to stops parts old) → OnOk r (new ≡ stock_after_all stops parts old)
+    (parts : List Question) (effects : List Effect) (now : ℤ) → All QuestionFits parts → IsKept old.rows old.room
+    → IfOk r (λ v. Tells (bytes v) (replies_to stops parts old) now) → OnOk r (new ≡ stock_after_all stops parts old)
     → effects ≡ effects_of stops parts old
     → IfOk r (λ v. batch.AreServed stops parts (items.replies_in (bytes v)) effects old new)
-batch_served steps keep (Ok v) bytes old new stops parts effects fit kept says after done =
-    subst (λ rs. batch.AreServed stops parts rs effects old new) (sym says)
+batch_served steps keep (Ok v) bytes old new stops parts effects now fit kept tells after done =
+    subst (λ rs. batch.AreServed stops parts rs effects old new) (sym tells.says)
     (subst (λ s. batch.AreServed stops parts (replies_to stops parts old) effects old s) (sym after)
     (subst (λ es. batch.AreServed stops parts (replies_to stops parts old) es old (stock_after_all stops parts old)) (sym done)
     (all_served steps keep stops parts old (recursion_from_All QuestionFits parts fit) kept)))
-batch_served steps keep (Err e) bytes old new stops parts effects fit kept says after done = tt
+batch_served steps keep (Err e) bytes old new stops parts effects now fit kept tells after done = tt
 
 cut_begun : AnswersAreSteps → AnswersKeep → (stops : Bool) (qs : List Question) (effects : List Effect) (s new : Stock) → AllByRecursion QuestionFits qs
     → IsKept s.rows s.room → IsCutShort stops qs effects s new → AreBegun stops qs effects s new
 cut_begun steps keep stops [] effects s new fit kept none = none
 cut_begun steps keep stops (q ∷ qs) effects s new fit kept (inl same) = inl same
 cut_begun steps keep stops (q ∷ qs) effects s new fit kept (inr (more, is, on, cut)) =
-    inr (reply_to s q, stock_after_read s q, more, part_served steps s q kept, is, on,
-    cut_begun steps keep stops qs more (stock_after_read s q) new fit.1 (part_kept keep s q fit.0 kept) cut)
+    inr (
+      reply_to s q,
+      stock_after_read s q,
+      more,
+      part_served steps s q kept,
+      is,
+      on,
+      cut_begun steps keep stops qs more (stock_after_read s q) new fit.1 (part_kept keep s q fit.0 kept) cut,
+    )
 
 pub batch_begun : AnswersAreSteps → AnswersKeep → {A E : Type 0} (r : Result A E) (old new : Stock) (before after : List Effect) (stops : Bool)
     (parts : List Question) → All QuestionFits parts → IsKept old.rows old.room

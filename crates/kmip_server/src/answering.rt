@@ -126,7 +126,7 @@ fn create<S: Records>(
 }
 
 /// Makes the object in the store, and says why it was refused where it was.
-fn make<S: Records>(
+pub(crate) fn make<S: Records>(
     store: &mut S,
     alloc: Global,
     attrs: &KeyAttrs,

@@ -1,21 +1,19 @@
 //! The questions of a message, answered in turn, and the message of the replies.
-ghost use Rattle.std.specs.Prelude.{◌≡◌, ◌+◌, ◌++◌, List, [], ◌∷◌, length, true, false, Ok, IfOk, OnErr, OnOk, IsTrue, option_to_list};
+ghost use Rattle.std.specs.Prelude.{◌≡◌, ◌+◌, ◌++◌, List, [], ◌∷◌, length, true, Ok, IfOk, OnErr, OnOk, IsTrue, IsSome, option_to_list};
 ghost use Rattle.std.specs.List.{All};
 ghost use Rattle.std.specs.Option.{option_map_or};
-ghost use Rattle.kmip_ttlv.specs.Spelling.{canon};
-ghost use Rattle.kmip_fields.specs.Faults.{is_no_memory};
 ghost use Rattle.kmip_messages.specs.Ranges.{is_batch_id};
 ghost use Rattle.kmip_messages.specs.RequestFits.{request_fits};
-ghost use Rattle.kmip_batches.specs.Items.{refusal_of, replies_in};
+ghost use Rattle.kmip_batches.specs.Items.{refusal_of};
 ghost use Rattle.kmip_batches.specs.Members.{may_have};
 ghost use Rattle.kmip_batches.specs.Ranges.{QuestionFits};
-ghost use Rattle.kmip_batches.specs.Written.{IsShort, replies_item};
-ghost use Rattle.kmip_server.specs.Again.{has_failed};
+ghost use Rattle.kmip_batches.specs.Written.{IsShort};
 ghost use Rattle.kmip_messages.specs.declared.reply.Outcome.TheVariants.{Failed};
 ghost use Rattle.kmip_messages.specs.declared.reply.Reply.{Reply};
-ghost use Rattle.kmip_server.specs.Answering.{promised_outcome, reply_with};
-ghost use Rattle.kmip_server.specs.Batching.{effect_by, effects_of, replies_to, stock_after_all, IsCutShort, JoinsBegun};
+ghost use Rattle.kmip_server.specs.Answering.{promised_outcome, reply_with, Tells};
+ghost use Rattle.kmip_server.specs.Batching.{effect_by, effects_of, is_last, replies_to, stock_after_all, IsCutShort, JoinsBegun};
 ghost use Rattle.kmip_server.specs.Effects.{effect_of};
+ghost use Rattle.kmip_server.specs.Reasons.{message_reason};
 ghost use Rattle.kmip_server.specs.Serving.{answer, refusal_reply, reply_to, stock_after_read};
 ghost use Rattle.kmip_server.specs.Shown.{objects_in};
 
@@ -44,10 +42,8 @@ pub(crate) fn answer_all<S: Records>(
 ) -> Result<Vec<u8>, NoMemory>
     requires some { IsTrue (may_have (length questions.now)) }
     requires fit { All QuestionFits questions.now }
-    ensures bytes { IfOk result (λ v. v.items ≡ canon (replies_item
-        (replies_to stops questions.now (S.stock store.old)) now)) }
-    ensures says { IfOk result (λ v. replies_in v.items
-        ≡ replies_to stops questions.now (S.stock store.old)) }
+    ensures tells { IfOk result (λ v. Tells v.items
+        (replies_to stops questions.now (S.stock store.old)) now) }
     ensures after { OnOk result (S.stock store.new
         ≡ stock_after_all stops questions.now (S.stock store.old)) }
     ensures effects { OnOk result (effects.new.items
@@ -58,13 +54,13 @@ pub(crate) fn answer_all<S: Records>(
     let mut replies = Vec::new(alloc);
     for question in questions {
         if replies.len() + 1 == questions.len() {
-            return answer_last(store, effects, alloc, question, replies, now);
+            return answer_last(store, effects, alloc, question, &mut replies, now);
         }
         let reply = answer_one(store, effects, alloc, question)?;
-        let over = stops && has_failed(&reply.outcome);
+        let over = is_last(stops, &reply);
         replies.push(reply)?;
         if over {
-            return write_reply(alloc, replies.as_slice(), now);
+            return write_all(alloc, replies.as_slice(), now);
         }
     }
     Err(NoMemory)
@@ -76,21 +72,20 @@ pub(crate) fn refuse_batch(
     fault: MessageFault,
     now: i64,
 ) -> Result<Vec<u8>, NoMemory>
-    ensures bytes { IfOk result (λ v. v.items ≡ canon (replies_item
-        (refusal_reply (refusal_of fault) ∷ []) now)) }
-    ensures says { IfOk result (λ v. replies_in v.items ≡ refusal_reply (refusal_of fault) ∷ []) }
-    ensures told { IfOk result (λ _. is_no_memory fault ≡ false) }
+    ensures tells { IfOk result (λ v. Tells v.items (refusal_reply (refusal_of fault) ∷ []) now) }
+    ensures told { IfOk result (λ _. IsSome (message_reason fault)) }
 {
-    if fault.is_no_memory() {
+    let reason = message_reason(fault);
+    if reason.is_none() {
         return Err(NoMemory);
     }
+    let mut replies = Vec::new(alloc);
     let reply = Reply {
         operation: None,
         id: None,
-        outcome: Outcome::Failed(message_reason(fault)),
+        outcome: Outcome::Failed(reason),
     };
-    let replies = vec![in alloc; reply]?;
-    write_reply(alloc, replies.as_slice(), now)
+    write_with(alloc, &mut replies, reply, now)
 }
 
 /// Answers the last question behind these replies, and writes the message.
@@ -99,16 +94,14 @@ fn answer_last<S: Records>(
     effects: &mut Vec<Effect>,
     alloc: Global,
     question: &Result<Request, Refusal>,
-    mut replies: Vec<Reply>,
+    replies: &mut Vec<Reply>,
     now: i64,
 ) -> Result<Vec<u8>, NoMemory>
-    requires some { IsTrue (may_have (length replies.items + 1)) }
-    requires short { All IsShort replies.items }
+    requires some { IsTrue (may_have (length replies.old.items + 1)) }
+    requires short { All IsShort replies.old.items }
     requires fits { QuestionFits question.now }
-    ensures bytes { IfOk result (λ v. v.items ≡ canon (replies_item
-        (replies.items ++ reply_to (S.stock store.old) question.now ∷ []) now)) }
-    ensures says { IfOk result (λ v. replies_in v.items
-        ≡ replies.items ++ reply_to (S.stock store.old) question.now ∷ []) }
+    ensures tells { IfOk result (λ v. Tells v.items
+        (replies.old.items ++ reply_to (S.stock store.old) question.now ∷ []) now) }
     ensures after { OnOk result (S.stock store.new
         ≡ stock_after_read (S.stock store.old) question.now) }
     ensures effects { OnOk result (effects.new.items ≡ effects.old.items ++ option_to_list
@@ -121,8 +114,7 @@ fn answer_last<S: Records>(
         Ok(request) => answer_last_request(store, effects, alloc, request, replies, now),
         Err(refusal) => {
             let reply = refusal_reply(alloc, refusal)?;
-            replies.push(reply)?;
-            write_reply(alloc, replies.as_slice(), now)
+            write_with(alloc, replies, reply, now)
         }
     }
 }
@@ -133,16 +125,14 @@ fn answer_last_request<S: Records>(
     effects: &mut Vec<Effect>,
     alloc: Global,
     request: &Request,
-    mut replies: Vec<Reply>,
+    replies: &mut Vec<Reply>,
     now: i64,
 ) -> Result<Vec<u8>, NoMemory>
-    requires some { IsTrue (may_have (length replies.items + 1)) }
-    requires short { All IsShort replies.items }
+    requires some { IsTrue (may_have (length replies.old.items + 1)) }
+    requires short { All IsShort replies.old.items }
     requires fits { IsTrue (request_fits request.now) }
-    ensures bytes { IfOk result (λ v. v.items ≡ canon (replies_item
-        (replies.items ++ reply_to (S.stock store.old) (Ok request.now) ∷ []) now)) }
-    ensures says { IfOk result (λ v. replies_in v.items
-        ≡ replies.items ++ reply_to (S.stock store.old) (Ok request.now) ∷ []) }
+    ensures tells { IfOk result (λ v. Tells v.items
+        (replies.old.items ++ reply_to (S.stock store.old) (Ok request.now) ∷ []) now) }
     ensures after { OnOk result (S.stock store.new
         ≡ (answer (S.stock store.old) request.now.ask).1) }
     ensures effects { OnOk result (effects.new.items ≡ effects.old.items ++ option_to_list
@@ -152,22 +142,66 @@ fn answer_last_request<S: Records>(
     ensures same_effects { OnErr result (effects.new.items ≡ effects.old.items) }
 {
     let reply = promised_reply(store, alloc, request)?;
-    replies.push(reply)?;
-    let written = write_reply(alloc, replies.as_slice(), now)?;
+    let written = write_with(alloc, replies, reply, now)?;
     match carry_out_noted(store, effects, alloc, &request.ask)? {
         Ok(()) => Ok(written),
-        Err(fault) => {
-            let reply = refused_reply(alloc, request, store_reason(fault))?;
-            take_back(&mut replies);
-            replies.push(reply)?;
-            write_reply(alloc, replies.as_slice(), now)
-        }
+        Err(fault) => refuse_last(alloc, request, replies, store_reason(fault), now),
     }
+}
+
+/// Puts a refusal with this reason in the place of the last reply, and writes the message.
+fn refuse_last(
+    alloc: Global,
+    request: &Request,
+    replies: &mut Vec<Reply>,
+    reason: Option<u32>,
+    now: i64,
+) -> Result<Vec<u8>, NoMemory>
+    requires fits { IsTrue (request_fits request.now) }
+    requires some { IsTrue (may_have (length replies.old.items)) }
+    requires short { All IsShort replies.old.items }
+    ensures { (front : List Reply) (last : Reply) → replies.old.items ≡ front ++ last ∷ []
+        → IfOk result (λ v. Tells v.items
+        (front ++ reply_with request.now (Failed reason) ∷ []) now) }
+{
+    let reply = refused_reply(alloc, request, reason)?;
+    take_back(replies);
+    write_with(alloc, replies, reply, now)
+}
+
+/// Puts a reply at the end, and writes the message of all.
+fn write_with(
+    alloc: Global,
+    replies: &mut Vec<Reply>,
+    reply: Reply,
+    now: i64,
+) -> Result<Vec<u8>, NoMemory>
+    requires some { IsTrue (may_have (length replies.old.items + 1)) }
+    requires all { All IsShort replies.old.items }
+    requires short { IsShort reply }
+    ensures tells { IfOk result (λ v. Tells v.items (replies.old.items ++ reply ∷ []) now) }
+    ensures joined { OnOk result (replies.new.items ≡ replies.old.items ++ reply ∷ []) }
+{
+    replies.push(reply)?;
+    write_all(alloc, replies.as_slice(), now)
+}
+
+/// Writes the message of the replies.
+fn write_all(alloc: Global, replies: &[Reply], now: i64) -> Result<Vec<u8>, NoMemory>
+    requires some { IsTrue (may_have (length replies.now)) }
+    requires short { All IsShort replies.now }
+    ensures { IfOk result (λ v. Tells v.items replies.now now) }
+{
+    let written = write_reply(alloc, replies, now)?;
+    Ok(written)
 }
 
 /// Takes the last reply away again.
 fn take_back(replies: &mut Vec<Reply>)
-    ensures { (front : List Reply) (last : Reply) → replies.old.items ≡ front ++ last ∷ []
+    ensures short { All IsShort replies.old.items → All IsShort replies.new.items }
+    ensures count { IsTrue (may_have (length replies.old.items))
+        → IsTrue (may_have (length replies.new.items + 1)) }
+    ensures front { (front : List Reply) (last : Reply) → replies.old.items ≡ front ++ last ∷ []
         → replies.new.items ≡ front }
 {
     let _last = replies.pop();
@@ -292,12 +326,12 @@ fn copied_id(alloc: Global, id: &Option<Bytes>) -> Result<Option<Bytes>, NoMemor
     }
 }
 
-/// Whether the outcome is a failure.
-fn has_failed(outcome: &Outcome) -> bool
-    ensures { result ≡ has_failed outcome.now }
+/// Whether the questions behind this reply are left: it says "failed", and a failure stops them.
+fn is_last(stops: bool, reply: &Reply) -> bool
+    ensures { result ≡ is_last stops reply.now }
 {
-    match outcome {
-        Outcome::Failed(_) => true,
+    match &reply.outcome {
+        Outcome::Failed(_) => stops,
         Outcome::Created(_)
         | Outcome::Located(_)
         | Outcome::Attributes(_, _)

@@ -39,6 +39,8 @@ pub(crate) fn carry_out_noted<S: Records>(
         (effect_of (objects_in (S.stock store.old)) ask.now
         (answer (S.stock store.old) ask.now).0)) }
     ensures after { OnOk result (S.stock store.new ≡ (answer (S.stock store.old) ask.now).1) }
+    ensures refused { IfOk result (λ done. OnErr done ((S.stock store.new ≡ S.stock store.old)
+        × (effects.new.items ≡ effects.old.items))) }
     ensures same { OnErr result (S.stock store.new ≡ S.stock store.old) }
     ensures same_effects { OnErr result (effects.new.items ≡ effects.old.items) }
 {
@@ -57,11 +59,7 @@ pub(crate) fn carry_out_noted<S: Records>(
 
 /// The step that a question asks for, on the object of which name, if it asks for one and there is the
 /// object.
-fn effect_asked<S: Records>(
-    store: &S,
-    alloc: Global,
-    ask: &Ask,
-) -> Result<Option<Effect>, NoMemory>
+fn effect_asked<S: Records>(store: &S, alloc: Global, ask: &Ask) -> Result<Option<Effect>, NoMemory>
     ensures { IfOk result (λ effect.
         effect ≡ effect_asked (objects_in (S.stock store.now)) ask.now) }
 {

@@ -23,11 +23,7 @@ use std::alloc::Global;
 ///
 /// # Errors
 /// Where there is no memory.
-pub(crate) fn promise<S: Records>(
-    store: &S,
-    alloc: Global,
-    ask: &Ask,
-) -> Result<Outcome, NoMemory>
+pub(crate) fn promise<S: Records>(store: &S, alloc: Global, ask: &Ask) -> Result<Outcome, NoMemory>
     requires { IsTrue (ask_fits ask.now) }
     ensures outcome { IfOk result (λ o. o ≡ promised_outcome (S.stock store.now) ask.now) }
     ensures fits { IfOk result (λ o. IsTrue (outcome_fits (Some (operation_of ask.now)) o)) }

@@ -1,6 +1,7 @@
 //! A server over the records of one store.
 ghost use Rattle.std.specs.Prelude.{◌≡◌, ◌++◌, [], ◌∷◌, OnErr, OnOk, IfOk};
 ghost use Rattle.kmip_batches.specs.Items as batch;
+ghost use Rattle.kmip_server.specs.Answering.{Tells};
 ghost use Rattle.kmip_server.specs.Batching as batching;
 ghost use Rattle.kmip_server.specs.Batching.{batch_reply, effects_in, replies_to, stock_after_batch, AreBegun, IsCutShort, JoinsBegun};
 ghost use Rattle.kmip_messages.specs.Items.{parts_in, replies_in, stops_in};
@@ -123,7 +124,7 @@ impl<S: Records> Server<S> {
     }
 
     /// The same, of the reply and the records alone.
-    #[tactic(auto, unfolding(crate::specs::Batching::batch_reply, crate::specs::Batching::stock_after_batch, crate::specs::Batching::effects_in))]
+    #[tactic(auto, unfolding(crate::specs::Batching::stock_after_batch, crate::specs::Batching::effects_in))]
     fn handle_parts(
         &mut self,
         alloc: Global,
@@ -131,9 +132,8 @@ impl<S: Records> Server<S> {
         now: i64,
         effects: &mut Vec<Effect>,
     ) -> Result<Vec<u8>, NoMemory>
-        ensures reply { IfOk result (λ r. r.items ≡ batch_reply self.old message.now now) }
-        ensures says { IfOk result (λ r. batch.replies_in r.items
-            ≡ replies_to (batch.stops_in message.now) (batch.parts_in message.now) self.old) }
+        ensures tells { IfOk result (λ r. Tells r.items
+            (replies_to (batch.stops_in message.now) (batch.parts_in message.now) self.old) now) }
         ensures after { OnOk result (self.new ≡ stock_after_batch self.old message.now) }
         ensures effects { OnOk result (effects.new.items
             ≡ effects.old.items ++ effects_in self.old message.now) }
@@ -141,10 +141,18 @@ impl<S: Records> Server<S> {
             (batch.parts_in message.now) more self.old self.new)
             effects.old.items effects.new.items) }
     {
+        kmip_batches::laws::question_laws();
         match kmip_batches::read_request(alloc, message) {
             Ok(batch) => {
                 let stops = batch.stops();
-                answer_all(&mut self.store, effects, alloc, stops, batch.items.as_slice(), now)
+                answer_all(
+                    &mut self.store,
+                    effects,
+                    alloc,
+                    stops,
+                    batch.items.as_slice(),
+                    now,
+                )
             }
             Err(fault) => refuse_batch(alloc, fault, now),
         }

@@ -1,11 +1,17 @@
 -- As for one question; and what was begun is begun by steps of the server.
 use Rattle.std.proofs.Common.{refl, subst}
-use Rattle.kmip_server.specs.Batching.{effects_in, stock_after_batch}
+use Rattle.std.proofs.Math.Facts.{to_z-of_z}
+use Rattle.kmip_server.specs.Batching.{batch_reply, effects_in, stock_after_batch}
 use Rattle.kmip_server.specs.Shown.{HasLawfulObjects}
 use Rattle.kmip_store.specs.Stock.{IsKept}
-use Rattle.kmip_server.proofs.MessageLemmas.{batch_begun, batch_room, batch_served}
+use Rattle.kmip_server.proofs.MessageLemmas.{batch_begun, batch_room, batch_served, told_bytes}
 use Rattle.kmip_server.proofs.ObjectLemmas.{kept_objects}
 use Rattle.kmip_server.proofs.server.Server.handle_batch.Goals as goal
+
+pub returns-clause-reply : goal.returns-clause-reply
+unfolding batch_reply
+returns-clause-reply g c =
+    told_bytes c.handle_parts-reply.result (λ v. v.items) _ c.args.now _ (to_z-of_z c.ranges.now) c.handle_parts-reply.ensures.tells
 
 pub returns-clause-begun : goal.returns-clause-begun
 returns-clause-begun g c =
@@ -29,5 +35,5 @@ pub returns-clause-served : goal.returns-clause-served
 unfolding stock_after_batch effects_in
 returns-clause-served g c =
     batch_served c.serving_is_a_step.ensures c.serving_keeps_the_records.ensures c.handle_parts-reply.result (λ v. v.items) c.args.self.now c.handle_parts-reply.new.self
-    _ _ _ (c.question_laws.ensures.fit c.args.message.now) (subst (λ s. IsKept s.rows s.room) c.self.view_is c.count-before.ensures.kept)
-    c.handle_parts-reply.ensures.says c.handle_parts-reply.ensures.after refl
+    _ _ _ _ (c.question_laws.ensures.fit c.args.message.now) (subst (λ s. IsKept s.rows s.room) c.self.view_is c.count-before.ensures.kept)
+    c.handle_parts-reply.ensures.tells c.handle_parts-reply.ensures.after refl
