@@ -4,7 +4,7 @@
 //! docs/DECISIONS.md.
 #![tactic(auto)]
 
-mod attributes;
+pub mod attributes;
 mod building;
 mod fitting;
 pub mod laws;

@@ -5,12 +5,13 @@ use Rattle.std.specs.Option.{option_to_list}
 use Rattle.std.proofs.lemmas.Bool.{cases_Bool, false_from_ne_true}
 use Rattle.std.proofs.lemmas.List.{length-append, length-map}
 use Rattle.std.proofs.lemmas.List.Elements.{filter_agree}
+use Rattle.std.proofs.Math.Bool.{and-true}
 use Rattle.std.proofs.lemmas.Option.{same_Some, some_pair_parts}
 use Rattle.std.proofs.lemmas.Slice.Eq.{bytes_eq-Decides}
 use Rattle.kmip_objects.specs.Lifecycle.{after}
 use Rattle.kmip_objects.specs.Objects.{DistinctNames, DistinctUids, Object, object_named, object_with, restated, all_restated}
 use Rattle.kmip_objects.specs.Ranges.{is_compromise}
-use Rattle.kmip_objects.specs.Searching.{by_name}
+use Rattle.kmip_objects.specs.Attributes.{attributes_of, by_name}
 use Rattle.kmip_objects.specs.declared.attributes.Attrs.{Attrs}
 use Rattle.kmip_objects.specs.declared.attributes.KeyAttrs.{KeyAttrs}
 use Rattle.kmip_objects.specs.declared.state.KeyState.{KeyState}
@@ -24,7 +25,6 @@ use Rattle.kmip_messages.specs.declared.standard.TheConstants.{REASON_NON_UNIQUE
 use Rattle.kmip_store.specs.Locating.{is_searched, is_wanted, locate}
 use Rattle.kmip_server.specs.ServerStep as rows
 use Rattle.kmip_server.specs.ServerStep.{ServerStep, step_asked, success_of}
-use Rattle.kmip_server.specs.Serving.{attributes_of}
 use Rattle.kmip_premises.specs.Standing.{ProbeLaws, missing}
 
 -- the object with these attributes
@@ -165,11 +165,6 @@ located_by room old new mask given ask outcome is (rows.not_found h i) = absurd 
 located_by room old new mask given ask outcome is (rows.wrong_state h i j) = absurd (no_step_located mask given ask _ _ is h)
 located_by room old new mask given ask outcome is (rows.done h i j) = absurd (no_step_located mask given ask _ _ is h)
 
-and_trues : (a b : Bool) → (a && (b && true && true && true && true && true)) ≡ (a && b)
-and_trues true true = refl
-and_trues true false = refl
-and_trues false b = refl
-
 both : {X : Type 0} (p q : X → Bool) (xs : List X) → filter (λ x. p x && q x) xs ≡ filter p (filter q xs)
 both p q [] = refl
 both p q (x ∷ xs) = elim (cases_Bool (q x)) [
@@ -194,7 +189,7 @@ located_is : (l : ProbeLaws) (mask : Option ℤ) (name : List ℕ) (objects : Li
 located_is l mask name objects distinct =
     ap (map (λ (o : Object). o.uid))
     (filter_agree (is_wanted mask (by_name name)) (λ o. is_searched mask o.state && pointwise nat_eq name o.attrs.name)
-    (λ o. and_trues (is_searched mask o.state) (pointwise nat_eq name o.attrs.name)) objects
+    (λ o. simp (and-true) refl) objects
     ∙ both (λ (o : Object). is_searched mask o.state) (λ (o : Object). pointwise nat_eq name o.attrs.name) objects
     ∙ ap (filter (λ (o : Object). is_searched mask o.state)) (l.all_named name objects distinct))
 

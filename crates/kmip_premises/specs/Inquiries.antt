@@ -5,7 +5,7 @@ use Rattle.std.specs.Option.{option_map}
 use Rattle.kmip_messages.specs.declared.request.Ask.{Ask}
 use Rattle.kmip_messages.specs.declared.request.Ask.TheVariants as asks
 use Rattle.kmip_objects.specs.Ranges.{is_name}
-use Rattle.kmip_objects.specs.Searching.{by_name}
+use Rattle.kmip_objects.specs.Attributes.{by_name}
 use Rattle.kmip_objects.specs.declared.attributes.KeyAttrs.{KeyAttrs}
 use Rattle.kmip_objects.specs.declared.standard.TheConstants.{ALGORITHM_AES, REVOCATION_UNSPECIFIED}
 use Rattle.kmip_premises.specs.declared.inquiry.TheConstants.{PREFIX_MAX, KEY_BITS, KEY_USAGE}

@@ -8,7 +8,7 @@ use Rattle.kmip_messages.specs.declared.reply.Outcome.{Outcome}
 use Rattle.kmip_messages.specs.declared.reply.Outcome.TheVariants.{Created, Located, Attributes, Activated, Revoked, Destroyed, Failed}
 use Rattle.kmip_messages.specs.declared.standard.TheConstants.{REASON_NON_UNIQUE_NAME, REASON_WRONG_STATE}
 use Rattle.kmip_schedule.specs.Past.{Past}
-use Rattle.kmip_server.specs.Serving.{attributes_of}
+use Rattle.kmip_objects.specs.Attributes.{attributes_of}
 use Rattle.kmip_premises.specs.Inquiries.{attributes_with, name_of}
 use Rattle.kmip_premises.specs.declared.inquiry.Which.{Which}
 use Rattle.kmip_premises.specs.declared.inquiry.Which.TheVariants.{First, Second}

@@ -1,6 +1,5 @@
 //! What a probe asks.
 ghost use Rattle.std.specs.Prelude.{◌≡◌, IfOk, option_map, slice_get};
-ghost use Rattle.kmip_objects.specs.Searching.{by_name};
 ghost use Rattle.kmip_premises.specs.Inquiries.{ask_of, attributes_with, is_prefix, name_of};
 
 use Kind::{Activate, Create, Destroy, GetAttributes, Locate, Revoke};
@@ -139,7 +138,7 @@ pub(crate) fn ask_of(
     match (kind, uid) {
         (Locate(mask), _) => Ok(Some(Ask::Locate {
             mask,
-            filter: by_name(name),
+            filter: Attrs::by_name(name),
         })),
         (Create, _) => Ok(Some(Ask::Create(attributes_with(name)))),
         (_, None) => Ok(None),
@@ -152,20 +151,6 @@ pub(crate) fn ask_of(
             Ok(Some(Ask::Revoke(uid, REVOCATION_UNSPECIFIED)))
         }
         (Destroy, Some(uid)) => Ok(Some(Ask::Destroy(Text::copied(alloc, uid.as_str())?))),
-    }
-}
-
-/// The attributes that give the name alone.
-fn by_name(name: Text) -> Attrs
-    ensures { result ≡ by_name name }
-{
-    Attrs {
-        object_type: None,
-        name: Some(name),
-        algorithm: None,
-        length: None,
-        usage: None,
-        state: None,
     }
 }
 

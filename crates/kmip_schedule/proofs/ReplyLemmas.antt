@@ -3,7 +3,8 @@ use Rattle.std.proofs.Common.{◌≡◌, ◌≤◌, ◌<◌, ℕ, ℤ, List, [],
 use Rattle.std.proofs.lemmas.Option.{same_Some}
 use Rattle.kmip_objects.specs.Lifecycle.{after}
 use Rattle.kmip_objects.specs.Objects.{Object, object_named, object_with, all_restated, DistinctNames, DistinctUids}
-use Rattle.kmip_objects.specs.Searching.{by_name, every_state}
+use Rattle.kmip_objects.specs.Attributes.{attributes_of, by_name}
+use Rattle.kmip_objects.specs.Searching.{every_state}
 use Rattle.kmip_objects.specs.States.{state_number}
 use Rattle.kmip_messages.specs.declared.reply.Outcome.{Outcome}
 use Rattle.kmip_messages.specs.declared.reply.Outcome.TheVariants as outcomes
@@ -24,7 +25,6 @@ use Rattle.kmip_client.specs.Places.{position, uid_of}
 use Rattle.kmip_client.specs.Truth.{AreFound, StepIsDone, TrueOutcome}
 use Rattle.kmip_server.specs.ServerStep as rows
 use Rattle.kmip_server.specs.ServerStep.{ServerStep, success_of}
-use Rattle.kmip_server.specs.Serving.{attributes_of}
 use Rattle.kmip_server.specs.declared.effect.Effect.{Effect}
 use Rattle.kmip_schedule.specs.Lawbook.{Lawbook}
 use Rattle.kmip_schedule.specs.Moves.{HasFailed, Serves}

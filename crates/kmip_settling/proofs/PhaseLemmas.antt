@@ -6,7 +6,8 @@ use Rattle.std.proofs.lemmas.Bool.Decides.{Decides-int_eq}
 use Rattle.std.proofs.lemmas.Option.{same_Some}
 use Rattle.std.specs.Cmp.Lexicographic.{pointwise}
 use Rattle.kmip_objects.specs.Objects.{Object, object_named, object_with}
-use Rattle.kmip_objects.specs.Searching.{by_name, every_state}
+use Rattle.kmip_objects.specs.Attributes.{attributes_of, by_name}
+use Rattle.kmip_objects.specs.Searching.{every_state}
 use Rattle.kmip_objects.specs.Ranges.{is_identifier}
 use Rattle.kmip_objects.specs.States.{state_number}
 use Rattle.kmip_messages.specs.declared.reply.Outcome.{Outcome}
@@ -29,7 +30,6 @@ use Rattle.kmip_client.specs.Places.{position}
 use Rattle.kmip_client.specs.Shapes.{PhaseSuits}
 use Rattle.kmip_server.specs.ServerStep as rows
 use Rattle.kmip_server.specs.ServerStep.{ServerStep, step_asked}
-use Rattle.kmip_server.specs.Serving.{attributes_of}
 use Rattle.kmip_settling.specs.Lawbook.{Lawbook}
 use Rattle.kmip_settling.specs.Needs.{need_in, need_of}
 use Rattle.kmip_settling.specs.Ready.{IsHere}
