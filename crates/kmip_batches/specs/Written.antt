@@ -49,7 +49,7 @@ answers_size (r ∷ rest) = size (answer_item r) + answers_size rest
 abbrev pub replies_fit : List Reply → Bool
 replies_fit rs = may_have (length rs) && list_all answer_fits rs && nat_le (size (replies_item rs (pos 0))) most_bytes
 
--- a reply that can be written beside seven others of its kind: its values are in their ranges, and its outcome is brief
+-- Private: a reply that can be written beside seven others of its kind: its values are in their ranges, and its outcome is brief
 pub record IsShort (r : Reply) : Type 0 where
   pub fits : IsTrue (answer_fits r)
   pub brief : IsBrief r.outcome

@@ -7,6 +7,8 @@
 #[cfg(test)]
 mod asserting;
 #[cfg(test)]
+mod batching;
+#[cfg(test)]
 mod changing;
 #[cfg(test)]
 mod growths;

@@ -21,7 +21,7 @@ use Rattle.kmip_messages.specs.declared.standard.TheConstants.{REASON_FEATURE_NO
 use Rattle.kmip_store.specs.Stepping.{take_step}
 use Rattle.kmip_store.specs.Stock.{Stock, create, identifier_at}
 use Rattle.kmip_server.specs.Again.{has_failed}
-use Rattle.kmip_server.specs.Batching.{effect_by, effects_of, is_last, replies_to, stock_after_all, IsCutShort, JoinsBegun}
+use Rattle.kmip_server.specs.Batching.{effect_by, effects_of, is_last, replies_to, stock_after_all, IsCutShort, GrownBy}
 use Rattle.kmip_server.specs.Effects.{effect_of}
 use Rattle.kmip_server.specs.Serving.{answer, outcome_of_change, reply_to, stock_after_read}
 use Rattle.kmip_server.specs.Shown.{objects_in}
@@ -221,14 +221,14 @@ short_more replies all reply is short one =
 -- where memory ran out and nothing more happened
 pub begun_here : {A E : Type 0} (r : Result A E) (stops : Bool) (qs : List Question) (old s new : Stock) (before so_far after joined : List Effect)
     → so_far ≡ before ++ joined → IsCutShort stops qs joined old s → OnErr r (new ≡ s) → OnErr r (after ≡ so_far)
-    → OnErr r (JoinsBegun (λ more. IsCutShort stops qs more old new) before after)
+    → OnErr r (GrownBy (λ more. IsCutShort stops qs more old new) before after)
 begun_here (Ok v) stops qs old s new before so_far after joined is cut same same_effects = tt
 begun_here (Err e) stops qs old s new before so_far after joined is cut same same_effects =
     (joined, same_effects ∙ is, subst (IsCutShort stops qs joined old) (sym same) cut)
 
 -- the same where it is known already what was left
 pub begun_so : {A E : Type 0} (r : Result A E) (stops : Bool) (qs : List Question) (old s new : Stock) (before after joined : List Effect)
-    → after ≡ before ++ joined → new ≡ s → IsCutShort stops qs joined old s → OnErr r (JoinsBegun (λ more. IsCutShort stops qs more old new) before after)
+    → after ≡ before ++ joined → new ≡ s → IsCutShort stops qs joined old s → OnErr r (GrownBy (λ more. IsCutShort stops qs more old new) before after)
 begun_so (Ok v) stops qs old s new before after joined is same cut = tt
 begun_so (Err e) stops qs old s new before after joined is same cut = (joined, is, subst (IsCutShort stops qs joined old) (sym same) cut)
 

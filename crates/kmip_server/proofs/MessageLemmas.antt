@@ -21,7 +21,7 @@ use Rattle.kmip_store.specs.Stock.{IsKept, Stock}
 use Rattle.kmip_server.specs.Again.{has_failed}
 use Rattle.kmip_server.specs.Answering.{Tells}
 use Rattle.kmip_server.specs.Batching as batch
-use Rattle.kmip_server.specs.Batching.{effects_of, is_last, replies_to, stock_after_all, AreBegun, IsCutShort, JoinsBegun}
+use Rattle.kmip_server.specs.Batching.{effects_of, is_last, replies_to, stock_after_all, AreBegun, IsCutShort, GrownBy}
 use Rattle.kmip_server.specs.declared.effect.Effect.{Effect}
 use Rattle.kmip_server.specs.Messages.{AreServed, IsServedBy}
 use Rattle.kmip_server.specs.ServerStep.{ServerStep}
@@ -81,7 +81,7 @@ part_kept keep s (Ok request) fits kept = keep s request.ask (and_parts (option_
 part_kept keep s (Err refusal) fits kept = kept
 
 all_served : AnswersAreSteps → AnswersKeep → (stops : Bool) (qs : List Question) (s : Stock) → AllByRecursion QuestionFits qs → IsKept s.rows s.room
-    → batch.AreServed stops qs (replies_to stops qs s) (effects_of stops qs s) s (stock_after_all stops qs s)
+    → batch.AreServedInTurn stops qs (replies_to stops qs s) (effects_of stops qs s) s (stock_after_all stops qs s)
 all_served steps keep stops [] s fit kept = (refl, refl)
 all_served steps keep stops (q ∷ qs) s fit kept =
     let served = part_served steps s q kept in
@@ -100,11 +100,11 @@ pub batch_served : AnswersAreSteps → AnswersKeep → {A E : Type 0} (r : Resul
     (parts : List Question) (effects : List Effect) (now : ℤ) → All QuestionFits parts → IsKept old.rows old.room
     → IfOk r (λ v. Tells (bytes v) (replies_to stops parts old) now) → OnOk r (new ≡ stock_after_all stops parts old)
     → effects ≡ effects_of stops parts old
-    → IfOk r (λ v. batch.AreServed stops parts (items.replies_in (bytes v)) effects old new)
+    → IfOk r (λ v. batch.AreServedInTurn stops parts (items.replies_in (bytes v)) effects old new)
 batch_served steps keep (Ok v) bytes old new stops parts effects now fit kept tells after done =
-    subst (λ rs. batch.AreServed stops parts rs effects old new) (sym tells.says)
-    (subst (λ s. batch.AreServed stops parts (replies_to stops parts old) effects old s) (sym after)
-    (subst (λ es. batch.AreServed stops parts (replies_to stops parts old) es old (stock_after_all stops parts old)) (sym done)
+    subst (λ rs. batch.AreServedInTurn stops parts rs effects old new) (sym tells.says)
+    (subst (λ s. batch.AreServedInTurn stops parts (replies_to stops parts old) effects old s) (sym after)
+    (subst (λ es. batch.AreServedInTurn stops parts (replies_to stops parts old) es old (stock_after_all stops parts old)) (sym done)
     (all_served steps keep stops parts old (recursion_from_All QuestionFits parts fit) kept)))
 batch_served steps keep (Err e) bytes old new stops parts effects now fit kept tells after done = tt
 
@@ -125,8 +125,8 @@ cut_begun steps keep stops (q ∷ qs) effects s new fit kept (inr (more, is, on,
 
 pub batch_begun : AnswersAreSteps → AnswersKeep → {A E : Type 0} (r : Result A E) (old new : Stock) (before after : List Effect) (stops : Bool)
     (parts : List Question) → All QuestionFits parts → IsKept old.rows old.room
-    → OnErr r (JoinsBegun (λ more. IsCutShort stops parts more old new) before after)
-    → OnErr r (JoinsBegun (λ more. AreBegun stops parts more old new) before after)
+    → OnErr r (GrownBy (λ more. IsCutShort stops parts more old new) before after)
+    → OnErr r (GrownBy (λ more. AreBegun stops parts more old new) before after)
 batch_begun steps keep (Ok v) old new before after stops parts fit kept cut = tt
 batch_begun steps keep (Err e) old new before after stops parts fit kept (more, is, cut) =
     (more, is, cut_begun steps keep stops parts more old new (recursion_from_All QuestionFits parts fit) kept cut)
@@ -152,7 +152,7 @@ cut_room stops (q ∷ qs) effects s new (inl same) = ap (λ t. t.room) same.1
 cut_room stops (q ∷ qs) effects s new (inr (more, is, on, cut)) = cut_room stops qs more (stock_after_read s q) new cut ∙ part_room s q
 
 pub batch_room : {A E : Type 0} (r : Result A E) (old new : Stock) (before after : List Effect) (stops : Bool) (parts : List Question)
-    → OnOk r (new ≡ stock_after_all stops parts old) → OnErr r (JoinsBegun (λ more. IsCutShort stops parts more old new) before after)
+    → OnOk r (new ≡ stock_after_all stops parts old) → OnErr r (GrownBy (λ more. IsCutShort stops parts more old new) before after)
     → new.room ≡ old.room
 batch_room (Ok v) old new before after stops parts done cut = ap (λ t. t.room) done ∙ all_room stops parts old
 batch_room (Err e) old new before after stops parts done (more, is, cut) = cut_room stops parts more old new cut

@@ -58,15 +58,15 @@ effects_in s message = effects_of (stops_in message) (parts_in message) s
 
 -- The questions are served in turn, each once, with these replies, and these steps took effect; those behind a failure that stops
 -- them are left.
-abbrev pub AreServed : Bool → List Question → List Reply → List Effect → Stock → Stock → Type 0
-AreServed stops [] [] effects old new = (effects ≡ []) × (new ≡ old)
-AreServed stops [] (reply ∷ replies) effects old new = ⊥
-AreServed stops (q ∷ qs) [] effects old new = ⊥
-AreServed stops (q ∷ qs) (reply ∷ replies) effects old new =
+abbrev pub AreServedInTurn : Bool → List Question → List Reply → List Effect → Stock → Stock → Type 0
+AreServedInTurn stops [] [] effects old new = (effects ≡ []) × (new ≡ old)
+AreServedInTurn stops [] (reply ∷ replies) effects old new = ⊥
+AreServedInTurn stops (q ∷ qs) [] effects old new = ⊥
+AreServedInTurn stops (q ∷ qs) (reply ∷ replies) effects old new =
     (between : Stock) × (more : List Effect) × IsServedBy q reply old between
     × (effects ≡ option_to_list (effect_by (objects_in old) q reply) ++ more)
     × (((is_last stops reply ≡ true) × (replies ≡ []) × (more ≡ []) × (new ≡ between))
-    ⊎ ((is_last stops reply ≡ false) × AreServed stops qs replies more between new))
+    ⊎ ((is_last stops reply ≡ false) × AreServedInTurn stops qs replies more between new))
 
 -- Some of the first questions are served in turn, not all of them, and no reply is written. So nothing happens where there is one.
 abbrev pub AreBegun : Bool → List Question → List Effect → Stock → Stock → Type 0
@@ -77,14 +77,14 @@ AreBegun stops (q ∷ qs) effects old new =
     × (effects ≡ option_to_list (effect_by (objects_in old) q reply) ++ more)
     × (is_last stops reply ≡ false) × AreBegun stops qs more between new)
 
--- Private: the same, where each reply is the one that the server gives.
+-- a list of effects has grown by some of which this holds
+abbrev pub GrownBy : (List Effect → Type 0) → List Effect → List Effect → Type 0
+GrownBy P old new = (more : List Effect) × (new ≡ old ++ more) × P more
+
+-- Private: some of the first questions are served in turn, not all of them, each with the reply that the server gives.
 abbrev pub IsCutShort : Bool → List Question → List Effect → Stock → Stock → Type 0
 IsCutShort stops [] effects old new = ⊥
 IsCutShort stops (q ∷ qs) effects old new =
     ((effects ≡ []) × (new ≡ old))
     ⊎ ((more : List Effect) × (effects ≡ option_to_list (effect_by (objects_in old) q (reply_to old q)) ++ more)
     × (is_last stops (reply_to old q) ≡ false) × IsCutShort stops qs more (stock_after_read old q) new)
-
--- Private: the same of what joined a list of effects.
-abbrev pub JoinsBegun : (List Effect → Type 0) → List Effect → List Effect → Type 0
-JoinsBegun P old new = (more : List Effect) × (new ≡ old ++ more) × P more

@@ -11,7 +11,7 @@ ghost use Rattle.kmip_batches.specs.Written.{IsShort};
 ghost use Rattle.kmip_messages.specs.declared.reply.Outcome.TheVariants.{Failed};
 ghost use Rattle.kmip_messages.specs.declared.reply.Reply.{Reply};
 ghost use Rattle.kmip_server.specs.Answering.{promised_outcome, reply_with, Tells};
-ghost use Rattle.kmip_server.specs.Batching.{effect_by, effects_of, is_last, replies_to, stock_after_all, IsCutShort, JoinsBegun};
+ghost use Rattle.kmip_server.specs.Batching.{effect_by, effects_of, is_last, replies_to, stock_after_all, IsCutShort, GrownBy};
 ghost use Rattle.kmip_server.specs.Effects.{effect_of};
 ghost use Rattle.kmip_server.specs.Reasons.{message_reason};
 ghost use Rattle.kmip_server.specs.Serving.{answer, refusal_reply, reply_to, stock_after_read};
@@ -48,7 +48,7 @@ pub(crate) fn answer_all<S: Records>(
         ≡ stock_after_all stops questions.now (S.stock store.old)) }
     ensures effects { OnOk result (effects.new.items
         ≡ effects.old.items ++ effects_of stops questions.now (S.stock store.old)) }
-    ensures begun { OnErr result (JoinsBegun (λ more. IsCutShort stops questions.now more
+    ensures begun { OnErr result (GrownBy (λ more. IsCutShort stops questions.now more
         (S.stock store.old) (S.stock store.new)) effects.old.items effects.new.items) }
 {
     let mut replies = Vec::new(alloc);

@@ -2,8 +2,7 @@
 ghost use Rattle.std.specs.Prelude.{◌≡◌, ◌++◌, [], ◌∷◌, OnErr, OnOk, IfOk};
 ghost use Rattle.kmip_batches.specs.Items as batch;
 ghost use Rattle.kmip_server.specs.Answering.{Tells};
-ghost use Rattle.kmip_server.specs.Batching as batching;
-ghost use Rattle.kmip_server.specs.Batching.{batch_reply, effects_in, replies_to, stock_after_batch, AreBegun, IsCutShort, JoinsBegun};
+ghost use Rattle.kmip_server.specs.Batching.{batch_reply, effects_in, replies_to, stock_after_batch, AreBegun, AreServedInTurn, GrownBy, IsCutShort};
 ghost use Rattle.kmip_messages.specs.Items.{parts_in, replies_in, stops_in};
 ghost use Rattle.kmip_messages.specs.Whole.{request_read};
 ghost use Rattle.kmip_server.specs.Messages.{AreServed};
@@ -86,7 +85,8 @@ impl<S: Records> Server<S> {
     }
 
     /// The reply to a message of one to eight questions, which are answered in turn. With the option
-    /// Continue all are; otherwise those behind the first failure are left.
+    /// Continue all are; otherwise those behind the first failure are left. The steps that took effect
+    /// are noted at the end of `effects`.
     ///
     /// # Errors
     /// Where there is no memory. Some of the first questions are served then, and not all of them; so
@@ -102,7 +102,7 @@ impl<S: Records> Server<S> {
         ensures after { OnOk result (self.new ≡ stock_after_batch self.old message.now) }
         ensures effects { OnOk result (effects.new.items
             ≡ effects.old.items ++ effects_in self.old message.now) }
-        ensures begun { OnErr result (JoinsBegun (λ more. AreBegun (batch.stops_in message.now)
+        ensures begun { OnErr result (GrownBy (λ more. AreBegun (batch.stops_in message.now)
             (batch.parts_in message.now) more self.old self.new)
             effects.old.items effects.new.items) }
         ensures room { self.new.room ≡ self.old.room }
@@ -110,7 +110,7 @@ impl<S: Records> Server<S> {
         ensures kept { IsKept self.new.rows self.new.room }
         ensures objects_before { HasLawfulObjects self.old }
         ensures objects { HasLawfulObjects self.new }
-        ensures served { IfOk result (λ r. batching.AreServed (batch.stops_in message.now)
+        ensures served { IfOk result (λ r. AreServedInTurn (batch.stops_in message.now)
             (batch.parts_in message.now) (batch.replies_in r.items)
             (effects_in self.old message.now) self.old self.new) }
     {
@@ -137,7 +137,7 @@ impl<S: Records> Server<S> {
         ensures after { OnOk result (self.new ≡ stock_after_batch self.old message.now) }
         ensures effects { OnOk result (effects.new.items
             ≡ effects.old.items ++ effects_in self.old message.now) }
-        ensures begun { OnErr result (JoinsBegun (λ more. IsCutShort (batch.stops_in message.now)
+        ensures begun { OnErr result (GrownBy (λ more. IsCutShort (batch.stops_in message.now)
             (batch.parts_in message.now) more self.old self.new)
             effects.old.items effects.new.items) }
     {
