@@ -10,7 +10,7 @@ use Rattle.kmip_frames.specs.declared.fault.FrameFault.{FrameFault}
 use Rattle.kmip_frames.specs.Framing.{fault_in, size_needed, held_after}
 use Rattle.kmip_frames.specs.Streams.{IsMessage, BeginsWithNoMessage}
 use Rattle.kmip_store.specs.Stock.{Stock}
-use Rattle.kmip_server.specs.Serving.{stock_after}
+use Rattle.kmip_server.specs.Batching.{stock_after_batch}
 use Rattle.kmip_commands.specs.AnswerText.{reply_text}
 use Rattle.kmip_commands.specs.Bytewise.{StreamState, is_over, byte_text, state_after_byte, piece_text, state_after_piece}
 use Rattle.kmip_commands.proofs.BytewiseLaws.{no_fault_front, byte_made, stays_over, stays_ready}
@@ -57,7 +57,7 @@ quiet stock held (x ∷ xs) none lawful =
 
 -- bytes that end a message
 pub answered : (stock : Stock) (held xs : List ℕ) → IsMessage (held ++ xs) → 0 < length xs
-    → (piece_text (stock, held) xs ≡ reply_text stock (held ++ xs)) × (state_after_piece (stock, held) xs ≡ (stock_after stock (held ++ xs), []))
+    → (piece_text (stock, held) xs ≡ reply_text stock (held ++ xs)) × (state_after_piece (stock, held) xs ≡ (stock_after_batch stock (held ++ xs), []))
 answered stock held [] is some = absurd (omega arith)
 answered stock held (x ∷ []) is some =
     let lawful = message_lawful (held ++ x ∷ []) is in
@@ -71,7 +71,7 @@ answered stock held (x ∷ y ∷ xs) is some =
     let made = byte_made stock held x None false (no_fault_front held (x ∷ y ∷ xs) (message_lawful (held ++ x ∷ y ∷ xs) is)) here (not_whole h here (partial h y xs whole)) in
     let later = answered stock h (y ∷ xs) whole (omega arith) in (
       ap (λ t. t ++ piece_text (state_after_byte (stock, held) x) (y ∷ xs)) made.0 ∙ ap (λ s. piece_text s (y ∷ xs)) made.1 ∙ later.0 ∙ ap (reply_text stock) all,
-      ap (λ s. state_after_piece s (y ∷ xs)) made.1 ∙ later.1 ∙ ap (λ m. (stock_after stock m, [])) all,
+      ap (λ s. state_after_piece s (y ∷ xs)) made.1 ∙ later.1 ∙ ap (λ m. (stock_after_batch stock m, [])) all,
     )
   where
     partial : (h : List ℕ) (y : ℕ) (xs : List ℕ) → IsMessage (h ++ y ∷ xs) → ¬ (IsMessage h)
@@ -168,15 +168,15 @@ advance_quiet stock held held' now bytes old is hands =
     (quiet stock held bytes (subst BeginsWithNoMessage is hands.1) (ap fault_in (sym is) ∙ hands.0)) (Appends-nil old) (ap (λ h. (stock, h)) (hands.2 ∙ is))
 
 pub advance_answered : (stock stock' : Stock) (held held' now bytes reply : List ℕ) (old new : Option (List ℕ)) → BeginsWithNoMessage held → held' ≡ held ++ bytes
-    → IsMessage held' × (reply ≡ held') × (now ≡ []) → Appends old new (reply_text stock reply) → stock' ≡ stock_after stock reply
+    → IsMessage held' × (reply ≡ held') × (now ≡ []) → Appends old new (reply_text stock reply) → stock' ≡ stock_after_batch stock reply
     → Advances (stock, held) (stock', now) bytes old new
 advance_answered stock stock' held held' now bytes reply old new none is hands written moved =
     let whole : IsMessage (held ++ bytes) = subst IsMessage is hands.0 in
     let same : reply ≡ held ++ bytes = hands.1 ∙ is in
-    advances (stock, held) (stock', now) (stock_after stock (held ++ bytes), []) bytes (reply_text stock (held ++ bytes)) old new
+    advances (stock, held) (stock', now) (stock_after_batch stock (held ++ bytes), []) bytes (reply_text stock (held ++ bytes)) old new
     (answered stock held bytes whole (some bytes whole))
     (subst (λ m. Appends old new (reply_text stock m)) same written)
-    (ap (λ s. (s, now)) (moved ∙ ap (stock_after stock) same) ∙ ap (λ h. (stock_after stock (held ++ bytes), h)) hands.2)
+    (ap (λ s. (s, now)) (moved ∙ ap (stock_after_batch stock) same) ∙ ap (λ h. (stock_after_batch stock (held ++ bytes), h)) hands.2)
   where
     some : (bytes : List ℕ) → IsMessage (held ++ bytes) → 0 < length bytes
     some [] whole = absurd (none held [] (sym (append-nil held)) (subst IsMessage (append-nil held) whole))

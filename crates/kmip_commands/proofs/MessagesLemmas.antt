@@ -5,7 +5,7 @@ use Rattle.kmip_frames.specs.declared.fault.FrameFault.{FrameFault}
 use Rattle.kmip_frames.specs.Framing.{fault_in, size_needed}
 use Rattle.kmip_frames.specs.Streams.{BeginsWithNoMessage, Stream}
 use Rattle.kmip_store.specs.Stock.{Stock}
-use Rattle.kmip_server.specs.Serving.{stock_after}
+use Rattle.kmip_server.specs.Batching.{stock_after_batch}
 use Rattle.kmip_commands.specs.AnswerText.{reply_text}
 use Rattle.kmip_commands.specs.Bytewise.{StreamState, state_after_byte, piece_text, state_after_piece}
 use Rattle.kmip_commands.proofs.BytewiseLaws.{byte_made, stays_over, nothing_waits, longer_waits}
@@ -48,14 +48,14 @@ recut done bytes more before stock text now is = record {
 
 -- a message was handed over before
 one_before : (done bytes : List ℕ) (before : List (List ℕ)) (m : List ℕ) (stock : Stock) (text : List ℕ) (now : StreamState)
-    → IsStreamed done bytes (before ++ m ∷ []) (stock_after stock m) text now → IsStreamed done bytes before stock (reply_text stock m ++ text) now
+    → IsStreamed done bytes (before ++ m ∷ []) (stock_after_batch stock m) text now → IsStreamed done bytes before stock (reply_text stock m ++ text) now
 one_before done bytes before m stock text now is = record {
   more = m ∷ is.more;
   unread = is.unread;
   stream = subst (λ ms. Stream (done ++ bytes) ms (now.1 ++ is.unread)) (append_assoc before (m ∷ []) is.more) is.stream;
   fault = is.fault;
   all_read = is.all_read;
-  texts = ap (λ t. reply_text stock m ++ t) is.texts ∙ sym (append_assoc (reply_text stock m) (replies_text (stock_after stock m) is.more) (fault_text (fault_in now.1)));
+  texts = ap (λ t. reply_text stock m ++ t) is.texts ∙ sym (append_assoc (reply_text stock m) (replies_text (stock_after_batch stock m) is.more) (fault_text (fault_in now.1)));
   records = is.records;
 }
 
@@ -94,7 +94,7 @@ pub is_streamed : (done : List ℕ) (before : List (List ℕ)) (stock : Stock) (
     → IsSoFar done before held → IsStreamed done bytes before stock (piece_text (stock, held) bytes) (state_after_piece (stock, held) bytes)
 is_streamed done before stock held [] lawful none so_far = no_byte done before stock held lawful none so_far
 is_streamed done before stock held (b ∷ bytes) lawful none so_far = split (fault_in h) refl (eqb (length h) (size_needed h)) refl
-    (is_streamed (done ++ b ∷ []) (before ++ h ∷ []) (stock_after stock h) [] bytes (fault_short [] (omega arith)) nothing_waits)
+    (is_streamed (done ++ b ∷ []) (before ++ h ∷ []) (stock_after_batch stock h) [] bytes (fault_short [] (omega arith)) nothing_waits)
     (is_streamed (done ++ b ∷ []) before stock h bytes)
   where
     h : List ℕ
@@ -108,7 +108,7 @@ is_streamed done before stock held (b ∷ bytes) lawful none so_far = split (fau
 
     split : (o : Option FrameFault) → fault_in h ≡ o → (whole : Bool) → eqb (length h) (size_needed h) ≡ whole
         → (IsSoFar (done ++ b ∷ []) (before ++ h ∷ []) []
-        → IsStreamed (done ++ b ∷ []) bytes (before ++ h ∷ []) (stock_after stock h) (piece_text (stock_after stock h, []) bytes) (state_after_piece (stock_after stock h, []) bytes))
+        → IsStreamed (done ++ b ∷ []) bytes (before ++ h ∷ []) (stock_after_batch stock h) (piece_text (stock_after_batch stock h, []) bytes) (state_after_piece (stock_after_batch stock h, []) bytes))
         → (fault_in h ≡ None → BeginsWithNoMessage h → IsSoFar (done ++ b ∷ []) before h
         → IsStreamed (done ++ b ∷ []) bytes before stock (piece_text (stock, h) bytes) (state_after_piece (stock, h) bytes))
         → Goal

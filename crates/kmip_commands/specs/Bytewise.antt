@@ -5,7 +5,7 @@ use Rattle.kmip_frames.specs.Framing.{fault_in, size_needed}
 use Rattle.kmip_frames.specs.Streams.{BeginsWithNoMessage}
 use Rattle.kmip_frames.specs.declared.fault.FrameFault.{FrameFault}
 use Rattle.kmip_store.specs.Stock.{Stock}
-use Rattle.kmip_server.specs.Serving.{stock_after}
+use Rattle.kmip_server.specs.Batching.{stock_after_batch}
 use Rattle.kmip_commands.specs.AnswerText.{reply_text}
 use Rattle.kmip_commands.specs.LineText.{Response}
 use Rattle.kmip_commands.specs.StreamText.{stream_refusal_text}
@@ -31,7 +31,7 @@ made_text None false stock held = []
 -- the state then
 abbrev pub made : Option FrameFault → Bool → Stock → List ℕ → StreamState
 made (Some fault) whole stock held = (stock, held)
-made None true stock held = (stock_after stock held, [])
+made None true stock held = (stock_after_batch stock held, [])
 made None false stock held = (stock, held)
 
 -- what is written for a byte, and the state after it

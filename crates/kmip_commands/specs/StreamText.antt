@@ -9,7 +9,7 @@ use Rattle.kmip_frames.specs.Framing.{fault_in}
 use Rattle.kmip_frames.specs.Streams.{Stream}
 use Rattle.kmip_frames.specs.declared.fault.FrameFault.{FrameFault}
 use Rattle.kmip_store.specs.Stock.{Stock}
-use Rattle.kmip_server.specs.Serving.{stock_after}
+use Rattle.kmip_server.specs.Batching.{stock_after_batch}
 use Rattle.kmip_commands.specs.AnswerText.{first_stock, reply_text}
 use Rattle.kmip_commands.specs.Judging.{Saying, nothing, too_long, no_hex, message, saying_of, has_refused_line}
 use Rattle.kmip_commands.specs.Lines.{lines_of}
@@ -35,7 +35,7 @@ stream_of input = pieces_of (lines_of input)
 -- the replies of one server, each to a message as the messages before it left the records
 abbrev pub replies_text : Stock → List (List ℕ) → List ℕ
 replies_text stock [] = []
-replies_text stock (m ∷ messages) = reply_text stock m ++ replies_text (stock_after stock m) messages
+replies_text stock (m ∷ messages) = reply_text stock m ++ replies_text (stock_after_batch stock m) messages
 
 -- how a stream ends, by the fault of what is left of it and its size
 abbrev pub end_by : Option FrameFault → ℕ → InputEnd
@@ -84,7 +84,7 @@ is_whole outcome = not outcome.has_refused && is_whole_end outcome.end
 -- the records after messages in turn
 abbrev pub stock_after_messages : Stock → List (List ℕ) → Stock
 stock_after_messages stock [] = stock
-stock_after_messages stock (m ∷ messages) = stock_after_messages (stock_after stock m) messages
+stock_after_messages stock (m ∷ messages) = stock_after_messages (stock_after_batch stock m) messages
 
 -- what is said of lines, where the records are these and so much is held of a message: what is written, how the stream ends,
 -- and whether a line is refused

@@ -2,7 +2,7 @@
 //! server a line of its output.
 ghost use Rattle.std.specs.Prelude.{◌≡◌, ◌++◌, [], Some, IfOk, OnOk, IfErr, OnErr};
 ghost use Rattle.kmip_store.specs.Stock.{Stock};
-ghost use Rattle.kmip_server.specs.Serving.{stock_after};
+ghost use Rattle.kmip_server.specs.Batching.{stock_after_batch};
 ghost use Rattle.kmip_commands.specs.AnswerText.{answer_lines, answer_text, answers, first_stock, reply_text};
 ghost use Rattle.kmip_commands.specs.Judging.{has_refused_line};
 ghost use Rattle.kmip_commands.specs.Lines.{lines_of};
@@ -91,9 +91,10 @@ pub(crate) fn push_reply(
 ) -> Result<(), NoMemory>
     ensures text { OnOk result (text.new.items
         ≡ text.old.items ++ reply_text server.old message.now) }
-    ensures after { OnOk result (server.new ≡ stock_after server.old message.now) }
+    ensures after { OnOk result (server.new ≡ stock_after_batch server.old message.now) }
 {
-    let reply = server.handle(alloc, message, NOW)?;
+    let mut effects = Vec::new(alloc);
+    let reply = server.handle_batch(alloc, message, NOW, &mut effects)?;
     push_hex(alloc, reply.as_slice(), text)
 }
 

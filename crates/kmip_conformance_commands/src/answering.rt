@@ -5,8 +5,8 @@ use crate::readers::PieceReader;
 use crate::texts::text_of;
 use kmip_commands::{CommandFault, ExitStatus, answer, answer_bytes, run_answer};
 use kmip_vectors::{
-    ACTIVATE_1, CREATE_K1, CREATE_K1_REPLY, INVALID_MESSAGE_REPLY, LOCATE_K1, LOCATE_K1_FOUND,
-    LOCATE_K1_NONE, NAME_USED_REPLY,
+    ACTIVATE_1, CREATE_K1, CREATE_K1_REPLY, INVALID_MESSAGE_REPLY, LOCATE_A_AND_B,
+    LOCATE_A_AND_B_NONE, LOCATE_K1, LOCATE_K1_FOUND, LOCATE_K1_NONE, NAME_USED_REPLY,
 };
 use std::alloc::Global;
 use std::process::Abort;
@@ -43,7 +43,7 @@ struct Row {
     is_refused: bool,
 }
 
-const ROWS: [Row; 6] = [
+const ROWS: [Row; 7] = [
     Row {
         name: "located, created, created again, located",
         input: &[LOCATE_K1, CREATE_K1, CREATE_K1, LOCATE_K1],
@@ -53,6 +53,12 @@ const ROWS: [Row; 6] = [
             NAME_USED_REPLY,
             LOCATE_K1_FOUND,
         ],
+        is_refused: false,
+    },
+    Row {
+        name: "two questions in a message",
+        input: &[LOCATE_A_AND_B, LOCATE_K1],
+        output: &[LOCATE_A_AND_B_NONE, LOCATE_K1_NONE],
         is_refused: false,
     },
     Row {

@@ -11,11 +11,13 @@ use Rattle.kmip_frames.specs.Laws.{ShortBytesLackAHead, FaultsNeedNoMore}
 use Rattle.kmip_frames.specs.Streams.{IsMessage, joined}
 use Rattle.kmip_schedule.specs.declared.link.LinkFault.{LinkFault}
 use Rattle.kmip_schedule.specs.declared.link.LinkFault.TheVariants as faults
-use Rattle.kmip_server.specs.Serving.{reply_bytes, stock_after}
+use Rattle.kmip_batches.specs.Items.{parts_in, stops_in}
+use Rattle.kmip_server.specs.Batching.{batch_reply, stock_after_batch, AreBegun, GrownBy}
+use Rattle.kmip_server.specs.declared.effect.Effect.{Effect}
 use Rattle.kmip_store.specs.Stock.{Stock}
 use Rattle.kmip_ttlv.specs.Limits.{head_size}
 use Rattle.kmip_transport.specs.Receiving.{IsUnfinished, Receives}
-use Rattle.kmip_transport.specs.Serving.{stock_after_messages, replies_to, IsWritten, Serves, ServesOne, EndsBy}
+use Rattle.kmip_transport.specs.Serving.{stock_after_messages, replies_to, IsLeft, IsWritten, Serves, ServesOne, EndsBy}
 use Rattle.kmip_transport.specs.declared.serving.StreamEnd.{StreamEnd}
 use Rattle.kmip_transport.specs.declared.serving.StreamEnd.TheVariants as ends
 
@@ -91,14 +93,15 @@ stream_failed bytes faults.NoMemory now end s held new x y w law none received i
       read = r.consumed;
       each = tt;
       ends = inr r.answered.0;
-      records = refl;
+      records = inl refl;
       written = Appends-nil w;
     })
 
 -- a message was received, and there was no memory to serve it
-pub not_served : {M : Type 0} (bytes : M → List ℕ) (message : M) (now : ℤ) (s t : Stock) (held new : List ℕ) (x y w : Option (List ℕ)) → held ≡ []
-    → Receives bytes (Ok (Some message)) held new x y → t ≡ s → Serves now ends.NoMemory s t x y w w
-not_served bytes message now s t held new x y w none received same =
+pub not_served : {M : Type 0} (bytes : M → List ℕ) (message : M) (sent : List ℕ) (now : ℤ) (s t : Stock) (before after : List Effect) (held new : List ℕ)
+    (x y w : Option (List ℕ)) → held ≡ [] → Receives bytes (Ok (Some message)) held new x y → sent ≡ bytes message
+    → GrownBy (λ effects. AreBegun (stops_in sent) (parts_in sent) effects s t) before after → Serves now ends.NoMemory s t x y w w
+not_served bytes message sent now s t before after held new x y w none received is (effects, grown, begun) =
     let r = fresh bytes (Ok (Some message)) held new x y none received in
     record {
       messages = [];
@@ -106,13 +109,13 @@ not_served bytes message now s t held new x y w none received same =
       read = r.consumed;
       each = tt;
       ends = inr r.answered.0;
-      records = same;
+      records = inr (effects, subst (λ m. AreBegun (stops_in m) (parts_in m) effects s t) (is ∙ r.answered.1) begun);
       written = Appends-nil w;
     }
 
 -- a message was served, and its reply could not be written
 pub not_written : {M : Type 0} (bytes : M → List ℕ) (message : M) (sent : List ℕ) (now : ℤ) (s t : Stock) (held new : List ℕ) (x y w v : Option (List ℕ))
-    → ShortBytesLackAHead → held ≡ [] → Receives bytes (Ok (Some message)) held new x y → sent ≡ bytes message → t ≡ stock_after s sent
+    → ShortBytesLackAHead → held ≡ [] → Receives bytes (Ok (Some message)) held new x y → sent ≡ bytes message → t ≡ stock_after_batch s sent
     → Serves now ends.Io s t x y w v
 not_written bytes message sent now s t held new x y w v short none received is served =
     let r = fresh bytes (Ok (Some message)) held new x y none received in
@@ -122,7 +125,7 @@ not_written bytes message sent now s t held new x y w v short none received is s
       read = subst (Consumes x y) (sym (append-nil r.read) ∙ sym (append-nil (r.read ++ []))) r.consumed;
       each = (r.answered.0, tt);
       ends = nothing_unfinished short;
-      records = served ∙ ap (stock_after s) (is ∙ r.answered.1);
+      records = served ∙ ap (stock_after_batch s) (is ∙ r.answered.1);
       written = inr (omega arith);
     }
 
@@ -130,13 +133,13 @@ not_written bytes message sent now s t held new x y w v short none received is s
 
 pub stock_after_messages-append : (s : Stock) (a b : List (List ℕ)) → stock_after_messages s (a ++ b) ≡ stock_after_messages (stock_after_messages s a) b
 stock_after_messages-append s [] b = refl
-stock_after_messages-append s (m ∷ a) b = stock_after_messages-append (stock_after s m) a b
+stock_after_messages-append s (m ∷ a) b = stock_after_messages-append (stock_after_batch s m) a b
 
 pub replies_to-append : (now : ℤ) (s : Stock) (a b : List (List ℕ)) → replies_to now s (a ++ b) ≡ replies_to now s a ++ replies_to now (stock_after_messages s a) b
 replies_to-append now s [] b = refl
 replies_to-append now s (m ∷ a) b =
-    ap (λ t. reply_bytes s m now ++ t) (replies_to-append now (stock_after s m) a b)
-    ∙ sym (append_assoc (reply_bytes s m now) (replies_to now (stock_after s m) a) (replies_to now (stock_after_messages (stock_after s m) a) b))
+    ap (λ t. batch_reply s m now ++ t) (replies_to-append now (stock_after_batch s m) a b)
+    ∙ sym (append_assoc (batch_reply s m now) (replies_to now (stock_after_batch s m) a) (replies_to now (stock_after_messages (stock_after_batch s m) a) b))
 
 each_append : (a b : List (List ℕ)) → AllByRecursion IsMessage a → AllByRecursion IsMessage b → AllByRecursion IsMessage (a ++ b)
 each_append [] b each every = every
@@ -158,16 +161,16 @@ HasServed-one now s t u x y z w v k so one =
     let last = one.message ∷ [] in
     let more : joined (so.messages ++ last) ≡ joined so.messages ++ one.message =
     flat_map-append (λ m. m) so.messages last ∙ ap (λ b. joined so.messages ++ b) (append-nil one.message) in
-    let replies : replies_to now s (so.messages ++ last) ≡ replies_to now s so.messages ++ reply_bytes t one.message now =
+    let replies : replies_to now s (so.messages ++ last) ≡ replies_to now s so.messages ++ batch_reply t one.message now =
     replies_to-append now s so.messages last
-    ∙ ap (λ b. replies_to now s so.messages ++ b) (append-nil (reply_bytes (stock_after_messages s so.messages) one.message now)
-    ∙ ap (λ r. reply_bytes r one.message now) (sym so.records)) in
+    ∙ ap (λ b. replies_to now s so.messages ++ b) (append-nil (batch_reply (stock_after_messages s so.messages) one.message now)
+    ∙ ap (λ r. batch_reply r one.message now) (sym so.records)) in
     record {
       messages = so.messages ++ last;
       read = subst (Consumes x z) (sym more) (Consumes-trans x y z (joined so.messages) one.message so.read one.read);
       each = each_append so.messages last so.each (one.is, tt);
-      records = one.records ∙ ap (λ r. stock_after r one.message) so.records ∙ sym (stock_after_messages-append s so.messages last);
-      written = subst (Appends w k) (sym replies) (Appends-trans w v k (replies_to now s so.messages) (reply_bytes t one.message now) so.written one.written);
+      records = one.records ∙ ap (λ r. stock_after_batch r one.message) so.records ∙ sym (stock_after_messages-append s so.messages last);
+      written = subst (Appends w k) (sym replies) (Appends-trans w v k (replies_to now s so.messages) (batch_reply t one.message now) so.written one.written);
     }
 
 -- what is written by the messages so far, and then by others
@@ -200,7 +203,8 @@ served_then now end s t u x y z w v k so last =
       read = subst (Consumes x z) all (Consumes-trans x y z (joined so.messages) (joined last.messages ++ last.rest) so.read last.read);
       each = each_append so.messages last.messages so.each last.each;
       ends = last.ends;
-      records = last.records ∙ ap (λ r. stock_after_messages r last.messages) so.records ∙ sym (stock_after_messages-append s so.messages last.messages);
+      records = subst (λ r. IsLeft end last.rest r u)
+          (ap (λ r. stock_after_messages r last.messages) so.records ∙ sym (stock_after_messages-append s so.messages last.messages)) last.records;
       written = written_more now end s t so.messages last.messages w v k so.records so.written last.written;
     }
 
@@ -212,7 +216,7 @@ no_framer now s x w = record {
   read = Consumes-nil x;
   each = tt;
   ends = inl refl;
-  records = refl;
+  records = inl refl;
   written = Appends-nil w;
 }
 

@@ -3,12 +3,14 @@
 use Rattle.std.specs.Prelude.{◌≡◌, ◌<◌, ◌⊎◌, ℕ, ℤ, List, [], ◌∷◌, ◌++◌, length, codes, Option, Some, IfSome}
 use Rattle.std.specs.Io.KnownBytes.{Consumes, Appends, IsAtEnd}
 use Rattle.std.specs.List.{AllByRecursion}
+use Rattle.kmip_batches.specs.Items.{parts_in, stops_in}
 use Rattle.kmip_frames.specs.declared.fault.FrameFault.{FrameFault}
 use Rattle.kmip_frames.specs.Framing.{fault_in}
 use Rattle.kmip_frames.specs.Streams.{IsMessage, BeginsWithNoMessage, joined}
 use Rattle.kmip_schedule.specs.declared.link.LinkFault.{LinkFault}
 use Rattle.kmip_schedule.specs.declared.link.LinkFault.TheVariants as faults
-use Rattle.kmip_server.specs.Serving.{reply_bytes, stock_after}
+use Rattle.kmip_server.specs.Batching.{batch_reply, stock_after_batch, AreBegun}
+use Rattle.kmip_server.specs.declared.effect.Effect.{Effect}
 use Rattle.kmip_store.specs.Stock.{Stock}
 use Rattle.kmip_transport.specs.Receiving.{IsUnfinished}
 use Rattle.kmip_transport.specs.declared.serving.StreamEnd.{StreamEnd}
@@ -29,20 +31,28 @@ stream_end_name NoMemory = codes "NoMemory"
 -- the records after messages in turn
 abbrev pub stock_after_messages : Stock → List (List ℕ) → Stock
 stock_after_messages stock [] = stock
-stock_after_messages stock (m ∷ messages) = stock_after_messages (stock_after stock m) messages
+stock_after_messages stock (m ∷ messages) = stock_after_messages (stock_after_batch stock m) messages
 
 -- the replies at a time, joined, each to a message as the messages before it left the records
 abbrev pub replies_to : ℤ → Stock → List (List ℕ) → List ℕ
 replies_to now stock [] = []
-replies_to now stock (m ∷ messages) = reply_bytes stock m now ++ replies_to now (stock_after stock m) messages
+replies_to now stock (m ∷ messages) = batch_reply stock m now ++ replies_to now (stock_after_batch stock m) messages
 
 -- How the stream ends, by the rest of what was read behind the messages that were served, and by what the reader has left.
--- Where there is no memory the rest may be a message, which was not served.
+-- Where there is no memory the rest may be a message, which was not answered.
 abbrev pub EndsWith : StreamEnd → List ℕ → Option (List ℕ) → Type 0
 EndsWith (Ended size) rest left = IsUnfinished rest × (size ≡ length rest) × IsAtEnd left
 EndsWith (Frame fault) rest left = (fault_in rest ≡ Some fault) × BeginsWithNoMessage rest
 EndsWith Io rest left = IsUnfinished rest
 EndsWith NoMemory rest left = (rest ≡ []) ⊎ IsMessage rest
+
+-- The records after the messages that were answered. Where there is no memory some of the first questions of the rest may have been
+-- served, and not all of them.
+abbrev pub IsLeft : StreamEnd → List ℕ → Stock → Stock → Type 0
+IsLeft (Ended size) rest s new = new ≡ s
+IsLeft (Frame fault) rest s new = new ≡ s
+IsLeft Io rest s new = new ≡ s
+IsLeft NoMemory rest s new = (new ≡ s) ⊎ ((effects : List Effect) × AreBegun (stops_in rest) (parts_in rest) effects s new)
 
 -- The replies to the messages were written. A writer that failed may have taken anything, but failed at a reply.
 abbrev pub IsWritten : StreamEnd → List (List ℕ) → Type 0 → Type 0
@@ -59,7 +69,7 @@ pub record Serves (now : ℤ) (end : StreamEnd) (old new : Stock) (unread left b
   pub read : Consumes unread left (joined messages ++ rest)
   pub each : AllByRecursion IsMessage messages
   pub ends : EndsWith end rest left
-  pub records : new ≡ stock_after_messages old messages
+  pub records : IsLeft end rest (stock_after_messages old messages) new
   pub written : IsWritten end messages (Appends before after (replies_to now old messages))
 
 -- Private: one message was read and served, and its reply written
@@ -67,8 +77,8 @@ pub record ServesOne (now : ℤ) (old new : Stock) (unread left before after : O
   pub message : List ℕ
   pub read : Consumes unread left message
   pub is : IsMessage message
-  pub records : new ≡ stock_after old message
-  pub written : Appends before after (reply_bytes old message now)
+  pub records : new ≡ stock_after_batch old message
+  pub written : Appends before after (batch_reply old message now)
 
 -- Private: how a stream ends by the fault of a call that receives, and by that of the head that is held
 abbrev pub EndsBy : LinkFault → Option FrameFault → StreamEnd → Type 0

@@ -124,7 +124,8 @@ impl<R: Net + Clock + Drop, S: Records + Drop> Loopback<R, S> {
         let Some(request) = receive_message(alloc, stream, &mut framer)? else {
             return Err(LinkFault::Io);
         };
-        match self.server.handle(alloc, request.as_slice(), 0) {
+        let mut effects = Vec::new(alloc);
+        match self.server.handle_batch(alloc, request.as_slice(), 0, &mut effects) {
             Ok(reply) => Ok(reply),
             Err(NoMemory) => Err(LinkFault::NoMemory),
         }

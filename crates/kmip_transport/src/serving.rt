@@ -102,7 +102,8 @@ fn serve_message<S: Records, R: Read, W: Write>(
         Ok(None) => return Some(StreamEnd::Ended(framer.pending())),
         Err(fault) => return Some(end_by(fault, framer)),
     };
-    let Ok(reply) = server.handle(alloc, message.as_slice(), now) else {
+    let mut effects = Vec::new(alloc);
+    let Ok(reply) = server.handle_batch(alloc, message.as_slice(), now, &mut effects) else {
         return Some(StreamEnd::NoMemory);
     };
     match send_message(writer, reply.as_slice()) {
