@@ -125,7 +125,10 @@ impl<R: Net + Clock + Drop, S: Records + Drop> Loopback<R, S> {
             return Err(LinkFault::Io);
         };
         let mut effects = Vec::new(alloc);
-        match self.server.handle_batch(alloc, request.as_slice(), 0, &mut effects) {
+        match self
+            .server
+            .handle_batch(alloc, request.as_slice(), 0, &mut effects)
+        {
             Ok(reply) => Ok(reply),
             Err(NoMemory) => Err(LinkFault::NoMemory),
         }
