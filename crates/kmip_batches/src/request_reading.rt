@@ -125,7 +125,7 @@ fn questions_of(alloc: Global, message: &[Item]) -> Result<Questions, MessageFau
     ensures { Gives (λ q. q) result
         (members_in question_at (contents TAG_BATCH_ITEM (views message.now))) }
 {
-    let mut questions = Vec::new(alloc);
+    let mut questions = Vec::with_capacity(alloc, count_of(message))?;
     for item in message {
         if item.tag().number() == TAG_BATCH_ITEM {
             let question = question_in(alloc, item)?;

@@ -182,6 +182,7 @@ fn write_with(
     ensures tells { IfOk result (λ v. Tells v.items (replies.old.items ++ reply ∷ []) now) }
     ensures joined { OnOk result (replies.new.items ≡ replies.old.items ++ reply ∷ []) }
 {
+    replies.reserve_exact(1)?;
     replies.push(reply)?;
     write_all(alloc, replies.as_slice(), now)
 }

@@ -44,13 +44,13 @@ pub(crate) fn carry_out_noted<S: Records>(
     ensures same { OnErr result (S.stock store.new ≡ S.stock store.old) }
     ensures same_effects { OnErr result (effects.new.items ≡ effects.old.items) }
 {
-    let due = effect_asked(store, alloc, ask)?;
+    let Some(effect) = effect_asked(store, alloc, ask)? else {
+        return carry_out(store, alloc, ask);
+    };
     effects.reserve(1)?;
     match carry_out(store, alloc, ask)? {
         Ok(()) => {
-            if let Some(effect) = due {
-                effects.push_reserved(effect);
-            }
+            effects.push_reserved(effect);
             Ok(Ok(()))
         }
         Err(fault) => Ok(Err(fault)),
