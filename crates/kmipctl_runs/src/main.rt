@@ -1,38 +1,31 @@
-//! `kmipctl` once more, for its stored runs: a command after the other, each as a command line of its
-//! own, what it prints, and its exit status.
+//! `kmipctl` once more, for its stored runs: standard input has one command after the other, and what
+//! is printed are these commands, what each writes, and its exit status; or what a command asks for.
+//!
+//! A line of standard input is one of
+//!
+//!     # WORDS              a remark
+//!     file NAME            the lines behind it, up to a line `end`, are the file
+//!     $ kmipctl WORDS      a command line, in which `%20` is a space of a word
+//!     ? kmipctl WORDS      the same, of which no more is done than to say what it asks for
+//!     < kmipctl WORDS      the same of `answer` and `show`, whose input are the lines behind it, up to
+//!                          a line `end`
 #![tactic(auto)]
 
-use kmip_command_line::run_words;
-use std::alloc::{AllocError, Global};
+mod transcript;
+
+use crate::transcript::carry_out;
+use std::io::{self, BufReader};
 use std::process::ExitCode;
 
-/// What stands behind the program's name, a command a row.
-const RUNS: [&str; 5] = [
-    "show --canon",
-    "check --plan check.toml --after earlier.toml",
-    "sim --plan sim.toml --script network.script",
-    "run --plan run.toml --progress progress --loopback",
-    "probe --name-prefix probe --loopback",
-];
-
 fn main(rt: HostRuntime) -> ExitCode {
-    for line in RUNS {
-        let Ok(words) = words_of(rt.alloc(), line) else {
-            return ExitCode::FAILURE;
-        };
-        let _ = rt.println(format_args!("$ kmipctl {line}"));
-        let status = run_words(&rt, words.as_slice());
-        let _ = rt.println(format_args!("exit status {}", status.code()));
+    match run(&rt) {
+        Ok(()) => ExitCode::SUCCESS,
+        Err(_) => ExitCode::FAILURE,
     }
-    ExitCode::SUCCESS
 }
 
-/// The words of a command line, the program's name first.
-fn words_of(alloc: Global, line: &str) -> Result<Vec<String>, AllocError> {
-    let mut words = Vec::new(alloc);
-    words.push(String::from_str(alloc, "kmipctl")?)?;
-    for word in line.split(' ') {
-        words.push(String::from_str(alloc, word)?)?;
-    }
-    Ok(words)
+fn run(rt: &HostRuntime) -> io::Result<()> {
+    let reader = BufReader::new(rt.alloc(), rt.reader())?;
+    let text = io::read_to_string(rt.alloc(), reader)?;
+    carry_out(rt, text.as_str())
 }

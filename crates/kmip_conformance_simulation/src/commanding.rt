@@ -1,0 +1,213 @@
+//! The command `sim` by each of its three functions, with ample memory: in memory, over a writer, and as
+//! the program calls it. What it prints for other plans and scripts stands in the stored runs of
+//! kmipctl_runs. The lines were worked out by hand from the words of a script and the rules of a run.
+
+use kmip_commands::{CommandFault, ExitStatus};
+use kmip_sim::{Detail, run_sim, sim, sim_bytes};
+use std::alloc::Global;
+use std::process::Abort;
+use std::str::from_utf8;
+use std::test::Fail;
+
+const CREATED: &str = r#"[[key]]
+name = "k1"
+algorithm = "AES"
+length = 256
+usage = ["encrypt", "decrypt"]
+target = "created"
+"#;
+
+const DISCARDED: &str = r#"[[key]]
+name = "k1"
+algorithm = "AES"
+length = 256
+usage = ["encrypt", "decrypt"]
+target = "discarded"
+"#;
+
+/// What is simulated for the plan `CREATED`: how it is told, a further plan, and a script; how it ends,
+/// and what is written.
+#[derive(Clone, Copy)]
+struct Row<'a> {
+    detail: Detail,
+    further: Option<&'a str>,
+    script: &'a str,
+    status: ExitStatus,
+    text: &'a str,
+}
+
+/// Nothing is lost.
+const MADE: &str = "\
+run 1 AllFinished 2
+k1 created 1/1 finished
+finished 1 of 1
+ask 1 Locate k1
+ask 2 Create k1
+record 1 k1 PreActive
+";
+
+const ROWS: [Row<'static>; 6] = [
+    Row {
+        detail: Detail::Runs,
+        further: None,
+        script: "",
+        status: ExitStatus::Done,
+        text: MADE,
+    },
+    Row {
+        detail: Detail::Exchanges,
+        further: None,
+        script: "",
+        status: ExitStatus::Done,
+        text: "\
+exchange 1 Locate k1, pass: found none
+exchange 2 Create k1, pass: created as 1
+run 1 AllFinished 2
+k1 created 1/1 finished
+finished 1 of 1
+ask 1 Locate k1
+ask 2 Create k1
+record 1 k1 PreActive
+",
+    },
+    // The plan is prolonged before anything is asked.
+    Row {
+        detail: Detail::Runs,
+        further: Some(DISCARDED),
+        script: "prolong",
+        status: ExitStatus::Done,
+        text: "\
+run 1 Limit 0
+k1 created 0/1 working
+finished 0 of 1
+run 2 AllFinished 3
+k1 discarded 2/2 finished
+finished 1 of 1
+ask 1 Locate k1
+ask 2 Create k1
+ask 3 Destroy k1
+record 1 k1 Destroyed
+",
+    },
+    // Made and then destroyed; a Create of before arrives once more, when all is done.
+    Row {
+        detail: Detail::Exchanges,
+        further: Some(DISCARDED),
+        script: "pass\npass\nprolong\npass\npass\nagain 2\n",
+        status: ExitStatus::Done,
+        text: "\
+exchange 1 Locate k1, pass: found none
+exchange 2 Create k1, pass: created as 1
+exchange 3 GetAttributes k1, pass: 1 is PreActive
+exchange 4 Destroy k1, pass: destroyed 1
+run 1 AllFinished 2
+k1 created 1/1 finished
+finished 1 of 1
+run 2 AllFinished 2
+k1 discarded 2/2 finished
+finished 1 of 1
+ask 1 Locate k1
+ask 2 Create k1
+ask 3 GetAttributes k1
+ask 4 Destroy k1
+record 1 k1 Destroyed
+",
+    },
+    // The last line of a script may lack its line feed.
+    Row {
+        detail: Detail::Exchanges,
+        further: None,
+        script: "hold",
+        status: ExitStatus::Refused,
+        text: "script refused: line 1\n",
+    },
+    Row {
+        detail: Detail::Runs,
+        further: Some(DISCARDED),
+        script: "pass",
+        status: ExitStatus::Refused,
+        text: "script refused: line 0\n",
+    },
+];
+
+/// How the program ends, by whether something was refused.
+fn status_of(is_refused: bool) -> ExitStatus {
+    if is_refused {
+        ExitStatus::Refused
+    } else {
+        ExitStatus::Done
+    }
+}
+
+/// Whether it ended and wrote as the row says.
+fn check_end(rt: &impl Abort, row: &Row<'_>, status: ExitStatus, written: &[u8]) {
+    assert_eq!(rt; status, row.status);
+    assert_eq!(rt; from_utf8(written), Ok(row.text));
+}
+
+/// Simulates the row by each function.
+fn check_row(rt: &impl Abort, alloc: Global, row: &Row<'_>) -> Result<(), Fail> {
+    let (detail, further, script) = (row.detail, row.further, row.script);
+    let mut written = Vec::new(alloc);
+    let is_refused = sim_bytes(alloc, detail, CREATED, further, script, &mut written)?;
+    check_end(rt, row, status_of(is_refused), written.as_slice());
+    let mut written = Vec::new(alloc);
+    let is_refused = sim(alloc, detail, CREATED, further, script, &mut written)?;
+    check_end(rt, row, status_of(is_refused), written.as_slice());
+    let mut written = Vec::new(alloc);
+    let status = run_sim(alloc, detail, CREATED, further, script, &mut written);
+    check_end(rt, row, status, written.as_slice());
+    Ok(())
+}
+
+fn check_rows(rt: &impl Abort, alloc: Global, rows: &[Row<'_>]) -> Result<(), Fail> {
+    for row in rows {
+        check_row(rt, alloc, row)?;
+    }
+    Ok(())
+}
+
+/// Simulates by a script of so many empty lines, and a word behind them.
+fn check_late_word(
+    rt: &impl Abort,
+    alloc: Global,
+    lines: usize,
+    status: ExitStatus,
+    text: &str,
+) -> Result<(), Fail> {
+    let mut script = String::new(alloc);
+    for _ in 0..lines {
+        script.push('\n')?;
+    }
+    script.push_str("pass")?;
+    let row = Row {
+        detail: Detail::Runs,
+        further: None,
+        script: script.as_str(),
+        status,
+        text,
+    };
+    check_row(rt, alloc, &row)
+}
+
+#[test]
+fn simulates_by_each_function(rt: HostRuntime) -> Result<(), Fail> {
+    check_rows(&rt, rt.alloc(), ROWS.as_slice())
+}
+
+#[test]
+fn reads_ten_thousand_lines(rt: HostRuntime) -> Result<(), Fail> {
+    let line = "script refused: line 10001\n";
+    check_late_word(&rt, rt.alloc(), 10_000, ExitStatus::Refused, line)?;
+    check_late_word(&rt, rt.alloc(), 9_999, ExitStatus::Done, MADE)
+}
+
+/// A writer with room for ten bytes.
+#[test]
+fn ends_where_the_writer_fails(rt: HostRuntime) -> Result<(), Fail> {
+    let mut room = [0; 10];
+    let mut writer = room.as_mut_slice();
+    let status = run_sim(rt.alloc(), Detail::Runs, CREATED, None, "", &mut writer);
+    assert_eq!(rt; status, ExitStatus::Failed(CommandFault::Output));
+    Ok(())
+}
