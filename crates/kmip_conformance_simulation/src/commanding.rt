@@ -139,10 +139,15 @@ fn status_of(is_refused: bool) -> ExitStatus {
     }
 }
 
+/// Whether it wrote this text.
+fn check_text(rt: &impl Abort, written: &[u8], text: &str) {
+    assert_eq!(rt; from_utf8(written), Ok(text));
+}
+
 /// Whether it ended and wrote as the row says.
 fn check_end(rt: &impl Abort, row: &Row<'_>, status: ExitStatus, written: &[u8]) {
     assert_eq!(rt; status, row.status);
-    assert_eq!(rt; from_utf8(written), Ok(row.text));
+    check_text(rt, written, row.text);
 }
 
 /// Simulates the row by each function.
@@ -180,14 +185,18 @@ fn check_late_word(
         script.push('\n')?;
     }
     script.push_str("pass")?;
-    let row = Row {
-        detail: Detail::Runs,
-        further: None,
-        script: script.as_str(),
-        status,
-        text,
-    };
-    check_row(rt, alloc, &row)
+    let mut written = Vec::new(alloc);
+    let ended = run_sim(
+        alloc,
+        Detail::Runs,
+        CREATED,
+        None,
+        script.as_str(),
+        &mut written,
+    );
+    assert_eq!(rt; ended, status);
+    check_text(rt, written.as_slice(), text);
+    Ok(())
 }
 
 #[test]
