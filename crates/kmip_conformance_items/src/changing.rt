@@ -1,11 +1,7 @@
-//! Messages with one byte changed, read as items and taken from a stream.
+//! Messages cut at each place and with one byte changed, read as items.
 
-ghost use Rattle.std.specs.Prelude.{◌<◌, length};
-
-use crate::asserting::{assert_fed, assert_holds, assert_size};
-use crate::framing::assert_failed;
+use crate::asserting::assert_size;
 use crate::items::size_of;
-use kmip_frames::{FrameFault, Framer};
 use kmip_ttlv::{TtlvFault, fits, read, write};
 use kmip_vectors::{ALL, CREATE_K1, CREATE_K1_REPLY, LOCATE_K1, LOCATE_K1_FOUND, changed};
 use std::alloc::Global;
@@ -22,11 +18,12 @@ const MESSAGES: [(&str, usize); 4] = [
 
 /// Whether the bytes are the written form but for padding, which is written as zeros.
 fn is_spelled(written: &[u8], bytes: &[u8]) -> bool {
+    for (written, byte) in written.iter().zip(bytes) {
+        if written != byte && *written != 0 {
+            return false;
+        }
+    }
     written.len() == bytes.len()
-        && written
-            .iter()
-            .zip(bytes)
-            .all(|(written, byte)| written == byte || *written == 0)
 }
 
 /// What was written is the bytes but for padding, and is read again to its end.
@@ -45,37 +42,25 @@ fn try_bytes(rt: &impl Abort, alloc: Global, bytes: &[u8]) -> Result<(), Fail> {
             assert_spelled(rt, alloc, again.as_slice(), &bytes[..size]);
         }
         Err(fault) => {
-            let is_inside = fault.offset().is_some_and(|at| at < bytes.len());
-            assert!(rt; is_inside, "{fault:?} of {bytes:?}");
+            let at = fault.offset().unwrap_or(bytes.len());
+            assert!(rt; at < bytes.len(), "{fault:?} of {bytes:?}");
         }
     }
     Ok(())
 }
 
-#[test]
-fn reads_what_it_can_write_again(rt: HostRuntime) -> Result<(), Fail> {
-    for (text, _) in &MESSAGES {
-        try_changes(&rt, rt.alloc(), text)?;
-    }
-    Ok(())
-}
-
-/// The same of a message with each byte in turn changed to each other one.
-fn try_changes(rt: &impl Abort, alloc: Global, text: &str) -> Result<(), Fail> {
+/// A message with each byte in turn changed to each other one, and what comes of it where that is a byte
+/// of its head.
+fn try_changes(rt: &impl Abort, alloc: Global, text: &str, header_end: usize) -> Result<(), Fail> {
     let bytes = hex::decode(alloc, text)?;
     for place in 0..bytes.len() {
-        try_place(rt, alloc, bytes.as_slice(), place)?;
-    }
-    Ok(())
-}
-
-/// The same with each byte at this place.
-fn try_place(rt: &impl Abort, alloc: Global, bytes: &[u8], place: usize) -> Result<(), Fail>
-    requires { place < length bytes.now }
-{
-    for value in 0..=255 {
-        let changed = changed(alloc, bytes, place, value)?;
-        try_bytes(rt, alloc, changed.as_slice())?;
+        for value in 0..=255 {
+            let changed = changed(alloc, bytes.as_slice(), place, value)?;
+            try_bytes(rt, alloc, changed.as_slice())?;
+            if place < 8 {
+                judge_head(rt, alloc, changed.as_slice(), header_end);
+            }
+        }
     }
     Ok(())
 }
@@ -104,34 +89,6 @@ fn outcome_of(
     }
 }
 
-#[test]
-fn judges_each_head(rt: HostRuntime) -> Result<(), Fail> {
-    for (text, header_end) in &MESSAGES {
-        let bytes = hex::decode(rt.alloc(), *text)?;
-        for place in 0..bytes.len().min(8) {
-            judge_heads(&rt, rt.alloc(), bytes.as_slice(), *header_end, place)?;
-        }
-    }
-    Ok(())
-}
-
-/// What comes of a message with each byte at this place of its head.
-fn judge_heads(
-    rt: &impl Abort,
-    alloc: Global,
-    bytes: &[u8],
-    header_end: usize,
-    place: usize,
-) -> Result<(), Fail>
-    requires { place < length bytes.now }
-{
-    for value in 0..=255 {
-        let changed = changed(alloc, bytes, place, value)?;
-        judge_head(rt, alloc, changed.as_slice(), header_end);
-    }
-    Ok(())
-}
-
 /// What comes of a message with this head.
 fn judge_head(rt: &impl Abort, alloc: Global, bytes: &[u8], header_end: usize) {
     if let [_, _, _, item_type, a, b, c, d, ..] = bytes {
@@ -141,80 +98,23 @@ fn judge_head(rt: &impl Abort, alloc: Global, bytes: &[u8], header_end: usize) {
     }
 }
 
-/// The size that the head of a message says, or why it is no head of one.
-fn size_said(head: &[u8]) -> Result<usize, FrameFault> {
-    let [tag @ .., item_type, a, b, c, d] = head else {
-        return Err(FrameFault::BadHead);
-    };
-    let len = u32::from_be_bytes([*a, *b, *c, *d]) as usize;
-    match (tag, *item_type) {
-        ([0x42, 0x00, 0x78 | 0x7B], 0x01) if len % 8 != 0 => Err(FrameFault::BadLength),
-        ([0x42, 0x00, 0x78 | 0x7B], 0x01) if len > 8184 => Err(FrameFault::TooLong),
-        ([0x42, 0x00, 0x78 | 0x7B], 0x01) => Ok(len + 8),
-        _ => Err(FrameFault::BadHead),
-    }
-}
-
-/// A framer that holds nothing takes as many of the bytes as their head says, and hands over these and
-/// no others; it waits where they are too few, and fails where it is no head.
-fn assert_framed(
-    rt: &impl Abort,
-    alloc: Global,
-    framer: &mut Framer,
-    bytes: &[u8],
-) -> Result<(), Fail> {
-    let (head, _) = bytes.split_at(bytes.len().min(8));
-    let size = match size_said(head) {
-        Ok(size) => size,
-        Err(fault) => {
-            assert_fed(rt, framer.feed(bytes), Err(fault), fault.name());
-            return assert_failed(rt, alloc, framer, fault.name());
-        }
-    };
-    assert_taken(rt, alloc, framer, bytes, size)
-}
-
-/// A framer that holds nothing takes the bytes of a message of this size, and hands it over where it is
-/// whole.
-fn assert_taken(
-    rt: &impl Abort,
-    alloc: Global,
-    framer: &mut Framer,
-    bytes: &[u8],
-    size: usize,
-) -> Result<(), Fail> {
-    let taken = size.min(bytes.len());
-    assert_fed(rt, framer.feed(bytes), Ok(taken), "a message");
-    assert_holds(rt, framer, taken, size.saturating_sub(taken), "a message");
-    match framer.next(alloc)? {
-        Some(message) => assert_eq!(rt; message.as_slice(), &bytes[..size.min(taken)]),
-        None => assert!(rt; taken < size && framer.pending() == taken, "{bytes:?}"),
+/// Each front of a message is too short for an item.
+fn lack_each_end(rt: &impl Abort, alloc: Global, text: &str, name: &str) -> Result<(), Fail> {
+    let bytes = hex::decode(alloc, text)?;
+    for size in 0..bytes.len() {
+        let fault = size_of(rt, alloc, &bytes[..size]);
+        assert_size(rt, fault, Err(TtlvFault::Short(0)), name);
     }
     Ok(())
 }
 
 #[test]
-fn frames_by_the_head_alone(rt: HostRuntime) -> Result<(), Fail> {
-    for (_, text) in &ALL {
-        let bytes = hex::decode(rt.alloc(), *text)?;
-        for place in 0..bytes.len() {
-            frame_changes(&rt, rt.alloc(), bytes.as_slice(), place)?;
-        }
+fn reads_each_front_and_each_change(rt: HostRuntime) -> Result<(), Fail> {
+    for (name, text) in &ALL {
+        lack_each_end(&rt, rt.alloc(), text, name)?;
     }
-    Ok(())
-}
-
-/// A framer is fed a message with each byte at this place, one after the other.
-fn frame_changes(rt: &impl Abort, alloc: Global, bytes: &[u8], place: usize) -> Result<(), Fail>
-    requires { place < length bytes.now }
-{
-    let mut framer = Framer::new(alloc)?;
-    for value in 0..=255 {
-        let changed = changed(alloc, bytes, place, value)?;
-        assert_framed(rt, alloc, &mut framer, changed.as_slice())?;
-        if framer.pending() > 0 {
-            framer = Framer::new(alloc)?;
-        }
+    for (text, header_end) in &MESSAGES {
+        try_changes(&rt, rt.alloc(), text, *header_end)?;
     }
     Ok(())
 }

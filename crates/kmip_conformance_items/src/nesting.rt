@@ -26,7 +26,7 @@ const LEAVES: [(u8, u32, u32); 10] = [
 ];
 
 /// What is wrong with an item.
-#[derive(Clone, Copy, Debug, PartialEq, Eq)]
+#[derive(Clone, Copy)]
 enum Damage {
     None,
     /// The Structure around so many others has another length than its items, by this many bytes.
@@ -111,7 +111,7 @@ fn nested(
         };
         bytes = wrapped(alloc, rng, bytes.as_slice(), more)?;
     }
-    if damage == Damage::Cut {
+    if matches!(damage, Damage::Cut) {
         bytes.pop();
     }
     Ok(bytes)
@@ -136,7 +136,7 @@ fn reads_what_is_well_nested(rt: HostRuntime) -> Result<(), Fail> {
         let levels = rng.next_u32() % 41;
         let damage = damage_of(&mut rng, round, levels);
         let bytes = nested(rt.alloc(), &mut rng, levels, damage)?;
-        let is_whole = damage == Damage::None && levels < 16 && bytes.len() <= 8192;
+        let is_whole = matches!(damage, Damage::None) && levels < 16 && bytes.len() <= 8192;
         assert_read(&rt, rt.alloc(), bytes.as_slice(), is_whole, round);
         read_count = read_count.saturating_add(u32::from(is_whole));
     }

@@ -1,7 +1,7 @@
 //! Every front of a text, and every change of one byte of it.
 
 use crate::asserting::assert_text;
-use crate::progresses::{assert_said, plan_of_three, said};
+use crate::progresses::{assert_said, plan_of, said};
 use kmip_plan::Plan;
 use std::alloc::Global;
 use std::process::Abort;
@@ -21,15 +21,14 @@ const ACCEPTED: &str = "01\
     0123457\
     0123456789acdef";
 
-#[test]
-fn refuses_each_front(rt: HostRuntime) -> Result<(), Fail> {
-    let plan = plan_of_three(rt.alloc())?;
-    let mut front = String::new(rt.alloc());
+/// Each proper front of the text is cut, and the whole is what is written.
+fn cut(rt: &impl Abort, alloc: Global, plan: &Plan) -> Result<(), Fail> {
+    let mut front = String::new(alloc);
     for letter in TEXT.chars() {
-        assert_said(&rt, rt.alloc(), &plan, front.as_str(), "2 Cut")?;
+        assert_said(rt, alloc, plan, front.as_str(), "2 Cut")?;
         front.push(letter)?;
     }
-    assert_said(&rt, rt.alloc(), &plan, front.as_str(), TEXT)
+    assert_said(rt, alloc, plan, front.as_str(), TEXT)
 }
 
 /// The text with another byte at a place.
@@ -45,7 +44,7 @@ fn changed(alloc: Global, place: usize, new: char) -> Result<String, Fail> {
 fn is_read(rt: &impl Abort, alloc: Global, plan: &Plan, text: &str) -> Result<bool, Fail> {
     let answer = said(alloc, plan, text)?;
     let refused = ["1 BadText", "2 Cut", "3 OtherPlan"];
-    if refused.iter().any(|fault| *fault == answer.as_str()) {
+    if refused.contains(&answer.as_str()) {
         return Ok(false);
     }
     assert_text(rt, answer.as_str(), text, "a change that is read");
@@ -74,8 +73,9 @@ fn push_accepted(
 }
 
 #[test]
-fn reads_each_change_as_what_it_says(rt: HostRuntime) -> Result<(), Fail> {
-    let plan = plan_of_three(rt.alloc())?;
+fn reads_each_front_and_each_change(rt: HostRuntime) -> Result<(), Fail> {
+    let plan = plan_of(rt.alloc(), "k1 active, k2 revoked, k3 created")?;
+    cut(&rt, rt.alloc(), &plan)?;
     let mut accepted = String::new(rt.alloc());
     for (place, letter) in TEXT.chars().enumerate() {
         push_accepted(&rt, rt.alloc(), &plan, place, letter, &mut accepted)?;

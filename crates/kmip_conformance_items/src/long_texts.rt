@@ -1,7 +1,6 @@
-//! Texts of a million bytes and more.
+//! Texts of plans with a thousand keys, and of a million bytes and more.
 
-use crate::asserting::assert_text;
-use crate::planning::refusal;
+use crate::asserting::{assert_number, assert_text};
 use kmip_plan::read_plan;
 use std::alloc::{AllocError, Global};
 use std::process::Abort;
@@ -10,43 +9,77 @@ use std::test::Fail;
 /// How many bytes a long text has at least.
 const LONG: usize = 1 << 20;
 
-/// A front, a piece that is put behind it again and again until the text is long, an end, and what is
-/// said of the text.
+/// A front, a piece that is put behind it so many times, an end, and what is said of the text.
 struct Row {
     front: &'static str,
     piece: &'static str,
+    count: usize,
     end: &'static str,
     wanted: &'static str,
 }
 
-const ROWS: [Row; 16] = [
+const ROWS: [Row; 20] = [
+    // The keys are counted before they are looked at.
     Row {
         front: "",
         piece: "[[key]]\n",
+        count: 1_000,
+        end: "",
+        wanted: "4 Missing name at key 1",
+    },
+    Row {
+        front: "",
+        piece: "[[key]]\n",
+        count: 1_001,
+        end: "",
+        wanted: "3 TooMany",
+    },
+    Row {
+        front: "key = [",
+        piece: "3, ",
+        count: 1_000,
+        end: "]\n",
+        wanted: "4 Missing name at key 1",
+    },
+    Row {
+        front: "key = [",
+        piece: "3, ",
+        count: 1_001,
+        end: "]\n",
+        wanted: "3 TooMany",
+    },
+    Row {
+        front: "",
+        piece: "[[key]]\n",
+        count: LONG / 8 + 1,
         end: "",
         wanted: "3 TooMany",
     },
     Row {
         front: "key = [",
         piece: "{}, ",
+        count: LONG / 4 + 1,
         end: "]\n",
         wanted: "3 TooMany",
     },
     Row {
         front: "",
         piece: "[",
+        count: LONG,
         end: "",
         wanted: "1 Toml",
     },
     Row {
         front: "key = ",
         piece: "[",
+        count: LONG,
         end: "\n",
         wanted: "1 Toml",
     },
     Row {
         front: "key = ",
         piece: "{ a = ",
+        count: LONG / 6 + 1,
         end: "\n",
         wanted: "1 Toml",
     },
@@ -54,101 +87,112 @@ const ROWS: [Row; 16] = [
     Row {
         front: "a",
         piece: ".a",
+        count: LONG / 2 + 1,
         end: " = 1\n",
         wanted: "1 Toml",
     },
     Row {
         front: "[a",
         piece: ".a",
+        count: LONG / 2 + 1,
         end: "]\n",
         wanted: "1 Toml",
     },
     Row {
         front: "[[key]]\nname = \"",
         piece: "k",
+        count: LONG,
         end: "\"\nalgorithm = 1\nlength = 1\nusage = 1\ntarget = 1\n",
         wanted: "6 BadName at key 1",
     },
     Row {
         front: "[[key]]\nname = \"",
         piece: "\\u006B",
+        count: LONG / 6 + 1,
         end: "\"\nalgorithm = 1\nlength = 1\nusage = 1\ntarget = 1\n",
         wanted: "6 BadName at key 1",
     },
     Row {
         front: "[[key]]\nname = \"k1\"\nalgorithm = \"AES\"\nlength = ",
         piece: "9",
+        count: LONG,
         end: "\nusage = 1\ntarget = 1\n",
         wanted: "1 Toml",
     },
     Row {
         front: "[[key]]\nname = \"k1\"\nalgorithm = \"AES\"\nlength = 256\nusage = [",
         piece: "\"sign\", ",
+        count: LONG / 8 + 1,
         end: "]\ntarget = 1\n",
         wanted: "8 BadUsage at key 1",
     },
     Row {
         front: "[[key]]\nname = \"k1\"\n",
         piece: "zeta.a = 1\nzeta.a = 1\n",
+        count: LONG / 22 + 1,
         end: "",
         wanted: "1 Toml",
     },
     Row {
         front: "# ",
         piece: "-",
+        count: LONG,
         end: "\n",
         wanted: "2 NoKeys",
     },
     Row {
         front: "#",
         piece: "-",
+        count: LONG,
         end: "",
         wanted: "2 NoKeys",
     },
     Row {
         front: "",
         piece: "# nothing\n",
+        count: LONG / 10 + 1,
         end: "",
         wanted: "2 NoKeys",
     },
     Row {
         front: "",
         piece: " \n",
+        count: LONG / 2 + 1,
         end: "",
         wanted: "2 NoKeys",
     },
 ];
 
-/// The long text of a row.
-fn long_text(alloc: Global, row: &Row) -> Result<String, AllocError> {
+/// The text of a row.
+fn text_of(alloc: Global, row: &Row) -> Result<String, AllocError> {
     let mut text = String::from_str(alloc, row.front)?;
-    let count = LONG / row.piece.len().max(1) + 1;
-    push_pieces(&mut text, row.piece, count)?;
+    for _ in 0..row.count {
+        text.push_str(row.piece)?;
+    }
     text.push_str(row.end)?;
     Ok(text)
 }
 
-/// Writes a piece so many times.
-fn push_pieces(text: &mut String, piece: &str, count: usize) -> Result<(), AllocError> {
-    for _ in 0..count {
-        text.push_str(piece)?;
+/// Why a text is refused: the fault with its number, field and place; nothing where it is read.
+fn refusal(alloc: Global, text: &str) -> Result<String, AllocError> {
+    let Err(fault) = read_plan(alloc, text) else {
+        return Ok(String::new(alloc));
+    };
+    let mut said = format!(in alloc; "{} {}", fault.number(), fault.name())?;
+    if let Some(field) = fault.field() {
+        write!(said, " {field}")?;
     }
-    Ok(())
+    if let Some(place) = fault.place() {
+        write!(said, " at key {place}")?;
+    }
+    Ok(said)
 }
 
-/// The long text of a row is refused as it says.
+/// The text of a row is refused as it says.
 fn judge(rt: &impl Abort, alloc: Global, row: &Row) -> Result<(), Fail> {
-    let text = long_text(alloc, row)?;
+    let text = text_of(alloc, row)?;
     let said = refusal(alloc, text.as_str())?;
     assert_text(rt, said.as_str(), row.wanted, row.piece);
-    Ok(())
-}
-
-#[test]
-fn judges_long_texts(rt: HostRuntime) -> Result<(), Fail> {
-    for row in &ROWS {
-        judge(&rt, rt.alloc(), row)?;
-    }
     Ok(())
 }
 
@@ -165,10 +209,13 @@ fn padded_keys(alloc: Global) -> Result<String, AllocError> {
 }
 
 #[test]
-fn reads_a_thousand_keys_among_comments(rt: HostRuntime) -> Result<(), Fail> {
+fn judges_long_texts(rt: HostRuntime) -> Result<(), Fail> {
+    for row in &ROWS {
+        judge(&rt, rt.alloc(), row)?;
+    }
     let text = padded_keys(rt.alloc())?;
     assert!(rt; text.len() >= LONG);
     let plan = read_plan(rt.alloc(), text.as_str())?;
-    assert_eq!(rt; plan.count(), 1_000);
+    assert_number(&rt, plan.count(), 1_000, "a thousand keys among comments");
     Ok(())
 }

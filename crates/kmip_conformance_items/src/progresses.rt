@@ -1,0 +1,54 @@
+//! Plans and progresses in few words.
+
+use crate::asserting::assert_text;
+use kmip_plan::{Plan, read_plan};
+use kmip_progress::{Progress, suits};
+use std::alloc::Global;
+use std::process::Abort;
+use std::test::Fail;
+
+/// The plan of these keys, each a name, a target, and a reason where it has one: `k1 active, k2 created`.
+pub fn plan_of(alloc: Global, keys: &str) -> Result<Plan, Fail> {
+    let mut text = String::new(alloc);
+    for key in keys.split(", ") {
+        push_key(&mut text, key)?;
+    }
+    Ok(read_plan(alloc, text.as_str())?)
+}
+
+/// Writes the lines of such a key.
+pub fn push_key(text: &mut String, key: &str) -> Result<(), Fail> {
+    let (name, way) = key.split_once(' ').ok_or("a key")?;
+    let (target, reason) = way.split_once(' ').unwrap_or((way, ""));
+    text.push_str("[[key]]\nalgorithm = \"AES\"\nlength = 256\nusage = [\"encrypt\"]\n")?;
+    write!(text, "name = \"{name}\"\ntarget = \"{target}\"\n")?;
+    if !reason.is_empty() {
+        write!(text, "reason = \"{reason}\"\n")?;
+    }
+    Ok(())
+}
+
+/// What is said of a text that is read for a plan is the wanted text.
+pub fn assert_said(
+    rt: &impl Abort,
+    alloc: Global,
+    plan: &Plan,
+    text: &str,
+    wanted: &str,
+) -> Result<(), Fail> {
+    let answer = said(alloc, plan, text)?;
+    assert_text(rt, answer.as_str(), wanted, text);
+    Ok(())
+}
+
+/// What is said of a text that is read for a plan: the text that is then written, or the fault.
+pub fn said(alloc: Global, plan: &Plan, text: &str) -> Result<String, Fail> {
+    let progress = match Progress::read_text(alloc, plan, text) {
+        Ok(progress) => progress,
+        Err(fault) => return Ok(format!(in alloc; "{} {}", fault.number(), fault.name())?),
+    };
+    if !suits(plan, &progress) {
+        return Ok(String::from_str(alloc, "it does not suit")?);
+    }
+    Ok(progress.write_text(alloc, plan)?.into_string())
+}
