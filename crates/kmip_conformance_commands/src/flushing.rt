@@ -1,11 +1,10 @@
 //! When the commands send on what they wrote.
 
-use crate::readers::LineReader;
+use crate::commands::Command;
 use crate::texts::text_of;
-use kmip_commands::{answer, answer_stream};
 use kmip_vectors::{CREATE_K1, CREATE_K1_REPLY, LOCATE_K1, LOCATE_K1_NONE};
 use std::alloc::Global;
-use std::io::{self, BufRead, Error, ErrorKind, Write};
+use std::io::{self, BufRead, BufReader, Error, ErrorKind, Write};
 use std::process::Abort;
 use std::test::Fail;
 
@@ -14,15 +13,6 @@ use std::test::Fail;
 struct NotingWriter {
     size: usize,
     flushes: Vec<usize>,
-}
-
-impl NotingWriter {
-    fn new(alloc: Global) -> NotingWriter {
-        NotingWriter {
-            size: 0,
-            flushes: Vec::new(alloc),
-        }
-    }
 }
 
 impl Write for NotingWriter {
@@ -45,36 +35,32 @@ impl Write for NotingWriter {
 #[test]
 fn sends_each_reply_on_before_the_next_line(rt: HostRuntime) -> Result<(), Fail> {
     let input = text_of(rt.alloc(), &[LOCATE_K1, "", CREATE_K1])?;
+    let line = LOCATE_K1.len() + 1;
     let first = LOCATE_K1_NONE.len() + 1;
     let both = first + CREATE_K1_REPLY.len() + 1;
-
-    let mut reader = LineReader {
-        rest: input.as_bytes(),
-    };
-    assert_flushes(&rt, rt.alloc(), &mut reader, &[first, both])?;
-    let mut reader = input.as_bytes();
-    assert_flushes(&rt, rt.alloc(), &mut reader, &[both])?;
-
-    let mut reader = LineReader {
-        rest: input.as_bytes(),
-    };
-    let mut writer = NotingWriter::new(rt.alloc());
-    answer_stream(rt.alloc(), &mut reader, &mut writer)?;
-    assert_noted(&rt, &writer, &[first, both]);
+    for command in &[Command::Answer, Command::Stream] {
+        let mut reader = BufReader::with_capacity(rt.alloc(), line, input.as_bytes())?;
+        assert_flushes(&rt, rt.alloc(), command, &mut reader, &[first, both]);
+        let mut reader = input.as_bytes();
+        assert_flushes(&rt, rt.alloc(), command, &mut reader, &[both]);
+    }
     Ok(())
 }
 
-/// The lines of a reader are answered, and sent on at these sizes.
+/// What is read is answered, and sent on at these sizes.
 fn assert_flushes<R: BufRead>(
     rt: &impl Abort,
     alloc: Global,
+    command: &Command,
     reader: &mut R,
     wanted: &[usize],
-) -> Result<(), Fail> {
-    let mut writer = NotingWriter::new(alloc);
-    answer(alloc, reader, &mut writer)?;
+) {
+    let mut writer = NotingWriter {
+        size: 0,
+        flushes: Vec::new(alloc),
+    };
+    let _status = command.run(alloc, reader, &mut writer);
     assert_noted(rt, &writer, wanted);
-    Ok(())
 }
 
 /// These sizes were noted.

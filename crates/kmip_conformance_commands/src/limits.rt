@@ -1,13 +1,56 @@
-//! The longest line, and many lines.
+//! The longest line and the longest message, and the first line beyond.
 
-use crate::asserting::{assert_number, assert_refused, assert_written};
+use crate::asserting::assert_number;
+use crate::commands::{Command, assert_ends};
 use crate::readers::PieceReader;
 use crate::texts::text_of;
-use kmip_commands::{InputEnd, answer, answer_bytes, answer_stream};
-use kmip_vectors::{INVALID_MESSAGE_REPLY, LOCATE_K1, LOCATE_K1_NONE};
+use kmip_commands::ExitStatus;
+use kmip_vectors::{CREATE_K1, CREATE_K1_REPLY, LOCATE_K1, LOCATE_K1_NONE};
 use std::alloc::Global;
 use std::process::Abort;
+use std::str::from_utf8;
 use std::test::Fail;
+
+const REFUSED_LENGTH: &str = "refused: length";
+
+#[test]
+fn keeps_to_its_limits(rt: HostRuntime) -> Result<(), Fail> {
+    refuse_long(&rt, rt.alloc(), b'4')?;
+    refuse_long(&rt, rt.alloc(), b'z')?;
+    let message = longest(rt.alloc())?;
+    assert_number(&rt, message.len(), 16_384);
+    answer_long(&rt, rt.alloc(), message.as_str())
+}
+
+/// A line of 16,385 times this byte is refused, and the lines around it answered, also as pieces of a
+/// stream.
+fn refuse_long(rt: &impl Abort, alloc: Global, byte: u8) -> Result<(), Fail> {
+    let long = vec![in alloc; byte; 16_385]?;
+    let long = from_utf8(long.as_slice())?;
+    let input = format!(in alloc; "{long}\n{LOCATE_K1}\n")?;
+    let output = [REFUSED_LENGTH, LOCATE_K1_NONE];
+    let refused = ExitStatus::Refused;
+    assert_in_pieces(
+        rt,
+        alloc,
+        &Command::Answer,
+        input.as_str(),
+        &output,
+        refused,
+    )?;
+
+    let (first, second) = LOCATE_K1.split_at(200);
+    let input = format!(in alloc; "{first}\n{long}\n{second}{CREATE_K1}\n")?;
+    let output = [REFUSED_LENGTH, LOCATE_K1_NONE, CREATE_K1_REPLY];
+    assert_in_pieces(
+        rt,
+        alloc,
+        &Command::Stream,
+        input.as_str(),
+        &output,
+        refused,
+    )
+}
 
 /// `LOCATE_K1` with a Byte String of 8,000 zeros behind its items, which a server skips: 8,192 bytes.
 fn longest(alloc: Global) -> Result<String, Fail> {
@@ -19,104 +62,32 @@ fn longest(alloc: Global) -> Result<String, Fail> {
     Ok(text)
 }
 
-#[test]
-fn answers_a_message_of_8192_bytes(rt: HostRuntime) -> Result<(), Fail> {
-    let message = longest(rt.alloc())?;
-    assert_number(&rt, message.len(), 16_384, "the longest message");
-    let input = format!(in rt.alloc(); "{message}\n{message}\n")?;
-    let output = text_of(rt.alloc(), &[LOCATE_K1_NONE, LOCATE_K1_NONE])?;
+/// This message is answered twice, also as a stream, and where it is cut.
+fn answer_long(rt: &impl Abort, alloc: Global, message: &str) -> Result<(), Fail> {
+    let output = [LOCATE_K1_NONE, LOCATE_K1_NONE];
+    let done = ExitStatus::Done;
+    let lines = format!(in alloc; "{message}\n{message}\n")?;
+    assert_in_pieces(rt, alloc, &Command::Answer, lines.as_str(), &output, done)?;
+    assert_in_pieces(rt, alloc, &Command::Stream, lines.as_str(), &output, done)?;
+
+    let (first, second) = message.split_at_checked(9_000).unwrap_or(("", ""));
+    let pieces = format!(in alloc; "{first}\n{second}\n\n{first}\n{second}\n")?;
+    assert_in_pieces(rt, alloc, &Command::Stream, pieces.as_str(), &output, done)
+}
+
+/// The command ends so, and writes these lines, whatever pieces its reader gives.
+fn assert_in_pieces(
+    rt: &impl Abort,
+    alloc: Global,
+    command: &Command,
+    input: &str,
+    output: &[&str],
+    wanted: ExitStatus,
+) -> Result<(), Fail> {
+    let output = text_of(alloc, output)?;
     for piece_len in &[40_000, 16_385, 16_384, 1_000] {
-        answer_pieces(
-            &rt,
-            rt.alloc(),
-            input.as_bytes(),
-            *piece_len,
-            output.as_str(),
-        )?;
+        let mut reader = PieceReader::ending(input.as_bytes(), *piece_len);
+        assert_ends(rt, alloc, command, &mut reader, output.as_str(), wanted);
     }
-    Ok(())
-}
-
-/// The lines are answered by this text, where the reader gives pieces of this length.
-fn answer_pieces(
-    rt: &impl Abort,
-    alloc: Global,
-    input: &[u8],
-    piece_len: usize,
-    output: &str,
-) -> Result<(), Fail> {
-    let mut reader = PieceReader::ending(input, piece_len);
-    let mut writer = Vec::new(alloc);
-    let is_refused = answer(alloc, &mut reader, &mut writer)?;
-    assert_refused(rt, is_refused, false, output);
-    assert_written(rt, writer.as_slice(), output, output);
-    Ok(())
-}
-
-/// The lines are a stream of two messages, each of which is answered, whatever pieces the reader gives.
-fn assert_streams(rt: &impl Abort, alloc: Global, input: &str) -> Result<(), Fail> {
-    let output = text_of(alloc, &[LOCATE_K1_NONE, LOCATE_K1_NONE])?;
-    stream_pieces(rt, alloc, input.as_bytes(), 40_000, output.as_str())?;
-    stream_pieces(rt, alloc, input.as_bytes(), 1_000, output.as_str())
-}
-
-/// The lines are a whole stream that is answered by this text, where the reader gives pieces of this
-/// length.
-fn stream_pieces(
-    rt: &impl Abort,
-    alloc: Global,
-    input: &[u8],
-    piece_len: usize,
-    output: &str,
-) -> Result<(), Fail> {
-    let mut reader = PieceReader::ending(input, piece_len);
-    let mut writer = Vec::new(alloc);
-    let outcome = answer_stream(alloc, &mut reader, &mut writer)?;
-    assert!(rt; outcome.end == InputEnd::Whole && !outcome.has_refused);
-    assert_written(rt, writer.as_slice(), output, output);
-    Ok(())
-}
-
-#[test]
-fn answers_a_stream_of_long_messages(rt: HostRuntime) -> Result<(), Fail> {
-    let message = longest(rt.alloc())?;
-    let (first, second) = message.as_str().split_at_checked(9_000).unwrap_or(("", ""));
-    let lines = format!(in rt.alloc(); "{message}\n{message}\n")?;
-    assert_streams(&rt, rt.alloc(), lines.as_str())?;
-    let pieces = format!(in rt.alloc(); "{first}\n{second}\n\n{first}\n{second}\n")?;
-    assert_streams(&rt, rt.alloc(), pieces.as_str())
-}
-
-#[test]
-fn answers_ten_thousand_lines_and_one(rt: HostRuntime) -> Result<(), Fail> {
-    let mut input = String::new(rt.alloc());
-    let mut output = String::new(rt.alloc());
-    for _ in 0..10_001 {
-        input.push_str("00\n\n")?;
-        output.push_str(INVALID_MESSAGE_REPLY)?;
-        output.push_str("\n")?;
-    }
-    let output = output.as_bytes();
-    answer_reader(&rt, rt.alloc(), input.as_bytes(), output)?;
-    answer_whole(&rt, rt.alloc(), input.as_bytes(), output)
-}
-
-/// The lines are answered by these bytes, out of a reader.
-fn answer_reader(rt: &impl Abort, alloc: Global, input: &[u8], output: &[u8]) -> Result<(), Fail> {
-    let mut reader = input;
-    let mut writer = Vec::new(alloc);
-    let is_refused = answer(alloc, &mut reader, &mut writer)?;
-    assert_refused(rt, is_refused, false, "many lines");
-    assert_number(rt, writer.len(), output.len(), "many lines");
-    assert!(rt; writer.as_slice() == output);
-    Ok(())
-}
-
-/// The same where all bytes are there.
-fn answer_whole(rt: &impl Abort, alloc: Global, input: &[u8], output: &[u8]) -> Result<(), Fail> {
-    let mut written = Vec::new(alloc);
-    let is_refused = answer_bytes(alloc, input, &mut written)?;
-    assert_refused(rt, is_refused, false, "many lines");
-    assert!(rt; written.as_slice() == output);
     Ok(())
 }

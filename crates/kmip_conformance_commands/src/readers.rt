@@ -1,10 +1,9 @@
-//! A reader that gives its bytes in pieces, is interrupted before each, and may fail at the end; and
-//! one that gives them line by line.
+//! A reader that gives its bytes in pieces, is interrupted before each, and may fail at the end.
 
 use std::io::{self, BufRead, Error, ErrorKind, Read};
 
 #[derive(Drop)]
-pub struct PieceReader<'a> {
+pub(crate) struct PieceReader<'a> {
     rest: &'a [u8],
     piece_len: usize,
     is_interrupted: bool,
@@ -12,7 +11,8 @@ pub struct PieceReader<'a> {
 }
 
 impl<'a> PieceReader<'a> {
-    pub fn ending(rest: &'a [u8], piece_len: usize) -> PieceReader<'a> {
+    /// A reader that ends behind these bytes.
+    pub(crate) fn ending(rest: &'a [u8], piece_len: usize) -> PieceReader<'a> {
         PieceReader {
             rest,
             piece_len,
@@ -21,7 +21,8 @@ impl<'a> PieceReader<'a> {
         }
     }
 
-    pub fn failing(rest: &'a [u8], piece_len: usize) -> PieceReader<'a> {
+    /// A reader that fails behind these bytes.
+    pub(crate) fn failing(rest: &'a [u8], piece_len: usize) -> PieceReader<'a> {
         PieceReader {
             rest,
             piece_len,
@@ -47,34 +48,6 @@ impl BufRead for PieceReader<'_> {
             return Err(Error::from(ErrorKind::Other));
         }
         Ok(&self.rest[..self.piece_len.min(self.rest.len())])
-    }
-
-    fn consume(&mut self, amount: usize) {
-        self.rest = &self.rest[amount.min(self.rest.len())..];
-    }
-}
-
-/// A reader that gives a line at a time.
-#[derive(Drop)]
-pub struct LineReader<'a> {
-    pub rest: &'a [u8],
-}
-
-impl Read for LineReader<'_> {
-    fn read(&mut self, _buf: &mut [u8]) -> io::Result<usize> {
-        Err(Error::from(ErrorKind::Unsupported))
-    }
-}
-
-impl BufRead for LineReader<'_> {
-    fn fill_buf(&mut self) -> io::Result<&[u8]> {
-        match self.rest.iter().position(|byte| *byte == b'\n') {
-            Some(place) => {
-                let (line, _) = self.rest.split_at((place + 1).min(self.rest.len()));
-                Ok(line)
-            }
-            None => Ok(self.rest),
-        }
     }
 
     fn consume(&mut self, amount: usize) {

@@ -5,13 +5,14 @@
 //! Create, Activate and Destroy of the second name; 17 and 18 Destroy of the first; 19 its Create, and
 //! 20 to 23 its Locates; 24 and 25 Revoke and Destroy of the second.
 
+use crate::asserting::{assert_number, assert_status, assert_written};
 use crate::report::{ALL, KEPT, Told, report_of};
 use kmip_commands::ExitStatus;
 use kmip_probe::run_probe;
-use kmip_scripted::{Script, Scripted, read_script};
+use kmip_scripted::{Scripted, read_script};
 use kmip_server::{ListStore, Records, Server};
 use std::alloc::Global;
-use std::str::from_utf8;
+use std::process::Abort;
 use std::test::Fail;
 
 /// What a link does, and what is told then.
@@ -103,68 +104,63 @@ const ROWS: [Row; 10] = [
 ];
 
 /// A link to an empty server, which follows the script.
-fn link_of(alloc: Global, script: Script) -> Scripted<ListStore> {
-    Scripted::new(
-        alloc,
-        Server::new(ListStore::new(alloc, [0; 32], 10_000)),
-        script,
-    )
+fn link_of(alloc: Global, script: &str) -> Result<Scripted<ListStore>, Fail> {
+    let script = read_script(alloc, script)?;
+    let server = Server::new(ListStore::new(alloc, [0; 32], 10_000));
+    Ok(Scripted::new(alloc, server, script))
 }
 
 #[test]
 fn tells_what_a_server_keeps(rt: HostRuntime) -> Result<(), Fail> {
-    let alloc = rt.alloc();
     for row in &ROWS {
-        let mut link = link_of(alloc, read_script(alloc, row.script)?);
-        let mut text = Vec::new(alloc);
-        let status = run_probe(alloc, "probe", &mut link, &mut text);
-        let wanted = report_of(alloc, &row.told, row.reasons, "", row.sum)?;
-        assert_eq!(rt;
-            from_utf8(text.as_slice()),
-            Ok(wanted.as_str()),
-            "{}",
-            row.script
-        );
-        let code = if row.sum == KEPT { 0 } else { 1 };
-        assert_eq!(rt; status.code(), code, "{}", row.script);
+        probe_row(&rt, rt.alloc(), row)?;
     }
-    Ok(())
+    probe_again(&rt, rt.alloc())?;
+    probe_unseen(&rt, rt.alloc(), "lose-reply\n", "probe-1")?;
+    probe_unseen(&rt, rt.alloc(), "pass\nlose-request\n", "probe-2")
 }
 
-#[test]
-fn makes_nothing_where_a_name_is_used(rt: HostRuntime) -> Result<(), Fail> {
-    let alloc = rt.alloc();
-    let mut link = link_of(alloc, read_script(alloc, "")?);
+/// A probe over the link of a row tells what the row says.
+fn probe_row(rt: &impl Abort, alloc: Global, row: &Row) -> Result<(), Fail> {
+    let mut link = link_of(alloc, row.script)?;
     let mut text = Vec::new(alloc);
-    assert_eq!(rt;
-        run_probe(alloc, "probe", &mut link, &mut text),
+    let status = run_probe(alloc, "probe", &mut link, &mut text);
+    let wanted = report_of(alloc, &row.told, row.reasons, "", row.sum)?;
+    let ended = if row.sum == KEPT {
         ExitStatus::Done
-    );
-    let mut again = Vec::new(alloc);
-    let status = run_probe(alloc, "probe", &mut link, &mut again);
-    assert_eq!(rt; status, ExitStatus::Refused);
-    let wanted = "probe-1 is used already, and nothing was made; its object is 1\n";
-    assert_eq!(rt; from_utf8(again.as_slice()), Ok(wanted));
-    assert_eq!(rt; link.server().records().count(), 2);
+    } else {
+        ExitStatus::Refused
+    };
+    assert_written(rt, text.as_slice(), wanted.as_str(), row.script);
+    assert_status(rt, status, ended, row.script);
     Ok(())
 }
 
-#[test]
-fn makes_nothing_where_a_look_is_lost(rt: HostRuntime) -> Result<(), Fail> {
-    let alloc = rt.alloc();
-    for (script, name) in [
-        ("lose-reply\n", "probe-1"),
-        ("pass\nlose-request\n", "probe-2"),
-    ] {
-        let mut link = link_of(alloc, read_script(alloc, script)?);
-        let mut text = Vec::new(alloc);
-        let status = run_probe(alloc, "probe", &mut link, &mut text);
-        assert_eq!(rt; status, ExitStatus::Refused, "{script}");
-        let wanted = format!(in alloc;
-            "no reply: whether {name} is free could not be told; nothing was made\n"
-        )?;
-        assert_eq!(rt; from_utf8(text.as_slice()), Ok(wanted.as_str()), "{script}");
-        assert_eq!(rt; link.server().records().count(), 0, "{script}");
-    }
+/// A second probe makes nothing, since a name of it is used.
+fn probe_again(rt: &impl Abort, alloc: Global) -> Result<(), Fail> {
+    let mut link = link_of(alloc, "")?;
+    let mut text = Vec::new(alloc);
+    let status = run_probe(alloc, "probe", &mut link, &mut text);
+    assert_status(rt, status, ExitStatus::Done, "the first");
+    let mut text = Vec::new(alloc);
+    let status = run_probe(alloc, "probe", &mut link, &mut text);
+    assert_status(rt, status, ExitStatus::Refused, "the second");
+    let wanted = "probe-1 is used already, and nothing was made; its object is 1\n";
+    assert_written(rt, text.as_slice(), wanted, "the second");
+    assert_number(rt, link.server().records().count(), 2);
+    Ok(())
+}
+
+/// A probe that can't tell whether this name is free makes nothing.
+fn probe_unseen(rt: &impl Abort, alloc: Global, script: &str, name: &str) -> Result<(), Fail> {
+    let mut link = link_of(alloc, script)?;
+    let mut text = Vec::new(alloc);
+    let status = run_probe(alloc, "probe", &mut link, &mut text);
+    assert_status(rt, status, ExitStatus::Refused, script);
+    let wanted = format!(in alloc;
+        "no reply: whether {name} is free could not be told; nothing was made\n"
+    )?;
+    assert_written(rt, text.as_slice(), wanted.as_str(), script);
+    assert_number(rt, link.server().records().count(), 0);
     Ok(())
 }

@@ -17,7 +17,7 @@ use std::alloc::Global;
 const PERMISSION_DENIED: u32 = 0xC;
 
 /// A rule that is broken.
-#[derive(Clone, Copy, Debug)]
+#[derive(Clone, Copy)]
 pub(crate) enum Breach {
     /// A Create of the name of an object makes a second one, until one is destroyed.
     SecondObject,

@@ -1,17 +1,19 @@
 //! Probes of a peer that answers each question by a Locate's reply, whatever was asked.
 
+use crate::asserting::{assert_status, assert_written};
 use crate::report::report_of;
+use kmip_commands::ExitStatus;
 use kmip_messages::standard::OPERATION_LOCATE;
 use kmip_messages::{Outcome, Reply, Request, Texts, read_request, reply_fits, write_reply};
 use kmip_probe::run_probe;
 use kmip_schedule::{Link, LinkFault};
 use kmip_ttlv::{Bytes, NoMemory, Text};
 use std::alloc::Global;
-use std::str::from_utf8;
+use std::process::Abort;
 use std::test::Fail;
 
 /// The id of a reply.
-#[derive(Clone, Copy, Debug)]
+#[derive(Clone, Copy)]
 enum Mark {
     /// That of the question.
     Echoed,
@@ -115,36 +117,58 @@ const UNFINISHED: &str =
 
 const UNBELIEVED: &str = "no reply can be believed, and no key is finished\n";
 
-/// The id of each reply, what the line of the ids says, what may go wrong, and the sum.
-const ROWS: [(Mark, &str, &str, &str); 3] = [
-    (Mark::Echoed, "yes", "", UNSURE),
-    (
-        Mark::Missing,
-        "no (a reply has none)",
-        UNBELIEVED,
-        UNFINISHED,
-    ),
-    (
-        Mark::Foreign,
-        "no (a reply has none)",
-        UNBELIEVED,
-        UNFINISHED,
-    ),
+/// The id of each reply, and what is told then.
+struct Row {
+    mark: Mark,
+    /// What the line of the ids says.
+    echoed: &'static str,
+    /// What may go wrong.
+    risks: &'static str,
+    sum: &'static str,
+}
+
+const ROWS: [Row; 3] = [
+    Row {
+        mark: Mark::Echoed,
+        echoed: "yes",
+        risks: "",
+        sum: UNSURE,
+    },
+    Row {
+        mark: Mark::Missing,
+        echoed: "no (a reply has none)",
+        risks: UNBELIEVED,
+        sum: UNFINISHED,
+    },
+    Row {
+        mark: Mark::Foreign,
+        echoed: "no (a reply has none)",
+        risks: UNBELIEVED,
+        sum: UNFINISHED,
+    },
 ];
 
 #[test]
 fn takes_no_success_of_another_operation(rt: HostRuntime) -> Result<(), Fail> {
-    let alloc = rt.alloc();
-    for (mark, echoed, risks, sum) in ROWS {
-        let mut link = Repeating { mark, asked: 0 };
-        let mut text = Vec::new(alloc);
-        let status = run_probe(alloc, "probe", &mut link, &mut text);
-        let told = [
-            "no reply", "no reply", "no reply", "no reply", "yes", "no reply", "no reply", echoed,
-        ];
-        let wanted = report_of(alloc, &told, "none", risks, sum)?;
-        assert_eq!(rt; from_utf8(text.as_slice()), Ok(wanted.as_str()), "{mark:?}");
-        assert_eq!(rt; status.code(), 1, "{mark:?}");
+    for row in &ROWS {
+        probe_row(&rt, rt.alloc(), row)?;
     }
+    Ok(())
+}
+
+/// The probe of a peer whose replies have the id of a row tells what the row says.
+fn probe_row(rt: &impl Abort, alloc: Global, row: &Row) -> Result<(), Fail> {
+    let mut link = Repeating {
+        mark: row.mark,
+        asked: 0,
+    };
+    let mut text = Vec::new(alloc);
+    let status = run_probe(alloc, "probe", &mut link, &mut text);
+    let told = [
+        "no reply", "no reply", "no reply", "no reply", "yes", "no reply", "no reply", row.echoed,
+    ];
+    let wanted = report_of(alloc, &told, "none", row.risks, row.sum)?;
+    assert_written(rt, text.as_slice(), wanted.as_str(), row.echoed);
+    assert_status(rt, status, ExitStatus::Refused, row.echoed);
     Ok(())
 }

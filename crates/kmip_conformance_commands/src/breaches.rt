@@ -1,10 +1,13 @@
 //! Probes of servers that break one rule each: its line says no, and no other does.
 
+use crate::asserting::{assert_status, assert_written};
 use crate::breaking::{Breach, Breaking};
 use crate::report::{ALL, report_of};
+use kmip_commands::ExitStatus;
 use kmip_messages::Step;
 use kmip_probe::run_probe;
-use std::str::from_utf8;
+use std::alloc::Global;
+use std::process::Abort;
 use std::test::Fail;
 
 /// A rule that is broken, and what is told.
@@ -127,23 +130,23 @@ const ROWS: [Row; 12] = [
 
 #[test]
 fn names_the_rule_that_is_broken(rt: HostRuntime) -> Result<(), Fail> {
-    let alloc = rt.alloc();
     for row in &ROWS {
-        let mut link = Breaking::new(alloc, row.breach);
-        let mut text = Vec::new(alloc);
-        let status = run_probe(alloc, "probe", &mut link, &mut text);
-        let mut told = ALL;
-        if let Some(line) = told.get_mut(row.place) {
-            *line = row.said;
-        }
-        let wanted = report_of(alloc, &told, row.reasons, row.risk, row.sum)?;
-        assert_eq!(rt;
-            from_utf8(text.as_slice()),
-            Ok(wanted.as_str()),
-            "{:?}",
-            row.breach
-        );
-        assert_eq!(rt; status.code(), 1, "{:?}", row.breach);
+        probe_row(&rt, rt.alloc(), row)?;
     }
+    Ok(())
+}
+
+/// The probe of a server that breaks the rule of a row tells what the row says.
+fn probe_row(rt: &impl Abort, alloc: Global, row: &Row) -> Result<(), Fail> {
+    let mut link = Breaking::new(alloc, row.breach);
+    let mut text = Vec::new(alloc);
+    let status = run_probe(alloc, "probe", &mut link, &mut text);
+    let mut told = ALL;
+    if let Some(line) = told.get_mut(row.place) {
+        *line = row.said;
+    }
+    let wanted = report_of(alloc, &told, row.reasons, row.risk, row.sum)?;
+    assert_written(rt, text.as_slice(), wanted.as_str(), row.said);
+    assert_status(rt, status, ExitStatus::Refused, row.said);
     Ok(())
 }
