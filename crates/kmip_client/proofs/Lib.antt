@@ -10,3 +10,4 @@ pub mod SavingLemmas
 pub mod OnwardLemmas
 pub mod FactLemmas
 pub mod ProlongedLemmas
+pub mod BatchLemmas

@@ -10,4 +10,5 @@ pub mod Places
 pub mod Justified
 pub mod Truth
 pub mod Held
+pub mod Batches
 pub mod Laws

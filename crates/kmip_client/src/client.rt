@@ -2,6 +2,17 @@
 ghost use Rattle.std.specs.Prelude.{◌≡◌, List, ◌≤◌, ◌<◌, ◌*◌, length, map, drop, Some, None, Ok, Err, IfOk, IfErr, IfSome, IsTrue, OnOk, OnErr, option_map};
 ghost use Rattle.kmip_messages.specs.Fits.{outcome_fits};
 ghost use Rattle.std.specs.List.{AllZip};
+ghost use Rattle.kmip_batches.specs.Members.{may_have};
+ghost use Rattle.kmip_client.specs.Batches.{
+  next_places,
+  next_questions,
+  after_questions,
+  AreAbout,
+  JustifiedQuestions,
+  hear_batch,
+  RefusesBatch,
+  TrueReplies,
+};
 ghost use Rattle.kmip_plan.specs.Limits.{most_keys};
 ghost use Rattle.kmip_plan.specs.Plans.{IsLawful, EachFits};
 ghost use Rattle.kmip_client.specs.Bounding.{most_left};
@@ -26,7 +37,7 @@ ghost use Rattle.kmip_client.specs.Clients.{
   SomeWorks,
   NoneWorks,
 };
-ghost use Rattle.kmip_client.specs.Hearing.{unheard, heard_in, hear, Refuses};
+ghost use Rattle.kmip_client.specs.Hearing.{heard_in, hear, Refuses};
 ghost use Rattle.kmip_client.specs.Held.{Held, TrueProgress};
 ghost use Rattle.kmip_client.specs.Saving.{progress, resume};
 ghost use Rattle.kmip_client.specs.Standing.{AreWithin, counts_of, verdicts_of};
@@ -37,16 +48,17 @@ ghost use Rattle.kmip_client.specs.Truth.{TrueReply, TrueMessage};
 ghost use Rattle.kmip_objects.specs.Objects.{Object};
 ghost use Rattle.kmip_knowledge.specs.Knowledge.{fresh_knowledge};
 
+use crate::batching::{Questions, next_places, questions_at};
 use crate::bounding::most_left;
-use crate::hearing::{Heard, hear_about};
+use crate::hearing::{Heard, hear_about, hear_message, unheard};
 use crate::question::{Question, question_about};
 use crate::saving::{all_knowledge, all_known, count_working};
-use crate::standing::{all_counts, all_verdicts};
+use crate::standing::{all_counts, all_verdicts, verdict_of};
 use crate::subject::subject_of;
 use kmip_chains::Key;
 use kmip_chains::laws::{states_have_places, steps_have_places};
 use kmip_knowledge::{HearFault, Knowledge, Verdict};
-use kmip_messages::{MessageFault, Reply, read_reply};
+use kmip_messages::{Reply, read_reply};
 use kmip_plan::Plan;
 use kmip_plan::laws::keys_have_names;
 use kmip_progress::Progress;
@@ -166,6 +178,36 @@ impl<'p> Client<'p> {
         Ok(Some(question))
     }
 
+    /// The next message, of at most so many questions: about the first keys that are worked on after the
+    /// one asked last, in the order of the plan, which begins again at its end, each once. None where no
+    /// key is worked on.
+    ///
+    /// # Errors
+    /// Where there is no memory for it; the client is then as it was.
+    pub fn ask_batch(&mut self, alloc: Global, most: usize) -> Result<Option<Questions>, NoMemory>
+        requires { IsTrue (may_have most) }
+        ensures questions { IfOk result (λ questions. questions ≡ next_questions most self.old) }
+        ensures about { IfOk result (λ questions. IfSome questions (λ q.
+            AreAbout self.old.keys self.old.knowns (next_places most self.old) q)) }
+        ensures none { IfOk result (λ questions. questions ≡ None
+            → AreSettled self.old.keys self.old.knowns) }
+        ensures justified { (objects : List Object) → Held objects self.old.keys self.old.knowns
+            → IfOk result (λ questions. IfSome questions (λ q.
+            JustifiedQuestions self.old.keys objects q.bytes)) }
+        ensures turn { OnOk result (self.new ≡ after_questions most self.old) }
+        ensures same { OnErr result (self.new ≡ self.old) }
+    {
+        let keys = self.plan.keys();
+        let places = next_places(alloc, keys, self.knowns.as_slice(), self.next, most)?;
+        let Some(last) = places.last() else {
+            return Ok(None);
+        };
+        let next = last + 1;
+        let questions = questions_at(alloc, keys, self.knowns.as_slice(), places.as_slice())?;
+        self.next = next;
+        Ok(Some(questions))
+    }
+
     /// Learns from any bytes that have come, about the key that the reply's id names, whatever was
     /// asked last.
     ///
@@ -209,6 +251,36 @@ impl<'p> Client<'p> {
         let keys = self.plan.keys();
         let subject = subject_of(keys, self.next.saturating_sub(1), &reply.id);
         hear_about(keys, &mut self.knowns, &mut self.working, subject, reply)
+    }
+
+    /// Learns from the replies of a message in turn, each about the key that its id names, whatever was
+    /// asked last. A reply that is refused changes nothing itself.
+    ///
+    /// # Errors
+    /// `Unreadable` where the bytes are no message of replies, and `NoMemory`. The client is then as it
+    /// was.
+    pub fn hear_batch(
+        &mut self,
+        alloc: Global,
+        bytes: &[u8],
+    ) -> Result<Vec<Result<Heard, HearFault>>, HearFault>
+        ensures heard { IfOk result (λ heard.
+            hear_batch self.old bytes.now ≡ Ok (heard.items, self.new.knowns)) }
+        ensures stays { self.new ≡ record self.old { knowns = self.new.knowns } }
+        ensures fault { IfErr result (λ fault. RefusesBatch fault (hear_batch self.old bytes.now)) }
+        ensures same { OnErr result (self.new ≡ self.old) }
+        ensures kept { AllZip IsKept self.old.knowns self.new.knowns }
+        ensures settled { VerdictsStay self.old.keys self.old.knowns self.new.knowns }
+        ensures held { (objects : List Object) → Held objects self.old.keys self.old.knowns
+            → TrueReplies self.old.keys objects bytes.now
+            → Held objects self.new.keys self.new.knowns }
+    {
+        steps_have_places();
+        states_have_places();
+        let keys = self.plan.keys();
+        let likely = self.next.saturating_sub(1);
+        let (knowns, working) = (&mut self.knowns, &mut self.working);
+        hear_message(alloc, keys, knowns, working, likely, bytes)
     }
 
     /// How many steps of the key at a place from 0 are known to have taken effect. Takes no memory.
@@ -297,16 +369,6 @@ impl<'p> Client<'p> {
     }
 }
 
-/// What it is to hear bytes that are no reply.
-fn unheard(fault: MessageFault) -> HearFault
-    ensures { result ≡ unheard fault }
-{
-    match fault {
-        MessageFault::NoMemory => HearFault::NoMemory,
-        other => HearFault::Unreadable(other),
-    }
-}
-
 /// The place of the first key that is worked on from a place on, else from the front.
 fn next_working(keys: &[Key], knowns: &[Knowledge], next: usize) -> Option<usize>
     requires as_many { length knowns.now ≡ length keys.now }
@@ -369,18 +431,6 @@ fn nothing_known(alloc: Global, keys: &[Key]) -> Result<Vec<Knowledge>, NoMemory
         knowns.push(Knowledge::fresh())?;
     }
     Ok(knowns)
-}
-
-fn verdict_of(keys: &[Key], knowns: &[Knowledge], place: usize) -> Verdict
-    ensures { result ≡ verdict_at keys.now knowns.now place }
-{
-    let Some(key) = keys.get(place) else {
-        return Verdict::Working;
-    };
-    let Some(known) = knowns.get(place) else {
-        return Verdict::Working;
-    };
-    known.verdict(key)
 }
 
 /// The key at the place, where it is worked on, is looked at again.

@@ -1,6 +1,12 @@
 //! What a reply teaches a client.
-ghost use Rattle.std.specs.Prelude.{◌≡◌, ◌≤◌, ◌+◌, Ok, Err, IfOk, IfErr, OnErr, Some, is_some, option_map};
+ghost use Rattle.std.specs.Prelude.{◌≡◌, ◌≤◌, ◌+◌, Ok, Err, IfOk, IfErr, IsTrue, OnErr, OnOk, Some, is_some, option_map};
+ghost use Rattle.std.specs.List.{All};
+ghost use Rattle.kmip_messages.specs.BatchItems.{answer_fits};
+ghost use Rattle.kmip_batches.specs.Batches.{replies_read};
+ghost use Rattle.kmip_batches.specs.Items.{replies_in};
+ghost use Rattle.kmip_client.specs.Batches.{hear_all, known_after_each, RefusesBatch};
 ghost use Rattle.kmip_client.specs.Clients.{one_if, working_count};
+ghost use Rattle.kmip_plan.specs.Plans.{IsLawful};
 ghost use Rattle.kmip_knowledge.specs.Knowledge.{is_working};
 ghost use Rattle.kmip_knowledge.specs.Learning.{learn};
 ghost use Rattle.kmip_client.specs.Hearing.{
@@ -12,12 +18,15 @@ ghost use Rattle.kmip_client.specs.Hearing.{
   teach,
   heard_at,
   heard_about,
+  unheard,
 };
 
-use crate::subject::Subject;
+use crate::subject::{Subject, subject_of};
+use kmip_batches::read_reply;
 use kmip_chains::Key;
 use kmip_knowledge::{HearFault, Knowledge, learn};
-use kmip_messages::{Outcome, Reply};
+use kmip_messages::{MessageFault, Outcome, Reply};
+use std::alloc::Global;
 
 /// What a reply was, that a client has learnt from.
 #[derive(Clone, Copy, Debug, PartialEq, Eq)]
@@ -40,6 +49,47 @@ pub enum News {
     Refused,
     /// The key is in conflict now.
     Clash,
+}
+
+/// Learns from each reply of a message in turn, and gives what was heard of each. One that is refused
+/// changes nothing itself. (There are at most eight, so taking the first moves few.)
+///
+/// # Errors
+/// `Unreadable` where the bytes are no message of replies, and `NoMemory`; nothing is learnt then.
+pub(crate) fn hear_message(
+    alloc: Global,
+    keys: &[Key],
+    knowns: &mut Vec<Knowledge>,
+    working: &mut usize,
+    likely: usize,
+    bytes: &[u8],
+) -> Result<Vec<Result<Heard, HearFault>>, HearFault>
+    requires lawful { IsLawful keys.now }
+    requires counted { working.old ≡ working_count keys.now knowns.old.items }
+    ensures heard { IfOk result (λ heard.
+        hear_all keys.now knowns.old.items (replies_read bytes.now)
+        ≡ Ok (heard.items, knowns.new.items)) }
+    ensures known { OnOk result (knowns.new.items
+        ≡ known_after_each keys.now (replies_in bytes.now) knowns.old.items) }
+    ensures fits { OnOk result (All (λ r. IsTrue (answer_fits r)) (replies_in bytes.now)) }
+    ensures fault { IfErr result (λ fault.
+        RefusesBatch fault (hear_all keys.now knowns.old.items (replies_read bytes.now))) }
+    ensures same { OnErr result (knowns.new.items ≡ knowns.old.items) }
+    ensures counted { working.new ≡ working_count keys.now knowns.new.items }
+{
+    let mut replies = match read_reply(alloc, bytes) {
+        Ok(replies) => replies,
+        Err(fault) => return Err(unheard(fault)),
+    };
+    let Ok(mut heard) = Vec::with_capacity(alloc, replies.len()) else {
+        return Err(HearFault::NoMemory);
+    };
+    while !replies.is_empty() {
+        let reply = replies.remove(0);
+        let subject = subject_of(keys, likely, &reply.id);
+        heard.push_reserved(hear_about(keys, knowns, working, subject, reply));
+    }
+    Ok(heard)
 }
 
 /// Learns from a reply about a key.
@@ -179,5 +229,15 @@ fn is_other_operation(told: Option<u32>, operation: u32) -> bool
     match told {
         Some(told) => told != operation,
         None => false,
+    }
+}
+
+/// What it is to hear bytes that are no reply.
+pub(crate) fn unheard(fault: MessageFault) -> HearFault
+    ensures { result ≡ unheard fault }
+{
+    match fault {
+        MessageFault::NoMemory => HearFault::NoMemory,
+        other => HearFault::Unreadable(other),
     }
 }

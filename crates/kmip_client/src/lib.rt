@@ -2,6 +2,7 @@
 //! from any bytes that come back. It knows no network.
 #![tactic(auto)]
 
+mod batching;
 mod bounding;
 mod client;
 mod hearing;
@@ -11,6 +12,7 @@ mod saving;
 mod standing;
 mod subject;
 
+pub use batching::{Part, Parts, Questions};
 pub use client::Client;
 pub use hearing::{Heard, News};
 pub use kmip_knowledge::{Clash, HearFault, Knowledge, Phase, Verdict};

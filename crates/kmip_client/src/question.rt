@@ -63,7 +63,11 @@ pub(crate) fn question_about(
 }
 
 /// The request, with its id.
-fn request_about(alloc: Global, key: &Key, known: &Knowledge) -> Result<Request, NoMemory>
+pub(crate) fn request_about(
+    alloc: Global,
+    key: &Key,
+    known: &Knowledge,
+) -> Result<Request, NoMemory>
     requires { IsShaped key.now known.now }
     ensures { IfOk result (λ request. request ≡ request_about key.now known.now) }
 {

@@ -1,5 +1,6 @@
 //! How it stands with the keys of a plan.
 ghost use Rattle.std.specs.Prelude.{◌≡◌, length, IfOk};
+ghost use Rattle.kmip_client.specs.Clients.{verdict_at};
 ghost use Rattle.kmip_client.specs.Standing.{counts_of, verdicts_of};
 
 use kmip_chains::Key;
@@ -32,4 +33,17 @@ pub(crate) fn all_verdicts(
         verdicts.push(knowns[place].verdict(&keys[place]))?;
     }
     Ok(verdicts)
+}
+
+/// The verdict on the key at a place; that it is worked on where there is none.
+pub(crate) fn verdict_of(keys: &[Key], knowns: &[Knowledge], place: usize) -> Verdict
+    ensures { result ≡ verdict_at keys.now knowns.now place }
+{
+    let Some(key) = keys.get(place) else {
+        return Verdict::Working;
+    };
+    let Some(known) = knowns.get(place) else {
+        return Verdict::Working;
+    };
+    known.verdict(key)
 }

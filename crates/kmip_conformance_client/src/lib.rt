@@ -7,6 +7,8 @@
 #[cfg(test)]
 mod asserting;
 #[cfg(test)]
+mod batches;
+#[cfg(test)]
 mod changing;
 #[cfg(test)]
 mod keeping;

@@ -1,7 +1,7 @@
 //! A client that is talked to: its plan, what is done to it, and how it answers, in words.
 
 use crate::asserting::assert_text;
-use kmip_client::{Client, HearFault, News, Question, Verdict};
+use kmip_client::{Client, HearFault, Heard, News, Question, Verdict};
 use kmip_messages::MessageFault;
 use kmip_plan::{Plan, read_plan};
 use std::alloc::{AllocError, Global};
@@ -65,7 +65,12 @@ fn question_text(alloc: Global, question: &Question, wanted: &str) -> Result<Str
 
 /// The key, the operation and the news of a reply, or the fault.
 pub fn heard(alloc: Global, client: &mut Client<'_>, bytes: &[u8]) -> Result<String, AllocError> {
-    match client.hear(alloc, bytes) {
+    heard_text(alloc, client.hear(alloc, bytes))
+}
+
+/// The same of what was heard.
+pub fn heard_text(alloc: Global, heard: Result<Heard, HearFault>) -> Result<String, AllocError> {
+    match heard {
         Ok(heard) => {
             let news = news_word(heard.news);
             format!(in alloc; "{} {:x} {news}", heard.key, heard.operation)

@@ -1,0 +1,314 @@
+-- Several questions in a message: whose turn it is, and what is learnt of several replies.
+use Rattle.std.proofs.Common.{◌≡◌, ℕ, zero, suc, ◌+◌, ◌≤◌, Bool, true, ◌&&◌, List, [], ◌∷◌, ◌++◌, length, take, drop, Option, Some, Result, Ok, Err, IfOk, OnOk, OnErr, IsTrue, subst, refl, sym, ap, ◌∙◌, inl, inr, arith, append-nil}
+use Rattle.std.proofs.lemmas.Bool.{cases_Bool, and_parts}
+use Rattle.std.proofs.lemmas.List.Elements.{All-nil, All-cons, All-head, All-tail, All-append, All-take}
+use Rattle.std.specs.List.{All, AllZip, list_all, slice_get}
+use Rattle.kmip_objects.specs.Objects.{Object}
+use Rattle.kmip_messages.specs.BatchItems.{answer_fits}
+use Rattle.kmip_messages.specs.Fits.{outcome_fits}
+use Rattle.kmip_messages.specs.RequestFits.{request_fits}
+use Rattle.kmip_messages.specs.declared.reply.Reply.{Reply}
+use Rattle.kmip_messages.specs.declared.request.Request.{Request}
+use Rattle.kmip_messages.specs.Operations.{operation_of}
+use Rattle.kmip_batches.specs.Items.{replies_in}
+use Rattle.kmip_batches.specs.Members.{may_have}
+use Rattle.kmip_batches.specs.Written.{requests_fit}
+use Rattle.kmip_chains.specs.Laws.{NextStepsStand, RevokesAreOfTheRevoked, StepsAreWithin, PlacesAreWithin}
+use Rattle.kmip_chains.specs.declared.key.Key.{Key}
+use Rattle.kmip_plan.specs.Laws.{KeysAreFound}
+use Rattle.kmip_plan.specs.Plans.{IsLawful, EachFits}
+use Rattle.kmip_knowledge.specs.Knowledge.{is_working}
+use Rattle.kmip_knowledge.specs.declared.fault.HearFault.{HearFault}
+use Rattle.kmip_knowledge.specs.declared.knowledge.Knowledge.{Knowledge}
+use Rattle.kmip_client.specs.declared.batching.Part.{Part}
+use Rattle.kmip_client.specs.declared.hearing.Heard.{Heard}
+use Rattle.kmip_client.specs.Batches.{all_working_from, in_turn, next_places, at_place, requests_at, known_after_reply, heard_of, known_after_each, TrueReplies}
+use Rattle.kmip_client.specs.Clients.{ClientState, WorksAt, AreSettled, working_count, VerdictsStay}
+use Rattle.kmip_client.specs.Hearing.{heard_in, subject_of}
+use Rattle.kmip_client.specs.Held.{Held, IsHeld}
+use Rattle.kmip_client.specs.Justified.{Justified}
+use Rattle.kmip_client.specs.Questions.{request_about}
+use Rattle.kmip_client.specs.Shapes.{IsShaped, AreShaped, IsKept}
+use Rattle.kmip_client.specs.Truth.{TrueReply}
+use Rattle.kmip_client.proofs.ClientLemmas.{at_both}
+use Rattle.kmip_client.proofs.HeardLemmas.{all_kept, kept_after, shaped_after, stays_after}
+use Rattle.kmip_client.proofs.HeldLemmas.{held_after, question_justified}
+use Rattle.kmip_client.proofs.QuestionLemmas.{question_fits}
+
+-- ---- whose turn it is
+
+-- what was cut before more came is cut again behind it
+pub cut_twice : {A : Type 0} (n : ℕ) (xs ys : List A) → take n (take n xs ++ ys) ≡ take n (xs ++ ys)
+cut_twice zero xs ys = refl
+cut_twice (suc n) [] ys = refl
+cut_twice (suc n) (x ∷ xs) ys = ap (λ rest. x ∷ rest) (cut_twice n xs ys)
+
+get_drop : {A : Type 0} (n : ℕ) (xs : List A) (i : ℕ) (x : A) → slice_get (drop n xs) i ≡ Some x → slice_get xs (n + i) ≡ Some x
+get_drop zero xs i x is =
+    let sum : i ≡ 0 + i = omega arith in
+    subst (λ m. slice_get xs m ≡ Some x) sum is
+get_drop (suc n) [] i x is = absurd cc
+get_drop (suc n) (a ∷ xs) i x is =
+    let sum : suc (n + i) ≡ suc n + i = omega arith in
+    subst (λ m. slice_get (a ∷ xs) m ≡ Some x) sum (get_drop n xs i x is)
+
+get_take : {A : Type 0} (n : ℕ) (xs : List A) (i : ℕ) (x : A) → slice_get (take n xs) i ≡ Some x → slice_get xs i ≡ Some x
+get_take zero xs i x is = absurd cc
+get_take (suc n) [] i x is = absurd cc
+get_take (suc n) (a ∷ xs) zero x is = is
+get_take (suc n) (a ∷ xs) (suc i) x is = get_take n xs i x is
+
+-- one list is a part of the other, from a place on
+abbrev IsPart : {A : Type 0} → ℕ → List A → List A → Type 0
+IsPart {A} n part xs = (i : ℕ) (x : A) → slice_get part i ≡ Some x → slice_get xs (n + i) ≡ Some x
+
+part_tail : {A : Type 0} (n : ℕ) (a : A) (part xs : List A) → IsPart n (a ∷ part) xs → IsPart (n + 1) part xs
+part_tail n a part xs at = λ i x is.
+    let sum : n + suc i ≡ n + 1 + i = omega arith in
+    subst (λ m. slice_get xs m ≡ Some x) sum (at (suc i) x is)
+
+part_head : {A : Type 0} (n : ℕ) (a : A) (part xs : List A) → IsPart n (a ∷ part) xs → slice_get xs n ≡ Some a
+part_head n a part xs at =
+    let sum : n + 0 ≡ n = omega arith in
+    subst (λ m. slice_get xs m ≡ Some a) sum (at 0 a refl)
+
+front_part : {A : Type 0} (n : ℕ) (xs : List A) → IsPart 0 (take n xs) xs
+front_part n xs = λ i x is.
+    let sum : i ≡ 0 + i = omega arith in
+    subst (λ m. slice_get xs m ≡ Some x) sum (get_take n xs i x is)
+
+works_from : (n : ℕ) (ks : List Key) (os : List Knowledge) (keys : List Key) (knowns : List Knowledge) → IsPart n ks keys → IsPart n os knowns
+    → All (WorksAt keys knowns) (all_working_from n ks os)
+works_from n [] os keys knowns here there = All-nil (WorksAt keys knowns)
+works_from n (k ∷ ks) [] keys knowns here there = All-nil (WorksAt keys knowns)
+works_from n (k ∷ ks) (o ∷ os) keys knowns here there =
+    let more = works_from (n + 1) ks os keys knowns (part_tail n k ks keys here) (part_tail n o os knowns there) in
+    elim (cases_Bool (is_working k o)) [
+      | inl works ↦ rw works
+          (All-cons (WorksAt keys knowns) n (all_working_from (n + 1) ks os)
+          (record { key = k; known = o; key_is = part_head n k ks keys here; known_is = part_head n o os knowns there; works = works }) more)
+      | inr settled ↦ rw settled more
+    ]
+
+-- each key that is asked about is worked on
+pub places_work : (most : ℕ) (c : ClientState) → All (WorksAt c.keys c.knowns) (next_places most c)
+places_work most c =
+    All-take (WorksAt c.keys c.knowns) most (in_turn c)
+    (All-append (WorksAt c.keys c.knowns)
+    (all_working_from c.next (drop c.next c.keys) (drop c.next c.knowns)) (all_working_from 0 (take c.next c.keys) (take c.next c.knowns))
+    (works_from c.next (drop c.next c.keys) (drop c.next c.knowns) c.keys c.knowns (get_drop c.next c.keys) (get_drop c.next c.knowns))
+    (works_from 0 (take c.next c.keys) (take c.next c.knowns) c.keys c.knowns (front_part c.next c.keys) (front_part c.next c.knowns)))
+
+-- ---- none has the turn
+
+none_all : (place : ℕ) (keys : List Key) (knowns : List Knowledge) → length knowns ≡ length keys → all_working_from place keys knowns ≡ [] → AreSettled keys knowns
+none_all place [] [] many none = tt
+none_all place [] (known ∷ knowns) many none = absurd (omega arith)
+none_all place (key ∷ keys) [] many none = absurd (omega arith)
+none_all place (key ∷ keys) (known ∷ knowns) many none =
+    elim (cases_Bool (is_working key known)) [
+      | inl works ↦ absurd (not_none (rw works at none))
+      | inr settled ↦ (settled, none_all (place + 1) keys knowns (omega arith) (rw settled at none))
+    ]
+  where
+    not_none : {xs : List ℕ} {x : ℕ} → (x ∷ xs) ≡ [] → ⊥
+    not_none is = absurd cc
+
+none_parts : (n a b : ℕ) (keys : List Key) (knowns : List Knowledge) → length knowns ≡ length keys → all_working_from a (take n keys) (take n knowns) ≡ []
+    → all_working_from b (drop n keys) (drop n knowns) ≡ [] → AreSettled keys knowns
+none_parts zero a b keys knowns many front behind = none_all b keys knowns many behind
+none_parts (suc n) a b [] [] many front behind = tt
+none_parts (suc n) a b [] (known ∷ knowns) many front behind = absurd (omega arith)
+none_parts (suc n) a b (key ∷ keys) [] many front behind = absurd (omega arith)
+none_parts (suc n) a b (key ∷ keys) (known ∷ knowns) many front behind =
+    elim (cases_Bool (is_working key known)) [
+      | inl works ↦ absurd (not_none (rw works at front))
+      | inr settled ↦ (settled, none_parts n (a + 1) b keys knowns (omega arith) (rw settled at front) behind)
+    ]
+  where
+    not_none : {xs : List ℕ} {x : ℕ} → (x ∷ xs) ≡ [] → ⊥
+    not_none is = absurd cc
+
+cut_none : {A : Type 0} (most : ℕ) (xs : List A) → 1 ≤ most → take most xs ≡ [] → xs ≡ []
+cut_none zero xs some none = absurd (omega arith)
+cut_none (suc most) [] some none = refl
+cut_none (suc most) (x ∷ xs) some none = absurd cc
+
+both_none : {A : Type 0} (xs ys : List A) → xs ++ ys ≡ [] → (xs ≡ []) × (ys ≡ [])
+both_none [] ys none = (refl, none)
+both_none (x ∷ xs) ys none = absurd cc
+
+pub no_places : (most : ℕ) (c : ClientState) → 1 ≤ most → length c.knowns ≡ length c.keys → next_places most c ≡ [] → AreSettled c.keys c.knowns
+no_places most c some many none =
+    let parts = both_none (all_working_from c.next (drop c.next c.keys) (drop c.next c.knowns)) (all_working_from 0 (take c.next c.keys) (take c.next c.knowns))
+    (cut_none most (in_turn c) some none) in
+    none_parts c.next 0 c.next c.keys c.knowns many parts.1 parts.0
+
+-- ---- what is asked
+
+pub at_said : {A : Type 0} (f : ℕ → Key → Knowledge → A) (keys : List Key) (knowns : List Knowledge) (place : ℕ) (key : Key) (known : Knowledge)
+    → slice_get keys place ≡ Some key → slice_get knowns place ≡ Some known → at_place f keys knowns place ≡ Some (f place key known)
+at_said f keys knowns place key known here there = rw (here, there) refl
+
+-- the request about each place that is worked on
+abbrev pub request_there : List Key → List Knowledge → ℕ → Option Request
+request_there keys knowns place = at_place (λ place key known. request_about key known) keys knowns place
+
+asked_there : (keys : List Key) (knowns : List Knowledge) (place : ℕ) (w : WorksAt keys knowns place)
+    → request_there keys knowns place ≡ Some (request_about w.key w.known)
+asked_there keys knowns place w = at_said (λ place key known. request_about key known) keys knowns place w.key w.known w.key_is w.known_is
+
+-- a fact of each request is a fact of all
+each_request : (P : Request → Type 0) (keys : List Key) (knowns : List Knowledge) (places : List ℕ)
+    → ((place : ℕ) (w : WorksAt keys knowns place) → P (request_about w.key w.known)) → All (WorksAt keys knowns) places
+    → All P (requests_at keys knowns places)
+each_request P keys knowns [] one works = All-nil P
+each_request P keys knowns (place ∷ places) one works =
+    let w = All-head (WorksAt keys knowns) place places works in
+    rw (asked_there keys knowns place w)
+    (All-cons P (request_about w.key w.known) (requests_at keys knowns places) (one place w)
+    (each_request P keys knowns places one (All-tail (WorksAt keys knowns) place places works)))
+
+pub requests_justified : (keys : List Key) (objects : List Object) (knowns : List Knowledge) (places : List ℕ) → NextStepsStand → KeysAreFound → IsLawful keys
+    → Held objects keys knowns → All (WorksAt keys knowns) places → All (Justified keys objects) (requests_at keys knowns places)
+requests_justified keys objects knowns places law found lawful held works =
+    each_request (Justified keys objects) keys knowns places
+    (λ place w. question_justified keys objects w.key w.known law (found keys place w.key lawful w.key_is)
+    (at_both (IsHeld objects) keys knowns place w.key w.known held w.key_is w.known_is) w.works) works
+
+pub requests_are_fit : (keys : List Key) (knowns : List Knowledge) (places : List ℕ) → RevokesAreOfTheRevoked → AllZip IsShaped keys knowns → EachFits keys
+    → All (WorksAt keys knowns) places → (list_all request_fits (requests_at keys knowns places) ≡ true) × (length (requests_at keys knowns places) ≡ length places)
+requests_are_fit keys knowns [] law shaped fit works = (refl, refl)
+requests_are_fit keys knowns (place ∷ places) law shaped fit works =
+    let w = All-head (WorksAt keys knowns) place places works in
+    let more = requests_are_fit keys knowns places law shaped fit (All-tail (WorksAt keys knowns) place places works) in
+    let first : request_fits (request_about w.key w.known) ≡ true =
+    question_fits w.key w.known law (fit place w.key w.key_is) (at_both IsShaped keys knowns place w.key w.known shaped w.key_is w.known_is) in
+    rw (asked_there keys knowns place w) (rw (first, more.0) refl, ap suc more.1)
+
+-- once nothing is left, all are there
+pub all_asked : (keys : List Key) (knowns : List Knowledge) (places : List ℕ) (i : ℕ) (rs : List Request) → length places ≤ i
+    → rs ++ requests_at keys knowns (drop i places) ≡ requests_at keys knowns places → rs ≡ requests_at keys knowns places
+all_asked keys knowns places i rs past is =
+    let none : drop i places ≡ [] = drop_past i places past in
+    sym (append-nil rs) ∙ ap (λ left. rs ++ requests_at keys knowns left) (sym none) ∙ is
+  where
+    drop_past : {A : Type 0} (n : ℕ) (xs : List A) → length xs ≤ n → drop n xs ≡ []
+    drop_past zero [] past = refl
+    drop_past zero (x ∷ xs) past = absurd (omega arith)
+    drop_past (suc n) [] past = refl
+    drop_past (suc n) (x ∷ xs) past = drop_past n xs (omega arith)
+
+pub batch_fits : (keys : List Key) (knowns : List Knowledge) (places : List ℕ) (rs : List Request) → RevokesAreOfTheRevoked → AllZip IsShaped keys knowns
+    → EachFits keys → All (WorksAt keys knowns) places → may_have (length places) ≡ true → rs ≡ requests_at keys knowns places → requests_fit rs ≡ true
+batch_fits keys knowns places rs law shaped fit works some is =
+    let each = requests_are_fit keys knowns places law shaped fit works in
+    let many : may_have (length (requests_at keys knowns places)) ≡ true = ap may_have each.1 ∙ some in
+    ap requests_fit is ∙ both many each.0
+  where
+    both : {a b : Bool} → a ≡ true → b ≡ true → (a && b) ≡ true
+    both p q = rw (p, q) refl
+
+-- the part of a message that asks what a request does
+abbrev pub part_of : ℕ → Request → Part
+part_of place r = record { key = place; operation = operation_of r.ask }
+
+-- ---- what is heard
+
+said_ok : (h : Result (Heard × List Knowledge) HearFault) (knowns : List Knowledge) → IfOk (heard_of h) (λ x. h ≡ Ok (x, known_after_reply h knowns))
+said_ok (Ok heard) knowns = refl
+said_ok (Err fault) knowns = tt
+
+said_err : (h : Result (Heard × List Knowledge) HearFault) (knowns : List Knowledge) → OnErr (heard_of h) (known_after_reply h knowns ≡ knowns)
+said_err (Ok heard) knowns = tt
+said_err (Err fault) knowns = refl
+
+outcome_of : (r : Reply) → answer_fits r ≡ true → outcome_fits r.operation r.outcome ≡ true
+outcome_of r fits = (and_parts _ (outcome_fits r.operation r.outcome) fits).1
+
+-- the shape of what is known after one reply, and that nothing was taken back
+pub record Kept (keys : List Key) (knowns nexts : List Knowledge) (next : ℕ) : Type 0 where
+  pub shaped : AreShaped keys nexts next (working_count keys nexts)
+  pub kept : AllZip IsKept knowns nexts
+  pub stays : VerdictsStay keys knowns nexts
+
+kept_on : {knowns mids nexts : Knowledge} → IsKept knowns mids → IsKept mids nexts → IsKept knowns nexts
+kept_on first second = record {
+  identifier_kept = λ uid is. second.identifier_kept uid (first.identifier_kept uid is);
+  done_kept = omega (arith, first.done_kept, second.done_kept);
+}
+
+all_kept_on : (knowns mids nexts : List Knowledge) → AllZip IsKept knowns mids → AllZip IsKept mids nexts → AllZip IsKept knowns nexts
+all_kept_on [] [] [] first second = tt
+all_kept_on [] [] (c ∷ nexts) first second = absurd second
+all_kept_on [] (b ∷ mids) nexts first second = absurd first
+all_kept_on (a ∷ knowns) [] nexts first second = absurd first
+all_kept_on (a ∷ knowns) (b ∷ mids) [] first second = absurd second
+all_kept_on (a ∷ knowns) (b ∷ mids) (c ∷ nexts) first second = (kept_on first.0 second.0, all_kept_on knowns mids nexts first.1 second.1)
+
+stay_on : (keys : List Key) (knowns mids nexts : List Knowledge) → VerdictsStay keys knowns mids → VerdictsStay keys mids nexts → VerdictsStay keys knowns nexts
+stay_on keys knowns mids nexts first second = λ place settled.
+    second place (λ is. settled (sym (first place settled) ∙ is)) ∙ first place settled
+
+kept_by_one : (keys : List Key) (reply : Reply) (knowns : List Knowledge) (next working : ℕ) → StepsAreWithin → PlacesAreWithin → answer_fits reply ≡ true
+    → AreShaped keys knowns next working → Kept keys knowns (known_after_reply (heard_in keys reply knowns) knowns) next
+kept_by_one keys reply knowns next working steps_in places_in fits shaped =
+    let h = heard_in keys reply knowns in
+    let nexts = known_after_reply h knowns in
+    let fine = outcome_of reply fits in record {
+      shaped = shaped_after keys keys reply (subject_of keys reply.id) knowns nexts next working (working_count keys nexts) (heard_of h)
+          steps_in places_in fine refl refl shaped (said_ok h knowns) (said_err h knowns) refl;
+      kept = kept_after keys keys reply (subject_of keys reply.id) knowns nexts next working (heard_of h) steps_in places_in fine refl refl shaped
+          (said_ok h knowns) (said_err h knowns);
+      stays = stays_after keys keys reply (subject_of keys reply.id) knowns nexts (heard_of h) refl refl (said_ok h knowns) (said_err h knowns);
+    }
+
+pub kept_by_each : (keys : List Key) (replies : List Reply) (knowns : List Knowledge) (next working : ℕ) → StepsAreWithin → PlacesAreWithin
+    → All (λ r. IsTrue (answer_fits r)) replies → AreShaped keys knowns next working → Kept keys knowns (known_after_each keys replies knowns) next
+kept_by_each keys [] knowns next working steps_in places_in fits shaped = record {
+  shaped = record { lawful = shaped.lawful; each = shaped.each; turn = shaped.turn; counted = refl };
+  kept = all_kept knowns;
+  stays = λ place settled. refl;
+}
+kept_by_each keys (reply ∷ replies) knowns next working steps_in places_in fits shaped =
+    let nexts = known_after_reply (heard_in keys reply knowns) knowns in
+    let last = known_after_each keys replies nexts in
+    let first = kept_by_one keys reply knowns next working steps_in places_in (All-head (λ r. IsTrue (answer_fits r)) reply replies fits) shaped in
+    let more = kept_by_each keys replies nexts next (working_count keys nexts) steps_in places_in (All-tail (λ r. IsTrue (answer_fits r)) reply replies fits)
+    first.shaped in record {
+      shaped = more.shaped;
+      kept = all_kept_on knowns nexts last first.kept more.kept;
+      stays = stay_on keys knowns nexts last first.stays more.stays;
+    }
+
+pub held_by_each : (objects : List Object) (keys : List Key) (replies : List Reply) (knowns : List Knowledge) → PlacesAreWithin → Held objects keys knowns
+    → All (TrueReply keys objects) replies → Held objects keys (known_after_each keys replies knowns)
+held_by_each objects keys [] knowns places_in held so = held
+held_by_each objects keys (reply ∷ replies) knowns places_in held so =
+    let h = heard_in keys reply knowns in
+    let nexts = known_after_reply h knowns in
+    held_by_each objects keys replies nexts places_in
+    (held_after objects keys keys reply (subject_of keys reply.id) knowns nexts (heard_of h) places_in refl refl (said_ok h knowns) (said_err h knowns) held
+    (All-head (TrueReply keys objects) reply replies so))
+    (All-tail (TrueReply keys objects) reply replies so)
+
+-- ---- after a call that may have refused the message
+
+pub kept_by_message : {A : Type 0} (keys ks : List Key) (given : List ℕ) (knowns nexts : List Knowledge) (next working : ℕ) (r : Result A HearFault)
+    → StepsAreWithin → PlacesAreWithin → ks ≡ keys → OnOk r (nexts ≡ known_after_each ks (replies_in given) knowns)
+    → OnOk r (All (λ x. IsTrue (answer_fits x)) (replies_in given)) → OnErr r (nexts ≡ knowns) → AreShaped keys knowns next working
+    → Kept keys knowns nexts next
+kept_by_message keys ks given knowns nexts next working (Ok heard) steps_in places_in same is fits unchanged shaped =
+    let own : nexts ≡ known_after_each keys (replies_in given) knowns = subst (λ k. nexts ≡ known_after_each k (replies_in given) knowns) same is in
+    subst (λ k. Kept keys knowns k next) (sym own) (kept_by_each keys (replies_in given) knowns next working steps_in places_in fits shaped)
+kept_by_message keys ks given knowns nexts next working (Err fault) steps_in places_in same is fits unchanged shaped =
+    subst (λ k. Kept keys knowns k next) (sym unchanged)
+    (kept_by_each keys [] knowns next working steps_in places_in (All-nil (λ x. IsTrue (answer_fits x))) shaped)
+
+pub held_by_message : {A : Type 0} (objects : List Object) (keys ks : List Key) (given : List ℕ) (knowns nexts : List Knowledge) (r : Result A HearFault)
+    → PlacesAreWithin → ks ≡ keys → OnOk r (nexts ≡ known_after_each ks (replies_in given) knowns) → OnErr r (nexts ≡ knowns)
+    → Held objects keys knowns → TrueReplies keys objects given → Held objects keys nexts
+held_by_message objects keys ks given knowns nexts (Ok heard) places_in same is unchanged held so =
+    let own : nexts ≡ known_after_each keys (replies_in given) knowns = subst (λ k. nexts ≡ known_after_each k (replies_in given) knowns) same is in
+    subst (λ k. Held objects keys k) (sym own) (held_by_each objects keys (replies_in given) knowns places_in held so)
+held_by_message objects keys ks given knowns nexts (Err fault) places_in same is unchanged held so = subst (λ k. Held objects keys k) (sym unchanged) held
