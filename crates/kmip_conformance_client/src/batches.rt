@@ -7,6 +7,7 @@ use crate::asserting::assert_text;
 use crate::talking::{heard_text, plan_of};
 use kmip_client::{Client, HearFault, Heard, Part};
 use std::alloc::Global;
+use std::process::Abort;
 use std::test::Fail;
 
 /// Locates of `a` and of `b`, all of which are to be answered.
@@ -40,11 +41,13 @@ const OF_C: &str = "0000000208630000";
 /// The key and the operation of each question of the next message, which is the wanted one where one is
 /// wanted.
 fn asked(
+    rt: &impl Abort,
     alloc: Global,
     client: &mut Client<'_>,
     most: usize,
     wanted: &str,
 ) -> Result<String, Fail> {
+    assert!(rt; 1 <= most && most <= 8);
     let mut text = String::new(alloc);
     let Some(questions) = client.ask_batch(alloc, most)? else {
         return Ok(text);
@@ -97,20 +100,20 @@ fn asks_about_both(rt: HostRuntime) -> Result<(), Fail> {
     let alloc = rt.alloc();
     let plan = plan_of(alloc, &["a", "b"], "created")?;
     let mut client = Client::fresh(alloc, &plan)?;
-    let text = asked(alloc, &mut client, 8, LOCATE_BOTH)?;
+    let text = asked(&rt, alloc, &mut client, 8, LOCATE_BOTH)?;
     assert_text(&rt, text.as_str(), "0 8;1 8;", "both are located");
     let foreign = NONE_OF_BOTH.replace(alloc, OF_A, OF_C)?;
     let text = heard(alloc, &mut client, foreign.as_str())?;
     assert_text(&rt, text.as_str(), "StrangerId;1 8 Same;", "one is foreign");
-    let text = asked(alloc, &mut client, 1, "")?;
+    let text = asked(&rt, alloc, &mut client, 1, "")?;
     assert_text(&rt, text.as_str(), "0 8;", "one is asked");
-    let text = asked(alloc, &mut client, 8, "")?;
+    let text = asked(&rt, alloc, &mut client, 8, "")?;
     assert_text(&rt, text.as_str(), "1 1;0 8;", "the turn passes on");
     let text = heard(alloc, &mut client, NONE_OF_BOTH)?;
     assert_text(&rt, text.as_str(), "0 8 Same;1 8 Same;", "neither is found");
     let text = heard(alloc, &mut client, "00")?;
     assert_text(&rt, text.as_str(), "Unreadable Ttlv;", "no message");
-    let text = asked(alloc, &mut client, 2, "")?;
+    let text = asked(&rt, alloc, &mut client, 2, "")?;
     assert_text(&rt, text.as_str(), "1 1;0 1;", "both are made");
     Ok(())
 }
