@@ -71,8 +71,8 @@ pub struct Questions {
     pub bytes: Bytes,
 }
 
-/// The places of the first keys, at most so many, that are worked on: from a place on, and then from
-/// the front.
+/// The places of the first keys, at most so many, that are worked on: from a place on, and then
+/// from the front.
 ///
 /// # Errors
 /// Where there is no memory for them.
