@@ -178,9 +178,9 @@ impl<'p> Client<'p> {
         Ok(Some(question))
     }
 
-    /// The next message, of at most so many questions: about the first keys that are worked on after
-    /// the one asked last, in the order of the plan, which begins again at its end, each once. None
-    /// where no key is worked on.
+    /// The next message, of at most so many questions: about the first keys that are worked on
+    /// after the one asked last, in the order of the plan, which begins again at its end, each
+    /// once. None where no key is worked on.
     ///
     /// # Errors
     /// Where there is no memory for it; the client is then as it was.
@@ -257,8 +257,8 @@ impl<'p> Client<'p> {
     /// was asked last. A reply that is refused changes nothing itself.
     ///
     /// # Errors
-    /// `Unreadable` where the bytes are no message of replies, and `NoMemory`. The client is then as
-    /// it was.
+    /// `Unreadable` where the bytes are no message of replies, and `NoMemory`. The client is then
+    /// as it was.
     pub fn hear_batch(
         &mut self,
         alloc: Global,

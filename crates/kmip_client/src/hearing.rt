@@ -51,8 +51,8 @@ pub enum News {
     Clash,
 }
 
-/// Learns from each reply of a message in turn, and gives what was heard of each. One that is refused
-/// changes nothing itself. (There are at most eight, so taking the first moves few.)
+/// Learns from each reply of a message in turn, and gives what was heard of each. One that is
+/// refused changes nothing itself. (There are at most eight, so taking the first moves few.)
 ///
 /// # Errors
 /// `Unreadable` where the bytes are no message of replies, and `NoMemory`; nothing is learnt then.
