@@ -24,7 +24,7 @@ use Rattle.kmip_messages.specs.Whole.{item_in}
 use Rattle.kmip_messages.proofs.BatchItemLaws.{whole-law, whole-complete, question_in_range, refusal_in_range, answer_in_range}
 use Rattle.kmip_batches.specs.declared.batch.Batch.{Batch}
 use Rattle.kmip_batches.specs.Batches.{IsBatch, AreReplies, batch_at, batch_read, replies_at, replies_read}
-use Rattle.kmip_batches.specs.Items.{refusal_of, parts_of, parts_in, stops_with, stops_of, stops_in, requests_in, replies_of, replies_in}
+use Rattle.kmip_batches.specs.Items.{refusal_of, parts_of, parts_in, stops_with, stops_of, stops_in, requests_in, replies_of, replies_in, ReadAreSaid, SaidAreRead}
 use Rattle.kmip_batches.specs.Members.{may_have, SayEach}
 use Rattle.kmip_batches.specs.Ranges.{QuestionFits}
 use Rattle.kmip_batches.specs.Written.{requests_item, batch_of, requests_fit, replies_item, replies_fit}
@@ -106,6 +106,10 @@ parts_are_few bytes = few_of (batch_read bytes) (batch_few bytes)
 pub parts_fit : (bytes : List ℕ) → All QuestionFits (parts_in bytes)
 unfolding parts_in
 parts_fit bytes = fit_of (batch_read bytes) (batch_fits bytes)
+
+pub requests_of_parts : (bytes : List ℕ) → requests_in bytes ≡ filter_map result_ok (parts_in bytes)
+unfolding requests_in
+requests_of_parts bytes = refl
 
 -- what a reader of requests gave
 pub given_fits : (bytes : List ℕ) (answer : Result Batch MessageFault) → Gives (λ b. b) answer (batch_read bytes) → IfOk answer (λ b. All QuestionFits b.items)
@@ -209,6 +213,18 @@ pub given_nothing : {X : Type 0} (view : X → List Reply) (bytes : List ℕ) (a
 unfolding replies_in
 given_nothing view bytes (Ok x) gives = tt
 given_nothing view bytes (Err fault) gives = λ other. ap replies_of (failed_as fault (replies_read bytes) gives other)
+
+read_so : (read : Result (List Reply) MessageFault) (reply : Reply) (replies : List Reply) → replies_of read ≡ reply ∷ replies → read ≡ Ok (reply ∷ replies)
+read_so (Ok rs) reply replies is = ap (λ all. Ok all) is
+read_so (Err fault) reply replies is = absurd cc
+
+pub read_is_said : ReadAreSaid
+unfolding replies_in
+read_is_said bytes replies is = ap replies_of is
+
+pub said_is_read : SaidAreRead
+unfolding replies_in
+said_is_read bytes reply replies is = read_so (replies_read bytes) reply replies is
 
 -- the bytes of an item that is the replies', behind none
 pub written_says : (rs : List Reply) (now : ℤ) (item : Node) (front bytes : List ℕ) → IsTrue (replies_fit rs) → item ≡ replies_item rs now → IsInRange item

@@ -1,6 +1,6 @@
 -- What some bytes ask and say, as lists.
 -- Source: KMIP 2.1, Message Structure; that a message which is refused whole counts as one question is own.
-use Rattle.std.specs.Prelude.{ℕ, Bool, true, false, not, ◌==◌, List, [], ◌∷◌, Option, None, Result, Ok, Err}
+use Rattle.std.specs.Prelude.{◌≡◌, ℕ, Bool, true, false, not, ◌==◌, List, [], ◌∷◌, Option, None, Result, Ok, Err}
 use Rattle.std.specs.List.{filter_map}
 use Rattle.std.specs.Option.{option_map_or}
 use Rattle.std.specs.Result.{result_ok}
@@ -43,6 +43,10 @@ stops_in bytes = stops_of (batch_read bytes)
 unfoldable pub requests_in : List ℕ → List Request
 requests_in bytes = filter_map result_ok (parts_in bytes)
 
+-- the bytes ask this request alone
+abbrev pub AsksAlone : List ℕ → Request → Type 0
+AsksAlone bytes request = (requests_in bytes ≡ request ∷ []) × (parts_in bytes ≡ Ok request ∷ [])
+
 -- ---- said
 
 -- the replies that were read
@@ -53,3 +57,13 @@ replies_of (Err fault) = []
 -- the replies in the bytes; none where they are no message of replies
 unfoldable pub replies_in : List ℕ → List Reply
 replies_in bytes = replies_of (replies_read bytes)
+
+-- what is read of some bytes they say
+abbrev pub ReadAreSaid : Type 0
+ReadAreSaid = (bytes : List ℕ) (replies : List Reply) → replies_read bytes ≡ Ok replies → replies_in bytes ≡ replies
+
+-- bytes that say some replies are read as these
+abbrev pub SaidAreRead : Type 0
+SaidAreRead =
+    (bytes : List ℕ) (reply : Reply) (replies : List Reply) → replies_in bytes ≡ reply ∷ replies
+    → replies_read bytes ≡ Ok (reply ∷ replies)

@@ -1,7 +1,7 @@
 -- Several questions in a message: whose turn it is, and what is learnt of several replies.
-use Rattle.std.proofs.Common.{◌≡◌, ℕ, zero, suc, ◌+◌, ◌≤◌, Bool, true, ◌&&◌, List, [], ◌∷◌, ◌++◌, length, take, drop, Option, Some, Result, Ok, Err, IfOk, OnOk, OnErr, IsTrue, subst, refl, sym, ap, ◌∙◌, inl, inr, arith, append-nil}
+use Rattle.std.proofs.Common.{◌≡◌, ◌≢◌, ℕ, zero, suc, ◌+◌, ◌≤◌, ◌<◌, Bool, true, ◌&&◌, List, [], ◌∷◌, ◌++◌, length, take, drop, Option, Some, Result, Ok, Err, IfOk, OnOk, OnErr, IsTrue, subst, refl, sym, ap, ◌∙◌, inl, inr, arith, append-nil}
 use Rattle.std.proofs.lemmas.Bool.{cases_Bool, and_parts}
-use Rattle.std.proofs.lemmas.List.Elements.{All-nil, All-cons, All-head, All-tail, All-append, All-take}
+use Rattle.std.proofs.lemmas.List.Elements.{All-nil, All-cons, All-head, All-tail, All-append, All-take, All-weaker}
 use Rattle.std.specs.List.{All, AllZip, list_all, slice_get}
 use Rattle.kmip_objects.specs.Objects.{Object}
 use Rattle.kmip_messages.specs.BatchItems.{answer_fits}
@@ -22,14 +22,14 @@ use Rattle.kmip_knowledge.specs.declared.fault.HearFault.{HearFault}
 use Rattle.kmip_knowledge.specs.declared.knowledge.Knowledge.{Knowledge}
 use Rattle.kmip_client.specs.declared.batching.Part.{Part}
 use Rattle.kmip_client.specs.declared.hearing.Heard.{Heard}
-use Rattle.kmip_client.specs.Batches.{all_working_from, in_turn, next_places, at_place, requests_at, known_after_reply, heard_of, known_after_each, TrueReplies}
+use Rattle.kmip_client.specs.Batches.{all_working_from, in_turn, next_places, at_place, at_places, requests_at, known_after_reply, heard_of, known_after_each, AreApart}
 use Rattle.kmip_client.specs.Clients.{ClientState, WorksAt, AreSettled, working_count, VerdictsStay}
 use Rattle.kmip_client.specs.Hearing.{heard_in, subject_of}
 use Rattle.kmip_client.specs.Held.{Held, IsHeld}
 use Rattle.kmip_client.specs.Justified.{Justified}
 use Rattle.kmip_client.specs.Questions.{request_about}
 use Rattle.kmip_client.specs.Shapes.{IsShaped, AreShaped, IsKept}
-use Rattle.kmip_client.specs.Truth.{TrueReply}
+use Rattle.kmip_client.specs.Truth.{TrueReply, TrueMessage}
 use Rattle.kmip_client.proofs.ClientLemmas.{at_both}
 use Rattle.kmip_client.proofs.HeardLemmas.{all_kept, kept_after, shaped_after, stays_after}
 use Rattle.kmip_client.proofs.HeldLemmas.{held_after, question_justified}
@@ -98,6 +98,64 @@ places_work most c =
     (all_working_from c.next (drop c.next c.keys) (drop c.next c.knowns)) (all_working_from 0 (take c.next c.keys) (take c.next c.knowns))
     (works_from c.next (drop c.next c.keys) (drop c.next c.knowns) c.keys c.knowns (get_drop c.next c.keys) (get_drop c.next c.knowns))
     (works_from 0 (take c.next c.keys) (take c.next c.knowns) c.keys c.knowns (front_part c.next c.keys) (front_part c.next c.knowns)))
+
+-- ---- each once
+
+-- the places of some keys lie within their list
+within_from : (n : ℕ) (keys : List Key) (knowns : List Knowledge) → All (λ p. (n ≤ p) × (p < n + length keys)) (all_working_from n keys knowns)
+within_from n [] knowns = All-nil (λ p. (n ≤ p) × (p < n + 0))
+within_from n (key ∷ keys) [] = All-nil (λ p. (n ≤ p) × (p < n + length (key ∷ keys)))
+within_from n (key ∷ keys) (known ∷ knowns) =
+    let more = All-weaker (λ p. (n + 1 ≤ p) × (p < n + 1 + length keys)) (λ p. (n ≤ p) × (p < n + length (key ∷ keys)))
+    (λ p is. (omega (arith, is.0), omega (arith, is.1))) (all_working_from (n + 1) keys knowns) (within_from (n + 1) keys knowns) in
+    elim (cases_Bool (is_working key known)) [
+      | inl works ↦ rw works
+          (All-cons (λ p. (n ≤ p) × (p < n + length (key ∷ keys))) n (all_working_from (n + 1) keys knowns) (omega arith, omega arith) more)
+      | inr settled ↦ rw settled more
+    ]
+
+apart_from : (n : ℕ) (keys : List Key) (knowns : List Knowledge) → AreApart (all_working_from n keys knowns)
+apart_from n [] knowns = tt
+apart_from n (key ∷ keys) [] = tt
+apart_from n (key ∷ keys) (known ∷ knowns) =
+    let others = All-weaker (λ p. (n + 1 ≤ p) × (p < n + 1 + length keys)) (λ p. p ≢ n)
+    (λ p is. λ same. absurd (omega (arith, is.0, same))) (all_working_from (n + 1) keys knowns) (within_from (n + 1) keys knowns) in
+    elim (cases_Bool (is_working key known)) [
+      | inl works ↦ rw works (others, apart_from (n + 1) keys knowns)
+      | inr settled ↦ rw settled (apart_from (n + 1) keys knowns)
+    ]
+
+-- places from one on, and then places below it
+apart_both : (n : ℕ) (behind front : List ℕ) → AreApart behind → AreApart front → All (λ p. n ≤ p) behind → All (λ p. p < n) front → AreApart (behind ++ front)
+apart_both n [] front one two high low = two
+apart_both n (place ∷ behind) front one two high low =
+    let from : n ≤ place = All-head (λ p. n ≤ p) place behind high in (
+      All-append (λ p. p ≢ place) behind front one.0 (All-weaker (λ p. p < n) (λ p. p ≢ place) (λ p below. λ same. absurd (omega (arith, from, below, same))) front low),
+      apart_both n behind front one.1 two (All-tail (λ p. n ≤ p) place behind high) low,
+    )
+
+apart_cut : (most : ℕ) (places : List ℕ) → AreApart places → AreApart (take most places)
+apart_cut zero places apart = tt
+apart_cut (suc most) [] apart = tt
+apart_cut (suc most) (place ∷ places) apart = (All-take (λ p. p ≢ place) most places apart.0, apart_cut most places apart.1)
+
+few_cut : {A : Type 0} (n : ℕ) (xs : List A) → length (take n xs) ≤ n
+few_cut zero xs = omega arith
+few_cut (suc n) [] = omega arith
+few_cut (suc n) (x ∷ xs) = omega (arith, few_cut n xs)
+
+-- no key is asked about twice
+pub places_apart : (most : ℕ) (c : ClientState) → AreApart (next_places most c)
+places_apart most c =
+    let behind : List ℕ = all_working_from c.next (drop c.next c.keys) (drop c.next c.knowns) in
+    let front : List ℕ = all_working_from 0 (take c.next c.keys) (take c.next c.knowns) in
+    let few = few_cut c.next c.keys in
+    apart_cut most (in_turn c)
+    (apart_both c.next behind front (apart_from c.next (drop c.next c.keys) (drop c.next c.knowns)) (apart_from 0 (take c.next c.keys) (take c.next c.knowns))
+    (All-weaker (λ p. (c.next ≤ p) × (p < c.next + length (drop c.next c.keys))) (λ p. c.next ≤ p) (λ p is. is.0) behind
+    (within_from c.next (drop c.next c.keys) (drop c.next c.knowns)))
+    (All-weaker (λ p. (0 ≤ p) × (p < 0 + length (take c.next c.keys))) (λ p. p < c.next) (λ p is. omega (arith, is.1, few)) front
+    (within_from 0 (take c.next c.keys) (take c.next c.knowns))))
 
 -- ---- none has the turn
 
@@ -187,11 +245,11 @@ requests_are_fit keys knowns (place ∷ places) law shaped fit works =
     rw (asked_there keys knowns place w) (rw (first, more.0) refl, ap suc more.1)
 
 -- once nothing is left, all are there
-pub all_asked : (keys : List Key) (knowns : List Knowledge) (places : List ℕ) (i : ℕ) (rs : List Request) → length places ≤ i
-    → rs ++ requests_at keys knowns (drop i places) ≡ requests_at keys knowns places → rs ≡ requests_at keys knowns places
-all_asked keys knowns places i rs past is =
+pub all_there : {A : Type 0} (f : ℕ → Key → Knowledge → A) (keys : List Key) (knowns : List Knowledge) (places : List ℕ) (i : ℕ) (xs : List A)
+    → length places ≤ i → xs ++ at_places f keys knowns (drop i places) ≡ at_places f keys knowns places → xs ≡ at_places f keys knowns places
+all_there f keys knowns places i xs past is =
     let none : drop i places ≡ [] = drop_past i places past in
-    sym (append-nil rs) ∙ ap (λ left. rs ++ requests_at keys knowns left) (sym none) ∙ is
+    sym (append-nil xs) ∙ ap (λ left. xs ++ at_places f keys knowns left) (sym none) ∙ is
   where
     drop_past : {A : Type 0} (n : ℕ) (xs : List A) → length xs ≤ n → drop n xs ≡ []
     drop_past zero [] past = refl
@@ -223,7 +281,7 @@ said_err : (h : Result (Heard × List Knowledge) HearFault) (knowns : List Knowl
 said_err (Ok heard) knowns = tt
 said_err (Err fault) knowns = refl
 
-outcome_of : (r : Reply) → answer_fits r ≡ true → outcome_fits r.operation r.outcome ≡ true
+pub outcome_of : (r : Reply) → answer_fits r ≡ true → outcome_fits r.operation r.outcome ≡ true
 outcome_of r fits = (and_parts _ (outcome_fits r.operation r.outcome) fits).1
 
 -- the shape of what is known after one reply, and that nothing was taken back
@@ -307,7 +365,7 @@ kept_by_message keys ks given knowns nexts next working (Err fault) steps_in pla
 
 pub held_by_message : {A : Type 0} (objects : List Object) (keys ks : List Key) (given : List ℕ) (knowns nexts : List Knowledge) (r : Result A HearFault)
     → PlacesAreWithin → ks ≡ keys → OnOk r (nexts ≡ known_after_each ks (replies_in given) knowns) → OnErr r (nexts ≡ knowns)
-    → Held objects keys knowns → TrueReplies keys objects given → Held objects keys nexts
+    → Held objects keys knowns → TrueMessage keys objects given → Held objects keys nexts
 held_by_message objects keys ks given knowns nexts (Ok heard) places_in same is unchanged held so =
     let own : nexts ≡ known_after_each keys (replies_in given) knowns = subst (λ k. nexts ≡ known_after_each k (replies_in given) knowns) same is in
     subst (λ k. Held objects keys k) (sym own) (held_by_each objects keys (replies_in given) knowns places_in held so)

@@ -3,8 +3,8 @@ use Rattle.std.proofs.Common.{◌≡◌, ℕ, zero, suc, Bool, nat_lt, List, [],
 use Rattle.std.proofs.lemmas.Bool.{cases_Bool}
 use Rattle.std.specs.List.{slice_get}
 use Rattle.std.specs.Option.{is_some}
-use Rattle.kmip_messages.specs.Items.{replies_in}
-use Rattle.kmip_messages.specs.Whole.{reply_read}
+use Rattle.kmip_batches.specs.Items.{replies_in}
+use Rattle.kmip_batches.specs.Batches.{replies_read}
 use Rattle.kmip_objects.specs.declared.attributes.Attrs.{Attrs}
 use Rattle.kmip_messages.specs.declared.reply.Outcome.{Outcome}
 use Rattle.kmip_messages.specs.declared.reply.Outcome.TheVariants.{Created, Located, Attributes, Activated, Revoked, Destroyed, Failed}
@@ -14,7 +14,7 @@ use Rattle.kmip_objects.specs.declared.step.Step.TheVariants as steps
 use Rattle.kmip_chains.specs.Chains.{place_of, step_place}
 use Rattle.kmip_chains.specs.declared.key.Key.{Key}
 use Rattle.kmip_client.specs.Clients.{ClientState, changed_by, lost_at, lost_working}
-use Rattle.kmip_client.specs.Hearing.{first_heard, has_failed, heard_about, heard_by, is_other_operation, subject_of, teach, unreadable, with_heard, with_news}
+use Rattle.kmip_client.specs.Hearing.{has_failed, heard_alone, heard_about, heard_by, is_other_operation, subject_of, teach, unreadable, with_heard, with_news}
 use Rattle.kmip_knowledge.specs.Knowledge.{is_working}
 use Rattle.kmip_knowledge.specs.Learning.{attributes_learnt, created_learnt, enter, is_known, is_named, is_other, is_planned, learn, located_learnt, place_learnt, raise, state_learnt, step_learnt}
 use Rattle.kmip_knowledge.specs.declared.fault.HearFault.{HearFault}
@@ -210,15 +210,16 @@ heard_about_blind keys reply (Some subject) xs ys same =
           (fact_at xs ys subject.key same))
     ]
 
-first_blind : (keys : List Key) (fault : HearFault) (replies : List Reply) (xs ys : List Knowledge) → facts xs ≡ facts ys
-    → facts (knowns_heard xs (first_heard keys fault replies xs)) ≡ facts (knowns_heard ys (first_heard keys fault replies ys))
-first_blind keys fault [] xs ys same = same
-first_blind keys fault (reply ∷ replies) xs ys same = heard_about_blind keys reply (subject_of keys reply.id) xs ys same
+alone_blind : (keys : List Key) (fault : HearFault) (replies : List Reply) (xs ys : List Knowledge) → facts xs ≡ facts ys
+    → facts (knowns_heard xs (heard_alone keys fault replies xs)) ≡ facts (knowns_heard ys (heard_alone keys fault replies ys))
+alone_blind keys fault [] xs ys same = same
+alone_blind keys fault (reply ∷ []) xs ys same = heard_about_blind keys reply (subject_of keys reply.id) xs ys same
+alone_blind keys fault (reply ∷ other ∷ replies) xs ys same = same
 
 pub heard_blind : (keys : List Key) (xs ys : List Knowledge) (answer : Option (List ℕ)) → facts xs ≡ facts ys
     → facts (heard keys xs answer) ≡ facts (heard keys ys answer)
 heard_blind keys xs ys None same = same
-heard_blind keys xs ys (Some bytes) same = first_blind keys (unreadable (reply_read bytes)) (replies_in bytes) xs ys same
+heard_blind keys xs ys (Some bytes) same = alone_blind keys (unreadable (replies_read bytes)) (replies_in bytes) xs ys same
 
 -- ---- an answer that is lost
 

@@ -5,7 +5,7 @@ use Rattle.std.proofs.lemmas.Bool.Decides.{Decides-int_eq}
 use Rattle.std.specs.List.{All, slice_get}
 use Rattle.std.specs.Option.{is_some, option_map_or, unwrap_or}
 use Rattle.std.specs.Ordering.{int_eq}
-use Rattle.kmip_messages.specs.Items.{requests_in}
+use Rattle.kmip_batches.specs.Items.{requests_in}
 use Rattle.kmip_objects.specs.Objects.{Object}
 use Rattle.kmip_messages.specs.declared.reply.Outcome.{Outcome}
 use Rattle.kmip_messages.specs.declared.reply.Outcome.TheVariants.{Created, Located, Attributes, Activated, Revoked, Destroyed, Failed}

@@ -3,7 +3,7 @@ use Rattle.std.proofs.Common.{◌≡◌, ℕ, zero, suc, ◌+◌, ◌≤◌, ◌
 use Rattle.std.proofs.lemmas.Bool.{cases_Bool}
 use Rattle.std.proofs.lemmas.Option.{slice_get_read}
 use Rattle.std.specs.List.{slice_get}
-use Rattle.kmip_messages.specs.Items.{AsksAlone}
+use Rattle.kmip_batches.specs.Items.{AsksAlone}
 use Rattle.kmip_chains.specs.declared.key.Key.{Key}
 use Rattle.kmip_knowledge.specs.declared.knowledge.Knowledge.{Knowledge}
 use Rattle.kmip_client.specs.declared.question.Question.{Question}

@@ -1,16 +1,15 @@
 -- Several questions in one message, each about another key, and what is learnt of the replies to them.
 -- Source: KMIP 2.1, Message Structure (Batch Item, Unique Batch Item ID); whose turn it is, and that each reply is judged for itself, are own.
-use Rattle.std.specs.Prelude.{◌≡◌, ℕ, ◌+◌, ◌-◌, cond, List, [], ◌∷◌, ◌++◌, length, map, Option, Some, None, Result, Ok, Err, slice_get, take, drop}
+use Rattle.std.specs.Prelude.{◌≡◌, ◌≢◌, ℕ, ◌+◌, ◌-◌, nat_le, not, ⊤, cond, List, [], ◌∷◌, ◌++◌, length, map, Option, Some, None, Result, Ok, Err, slice_get, take, drop}
 use Rattle.std.specs.List.{All, filter_map}
 use Rattle.std.specs.Option.{option_map, option_map_or, option_and_then}
 use Rattle.kmip_ttlv.specs.Spelling.{canon}
 use Rattle.kmip_fields.specs.declared.fault.MessageFault.{MessageFault}
-use Rattle.kmip_objects.specs.Objects.{Object}
 use Rattle.kmip_messages.specs.Operations.{operation_of}
 use Rattle.kmip_messages.specs.declared.reply.Reply.{Reply}
 use Rattle.kmip_messages.specs.declared.request.Request.{Request}
 use Rattle.kmip_batches.specs.Batches.{replies_read}
-use Rattle.kmip_batches.specs.Items.{parts_in, replies_in, requests_in}
+use Rattle.kmip_batches.specs.Items.{parts_in, requests_in, stops_in}
 use Rattle.kmip_batches.specs.Written.{requests_item}
 use Rattle.kmip_chains.specs.declared.key.Key.{Key}
 use Rattle.kmip_knowledge.specs.Knowledge.{is_working}
@@ -20,11 +19,9 @@ use Rattle.kmip_knowledge.specs.declared.knowledge.Knowledge.{Knowledge}
 use Rattle.kmip_client.specs.declared.batching.Part.{Part}
 use Rattle.kmip_client.specs.declared.batching.Questions.{Questions}
 use Rattle.kmip_client.specs.declared.hearing.Heard.{Heard}
-use Rattle.kmip_client.specs.Clients.{ClientState}
+use Rattle.kmip_client.specs.Clients.{ClientState, WorksAt}
 use Rattle.kmip_client.specs.Hearing.{heard_in}
-use Rattle.kmip_client.specs.Justified.{Justified}
 use Rattle.kmip_client.specs.Questions.{ask_about, request_about}
-use Rattle.kmip_client.specs.Truth.{TrueReply}
 
 -- ---- asked
 
@@ -81,15 +78,20 @@ turn_behind places next = option_map_or (λ place. place + 1) (slice_get places 
 abbrev pub after_questions : ℕ → ClientState → ClientState
 after_questions most c = record c { next = turn_behind (next_places most c) c.next }
 
--- the message asks about the keys of a plan at some places, each worked on, what its phase asks, and nothing else
+-- no place stands twice
+abbrev pub AreApart : List ℕ → Type 0
+AreApart [] = ⊤
+AreApart (place ∷ places) = All (λ other. other ≢ place) places × AreApart places
+
+-- The message asks about the keys of a plan at some places, each worked on and each once, what its phase asks, and nothing else; where
+-- there are two or more, the server is to go on after a failure.
 pub record AreAbout (keys : List Key) (knowns : List Knowledge) (places : List ℕ) (questions : Questions) : Type 0 where
+  pub works : All (WorksAt keys knowns) places
+  pub apart : AreApart places
   pub parts_are : questions.parts ≡ at_places part_about keys knowns places
   pub asks : requests_in questions.bytes ≡ requests_at keys knowns places
   pub asks_alone : parts_in questions.bytes ≡ map Ok (requests_at keys knowns places)
-
--- each question of a message may be asked
-abbrev pub JustifiedQuestions : List Key → List Object → List ℕ → Type 0
-JustifiedQuestions keys objects sent = All (Justified keys objects) (requests_in sent)
+  pub goes_on : stops_in questions.bytes ≡ not (nat_le 2 (length places))
 
 -- ---- heard
 
@@ -124,7 +126,3 @@ hear_batch c bytes = hear_all c.keys c.knowns (replies_read bytes)
 abbrev pub RefusesBatch : HearFault → Result (List (Result Heard HearFault) × List Knowledge) HearFault → Type 0
 RefusesBatch faults.NoMemory heard = Unit {0}
 RefusesBatch fault heard = heard ≡ Err fault
-
--- each reply of a message is true
-abbrev pub TrueReplies : List Key → List Object → List ℕ → Type 0
-TrueReplies keys objects given = All (TrueReply keys objects) (replies_in given)

@@ -4,8 +4,8 @@ use Rattle.std.specs.Prelude.{◌≡◌, ◌≢◌, ◌<◌, ℕ, ◌+◌, lengt
 use Rattle.std.specs.List.{AllZip}
 use Rattle.std.specs.Option.{option_map, option_map_or, option_and_then}
 use Rattle.kmip_messages.specs.Operations.{operation_of}
-use Rattle.kmip_messages.specs.Items.{AsksAlone}
-use Rattle.kmip_messages.specs.Written.{request_item}
+use Rattle.kmip_batches.specs.Items.{AsksAlone}
+use Rattle.kmip_batches.specs.Written.{requests_item}
 use Rattle.kmip_chains.specs.declared.key.Key.{Key}
 use Rattle.kmip_ttlv.specs.Spelling.{canon}
 use Rattle.kmip_knowledge.specs.declared.knowledge.Knowledge.{Knowledge}
@@ -95,7 +95,7 @@ working_count (key ∷ keys) (known ∷ knowns) = one_if (is_working key known) 
 abbrev pub VerdictsStay : List Key → List Knowledge → List Knowledge → Type 0
 VerdictsStay keys old new = (place : ℕ) → verdict_at keys old place ≢ Working → verdict_at keys new place ≡ verdict_at keys old place
 
--- Private: the key at the place is worked on
+-- The key at the place is worked on.
 pub record WorksAt (keys : List Key) (knowns : List Knowledge) (place : ℕ) : Type 0 where
   pub key : Key
   pub known : Knowledge
@@ -113,7 +113,7 @@ pub record IsAbout (keys : List Key) (knowns : List Knowledge) (question : Quest
   pub works : is_working key known ≡ true
   pub operation_is : question.operation ≡ operation_of (ask_about key known)
   pub asks : AsksAlone question.bytes (request_about key known)
-  pub written : question.bytes ≡ canon (request_item (request_about key known))
+  pub written : question.bytes ≡ canon (requests_item (request_about key known ∷ []))
 
 -- some key of the plan is worked on, and none is
 abbrev pub SomeWorks : List Key → List Knowledge → Type 0

@@ -4,9 +4,10 @@ use Rattle.std.specs.Prelude.{◌≡◌, ℕ, Bool, true, false, not, ◌&&◌, 
 use Rattle.std.specs.List.{position}
 use Rattle.std.specs.Option.{is_some, option_map_or, option_and_then}
 use Rattle.kmip_fields.specs.Faults.{is_no_memory}
-use Rattle.kmip_messages.specs.Items.{replies_in}
-use Rattle.kmip_messages.specs.Whole.{reply_read}
+use Rattle.kmip_batches.specs.Items.{replies_in}
+use Rattle.kmip_batches.specs.Batches.{replies_read}
 use Rattle.kmip_fields.specs.declared.fault.MessageFault.{MessageFault}
+use Rattle.kmip_fields.specs.declared.fault.MessageFault.TheVariants.{BatchCount}
 use Rattle.kmip_messages.specs.declared.reply.Outcome.{Outcome}
 use Rattle.kmip_messages.specs.declared.reply.Outcome.TheVariants.{Failed}
 use Rattle.kmip_messages.specs.declared.reply.Reply.{Reply}
@@ -129,22 +130,23 @@ heard_in keys reply knowns = heard_about keys reply (subject_of keys reply.id) k
 
 -- ---- bytes
 
--- bytes that say nothing are refused by the fault of reading them
-abbrev pub unreadable : Result Reply MessageFault → HearFault
+-- bytes that are no message of one reply are refused: by the fault of reading them, or for how many there are
+abbrev pub unreadable : Result (List Reply) MessageFault → HearFault
 unreadable (Err fault) = faults.Unreadable fault
-unreadable (Ok reply) = faults.StrangerId
+unreadable (Ok replies) = faults.Unreadable BatchCount
 
 -- Private: the same of a call that may run out of memory
 abbrev pub unheard : MessageFault → HearFault
 unheard fault = if is_no_memory fault then faults.NoMemory else faults.Unreadable fault
 
-abbrev pub first_heard : List Key → HearFault → List Reply → List Knowledge → Result (Heard × List Knowledge) HearFault
-first_heard keys fault [] knowns = Err fault
-first_heard keys fault (reply ∷ replies) knowns = heard_in keys reply knowns
+abbrev pub heard_alone : List Key → HearFault → List Reply → List Knowledge → Result (Heard × List Knowledge) HearFault
+heard_alone keys fault [] knowns = Err fault
+heard_alone keys fault (reply ∷ []) knowns = heard_in keys reply knowns
+heard_alone keys fault (reply ∷ other ∷ replies) knowns = Err fault
 
 -- what a client hears in some bytes, and what it knows after it; or why it learns nothing
 abbrev pub hear : ClientState → List ℕ → Result (Heard × List Knowledge) HearFault
-hear c bytes = first_heard c.keys (unreadable (reply_read bytes)) (replies_in bytes) c.knowns
+hear c bytes = heard_alone c.keys (unreadable (replies_read bytes)) (replies_in bytes) c.knowns
 
 -- a refusal is the one that hearing gives, unless memory ran out
 abbrev pub Refuses : HearFault → Result (Heard × List Knowledge) HearFault → Type 0

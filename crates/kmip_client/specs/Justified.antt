@@ -2,7 +2,7 @@
 -- Source: own, over KMIP 2.1, Operations.
 use Rattle.std.specs.Prelude.{◌≡◌, ◌≤◌, ◌<◌, ◌+◌, ℕ, List, Some}
 use Rattle.std.specs.List.{All}
-use Rattle.kmip_messages.specs.Items.{requests_in}
+use Rattle.kmip_batches.specs.Items.{requests_in}
 use Rattle.kmip_objects.specs.Objects.{Object}
 use Rattle.kmip_messages.specs.Operations.{operation_of}
 use Rattle.kmip_objects.specs.Attributes.{by_name}

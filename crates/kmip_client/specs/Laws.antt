@@ -14,7 +14,9 @@ use Rattle.kmip_progress.specs.declared.known.Known.{Known}
 use Rattle.kmip_knowledge.specs.declared.clash.Clash.{Clash}
 use Rattle.kmip_knowledge.specs.declared.knowledge.Knowledge.{Knowledge}
 use Rattle.kmip_knowledge.specs.declared.knowledge.Verdict.TheVariants.{Conflict}
-use Rattle.kmip_client.specs.Clients.{ClientState, lost_at, verdict_at, AreSettled, NoneWorks}
+use Rattle.std.specs.List.{All}
+use Rattle.kmip_client.specs.Batches.{known_after_each}
+use Rattle.kmip_client.specs.Clients.{ClientState, changed_at, lost_at, lost_working, verdict_at, AreSettled, NoneWorks}
 use Rattle.kmip_client.specs.Held.{TrueProgress, IsHeld, Held}
 use Rattle.kmip_client.specs.Justified.{MayAsk, Justified}
 use Rattle.kmip_client.specs.Known.{facts, heard}
@@ -82,6 +84,17 @@ HearingIsBlind =
 -- and an answer that is lost changes nothing but that
 abbrev pub LossesTeachNothing : Type 0
 LossesTeachNothing = (c : ClientState) (place : ℕ) → facts (lost_at c place).knowns ≡ facts c.knowns
+
+-- replies that are true keep what is known true, heard in turn; and so does a loss
+abbrev pub HearingKeepsTheTruth : Type 0
+HearingKeepsTheTruth =
+    (objects : List Object) (keys : List Key) (replies : List Reply) (knowns : List Knowledge) → Held objects keys knowns
+    → All (TrueReply keys objects) replies → Held objects keys (known_after_each keys replies knowns)
+
+abbrev pub LosingKeepsTheTruth : Type 0
+LosingKeepsTheTruth =
+    (objects : List Object) (keys : List Key) (knowns : List Knowledge) (place : ℕ) → Held objects keys knowns
+    → Held objects keys (changed_at lost_working keys knowns place)
 
 -- where each key is settled none is worked on
 abbrev pub SettledIsNotWorked : Type 0

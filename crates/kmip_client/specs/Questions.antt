@@ -3,7 +3,7 @@
 use Rattle.std.specs.Prelude.{ℕ, ◌+◌, List, [], ◌∷◌, Option, Some, None}
 use Rattle.std.specs.Option.{unwrap_or}
 use Rattle.kmip_messages.specs.Operations.{operation_of}
-use Rattle.kmip_messages.specs.Written.{request_item}
+use Rattle.kmip_batches.specs.Written.{requests_item}
 use Rattle.kmip_objects.specs.Attributes.{by_name}
 use Rattle.kmip_objects.specs.Searching.{every_state}
 use Rattle.kmip_messages.specs.declared.request.Ask.{Ask}
@@ -55,5 +55,5 @@ abbrev pub question_about : ℕ → Key → Knowledge → Question
 question_about place key known = record {
   key = place;
   operation = operation_of (ask_about key known);
-  bytes = canon (request_item (request_about key known));
+  bytes = canon (requests_item (request_about key known ∷ []));
 }

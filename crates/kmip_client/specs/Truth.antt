@@ -2,7 +2,7 @@
 -- Source: own, over KMIP 2.1, Operations.
 use Rattle.std.specs.Prelude.{◌≡◌, ◌≤◌, ℕ, List, [], ◌∷◌, Option, Some, ⊤}
 use Rattle.std.specs.List.{All}
-use Rattle.kmip_messages.specs.Items.{replies_in}
+use Rattle.kmip_batches.specs.Items.{replies_in}
 use Rattle.kmip_objects.specs.Objects.{Object}
 use Rattle.kmip_messages.specs.declared.reply.Outcome.{Outcome}
 use Rattle.kmip_messages.specs.declared.reply.Outcome.TheVariants.{Created, Located, Attributes, Activated, Revoked, Destroyed, Failed}

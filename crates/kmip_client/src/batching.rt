@@ -12,10 +12,11 @@ ghost use Rattle.kmip_client.specs.Batches.{
   part_about,
   questions_at,
   AreAbout,
-  JustifiedQuestions,
+  AreApart,
 };
 ghost use Rattle.kmip_client.specs.Clients.{WorksAt, AreSettled};
 ghost use Rattle.kmip_client.specs.Held.{Held};
+ghost use Rattle.kmip_client.specs.Justified.{JustifiedMessage};
 ghost use Rattle.kmip_client.specs.Questions.{request_about};
 ghost use Rattle.kmip_client.specs.Shapes.{IsShaped};
 
@@ -88,6 +89,7 @@ pub(crate) fn next_places(
     ensures places { IfOk result (λ v. v.items
         ≡ next_places most (record { keys = keys.now; knowns = knowns.now; next = next })) }
     ensures work { IfOk result (λ v. All (WorksAt keys.now knowns.now) v.items) }
+    ensures apart { IfOk result (λ v. AreApart v.items) }
     ensures none { IfOk result (λ v. v.items ≡ [] → 1 ≤ most → AreSettled keys.now knowns.now) }
 {
     let mut places = Vec::with_capacity(alloc, most)?;
@@ -136,11 +138,12 @@ pub(crate) fn questions_at(
     requires fits { EachFits keys.now }
     requires lawful { IsLawful keys.now }
     requires works { All (WorksAt keys.now knowns.now) places.now }
+    requires apart { AreApart places.now }
     requires some { IsTrue (may_have (length places.now)) }
     ensures questions { IfOk result (λ q. q ≡ questions_at keys.now knowns.now places.now) }
     ensures about { IfOk result (λ q. AreAbout keys.now knowns.now places.now q) }
     ensures justified { (objects : List Object) → Held objects keys.now knowns.now
-        → IfOk result (λ q. JustifiedQuestions keys.now objects q.bytes) }
+        → IfOk result (λ q. JustifiedMessage keys.now objects q.bytes) }
 {
     steps_have_places();
     keys_have_names();

@@ -1,17 +1,18 @@
 //! A client of one plan.
 ghost use Rattle.std.specs.Prelude.{◌≡◌, List, ◌≤◌, ◌<◌, ◌*◌, length, map, drop, Some, None, Ok, Err, IfOk, IfErr, IfSome, IsTrue, OnOk, OnErr, option_map};
+ghost use Rattle.kmip_fields.specs.declared.fault.MessageFault.TheVariants.{BatchCount};
+ghost use Rattle.kmip_knowledge.specs.declared.fault.HearFault.TheVariants.{Unreadable};
+ghost use Rattle.kmip_messages.specs.BatchItems.{answer_fits};
 ghost use Rattle.kmip_messages.specs.Fits.{outcome_fits};
-ghost use Rattle.std.specs.List.{AllZip};
+ghost use Rattle.std.specs.List.{All, AllZip};
 ghost use Rattle.kmip_batches.specs.Members.{may_have};
 ghost use Rattle.kmip_client.specs.Batches.{
   next_places,
   next_questions,
   after_questions,
   AreAbout,
-  JustifiedQuestions,
   hear_batch,
   RefusesBatch,
-  TrueReplies,
 };
 ghost use Rattle.kmip_plan.specs.Limits.{most_keys};
 ghost use Rattle.kmip_plan.specs.Plans.{IsLawful, EachFits};
@@ -37,7 +38,7 @@ ghost use Rattle.kmip_client.specs.Clients.{
   SomeWorks,
   NoneWorks,
 };
-ghost use Rattle.kmip_client.specs.Hearing.{heard_in, hear, Refuses};
+ghost use Rattle.kmip_client.specs.Hearing.{heard_in, heard_alone, hear, Refuses};
 ghost use Rattle.kmip_client.specs.Held.{Held, TrueProgress};
 ghost use Rattle.kmip_client.specs.Saving.{progress, resume};
 ghost use Rattle.kmip_client.specs.Standing.{AreWithin, counts_of, verdicts_of};
@@ -55,10 +56,11 @@ use crate::question::{Question, question_about};
 use crate::saving::{all_knowledge, all_known, count_working};
 use crate::standing::{all_counts, all_verdicts, verdict_of};
 use crate::subject::subject_of;
+use kmip_batches::read_reply;
 use kmip_chains::Key;
 use kmip_chains::laws::{states_have_places, steps_have_places};
 use kmip_knowledge::{HearFault, Knowledge, Verdict};
-use kmip_messages::{Reply, read_reply};
+use kmip_messages::{MessageFault, Reply};
 use kmip_plan::Plan;
 use kmip_plan::laws::keys_have_names;
 use kmip_progress::Progress;
@@ -193,7 +195,7 @@ impl<'p> Client<'p> {
             → AreSettled self.old.keys self.old.knowns) }
         ensures justified { (objects : List Object) → Held objects self.old.keys self.old.knowns
             → IfOk result (λ questions. IfSome questions (λ q.
-            JustifiedQuestions self.old.keys objects q.bytes)) }
+            JustifiedMessage self.old.keys objects q.bytes)) }
         ensures turn { OnOk result (self.new ≡ after_questions most self.old) }
         ensures same { OnErr result (self.new ≡ self.old) }
     {
@@ -227,9 +229,34 @@ impl<'p> Client<'p> {
             → Held objects self.new.keys self.new.knowns }
     {
         match read_reply(alloc, bytes) {
-            Ok(reply) => self.hear_reply(reply),
+            Ok(replies) => self.hear_alone(replies),
             Err(fault) => Err(unheard(fault)),
         }
+    }
+
+    /// Learns from the reply of a message that has one.
+    fn hear_alone(&mut self, mut replies: Vec<Reply>) -> Result<Heard, HearFault>
+        requires { All (λ r. IsTrue (answer_fits r)) replies.items }
+        ensures heard { IfOk result (λ heard. heard_alone self.old.keys (Unreadable BatchCount)
+            replies.items self.old.knowns ≡ Ok (heard, self.new.knowns)) }
+        ensures stays { self.new ≡ record self.old { knowns = self.new.knowns } }
+        ensures fault { IfErr result (λ e. heard_alone self.old.keys (Unreadable BatchCount)
+            replies.items self.old.knowns ≡ Err e) }
+        ensures same { OnErr result (self.new ≡ self.old) }
+        ensures kept { AllZip IsKept self.old.knowns self.new.knowns }
+        ensures settled { VerdictsStay self.old.keys self.old.knowns self.new.knowns }
+        ensures held { (objects : List Object) → Held objects self.old.keys self.old.knowns
+            → All (TrueReply self.old.keys objects) replies.items
+            → Held objects self.new.keys self.new.knowns }
+    {
+        let last = replies.pop();
+        let Some(reply) = last else {
+            return Err(HearFault::Unreadable(MessageFault::BatchCount));
+        };
+        if !replies.is_empty() {
+            return Err(HearFault::Unreadable(MessageFault::BatchCount));
+        }
+        self.hear_reply(reply)
     }
 
     fn hear_reply(&mut self, reply: Reply) -> Result<Heard, HearFault>
@@ -272,7 +299,7 @@ impl<'p> Client<'p> {
         ensures kept { AllZip IsKept self.old.knowns self.new.knowns }
         ensures settled { VerdictsStay self.old.keys self.old.knowns self.new.knowns }
         ensures held { (objects : List Object) → Held objects self.old.keys self.old.knowns
-            → TrueReplies self.old.keys objects bytes.now
+            → TrueMessage self.old.keys objects bytes.now
             → Held objects self.new.keys self.new.knowns }
     {
         steps_have_places();

@@ -8,6 +8,8 @@ ghost use Rattle.kmip_client.specs.Laws.{
   TrueForGood,
   HeldForGood,
   HearingIsBlind,
+  HearingKeepsTheTruth,
+  LosingKeepsTheTruth,
   LossesTeachNothing,
   HeldIsNoConflict,
   SettledIsNotWorked,
@@ -19,7 +21,7 @@ ghost use Rattle.kmip_client.specs.Laws.{
   AsksWhatItMay,
 };
 
-use kmip_chains::laws::{further_ways_keep_places, steps_have_places};
+use kmip_chains::laws::{further_ways_keep_places, states_have_places, steps_have_places};
 use kmip_plan::laws::{keys_have_names, prolonged_keys_stand};
 use kmip_progress::laws::texts_are_prolonged;
 
@@ -68,6 +70,14 @@ pub fn what_is_known_was_heard()
     ensures heard { HearingIsBlind }
     ensures lost { LossesTeachNothing }
 {}
+
+/// Replies that are true keep what is known true, heard in turn, and so does a loss.
+pub fn hearing_keeps_the_truth()
+    ensures heard { HearingKeepsTheTruth }
+    ensures lost { LosingKeepsTheTruth }
+{
+    states_have_places();
+}
 
 /// Where each key is settled no verdict is that a key is worked on.
 pub fn the_settled_are_not_worked_on()

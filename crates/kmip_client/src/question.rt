@@ -1,7 +1,7 @@
 //! What is asked about a key.
 ghost use Rattle.std.specs.Prelude.{◌≡◌, ◌<◌, [], IfOk, IsTrue, option_map};
 ghost use Rattle.std.specs.Option.{unwrap_or};
-ghost use Rattle.kmip_messages.specs.Items.{AsksAlone};
+ghost use Rattle.kmip_batches.specs.Items.{AsksAlone};
 ghost use Rattle.kmip_plan.specs.Plans.{key_fits};
 ghost use Rattle.kmip_client.specs.Questions.{
   next_ask,
@@ -13,10 +13,11 @@ ghost use Rattle.kmip_client.specs.Questions.{
 };
 ghost use Rattle.kmip_client.specs.Shapes.{IsShaped};
 
+use kmip_batches::write_request;
 use kmip_chains::laws::steps_have_places;
 use kmip_chains::{Key, chain};
 use kmip_knowledge::{Knowledge, Phase};
-use kmip_messages::{Ask, Request, write_request};
+use kmip_messages::{Ask, Request};
 use kmip_objects::standard::{STORAGE_DESTROYED, STORAGE_ON_LINE};
 use kmip_objects::{Attrs, Step};
 use kmip_ttlv::{Bytes, NoMemory, Text};
@@ -54,7 +55,8 @@ pub(crate) fn question_about(
     steps_have_places();
     let request = request_about(alloc, key, known)?;
     let operation = request.ask.operation();
-    let bytes = write_request(alloc, &request)?;
+    let requests = vec![in alloc; request]?;
+    let bytes = write_request(alloc, requests.as_slice())?;
     Ok(Question {
         key: place,
         operation,

@@ -2,7 +2,7 @@
 use Rattle.std.proofs.Common.{◌≡◌, ℕ, List, [], ◌++◌, take, Option, Some, None, Result, Ok, Err, sym, ap, subst, ◌∙◌, inl, inr}
 use Rattle.std.specs.List.{All, Contains}
 use Rattle.std.proofs.lemmas.List.Elements.{All-append, All-contains, All-nil, All-weaker, Contains-append_left}
-use Rattle.kmip_messages.specs.Items.{requests_in, replies_in}
+use Rattle.kmip_batches.specs.Items.{requests_in, replies_in}
 use Rattle.kmip_objects.specs.Objects.{Object}
 use Rattle.kmip_messages.specs.declared.reply.Reply.{Reply}
 use Rattle.kmip_messages.specs.declared.request.Request.{Request}
@@ -14,7 +14,7 @@ use Rattle.kmip_client.specs.Truth.{TrueMessage, TrueReply}
 use Rattle.kmip_server.specs.declared.effect.Effect.{Effect}
 use Rattle.kmip_schedule.specs.declared.link.LinkFault.{LinkFault}
 use Rattle.kmip_schedule.specs.declared.link.LinkFault.TheVariants.{Io, Frame, NoMemory}
-use Rattle.kmip_schedule.specs.Exchanges.{AreGiven, Exchanged, HandsOver, with_asked, with_exchange}
+use Rattle.kmip_schedule.specs.Exchanges.{AreGiven, Exchanged, HandsOver, with_asked, with_exchange, with_requests}
 use Rattle.kmip_schedule.specs.Lawbook.{Lawbook}
 use Rattle.kmip_schedule.specs.Past.{Past, is_planned, steps_on}
 use Rattle.kmip_schedule.specs.Sound.{Opening, Sound, TrueAnswer}
@@ -36,15 +36,16 @@ answer_more keys objects requests more reply answer = record {
   ];
 }
 
-pub asked_sound : (keys : List Key) (p : Past) (sent : List ℕ) → Sound keys p → JustifiedMessage keys p.objects sent → Sound keys (with_asked sent p)
-asked_sound keys p sent sound just = record {
+pub asked_sound : (keys : List Key) (p : Past) (requests : List Request) → Sound keys p → All (Justified keys p.objects) requests
+    → Sound keys (with_requests requests p)
+asked_sound keys p requests sound just = record {
   names = sound.names;
   uids = sound.uids;
   objects = sound.objects;
   effects = record { planned = sound.effects.planned; no_others = sound.effects.no_others };
-  requests = All-append (Justified keys p.objects) p.requests (requests_in sent) sound.requests just;
-  replies = All-weaker (TrueAnswer keys p.objects p.requests) (TrueAnswer keys p.objects (p.requests ++ requests_in sent))
-      (λ reply answer. answer_more keys p.objects p.requests (requests_in sent) reply answer) p.replies sound.replies;
+  requests = All-append (Justified keys p.objects) p.requests requests sound.requests just;
+  replies = All-weaker (TrueAnswer keys p.objects p.requests) (TrueAnswer keys p.objects (p.requests ++ requests))
+      (λ reply answer. answer_more keys p.objects p.requests requests reply answer) p.replies sound.replies;
 }
 
 handed_sound : (keys : List Key) (p : Past) (sent : List ℕ) (answer : Option (List ℕ)) → Sound keys p → Sound keys (with_exchange sent answer p)
@@ -60,7 +61,7 @@ handed_sound keys p sent answer sound = record {
 hands_over_sound : (l : Lawbook) (keys : List Key) (old new : Past) (sent : List ℕ) (answer : Option (List ℕ)) → Sound keys old
     → JustifiedMessage keys old.objects sent → HandsOver (is_planned keys) old sent answer new → Sound keys new × Onward keys old.objects new.objects
 hands_over_sound l keys old new sent answer sound just hands =
-    let (kept, on) = delivered_keeps l keys (with_asked sent old) hands.between (asked_sound keys old sent sound just) hands.delivered in
+    let (kept, on) = delivered_keeps l keys (with_asked sent old) hands.between (asked_sound keys old (requests_in sent) sound just) hands.delivered in
     subst (λ p. Sound keys p × Onward keys old.objects p.objects) (sym hands.is) (handed_sound keys hands.between sent answer kept, on)
 
 pub exchanged_sound : (l : Lawbook) (keys : List Key) (old new : Past) (sent : List ℕ) (answer : Result (Option (List ℕ)) LinkFault) → Sound keys old
@@ -70,7 +71,7 @@ exchanged_sound l keys old new sent (Err Io) sound just done = hands_over_sound 
 exchanged_sound l keys old new sent (Err Frame) sound just done = hands_over_sound l keys old new sent None sound just done
 exchanged_sound l keys old new sent (Err NoMemory) sound just done = elim done [
   | inl before ↦ delivered_keeps l keys old new sound before
-  | inr later ↦ delivered_keeps l keys (with_asked sent old) new (asked_sound keys old sent sound just) later
+  | inr later ↦ delivered_keeps l keys (with_asked sent old) new (asked_sound keys old (requests_in sent) sound just) later
 ]
 
 pub given_true : (keys : List Key) (p : Past) (given : List ℕ) → Sound keys p → AreGiven p given → TrueMessage keys p.objects given

@@ -1,7 +1,7 @@
 -- Whatever happens, the past stays an image of the plan machine.
 use Rattle.std.proofs.Common.{◌≡◌, ◌++◌, ℕ, List, [], ◌∷◌, filter_map, option_to_list, append-nil, Option, None, Result, Ok, Err, refl, sym, ap, subst, ◌∙◌, inl, inr}
 use Rattle.std.proofs.lemmas.List.Elements.{All-contains}
-use Rattle.kmip_messages.specs.Items.{requests_in}
+use Rattle.kmip_batches.specs.Items.{requests_in}
 use Rattle.kmip_objects.specs.Objects.{Object, object_named}
 use Rattle.kmip_messages.specs.declared.reply.Reply.{Reply}
 use Rattle.kmip_messages.specs.declared.request.Request.{Request}
@@ -80,7 +80,7 @@ mirrored_asked keys p sent image just = mirrored_requests keys p (requests_in se
 mirrored_over : (l : Lawbook) (keys : List Key) (old new : Past) (sent : List ℕ) (answer : Option (List ℕ)) → Sound keys old → IsMirrored keys old
     → JustifiedMessage keys old.objects sent → HandsOver (is_planned keys) old sent answer new → IsMirrored keys new
 mirrored_over l keys old new sent answer sound image just hands =
-    let between = mirrored_delivered l keys (with_asked sent old) hands.between (asked_sound keys old sent sound just) (mirrored_asked keys old sent image just) hands.delivered in
+    let between = mirrored_delivered l keys (with_asked sent old) hands.between (asked_sound keys old (requests_in sent) sound just) (mirrored_asked keys old sent image just) hands.delivered in
     subst (IsMirrored keys) (sym hands.is) (no_more keys hands.between (with_exchange sent answer hands.between) between (λ key planned. refl) refl refl)
 
 pub mirrored_exchange : (l : Lawbook) (keys : List Key) (old new : Past) (sent : List ℕ) (answer : Result (Option (List ℕ)) LinkFault) → Sound keys old
@@ -91,5 +91,5 @@ mirrored_exchange l keys old new sent (Err Frame) sound image just done = mirror
 mirrored_exchange l keys old new sent (Err NoMemory) sound image just done = elim done [
   | inl before ↦ mirrored_delivered l keys old new sound image before
   | inr later ↦
-      mirrored_delivered l keys (with_asked sent old) new (asked_sound keys old sent sound just) (mirrored_asked keys old sent image just) later
+      mirrored_delivered l keys (with_asked sent old) new (asked_sound keys old (requests_in sent) sound just) (mirrored_asked keys old sent image just) later
 ]

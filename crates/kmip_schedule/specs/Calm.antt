@@ -1,7 +1,7 @@
 -- What an exchange over a calm link does to the past, one that loses and repeats nothing.
 -- Source: own, over KMIP 2.1, Message Structure.
 use Rattle.std.specs.Prelude.{◌≡◌, ◌⊎◌, ℕ, Bool, true, false, ◌&&◌, List, [], ◌∷◌, Option, Some, Result, Ok, Err}
-use Rattle.kmip_messages.specs.Items.{parts_in, stops_in, replies_in}
+use Rattle.kmip_batches.specs.Items.{parts_in, stops_in, replies_in}
 use Rattle.kmip_objects.specs.Objects.{Object}
 use Rattle.kmip_messages.specs.declared.refusal.Refusal.{Refusal}
 use Rattle.kmip_messages.specs.declared.reply.Reply.{Reply}

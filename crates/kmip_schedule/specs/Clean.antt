@@ -1,10 +1,10 @@
 -- Exchanges over an honest link that go as they should, whatever arrives late beside them; and what a link counts of the others.
 -- Source: own, over KMIP 2.1, Message Structure (Unique Batch Item ID).
-use Rattle.std.specs.Prelude.{◌≡◌, ◌≢◌, ◌⊎◌, ◌≤◌, ◌+◌, ℕ, Bool, false, not, ◌&&◌, nat_eq, List, [], ◌∷◌, Option, Some, None, Result, Ok, Err}
+use Rattle.std.specs.Prelude.{◌≡◌, ◌≢◌, ◌⊎◌, ◌≤◌, ◌+◌, ℕ, Bool, false, not, ◌&&◌, nat_eq, List, [], ◌∷◌, length, filter, Option, Some, None, Result, Ok, Err}
 use Rattle.std.specs.Cmp.Lexicographic.{pointwise}
 use Rattle.std.specs.List.{All, list_any}
 use Rattle.std.specs.Option.{option_map_or}
-use Rattle.kmip_messages.specs.Items.{parts_in, replies_in, requests_in, stops_in}
+use Rattle.kmip_batches.specs.Items.{parts_in, replies_in, requests_in, stops_in}
 use Rattle.kmip_messages.specs.declared.reply.Outcome.TheVariants.{Failed}
 use Rattle.kmip_messages.specs.declared.reply.Reply.{Reply}
 use Rattle.kmip_messages.specs.declared.request.Request.{Request}
@@ -54,6 +54,13 @@ is_strange names sent given = list_any (λ reply. names_one (but_of (requests_in
 -- so has what was handed over
 abbrev pub hands_strange : Names → List ℕ → Option (List ℕ) → Bool
 hands_strange names sent answer = option_map_or (is_strange names sent) answer false
+
+-- how many of its replies are; and how many of what was handed over
+abbrev pub strange_replies : Names → List ℕ → List ℕ → ℕ
+strange_replies names sent given = length (filter (λ reply. names_one (but_of (requests_in sent) names) reply.id) (replies_in given))
+
+abbrev pub strange_handed : Names → List ℕ → Option (List ℕ) → ℕ
+strange_handed names sent answer = option_map_or (strange_replies names sent) answer 0
 
 -- How many exchanges over a link were disturbed, and how many handed over a reply about another key.
 pub record Disturbances : Type 0 where

@@ -3,15 +3,19 @@
 use Rattle.std.specs.Prelude.{◌≡◌, ◌⊎◌, ℕ, List, [], ◌∷◌, ◌++◌, Option, None, Result, Ok, Err, IfSome}
 use Rattle.std.specs.List.{All, Contains}
 use Rattle.std.specs.Option.{option_map}
-use Rattle.kmip_messages.specs.Items.{requests_in, replies_in}
+use Rattle.kmip_batches.specs.Items.{requests_in, replies_in}
+use Rattle.kmip_messages.specs.declared.request.Request.{Request}
 use Rattle.kmip_schedule.specs.declared.link.LinkFault.{LinkFault}
 use Rattle.kmip_schedule.specs.declared.link.LinkFault.TheVariants.{Io, Frame, NoMemory}
 use Rattle.kmip_schedule.specs.Moves.{Delivered}
 use Rattle.kmip_schedule.specs.Past.{Past, Names}
 
--- the requests of one more message were asked
+-- more requests were asked, and so those of one more message
+abbrev pub with_requests : List Request → Past → Past
+with_requests requests p = record p { requests = p.requests ++ requests }
+
 abbrev pub with_asked : List ℕ → Past → Past
-with_asked sent p = record p { requests = p.requests ++ requests_in sent }
+with_asked sent p = with_requests (requests_in sent) p
 
 -- one more exchange was made: these bytes were sent, and an answer was handed over, a message or none for a loss
 abbrev pub with_exchange : List ℕ → Option (List ℕ) → Past → Past

@@ -11,7 +11,7 @@ use Rattle.kmip_chains.specs.Chains.{step_place}
 use Rattle.kmip_plan.specs.Plans.{IsLawful, IsPlanned}
 use Rattle.kmip_plan.specs.Prolonging.{Prolongs}
 use Rattle.kmip_chains.specs.declared.key.Key.{Key}
-use Rattle.kmip_client.specs.Justified.{JustifiedMessage}
+use Rattle.kmip_client.specs.Justified.{Justified, JustifiedMessage}
 use Rattle.kmip_client.specs.Places.{Onward, position}
 use Rattle.kmip_client.specs.Truth.{TrueMessage}
 use Rattle.kmip_messages.specs.declared.refusal.Refusal.{Refusal}
@@ -19,7 +19,7 @@ use Rattle.kmip_messages.specs.declared.request.Request.{Request}
 use Rattle.kmip_schedule.specs.Calm.{AreTaken, CalmlyExchanged}
 use Rattle.kmip_server.specs.declared.effect.Effect.{Effect}
 use Rattle.kmip_schedule.specs.declared.link.LinkFault.{LinkFault}
-use Rattle.kmip_schedule.specs.Exchanges.{AreGiven, Exchanged, with_asked}
+use Rattle.kmip_schedule.specs.Exchanges.{AreGiven, Exchanged, with_asked, with_requests}
 use Rattle.kmip_schedule.specs.Machine.{IsMirrored}
 use Rattle.kmip_server.specs.Effects.{effect_of}
 use Rattle.kmip_schedule.specs.Moves.{Delivered, Joins}
@@ -38,10 +38,11 @@ abbrev pub DeliveriesKeepSound : Type 0
 DeliveriesKeepSound =
     (keys : List Key) (old new : Past) → Sound keys old → Delivered (is_planned keys) old new → Sound keys new
 
--- so it is when a message of requests that may be asked is sent
+-- so it is when requests are sent that may be asked
 abbrev pub AskingKeepsSound : Type 0
 AskingKeepsSound =
-    (keys : List Key) (p : Past) (sent : List ℕ) → Sound keys p → JustifiedMessage keys p.objects sent → Sound keys (with_asked sent p)
+    (keys : List Key) (p : Past) (requests : List Request) → Sound keys p → All (Justified keys p.objects) requests
+    → Sound keys (with_requests requests p)
 
 -- and by a whole exchange, whether it has an answer or not
 abbrev pub ExchangesKeepSound : Type 0

@@ -66,7 +66,7 @@ pub fn deliveries_keep_sound()
     laws_below();
 }
 
-/// A message of requests that may be asked keeps what is sound.
+/// Requests that may be asked keep what is sound.
 pub fn asking_keeps_sound()
     ensures { AskingKeepsSound }
 {}

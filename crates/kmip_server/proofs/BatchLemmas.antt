@@ -1,17 +1,15 @@
 -- Questions answered in turn: what was answered before, and what is left.
-use Rattle.std.proofs.Common.{◌≡◌, ◌+◌, ◌<◌, ◌≤◌, ℕ, Bool, true, false, ◌&&◌, nat_le, if◌then◌else◌, append-nil, option_to_list, Option, Some, None, List, [], ◌∷◌, ◌++◌, length, drop, get_or, Result, Ok, Err, OnErr, OnOk, IsTrue, refl, sym, ap, subst, ◌∙◌, inl, inr, arith}
+use Rattle.std.proofs.Common.{◌≡◌, ◌+◌, ◌<◌, ℕ, Bool, true, false, nat_le, if◌then◌else◌, append-nil, option_to_list, Some, None, List, [], ◌∷◌, ◌++◌, length, drop, get_or, Result, Ok, Err, OnErr, OnOk, IsTrue, refl, sym, ap, subst, ◌∙◌, inl, inr, arith}
 use Rattle.std.specs.List.{All}
 use Rattle.std.proofs.lemmas.Bool.{and_parts, leb-true, cases_Bool}
 use Rattle.std.proofs.lemmas.List.{append_assoc, drop_all, drop_more, length-append}
 use Rattle.std.proofs.lemmas.List.Elements.{All-append, All-cons, All-nil}
 use Rattle.kmip_messages.specs.BatchItems.{Question}
-use Rattle.kmip_messages.specs.declared.refusal.Refusal.{Refusal}
 use Rattle.kmip_messages.specs.declared.reply.Outcome.{Outcome}
 use Rattle.kmip_messages.specs.declared.reply.Outcome.TheVariants as outcomes
 use Rattle.kmip_messages.specs.declared.reply.Reply.{Reply}
 use Rattle.kmip_messages.specs.declared.request.Ask.{Ask}
 use Rattle.kmip_messages.specs.declared.request.Ask.TheVariants as asks
-use Rattle.kmip_messages.specs.declared.request.Request.{Request}
 use Rattle.kmip_batches.specs.Members.{may_have}
 use Rattle.kmip_batches.specs.Written.{IsShort}
 use Rattle.kmip_objects.specs.Ranges.{is_compromise}
@@ -22,7 +20,6 @@ use Rattle.kmip_store.specs.Stepping.{take_step}
 use Rattle.kmip_store.specs.Stock.{Stock, create, identifier_at}
 use Rattle.kmip_server.specs.Again.{has_failed}
 use Rattle.kmip_server.specs.Batching.{effect_by, effects_of, is_last, replies_to, stock_after_all, IsCutShort, GrownBy}
-use Rattle.kmip_server.specs.Effects.{effect_of}
 use Rattle.kmip_server.specs.Serving.{answer, outcome_of_change, reply_to, stock_after_read}
 use Rattle.kmip_server.specs.Shown.{objects_in}
 use Rattle.kmip_server.specs.declared.effect.Effect.{Effect}

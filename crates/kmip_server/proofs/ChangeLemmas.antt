@@ -1,5 +1,5 @@
 -- The records after a question: as they were, with one row more, or with a row in the state that a step of it leads to.
-use Rattle.std.proofs.Common.{◌≡◌, ℕ, ◌<◌, true, false, List, length, Option, Some, None, Result, Ok, Err, OnOk, OnErr, nat_lt, refl, ap, ◌∙◌, inl, inr}
+use Rattle.std.proofs.Common.{◌≡◌, ℕ, ◌<◌, true, false, List, length, Option, Some, None, Result, Ok, Err, nat_lt, refl, inl, inr}
 use Rattle.std.proofs.lemmas.Bool.{cases_Bool, ltb-true}
 use Rattle.kmip_objects.specs.Lifecycle.{after}
 use Rattle.kmip_messages.specs.RequestFits.{ask_fits}
@@ -16,10 +16,7 @@ use Rattle.kmip_store.specs.Stepping.{enter_state, row_with, rows_in_state, take
 use Rattle.kmip_store.specs.Laws.{CreateKeeps, StepsKeep}
 use Rattle.kmip_store.specs.Stock.{IsKept, Stock, create, stock_with, has_row_named}
 use Rattle.kmip_store.specs.declared.fault.StoreFault.{StoreFault}
-use Rattle.kmip_messages.specs.Whole.{request_read}
-use Rattle.kmip_messages.specs.declared.refusal.Refusal.{Refusal}
-use Rattle.kmip_messages.specs.declared.request.Request.{Request}
-use Rattle.kmip_server.specs.Serving.{answer, outcome_of_change, stock_after, stock_after_read}
+use Rattle.kmip_server.specs.Serving.{answer, outcome_of_change}
 use Rattle.kmip_objects.specs.Ranges.{is_compromise}
 
 pub data Follows (s : Stock) (ask : Ask) : Stock → Type 0 where
@@ -91,17 +88,3 @@ kept_after creates keeps s (Revoke uid code) fits kept = elim (cases_Bool (is_co
   | inr plain ↦ rw plain (kept_step keeps _ s steps.Revoke uid kept)
 ]
 kept_after creates keeps s (Destroy uid) fits kept = kept_step keeps _ s steps.Destroy uid kept
-
--- the room after a message is that before it
-read_room : (s : Stock) (read : Result Request Refusal) → (stock_after_read s read).room ≡ s.room
-read_room s (Ok request) = room_stays s request.ask (answer s request.ask).1 (follows s request.ask)
-read_room s (Err refusal) = refl
-
-served_room : (s : Stock) (message : List ℕ) → (stock_after s message).room ≡ s.room
-unfolding stock_after
-served_room s message = read_room s (request_read message)
-
-pub room_kept : {A E : Type 0} (r : Result A E) (old new : Stock) (message : List ℕ) → OnOk r (new ≡ stock_after old message)
-    → OnErr r (new ≡ old) → new.room ≡ old.room
-room_kept (Ok a) old new message after same = ap (λ s. s.room) after ∙ served_room old message
-room_kept (Err e) old new message after same = ap (λ s. s.room) same

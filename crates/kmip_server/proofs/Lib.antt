@@ -1,4 +1,3 @@
-pub mod ServingLemmas
 pub mod ObjectLemmas
 pub mod StepLaws
 pub mod ChangeLemmas

@@ -1,5 +1,5 @@
--- A message of one question is served by the one reply to it.
-use Rattle.std.proofs.Common.{◌≡◌, ℕ, ℤ, Bool, true, ◌&&◌, List, [], ◌∷◌, Result, Ok, Err, IfOk, OnErr, OnOk, ap, subst, refl, sym, ◌∙◌, inl, inr}
+-- The questions of a message are served in turn.
+use Rattle.std.proofs.Common.{◌≡◌, ℕ, ℤ, Bool, List, [], ◌∷◌, true, Result, Ok, Err, IfOk, OnErr, OnOk, ap, subst, refl, sym, ◌∙◌, inl, inr}
 use Rattle.std.specs.List.{All, AllByRecursion}
 use Rattle.std.specs.Option.{option_map_or}
 use Rattle.std.proofs.lemmas.Bool.{and_parts, cases_Bool}
@@ -8,8 +8,6 @@ use Rattle.kmip_messages.specs.BatchItems.{Question}
 use Rattle.kmip_messages.specs.Ranges.{is_batch_id}
 use Rattle.kmip_messages.specs.RequestFits.{ask_fits}
 use Rattle.kmip_batches.specs.Ranges.{QuestionFits}
-use Rattle.kmip_messages.specs.Whole.{request_read}
-use Rattle.kmip_messages.specs.Items.{replies_in}
 use Rattle.kmip_ttlv.specs.Spelling.{canon}
 use Rattle.kmip_batches.specs.Items as items
 use Rattle.kmip_batches.specs.Written.{replies_item}
@@ -18,14 +16,13 @@ use Rattle.kmip_messages.specs.declared.reply.Reply.{Reply}
 use Rattle.kmip_messages.specs.declared.request.Ask.{Ask}
 use Rattle.kmip_messages.specs.declared.request.Request.{Request}
 use Rattle.kmip_store.specs.Stock.{IsKept, Stock}
-use Rattle.kmip_server.specs.Again.{has_failed}
 use Rattle.kmip_server.specs.Answering.{Tells}
 use Rattle.kmip_server.specs.Batching as batch
 use Rattle.kmip_server.specs.Batching.{effects_of, is_last, replies_to, stock_after_all, AreBegun, IsCutShort, GrownBy}
 use Rattle.kmip_server.specs.declared.effect.Effect.{Effect}
-use Rattle.kmip_server.specs.Messages.{AreServed, IsServedBy}
+use Rattle.kmip_server.specs.Messages.{IsServedBy}
 use Rattle.kmip_server.specs.ServerStep.{ServerStep}
-use Rattle.kmip_server.specs.Serving.{answer, reply_to, stock_after, stock_after_read}
+use Rattle.kmip_server.specs.Serving.{answer, reply_to, stock_after_read}
 use Rattle.kmip_server.specs.Shown.{objects_in, room_in}
 use Rattle.kmip_server.proofs.ChangeLemmas.{follows, room_stays}
 
@@ -48,33 +45,6 @@ part_served steps s (Ok request) kept = record {
   room_is = room_stays s request.ask (answer s request.ask).1 (follows s request.ask);
 }
 part_served steps s (Err refusal) kept = record { reply_is = refl; same = refl }
-
--- whether a failure stops it or not, nothing comes behind the one question
-one_served : (stops : Bool) (part : Result Request Refusal) (reply : Reply) (old new : Stock) → IsServedBy part reply old new
-    → AreServed stops (part ∷ []) (reply ∷ []) old new
-one_served stops part reply old new served = elim (cases_Bool (stops && has_failed reply.outcome)) [
-  | inl over ↦ (new, served, inl (over, refl, refl))
-  | inr on ↦ (new, served, inr (on, refl))
-]
-
-message_served : AnswersAreSteps → (s : Stock) (message : List ℕ) (stops : Bool) → IsKept s.rows s.room
-    → AreServed stops (request_read message ∷ []) (reply_to s (request_read message) ∷ []) s (stock_after s message)
-unfolding stock_after
-message_served steps s message stops kept =
-    one_served stops (request_read message) (reply_to s (request_read message)) s _ (part_served steps s (request_read message) kept)
-
-pub served_message : AnswersAreSteps → {A E : Type 0} (r : Result A E) (bytes : A → List ℕ) (old new : Stock) (message : List ℕ) (stops : Bool)
-    (parts : List (Result Request Refusal)) → IsKept old.rows old.room → parts ≡ request_read message ∷ []
-    → IfOk r (λ v. replies_in (bytes v) ≡ reply_to old (request_read message) ∷ []) → OnOk r (new ≡ stock_after old message)
-    → IfOk r (λ v. AreServed stops parts (replies_in (bytes v)) old new)
-served_message steps (Ok v) bytes old new message stops parts kept one says after =
-    subst (λ ps. AreServed stops ps (replies_in (bytes v)) old new) (sym one)
-    (subst (λ rs. AreServed stops (request_read message ∷ []) rs old new) (sym says)
-    (subst (λ s. AreServed stops (request_read message ∷ []) (reply_to old (request_read message) ∷ []) old s) (sym after)
-    (message_served steps old message stops kept)))
-served_message steps (Err e) bytes old new message stops parts kept one says after = tt
-
--- ---- several questions
 
 part_kept : AnswersKeep → (s : Stock) (q : Question) → QuestionFits q → IsKept s.rows s.room → IsKept (stock_after_read s q).rows (stock_after_read s q).room
 part_kept keep s (Ok request) fits kept = keep s request.ask (and_parts (option_map_or is_batch_id request.id true) (ask_fits request.ask) fits.0).1 kept

@@ -1,11 +1,11 @@
 -- The outcomes that are promised are in their ranges, and brief; and what took effect is what was asked.
-use Rattle.std.proofs.Common.{◌≡◌, ◌&&◌, ◌≤◌, ℕ, Bool, true, false, List, [], ◌∷◌, ◌++◌, length, nat_eq, Option, Some, None, Result, Ok, Err, option_map, IfSome, IsSome, IsTrue, if◌then◌else◌, refl, sym, ap, subst, ◌∙◌, inl, inr, arith}
+use Rattle.std.proofs.Common.{◌≡◌, ◌&&◌, ℕ, Bool, true, false, List, [], ◌∷◌, nat_eq, Option, Some, None, option_map, IfSome, IsSome, IsTrue, refl, sym, ap, subst, ◌∙◌, inl, inr, arith}
 use Rattle.std.specs.Cmp.Lexicographic.{pointwise}
-use Rattle.std.specs.Option.{option_map_or, option_to_list}
+use Rattle.std.specs.Option.{option_to_list}
 use Rattle.std.proofs.lemmas.Bool.{and_parts, cases_Bool}
 use Rattle.kmip_objects.specs.Attributes.{attributes_of}
 use Rattle.kmip_objects.specs.Objects.{Object, object_with}
-use Rattle.kmip_objects.specs.Ranges.{attrs_fit, is_compromise, is_identifier}
+use Rattle.kmip_objects.specs.Ranges.{attrs_fit, is_identifier}
 use Rattle.kmip_objects.specs.declared.attributes.Attrs.{Attrs}
 use Rattle.kmip_objects.specs.declared.step.Step.{Step}
 use Rattle.kmip_fields.specs.Faults.{is_no_memory}
@@ -13,21 +13,14 @@ use Rattle.kmip_fields.specs.declared.fault.MessageFault.{MessageFault}
 use Rattle.kmip_fields.specs.declared.fault.MessageFault.TheVariants as faults
 use Rattle.kmip_messages.specs.Fits.{outcome_fits}
 use Rattle.kmip_messages.specs.MessageSizes.{IsBrief}
-use Rattle.kmip_messages.specs.declared.reply.Outcome.{Outcome}
 use Rattle.kmip_messages.specs.declared.reply.Outcome.TheVariants.{Located, Attributes}
-use Rattle.kmip_messages.specs.declared.request.Ask.{Ask}
-use Rattle.kmip_messages.specs.declared.request.Ask.TheVariants as asks
 use Rattle.kmip_messages.specs.declared.standard.TheConstants.{OPERATION_LOCATE, OPERATION_GET_ATTRIBUTES}
-use Rattle.kmip_store.specs.declared.fault.StoreFault.{StoreFault}
 use Rattle.kmip_store.specs.declared.row.Row.{Row}
 use Rattle.kmip_store.specs.Stepping.{row_with}
-use Rattle.kmip_store.specs.Stock.{Stock, object_of, objects_of}
-use Rattle.kmip_server.specs.Again.{has_failed}
-use Rattle.kmip_server.specs.Answering.{outcome_then, promised_outcome}
-use Rattle.kmip_server.specs.Effects.{effect_asked, effect_of, effect_on}
+use Rattle.kmip_store.specs.Stock.{object_of, objects_of}
+use Rattle.kmip_server.specs.Effects.{effect_on}
 use Rattle.kmip_server.specs.Reasons.{message_reason}
-use Rattle.kmip_server.specs.Serving.{answer, attributes_outcome}
-use Rattle.kmip_server.specs.Shown.{objects_in}
+use Rattle.kmip_server.specs.Serving.{attributes_outcome}
 use Rattle.kmip_server.specs.declared.effect.Effect.{Effect}
 
 both : {a b : Bool} → a ≡ true → b ≡ true → (a && b) ≡ true

@@ -2,7 +2,6 @@
 -- Source: own: how a contract sees the code.
 use Rattle.std.specs.Prelude.{◌≡◌, ℕ, ℤ, List, length, Some, Result, Ok, Err, if◌then◌else◌}
 use Rattle.kmip_ttlv.specs.Spelling.{canon}
-use Rattle.kmip_messages.specs.Written.{reply_item}
 use Rattle.kmip_messages.specs.declared.reply.Outcome.{Outcome}
 use Rattle.kmip_messages.specs.declared.reply.Reply.{Reply}
 use Rattle.kmip_objects.specs.Ranges.{is_compromise}
@@ -18,14 +17,6 @@ use Rattle.kmip_batches.specs.Items.{replies_in}
 use Rattle.kmip_batches.specs.Written.{replies_item}
 use Rattle.kmip_server.specs.Reasons.{store_reason}
 use Rattle.kmip_server.specs.Serving.{answer}
-
--- the reply with this outcome
-abbrev pub with_outcome : Reply → Outcome → Reply
-with_outcome reply outcome = record reply { outcome = outcome }
-
--- its bytes
-abbrev pub written_with : Reply → Outcome → ℤ → List ℕ
-written_with reply outcome now = canon (reply_item (with_outcome reply outcome) now)
 
 -- the outcome of a question where the change that it asks for is made
 abbrev pub promised_outcome : Stock → Ask → Outcome

@@ -1,12 +1,11 @@
--- What a server makes of a message: each question in it is a step of the server, and its reply says how that went.
--- Source: KMIP 2.1, Message Structure, Batch Error Continuation Option; Operations.
-use Rattle.std.specs.Prelude.{◌≡◌, Bool, true, false, ◌&&◌, ◌⊎◌, List, [], ◌∷◌, Some, Result, Ok, Err}
+-- What a server makes of a question: it is a step of the server, and its reply says how that went.
+-- Source: KMIP 2.1, Message Structure; Operations.
+use Rattle.std.specs.Prelude.{◌≡◌, Some, Result, Ok, Err}
 use Rattle.kmip_messages.specs.Operations.{operation_of}
 use Rattle.kmip_messages.specs.declared.refusal.Refusal.{Refusal}
 use Rattle.kmip_messages.specs.declared.reply.Reply.{Reply}
 use Rattle.kmip_messages.specs.declared.request.Request.{Request}
 use Rattle.kmip_store.specs.Stock.{Stock}
-use Rattle.kmip_server.specs.Again.{has_failed}
 use Rattle.kmip_server.specs.ServerStep.{ServerStep}
 use Rattle.kmip_server.specs.Serving.{refusal_reply}
 use Rattle.kmip_server.specs.Shown.{objects_in, room_in}
@@ -26,13 +25,3 @@ pub record IsRefusalOf (refusal : Refusal) (reply : Reply) (old new : Stock) : T
 abbrev pub IsServedBy : Result Request Refusal → Reply → Stock → Stock → Type 0
 IsServedBy (Ok request) reply old new = IsStepOf request reply old new
 IsServedBy (Err refusal) reply old new = IsRefusalOf refusal reply old new
-
--- The questions are served in turn, each once, with these replies; those after a failure that stops them are left.
-abbrev pub AreServed : Bool → List (Result Request Refusal) → List Reply → Stock → Stock → Type 0
-AreServed stops [] [] old new = new ≡ old
-AreServed stops [] (reply ∷ replies) old new = ⊥
-AreServed stops (part ∷ parts) [] old new = ⊥
-AreServed stops (part ∷ parts) (reply ∷ replies) old new =
-    (between : Stock) × IsServedBy part reply old between
-    × ((((stops && has_failed reply.outcome) ≡ true) × (replies ≡ []) × (new ≡ between))
-    ⊎ (((stops && has_failed reply.outcome) ≡ false) × AreServed stops parts replies between new))

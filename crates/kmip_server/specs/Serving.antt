@@ -1,12 +1,9 @@
--- What the server answers a message, and what its records are after it.
+-- What the server answers a question, and what its records are after it.
 -- Source: KMIP 2.1, Operations. Which reason answers which refusal is own, and that a compromise is refused.
-use Rattle.std.specs.Prelude.{ℕ, ℤ, List, length, Option, Some, None, Result, Ok, Err, if◌then◌else◌}
-use Rattle.kmip_ttlv.specs.Spelling.{canon}
+use Rattle.std.specs.Prelude.{ℕ, List, length, Option, Some, None, Result, Ok, Err, if◌then◌else◌}
 use Rattle.kmip_objects.specs.Attributes.{attributes_of}
 use Rattle.kmip_messages.specs.Operations.{operation_of}
 use Rattle.kmip_objects.specs.Ranges.{is_compromise}
-use Rattle.kmip_messages.specs.Whole.{request_read}
-use Rattle.kmip_messages.specs.Written.{reply_item}
 use Rattle.kmip_messages.specs.declared.refusal.Refusal.{Refusal}
 use Rattle.kmip_messages.specs.declared.reply.Outcome.{Outcome}
 use Rattle.kmip_messages.specs.declared.reply.Outcome.TheVariants.{Created, Located, Attributes, Activated, Revoked, Destroyed, Failed}
@@ -44,11 +41,11 @@ answer s (Revoke uid code) =
     if is_compromise code then (Failed (Some REASON_FEATURE_NOT_SUPPORTED), s) else outcome_of_change (Revoked uid) s (take_step steps.Revoke uid s)
 answer s (Destroy uid) = outcome_of_change (Destroyed uid) s (take_step steps.Destroy uid s)
 
--- the reply to a message that is no request: the reason of its first fault, and what could be read of it
+-- the reply to a question that is no request: the reason of its first fault, and what could be read of it
 abbrev pub refusal_reply : Refusal → Reply
 refusal_reply refusal = record { operation = refusal.operation; id = refusal.id; outcome = Failed (message_reason refusal.fault) }
 
--- the reply to a request, or to a message that is none
+-- the reply to a request, or to a question that is none
 abbrev pub reply_to : Stock → Result Request Refusal → Reply
 reply_to s (Ok request) = record { operation = Some (operation_of request.ask); id = request.id; outcome = (answer s request.ask).0 }
 reply_to s (Err refusal) = refusal_reply refusal
@@ -57,11 +54,3 @@ reply_to s (Err refusal) = refusal_reply refusal
 abbrev pub stock_after_read : Stock → Result Request Refusal → Stock
 stock_after_read s (Ok request) = (answer s request.ask).1
 stock_after_read s (Err refusal) = s
-
--- the bytes of the reply to the bytes of a message, at a time in seconds since the start of 1970
-unfoldable pub reply_bytes : Stock → List ℕ → ℤ → List ℕ
-reply_bytes s message now = canon (reply_item (reply_to s (request_read message)) now)
-
--- the records after a message
-unfoldable pub stock_after : Stock → List ℕ → Stock
-stock_after s message = stock_after_read s (request_read message)

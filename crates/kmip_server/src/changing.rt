@@ -1,12 +1,14 @@
 //! The change that a question asks for.
 ghost use Rattle.std.specs.Prelude.{◌≡◌, OnErr, OnOk, IfOk, IsTrue};
 ghost use Rattle.kmip_messages.specs.RequestFits.{ask_fits};
+ghost use Rattle.kmip_objects.specs.Ranges.{attrs_fit};
 ghost use Rattle.kmip_server.specs.Answering.{outcome_then, promised_outcome};
 ghost use Rattle.kmip_server.specs.Serving.{answer};
+ghost use Rattle.kmip_store.specs.Stepping.{Becomes};
+ghost use Rattle.kmip_store.specs.Stock.{create};
 
-use crate::answering::make;
 use kmip_messages::Ask;
-use kmip_objects::is_compromise;
+use kmip_objects::{KeyAttrs, is_compromise};
 use kmip_store::{Records, StoreFault};
 use kmip_ttlv::NoMemory;
 use std::alloc::Global;
@@ -43,5 +45,27 @@ pub(crate) fn carry_out<S: Records>(
             Ok(store.revoke(uid.as_str()))
         }
         Ask::Destroy(uid) => Ok(store.destroy(uid.as_str())),
+    }
+}
+
+/// Makes the object in the store, and says why it was refused where it was.
+fn make<S: Records>(
+    store: &mut S,
+    alloc: Global,
+    attrs: &KeyAttrs,
+) -> Result<Result<(), StoreFault>, NoMemory>
+    requires { IsTrue (attrs_fit attrs.now) }
+    ensures made { IfOk result (λ made. Becomes made (S.stock store.old) (S.stock store.new)
+        (create attrs.now (S.stock store.old))) }
+    ensures same { OnErr result (S.stock store.new ≡ S.stock store.old) }
+{
+    match store.create(alloc, attrs) {
+        Ok(_) => Ok(Ok(())),
+        Err(fault) => {
+            if fault == StoreFault::NoMemory {
+                return Err(NoMemory);
+            }
+            Ok(Err(fault))
+        }
     }
 }

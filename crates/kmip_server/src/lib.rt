@@ -1,7 +1,6 @@
 //! The test server: it answers each message of KMIP over the objects of a store.
 #![tactic(auto)]
 
-mod answering;
 mod batching;
 mod changing;
 mod effect;

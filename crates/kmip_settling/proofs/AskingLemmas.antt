@@ -12,13 +12,13 @@ use Rattle.kmip_chains.specs.declared.key.Key.{Key}
 use Rattle.kmip_plan.specs.Plans.{IsLawful}
 use Rattle.kmip_knowledge.specs.Knowledge.{chain_length}
 use Rattle.kmip_knowledge.specs.declared.knowledge.Knowledge.{Knowledge}
-use Rattle.kmip_client.specs.Clients.{IsAbout}
+use Rattle.kmip_client.specs.Clients.{IsAbout, WorksAt}
 use Rattle.kmip_client.specs.Held.{Held}
 use Rattle.kmip_client.specs.Justified.{Justified, JustifiedMessage}
 use Rattle.kmip_client.specs.Places.{position}
 use Rattle.kmip_client.specs.Questions.{ask_about, id_of, request_about, step_ask}
 use Rattle.kmip_client.specs.declared.question.Question.{Question}
-use Rattle.kmip_schedule.specs.Exchanges.{with_asked}
+use Rattle.kmip_schedule.specs.Exchanges.{with_asked, with_requests}
 use Rattle.kmip_schedule.specs.Past.{Past}
 use Rattle.kmip_settling.specs.Lawbook.{Lawbook}
 use Rattle.kmip_settling.specs.Losing.{is_id, is_under_way, left_of, left_all, step_id, was_asked}
@@ -61,33 +61,48 @@ pub names_apart : (l : Lawbook) (keys : List Key) (i j : ℕ) (key other : Key) 
     → key.attrs.name ≢ other.attrs.name
 names_apart l keys i j key other lawful here there apart = λ same. apart (l.distinct keys i j key other lawful here there same)
 
--- what the question asks may be asked
+-- what the question about a key asks may be asked
+pub one_justified : (l : Lawbook) (keys : List Key) (p : Past) (knowns : List Knowledge) (place : ℕ) (w : WorksAt keys knowns place) → IsLawful keys
+    → Held p.objects keys knowns → Justified keys p.objects (request_about w.key w.known)
+one_justified l keys p knowns place w lawful held = record {
+  key = w.key;
+  is_planned = l.found keys place w.key lawful w.key_is;
+  id_is = refl;
+  may = l.asks p.objects w.key w.known (held_at keys knowns place w.key w.known p.objects held w.key_is w.known_is) w.works;
+}
+
 pub asks_well : (l : Lawbook) (keys : List Key) (p : Past) (knowns : List Knowledge) (question : Question) → IsLawful keys → Held p.objects keys knowns
     → IsAbout keys knowns question → JustifiedMessage keys p.objects question.bytes
 asks_well l keys p knowns question lawful held about =
-    let key = about.key in
-    let known = about.known in
-    let its = held_at keys knowns question.key key known p.objects held about.key_is about.known_is in
+    let w : WorksAt keys knowns question.key =
+    record { key = about.key; known = about.known; key_is = about.key_is; known_is = about.known_is; works = about.works } in
     subst (All (Justified keys p.objects)) (sym about.asks.0)
-    (All-cons (Justified keys p.objects) (request_about key known) [] (record {
-      key = key;
-      is_planned = l.found keys question.key key lawful about.key_is;
-      id_is = refl;
-      may = l.asks p.objects key known its about.works;
-    }) (All-nil (Justified keys p.objects)))
+    (All-cons (Justified keys p.objects) (request_about about.key about.known) [] (one_justified l keys p knowns question.key w lawful held)
+    (All-nil (Justified keys p.objects)))
 
-pub asked_left : (l : Lawbook) (keys : List Key) (p : Past) (knowns : List Knowledge) (question : Question) → IsLawful keys → IsAbout keys knowns question
-    → left_all keys knowns (with_asked question.bytes p) ≤ left_all keys knowns p + 1
-asked_left l keys p knowns question lawful about =
-    all_but_one keys knowns question.key p (with_asked question.bytes p)
+-- each question adds one at most
+pub request_left : (l : Lawbook) (keys : List Key) (p : Past) (knowns : List Knowledge) (place : ℕ) (w : WorksAt keys knowns place) → IsLawful keys
+    → left_all keys knowns (with_requests (request_about w.key w.known ∷ []) p) ≤ left_all keys knowns p + 1
+request_left l keys p knowns place w lawful =
+    let request : Request = request_about w.key w.known in
+    let asked : Past = with_requests (request ∷ []) p in
+    all_but_one keys knowns place p asked
     (λ j key known here there apart.
-    let name = names_apart l keys j question.key key about.key lawful here about.key_is apart in
-    let way = way_same key p _ (request_about about.key about.known) about.asks.0 (λ step is. other_key key about.key about.known step name) in
-    let same : left_of key known (with_asked question.bytes p) ≡ left_of key known p =
-    left_is key known (with_asked question.bytes p)
+    let name = names_apart l keys j place key w.key lawful here w.key_is apart in
+    let way = way_same key p (request ∷ []) request refl (λ step is. other_key key w.key w.known step name) in
+    let same : left_of key known asked ≡ left_of key known p =
+    left_is key known asked
     ∙ ap (left_by known.phase (chain_length key) known.done (is_there key p) (position key p.objects)) way
     ∙ sym (left_is key known p) in
     omega (arith, same))
     (λ key known here there.
-    let more = way_left known.phase (chain_length key) known.done (position key p.objects) (is_there key p) (is_under_way key (with_asked question.bytes p)) (is_under_way key p) in
-    omega (arith, more, left_is key known (with_asked question.bytes p), left_is key known p))
+    let more = way_left known.phase (chain_length key) known.done (position key p.objects) (is_there key p) (is_under_way key asked) (is_under_way key p) in
+    omega (arith, more, left_is key known asked, left_is key known p))
+
+pub asked_left : (l : Lawbook) (keys : List Key) (p : Past) (knowns : List Knowledge) (question : Question) → IsLawful keys → IsAbout keys knowns question
+    → left_all keys knowns (with_asked question.bytes p) ≤ left_all keys knowns p + 1
+asked_left l keys p knowns question lawful about =
+    let w : WorksAt keys knowns question.key =
+    record { key = about.key; known = about.known; key_is = about.key_is; known_is = about.known_is; works = about.works } in
+    subst (λ requests. left_all keys knowns (with_requests requests p) ≤ left_all keys knowns p + 1) (sym about.asks.0)
+    (request_left l keys p knowns question.key w lawful)

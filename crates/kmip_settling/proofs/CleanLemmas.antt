@@ -3,16 +3,17 @@ use Rattle.std.proofs.Common.{◌≡◌, ◌≢◌, ◌≤◌, ◌<◌, ℕ, ◌
 use Rattle.std.specs.List.{All}
 use Rattle.std.specs.Option.{option_map_or, unwrap_or}
 use Rattle.std.proofs.lemmas.Bool.{and_parts, cases_Bool, ltb-true}
-use Rattle.std.proofs.lemmas.List.Elements.{All-head}
+use Rattle.std.proofs.lemmas.List.Elements.{All-cons, All-head, All-nil}
 use Rattle.std.proofs.lemmas.Option.{same_Some}
 use Rattle.std.proofs.lemmas.Slice.Eq.{bytes_eq-Decides}
 use Rattle.kmip_objects.specs.Objects.{Object, object_named}
 use Rattle.kmip_objects.specs.declared.step.Step.{Step}
 use Rattle.kmip_objects.specs.declared.step.Step.TheVariants.{Create, Activate, Revoke, Destroy}
-use Rattle.kmip_messages.specs.Items.{parts_in, replies_in, requests_in, stops_in}
+use Rattle.kmip_batches.specs.Items.{parts_in, replies_in, stops_in}
 use Rattle.kmip_messages.specs.Operations.{operation_of}
 use Rattle.kmip_messages.specs.declared.reply.Outcome.{Outcome}
 use Rattle.kmip_messages.specs.declared.reply.Outcome.TheVariants.{Failed}
+use Rattle.kmip_messages.specs.declared.reply.Reply.{Reply}
 use Rattle.kmip_messages.specs.declared.request.Ask.{Ask}
 use Rattle.kmip_messages.specs.declared.request.Request.{Request}
 use Rattle.kmip_messages.specs.declared.standard.TheConstants.{REASON_SERVER_FULL}
@@ -23,17 +24,19 @@ use Rattle.kmip_knowledge.specs.Knowledge.{chain_length}
 use Rattle.kmip_knowledge.specs.declared.knowledge.Knowledge.{Knowledge}
 use Rattle.kmip_knowledge.specs.declared.knowledge.Phase.{Phase}
 use Rattle.kmip_knowledge.specs.declared.knowledge.Phase.TheVariants as phases
-use Rattle.kmip_client.specs.Clients.{IsAbout, one_if}
+use Rattle.kmip_client.specs.Clients.{IsAbout, WorksAt, one_if}
 use Rattle.kmip_client.specs.Held.{Held, IsHeld}
 use Rattle.kmip_client.specs.Hearing.{step_of}
+use Rattle.kmip_client.specs.Justified.{Justified}
 use Rattle.kmip_client.specs.Places.{position}
 use Rattle.kmip_client.specs.Questions.{ask_about, id_of, next_ask, phase_ask, request_about, step_ask}
 use Rattle.kmip_client.specs.declared.question.Question.{Question}
 use Rattle.kmip_server.specs.ServerStep as rows
 use Rattle.kmip_server.specs.ServerStep.{ServerStep}
-use Rattle.kmip_schedule.specs.Calm.{AreTaken}
+use Rattle.kmip_schedule.specs.Calm.{AreTaken, IsServed}
 use Rattle.kmip_schedule.specs.Clean.{HasRoom, IsClean}
-use Rattle.kmip_schedule.specs.Exchanges.{with_asked}
+use Rattle.kmip_schedule.specs.Exchanges.{with_asked, with_requests}
+use Rattle.kmip_schedule.specs.Moves.{Delivered, Serve}
 use Rattle.kmip_schedule.specs.Past.{Past, is_planned}
 use Rattle.kmip_schedule.specs.Safe.{step_of_ask}
 use Rattle.kmip_schedule.specs.Sound.{Sound}
@@ -43,7 +46,7 @@ use Rattle.kmip_settling.specs.Losing.{is_id, is_under_way, left_of, left_all, s
 use Rattle.kmip_settling.specs.Needs.{need_in, need_of}
 use Rattle.kmip_settling.proofs.ArrivalLemmas.{Arrives, as_it_was, took_effect, delivered_arrives}
 use Rattle.kmip_settling.proofs.AskedLemmas.{ask_is_step, same_parts, step_is_asked}
-use Rattle.kmip_settling.proofs.AskingLemmas.{asks_well, names_apart, other_key, way_same}
+use Rattle.kmip_settling.proofs.AskingLemmas.{names_apart, one_justified, other_key, way_same}
 use Rattle.kmip_settling.proofs.ChangeLemmas.{places_same}
 use Rattle.kmip_settling.proofs.HearLemmas.{asked_of, taught_is}
 use Rattle.kmip_settling.proofs.LateLemmas.{all_late, held_late}
@@ -185,24 +188,24 @@ pub record IsLess (keys : List Key) (before served : Past) (knowns nexts : List 
   pub held : Held served.objects keys nexts
   pub less : left_all keys nexts served + 1 ≤ left_all keys knowns before
 
-served_less : (l : Lawbook) (keys : List Key) (before served : Past) (next : ℕ) (knowns : List Knowledge) (question : Question) (given : List ℕ) → IsLawful keys
-    → Sound keys before → Held before.objects keys knowns → IsAbout keys knowns question
-    → AreTaken (stops_in question.bytes) (parts_in question.bytes) (replies_in given) (with_asked question.bytes before) served → All HasRoom (replies_in given)
-    → IsLess keys before served knowns (known_after_turn keys next knowns question (Some given))
-served_less l keys before served next knowns question given lawful sound held about taken roomy =
-    let key = about.key in
-    let known = about.known in
-    let place : ℕ = question.key in
-    let asked : Past = with_asked question.bytes before in
-    let planned = l.found keys place key lawful about.key_is in
-    let its = held_at keys knowns place key known before.objects held about.key_is about.known_is in
-    let works : known.done < chain_length key = ltb-true known.done (chain_length key) (and_parts (nat_lt known.done (chain_length key)) (not (is_some known.clash)) about.works).0 in
-    let sound_asked = l.asking keys before question.bytes sound (asks_well l keys before knowns question lawful held about) in
-    let delivered = l.taken (is_planned keys) (stops_in question.bytes) (parts_in question.bytes) (replies_in given) asked served taken in
+-- the question about one key that is worked on is served, with room for what it asks
+pub request_less : (l : Lawbook) (keys : List Key) (before served : Past) (knowns : List Knowledge) (place : ℕ) (w : WorksAt keys knowns place) (reply : Reply)
+    → IsLawful keys → Sound keys before → Held before.objects keys knowns
+    → IsServed (request_about w.key w.known) reply (with_requests (request_about w.key w.known ∷ []) before) served → HasRoom reply
+    → (n : IsNearer w.key w.known reply.outcome before.objects served.objects) × IsLess keys before served knowns (slice_set knowns place n.next)
+request_less l keys before served knowns place w reply lawful sound held one has_room =
+    let key = w.key in
+    let known = w.known in
+    let request : Request = request_about key known in
+    let asked : Past = with_requests (request ∷ []) before in
+    let planned = l.found keys place key lawful w.key_is in
+    let its = held_at keys knowns place key known before.objects held w.key_is w.known_is in
+    let works : known.done < chain_length key = ltb-true known.done (chain_length key) (and_parts (nat_lt known.done (chain_length key)) (not (is_some known.clash)) w.works).0 in
+    let sound_asked = l.asking keys before (request ∷ []) sound
+    (All-cons (Justified keys before.objects) request [] (one_justified l keys before knowns place w lawful held) (All-nil (Justified keys before.objects))) in
+    let delivered : Delivered (is_planned keys) asked served =
+    record { moves = Serve request reply one.objects one.joined ∷ []; may = (one.serves, tt); is = one.is } in
     let sound_served = l.sound_after keys asked served sound_asked delivered in
-    let (reply, given_is, one) = one_taken (stops_in question.bytes) (replies_in given) asked served (request_about key known)
-    (subst (λ parts. AreTaken (stops_in question.bytes) parts (replies_in given) asked served) about.asks.1 taken) in
-    let has_room : HasRoom reply = All-head HasRoom reply [] (subst (All HasRoom) given_is roomy) in
     let objects_are : served.objects ≡ one.objects = ap (λ (p : Past). p.objects) one.is in
     let requests_are : served.requests ≡ asked.requests = ap (λ (p : Past). p.requests) one.is in
     let here = sound_here l keys before sound in
@@ -210,36 +213,55 @@ served_less l keys before served next knowns question given lawful sound held ab
       here = λ o is. here key o planned is;
       held = its;
       more = works;
-      fits = l.fit keys lawful place key about.key_is;
+      fits = l.fit keys lawful place key w.key_is;
       roomy = λ none. let more : length before.objects < length before.objects + 1 = omega arith in more;
     } in
     let nearer = subst (IsNearer key known reply.outcome before.objects) (sym objects_are)
     (phase_nearer l (length before.objects + 1) before.objects one.objects key known known.phase reply.outcome refl worked
     (roomier before.room before.objects one.objects (ask_about key known) reply.outcome one.serves.step has_room)) in
-    let others = places_same l keys place key before.objects served.objects lawful about.key_is here nearer.change in
-    let less = key_clean l keys before asked served key known nearer.next (requests_in question.bytes)
+    let others = places_same l keys place key before.objects served.objects lawful w.key_is here nearer.change in
+    let less = key_clean l keys before asked served key known nearer.next (request ∷ [])
     (record { sound = sound; sound_after = sound_served; planned = planned; held = its; held_after = nearer.held; works = works; nearer = nearer.nearer })
-    about.asks.0 refl (delivered_arrives l keys asked served key sound_asked planned delivered) in
+    refl refl (delivered_arrives l keys asked served key sound_asked planned delivered) in (
+      nearer,
+      record {
+        sound = sound_served;
+        held = one_held keys knowns place key nearer.next before.objects served.objects others w.key_is held nearer.held;
+        less = one_less keys knowns place key known nearer.next before served
+            (λ j k kn is at apart.
+            let same = others j k apart is in
+            let name = names_apart l keys j place k key lawful is w.key_is apart in
+            let way : is_under_way k served ≡ is_under_way k before =
+            ap (λ found. option_map_or (was_asked k served.requests) (step_at k.target (place_in k found + 1)) false) same
+            ∙ ap (λ requests. option_map_or (was_asked k requests) (step_at k.target (position k before.objects + 1)) false) requests_are
+            ∙ way_same k before (request ∷ []) request refl (λ step stands. other_key k key known step name) in
+            omega (arith, left_same k kn before served same way))
+            w.key_is w.known_is less;
+      },
+    )
+
+served_less : (l : Lawbook) (keys : List Key) (before served : Past) (next : ℕ) (knowns : List Knowledge) (question : Question) (given : List ℕ) → IsLawful keys
+    → Sound keys before → Held before.objects keys knowns → IsAbout keys knowns question
+    → AreTaken (stops_in question.bytes) (parts_in question.bytes) (replies_in given) (with_asked question.bytes before) served → All HasRoom (replies_in given)
+    → IsLess keys before served knowns (known_after_turn keys next knowns question (Some given))
+served_less l keys before served next knowns question given lawful sound held about taken roomy =
+    let key = about.key in
+    let known = about.known in
+    let asked : Past = with_asked question.bytes before in
+    let its = held_at keys knowns question.key key known before.objects held about.key_is about.known_is in
+    let (reply, given_is, one) = one_taken (stops_in question.bytes) (replies_in given) asked served (request_about key known)
+    (subst (λ parts. AreTaken (stops_in question.bytes) parts (replies_in given) asked served) about.asks.1 taken) in
+    let has_room : HasRoom reply = All-head HasRoom reply [] (subst (All HasRoom) given_is roomy) in
+    let w : WorksAt keys knowns question.key = record { key = key; known = known; key_is = about.key_is; known_is = about.known_is; works = about.works } in
+    let (n, less) = request_less l keys before served knowns question.key w reply lawful sound held
+    (subst (λ requests. IsServed (request_about key known) reply (with_requests requests before) served) about.asks.0 one) has_room in
     let asked_is = asked_of before.objects key (ask_about key known) (l.asks before.objects key known its about.works) in
-    let taught_now = taught_is (record { keys = keys; knowns = knowns; next = next }) question (operation_of (ask_about key known)) key known nearer.next reply
+    let taught_now = taught_is (record { keys = keys; knowns = knowns; next = next }) question (operation_of (ask_about key known)) key known n.next reply
     l.distinct lawful about.key_is about.known_is about.works asked_is about.operation_is
-    (record { operation_is = one.serves.operation_is; id_is = one.serves.id_is }) nearer.learnt in
-    let known_now : known_after_turn keys next knowns question (Some given) ≡ slice_set knowns place nearer.next =
+    (record { operation_is = one.serves.operation_is; id_is = one.serves.id_is }) n.learnt in
+    let known_now : known_after_turn keys next knowns question (Some given) ≡ slice_set knowns question.key n.next =
     heard_one keys next knowns question given reply given_is ∙ taught_now in
-    subst (IsLess keys before served knowns) (sym known_now) (record {
-      sound = sound_served;
-      held = one_held keys knowns place key nearer.next before.objects served.objects others about.key_is held nearer.held;
-      less = one_less keys knowns place key known nearer.next before served
-          (λ j k kn is at apart.
-          let same = others j k apart is in
-          let name = names_apart l keys j place k key lawful is about.key_is apart in
-          let way : is_under_way k served ≡ is_under_way k before =
-          ap (λ found. option_map_or (was_asked k served.requests) (step_at k.target (place_in k found + 1)) false) same
-          ∙ ap (λ requests. option_map_or (was_asked k requests) (step_at k.target (position k before.objects + 1)) false) requests_are
-          ∙ way_same k before (requests_in question.bytes) (request_about key known) about.asks.0 (λ step stands. other_key k key known step name) in
-          omega (arith, left_same k kn before served same way))
-          about.key_is about.known_is less;
-    })
+    subst (IsLess keys before served knowns) (sym known_now) less
 
 pub clean_leaves : (l : Lawbook) (keys : List Key) (old new : Past) (next : ℕ) (knowns : List Knowledge) (question : Question) (answer : Option (List ℕ))
     → IsLawful keys → Sound keys old → Held old.objects keys knowns → IsAbout keys knowns question → IsClean (is_planned keys) old question.bytes answer new

@@ -6,8 +6,8 @@ use Rattle.std.specs.List.{All, list_any, slice_get}
 use Rattle.std.proofs.lemmas.Bool.{cases_Bool, eqb-true, eq-eqb, ltb-true}
 use Rattle.std.proofs.lemmas.List.Elements.{All-head}
 use Rattle.std.proofs.lemmas.Bool.{and_parts}
-use Rattle.kmip_messages.specs.Items.{replies_in, requests_in}
-use Rattle.kmip_messages.specs.Whole.{reply_read}
+use Rattle.kmip_batches.specs.Batches.{replies_read}
+use Rattle.kmip_batches.specs.Items.{replies_in, requests_in}
 use Rattle.kmip_messages.specs.declared.reply.Reply.{Reply}
 use Rattle.kmip_messages.specs.declared.request.Request.{Request}
 use Rattle.kmip_chains.specs.declared.key.Key.{Key}
@@ -16,7 +16,7 @@ use Rattle.kmip_knowledge.specs.Knowledge.{chain_length}
 use Rattle.kmip_knowledge.specs.declared.fault.HearFault.{HearFault}
 use Rattle.kmip_knowledge.specs.declared.knowledge.Knowledge.{Knowledge}
 use Rattle.kmip_client.specs.Clients.{IsAbout, changed_at, changed_by, lost_working, one_if}
-use Rattle.kmip_client.specs.Hearing.{first_heard, heard_in, unreadable}
+use Rattle.kmip_client.specs.Hearing.{heard_alone, heard_in, unreadable}
 use Rattle.kmip_client.specs.Held.{Held}
 use Rattle.kmip_client.specs.Questions.{request_about}
 use Rattle.kmip_client.specs.Truth.{TrueMessage, TrueReply}
@@ -188,13 +188,15 @@ reply_leaves l keys p next knowns question given reply replies (Ok (heard, nexts
 message_leaves : (l : Lawbook) (keys : List Key) (p : Past) (next : ℕ) (knowns : List Knowledge) (question : Question) (given : List ℕ) (replies : List Reply)
     → Hears keys p knowns question → replies_in given ≡ replies → TrueMessage keys p.objects given
     → Leaves keys p knowns
-    (taught_by question (record { keys = keys; knowns = knowns; next = next }) (first_heard keys (unreadable (reply_read given)) replies knowns)).knowns
+    (taught_by question (record { keys = keys; knowns = knowns; next = next }) (heard_alone keys (unreadable (replies_read given)) replies knowns)).knowns
     (is_strange (is_planned keys) question.bytes given)
 message_leaves l keys p next knowns question given [] hears is so =
     none_strange keys p knowns (changed_at lost_working keys knowns question.key) (is_strange (is_planned keys) question.bytes given) (lost_leaves l keys p knowns question hears)
-message_leaves l keys p next knowns question given (reply ∷ replies) hears is so =
-    reply_leaves l keys p next knowns question given reply replies (heard_in keys reply knowns) hears is
-    (All-head (TrueReply keys p.objects) reply replies (subst (All (TrueReply keys p.objects)) is so)) refl
+message_leaves l keys p next knowns question given (reply ∷ []) hears is so =
+    reply_leaves l keys p next knowns question given reply [] (heard_in keys reply knowns) hears is
+    (All-head (TrueReply keys p.objects) reply [] (subst (All (TrueReply keys p.objects)) is so)) refl
+message_leaves l keys p next knowns question given (reply ∷ other ∷ replies) hears is so =
+    none_strange keys p knowns (changed_at lost_working keys knowns question.key) (is_strange (is_planned keys) question.bytes given) (lost_leaves l keys p knowns question hears)
 
 answer_leaves : (l : Lawbook) (keys : List Key) (p : Past) (next : ℕ) (knowns : List Knowledge) (question : Question) (answer : Option (List ℕ))
     → Hears keys p knowns question → IfSome answer (TrueMessage keys p.objects)
@@ -212,7 +214,7 @@ pub disturbed_leaves : (l : Lawbook) (keys : List Key) (old new : Past) (next : 
 disturbed_leaves l keys old new next knowns question answer lawful sound held about hands =
     let asked = with_asked question.bytes old in
     let p = hands.between in
-    let sound_asked = l.asking keys old question.bytes sound (asks_well l keys old knowns question lawful held about) in
+    let sound_asked = l.asking keys old (requests_in question.bytes) sound (asks_well l keys old knowns question lawful held about) in
     let sound_now = l.sound_after keys asked p sound_asked hands.delivered in
     let held_now = held_late l keys asked p knowns lawful sound_asked held hands.delivered in
     let first = asked_left l keys old knowns question lawful about in

@@ -21,7 +21,7 @@ use Rattle.kmip_settling.proofs.ReadyLemmas.{sound_here}
 use Rattle.kmip_settling.proofs.TurnLemmas.{turn_of}
 
 -- how the object of a key changes is how that of the key changes which goes on from it
-change_of : (l : Lawbook) (keys : List Key) (newer key : Key) (old new : List Object) → GoesOn newer key → IsPlanned keys newer → AreHere keys old
+pub change_of : (l : Lawbook) (keys : List Key) (newer key : Key) (old new : List Object) → GoesOn newer key → IsPlanned keys newer → AreHere keys old
     → Change key old new → Change newer old new
 change_of l keys newer key old new on planned its (stays same) = stays same
 change_of l keys newer key old new on planned its (comes uid fits free uid_free now) =

@@ -52,7 +52,7 @@ first_at p from (a ∷ xs) (suc place) x here holds alone =
           rw other (rest ∙ ap Some same)
     ]
 
-place_found : (keys : List Key) (place : ℕ) (key : Key) → NamesAreDistinct → IsLawful keys → slice_get keys place ≡ Some key
+pub place_found : (keys : List Key) (place : ℕ) (key : Key) → NamesAreDistinct → IsLawful keys → slice_get keys place ≡ Some key
     → place_named key.attrs.name keys ≡ Some place
 place_found keys place key distinct lawful here =
     let found = first_at (λ (k : Key). is_text key.attrs.name k.attrs.name) 0 keys place key here (same_text key.attrs.name key.attrs.name refl)
@@ -101,10 +101,10 @@ teach_is : (key : Key) (outcome : Outcome) (known next : Knowledge) → is_worki
     → teach key outcome known ≡ Ok (lesson outcome known next)
 teach_is key outcome known next works learnt = rw works (ap (with_news (has_failed outcome) known) learnt)
 
-abbrev heard_of : ℕ → ℕ → Outcome → Knowledge → Knowledge → Heard
+abbrev pub heard_of : ℕ → ℕ → Outcome → Knowledge → Knowledge → Heard
 heard_of place operation outcome known next = record { key = place; operation = operation; news = (lesson outcome known next).0 }
 
-heard_is : (keys : List Key) (knowns : List Knowledge) (place operation : ℕ) (key : Key) (known next : Knowledge) (reply : Reply) → NamesAreDistinct
+pub heard_is : (keys : List Key) (knowns : List Knowledge) (place operation : ℕ) (key : Key) (known next : Knowledge) (reply : Reply) → NamesAreDistinct
     → IsLawful keys → slice_get keys place ≡ Some key → slice_get knowns place ≡ Some known → is_working key known ≡ true
     → is_asked_of key operation ≡ true → reply.id ≡ Some (operation ∷ key.attrs.name)
     → (reply.operation ≡ Some operation) ⊎ (reply.operation ≡ None) → learn key reply.outcome known ≡ Ok next
@@ -120,7 +120,7 @@ heard_is keys knowns place operation key known next reply distinct lawful here t
 
 -- ---- what is known after it
 
-lost_is : (c : ClientState) (place : ℕ) (key : Key) (known : Knowledge) → slice_get c.keys place ≡ Some key → slice_get c.knowns place ≡ Some known
+pub lost_is : (c : ClientState) (place : ℕ) (key : Key) (known : Knowledge) → slice_get c.keys place ≡ Some key → slice_get c.knowns place ≡ Some known
     → is_working key known ≡ true → (lost_at c place).knowns ≡ slice_set c.knowns place (lose known)
 lost_is c place key known here there works =
     let lost : lost_working key known ≡ lose known = rw works refl in
@@ -135,7 +135,7 @@ answer_is question operation news is =
     let two : (operation == question.operation) ≡ true = eq-eqb operation question.operation (sym is) in
     rw (one, two) refl
 
-failed_learns : (key : Key) (outcome : Outcome) (known next : Knowledge) → HasFailed outcome → learn key outcome known ≡ Ok next → lose known ≡ next
+pub failed_learns : (key : Key) (outcome : Outcome) (known next : Knowledge) → HasFailed outcome → learn key outcome known ≡ Ok next → lose known ≡ next
 failed_learns key outcome known next (reason, is) learnt = same_ok (lose known) next (sym (ap (λ o. learn key o known) is) ∙ learnt) where
   ok : Knowledge → Result Knowledge HearFault
   ok x = Ok x

@@ -18,3 +18,8 @@ pub mod HeardLemmas
 pub mod AskingLemmas
 pub mod DisturbedLemmas
 pub mod CleanLemmas
+pub mod TaughtLemmas
+pub mod MessageLemmas
+pub mod CleanMessageLemmas
+pub mod TouchedLemmas
+pub mod DisturbedMessageLemmas

@@ -3,10 +3,10 @@ use Rattle.std.proofs.Common.{◌≡◌, ◌≢◌, ◌≤◌, ◌<◌, ℕ, ◌
 use Rattle.std.specs.List.{slice_get}
 use Rattle.std.specs.Option.{unwrap_or}
 use Rattle.std.proofs.lemmas.Bool.{and_parts, ltb-true}
-use Rattle.kmip_messages.specs.Items.{stops_in, replies_in}
+use Rattle.kmip_batches.specs.Batches.{replies_read}
+use Rattle.kmip_batches.specs.Items.{stops_in, replies_in}
 use Rattle.kmip_objects.specs.Objects.{Object}
 use Rattle.kmip_messages.specs.Operations.{operation_of}
-use Rattle.kmip_messages.specs.Whole.{reply_read}
 use Rattle.kmip_messages.specs.declared.reply.Outcome.{Outcome}
 use Rattle.kmip_messages.specs.declared.reply.Reply.{Reply}
 use Rattle.kmip_messages.specs.declared.request.Request.{Request}
@@ -18,7 +18,7 @@ use Rattle.kmip_knowledge.specs.declared.knowledge.Phase.{Phase}
 use Rattle.kmip_knowledge.specs.declared.knowledge.Phase.TheVariants as phases
 use Rattle.kmip_client.specs.declared.question.Question.{Question}
 use Rattle.kmip_client.specs.Clients.{IsAbout}
-use Rattle.kmip_client.specs.Hearing.{first_heard, heard_in, unreadable}
+use Rattle.kmip_client.specs.Hearing.{heard_alone, heard_in, unreadable}
 use Rattle.kmip_knowledge.specs.Knowledge.{chain_length, is_working}
 use Rattle.kmip_client.specs.Questions.{phase_ask, next_ask, step_ask, ask_about, request_about}
 use Rattle.kmip_client.specs.Shapes.{PhaseSuits}
@@ -76,7 +76,7 @@ phase_nearer l room old new key known phases.Go outcome is worked step =
 
 -- ---- one key of many
 
-is_worked : (l : Lawbook) (keys : List Key) (place room : ℕ) (objects : List Object) (knowns : List Knowledge) (key : Key) (known : Knowledge) → IsLawful keys
+pub is_worked : (l : Lawbook) (keys : List Key) (place room : ℕ) (objects : List Object) (knowns : List Knowledge) (key : Key) (known : Knowledge) → IsLawful keys
     → IsReady room keys objects knowns → slice_get keys place ≡ Some key → slice_get knowns place ≡ Some known → is_working key known ≡ true
     → IsWorked room objects key known
 is_worked l keys place room objects knowns key known lawful ready here there works = record {
@@ -88,10 +88,10 @@ is_worked l keys place room objects knowns key known lawful ready here there wor
 }
 
 -- the client is ready still, and needs one exchange less
-abbrev GoesNearer : ℕ → List Key → List Object → List Object → List Knowledge → List Knowledge → Type 0
+abbrev pub GoesNearer : ℕ → List Key → List Object → List Object → List Knowledge → List Knowledge → Type 0
 GoesNearer room keys old new knowns nexts = IsReady room keys new nexts × (need_all keys nexts new + 1 ≡ need_all keys knowns old)
 
-all_nearer : (l : Lawbook) (keys : List Key) (place room : ℕ) (old new : List Object) (knowns : List Knowledge) (key : Key) (known : Knowledge) (outcome : Outcome)
+pub all_nearer : (l : Lawbook) (keys : List Key) (place room : ℕ) (old new : List Object) (knowns : List Knowledge) (key : Key) (known : Knowledge) (outcome : Outcome)
     → IsLawful keys → IsReady room keys old knowns → slice_get keys place ≡ Some key → slice_get knowns place ≡ Some known
     → (nearer : IsNearer key known outcome old new) → GoesNearer room keys old new knowns (slice_set knowns place nearer.next)
 all_nearer l keys place room old new knowns key known outcome lawful ready here there nearer =
@@ -119,7 +119,7 @@ pub heard_one : (keys : List Key) (next : ℕ) (knowns : List Knowledge) (questi
     → known_after_turn keys next knowns question (Some given)
     ≡ (taught_by question (record { keys = keys; knowns = knowns; next = next }) (heard_in keys reply knowns)).knowns
 heard_one keys next knowns question given reply is =
-    ap (λ replies. (taught_by question (record { keys = keys; knowns = knowns; next = next }) (first_heard keys (unreadable (reply_read given)) replies knowns)).knowns) is
+    ap (λ replies. (taught_by question (record { keys = keys; knowns = knowns; next = next }) (heard_alone keys (unreadable (replies_read given)) replies knowns)).knowns) is
 
 -- What one question over a calm link does: it is served once, and of the objects its key's alone changes.
 pub record Turn (keys : List Key) (old new : Past) (knowns : List Knowledge) (question : Question) (about : IsAbout keys knowns question) (given : List ℕ) : Type 0 where

@@ -28,7 +28,8 @@ use Rattle.kmip_plan.specs.Laws.{
   BoundsAddUp,
   OldKeysStand,
 }
-use Rattle.kmip_client.specs.Laws.{AsksWhatItMay, HeldForGood}
+use Rattle.kmip_batches.specs.Items.{ReadAreSaid, SaidAreRead}
+use Rattle.kmip_client.specs.Laws.{AsksWhatItMay, HeldForGood, HearingKeepsTheTruth, LosingKeepsTheTruth}
 use Rattle.kmip_schedule.specs.Laws.{
   ObjectsGoOnward,
   DeliveriesKeepSound,
@@ -63,9 +64,13 @@ pub record Lawbook : Type 0 where
   pub bounds : BoundsAddUp
   pub no_less : ReachedIsNoLess
   pub old_stand : OldKeysStand
+  pub said : SaidAreRead
+  pub read : ReadAreSaid
   pub asks : AsksWhatItMay
   pub located : LocateFindsAllNamed
   pub held_for_good : HeldForGood
+  pub held_heard : HearingKeepsTheTruth
+  pub held_lost : LosingKeepsTheTruth
   pub onward : ObjectsGoOnward
   pub sound_after : DeliveriesKeepSound
   pub requests_stay : DeliveriesKeepTheRequests

@@ -4,8 +4,10 @@ ghost use Rattle.kmip_settling.specs.Laws.{
   SoundIsReady,
   NothingMadeIsReady,
   NothingMadeNeedsTheChains,
+  CalmMessagesAreNearer,
   CalmTurnsAreNearer,
   RoomIsLeft,
+  MessagesLeaveRoom,
   ProlongedMissNoLess,
   NeedsAreBounded,
   WhoNeedsNothingIsFinished,
@@ -15,10 +17,11 @@ ghost use Rattle.kmip_settling.specs.Laws.{
 };
 ghost use Rattle.kmip_settling.specs.Lawbook.{Lawbook};
 
+use kmip_batches::laws::answer_laws;
 use kmip_chains::laws::{
     due_steps_advance, further_ways_keep_places, states_have_places, steps_have_places,
 };
-use kmip_client::laws::{truth_is_for_good, what_is_asked_may_be};
+use kmip_client::laws::{hearing_keeps_the_truth, truth_is_for_good, what_is_asked_may_be};
 use kmip_objects::laws::{added_laws, found_laws, restated_laws};
 use kmip_plan::laws::{bounds_add_up, keys_fit, keys_have_names, prolonged_keys_stand};
 use kmip_schedule::laws::{
@@ -42,9 +45,11 @@ pub(crate) fn laws_below()
     bounds_add_up();
     further_ways_keep_places();
     prolonged_keys_stand();
+    answer_laws();
     what_is_asked_may_be();
     a_name_is_found();
     truth_is_for_good();
+    hearing_keeps_the_truth();
     objects_go_onward();
     deliveries_keep_sound();
     deliveries_keep_the_requests();
@@ -79,10 +84,20 @@ pub fn a_calm_turn_is_nearer()
     laws_below();
 }
 
+/// A message of questions about several keys that is asked over a calm link brings each of these one
+/// exchange nearer to its end, and no other key further from it.
+pub fn a_calm_message_is_nearer()
+    ensures { CalmMessagesAreNearer }
+{
+    laws_below();
+}
+
 /// Where there is room for the objects that a plan misses which prolongs the client's, there is room
-/// for them after such a question too; and it misses no fewer than the client's plan.
+/// for them after such a question too, and after such a message; and it misses no fewer than the
+/// client's plan.
 pub fn room_is_left_for_prolonged_plans()
     ensures left { RoomIsLeft }
+    ensures messages { MessagesLeaveRoom }
     ensures missing { ProlongedMissNoLess }
 {
     laws_below();

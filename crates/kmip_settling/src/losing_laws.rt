@@ -3,7 +3,9 @@
 ghost use Rattle.kmip_settling.specs.LosingLaws.{
   LateArrivalsAddNothing,
   CleanTurnsAreNearer,
+  CleanMessagesAreNearer,
   DisturbedTurnsCostTwo,
+  DisturbedMessagesCostTwoEach,
   NeedsAreLeft,
   LeftIsBounded,
   LeftIsWithinWhatIsKnown,
@@ -37,7 +39,9 @@ pub fn late_arrivals_add_nothing()
 /// over is about a key that was not asked.
 pub fn a_losing_turn_is_bounded()
     ensures clean { CleanTurnsAreNearer }
+    ensures messages { CleanMessagesAreNearer }
     ensures disturbed { DisturbedTurnsCostTwo }
+    ensures disturbed_messages { DisturbedMessagesCostTwoEach }
 {
     laws_below();
 }

@@ -1,9 +1,9 @@
 -- Each place is that of a key that is worked on, and there is one where some key is.
 use Rattle.std.proofs.Common.{◌≡◌, ◌∙◌, ◌++◌, ℕ, List, take, drop, ap, sym, subst}
 use Rattle.std.specs.List.{All}
-use Rattle.kmip_client.specs.Batches.{all_working_from, next_places}
+use Rattle.kmip_client.specs.Batches.{all_working_from, next_places, AreApart}
 use Rattle.kmip_client.specs.Clients.{ClientState, WorksAt}
-use Rattle.kmip_client.proofs.BatchLemmas.{cut_twice, no_places, places_work}
+use Rattle.kmip_client.proofs.BatchLemmas.{cut_twice, no_places, places_apart, places_work}
 use Rattle.kmip_client.proofs.batching.next_places.Goals as goal
 
 -- where the keys stand, and whose turn it is
@@ -21,6 +21,9 @@ in_turn_there c =
 pub returns-clause-work : goal.returns-clause-work
 returns-clause-work c =
     subst (λ ps. All (WorksAt c.args.keys.now c.args.knowns.now) ps) (sym (in_turn_there c)) (places_work c.args.most (turn_in c))
+
+pub returns-clause-apart : goal.returns-clause-apart
+returns-clause-apart c = subst AreApart (sym (in_turn_there c)) (places_apart c.args.most (turn_in c))
 
 pub returns-clause-none : goal.returns-clause-none
 returns-clause-none c = λ none some. no_places c.args.most (turn_in c) some c.requires.as_many (sym (in_turn_there c) ∙ none)

@@ -1,24 +1,41 @@
 -- Each request is that of a key that is worked on.
-use Rattle.std.proofs.Common.{◌≡◌, ◌∙◌, ap, sym, subst, arith}
+use Rattle.std.proofs.Common.{◌≡◌, ◌∙◌, nat_le, not, length, map, Ok, ap, sym, subst, arith}
 use Rattle.std.specs.List.{All}
-use Rattle.kmip_batches.specs.Items.{requests_in}
-use Rattle.kmip_client.specs.Batches.{requests_at}
+use Rattle.kmip_batches.specs.Items.{parts_in, requests_in, stops_in}
+use Rattle.kmip_client.specs.Batches.{part_about, requests_at}
 use Rattle.kmip_client.specs.Justified.{Justified}
-use Rattle.kmip_client.proofs.BatchLemmas.{all_asked, batch_fits, requests_justified}
+use Rattle.kmip_client.specs.Questions.{request_about}
+use Rattle.kmip_client.proofs.BatchLemmas.{all_there, batch_fits, requests_are_fit, requests_justified}
 use Rattle.kmip_client.proofs.batching.questions_at.Goals as goal
 
 pub write_request-requires : goal.write_request-requires
 write_request-requires c =
     batch_fits c.args.keys.now c.args.knowns.now c.args.places.now c.as_slice.result.now c.steps_have_places.ensures.revoke c.requires.shaped c.requires.fits
     c.requires.works c.requires.some
-    (c.as_slice.ensures.value ∙ all_asked c.args.keys.now c.args.knowns.now c.args.places.now c.loop-place.place-index c.loop-place.requests.items
+    (c.as_slice.ensures.value ∙ all_there (λ place key known. request_about key known) c.args.keys.now c.args.knowns.now c.args.places.now c.loop-place.place-index c.loop-place.requests.items
     (omega (arith, c.loop-place-test.false)) c.loop-place.invariant.1)
 
 pub returns-clause-justified : goal.returns-clause-justified
 returns-clause-justified c = λ objects held.
     let asked : c.as_slice.result.now ≡ requests_at c.args.keys.now c.args.knowns.now c.args.places.now =
-    c.as_slice.ensures.value ∙ all_asked c.args.keys.now c.args.knowns.now c.args.places.now c.loop-place.place-index c.loop-place.requests.items
+    c.as_slice.ensures.value ∙ all_there (λ place key known. request_about key known) c.args.keys.now c.args.knowns.now c.args.places.now c.loop-place.place-index c.loop-place.requests.items
     (omega (arith, c.loop-place-test.false)) c.loop-place.invariant.1 in
     subst (λ rs. All (Justified c.args.keys.now objects) rs) (sym (ap requests_in c.from_vec.ensures ∙ c.in_ok-bytes.ensures.asks ∙ asked))
     (requests_justified c.args.keys.now objects c.args.knowns.now c.args.places.now c.steps_have_places.ensures.next c.keys_have_names.ensures.found
     c.requires.lawful held c.requires.works)
+
+pub returns-clause-about : goal.returns-clause-about
+returns-clause-about c =
+    let asked : c.as_slice.result.now ≡ requests_at c.args.keys.now c.args.knowns.now c.args.places.now =
+    c.as_slice.ensures.value ∙ all_there (λ place key known. request_about key known) c.args.keys.now c.args.knowns.now c.args.places.now c.loop-place.place-index
+    c.loop-place.requests.items (omega (arith, c.loop-place-test.false)) c.loop-place.invariant.1 in
+    let many = (requests_are_fit c.args.keys.now c.args.knowns.now c.args.places.now c.steps_have_places.ensures.revoke c.requires.shaped c.requires.fits c.requires.works).1 in
+    record {
+      works = c.requires.works;
+      apart = c.requires.apart;
+      parts_are = all_there part_about c.args.keys.now c.args.knowns.now c.args.places.now c.loop-place.place-index c.loop-place.parts.items
+          (omega (arith, c.loop-place-test.false)) c.loop-place.invariant.0;
+      asks = ap requests_in c.from_vec.ensures ∙ c.in_ok-bytes.ensures.asks ∙ asked;
+      asks_alone = ap parts_in c.from_vec.ensures ∙ c.in_ok-bytes.ensures.parts ∙ ap (map Ok) asked;
+      goes_on = ap stops_in c.from_vec.ensures ∙ c.in_ok-bytes.ensures.stops ∙ ap (λ rs. not (nat_le 2 (length rs))) asked ∙ ap (λ n. not (nat_le 2 n)) many;
+    }

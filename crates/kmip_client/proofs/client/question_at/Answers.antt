@@ -1,7 +1,7 @@
 -- What stands at the place is what was asked for.
 use Rattle.std.proofs.Common.{◌≡◌, length, Some, refl}
 use Rattle.std.proofs.lemmas.Option.{slice_get_read}
-use Rattle.kmip_messages.specs.Items.{AsksAlone}
+use Rattle.kmip_batches.specs.Items.{AsksAlone}
 use Rattle.kmip_client.specs.Clients.{question_at, IsAbout}
 use Rattle.kmip_client.specs.Questions.{question_about, request_about}
 use Rattle.kmip_client.specs.Shapes.{IsShaped}

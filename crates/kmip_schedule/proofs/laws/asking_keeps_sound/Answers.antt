@@ -3,4 +3,4 @@ use Rattle.kmip_schedule.proofs.ExchangeLemmas.{asked_sound}
 use Rattle.kmip_schedule.proofs.laws.asking_keeps_sound.Goals as goal
 
 pub returns : goal.returns
-returns c = λ keys p sent sound just. asked_sound keys p sent sound just
+returns c = λ keys p requests sound just. asked_sound keys p requests sound just

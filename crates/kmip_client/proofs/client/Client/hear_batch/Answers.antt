@@ -1,10 +1,10 @@
 -- Reply by reply.
 use Rattle.std.proofs.Common.{◌≡◌, sym, subst}
 use Rattle.std.specs.List.{AllZip}
-use Rattle.kmip_client.specs.Batches.{TrueReplies}
 use Rattle.kmip_client.specs.Clients.{ClientState, working_count, VerdictsStay}
 use Rattle.kmip_client.specs.Held.{Held}
 use Rattle.kmip_client.specs.Shapes.{IsKept}
+use Rattle.kmip_client.specs.Truth.{TrueMessage}
 use Rattle.kmip_client.proofs.BatchLemmas.{Kept, kept_by_message, held_by_message}
 use Rattle.kmip_client.proofs.client.Client.hear_batch.Goals as goal
 
@@ -36,4 +36,4 @@ returns-clause-held c = λ objects held so.
     held_by_message objects c.self.inside.plan.now c.keys-keys.result.now c.args.bytes.now c.self.inside.knowns.items c.hear_message.new.knowns.items
     c.hear_message.result c.states_have_places.ensures.within c.keys-keys.ensures.value c.hear_message.ensures.known c.hear_message.ensures.same
     (subst (λ (s : ClientState). Held objects s.keys s.knowns) (sym c.self.view_is) held)
-    (subst (λ (s : ClientState). TrueReplies s.keys objects c.args.bytes.now) (sym c.self.view_is) so)
+    (subst (λ (s : ClientState). TrueMessage s.keys objects c.args.bytes.now) (sym c.self.view_is) so)

@@ -1,23 +1,14 @@
--- The room is that before the message, answered or not; and the records are kept before it and after.
-use Rattle.std.proofs.Common.{subst}
-use Rattle.kmip_server.specs.Shown.{HasLawfulObjects}
-use Rattle.kmip_store.specs.Stock.{IsKept}
-use Rattle.kmip_server.proofs.MessageLemmas.{served_message}
-use Rattle.kmip_server.proofs.ChangeLemmas.{room_kept}
-use Rattle.kmip_server.proofs.ObjectLemmas.{kept_objects}
+-- What was begun is begun, whatever was noted of it.
+use Rattle.std.proofs.Common.{List, Result, Ok, Err, OnErr}
+use Rattle.kmip_server.specs.Batching.{GrownBy}
+use Rattle.kmip_server.specs.declared.effect.Effect.{Effect}
 use Rattle.kmip_server.proofs.server.Server.handle.Goals as goal
 
-pub returns-clause-room : goal.returns-clause-room
-returns-clause-room g c =
-    room_kept c.handle_message-reply.result c.args.self.now c.handle_message-reply.new.self c.args.message.now c.handle_message-reply.ensures.after c.handle_message-reply.ensures.same
+noted : {A E : Type 0} (r : Result A E) (P : List Effect → Type 0) (before after : List Effect) → OnErr r (GrownBy P before after)
+    → OnErr r ((effects : List Effect) × P effects)
+noted (Ok v) P before after grown = tt
+noted (Err e) P before after (more, is, begun) = (more, begun)
 
-pub returns-clause-objects_before : goal.returns-clause-objects_before
-returns-clause-objects_before g c = subst HasLawfulObjects c.self.view_is (kept_objects _ c.count-before.ensures.kept)
-
-pub returns-clause-objects : goal.returns-clause-objects
-returns-clause-objects g c = subst HasLawfulObjects c.self-2.view_is (kept_objects _ c.count-after.ensures.kept)
-
-pub returns-clause-served : goal.returns-clause-served
-returns-clause-served g c =
-    served_message c.serving_is_a_step.ensures c.handle_message-reply.result (λ v. v.items) c.args.self.now c.handle_message-reply.new.self c.args.message.now _ _
-    (subst (λ s. IsKept s.rows s.room) c.self.view_is c.count-before.ensures.kept) (c.question_laws.ensures.parts c.args.message.now) c.handle_message-reply.ensures.says c.handle_message-reply.ensures.after
+pub returns-clause-begun : goal.returns-clause-begun
+returns-clause-begun g c =
+    noted c.handle_batch.result _ _ _ c.handle_batch.ensures.begun
