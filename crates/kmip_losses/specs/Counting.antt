@@ -2,7 +2,7 @@
 -- Source: own, over KMIP 2.1, Message Structure (Unique Batch Item ID), and Message Data, Result Reason.
 use Rattle.std.specs.Prelude.{◌==◌, ℕ, Bool, true, false, ◌||◌, List, Option, Some, None, if◌then◌else◌}
 use Rattle.std.specs.List.{list_any}
-use Rattle.kmip_messages.specs.Items.{replies_in}
+use Rattle.kmip_batches.specs.Items.{replies_in}
 use Rattle.kmip_messages.specs.declared.reply.Outcome.{Outcome}
 use Rattle.kmip_messages.specs.declared.reply.Outcome.TheVariants.{Failed}
 use Rattle.kmip_messages.specs.declared.reply.Reply.{Reply}
@@ -18,7 +18,7 @@ is_full_outcome outcome = false
 abbrev pub is_full : Reply → Bool
 is_full reply = is_full_outcome reply.outcome
 
--- the message handed over says so
+-- a reply of the message handed over says so
 abbrev pub lacks_room : List ℕ → Bool
 lacks_room given = list_any is_full (replies_in given)
 
@@ -27,7 +27,7 @@ abbrev pub is_disturbed : Bool → Option (List ℕ) → Bool
 is_disturbed amiss None = true
 is_disturbed amiss (Some given) = amiss || lacks_room given
 
--- each name is one of these: a reply about any other key than that of the message is counted as strange
+-- each name is one of these: a reply about any other key than those of the message is counted as strange
 abbrev pub every_name : Names
 every_name name = true
 

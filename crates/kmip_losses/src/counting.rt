@@ -1,15 +1,20 @@
 //! Which exchanges are counted as disturbed.
-ghost use Rattle.std.specs.Prelude.{◌≡◌, ◌||◌, IfOk, option_map, option_to_list, if◌then◌else◌};
-ghost use Rattle.std.specs.List.{list_any};
-ghost use Rattle.kmip_messages.specs.Items.{replies_in, requests_in};
+ghost use Rattle.std.specs.Prelude.{◌≡◌, ◌||◌, IfOk, option_map, if◌then◌else◌};
+ghost use Rattle.std.specs.List.{filter_map, list_any};
+ghost use Rattle.std.specs.Result.{result_ok};
+ghost use Rattle.kmip_batches.specs.Items.{replies_in, requests_in};
 ghost use Rattle.kmip_schedule.specs.Clean.{but_of, hands_strange, is_name_of, names_one, one_disturbed, one_strange};
 ghost use Rattle.kmip_losses.specs.Counting.{counted, every_name, is_disturbed, is_full};
 
+use kmip_batches::{read_reply, read_request};
 use kmip_messages::standard::REASON_SERVER_FULL;
-use kmip_messages::{Outcome, Reply, Request, read_reply, read_request};
+use kmip_messages::{Outcome, Refusal, Reply, Request};
 use kmip_ttlv::{Bytes, NoMemory};
 use std::alloc::Global;
 use std::marker::Model;
+
+/// A question of a message: a request, or why it is refused.
+type Question = Result<Request, Refusal>;
 
 /// How many exchanges were disturbed, and how many of those handed over a reply about another key.
 #[derive(Clone, Copy, Debug)]
@@ -50,9 +55,9 @@ fn raised(counts: Counts, strange: bool) -> Result<Counts, NoMemory>
 }
 
 /// The counts after an exchange, by what it hands over, and whether it went amiss before that: its
-/// request was not served once, or another reply than that to it came. It is disturbed where it went
-/// amiss, hands nothing over, or says that the server has no room; and strange then too where what it
-/// hands over is about another key than the request.
+/// message was not served once, or another message than that to it came. It is disturbed where it
+/// went amiss, where nothing is handed over, or where a reply says that the server has no room; and
+/// strange then too where a reply is about a key that no request of the message is about.
 ///
 /// # Errors
 /// Where there is no memory, or a count would pass `usize::MAX`.
@@ -70,47 +75,68 @@ pub fn counts_after(
     let Some(given) = answer else {
         return raised(counts, false);
     };
-    let reply = reply_in(alloc, given)?;
-    if !is_disturbed(amiss, &reply) {
+    let replies = replies_in(alloc, given)?;
+    if !is_disturbed(amiss, replies.as_slice()) {
         return Ok(counts);
     }
-    let strange = is_strange(alloc, request, &reply)?;
+    let questions = questions_in(alloc, request)?;
+    let strange = is_strange(questions.as_slice(), replies.as_slice());
     raised(counts, strange)
 }
 
-/// Whether an exchange is disturbed that hands over a message: this reply, or no reply.
-fn is_disturbed(amiss: bool, reply: &Option<Reply>) -> bool
-    ensures { result ≡ amiss || list_any is_full (option_to_list reply.now) }
-{
-    amiss || lacks_room(reply)
-}
-
-/// The reply that the bytes are, where they are one.
-fn reply_in(alloc: Global, given: &[u8]) -> Result<Option<Reply>, NoMemory>
-    ensures { IfOk result (λ reply. replies_in given.now ≡ option_to_list reply) }
+/// The replies that the bytes are; none where they are no message of replies.
+///
+/// # Errors
+/// Where there is no memory.
+fn replies_in(alloc: Global, given: &[u8]) -> Result<Vec<Reply>, NoMemory>
+    ensures { IfOk result (λ replies. replies.items ≡ replies_in given.now) }
 {
     match read_reply(alloc, given) {
-        Ok(reply) => Ok(Some(reply)),
+        Ok(replies) => Ok(replies),
         Err(fault) => {
             if fault.is_no_memory() {
                 return Err(NoMemory);
             }
-            Ok(None)
+            Ok(Vec::new(alloc))
         }
     }
 }
 
-/// Whether a reply says that the server has no room.
-fn lacks_room(reply: &Option<Reply>) -> bool
-    ensures { result ≡ list_any is_full (option_to_list reply.now) }
+/// The questions that the bytes ask; none where they are refused whole.
+///
+/// # Errors
+/// Where there is no memory.
+#[tactic(auto, unfolding(kmip_batches::specs::Items::requests_in))]
+fn questions_in(alloc: Global, request: &[u8]) -> Result<Vec<Question>, NoMemory>
+    ensures { IfOk result (λ questions.
+        filter_map result_ok questions.items ≡ requests_in request.now) }
 {
-    match reply {
-        Some(reply) => is_full(reply),
-        None => false,
+    match read_request(alloc, request) {
+        Ok(batch) => Ok(batch.items.into_vec()),
+        Err(fault) => {
+            if fault.is_no_memory() {
+                return Err(NoMemory);
+            }
+            Ok(Vec::new(alloc))
+        }
     }
 }
 
-/// The same, where there is one.
+/// Whether an exchange is disturbed that hands over a message with these replies.
+fn is_disturbed(amiss: bool, replies: &[Reply]) -> bool
+    ensures { result ≡ amiss || list_any is_full replies.now }
+{
+    amiss || lacks_room(replies)
+}
+
+/// Whether one of these replies says that the server has no room.
+fn lacks_room(replies: &[Reply]) -> bool
+    ensures { result ≡ list_any is_full replies.now }
+{
+    replies.iter().any(|reply| is_full(reply))
+}
+
+/// Whether a reply says that the server has no room.
 fn is_full(reply: &Reply) -> bool
     ensures { result ≡ is_full reply.now }
 {
@@ -122,56 +148,43 @@ fn is_full(reply: &Reply) -> bool
     }
 }
 
-/// Whether a reply is about a key that the request is not about.
-///
-/// # Errors
-/// Where there is no memory.
-fn is_strange(alloc: Global, request: &[u8], reply: &Option<Reply>) -> Result<bool, NoMemory>
-    ensures { IfOk result (λ strange. strange
-        ≡ list_any (λ r. names_one (but_of (requests_in request.now) every_name) r.id)
-        (option_to_list reply.now)) }
+/// Whether one of these replies is about a key that none of the questions is about.
+fn is_strange(questions: &[Question], replies: &[Reply]) -> bool
+    ensures { result ≡ list_any
+        (λ r. names_one (but_of (filter_map result_ok questions.now) every_name) r.id)
+        replies.now }
 {
-    match reply {
-        Some(reply) => is_about_other(alloc, request, &reply.id),
-        None => Ok(false),
-    }
+    replies
+        .iter()
+        .any(|reply| is_about_other(questions, &reply.id))
 }
 
-/// Whether the id of a reply names a key that the request is not about.
-///
-/// # Errors
-/// Where there is no memory.
-fn is_about_other(alloc: Global, request: &[u8], id: &Option<Bytes>) -> Result<bool, NoMemory>
-    ensures { IfOk result (λ other. other
-        ≡ names_one (but_of (requests_in request.now) every_name) id.now) }
+/// Whether the id of a reply names a key that none of the questions is about.
+fn is_about_other(questions: &[Question], id: &Option<Bytes>) -> bool
+    ensures { result
+        ≡ names_one (but_of (filter_map result_ok questions.now) every_name) id.now }
 {
     let Some(id) = id else {
-        return Ok(false);
+        return false;
     };
     let Some((_operation, name)) = id.as_slice().split_first() else {
-        return Ok(false);
+        return false;
     };
-    let own = is_about(alloc, request, name)?;
-    Ok(!own)
+    !is_about(questions, name)
 }
 
-/// Whether the request is about the key of a name.
-///
-/// # Errors
-/// Where there is no memory.
-fn is_about(alloc: Global, request: &[u8], name: &[u8]) -> Result<bool, NoMemory>
-    ensures { IfOk result (λ own. own
-        ≡ list_any (is_name_of name.now) (requests_in request.now)) }
+/// Whether one of the questions is about the key of a name. One that is refused is about none.
+fn is_about(questions: &[Question], name: &[u8]) -> bool
+    ensures { result ≡ list_any (is_name_of name.now) (filter_map result_ok questions.now) }
 {
-    match read_request(alloc, request) {
-        Ok(request) => Ok(is_name_of(name, &request)),
-        Err(refusal) => {
-            if refusal.fault.is_no_memory() {
-                return Err(NoMemory);
+    for question in questions {
+        if let Ok(request) = question {
+            if is_name_of(name, request) {
+                return true;
             }
-            Ok(false)
         }
     }
+    false
 }
 
 /// Whether the id of a request names the key of a name.

@@ -4,7 +4,7 @@ use Rattle.std.proofs.lemmas.List.{length-append}
 use Rattle.std.proofs.lemmas.List.Concat.{flat_map-append}
 use Rattle.std.proofs.lemmas.List.Elements.{All-append, All-nil}
 use Rattle.std.specs.List.{AllZip}
-use Rattle.kmip_messages.specs.Items.{requests_in}
+use Rattle.kmip_batches.specs.Items.{requests_in}
 use Rattle.kmip_plan.specs.Plans.{IsLawful}
 use Rattle.kmip_chains.specs.declared.key.Key.{Key}
 use Rattle.kmip_client.specs.Clients.{ClientState}

@@ -1,126 +1,238 @@
--- A message that is served: what it did, and the move that it is.
-use Rattle.std.proofs.Common.{◌≡◌, ◌==◌, ◌&&◌, ℕ, pos, Bool, List, [], ◌∷◌, ◌++◌, append-nil, length, option_to_list, Option, None, Result, Ok, Err, if◌then◌else◌, refl, sym, ap, subst, ◌∙◌, inl, inr}
+-- A message that is served, whole or in part: each of its questions is a move.
+use Rattle.std.proofs.Common.{◌≡◌, ℕ, pos, Bool, List, [], ◌∷◌, ◌++◌, append-nil, append_assoc, length, option_to_list, Ok, Err, IsTrue, refl, sym, ap, subst, ◌∙◌, inl, inr}
 use Rattle.std.specs.List.{All, Contains, flat_map, filter_map}
 use Rattle.std.specs.Result.{result_ok}
 use Rattle.std.proofs.lemmas.Grind.{flat_map-append}
-use Rattle.std.proofs.lemmas.List.{length-map}
-use Rattle.std.proofs.lemmas.List.Elements.{All-head}
-use Rattle.kmip_messages.specs.Items.{parts_in, replies_in, stops_in}
-use Rattle.kmip_messages.specs.ItemLaws.{RequestsAreParts}
-use Rattle.kmip_messages.specs.Whole.{request_read}
-use Rattle.kmip_messages.specs.declared.refusal.Refusal.{Refusal}
+use Rattle.std.proofs.lemmas.List.Elements.{All-head, All-tail}
+use Rattle.kmip_objects.specs.Objects.{DistinctNames, DistinctUids, Object}
+use Rattle.kmip_objects.specs.declared.state.KeyState.TheVariants.{PreActive}
+use Rattle.kmip_messages.specs.BatchItems.{Question}
+use Rattle.kmip_messages.specs.declared.reply.Outcome.{Outcome}
 use Rattle.kmip_messages.specs.declared.reply.Reply.{Reply}
+use Rattle.kmip_messages.specs.declared.request.Ask.{Ask}
 use Rattle.kmip_messages.specs.declared.request.Request.{Request}
-use Rattle.std.proofs.lemmas.Bool.{cases_Bool}
-use Rattle.kmip_server.specs.Again.{has_failed}
+use Rattle.kmip_batches.specs.Items.{parts_in, replies_in, stops_in}
+use Rattle.kmip_batches.specs.Members.{may_have}
+use Rattle.kmip_store.specs.Stock.{Stock}
+use Rattle.kmip_server.specs.Batching.{AreBegun, AreServedInTurn, GrownBy, batch_reply, effect_by, effects_in, stock_after_batch}
+use Rattle.kmip_server.specs.Messages.{IsServedBy}
 use Rattle.kmip_server.specs.Reasons.{message_reason}
-use Rattle.kmip_server.specs.Messages.{AreServed, IsServedBy}
-use Rattle.kmip_server.specs.Serving.{answer, refusal_reply, reply_bytes, reply_to, stock_after}
+use Rattle.kmip_server.specs.ServerStep.{ServerStep}
+use Rattle.kmip_server.specs.ServerStep as rows
 use Rattle.kmip_server.specs.Shown.{HasLawfulObjects, objects_in, room_in}
-use Rattle.kmip_store.specs.Stock.{Stock, object_of}
-use Rattle.kmip_schedule.specs.Calm.{AreTaken, IsTaken}
-use Rattle.kmip_schedule.specs.Laws.{WhatIsDoneJoins}
-use Rattle.kmip_schedule.specs.Past.{Past}
 use Rattle.kmip_server.specs.declared.effect.Effect.{Effect}
+use Rattle.kmip_schedule.specs.Calm.{AreTaken, IsTaken}
+use Rattle.kmip_schedule.specs.Moves.{Delivered, Serves, Unanswered}
+use Rattle.kmip_schedule.specs.Past.{Names, Past}
+use Rattle.kmip_scripted.specs.Arriving.{ArrivalLaws}
 use Rattle.kmip_scripted.specs.Scenes.{Scene, WasAsked, past_in}
-use Rattle.kmip_scripted.specs.Serving.{effect_due, effect_in, effect_of_read, is_create, with_served}
-use Rattle.kmip_scripted.proofs.DueLemmas.{seen_is_done}
+use Rattle.kmip_scripted.specs.Serving.{IsHalfServed, with_served}
 
--- one question, which is served
-served_one : (stops : Bool) (part : Result Request Refusal) (reply : Reply) (old new : Stock) → AreServed stops (part ∷ []) (reply ∷ []) old new
-    → IsServedBy part reply old new
-served_one stops part reply old new (between, first, later) = elim later [
-  | inl ended ↦ subst (IsServedBy part reply old) (sym ended.2) first
-  | inr goes ↦ subst (IsServedBy part reply old) (sym goes.1) first
-]
+-- ---- where a message is cut off at once
 
-served_read : (message bytes : List ℕ) (old new : Stock) → parts_in message ≡ request_read message ∷ [] → replies_in bytes ≡ reply_to old (request_read message) ∷ []
-    → AreServed (stops_in message) (parts_in message) (replies_in bytes) old new
-    → IsServedBy (request_read message) (reply_to old (request_read message)) old new
-served_read message bytes old new one says served =
-    served_one (stops_in message) (request_read message) (reply_to old (request_read message)) old new
-    (subst (λ parts. AreServed (stops_in message) parts (reply_to old (request_read message) ∷ []) old new) one
-    (subst (λ replies. AreServed (stops_in message) (parts_in message) replies old new) says served))
+none_begun : (stops : Bool) (parts : List Question) (s : Stock) → IsTrue (may_have (length parts)) → AreBegun stops parts [] s s
+none_begun stops [] s some = absurd cc
+none_begun stops (part ∷ parts) s some = inl (refl, refl)
 
-pub effect_is_seen : (message bytes : List ℕ) (request : Request) (old new : Stock) (due : Option Effect) (before later : ℕ)
-    → parts_in message ≡ request_read message ∷ [] → replies_in bytes ≡ reply_to old (request_read message) ∷ []
-    → AreServed (stops_in message) (parts_in message) (replies_in bytes) old new
-    → request_read message ≡ Ok request → due ≡ effect_due (objects_in old) request.ask → before ≡ length old.rows → later ≡ length new.rows
-    → (if is_create request.ask && (later == before) then None else due) ≡ effect_in old message
-effect_is_seen message bytes request old new due before later one says served is due_is was now =
-    let step = subst (λ read. IsServedBy read (reply_to old read) old new) is (served_read message bytes old new one says served) in
-    let before_is : before ≡ length (objects_in old) = was ∙ sym (length-map old.rows object_of) in
-    let later_is : later ≡ length (objects_in new) = now ∙ sym (length-map new.rows object_of) in
-    ap (λ d. if is_create request.ask && (later == before) then None else d) due_is
-    ∙ ap (λ n. if is_create request.ask && (n == before) then None else effect_due (objects_in old) request.ask) later_is
-    ∙ ap (λ n. if is_create request.ask && (length (objects_in new) == n) then None else effect_due (objects_in old) request.ask) before_is
-    ∙ seen_is_done (room_in old) (objects_in old) (objects_in new) request.ask (answer old request.ask).0 step.step
-    ∙ sym (ap (effect_of_read old) is)
+-- nothing is a beginning of its questions, of which there is one at least
+pub none_grown : ((bytes : List ℕ) → IsTrue (may_have (length (parts_in bytes)))) → (message : List ℕ) (s : Stock) (effects : List Effect)
+    → GrownBy (λ more. AreBegun (stops_in message) (parts_in message) more s s) effects effects
+none_grown some message s effects = ([], sym (append-nil effects), none_begun (stops_in message) (parts_in message) s (some message))
 
--- what a scene becomes where a message is answered by these bytes
-abbrev arrived : List ℕ → Stock → Option Effect → Scene → Scene
-arrived bytes new joined s = record s { stock = new; given = s.given ++ bytes ∷ []; effects = s.effects ++ option_to_list joined }
+-- ---- the objects stay distinct
 
-arrived_past : (bytes : List ℕ) (new : Stock) (joined : Option Effect) (s : Scene) (reply : Reply) → room_in new ≡ room_in s.stock → replies_in bytes ≡ reply ∷ []
-    → past_in (arrived bytes new joined s)
-    ≡ record (past_in s) { objects = objects_in new; replies = (past_in s).replies ++ reply ∷ []; effects = s.effects ++ option_to_list joined }
-arrived_past bytes new joined s reply room says =
-    let one : flat_map replies_in (bytes ∷ []) ≡ reply ∷ [] = append-nil (replies_in bytes) ∙ says in
-    let all : flat_map replies_in (s.given ++ bytes ∷ []) ≡ (past_in s).replies ++ reply ∷ [] =
-    flat_map-append replies_in s.given (bytes ∷ []) ∙ ap (λ more. (past_in s).replies ++ more) one in
-    ap (λ n. record (past_in (arrived bytes new joined s)) { room = n }) room
-    ∙ ap (λ replies. record (past_in s) { objects = objects_in new; replies = replies; effects = s.effects ++ option_to_list joined }) all
+pub record Distinct (objects : List Object) : Type 0 where
+  pub names : DistinctNames objects
+  pub identifiers : DistinctUids objects
 
-taken_read : (joins : WhatIsDoneJoins) (bytes : List ℕ) (s : Scene) (new : Stock) (read : Result Request Refusal)
-    → All (Contains (past_in s).requests) (filter_map result_ok (read ∷ [])) → replies_in bytes ≡ reply_to s.stock read ∷ []
-    → IsServedBy read (reply_to s.stock read) s.stock new → HasLawfulObjects s.stock
-    → IsTaken read (reply_to s.stock read) (past_in s) (past_in (arrived bytes new (effect_of_read s.stock read) s))
-taken_read joins bytes s new (Ok request) asked says step lawful = record {
+stay_distinct : (laws : ArrivalLaws) (room : ℕ) (old new : List Object) (ask : Ask) (outcome : Outcome) → ServerStep room old ask outcome new → Distinct old
+    → Distinct new
+stay_distinct laws room old new ask outcome (rows.name_taken h) are = are
+stay_distinct laws room old new ask outcome (rows.full h i) are = are
+stay_distinct laws room old new ask outcome (rows.created {attrs = attrs} {uid = uid} free roomy uid_free fits) are =
+    let o : Object = record { uid = uid; attrs = attrs; state = PreActive } in
+    record { names = laws.names_more old o are.names free; identifiers = laws.uids_more old o are.identifiers uid_free }
+stay_distinct laws room old new ask outcome rows.searched are = are
+stay_distinct laws room old new ask outcome (rows.told h) are = are
+stay_distinct laws room old new ask outcome (rows.unknown h) are = are
+stay_distinct laws room old new ask outcome (rows.compromised h) are = are
+stay_distinct laws room old new ask outcome (rows.not_found h i) are = are
+stay_distinct laws room old new ask outcome (rows.wrong_state h i j) are = are
+stay_distinct laws room old new ask outcome (rows.done {uid = uid} {state = state} asked with_uid row) are = record {
+  names = laws.names_stay uid state old are.names;
+  identifiers = laws.uids_stay uid state old are.identifiers;
+}
+
+served_distinct : (laws : ArrivalLaws) (part : Question) (reply : Reply) (old new : Stock) → IsServedBy part reply old new → Distinct (objects_in old)
+    → Distinct (objects_in new)
+served_distinct laws (Ok request) reply old new served are =
+    stay_distinct laws (room_in old) (objects_in old) (objects_in new) request.ask reply.outcome served.step are
+served_distinct laws (Err refusal) reply old new served are = subst (λ s. Distinct (objects_in s)) (sym served.same) are
+
+-- ---- one question
+
+-- the past over these records
+abbrev over : Stock → Past → Past
+over s p = record p { room = room_in s; objects = objects_in s }
+
+-- where these replies were given too, and these steps took effect
+abbrev with_more : List Reply → List Effect → Past → Past
+with_more replies effects p = record p { replies = p.replies ++ replies; effects = p.effects ++ effects }
+
+-- what a question did
+abbrev done_by : Stock → Question → Reply → List Effect
+done_by s part reply = option_to_list (effect_by (objects_in s) part reply)
+
+request_serves : (laws : ArrivalLaws) (request : Request) (reply : Reply) (old new : Stock) (p : Past) → Contains p.requests request
+    → IsServedBy (Ok request) reply old new → Distinct (objects_in old)
+    → Serves (over old p) request reply (objects_in new) (effect_by (objects_in old) (Ok request) reply)
+request_serves laws request reply old new p asked served are = record {
+  asked = asked;
+  step = served.step;
+  operation_is = inl served.operation_is;
+  id_is = inl served.id_is;
+  effects = laws.joins (room_in old) (objects_in old) (objects_in new) request.ask reply.outcome are.names are.identifiers served.step;
+}
+
+part_is_taken : (laws : ArrivalLaws) (part : Question) (parts : List Question) (reply : Reply) (old new : Stock) (p : Past)
+    → All (Contains p.requests) (filter_map result_ok (part ∷ parts)) → IsServedBy part reply old new → Distinct (objects_in old)
+    → IsTaken part reply (over old p) (over new (with_more (reply ∷ []) (done_by old part reply) p))
+part_is_taken laws (Ok request) parts reply old new p asked served are = record {
   objects = objects_in new;
-  joined = effect_of_read s.stock (Ok request);
-  serves = record {
-    asked = All-head (Contains (past_in s).requests) request [] asked;
-    step = step.step;
-    operation_is = inl step.operation_is;
-    id_is = inl step.id_is;
-    effects = joins (room_in s.stock) (objects_in s.stock) (objects_in new) request.ask (answer s.stock request.ask).0 lawful.names lawful.identifiers step.step;
-  };
-  is = arrived_past bytes new (effect_of_read s.stock (Ok request)) s (reply_to s.stock (Ok request)) step.room_is says;
+  joined = effect_by (objects_in old) (Ok request) reply;
+  serves = request_serves laws request reply old new p (All-head (Contains p.requests) request (filter_map result_ok parts) asked) served are;
+  is = ap (λ room. record (over new (with_more (reply ∷ []) (done_by old (Ok request) reply) p)) { room = room }) served.room_is;
 }
-taken_read joins bytes s new (Err refusal) asked says refused lawful = record {
-  failed = (message_reason refusal.fault, refl);
-  is = arrived_past bytes new None s (reply_to s.stock (Err refusal)) (ap room_in refused.same) says
-      ∙ ap (λ stock. record (past_in s) { objects = objects_in stock; replies = (past_in s).replies ++ refusal_reply refusal ∷ []; effects = s.effects ++ [] }) refused.same
-      ∙ ap (λ effects. record (past_in s) { replies = (past_in s).replies ++ refusal_reply refusal ∷ []; effects = effects }) (append-nil s.effects);
+part_is_taken laws (Err refusal) parts reply old new p asked refused are = record {
+  failed = (message_reason refusal.fault, ap (λ r. r.outcome) refused.reply_is);
+  is = ap (λ s. over s (with_more (reply ∷ []) [] p)) refused.same
+      ∙ ap (λ effects. record (over old p) { replies = p.replies ++ reply ∷ []; effects = effects }) (append-nil p.effects);
 }
 
-one_taken : (stops : Bool) (read : Result Request Refusal) (reply : Reply) (old new : Past) → IsTaken read reply old new → AreTaken stops (read ∷ []) (reply ∷ []) old new
-one_taken stops read reply old new taken = elim (cases_Bool (stops && has_failed reply.outcome)) [
-  | inl stopped ↦ (new, taken, inl (stopped, refl, refl))
-  | inr goes ↦ (new, taken, inr (goes, refl))
-]
+others_asked : (requests : List Request) (part : Question) (parts : List Question) → All (Contains requests) (filter_map result_ok (part ∷ parts))
+    → All (Contains requests) (filter_map result_ok parts)
+others_asked requests (Ok request) parts asked = All-tail (Contains requests) request (filter_map result_ok parts) asked
+others_asked requests (Err refusal) parts asked = asked
 
-pub served_is_taken : (joins : WhatIsDoneJoins) (asks : RequestsAreParts) (message bytes : List ℕ) (s : Scene) (new : Stock)
-    → parts_in message ≡ request_read message ∷ [] → replies_in bytes ≡ reply_to s.stock (request_read message) ∷ []
-    → AreServed (stops_in message) (parts_in message) (replies_in bytes) s.stock new → HasLawfulObjects s.stock → WasAsked message s
-    → AreTaken (stops_in message) (parts_in message) (replies_in bytes) (past_in s) (past_in (arrived bytes new (effect_in s.stock message) s))
-served_is_taken joins asks message bytes s new one says served lawful asked =
-    let read = request_read message in
-    let after = past_in (arrived bytes new (effect_in s.stock message) s) in
-    let was = subst (λ parts. All (Contains (past_in s).requests) (filter_map result_ok parts)) one
-    (subst (All (Contains (past_in s).requests)) (asks message) asked) in
-    let taken = taken_read joins bytes s new read was says (served_read message bytes s.stock new one says served) lawful in
-    subst (λ parts. AreTaken (stops_in message) parts (replies_in bytes) (past_in s) after) (sym one)
-    (subst (λ replies. AreTaken (stops_in message) (read ∷ []) replies (past_in s) after) (sym says)
-    (one_taken (stops_in message) read (reply_to s.stock read) (past_in s) after taken))
+-- ---- all of them
 
-pub scene_is_taken : (joins : WhatIsDoneJoins) (asks : RequestsAreParts) (message : List ℕ) (s new : Scene)
-    → parts_in message ≡ request_read message ∷ [] → replies_in (reply_bytes s.stock message (pos 0)) ≡ reply_to s.stock (request_read message) ∷ []
-    → AreServed (stops_in message) (parts_in message) (replies_in (reply_bytes s.stock message (pos 0))) s.stock new.stock → HasLawfulObjects s.stock
-    → new ≡ with_served message s → WasAsked message s
-    → AreTaken (stops_in message) (parts_in message) (replies_in (reply_bytes s.stock message (pos 0))) (past_in s) (past_in new)
-scene_is_taken joins asks message s new one says served lawful is asked =
-    let bytes = reply_bytes s.stock message (pos 0) in
-    let there = subst (λ t. AreServed (stops_in message) (parts_in message) (replies_in bytes) s.stock t.stock) is served in
-    subst (λ t. AreTaken (stops_in message) (parts_in message) (replies_in bytes) (past_in s) (past_in t)) (sym is)
-    (served_is_taken joins asks message bytes s (stock_after s.stock message) one says there lawful asked)
+more_twice : (s : Stock) (replies others : List Reply) (effects first more : List Effect) (p : Past) → effects ≡ first ++ more
+    → over s (with_more others more (with_more replies first p)) ≡ over s (with_more (replies ++ others) effects p)
+more_twice s replies others effects first more p are =
+    ap (λ rs. over s (record p { replies = rs; effects = (p.effects ++ first) ++ more })) (append_assoc p.replies replies others)
+    ∙ ap (λ es. over s (record p { replies = p.replies ++ (replies ++ others); effects = es })) (append_assoc p.effects first more ∙ ap (λ es. p.effects ++ es) (sym are))
+
+-- nothing more
+no_more : (s : Stock) (p : Past) → over s (with_more [] [] p) ≡ over s p
+no_more s p =
+    ap (λ rs. over s (record p { replies = rs; effects = p.effects ++ [] })) (append-nil p.replies)
+    ∙ ap (λ es. over s (record p { effects = es })) (append-nil p.effects)
+
+turn_is_taken : (laws : ArrivalLaws) (stops : Bool) (parts : List Question) (replies : List Reply) (effects : List Effect) (old new : Stock) (p : Past)
+    → All (Contains p.requests) (filter_map result_ok parts) → AreServedInTurn stops parts replies effects old new → Distinct (objects_in old)
+    → AreTaken stops parts replies (over old p) (over new (with_more replies effects p))
+turn_is_taken laws stops [] [] effects old new p asked (none, same) are =
+    ap (λ s. over s (with_more [] effects p)) same ∙ ap (λ es. over old (with_more [] es p)) none ∙ no_more old p
+turn_is_taken laws stops [] (reply ∷ replies) effects old new p asked served are = absurd served
+turn_is_taken laws stops (part ∷ parts) [] effects old new p asked served are = absurd served
+turn_is_taken laws stops (part ∷ parts) (reply ∷ replies) effects old new p asked (between, more, first, effects_are, later) are =
+    let one = with_more (reply ∷ []) (done_by old part reply) p in
+    let all = more_twice new (reply ∷ []) replies effects (done_by old part reply) more p effects_are in (
+      over between one,
+      part_is_taken laws part parts reply old between p asked first are,
+      elim later [
+        | inl ended ↦ inl (
+          ended.0,
+          ended.1,
+          sym all ∙ ap (λ rs. over new (with_more rs more one)) ended.1 ∙ ap (λ es. over new (with_more [] es one)) ended.2 ∙ no_more new one ∙ ap (λ s. over s one) ended.3,
+        )
+        | inr goes ↦ inr (
+          goes.0,
+          subst (AreTaken stops parts replies (over between one)) all
+              (turn_is_taken laws stops parts replies more between new one (others_asked p.requests part parts asked) goes.1
+              (served_distinct laws part reply old between first are)),
+        )
+      ],
+    )
+
+-- ---- some of the first
+
+-- a question whose reply is never given: its request is served, and a refusal leaves no trace
+part_is_delivered : (laws : ArrivalLaws) (names : Names) (part : Question) (parts : List Question) (reply : Reply) (old new : Stock) (p : Past)
+    → All (Contains p.requests) (filter_map result_ok (part ∷ parts)) → IsServedBy part reply old new → Distinct (objects_in old)
+    → Delivered names (over old p) (over new (record p { effects = p.effects ++ done_by old part reply }))
+part_is_delivered laws names (Ok request) parts reply old new p asked served are = record {
+  moves = Unanswered request reply (objects_in new) (effect_by (objects_in old) (Ok request) reply) ∷ [];
+  may = (
+    request_serves laws request reply old new p (All-head (Contains p.requests) request (filter_map result_ok parts) asked) served are,
+    tt,
+  );
+  is = ap (λ room. record (over new (record p { effects = p.effects ++ done_by old (Ok request) reply })) { room = room }) served.room_is;
+}
+part_is_delivered laws names (Err refusal) parts reply old new p asked refused are =
+    subst (Delivered names (over old p))
+    (ap (λ es. over old (record p { effects = es })) (sym (append-nil p.effects)) ∙ ap (λ s. over s (record p { effects = p.effects ++ [] })) (sym refused.same))
+    (laws.nothing names (over old p))
+
+begun_is_delivered : (laws : ArrivalLaws) (names : Names) (stops : Bool) (parts : List Question) (effects : List Effect) (old new : Stock) (p : Past)
+    → All (Contains p.requests) (filter_map result_ok parts) → AreBegun stops parts effects old new → Distinct (objects_in old)
+    → Delivered names (over old p) (over new (record p { effects = p.effects ++ effects }))
+begun_is_delivered laws names stops [] effects old new p asked begun are = absurd begun
+begun_is_delivered laws names stops (part ∷ parts) effects old new p asked (inl (none, same)) are =
+    subst (Delivered names (over old p))
+    (ap (λ es. over old (record p { effects = es })) (sym (append-nil p.effects)) ∙ ap (λ es. over old (record p { effects = p.effects ++ es })) (sym none)
+    ∙ ap (λ s. over s (record p { effects = p.effects ++ effects })) (sym same))
+    (laws.nothing names (over old p))
+begun_is_delivered laws names stops (part ∷ parts) effects old new p asked (inr (reply, between, more, first, effects_are, goes, begun)) are =
+    let one = record p { effects = p.effects ++ done_by old part reply } in
+    let all : over new (record one { effects = one.effects ++ more }) ≡ over new (record p { effects = p.effects ++ effects }) =
+    ap (λ es. over new (record p { effects = es })) (append_assoc p.effects (done_by old part reply) more ∙ ap (λ es. p.effects ++ es) (sym effects_are)) in
+    subst (Delivered names (over old p)) all
+    (laws.twice names (over old p) (over between one) (over new (record one { effects = one.effects ++ more }))
+    (part_is_delivered laws names part parts reply old between p asked first are)
+    (begun_is_delivered laws names stops parts more between new one (others_asked p.requests part parts asked) begun
+    (served_distinct laws part reply old between first are)))
+
+-- ---- the scene
+
+distinct_in : (s : Stock) → HasLawfulObjects s → Distinct (objects_in s)
+distinct_in s lawful = record { names = lawful.names; identifiers = lawful.identifiers }
+
+parts_asked : (laws : ArrivalLaws) (message : List ℕ) (s : Scene) → WasAsked message s
+    → All (Contains (past_in s).requests) (filter_map result_ok (parts_in message))
+parts_asked laws message s asked = subst (All (Contains (past_in s).requests)) (laws.requests message) asked
+
+served_past : (message : List ℕ) (s : Scene)
+    → past_in (with_served message s)
+    ≡ over (stock_after_batch s.stock message) (with_more (replies_in (batch_reply s.stock message (pos 0))) (effects_in s.stock message) (past_in s))
+served_past message s =
+    let bytes = batch_reply s.stock message (pos 0) in
+    let said : flat_map replies_in (s.given ++ bytes ∷ []) ≡ (past_in s).replies ++ replies_in bytes =
+    flat_map-append replies_in s.given (bytes ∷ []) ∙ ap (λ more. (past_in s).replies ++ more) (append-nil (replies_in bytes)) in
+    ap (λ replies. record (past_in (with_served message s)) { replies = replies }) said
+
+pub scene_is_taken : (laws : ArrivalLaws) (message : List ℕ) (s new : Scene)
+    → AreServedInTurn (stops_in message) (parts_in message) (replies_in (batch_reply s.stock message (pos 0))) (effects_in s.stock message) s.stock new.stock
+    → HasLawfulObjects s.stock → new ≡ with_served message s → WasAsked message s
+    → AreTaken (stops_in message) (parts_in message) (replies_in (batch_reply s.stock message (pos 0))) (past_in s) (past_in new)
+scene_is_taken laws message s new served lawful is asked =
+    let replies = replies_in (batch_reply s.stock message (pos 0)) in
+    let effects = effects_in s.stock message in
+    let there = subst (λ t. AreServedInTurn (stops_in message) (parts_in message) replies effects s.stock t.stock) is served in
+    subst (AreTaken (stops_in message) (parts_in message) replies (past_in s)) (sym (ap past_in is ∙ served_past message s))
+    (turn_is_taken laws (stops_in message) (parts_in message) replies effects s.stock (stock_after_batch s.stock message) (past_in s) (parts_asked laws message s asked) there
+    (distinct_in s.stock lawful))
+
+pub scene_is_delivered : (laws : ArrivalLaws) (names : Names) (message : List ℕ) (s new : Scene)
+    → AreServedInTurn (stops_in message) (parts_in message) (replies_in (batch_reply s.stock message (pos 0))) (effects_in s.stock message) s.stock new.stock
+    → HasLawfulObjects s.stock → new ≡ with_served message s → WasAsked message s → Delivered names (past_in s) (past_in new)
+scene_is_delivered laws names message s new served lawful is asked =
+    laws.taken names (stops_in message) (parts_in message) (replies_in (batch_reply s.stock message (pos 0))) (past_in s) (past_in new)
+    (scene_is_taken laws message s new served lawful is asked)
+
+pub half_is_delivered : (laws : ArrivalLaws) (names : Names) (message : List ℕ) (s new : Scene)
+    → IsHalfServed message s new → HasLawfulObjects s.stock → WasAsked message s → Delivered names (past_in s) (past_in new)
+half_is_delivered laws names message s new (more, is, begun) lawful asked =
+    subst (Delivered names (past_in s)) (sym (ap past_in is))
+    (begun_is_delivered laws names (stops_in message) (parts_in message) more s.stock new.stock (past_in s) (parts_asked laws message s asked) begun
+    (distinct_in s.stock lawful))

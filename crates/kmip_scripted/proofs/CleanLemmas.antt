@@ -3,8 +3,8 @@ use Rattle.std.proofs.Common.{◌≡◌, ◌==◌, ◌+◌, ◌-◌, ◌≤◌, 
 use Rattle.std.specs.List.{All, slice_get}
 use Rattle.std.proofs.lemmas.Bool.{cases_Bool, eqb-false, or_parts}
 use Rattle.std.proofs.lemmas.Option.{same_Some}
-use Rattle.kmip_messages.specs.Items.{parts_in, replies_in, requests_in, stops_in}
-use Rattle.kmip_server.specs.Serving.{reply_bytes}
+use Rattle.kmip_batches.specs.Items.{parts_in, replies_in, requests_in, stops_in}
+use Rattle.kmip_server.specs.Batching.{batch_reply}
 use Rattle.kmip_schedule.specs.Calm.{AreTaken}
 use Rattle.kmip_schedule.specs.Clean.{Disturbances, HasRoom, IsClean, IsCounted, hands_strange}
 use Rattle.kmip_schedule.specs.Exchanges.{with_asked}
@@ -161,7 +161,7 @@ undisturbed Prolong repeated (Some given) is = absurd cc
 undisturbed (Restart start) repeated (Some given) is = absurd cc
 
 pass_answer : (request : List ℕ) (s : Scene) (word : Word) → word ≡ exchange_word s.words → word ≡ Pass
-    → (played request s).0 ≡ Some (reply_bytes s.stock request (pos 0))
+    → (played request s).0 ≡ Some (batch_reply s.stock request (pos 0))
 pass_answer request s word is pass =
     ap (λ w. (play w request (with_words (words_after_exchange s.words) s)).0) (sym is ∙ pass)
 
@@ -173,7 +173,7 @@ pub record AreSteps (names : Names) (request : List ℕ) (old prepared mid last 
   pub joins : past_in prepared ≡ with_asked request (past_in (asked_only old.asked prepared))
   pub word_is : word ≡ exchange_word prepared.words
   pub taken : exchange_word prepared.words ≡ Pass
-      → AreTaken (stops_in request) (parts_in request) (replies_in (reply_bytes prepared.stock request (pos 0))) (past_in prepared) (past_in mid)
+      → AreTaken (stops_in request) (parts_in request) (replies_in (batch_reply prepared.stock request (pos 0))) (past_in prepared) (past_in mid)
   pub mid_is : mid ≡ (played request prepared).1
   pub answer_is : answer ≡ (played request prepared).0
   pub counts_are : counts ≡ counted (is_disturbed word repeated answer) (hands_strange every_name request answer) (disturbances_in mid)
@@ -184,7 +184,7 @@ clean : (nothing : NothingIsDelivered) (names : Names) (request : List ℕ) (old
     → AreSteps names request old prepared mid last new word repeated answer counts → IsUndisturbed word repeated answer
     → IsClean names (past_in old) request answer (past_in new)
 clean nothing names request old prepared mid last new word repeated answer counts steps is =
-    let bytes = reply_bytes prepared.stock request (pos 0) in
+    let bytes = batch_reply prepared.stock request (pos 0) in
     let answered : answer ≡ Some bytes = steps.answer_is ∙ pass_answer request prepared word steps.word_is is.word_is in
     let given_is : is.given ≡ bytes = same_Some _ _ (sym is.answer_is ∙ answered) in
     record {

@@ -3,13 +3,13 @@ use Rattle.std.proofs.Common.{◌≡◌, ◌≢◌, ◌==◌, ℕ, nat_le, pos, 
 use Rattle.std.specs.List.{All, list_any}
 use Rattle.std.proofs.lemmas.Bool.{cases_Bool, eqb-true, or_from, or_parts}
 use Rattle.std.proofs.lemmas.List.Elements.{All-cons, All-head, All-nil, All-tail}
-use Rattle.kmip_messages.specs.Items.{replies_in, requests_in}
+use Rattle.kmip_batches.specs.Items.{replies_in, requests_in}
 use Rattle.kmip_messages.specs.declared.reply.Outcome.{Outcome}
 use Rattle.kmip_messages.specs.declared.reply.Outcome.TheVariants.{Created, Located, Attributes, Activated, Revoked, Destroyed, Failed}
 use Rattle.kmip_messages.specs.declared.reply.Reply.{Reply}
 use Rattle.kmip_messages.specs.declared.request.Request.{Request}
 use Rattle.kmip_messages.specs.declared.standard.TheConstants.{REASON_SERVER_FULL}
-use Rattle.kmip_server.specs.Serving.{reply_bytes}
+use Rattle.kmip_server.specs.Batching.{batch_reply}
 use Rattle.kmip_schedule.specs.Clean.{AreNoFewer, HasRoom, IsRoomy, but_of, hands_strange, is_name_of, names_one}
 use Rattle.kmip_schedule.specs.Past.{Names}
 use Rattle.kmip_scripted.specs.declared.script.Word.{Word}
@@ -18,6 +18,7 @@ use Rattle.kmip_losses.specs.Counting.{counted, every_name, is_full, is_full_out
 use Rattle.kmip_scripted.specs.Scenes.{Scene, disturbances_in}
 use Rattle.kmip_scripted.specs.Serving.{with_served}
 use Rattle.kmip_scripted.specs.Words.{AreBegun, IsBegun, after_run, after_word, after_words, before_play, exchange, exchange_word, goes_on, message_at, play, played, with_delivered, with_request, with_words, words_after_exchange}
+use Rattle.kmip_scripted.proofs.WordLemmas.{half_done_is, half_played_is}
 
 -- ---- until an exchange is handed over
 
@@ -47,7 +48,8 @@ words_keep at_end (word ∷ words) s =
 pub begun_keep : (at_end : Bool) (words : List Word) (s new : Scene) → AreBegun at_end words s new → disturbances_in new ≡ disturbances_in s
 begun_keep at_end [] s new is = ap disturbances_in is
 begun_keep at_end (word ∷ words) s new (inl is) = ap disturbances_in is
-begun_keep at_end (word ∷ words) s new (inr (goes, begun)) =
+begun_keep at_end (word ∷ words) s new (inr (goes, inl half)) = ap disturbances_in (half_done_is word s new half)
+begun_keep at_end (word ∷ words) s new (inr (goes, inr begun)) =
     begun_keep at_end words (with_words words (after_word word s)) new begun ∙ word_keeps word s
 
 play_keeps : (word : Word) (request : List ℕ) (s : Scene) → disturbances_in (play word request s).1 ≡ disturbances_in s
@@ -74,8 +76,11 @@ pub exchange_begun_keeps : (request : List ℕ) (s new : Scene) → IsBegun requ
 exchange_begun_keeps request s new (inl (inl same)) = ap disturbances_in same
 exchange_begun_keeps request s new (inl (inr begun)) = begun_keep false s.words (with_request request s) new begun
 exchange_begun_keeps request s new (inr (inl taken)) = ap disturbances_in taken ∙ prepared_keeps request s
-exchange_begun_keeps request s new (inr (inr done)) =
+exchange_begun_keeps request s new (inr (inr (inl done))) =
     ap disturbances_in done ∙ played_keeps request (before_play request s) ∙ prepared_keeps request s
+exchange_begun_keeps request s new (inr (inr (inr half))) =
+    let before = before_play request s in
+    ap disturbances_in (half_played_is (exchange_word before.words) request (with_words (words_after_exchange before.words) before) new half) ∙ prepared_keeps request s
 
 pub run_keeps : (s : Scene) → disturbances_in (after_run s) ≡ disturbances_in s
 run_keeps s = words_keep true s.words s
@@ -142,11 +147,11 @@ nothing_strange names sent (Some given) is = none_by (requests_in sent) names (r
 
 -- ---- where no word is left, and the server has room
 
-calm_kept : (request : List ℕ) (s : Scene) → All HasRoom (replies_in (reply_bytes s.stock request (pos 0)))
+calm_kept : (request : List ℕ) (s : Scene) → All HasRoom (replies_in (batch_reply s.stock request (pos 0)))
     → disturbances_in (exchange request (with_words [] s)).1 ≡ disturbances_in s
 calm_kept request s roomy =
-    ap (λ disturbed. counted disturbed (hands_strange every_name request (Some (reply_bytes s.stock request (pos 0)))) (disturbances_in s))
-    (none_is_full (replies_in (reply_bytes s.stock request (pos 0))) roomy)
+    ap (λ disturbed. counted disturbed (hands_strange every_name request (Some (batch_reply s.stock request (pos 0)))) (disturbances_in s))
+    (none_is_full (replies_in (batch_reply s.stock request (pos 0))) roomy)
 
 pub calm_is_kept : (request : List ℕ) (s : Scene) → s.words ≡ [] → IsRoomy (Ok (exchange request s).0)
     → disturbances_in (exchange request s).1 ≡ disturbances_in s

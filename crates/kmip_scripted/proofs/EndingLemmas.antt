@@ -7,6 +7,7 @@ use Rattle.kmip_scripted.specs.declared.script.Word.TheVariants.{Pass, LoseReque
 use Rattle.kmip_scripted.specs.Scenes.{Scene}
 use Rattle.kmip_scripted.specs.Serving.{with_served}
 use Rattle.kmip_scripted.specs.Words.{AreBegun, IsBegun, after_run, after_word, after_words, before_play, exchange, exchange_word, goes_on, message_at, play, with_delivered, with_request, with_words, words_after_exchange}
+use Rattle.kmip_scripted.proofs.WordLemmas.{half_done_is, half_played_is, only_served}
 
 -- nothing was sent, and no run ended
 record NoneEnds (old new : Scene) : Type 0 where
@@ -46,11 +47,15 @@ none_by_words at_end (word ∷ words) s =
     none_by (goes_on at_end word) s (after_words at_end words (with_words words (after_word word s)))
     (none_then word words s (after_words at_end words (with_words words (after_word word s))) (none_by_words at_end words (with_words words (after_word word s))))
 
+none_served : (s new : Scene) → new ≡ only_served new s → NoneEnds s new
+none_served s new is = record { sent_stays = ap (λ t. t.sent) is; ended_stays = ap (λ t. t.ended) is }
+
 none_begun : (at_end : Bool) (words : List Word) (s new : Scene) → AreBegun at_end words s new → NoneEnds s new
 none_begun at_end [] s new same = subst (NoneEnds s) (sym same) (none_ends s)
 none_begun at_end (word ∷ words) s new (inl same) = subst (NoneEnds s) (sym same) (none_ends s)
-none_begun at_end (word ∷ words) s new (inr begun) =
-    none_then word words s new (none_begun at_end words (with_words words (after_word word s)) new begun.1)
+none_begun at_end (word ∷ words) s new (inr (goes, inl half)) = none_served s new (half_done_is word s new half)
+none_begun at_end (word ∷ words) s new (inr (goes, inr begun)) =
+    none_then word words s new (none_begun at_end words (with_words words (after_word word s)) new begun)
 
 -- ---- an exchange
 
@@ -84,7 +89,10 @@ pub begun_ended : (request : List ℕ) (old new : Scene) → IsBegun request old
 begun_ended request old new (inl (inl same)) = ap (λ s. s.ended) same
 begun_ended request old new (inl (inr begun)) = (none_begun false old.words (with_request request old) new begun).ended_stays
 begun_ended request old new (inr (inl taken)) = ap (λ s. s.ended) taken ∙ before_ended request old
-begun_ended request old new (inr (inr done)) = ap (λ s. s.ended) done ∙ played_ended request old
+begun_ended request old new (inr (inr (inl done))) = ap (λ s. s.ended) done ∙ played_ended request old
+begun_ended request old new (inr (inr (inr half))) =
+    let before = before_play request old in
+    ap (λ s. s.ended) (half_played_is (exchange_word before.words) request (with_words (words_after_exchange before.words) before) new half) ∙ before_ended request old
 
 -- ---- the end of a run
 
@@ -100,7 +108,7 @@ run_begun old new begun = (none_begun true old.words old new begun).ended_stays
 all_by : (at_end : Bool) (word : Word) (words : List Word) (s : Scene) → AreBegun at_end words (with_words words (after_word word s))
     (after_words at_end words (with_words words (after_word word s))) → AreBegun at_end (word ∷ words) s (after_words at_end (word ∷ words) s)
 all_by at_end word words s later = elim (cases_Bool (goes_on at_end word)) [
-  | inl on ↦ inr (on, rw on later)
+  | inl on ↦ inr (on, inr (rw on later))
   | inr off ↦ inl (rw off refl)
 ]
 

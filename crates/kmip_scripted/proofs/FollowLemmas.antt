@@ -3,8 +3,8 @@ use Rattle.std.proofs.Common.{◌≡◌, ℕ, pos, Bool, false, List, [], ◌∷
 use Rattle.std.specs.List.{All, Contains, flat_map}
 use Rattle.std.proofs.lemmas.Grind.{flat_map-append}
 use Rattle.std.proofs.lemmas.List.Elements.{All-contains_itself, All-weaker, Contains-append_right}
-use Rattle.kmip_messages.specs.Items.{parts_in, replies_in, requests_in, stops_in}
-use Rattle.kmip_server.specs.Serving.{reply_bytes}
+use Rattle.kmip_batches.specs.Items.{parts_in, replies_in, requests_in, stops_in}
+use Rattle.kmip_server.specs.Batching.{batch_reply}
 use Rattle.kmip_schedule.specs.Calm.{AreTaken, Calmly}
 use Rattle.kmip_schedule.specs.Clean.{Disturbances, hands_strange}
 use Rattle.kmip_schedule.specs.Exchanges.{AreGiven, HandsOver, with_asked}
@@ -16,7 +16,7 @@ use Rattle.kmip_losses.specs.Counting.{counted, every_name}
 use Rattle.kmip_scripted.specs.Disturbing.{is_disturbed, is_repeated}
 use Rattle.kmip_scripted.specs.Scenes.{Scene, WasAsked, disturbances_in, past_in, with_disturbances}
 use Rattle.kmip_scripted.specs.Words.{AreBegun, IsBegun, after_words, before_play, exchange, exchange_word, message_at, play, played, with_request, with_words, words_after_exchange}
-use Rattle.kmip_scripted.proofs.WordLemmas.{said_by_number}
+use Rattle.kmip_scripted.proofs.WordLemmas.{half_played_is, said_by_number}
 
 said_last : {R : Type 0} (f : List ℕ → List R) (messages : List (List ℕ)) (message : List ℕ) → flat_map f (messages ++ message ∷ []) ≡ flat_map f messages ++ f message
 said_last f messages message =
@@ -48,15 +48,15 @@ stale_given number s None is = tt
 stale_given number s (Some given) is = said_by_number replies_in number s.given given is
 
 play_given : (word : Word) (request : List ℕ) (s : Scene) → IfSome (play word request s).0 (AreGiven (past_in (play word request s).1))
-play_given Pass request s = last_is_said replies_in s.given (reply_bytes s.stock request (pos 0))
+play_given Pass request s = last_is_said replies_in s.given (batch_reply s.stock request (pos 0))
 play_given LoseRequest request s = tt
 play_given LoseReply request s = tt
 play_given (Cut size) request s = tt
 play_given (Stale number) request s = stale_given number s (message_at number s.given) refl
-play_given (Again number) request s = last_is_said replies_in s.given (reply_bytes s.stock request (pos 0))
-play_given Save request s = last_is_said replies_in s.given (reply_bytes s.stock request (pos 0))
-play_given Prolong request s = last_is_said replies_in s.given (reply_bytes s.stock request (pos 0))
-play_given (Restart start) request s = last_is_said replies_in s.given (reply_bytes s.stock request (pos 0))
+play_given (Again number) request s = last_is_said replies_in s.given (batch_reply s.stock request (pos 0))
+play_given Save request s = last_is_said replies_in s.given (batch_reply s.stock request (pos 0))
+play_given Prolong request s = last_is_said replies_in s.given (batch_reply s.stock request (pos 0))
+play_given (Restart start) request s = last_is_said replies_in s.given (batch_reply s.stock request (pos 0))
 
 abbrev pub handed : List ℕ → Word → Option (List ℕ) → Scene → Scene
 handed request word answer s = record s { sent = s.sent ++ request ∷ []; followed = s.followed ++ word ∷ []; handed = s.handed ++ answer ∷ [] }
@@ -99,24 +99,24 @@ answer_is request old prepared answer was is = is ∙ ap (λ s. (played request 
 calm_prepared : (request : List ℕ) (s : Scene) → s.words ≡ [] → before_play request s ≡ with_request request s
 calm_prepared request s none = ap (λ words. after_words false words (with_request request s)) none
 
-calm_answer : (request : List ℕ) (s : Scene) → s.words ≡ [] → (played request s).0 ≡ Some (reply_bytes s.stock request (pos 0))
+calm_answer : (request : List ℕ) (s : Scene) → s.words ≡ [] → (played request s).0 ≡ Some (batch_reply s.stock request (pos 0))
 calm_answer request s none = ap (λ words. (play (exchange_word words) request (with_words (words_after_exchange words) s)).0) none
 
 calm_words : (request : List ℕ) (s : Scene) → s.words ≡ [] → (played request s).1.words ≡ []
 calm_words request s none = ap (λ words. (play (exchange_word words) request (with_words (words_after_exchange words) s)).1.words) none
 
 pub calmly_done : (request : List ℕ) (old prepared mid last new : Scene) (word : Word) (answer : Option (List ℕ)) (counts : Disturbances) → old.words ≡ [] → prepared ≡ before_play request old
-    → (exchange_word prepared.words ≡ Pass → AreTaken (stops_in request) (parts_in request) (replies_in (reply_bytes prepared.stock request (pos 0))) (past_in prepared) (past_in mid))
+    → (exchange_word prepared.words ≡ Pass → AreTaken (stops_in request) (parts_in request) (replies_in (batch_reply prepared.stock request (pos 0))) (past_in prepared) (past_in mid))
     → answer ≡ (played request prepared).0 → last ≡ handed request word answer mid → new ≡ with_disturbances counts last → Calmly (past_in old) request answer (past_in new)
 calmly_done request old prepared mid last new word answer counts none was taken is now more =
     let ready : prepared ≡ with_request request old = was ∙ calm_prepared request old none in
     let empty : prepared.words ≡ [] = ap (λ s. s.words) ready ∙ none in
-    let from = subst (λ s. AreTaken (stops_in request) (parts_in request) (replies_in (reply_bytes s.stock request (pos 0))) (past_in s) (past_in mid)) ready (taken (ap exchange_word empty)) in
+    let from = subst (λ s. AreTaken (stops_in request) (parts_in request) (replies_in (batch_reply s.stock request (pos 0))) (past_in s) (past_in mid)) ready (taken (ap exchange_word empty)) in
     record {
-      given = reply_bytes old.stock request (pos 0);
+      given = batch_reply old.stock request (pos 0);
       between = past_in mid;
-      taken = subst (λ p. AreTaken (stops_in request) (parts_in request) (replies_in (reply_bytes old.stock request (pos 0))) p (past_in mid)) (asked_past request old) from;
-      answer_is = is ∙ calm_answer request prepared empty ∙ ap (λ s. Some (reply_bytes s.stock request (pos 0))) ready;
+      taken = subst (λ p. AreTaken (stops_in request) (parts_in request) (replies_in (batch_reply old.stock request (pos 0))) p (past_in mid)) (asked_past request old) from;
+      answer_is = is ∙ calm_answer request prepared empty ∙ ap (λ s. Some (batch_reply s.stock request (pos 0))) ready;
       is = ap past_in more ∙ ap past_in now;
     }
 
@@ -134,5 +134,9 @@ calm_stays_begun request old new none (inl (inr begun)) =
     ap (λ s. s.words) (calm_begun request old.words (with_request request old) new none begun) ∙ none
 calm_stays_begun request old new none (inr (inl taken)) =
     ap (λ s. s.words) taken ∙ ap words_after_exchange (ap (λ s. s.words) (calm_prepared request old none) ∙ none)
-calm_stays_begun request old new none (inr (inr done)) =
+calm_stays_begun request old new none (inr (inr (inr half))) =
+    let before = before_play request old in
+    ap (λ s. s.words) (half_played_is (exchange_word before.words) request (with_words (words_after_exchange before.words) before) new half)
+    ∙ ap words_after_exchange (ap (λ s. s.words) (calm_prepared request old none) ∙ none)
+calm_stays_begun request old new none (inr (inr (inl done))) =
     ap (λ s. s.words) done ∙ ap (λ s. (played request s).1.words) (calm_prepared request old none) ∙ calm_words request (with_request request old) none

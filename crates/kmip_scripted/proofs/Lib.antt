@@ -1,4 +1,3 @@
-pub mod DueLemmas
 pub mod ArrivalLemmas
 pub mod WordLemmas
 pub mod FollowLemmas

@@ -4,11 +4,12 @@ use Rattle.std.specs.List.{All, Contains, flat_map, slice_get}
 use Rattle.std.proofs.lemmas.Bool.{cases_Bool}
 use Rattle.std.proofs.lemmas.List.Elements.{All-contains_itself, All-weaker, Contains-append_left, Contains-append_right}
 use Rattle.std.proofs.lemmas.Option.{same_Some}
-use Rattle.kmip_messages.specs.Items.{requests_in}
+use Rattle.kmip_batches.specs.Items.{requests_in}
 use Rattle.kmip_scripted.specs.declared.script.Word.{Word}
 use Rattle.kmip_scripted.specs.declared.script.Word.TheVariants.{Pass, LoseRequest, LoseReply, Cut, Stale, Again, Save, Prolong, Restart}
 use Rattle.kmip_scripted.specs.Scenes.{Scene, WasAsked}
-use Rattle.kmip_scripted.specs.Words.{AreBegun, HasStopped, StepsOn, after_word, after_words, first_of, goes_on, is_restart, message_at, next_words, with_delivered, with_words}
+use Rattle.kmip_scripted.specs.Serving.{IsHalfServed}
+use Rattle.kmip_scripted.specs.Words.{AreBegun, HasStopped, IsHalfDelivered, IsHalfDone, IsHalfPlayed, StepsOn, after_word, after_words, first_of, goes_on, is_restart, message_at, next_words, with_delivered, with_words}
 
 pub next_restart : (words : List Word) (word : Word) → Some word ≡ first_of words → is_restart word ≡ true → next_words (drop 1 words) ≡ next_words words
 next_restart [] word first is = absurd cc
@@ -44,7 +45,7 @@ steps_on at_end (own ∷ words) word s new are first goes is =
     let now : new ≡ with_words words (after_word own s) = is ∙ ap (λ w. with_words words (after_word w s)) same in
     subst (StepsOn at_end s) (sym now) (record {
       all = steps_by at_end own words s on ∙ sym (ap (λ ws. after_words at_end ws s) are);
-      begun = λ last begun. subst (λ ws. AreBegun at_end ws s last) (sym are) (inr (on, begun));
+      begun = λ last begun. subst (λ ws. AreBegun at_end ws s last) (sym are) (inr (on, inr begun));
       shorter = subst (λ ws. length words < length ws) (sym are) (omega arith);
     })
 
@@ -62,10 +63,28 @@ pub has_ended : (at_end : Bool) (words : List Word) (s : Scene) → s.words ≡ 
 has_ended at_end [] s are none = record { same = refl; is = sym (ap (λ ws. after_words at_end ws s) are) }
 has_ended at_end (own ∷ words) s are none = absurd cc
 
--- nothing is a beginning
-pub nothing_begun : (at_end : Bool) (words : List Word) (s : Scene) → AreBegun at_end words s s
-nothing_begun at_end [] s = refl
-nothing_begun at_end (word ∷ words) s = inl refl
+-- where a word is done by half, nothing but the records and the effects may change
+abbrev pub only_served : Scene → Scene → Scene
+only_served new s = record s { stock = new.stock; effects = new.effects }
+
+pub half_served_is : (message : List ℕ) (s new : Scene) → IsHalfServed message s new → new ≡ only_served new s
+half_served_is message s new (more, is, begun) =
+    is ∙ ap (λ effects. record s { stock = new.stock; effects = effects }) (sym (ap (λ t. t.effects) is))
+
+half_delivered_is : (message : Option (List ℕ)) (s new : Scene) → IsHalfDelivered message s new → new ≡ only_served new s
+half_delivered_is None s new half = absurd half
+half_delivered_is (Some message) s new half = half_served_is message s new half
+
+pub half_done_is : (word : Word) (s new : Scene) → IsHalfDone word s new → new ≡ only_served new s
+half_done_is Pass s new half = absurd half
+half_done_is LoseRequest s new half = absurd half
+half_done_is LoseReply s new half = absurd half
+half_done_is (Cut size) s new half = absurd half
+half_done_is (Stale number) s new half = absurd half
+half_done_is (Again number) s new half = half_delivered_is (message_at number s.asked) s new half
+half_done_is Save s new half = absurd half
+half_done_is Prolong s new half = absurd half
+half_done_is (Restart start) s new half = absurd half
 
 -- the words that are left stay, whatever a word does
 words_kept : (word : Word) (s : Scene) → (after_word word s).words ≡ s.words
@@ -123,3 +142,14 @@ was_asked number s message is = said_by_number requests_in number s.asked messag
 pub on_err : {A E X : Type 0} → (r : Result A E) → X → OnErr r X
 on_err (Ok a) x = tt
 on_err (Err e) x = x
+
+pub half_played_is : (word : Word) (request : List ℕ) (s new : Scene) → IsHalfPlayed word request s new → new ≡ only_served new s
+half_played_is Pass request s new half = half_served_is request s new half
+half_played_is LoseRequest request s new half = absurd half
+half_played_is LoseReply request s new half = half_served_is request s new half
+half_played_is (Cut size) request s new half = half_served_is request s new half.1
+half_played_is (Stale number) request s new half = absurd half
+half_played_is (Again number) request s new half = half_served_is request s new half
+half_played_is Save request s new half = half_served_is request s new half
+half_played_is Prolong request s new half = half_served_is request s new half
+half_played_is (Restart start) request s new half = half_served_is request s new half

@@ -1,6 +1,7 @@
 pub mod Faults
 pub mod Laws
 pub mod Scenes
+pub mod Arriving
 pub mod Serving
 pub mod Disturbing
 pub mod Words

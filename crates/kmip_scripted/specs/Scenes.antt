@@ -3,7 +3,7 @@
 -- Source: own, over KMIP 2.1, Message Structure.
 use Rattle.std.specs.Prelude.{ℕ, List, [], Option}
 use Rattle.std.specs.List.{All, Contains, flat_map}
-use Rattle.kmip_messages.specs.Items.{replies_in, requests_in}
+use Rattle.kmip_batches.specs.Items.{replies_in, requests_in}
 use Rattle.kmip_server.specs.Shown.{objects_in, room_in}
 use Rattle.kmip_store.specs.Stock.{Stock}
 use Rattle.kmip_server.specs.declared.effect.Effect.{Effect}

@@ -3,14 +3,14 @@
 use Rattle.std.specs.Prelude.{◌≡◌, ◌⊎◌, ◌==◌, ◌-◌, ◌<◌, ℕ, nat_le, pos, Bool, true, false, not, ◌&&◌, List, [], ◌∷◌, ◌++◌, filter, length, Option, Some, None, if◌then◌else◌}
 use Rattle.std.specs.List.{slice_get}
 use Rattle.std.specs.Option.{option_flatten}
-use Rattle.kmip_server.specs.Serving.{reply_bytes}
+use Rattle.kmip_server.specs.Batching.{batch_reply}
 use Rattle.kmip_schedule.specs.Clean.{hands_strange}
 use Rattle.kmip_scripted.specs.declared.script.Word.{Word}
 use Rattle.kmip_scripted.specs.declared.script.Word.TheVariants.{Pass, LoseRequest, LoseReply, Cut, Stale, Again, Save, Prolong, Restart}
 use Rattle.kmip_losses.specs.Counting.{counted, every_name}
 use Rattle.kmip_scripted.specs.Disturbing.{is_disturbed, is_repeated}
 use Rattle.kmip_scripted.specs.Scenes.{Scene, disturbances_in, with_disturbances}
-use Rattle.kmip_scripted.specs.Serving.{with_served}
+use Rattle.kmip_scripted.specs.Serving.{IsHalfServed, with_served}
 
 -- the word ends no exchange
 abbrev pub is_again : Word → Bool
@@ -76,11 +76,22 @@ abbrev pub after_words : Bool → List Word → Scene → Scene
 after_words at_end [] s = s
 after_words at_end (word ∷ words) s = if goes_on at_end word then after_words at_end words (with_words words (after_word word s)) else s
 
--- a beginning of them is done
+-- a message is delivered by half, where there is one
+abbrev pub IsHalfDelivered : Option (List ℕ) → Scene → Scene → Type 0
+IsHalfDelivered None s new = ⊥
+IsHalfDelivered (Some message) s new = IsHalfServed message s new
+
+-- so a word is done by half between two exchanges
+abbrev pub IsHalfDone : Word → Scene → Scene → Type 0
+IsHalfDone (Again number) s new = IsHalfDelivered (message_at number s.asked) s new
+IsHalfDone word s new = ⊥
+
+-- a beginning of them is done, and perhaps the next one by half
 abbrev pub AreBegun : Bool → List Word → Scene → Scene → Type 0
 AreBegun at_end [] s new = new ≡ s
 AreBegun at_end (word ∷ words) s new =
-    (new ≡ s) ⊎ ((goes_on at_end word ≡ true) × AreBegun at_end words (with_words words (after_word word s)) new)
+    (new ≡ s)
+    ⊎ ((goes_on at_end word ≡ true) × (IsHalfDone word s new ⊎ AreBegun at_end words (with_words words (after_word word s)) new))
 
 -- the word of the next exchange: `pass`, where none is left in the run
 abbrev pub exchange_word : List Word → Word
@@ -97,7 +108,7 @@ play LoseRequest request s = (None, s)
 play LoseReply request s = (None, with_served request s)
 play (Cut size) request s = (None, if nat_le (length request) size then with_served request s else s)
 play (Stale number) request s = (message_at number s.given, s)
-play word request s = (Some (reply_bytes s.stock request (pos 0)), with_served request s)
+play word request s = (Some (batch_reply s.stock request (pos 0)), with_served request s)
 
 -- the request joins those asked
 abbrev pub with_request : List ℕ → Scene → Scene
@@ -127,13 +138,22 @@ exchange request s =
     (with_handed request (exchange_word (before_play request s).words) (played request (before_play request s)))
 
 -- where memory runs out before the word of an exchange is taken: nothing, or the request joined, and of the words that repeat a
--- beginning is done
+-- beginning is done, and perhaps the next one by half
 abbrev pub IsPreparing : List ℕ → Scene → Scene → Type 0
 IsPreparing request s new = (new ≡ s) ⊎ AreBegun false s.words (with_request request s) new
 
--- where memory runs out at the word: it is taken, and done or not
+-- the word of an exchange is done by half, where it serves the request
+abbrev pub IsHalfPlayed : Word → List ℕ → Scene → Scene → Type 0
+IsHalfPlayed LoseRequest request s new = ⊥
+IsHalfPlayed (Cut size) request s new = (nat_le (length request) size ≡ true) × IsHalfServed request s new
+IsHalfPlayed (Stale number) request s new = ⊥
+IsHalfPlayed word request s new = IsHalfServed request s new
+
+-- where memory runs out at the word: it is taken, and not done, or done, or done by half
 abbrev pub IsPlaying : List ℕ → Scene → Scene → Type 0
-IsPlaying request s new = (new ≡ with_words (words_after_exchange s.words) s) ⊎ (new ≡ (played request s).1)
+IsPlaying request s new =
+    (new ≡ with_words (words_after_exchange s.words) s) ⊎ (new ≡ (played request s).1)
+    ⊎ IsHalfPlayed (exchange_word s.words) request (with_words (words_after_exchange s.words) s) new
 
 -- where memory runs out
 abbrev pub IsBegun : List ℕ → Scene → Scene → Type 0

@@ -1,7 +1,7 @@
 //! What an exchange and the end of a run do, word by word.
 ghost use Rattle.std.specs.Prelude.{◌≡◌, ◌⊎◌, ℕ, List, length, [], pos, true, false, Some, None, IfOk, OnErr, OnOk, option_map};
-ghost use Rattle.kmip_messages.specs.Items.{parts_in, replies_in, stops_in};
-ghost use Rattle.kmip_server.specs.Serving.{reply_bytes};
+ghost use Rattle.kmip_batches.specs.Items.{parts_in, replies_in, stops_in};
+ghost use Rattle.kmip_server.specs.Batching.{batch_reply};
 ghost use Rattle.kmip_schedule.specs.Calm.{AreTaken, Calmly};
 ghost use Rattle.kmip_schedule.specs.Clean.{IsCounted};
 ghost use Rattle.kmip_schedule.specs.Moves.{Delivered};
@@ -10,8 +10,8 @@ ghost use Rattle.kmip_scripted.specs.declared.script.Word.TheVariants.{Pass};
 ghost use Rattle.kmip_scripted.specs.Disturbing.{is_repeated};
 ghost use Rattle.kmip_scripted.specs.Early.{AreOfEarlier, IsEarly, IsOfEarlier, asked_only};
 ghost use Rattle.kmip_scripted.specs.Scenes.{WasAsked, disturbances_in, past_in};
-ghost use Rattle.kmip_scripted.specs.Serving.{with_served};
-ghost use Rattle.kmip_scripted.specs.Words.{AreBegun, HasStopped, IsBegun, IsPlaying, IsPreparing, StepsOn, after_word, after_run, after_words, before_play, exchange, exchange_word, message_at, play, played, with_delivered};
+ghost use Rattle.kmip_scripted.specs.Serving.{IsHalfServed, with_served};
+ghost use Rattle.kmip_scripted.specs.Words.{AreBegun, HasStopped, IsBegun, IsHalfDelivered, IsHalfDone, IsHalfPlayed, IsPlaying, IsPreparing, StepsOn, after_word, after_run, after_words, before_play, exchange, exchange_word, message_at, play, played, with_delivered};
 ghost use Rattle.kmip_scripted.specs.Wanting.{IsWanting};
 ghost use Rattle.kmip_schedule.specs.Exchanges.{HandsOver, with_asked};
 
@@ -28,7 +28,8 @@ impl<S: Records> Scripted<S> {
     fn repeat(&mut self, alloc: Global, number: usize) -> Result<(), NoMemory>
         ensures ok { OnOk result (self.new
             ≡ with_delivered (message_at number self.old.asked) self.old) }
-        ensures err { OnErr result (self.new ≡ self.old) }
+        ensures begun { OnErr result ((self.new ≡ self.old)
+            ⊎ IsHalfDelivered (message_at number self.old.asked) self.old self.new) }
         ensures delivered { (names : Names)
             → Delivered names (past_in self.old) (past_in self.new) }
         ensures early { OnOk result ((names : Names) (asked : List (List ℕ))
@@ -47,7 +48,8 @@ impl<S: Records> Scripted<S> {
     /// What a word does between two exchanges.
     fn do_word(&mut self, alloc: Global, word: Word) -> Result<(), NoMemory>
         ensures ok { OnOk result (self.new ≡ after_word word self.old) }
-        ensures err { OnErr result (self.new ≡ self.old) }
+        ensures begun { OnErr result ((self.new ≡ self.old)
+            ⊎ IsHalfDone word self.old self.new) }
         ensures delivered { (names : Names)
             → Delivered names (past_in self.old) (past_in self.new) }
         ensures early { OnOk result ((names : Names) (asked : List (List ℕ))
@@ -69,7 +71,7 @@ impl<S: Records> Scripted<S> {
         ensures went { IfOk result (λ went. went ≡ true → StepsOn at_end self.old self.new) }
         ensures stopped { IfOk result (λ went. went ≡ false
             → HasStopped at_end self.old self.new) }
-        ensures err { OnErr result (self.new ≡ self.old) }
+        ensures begun { OnErr result (AreBegun at_end self.old.words self.old self.new) }
         ensures delivered { (names : Names)
             → Delivered names (past_in self.old) (past_in self.new) }
         ensures early { OnOk result ((names : Names) (asked : List (List ℕ))
@@ -116,11 +118,12 @@ impl<S: Records> Scripted<S> {
         ensures answer { IfOk result (λ answer. option_map (λ v. v.items) answer
             ≡ (play word request.now self.old).0) }
         ensures ok { OnOk result (self.new ≡ (play word request.now self.old).1) }
-        ensures err { OnErr result ((self.new ≡ self.old)
-            ⊎ (self.new ≡ (play word request.now self.old).1)) }
+        ensures begun { OnErr result ((self.new ≡ self.old)
+            ⊎ (self.new ≡ (play word request.now self.old).1)
+            ⊎ IsHalfPlayed word request.now self.old self.new) }
         ensures taken { OnOk result (word ≡ Pass → WasAsked request.now self.old
             → AreTaken (stops_in request.now) (parts_in request.now)
-            (replies_in (reply_bytes self.old.stock request.now (pos 0)))
+            (replies_in (batch_reply self.old.stock request.now (pos 0)))
             (past_in self.old) (past_in self.new)) }
         ensures delivered { (names : Names) → WasAsked request.now self.old
             → Delivered names (past_in self.old) (past_in self.new) }
@@ -146,7 +149,7 @@ impl<S: Records> Scripted<S> {
     fn lose_reply(&mut self, alloc: Global, request: &[u8]) -> Result<Option<Vec<u8>>, NoMemory>
         ensures answer { IfOk result (λ answer. option_map (λ v. v.items) answer ≡ None) }
         ensures ok { OnOk result (self.new ≡ with_served request.now self.old) }
-        ensures err { OnErr result (self.new ≡ self.old) }
+        ensures begun { OnErr result (IsHalfServed request.now self.old self.new) }
         ensures delivered { (names : Names) → WasAsked request.now self.old
             → Delivered names (past_in self.old) (past_in self.new) }
     {
@@ -157,13 +160,13 @@ impl<S: Records> Scripted<S> {
     /// Serves the request, and hands its reply over.
     fn pass(&mut self, alloc: Global, request: &[u8]) -> Result<Option<Vec<u8>>, NoMemory>
         ensures answer { IfOk result (λ answer. option_map (λ v. v.items) answer
-            ≡ Some (reply_bytes self.old.stock request.now (pos 0))) }
+            ≡ Some (batch_reply self.old.stock request.now (pos 0))) }
         ensures ok { OnOk result (self.new ≡ with_served request.now self.old) }
-        ensures err { OnErr result ((self.new ≡ self.old)
+        ensures begun { OnErr result (IsHalfServed request.now self.old self.new
             ⊎ (self.new ≡ with_served request.now self.old)) }
         ensures taken { OnOk result (WasAsked request.now self.old
             → AreTaken (stops_in request.now) (parts_in request.now)
-            (replies_in (reply_bytes self.old.stock request.now (pos 0)))
+            (replies_in (batch_reply self.old.stock request.now (pos 0)))
             (past_in self.old) (past_in self.new)) }
         ensures delivered { (names : Names) → WasAsked request.now self.old
             → Delivered names (past_in self.old) (past_in self.new) }
@@ -204,7 +207,7 @@ impl<S: Records> Scripted<S> {
         ensures taken { OnOk result (exchange_word self.old.words ≡ Pass
             → WasAsked request.now self.old
             → AreTaken (stops_in request.now) (parts_in request.now)
-            (replies_in (reply_bytes self.old.stock request.now (pos 0)))
+            (replies_in (batch_reply self.old.stock request.now (pos 0)))
             (past_in self.old) (past_in self.new)) }
         ensures delivered { (names : Names) → WasAsked request.now self.old
             → Delivered names (past_in self.old) (past_in self.new) }
@@ -218,7 +221,8 @@ impl<S: Records> Scripted<S> {
     /// exchange.
     ///
     /// # Errors
-    /// Where there is no memory; a beginning of the steps was done.
+    /// Where there is no memory; a beginning of the steps was done. Of a message that was being served
+    /// some of the first questions may be, and no reply is given.
     pub fn follow(&mut self, alloc: Global, request: &[u8]) -> Result<Option<Vec<u8>>, NoMemory>
         ensures answer { IfOk result (λ answer. option_map (λ v. v.items) answer
             ≡ (exchange request.now self.old).0) }
@@ -252,7 +256,8 @@ impl<S: Records> Scripted<S> {
     /// that ends it is taken.
     ///
     /// # Errors
-    /// Where there is no memory; a beginning of the steps was done.
+    /// Where there is no memory; a beginning of the steps was done. Of a message that was being served
+    /// some of the first questions may be, and no reply is given.
     pub fn finish_run(&mut self, alloc: Global) -> Result<(), NoMemory>
         ensures exact { OnOk result (self.new ≡ after_run self.old) }
         ensures begun { OnErr result (AreBegun true self.old.words self.old self.new) }

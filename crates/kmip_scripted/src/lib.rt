@@ -3,7 +3,6 @@
 #![tactic(auto)]
 
 mod disturbing;
-mod effects;
 mod fault;
 mod following;
 pub mod laws;

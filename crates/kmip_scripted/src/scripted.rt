@@ -1,9 +1,7 @@
 //! A link in memory that follows a script.
 ghost use Rattle.std.specs.Prelude.{◌≡◌, ℕ, List, ◌++◌, [], ◌∷◌, pos, drop, length, IfOk, OnErr, OnOk, option_map};
-ghost use Rattle.kmip_messages.specs.Items.{parts_in, replies_in, stops_in};
-ghost use Rattle.kmip_messages.specs.Whole.{request_read};
-ghost use Rattle.kmip_server.specs.Messages.{AreServed};
-ghost use Rattle.kmip_server.specs.Serving.{reply_bytes, reply_to};
+ghost use Rattle.kmip_batches.specs.Items.{parts_in, replies_in, stops_in};
+ghost use Rattle.kmip_server.specs.Batching.{AreServedInTurn, batch_reply, effects_in};
 ghost use Rattle.kmip_server.specs.Shown.{HasLawfulObjects};
 ghost use Rattle.kmip_schedule.specs.Calm.{AreTaken};
 ghost use Rattle.kmip_schedule.specs.Clean.{hands_strange};
@@ -13,18 +11,16 @@ ghost use Rattle.kmip_losses.specs.Counting.{counted, every_name};
 ghost use Rattle.kmip_scripted.specs.Disturbing.{is_disturbed, is_repeated};
 ghost use Rattle.kmip_scripted.specs.Early.{asked_only};
 ghost use Rattle.kmip_scripted.specs.Scenes.{WasAsked, disturbances_in, past_in, scene_of, with_disturbances};
-ghost use Rattle.kmip_scripted.specs.Serving.{with_served};
+ghost use Rattle.kmip_scripted.specs.Serving.{IsHalfServed, with_served};
 ghost use Rattle.kmip_scripted.specs.Words.{answer_at, exchange_word, first_of, message_at, word_at, next_words, with_ended, with_request, with_words, words_after_exchange, words_after_run};
 
 use crate::disturbing::{counts_after, is_repeated};
 use crate::script::{Script, Word};
-use crate::serving::serve_logged;
+use crate::serving::{arrival_laws, serve_logged};
 use crate::words::{
     first_word, next_exchange_word, take_ending_word, take_exchange_word, take_restarts,
 };
 use kmip_losses::Counts;
-use kmip_messages::laws::question_laws;
-use kmip_schedule::laws::{deliveries_join, what_is_done_joins, what_is_taken_is_delivered};
 use kmip_server::{Effect, Records, Server};
 use kmip_ttlv::{Bytes, NoMemory};
 use std::alloc::Global;
@@ -170,13 +166,14 @@ impl<S: Records> Scripted<S> {
     /// Serves a message.
     ///
     /// # Errors
-    /// Where there is no memory; all is then as it was.
+    /// Where there is no memory. Some of its first questions are served then, and not all of them,
+    /// and no reply is given.
     pub(crate) fn serve(&mut self, alloc: Global, message: &[u8]) -> Result<(), NoMemory>
         ensures ok { OnOk result (self.new ≡ with_served message.now self.old) }
-        ensures err { OnErr result (self.new ≡ self.old) }
+        ensures begun { OnErr result (IsHalfServed message.now self.old self.new) }
         ensures taken { OnOk result (WasAsked message.now self.old
             → AreTaken (stops_in message.now) (parts_in message.now)
-            (replies_in (reply_bytes self.old.stock message.now (pos 0)))
+            (replies_in (batch_reply self.old.stock message.now (pos 0)))
             (past_in self.old) (past_in self.new)) }
         ensures delivered { (names : Names) → WasAsked message.now self.old
             → Delivered names (past_in self.old) (past_in self.new) }
@@ -185,10 +182,7 @@ impl<S: Records> Scripted<S> {
             → Delivered names (past_in (asked_only asked self.old))
             (past_in (asked_only asked self.new))) }
     {
-        question_laws();
-        what_is_done_joins();
-        what_is_taken_is_delivered();
-        deliveries_join();
+        arrival_laws();
         self.log(alloc, message)?;
         Ok(())
     }
@@ -196,13 +190,11 @@ impl<S: Records> Scripted<S> {
     /// The same, by the records and the lists alone.
     fn log(&mut self, alloc: Global, message: &[u8]) -> Result<(), NoMemory>
         ensures ok { OnOk result (self.new ≡ with_served message.now self.old) }
-        ensures err { OnErr result (self.new ≡ self.old) }
-        ensures served { OnOk result (AreServed (stops_in message.now) (parts_in message.now)
-            (replies_in (reply_bytes self.old.stock message.now (pos 0)))
-            self.old.stock self.new.stock) }
-        ensures says { OnOk result (replies_in (reply_bytes self.old.stock message.now (pos 0))
-            ≡ reply_to self.old.stock (request_read message.now) ∷ []) }
-        ensures lawful { OnOk result (HasLawfulObjects self.old.stock) }
+        ensures begun { OnErr result (IsHalfServed message.now self.old self.new) }
+        ensures served { OnOk result (AreServedInTurn (stops_in message.now)
+            (parts_in message.now) (replies_in (batch_reply self.old.stock message.now (pos 0)))
+            (effects_in self.old.stock message.now) self.old.stock self.new.stock) }
+        ensures lawful { HasLawfulObjects self.old.stock }
     {
         serve_logged(
             alloc,

@@ -1,23 +1,22 @@
 //! A message that arrives: what the server makes of it, and what joins the lists.
-ghost use Rattle.std.specs.Prelude.{◌≡◌, ◌==◌, ◌&&◌, ◌++◌, [], ◌∷◌, pos, None, Ok, IfOk, OnErr, OnOk, option_to_list, if◌then◌else◌};
-ghost use Rattle.kmip_messages.specs.Items.{parts_in, replies_in, stops_in};
-ghost use Rattle.kmip_messages.specs.Whole.{request_read};
-ghost use Rattle.kmip_server.specs.Messages.{AreServed};
-ghost use Rattle.kmip_server.specs.Serving.{reply_bytes, reply_to, stock_after};
+ghost use Rattle.std.specs.Prelude.{◌≡◌, ◌++◌, [], ◌∷◌, pos, OnErr, OnOk};
+ghost use Rattle.kmip_batches.specs.Items.{parts_in, replies_in, stops_in};
+ghost use Rattle.kmip_server.specs.Batching.{AreBegun, AreServedInTurn, GrownBy, batch_reply, effects_in, stock_after_batch};
 ghost use Rattle.kmip_server.specs.Shown.{HasLawfulObjects};
-ghost use Rattle.kmip_scripted.specs.Serving.{effect_in, is_create};
+ghost use Rattle.kmip_scripted.specs.Arriving.{ArrivalLaws};
 
-use crate::effects::{effect_due, is_create};
-use kmip_messages::laws::question_laws;
-use kmip_messages::{Ask, Request, read_request};
+use kmip_batches::laws::question_laws;
+use kmip_objects::laws::{added_laws, restated_laws};
+use kmip_schedule::laws::{deliveries_join, what_is_done_joins, what_is_taken_is_delivered};
 use kmip_server::{Effect, Records, Server};
 use kmip_ttlv::{Bytes, NoMemory};
 use std::alloc::Global;
 
-/// Serves a message, and keeps its reply and what it did. All or nothing.
+/// Serves a message, and keeps its reply and what it did.
 ///
 /// # Errors
-/// Where there is no memory; all is then as it was.
+/// Where there is no memory. Some of its first questions are served then, and not all of them, and
+/// no reply is kept.
 pub(crate) fn serve_logged<S: Records>(
     alloc: Global,
     server: &mut Server<S>,
@@ -25,94 +24,36 @@ pub(crate) fn serve_logged<S: Records>(
     effects: &mut Vec<Effect>,
     message: &[u8],
 ) -> Result<(), NoMemory>
-    ensures stock { OnOk result (server.new ≡ stock_after server.old message.now) }
+    ensures stock { OnOk result (server.new ≡ stock_after_batch server.old message.now) }
     ensures given { OnOk result (given.new.items
-        ≡ given.old.items ++ reply_bytes server.old message.now (pos 0) ∷ []) }
+        ≡ given.old.items ++ batch_reply server.old message.now (pos 0) ∷ []) }
     ensures effects { OnOk result (effects.new.items
-        ≡ effects.old.items ++ option_to_list (effect_in server.old message.now)) }
-    ensures served { OnOk result (AreServed (stops_in message.now) (parts_in message.now)
-        (replies_in (reply_bytes server.old message.now (pos 0))) server.old server.new) }
-    ensures says { OnOk result (replies_in (reply_bytes server.old message.now (pos 0))
-        ≡ reply_to server.old (request_read message.now) ∷ []) }
-    ensures lawful { OnOk result (HasLawfulObjects server.old) }
-    ensures same_stock { OnErr result (server.new ≡ server.old) }
+        ≡ effects.old.items ++ effects_in server.old message.now) }
+    ensures served { OnOk result (AreServedInTurn (stops_in message.now) (parts_in message.now)
+        (replies_in (batch_reply server.old message.now (pos 0)))
+        (effects_in server.old message.now) server.old server.new) }
+    ensures begun { OnErr result (GrownBy (λ more. AreBegun (stops_in message.now)
+        (parts_in message.now) more server.old server.new)
+        effects.old.items effects.new.items) }
     ensures same_given { OnErr result (given.new.items ≡ given.old.items) }
-    ensures same_effects { OnErr result (effects.new.items ≡ effects.old.items) }
+    ensures lawful { HasLawfulObjects server.old }
 {
+    question_laws();
+    let _records = server.records();
     given.reserve(1)?;
-    effects.reserve(1)?;
-    let (reply, effect) = serve(alloc, server, message)?;
+    let reply = server.handle_batch(alloc, message, 0, effects)?;
     given.push_reserved(Bytes::from_vec(reply));
-    if let Some(effect) = effect {
-        effects.push_reserved(effect);
-    }
     Ok(())
 }
 
-/// Serves a message: its reply, and what it did.
-///
-/// # Errors
-/// Where there is no memory; the records are then as they were.
-fn serve<S: Records>(
-    alloc: Global,
-    server: &mut Server<S>,
-    message: &[u8],
-) -> Result<(Vec<u8>, Option<Effect>), NoMemory>
-    ensures reply { IfOk result (λ r. r.0.items ≡ reply_bytes server.old message.now (pos 0)) }
-    ensures effect { IfOk result (λ r. r.1 ≡ effect_in server.old message.now) }
-    ensures stock { OnOk result (server.new ≡ stock_after server.old message.now) }
-    ensures served { IfOk result (λ r. AreServed (stops_in message.now) (parts_in message.now)
-        (replies_in r.0.items) server.old server.new) }
-    ensures says { IfOk result (λ r. replies_in r.0.items
-        ≡ reply_to server.old (request_read message.now) ∷ []) }
-    ensures lawful { OnOk result (HasLawfulObjects server.old) }
-    ensures same { OnErr result (server.new ≡ server.old) }
-{
-    match read_request(alloc, message) {
-        Ok(request) => serve_request(alloc, server, &request, message),
-        Err(refusal) => {
-            if refusal.fault.is_no_memory() {
-                return Err(NoMemory);
-            }
-            let reply = server.handle(alloc, message, 0)?;
-            Ok((reply, None))
-        }
-    }
-}
-
-/// The same of a message that is this request.
-fn serve_request<S: Records>(
-    alloc: Global,
-    server: &mut Server<S>,
-    request: &Request,
-    message: &[u8],
-) -> Result<(Vec<u8>, Option<Effect>), NoMemory>
-    requires { request_read message.now ≡ Ok request.now }
-    ensures reply { IfOk result (λ r. r.0.items ≡ reply_bytes server.old message.now (pos 0)) }
-    ensures effect { IfOk result (λ r. r.1 ≡ effect_in server.old message.now) }
-    ensures stock { OnOk result (server.new ≡ stock_after server.old message.now) }
-    ensures served { IfOk result (λ r. AreServed (stops_in message.now) (parts_in message.now)
-        (replies_in r.0.items) server.old server.new) }
-    ensures says { IfOk result (λ r. replies_in r.0.items
-        ≡ reply_to server.old (request_read message.now) ∷ []) }
-    ensures lawful { OnOk result (HasLawfulObjects server.old) }
-    ensures same { OnErr result (server.new ≡ server.old) }
+/// The laws of the crates below that the arrival of a message rests on.
+pub(crate) fn arrival_laws()
+    ensures { ArrivalLaws }
 {
     question_laws();
-    let due = effect_due(alloc, server.records(), &request.ask)?;
-    let before = server.records().count();
-    let reply = server.handle(alloc, message, 0)?;
-    let after = server.records().count();
-    let effect = effect_seen(&request.ask, due, before, after);
-    Ok((reply, effect))
-}
-
-/// What was going to be done, where it is no Create that made no object.
-fn effect_seen(ask: &Ask, due: Option<Effect>, before: usize, after: usize) -> Option<Effect>
-    ensures { result ≡ if is_create ask.now && (after == before) then None else due }
-{
-    if is_create(ask) && after == before {
-        return None;
-    }
-    due
+    added_laws();
+    restated_laws();
+    what_is_done_joins();
+    what_is_taken_is_delivered();
+    deliveries_join();
 }

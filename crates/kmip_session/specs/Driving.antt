@@ -2,9 +2,9 @@
 -- Source: own.
 use Rattle.std.specs.Prelude.{◌≡◌, ◌⊎◌, ◌≤◌, ◌<◌, ◌+◌, ℕ, IsSome, map, List, [], ◌∷◌, ◌++◌, length, flat_map, Option, Some, ⊤}
 use Rattle.std.specs.List.{All, AllZip}
-use Rattle.kmip_messages.specs.Items.{requests_in}
+use Rattle.kmip_batches.specs.Items.{requests_in}
 use Rattle.kmip_objects.specs.Objects.{Object, object_named}
-use Rattle.kmip_messages.specs.Written.{request_item}
+use Rattle.kmip_batches.specs.Written.{requests_item}
 use Rattle.kmip_messages.specs.declared.request.Request.{Request}
 use Rattle.kmip_plan.specs.Plans.{IsLawful, IsPlanned}
 use Rattle.kmip_plan.specs.Prolonging.{Prolongs}
@@ -78,7 +78,7 @@ pub record IsQuestion (keys : List Key) (bytes : List ℕ) : Type 0 where
   pub key : Key
   pub known : Knowledge
   pub is_planned : IsPlanned keys key
-  pub written : bytes ≡ canon (request_item (request_about key known))
+  pub written : bytes ≡ canon (requests_item (request_about key known ∷ []))
 
 -- So many exchanges were made, each with a question about a key of the plan; nothing else was asked. What is known now is what was
 -- known before and what they handed over.

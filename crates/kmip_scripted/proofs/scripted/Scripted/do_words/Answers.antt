@@ -1,15 +1,18 @@
 -- Word by word.
-use Rattle.std.proofs.Common.{sym, subst, ◌∙◌, rules}
+use Rattle.std.proofs.Common.{◌∙◌, rules}
 use Rattle.kmip_scripted.specs.Scenes.{past_in}
-use Rattle.kmip_scripted.specs.Words.{AreBegun}
 use Rattle.kmip_scripted.proofs.CleanLemmas.{early_twice}
-use Rattle.kmip_scripted.proofs.WordLemmas.{nothing_begun, on_err}
+use Rattle.kmip_scripted.proofs.WordLemmas.{on_err}
 use Rattle.kmip_scripted.proofs.scripted.Scripted.do_words.Goals as goal
 
 pub returns-in_err-step-clause-begun : goal.returns-in_err-step-clause-begun
 returns-in_err-step-clause-begun g c =
-    on_err c.from_residual.result (c.words.invariant.begun c.step.new.self
-    (subst (AreBegun c.args.at_end c.words.self.words c.words.self) (sym c.in_err-step.ensures.err) (nothing_begun c.args.at_end c.words.self.words c.words.self)))
+    on_err c.from_residual.result (c.words.invariant.begun c.step.new.self c.in_err-step.ensures.begun)
+
+pub returns-in_err-step-clause-delivered : goal.returns-in_err-step-clause-delivered
+returns-in_err-step-clause-delivered g c = λ names.
+    c.deliveries_join.ensures.join names (past_in c.args.self.now) (past_in c.words.self) (past_in c.step.new.self)
+    (c.words.invariant.delivered names) (c.step.ensures.delivered names)
 
 pub words-preserved : goal.words-preserved
 words-preserved g c =

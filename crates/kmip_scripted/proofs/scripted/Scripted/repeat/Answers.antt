@@ -6,6 +6,12 @@ use Rattle.kmip_scripted.specs.Words.{message_at}
 use Rattle.kmip_scripted.proofs.WordLemmas.{was_asked}
 use Rattle.kmip_scripted.proofs.scripted.Scripted.repeat.Goals as goal
 
+pub returns-in_err-serve-clause-delivered : goal.returns-in_err-serve-clause-delivered
+returns-in_err-serve-clause-delivered g c = λ names.
+    let is : message_at c.args.number c.args.self.now.asked ≡ Some c.in-Some.message.items = search (rules, c.in_ok-message.ensures, c.in-Some.is) in
+    c.serve.ensures.delivered names
+    (subst (λ m. WasAsked m c.args.self.now) (sym c.as_slice.ensures.value) (was_asked c.args.number c.args.self.now c.in-Some.message.items is))
+
 pub returns-clause-delivered : goal.returns-clause-delivered
 returns-clause-delivered g c = λ names.
     let is : message_at c.args.number c.args.self.now.asked ≡ Some c.in-Some.message.items = search (rules, c.in_ok-message.ensures, c.in-Some.is) in
