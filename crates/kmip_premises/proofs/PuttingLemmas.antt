@@ -5,7 +5,7 @@ use Rattle.std.specs.Prelude.{◌&&◌, option_map, option_and_then, slice_get, 
 use Rattle.std.specs.Option.{option_map_or}
 use Rattle.std.proofs.lemmas.Option.{same_Some}
 use Rattle.std.proofs.lemmas.Slice.Eq.{bytes_eq-Decides}
-use Rattle.kmip_messages.specs.Items.{parts_in, replies_in, stops_in}
+use Rattle.kmip_batches.specs.Items.{parts_in, replies_in, stops_in}
 use Rattle.kmip_messages.specs.declared.reply.Reply.{Reply}
 use Rattle.kmip_messages.specs.declared.request.Request.{Request}
 use Rattle.kmip_schedule.specs.Calm.{AreTaken, CalmlyExchanged, IsServed}

@@ -7,7 +7,7 @@ use Rattle.std.specs.Option.{option_map_or}
 use Rattle.kmip_messages.specs.declared.reply.Outcome.{Outcome}
 use Rattle.kmip_messages.specs.declared.reply.Outcome.TheVariants.{Created, Located, Attributes, Activated, Revoked, Destroyed, Failed}
 use Rattle.kmip_messages.specs.declared.reply.Reply.{Reply}
-use Rattle.kmip_messages.specs.Items.{replies_in}
+use Rattle.kmip_batches.specs.Items.{replies_in}
 use Rattle.kmip_objects.specs.Ranges.{is_identifier}
 use Rattle.kmip_premises.specs.declared.answer.Answer.{Answer}
 use Rattle.kmip_premises.specs.declared.answer.Answer.TheVariants.{Nothing, Told, Unmarked}
@@ -60,9 +60,11 @@ is_asked_for number outcome = option_map_or (λ inquiry. is_of inquiry.1 outcome
 abbrev pub answer_with : ℕ → List ℕ → Option (List ℕ) → Outcome → Answer
 answer_with number prefix id outcome = if is_asked_for number outcome then answer_marked number prefix id outcome else Nothing
 
+-- What the replies of a message say of it: a message asks one question, and so any other number of replies says nothing.
 abbrev pub answer_in : ℕ → List ℕ → List Reply → Answer
 answer_in number prefix [] = Nothing
-answer_in number prefix (reply ∷ replies) = answer_with number prefix reply.id reply.outcome
+answer_in number prefix (reply ∷ []) = answer_with number prefix reply.id reply.outcome
+answer_in number prefix (reply ∷ second ∷ others) = Nothing
 
 -- what was handed over says of it; a loss says nothing
 abbrev pub answer_to : ℕ → List ℕ → Option (List ℕ) → Answer

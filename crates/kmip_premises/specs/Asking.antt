@@ -3,7 +3,7 @@
 use Rattle.std.specs.Prelude.{◌≡◌, ℕ, Bool, true, false, ◌&&◌, List, [], ◌∷◌, ◌++◌, length, take, drop, flat_map, slice_get, Option, Some, None, option_map, option_and_then, option_to_list, if◌then◌else◌}
 use Rattle.std.specs.Option.{option_map_or}
 use Rattle.kmip_ttlv.specs.Spelling.{canon}
-use Rattle.kmip_messages.specs.Written.{request_item}
+use Rattle.kmip_batches.specs.Written.{requests_item}
 use Rattle.kmip_messages.specs.declared.reply.Outcome.{Outcome}
 use Rattle.kmip_messages.specs.declared.reply.Outcome.TheVariants.{Located}
 use Rattle.kmip_messages.specs.declared.request.Request.{Request}
@@ -47,10 +47,10 @@ request_for prefix answers inquiry = option_map
     (λ ask. record { id = Some (marker_of (length answers) prefix); ask = ask })
     (ask_of inquiry.1 (name_of inquiry.0 prefix) (uid_of inquiry.0 answers))
 
--- the message that is sent next; none where the question can't be asked
+-- the message that is sent next, of one question; none where the question can't be asked
 abbrev pub message_after : List ℕ → List Answer → Option (List ℕ)
 message_after prefix answers =
-    option_map (λ request. canon (request_item request)) (option_and_then (request_for prefix answers) (next_inquiry answers))
+    option_map (λ request. canon (requests_item (request ∷ []))) (option_and_then (request_for prefix answers) (next_inquiry answers))
 
 -- all that was sent for the answers behind those before them
 abbrev pub messages_from : List ℕ → List Answer → List Answer → List (List ℕ)

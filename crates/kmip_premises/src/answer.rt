@@ -1,12 +1,15 @@
 //! What came of a question.
 ghost use Rattle.std.specs.Prelude.{◌≡◌, ℕ, Option, IfOk, IsTrue, option_map, nat_eq};
 ghost use Rattle.std.specs.Cmp.Lexicographic.{pointwise};
-ghost use Rattle.kmip_messages.specs.Fits.{HasValuesInRange, outcome_fits};
-ghost use Rattle.kmip_premises.specs.Answers.{answer_marked, answer_to, answer_with, is_asked_for, is_marker, is_of, marker_of, outcome_in, unmarked, uids_told, without_id, IsLawful};
+ghost use Rattle.std.specs.List.{All};
+ghost use Rattle.kmip_messages.specs.BatchItems.{answer_fits};
+ghost use Rattle.kmip_messages.specs.Fits.{outcome_fits};
+ghost use Rattle.kmip_premises.specs.Answers.{answer_in, answer_marked, answer_to, answer_with, is_asked_for, is_marker, is_of, marker_of, outcome_in, unmarked, uids_told, without_id, IsLawful};
 ghost use Rattle.kmip_premises.specs.Asking.{is_free};
 
 use crate::inquiry::{Kind, inquiry_at};
-use kmip_messages::{Outcome, Reply, read_reply};
+use kmip_batches::read_reply;
+use kmip_messages::{Outcome, Reply};
 use kmip_ttlv::{Bytes, NoMemory, Text};
 use std::alloc::Global;
 
@@ -54,7 +57,8 @@ impl Answer {
     }
 }
 
-/// What was handed over says of the question of a number, from 0.
+/// What was handed over says of the question of a number, from 0: nothing, unless it is a message
+/// of one reply.
 ///
 /// # Errors
 /// Where there is no memory.
@@ -72,7 +76,7 @@ pub(crate) fn answer_to(
         return Ok(Answer::Nothing);
     };
     match read_reply(alloc, given.as_slice()) {
-        Ok(reply) => Ok(answer_with(number, prefix, reply)),
+        Ok(replies) => Ok(answer_in(number, prefix, replies)),
         Err(fault) => {
             if fault.is_no_memory() {
                 return Err(NoMemory);
@@ -82,10 +86,26 @@ pub(crate) fn answer_to(
     }
 }
 
+/// What the replies of a message say of the question of a number: one is to answer it, and any
+/// other number of them says nothing.
+fn answer_in(number: u8, prefix: &str, replies: Vec<Reply>) -> Answer
+    ensures answer { result ≡ answer_in number prefix.now replies.items }
+    ensures lawful { All (λ r. IsTrue (answer_fits r)) replies.items → IsLawful result }
+{
+    let mut replies = replies;
+    let Some(reply) = replies.pop() else {
+        return Answer::Nothing;
+    };
+    if !replies.is_empty() {
+        return Answer::Nothing;
+    }
+    answer_with(number, prefix, reply)
+}
+
 /// What a reply says of the question of a number.
 fn answer_with(number: u8, prefix: &str, reply: Reply) -> Answer
     ensures answer { result ≡ answer_with number prefix.now reply.id reply.outcome }
-    ensures lawful { HasValuesInRange reply → IsLawful result }
+    ensures lawful { IsTrue (answer_fits reply) → IsLawful result }
 {
     let Reply { id, outcome, .. } = reply;
     if !is_asked_for(number, &outcome) {

@@ -4,7 +4,7 @@ ghost use Rattle.std.specs.List.{All};
 ghost use Rattle.kmip_schedule.specs.Past.{Names};
 ghost use Rattle.kmip_ttlv.specs.Spelling.{canon};
 ghost use Rattle.kmip_messages.specs.RequestFits.{request_fits};
-ghost use Rattle.kmip_messages.specs.Written.{request_item};
+ghost use Rattle.kmip_batches.specs.Written.{requests_item};
 ghost use Rattle.kmip_premises.specs.Answers.{answer_to, uids_told, IsLawful};
 ghost use Rattle.kmip_premises.specs.Asking.{is_free_at, next_inquiry, uid_of, request_for, messages_from, AreAnswers};
 ghost use Rattle.kmip_premises.specs.Inquiries.{is_prefix};
@@ -14,7 +14,8 @@ ghost use Rattle.kmip_premises.specs.Putting.{HasAsked, HasReplied, HasSent, Has
 
 use crate::answer::{Answer, answer_to};
 use crate::inquiry::{Inquiry, QUESTIONS, Which, ask_of, inquiry_at, name_of};
-use kmip_messages::{Ask, Request, write_request};
+use kmip_batches::write_request;
+use kmip_messages::{Ask, Request};
 use kmip_objects::laws::{added_laws, found_laws, restated_laws};
 use kmip_schedule::laws::deliveries_keep_the_requests;
 use kmip_schedule::{Link, answer_or_loss};
@@ -147,7 +148,8 @@ fn put<L: Link>(
     ask(alloc, prefix, link, answers.len() as u8, &request)
 }
 
-/// Sends a request, and answers what comes back says of the question of its number.
+/// Sends a request in a message of its own, and answers what comes back says of the question of
+/// its number.
 ///
 /// # Errors
 /// Where there is no memory.
@@ -161,8 +163,8 @@ fn ask<L: Link>(
     requires { IsTrue (request_fits request.now) }
     ensures lawful { IfOk result IsLawful }
     ensures asked { (names : Names) → L.honest link.old names → L.honest link.new names
-        × IfOk result (λ answer. HasSent (canon (request_item request.now)) (answer_to number
-        prefix.now) answer (L.past link.old) (L.past link.new)) }
+        × IfOk result (λ answer. HasSent (canon (requests_item (request.now ∷ [])))
+        (answer_to number prefix.now) answer (L.past link.old) (L.past link.new)) }
     ensures few { (names : Names) → L.honest link.old names
         → length (L.past link.new).sent ≤ length (L.past link.old).sent + 1 }
     ensures served { (names : Names) → L.calm link.old names → L.calm link.new names
@@ -171,7 +173,7 @@ fn ask<L: Link>(
 {
     deliveries_keep_the_requests();
     L::calm_laws();
-    let bytes = write_request(alloc, request)?;
+    let bytes = write_request(alloc, std::slice::from_ref(request))?;
     let Ok(handed) = answer_or_loss(link.exchange(alloc, bytes.as_slice())) else {
         return Err(NoMemory);
     };

@@ -4,9 +4,8 @@ use Rattle.std.specs.Prelude.{ℕ, ◌+◌, ◌-◌, Bool, false, List, [], ◌�
 use Rattle.std.specs.Fmt.{decimal}
 use Rattle.std.specs.List.{flat_map, slice_get}
 use Rattle.std.specs.Option.{option_map_or}
-use Rattle.kmip_messages.specs.Items.{requests_in}
+use Rattle.kmip_batches.specs.Items.{requests_in}
 use Rattle.kmip_objects.specs.Objects.{Object}
-use Rattle.kmip_messages.specs.declared.request.Ask.{Ask}
 use Rattle.kmip_messages.specs.declared.request.Request.{Request}
 use Rattle.kmip_server.specs.Shown.{objects_in}
 use Rattle.kmip_scripted.specs.Scenes.{Scene}
@@ -14,8 +13,8 @@ use Rattle.kmip_session.specs.Stops.{is_all_finished, stop_name}
 use Rattle.kmip_session.specs.declared.campaigning.CampaignEnd.{CampaignEnd}
 use Rattle.kmip_session.specs.declared.campaigning.RunEnd.{RunEnd}
 use Rattle.kmip_ttlv.specs.declared.fault.NoMemory.{NoMemory as Want}
-use Rattle.kmip_wording.specs.Names.{ask_word, state_word}
-use Rattle.kmip_wording.specs.Questions.{name_asked}
+use Rattle.kmip_wording.specs.Names.{state_word}
+use Rattle.kmip_wording.specs.Questions.{requests_text}
 
 -- the texts of things one after the other, each with its number, from this one on
 abbrev pub numbered_text : {X : Type 0} → (ℕ → X → List ℕ) → ℕ → List X → List ℕ
@@ -35,17 +34,18 @@ run_text number end = run_line number end ++ string_bytes end.report
 abbrev pub runs_text : List RunEnd → List ℕ
 runs_text ends = numbered_text run_text 1 ends
 
--- the front of the line of a request
-abbrev pub ask_line : ℕ → Ask → List ℕ
-ask_line number ask = codes "ask " ++ decimal number ++ codes " " ++ ask_word ask ++ codes " "
+-- the front of the line of what a message asked
+abbrev pub ask_front : ℕ → List ℕ
+ask_front number = codes "ask " ++ decimal number ++ codes " "
 
--- the line of a request
-abbrev pub ask_text : ℕ → Request → List ℕ
-ask_text number request = ask_line number request.ask ++ name_asked request ++ codes "\n"
+-- the line of the requests that a message asked; none where it asked nothing
+abbrev pub ask_text : ℕ → List Request → List ℕ
+ask_text number [] = []
+ask_text number (request ∷ others) = ask_front number ++ requests_text (request ∷ others) ++ codes "\n"
 
--- the request in a message that was asked; a message that asks nothing has no line
+-- the same of a message as it was asked
 abbrev pub message_text : ℕ → List ℕ → List ℕ
-message_text number message = flat_map (ask_text number) (requests_in message)
+message_text number message = ask_text number (requests_in message)
 
 -- the messages that were ever asked, from 1
 abbrev pub asks_text : List (List ℕ) → List ℕ

@@ -1,11 +1,10 @@
 //! What is written of a simulation.
 ghost use Rattle.std.specs.Prelude.{◌≡◌, ◌++◌, ◌+◌, IfOk, OnOk, string_bytes};
 ghost use Rattle.std.specs.List.{flat_map};
-ghost use Rattle.kmip_messages.specs.Items.{requests_in};
 ghost use Rattle.kmip_server.specs.Shown.{objects_in};
 ghost use Rattle.kmip_store.specs.Stock.{object_of};
 ghost use Rattle.kmip_simulation.specs.SimText.{
-  ask_line,
+  ask_front,
   ask_text,
   asks_text,
   message_text,
@@ -18,17 +17,17 @@ ghost use Rattle.kmip_simulation.specs.SimText.{
 };
 
 use crate::simulating::Simulation;
-use kmip_messages::{Ask, Request, read_request};
+use kmip_messages::Request;
 use kmip_scripted::Scripted;
 use kmip_server::{IndexedStore, Records};
 use kmip_session::RunEnd;
 use kmip_store::Row;
 use kmip_ttlv::NoMemory;
-use kmip_wording::{ask_word, name_asked, state_word};
+use kmip_wording::{push_requests, requests_in, state_word};
 use std::alloc::Global;
 
 /// Appends what is written of a simulation: each run that has ended with its report, and then, unless
-/// memory ran out in a run, each request that was ever asked and each object at the end.
+/// memory ran out in a run, all that was ever asked and each object at the end.
 ///
 /// # Errors
 /// Where there is no memory for it.
@@ -82,7 +81,8 @@ fn run_line(alloc: Global, number: usize, end: &RunEnd) -> Result<String, NoMemo
     Ok(line)
 }
 
-/// Appends a line for each request that was ever asked over the link, with its number from 1.
+/// Appends a line for each message that was ever asked over the link and asks something, with its
+/// number from 1 and its requests, joined by `, `.
 ///
 /// # Errors
 /// Where there is no memory for them.
@@ -99,10 +99,10 @@ pub fn push_asks(
         };
         push_message(alloc, place + 1, message, text)?;
     }
-    Err(NoMemory) // no memory holds so many requests
+    Err(NoMemory) // no memory holds so many messages
 }
 
-/// Appends the line of the request in a message that was asked.
+/// Appends the line of a message that was asked, where it asks something.
 fn push_message(
     alloc: Global,
     number: usize,
@@ -111,40 +111,35 @@ fn push_message(
 ) -> Result<(), NoMemory>
     ensures { OnOk result (text.new.items ≡ text.old.items ++ message_text number message.now) }
 {
-    match read_request(alloc, message) {
-        Ok(request) => push_ask(alloc, number, &request, text),
-        Err(refusal) => {
-            if refusal.fault.is_no_memory() {
-                return Err(NoMemory);
-            }
-            Ok(())
-        }
-    }
+    let requests = requests_in(alloc, message)?;
+    push_ask(alloc, number, requests.as_slice(), text)
 }
 
-/// Appends the line of a request.
+/// Appends the line of what a message asked, where there is something.
 fn push_ask(
     alloc: Global,
     number: usize,
-    request: &Request,
+    requests: &[Request],
     text: &mut Vec<u8>,
 ) -> Result<(), NoMemory>
-    ensures { OnOk result (text.new.items ≡ text.old.items ++ ask_text number request.now) }
+    ensures { OnOk result (text.new.items ≡ text.old.items ++ ask_text number requests.now) }
 {
-    let line = ask_line(alloc, number, &request.ask)?;
-    text.extend_from_slice(line.as_bytes())?;
-    text.extend_from_slice(name_asked(request))?;
+    if requests.is_empty() {
+        return Ok(());
+    }
+    let front = ask_front(alloc, number)?;
+    text.extend_from_slice(front.as_bytes())?;
+    push_requests(requests, text)?;
     text.push(b'\n')?;
     Ok(())
 }
 
-/// The line of a request, up to the name.
-fn ask_line(alloc: Global, number: usize, ask: &Ask) -> Result<String, NoMemory>
-    ensures { IfOk result (λ line. string_bytes line ≡ ask_line number ask.now) }
+/// The front of the line of what a message asked.
+fn ask_front(alloc: Global, number: usize) -> Result<String, NoMemory>
+    ensures { IfOk result (λ front. string_bytes front ≡ ask_front number) }
 {
-    let word = ask_word(ask);
-    let line = format!(in alloc; "ask {number} {word} ")?;
-    Ok(line)
+    let front = format!(in alloc; "ask {number} ")?;
+    Ok(front)
 }
 
 /// Appends a line for each object of the link's server, in the order in which they were made.

@@ -5,14 +5,15 @@ use Rattle.std.specs.Cmp.Lexicographic.{pointwise}
 use Rattle.std.specs.Fmt.{decimal}
 use Rattle.std.specs.List.{flat_map, list_all}
 use Rattle.kmip_ttlv.specs.Showing.{plain_text}
-use Rattle.kmip_messages.specs.Items.{replies_in}
+use Rattle.kmip_batches.specs.Items.{replies_in, requests_in}
 use Rattle.kmip_objects.specs.Ranges.{is_name_byte}
 use Rattle.kmip_messages.specs.declared.reply.Outcome.{Outcome}
 use Rattle.kmip_messages.specs.declared.reply.Outcome.TheVariants.{Created, Located, Attributes, Activated, Revoked, Destroyed, Failed}
 use Rattle.kmip_messages.specs.declared.reply.Reply.{Reply}
+use Rattle.kmip_messages.specs.declared.request.Request.{Request}
 use Rattle.kmip_objects.specs.declared.state.KeyState.{KeyState}
 use Rattle.kmip_wording.specs.Names.{operation_word, state_of, state_word}
-use Rattle.kmip_wording.specs.Questions.{id_asked, id_name}
+use Rattle.kmip_wording.specs.Questions.{id_name}
 
 -- a space and an identifier
 abbrev pub spaced_text : List ℕ → List ℕ
@@ -60,9 +61,15 @@ is_same_id None None = true
 is_same_id (Some id) (Some other) = pointwise nat_eq id other
 is_same_id id other = false
 
--- which question a reply answers, where it is not the one that was asked
-abbrev pub whose_text : Option (List ℕ) → Option (List ℕ) → List ℕ
-whose_text asked id = if is_same_id asked id then [] else codes "answers " ++ id_text id ++ codes ", "
+-- which question a reply with this id answers goes without saying: one was asked, with this id, or none was and there is no id
+abbrev pub is_only_asked : List Request → Option (List ℕ) → Bool
+is_only_asked [] id = is_same_id None id
+is_only_asked (request ∷ []) id = is_same_id request.id id
+is_only_asked (request ∷ other ∷ others) id = false
+
+-- which question a reply answers, where that does not go without saying
+abbrev pub whose_text : List Request → Option (List ℕ) → List ℕ
+whose_text asked id = if is_only_asked asked id then [] else codes "answers " ++ id_text id ++ codes ", "
 
 -- which name is told of an object, where it is not the one that was asked about
 abbrev pub other_name_text : List ℕ → Option (List ℕ) → List ℕ
@@ -78,12 +85,20 @@ naming_text asked outcome = []
 abbrev pub reply_text : Reply → List ℕ
 reply_text reply = naming_text (id_name reply.id) reply.outcome ++ outcome_text reply.outcome
 
--- the first of these replies to the question of this id, in words
-abbrev pub first_reply_text : Option (List ℕ) → List Reply → List ℕ
-first_reply_text asked [] = codes "an unreadable reply"
-first_reply_text asked (reply ∷ others) = whose_text asked reply.id ++ reply_text reply
+-- a reply to what was asked, with the question that it answers
+abbrev pub answering_text : List Request → Reply → List ℕ
+answering_text asked reply = whose_text asked reply.id ++ reply_text reply
+
+-- the same of one more reply, behind others
+abbrev pub next_answering_text : List Request → Reply → List ℕ
+next_answering_text asked reply = codes "; " ++ answering_text asked reply
+
+-- the replies to what was asked, in their order
+abbrev pub replies_text : List Request → List Reply → List ℕ
+replies_text asked [] = codes "an unreadable reply"
+replies_text asked (reply ∷ others) = answering_text asked reply ++ flat_map (next_answering_text asked) others
 
 -- what came back for what some bytes ask: other bytes, or nothing
 abbrev pub answer_text : List ℕ → Option (List ℕ) → List ℕ
 answer_text request None = codes "no reply"
-answer_text request (Some reply) = first_reply_text (id_asked request) (replies_in reply)
+answer_text request (Some reply) = replies_text (requests_in request) (replies_in reply)

@@ -1,8 +1,9 @@
 -- What was asked, in words.
 -- Source: own: what the program prints.
-use Rattle.std.specs.Prelude.{ℕ, List, [], ◌∷◌, ◌++◌, drop, codes, Option, None}
+use Rattle.std.specs.Prelude.{ℕ, List, [], ◌∷◌, ◌++◌, drop, codes, Option}
+use Rattle.std.specs.List.{flat_map}
 use Rattle.std.specs.Option.{unwrap_or}
-use Rattle.kmip_messages.specs.Items.{requests_in}
+use Rattle.kmip_batches.specs.Items.{requests_in}
 use Rattle.kmip_messages.specs.declared.request.Request.{Request}
 use Rattle.kmip_wording.specs.Names.{ask_word}
 
@@ -18,20 +19,15 @@ name_asked request = id_name request.id
 abbrev pub request_text : Request → List ℕ
 request_text request = ask_word request.ask ++ codes " " ++ name_asked request
 
--- the first of these requests in words
-abbrev pub first_text : List Request → List ℕ
-first_text [] = codes "no question"
-first_text (request ∷ others) = request_text request
+-- the same of one more request, behind others
+abbrev pub next_request_text : Request → List ℕ
+next_request_text request = codes ", " ++ request_text request
 
--- what some bytes ask
+-- what some requests ask, in their order
+abbrev pub requests_text : List Request → List ℕ
+requests_text [] = codes "no question"
+requests_text (request ∷ others) = request_text request ++ flat_map next_request_text others
+
+-- what some bytes ask: their requests, as questions that are refused are passed over
 abbrev pub question_text : List ℕ → List ℕ
-question_text message = first_text (requests_in message)
-
--- the id of the first of these requests, where it has one
-abbrev pub first_id : List Request → Option (List ℕ)
-first_id [] = None
-first_id (request ∷ others) = request.id
-
--- the id of what some bytes ask
-abbrev pub id_asked : List ℕ → Option (List ℕ)
-id_asked message = first_id (requests_in message)
+question_text message = requests_text (requests_in message)

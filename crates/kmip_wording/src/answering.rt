@@ -1,34 +1,37 @@
-//! What came back for a question, in words.
+//! What came back for a message, in words.
 ghost use Rattle.std.specs.Prelude.{◌≡◌, ◌++◌, OnOk, option_map};
-ghost use Rattle.std.specs.List.{list_all};
-ghost use Rattle.kmip_messages.specs.Items.{replies_in};
+ghost use Rattle.std.specs.List.{flat_map, list_all};
+ghost use Rattle.kmip_batches.specs.Items.{replies_in};
 ghost use Rattle.kmip_objects.specs.Ranges.{is_name_byte};
 ghost use Rattle.kmip_wording.specs.Names.{operation_word};
-ghost use Rattle.kmip_wording.specs.Questions.{id_asked};
 ghost use Rattle.kmip_wording.specs.Answers.{
   answer_text,
-  first_reply_text,
+  answering_text,
   id_text,
+  is_only_asked,
   is_same_id,
   named_text,
   naming_text,
+  next_answering_text,
   other_name_text,
+  replies_text,
   reply_text,
   whose_text,
 };
 
-use crate::asking::{id_asked, id_name};
+use crate::asking::{id_name, requests_in};
 use crate::names::operation_word;
 use crate::outcomes::{push_outcome, push_plain};
-use kmip_messages::{Outcome, Reply, read_reply};
+use kmip_batches::read_reply;
+use kmip_messages::{Outcome, Reply, Request};
 use kmip_ttlv::{Bytes, NoMemory, Text};
 use std::alloc::Global;
 
-/// Appends what came back for the bytes of a request: how the operation went by the bytes of the
-/// reply, `an unreadable reply` where they are none, and `no reply` where none came. Where the reply
-/// has another id than the request, `answers` and the question that its id names stand before it; and
-/// where it tells attributes without the name in its id, `named` and the name that they have, or
-/// `unnamed`.
+/// Appends what came back for the bytes of a message: how each operation went by the bytes of the
+/// replies, joined by `; `, `an unreadable reply` where they are no replies, and `no reply` where
+/// nothing came. Where several questions were asked, or a reply has another id than the one that
+/// was, `answers` and the question that its id names stand before it; and where it tells attributes
+/// without the name in its id, `named` and the name that they have, or `unnamed`.
 ///
 /// # Errors
 /// Where there is no memory for it.
@@ -45,24 +48,22 @@ pub fn push_answer(
         text.extend_from_slice(b"no reply")?;
         return Ok(());
     };
-    push_reply(alloc, request, reply, text)
+    let asked = requests_in(alloc, request)?;
+    push_replies_in(alloc, asked.as_slice(), reply, text)
 }
 
-/// Appends what the bytes of a reply say to those of a request.
-fn push_reply(
+/// Appends what the bytes of a message say to what was asked.
+fn push_replies_in(
     alloc: Global,
-    request: &[u8],
-    reply: &[u8],
+    asked: &[Request],
+    message: &[u8],
     text: &mut Vec<u8>,
 ) -> Result<(), NoMemory>
     ensures { OnOk result (text.new.items ≡ text.old.items
-        ++ first_reply_text (id_asked request.now) (replies_in reply.now)) }
+        ++ replies_text asked.now (replies_in message.now)) }
 {
-    match read_reply(alloc, reply) {
-        Ok(reply) => {
-            push_whose(alloc, request, &reply.id, text)?;
-            push_told(alloc, &reply, text)
-        }
+    match read_reply(alloc, message) {
+        Ok(replies) => push_replies(alloc, asked, replies.as_slice(), text),
         Err(fault) => {
             if fault.is_no_memory() {
                 return Err(NoMemory);
@@ -73,25 +74,91 @@ fn push_reply(
     }
 }
 
-/// Appends which question a reply with this id answers, where it is not the one in the bytes of the
-/// request.
-fn push_whose(
+/// Appends what some replies say to what was asked.
+fn push_replies(
     alloc: Global,
-    request: &[u8],
-    id: &Option<Bytes>,
+    asked: &[Request],
+    replies: &[Reply],
     text: &mut Vec<u8>,
 ) -> Result<(), NoMemory>
-    ensures { OnOk result (text.new.items ≡ text.old.items
-        ++ whose_text (id_asked request.now) id.now) }
+    ensures { OnOk result (text.new.items
+        ≡ text.old.items ++ replies_text asked.now replies.now) }
 {
-    let asked = id_asked(alloc, request)?;
-    if is_same_id(&asked, id) {
+    let Some((reply, others)) = replies.split_first() else {
+        text.extend_from_slice(b"an unreadable reply")?;
+        return Ok(());
+    };
+    push_answering(alloc, asked, reply, text)?;
+    push_others(alloc, asked, others, text)
+}
+
+/// Appends what each of some further replies says.
+fn push_others(
+    alloc: Global,
+    asked: &[Request],
+    others: &[Reply],
+    text: &mut Vec<u8>,
+) -> Result<(), NoMemory>
+    ensures { OnOk result (text.new.items
+        ≡ text.old.items ++ flat_map (next_answering_text asked.now) others.now) }
+{
+    for reply in others {
+        push_next(alloc, asked, reply, text)?;
+    }
+    Ok(())
+}
+
+/// Appends what one further reply says.
+fn push_next(
+    alloc: Global,
+    asked: &[Request],
+    reply: &Reply,
+    text: &mut Vec<u8>,
+) -> Result<(), NoMemory>
+    ensures { OnOk result (text.new.items
+        ≡ text.old.items ++ next_answering_text asked.now reply.now) }
+{
+    text.extend_from_slice(b"; ")?;
+    push_answering(alloc, asked, reply, text)
+}
+
+/// Appends what a reply says, and before it which question it answers, where that is to be told.
+fn push_answering(
+    alloc: Global,
+    asked: &[Request],
+    reply: &Reply,
+    text: &mut Vec<u8>,
+) -> Result<(), NoMemory>
+    ensures { OnOk result (text.new.items
+        ≡ text.old.items ++ answering_text asked.now reply.now) }
+{
+    push_whose(asked, &reply.id, text)?;
+    push_told(alloc, reply, text)
+}
+
+/// Appends which question a reply with this id answers, where that does not go without saying.
+fn push_whose(asked: &[Request], id: &Option<Bytes>, text: &mut Vec<u8>) -> Result<(), NoMemory>
+    ensures { OnOk result (text.new.items ≡ text.old.items ++ whose_text asked.now id.now) }
+{
+    if is_only_asked(asked, id) {
         return Ok(());
     }
     text.extend_from_slice(b"answers ")?;
     push_id(id, text)?;
     text.extend_from_slice(b", ")?;
     Ok(())
+}
+
+/// Whether it goes without saying which question a reply with this id answers: one was asked, with
+/// this id, or none was and there is no id.
+fn is_only_asked(asked: &[Request], id: &Option<Bytes>) -> bool
+    ensures { result ≡ is_only_asked asked.now id.now }
+{
+    match asked {
+        [] => is_same_id(&None, id),
+        [request] => is_same_id(&request.id, id),
+        _ => false,
+    }
 }
 
 /// Appends how the operation went, and before it which name is told, where it is not the one in the

@@ -8,6 +8,6 @@ mod names;
 mod outcomes;
 
 pub use answering::push_answer;
-pub use asking::{name_asked, push_question};
-pub use names::{ask_word, state_word};
+pub use asking::{push_question, push_requests, requests_in};
+pub use names::state_word;
 pub use outcomes::push_outcome;

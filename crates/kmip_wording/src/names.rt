@@ -11,7 +11,7 @@ use kmip_messages::standard::{
 use kmip_objects::KeyState;
 
 /// The name of the operation that is asked.
-pub fn ask_word(ask: &Ask) -> &'static str
+pub(crate) fn ask_word(ask: &Ask) -> &'static str
     ensures { result.now ≡ ask_word ask.now }
 {
     match ask {

@@ -1,6 +1,8 @@
 -- An exchange sends the message, and its answer is what was handed over says.
-use Rattle.std.proofs.Common.{◌≡◌, [], ◌∷◌, Ok, subst, sym, ◌∙◌}
-use Rattle.kmip_messages.specs.Items.{parts_in}
+use Rattle.std.proofs.Common.{◌≡◌, [], ◌∷◌, map, Ok, ap, subst, sym, ◌∙◌}
+use Rattle.kmip_ttlv.specs.Spelling.{canon}
+use Rattle.kmip_batches.specs.Items.{parts_in}
+use Rattle.kmip_batches.specs.Written.{requests_item}
 use Rattle.kmip_premises.specs.Answers.{answer_to}
 use Rattle.kmip_premises.specs.Putting.{HasSent}
 use Rattle.kmip_premises.proofs.PuttingLemmas.{few_by, replied_by, sent_by, weaken}
@@ -9,7 +11,7 @@ use Rattle.kmip_premises.proofs.probing.ask.Goals as goal
 pub returns-clause-asked : goal.returns-clause-asked
 returns-clause-asked g c = λ names honest.
     let (still, exchanged) = c.exchange.ensures.honest names honest in
-    let is = c.as_slice.ensures.value ∙ c.in_ok-bytes.ensures.bytes in
+    let is = c.as_slice.ensures.value ∙ c.in_ok-bytes.ensures.bytes ∙ ap (λ rs. canon (requests_item rs)) c.from_ref.ensures.value in
     let says = answer_to c.args.number c.args.prefix.now in (
       still,
       weaken c.answer_to.result
@@ -22,7 +24,7 @@ returns-clause-asked g c = λ names honest.
 pub returns-clause-served : goal.returns-clause-served
 returns-clause-served g c = λ names calm.
     let (still, exchanged) = c.exchange.ensures.calm names calm in
-    let asks = subst (λ m. parts_in m ≡ Ok c.args.request.now ∷ []) (sym c.as_slice.ensures.value) c.in_ok-bytes.ensures.parts in (
+    let asks = subst (λ m. parts_in m ≡ Ok c.args.request.now ∷ []) (sym c.as_slice.ensures.value) (c.in_ok-bytes.ensures.parts ∙ ap (map Ok) c.from_ref.ensures.value) in (
       still,
       weaken c.answer_to.result
           (λ answer told. replied_by names (g.L.Link.past c.args.link.now) (g.L.Link.past c.exchange.new.self) c.as_slice.result.now c.args.request.now c.args.number
