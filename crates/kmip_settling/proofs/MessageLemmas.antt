@@ -79,15 +79,25 @@ turn_told l keys knowns place w reply objects news old new lawful held served n 
     elim (served.serves.id_is) [
       | inl same ↦ (
         record { place = place; operation = operation; reply = reply; known = w.known; next = n.next; heard = Some (heard_of place operation reply.outcome w.known n.next) },
-        refl, refl, refl, refl, refl,
+        refl,
+        refl,
+        refl,
+        refl,
+        refl,
         (refl, refl, λ ks there. heard_is keys ks place operation w.key w.known n.next reply l.distinct lawful w.key_is there w.works asked same (told served.serves.operation_is) n.learnt),
       )
       | inr bare ↦ (
         record { place = place; operation = operation; reply = reply; known = w.known; next = n.next; heard = None },
-        refl, refl, refl, refl, refl,
-        (λ ks. rw bare.0 refl,
-        λ ks there. lost_is (record { keys = keys; knowns = ks; next = 0 }) place w.key w.known w.key_is there w.works
-            ∙ ap (slice_set ks place) (failed_learns w.key reply.outcome w.known n.next bare.1 n.learnt)),
+        refl,
+        refl,
+        refl,
+        refl,
+        refl,
+        (
+          λ ks. rw bare.0 refl,
+          λ ks there. lost_is (record { keys = keys; knowns = ks; next = 0 }) place w.key w.known w.key_is there w.works
+              ∙ ap (slice_set ks place) (failed_learns w.key reply.outcome w.known n.next bare.1 n.learnt),
+        ),
       )
     ]
   where

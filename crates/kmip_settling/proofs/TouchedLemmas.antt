@@ -220,11 +220,11 @@ heard_kept l keys p knowns nexts reply heard lawful sound held so h =
     let planned = l.found keys heard.key h.key lawful h.key_is in
     elim (h.taught) [
       | inl learnt ↦ (learn_taught h.key p h.known h.new reply.outcome
-        (record {
-          numbers = numbers l keys p h.key h.known sound planned (held_at keys knowns heard.key h.key h.known p.objects held h.key_is h.known_is);
-          works = ltb-true h.known.done (chain_length h.key) (and_parts _ _ learnt.0).0;
-        })
-        (so h.operation h.key.attrs.name h.key h.id_is planned) learnt.1).kept
+          (record {
+            numbers = numbers l keys p h.key h.known sound planned (held_at keys knowns heard.key h.key h.known p.objects held h.key_is h.known_is);
+            works = ltb-true h.known.done (chain_length h.key) (and_parts _ _ learnt.0).0;
+          })
+          (so h.operation h.key.attrs.name h.key h.id_is planned) learnt.1).kept
       | inr same ↦ subst (IsKept h.known) (sym same) (record { identifier_kept = λ uid is. is; done_kept = omega arith })
     ]
 
