@@ -12,7 +12,8 @@ ghost use Rattle.kmip_batches.specs.Ranges.{QuestionFits};
 pub fn question_laws()
     ensures number { (bytes : List ℕ) → IsTrue (may_have (length (parts_in bytes))) }
     ensures fit { (bytes : List ℕ) → All QuestionFits (parts_in bytes) }
-    ensures requests { (bytes : List ℕ) → requests_in bytes ≡ filter_map result_ok (parts_in bytes) }
+    ensures requests { (bytes : List ℕ)
+        → requests_in bytes ≡ filter_map result_ok (parts_in bytes) }
 {}
 
 /// What is read of some bytes they say, and bytes that say some replies are read as these.

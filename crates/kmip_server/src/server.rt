@@ -71,6 +71,9 @@ impl<S: Records> Server<S> {
         ensures kept { IsKept self.new.rows self.new.room }
         ensures objects_before { HasLawfulObjects self.old }
         ensures objects { HasLawfulObjects self.new }
+        ensures served { IfOk result (λ r. AreServedInTurn (stops_in message.now)
+            (parts_in message.now) (replies_in r.items) (effects_in self.old message.now)
+            self.old self.new) }
     {
         let mut effects = Vec::new(alloc);
         self.handle_batch(alloc, message, now, &mut effects)
