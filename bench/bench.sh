@@ -8,7 +8,8 @@
 # runs, which the two programs take in turn; a short one is the mean of several runs at a time. It is
 # processor time, the system's included, so other work on the machine disturbs it little. First come
 # whole loads, then how the cost of a request grows from 10 objects of the server to 10,000, and then
-# the memory that an object takes, and last how the time of `kmipctl sim` grows with the keys of a plan.
+# the memory that an object takes, how the time of `kmipctl sim` grows with the keys of a plan, and last
+# what `sim` and `run` take by how many keys a message asks about.
 # The exit status is 1 where the outputs differ, or a simulation takes another number of exchanges than
 # its plan needs, and 0 whatever the times are.
 set -euo pipefail
@@ -202,6 +203,44 @@ growth_of_simulations() {
         "$(quotient "$ours" "$hundred" 2)" "$sim_aim"
 }
 
+# Ends with exit status 1 where the line $1 is not $2.
+expect() {
+    if [[ $1 != "$2" ]]; then
+        echo "$1, and not: $2"
+        exit 1
+    fi
+}
+
+# Prints the least milliseconds, waiting included, of three runs of the further words; their output is
+# in $out/told, and the progress file is removed before each.
+elapsed() {
+    local least= begun took
+    for ((run = 0; run < 3; run++)); do
+        rm -f "$out/batch.progress"
+        begun=$(date +%s%N)
+        "$@" > "$out/told"
+        took=$((($(date +%s%N) - begun) / 1000000))
+        if [[ -z $least || $took -lt $least ]]; then least=$took; fi
+    done
+    echo "$least"
+}
+
+# Prints the exchanges and the time of `sim` and of `run --loopback` for 1,000 keys, three questions a
+# key, with one key a message and with eight. `run` writes its progress to the disk after each exchange.
+batches() {
+    local batch exchanges simulated ran
+    write_plan 1000 > "$out/plan.toml"
+    : > "$out/empty.script"
+    for batch in 1 8; do
+        exchanges=$((3000 / batch))
+        simulated=$(elapsed "$program" sim --plan "$out/plan.toml" --script "$out/empty.script" --batch "$batch")
+        expect "$(head -n 1 "$out/told")" "run 1 AllFinished $exchanges"
+        ran=$(elapsed "$program" run --plan "$out/plan.toml" --progress "$out/batch.progress" --loopback --batch "$batch")
+        expect "$(tail -n 1 "$out/told")" "stop AllFinished $exchanges"
+        echo "1,000 keys, --batch $batch: $exchanges exchanges; sim $simulated ms, run --loopback $ran ms, with the waits for the disk"
+    done
+}
+
 mkdir -p "$out"
 build baseline
 build input
@@ -224,3 +263,4 @@ memory kmipctl "$program" answer
 memory baseline "$out/baseline"
 
 growth_of_simulations
+batches

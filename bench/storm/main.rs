@@ -5,8 +5,8 @@
 //!     storm PROGRAM FOLDER PLANS SEED
 //!
 //! A proxy stands between the runs and one `kmipctl serve`. What the server answers is noted there, and
-//! read at the end by `kmipctl show`. For each plan there are some stormy rounds: a run is started, and
-//! killed after a random time if it has not ended. Between two of them the progress file may be put back
+//! read at the end by `kmipctl show`. For each plan there are some stormy rounds: a run is started, whose
+//! messages ask about one to eight keys, and killed after a random time if it has not ended. Between two of them the progress file may be put back
 //! to an older copy, or removed. Then the storm ends: what was delayed is delivered or dropped, and one
 //! run more, with the plan's bound as its limit, has to finish all keys.
 //!

@@ -47,8 +47,15 @@ fn bound(plan: &Plan) -> usize {
     plan.iter().map(|(_, target)| TARGETS[*target].1.len() + 2).sum()
 }
 
-/// A run of a plan.
-fn start(program: &Path, folder: &Path, port: u16, limit: usize) -> io::Result<Child> {
+/// A run of a plan, whose messages ask about so many keys at most as the storm draws.
+fn start(
+    shared: &Shared,
+    program: &Path,
+    folder: &Path,
+    port: u16,
+    limit: usize,
+) -> io::Result<Child> {
+    let batch = 1 + shared.below(8);
     Command::new(program)
         .args(["run", "--plan"])
         .arg(folder.join("plan.toml"))
@@ -56,7 +63,8 @@ fn start(program: &Path, folder: &Path, port: u16, limit: usize) -> io::Result<C
         .arg(folder.join("progress"))
         .arg("--connect")
         .arg(format!("127.0.0.1:{port}"))
-        .args(["--limit", &limit.to_string(), "--timeout", "2", "--wait", "1"])
+        .args(["--limit", &limit.to_string(), "--batch", &batch.to_string()])
+        .args(["--timeout", "2", "--wait", "1"])
         .stdout(Stdio::piped())
         .spawn()
 }
@@ -95,7 +103,7 @@ fn carry_plan(
     let mut old = Vec::new();
     shared.is_calm.store(false, Ordering::SeqCst);
     for _ in 0..2 + shared.below(6) {
-        let mut run = start(program, folder, port, 10_000)?;
+        let mut run = start(shared, program, folder, port, 10_000)?;
         thread::sleep(Duration::from_micros(500 + shared.below(40_000)));
         if run.try_wait()?.is_some() {
             tally.ends += 1;
@@ -128,7 +136,7 @@ fn carry_plan(
     // The storm ends: what killed runs have sent comes to its end, and what was delayed.
     shared.end_storm()?;
     shared.is_calm.store(true, Ordering::SeqCst);
-    let output = start(program, folder, port, bound(plan))?.wait_with_output()?;
+    let output = start(shared, program, folder, port, bound(plan))?.wait_with_output()?;
     if !output.status.success() {
         println!("wrong: not finished within {}:", bound(plan));
         print!("{}", String::from_utf8_lossy(&output.stdout));
@@ -166,9 +174,9 @@ fn effects(program: &Path, replies: &[Vec<u8>]) -> io::Result<HashMap<String, Ve
     writer.join().unwrap();
     show.wait()?;
     let mut effects: HashMap<String, Vec<u8>> = HashMap::new();
-    for message in text.split("42007B Structure").skip(1) {
-        let id = shown(message, "420093 ByteString").unwrap_or("");
-        let is_done = shown(message, "42007F Enumeration") == Some("00000000");
+    for item in text.split("42000F Structure").skip(1) {
+        let id = shown(item, "420093 ByteString").unwrap_or("");
+        let is_done = shown(item, "42007F Enumeration") == Some("00000000");
         let bytes: Vec<u8> = (0..id.len() / 2)
             .filter_map(|place| u8::from_str_radix(&id[2 * place..2 * place + 2], 16).ok())
             .collect();

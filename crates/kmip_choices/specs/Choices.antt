@@ -12,8 +12,9 @@ IsCheckOf plan (Some earlier) (CheckAfter path other) = (string_bytes path ≡ p
 IsCheckOf plan earlier choice = ⊥
 
 -- the choice is to simulate the plan at this path, and then the further one where there is one, over the script at the other,
--- and to tell so much of it
-abbrev pub IsSimulationOf : List ℕ → Option (List ℕ) → List ℕ → Detail → Choice → Type 0
-IsSimulationOf plan further script detail (Simulate path next other told) =
-    (string_bytes path ≡ plan) × (option_map (λ text. string_bytes text) next ≡ further) × (string_bytes other ≡ script) × (told ≡ detail)
-IsSimulationOf plan further script detail choice = ⊥
+-- to tell so much of it, and to ask about so many keys in a message at most
+abbrev pub IsSimulationOf : List ℕ → Option (List ℕ) → List ℕ → Detail → ℕ → Choice → Type 0
+IsSimulationOf plan further script detail batch (Simulate path next other told most) =
+    (string_bytes path ≡ plan) × (option_map (λ text. string_bytes text) next ≡ further) × (string_bytes other ≡ script)
+    × (told ≡ detail) × (most ≡ batch)
+IsSimulationOf plan further script detail batch choice = ⊥

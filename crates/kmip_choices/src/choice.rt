@@ -37,6 +37,8 @@ pub enum Choice {
         script: String,
         /// How much is told of it.
         detail: Detail,
+        /// How many keys a message asks about at most.
+        batch: u64,
     },
     /// Carry out a plan over a network.
     Run(RunOptions),
@@ -95,16 +97,17 @@ pub fn detail_of(is_traced: bool) -> Detail
 }
 
 /// What to simulate: the plan at a path, and then the further one where there is a path of one, over
-/// the script at another; and how much to tell of it.
+/// the script at another; how much to tell of it; and about how many keys a message asks at most.
 pub fn simulation_of(
     alloc: Global,
     plan: &str,
     further: Option<&str>,
     script: &str,
     detail: Detail,
+    batch: u64,
 ) -> Result<Choice, AllocError>
     ensures { IfOk result (IsSimulationOf plan.now
-        (option_map (λ path. path.now) further.entry) script.now detail) }
+        (option_map (λ path. path.now) further.entry) script.now detail batch) }
 {
     let plan = String::from_str(alloc, plan)?;
     let further = path_of(alloc, further)?;
@@ -114,6 +117,7 @@ pub fn simulation_of(
         further,
         script,
         detail,
+        batch,
     })
 }
 

@@ -3,7 +3,7 @@
 use crate::Choice;
 use kmip_check::{check_after_bytes, run_check, run_check_after};
 use kmip_commands::{ExitStatus, Form, run_answer, run_answer_stream, run_show};
-use kmip_network::{probe_server, refusal_of, run_plan, serve, text_or_why_not};
+use kmip_network::{batch_of, probe_server, refusal_of, run_plan, serve, text_or_why_not};
 use kmip_sim::{Detail, run_sim};
 use std::io;
 use std::io::{BufReader, BufWriter, Error, ErrorKind};
@@ -26,7 +26,8 @@ pub fn carry_out(rt: &HostRuntime, choice: Choice) -> io::Result<ExitStatus> {
             further,
             script,
             detail,
-        } => simulate_files(rt, detail, plan.as_str(), further, script.as_str()),
+            batch,
+        } => simulate_files(rt, detail, batch, plan.as_str(), further, script.as_str()),
         Choice::Run(options) => run_plan(rt, &options),
         Choice::Probe(options) => probe_server(rt, &options),
         Choice::Serve(options) => serve(rt, &options),
@@ -77,15 +78,16 @@ fn check_plan_after(rt: &HostRuntime, path: &str, earlier_path: &str) -> io::Res
 fn simulate_files(
     rt: &HostRuntime,
     detail: Detail,
+    batch: u64,
     path: &str,
     further_path: Option<String>,
     script_path: &str,
 ) -> io::Result<ExitStatus> {
     match further_path {
         Some(further_path) => {
-            simulate_plans(rt, detail, path, further_path.as_str(), script_path)
+            simulate_plans(rt, detail, batch, path, further_path.as_str(), script_path)
         }
-        None => simulate_plan(rt, detail, path, script_path),
+        None => simulate_plan(rt, detail, batch, path, script_path),
     }
 }
 
@@ -93,6 +95,7 @@ fn simulate_files(
 fn simulate_plan(
     rt: &HostRuntime,
     detail: Detail,
+    batch: u64,
     path: &str,
     script_path: &str,
 ) -> io::Result<ExitStatus> {
@@ -100,7 +103,7 @@ fn simulate_plan(
         Ok(texts) => texts,
         Err(status) => return Ok(status),
     };
-    simulate(rt, detail, plan.as_str(), None, script.as_str())
+    simulate(rt, detail, batch, plan.as_str(), None, script.as_str())
 }
 
 /// The command `sim --then` from three files to standard output. The script is read once both plans
@@ -108,6 +111,7 @@ fn simulate_plan(
 fn simulate_plans(
     rt: &HostRuntime,
     detail: Detail,
+    batch: u64,
     path: &str,
     further_path: &str,
     script_path: &str,
@@ -117,7 +121,7 @@ fn simulate_plans(
         Err(status) => return Ok(status),
     };
     if is_refused_after(rt, further.as_str(), plan.as_str())? {
-        return simulate(rt, detail, plan.as_str(), Some(further.as_str()), "");
+        return simulate(rt, detail, batch, plan.as_str(), Some(further.as_str()), "");
     }
     let Some(script) = text_or_why_not(rt, script_path)? else {
         return Ok(ExitStatus::Refused);
@@ -125,6 +129,7 @@ fn simulate_plans(
     simulate(
         rt,
         detail,
+        batch,
         plan.as_str(),
         Some(further.as_str()),
         script.as_str(),
@@ -144,12 +149,22 @@ fn is_refused_after(rt: &HostRuntime, plan: &str, earlier: &str) -> io::Result<b
 fn simulate(
     rt: &HostRuntime,
     detail: Detail,
+    batch: u64,
     plan: &str,
     further: Option<&str>,
     script: &str,
 ) -> io::Result<ExitStatus> {
     let mut writer = BufWriter::new(rt.alloc(), io::writer(rt))?;
-    Ok(run_sim(rt.alloc(), detail, plan, further, script, &mut writer))
+    let batch = batch_of(batch);
+    Ok(run_sim(
+        rt.alloc(),
+        detail,
+        batch,
+        plan,
+        further,
+        script,
+        &mut writer,
+    ))
 }
 
 /// The texts of a plan's file and of another. Where the first is no plan, or a file has no text, that

@@ -1,5 +1,5 @@
 -- How many keys are worked on, and that a verdict stands once it is given.
-use Rattle.std.proofs.Common.{◌≡◌, ◌≢◌, ℕ, zero, suc, ◌+◌, ◌≤◌, ◌<◌, Bool, true, false, not, nat_lt, nat_le, List, [], ◌∷◌, length, map, drop, Option, Some, None, slice_set, subst, refl, sym, ap, inl, inr, arith, if◌then◌else◌, true≢false, ◌∙◌}
+use Rattle.std.proofs.Common.{◌≡◌, ◌≢◌, ℕ, zero, suc, ◌+◌, ◌≤◌, ◌<◌, Bool, true, false, not, nat_lt, nat_le, List, [], ◌∷◌, length, map, Option, Some, None, slice_set, subst, refl, sym, ap, inl, inr, arith, if◌then◌else◌, true≢false, ◌∙◌}
 use Rattle.std.proofs.lemmas.Bool.{cases_Bool, and_parts, ltb-true, leb-true, leb-false, lt-ltb}
 use Rattle.std.specs.List.{AllZip, slice_get}
 use Rattle.std.specs.Option.{is_some}
@@ -10,42 +10,13 @@ use Rattle.kmip_chains.specs.declared.target.Target.TheVariants.{Created, Active
 use Rattle.kmip_knowledge.specs.declared.clash.Clash.{Clash}
 use Rattle.kmip_knowledge.specs.declared.knowledge.Knowledge.{Knowledge}
 use Rattle.kmip_knowledge.specs.declared.knowledge.Verdict.TheVariants.{Working, Finished, Conflict}
-use Rattle.kmip_client.specs.Clients.{AreSettled, ClientState, NoneWorks, SomeWorks, next_working, one_if, working_count, working_from, changed_by, changed_at, lost_working, verdict_at, VerdictsStay}
+use Rattle.kmip_client.specs.Clients.{AreSettled, NoneWorks, SomeWorks, one_if, working_count, changed_by, changed_at, lost_working, verdict_at, VerdictsStay}
 use Rattle.kmip_client.specs.Held.{Held}
 use Rattle.kmip_client.specs.Shapes.{IsShaped}
 use Rattle.kmip_client.specs.Standing.{AreWithin, counts_of}
 use Rattle.kmip_knowledge.specs.Knowledge.{chain_length, fresh_knowledge, is_working, clash_verdict, verdict_of}
 
 -- ---- the count
-
--- where none is counted, none is found
-pub none_from : (place : ℕ) (keys : List Key) (knowns : List Knowledge) → working_count keys knowns ≡ 0 → working_from place keys knowns ≡ None
-none_from place [] knowns none = refl
-none_from place (key ∷ keys) [] none = refl
-none_from place (key ∷ keys) (known ∷ knowns) none =
-    elim (cases_Bool (is_working key known)) [
-      | inl works ↦ absurd (omega (arith, ap one_if works))
-      | inr settled ↦ rw settled (none_from (place + 1) keys knowns (omega arith))
-    ]
-
--- fewer are counted in a part
-pub none_behind : (n : ℕ) (keys : List Key) (knowns : List Knowledge) → working_count keys knowns ≡ 0 → working_count (drop n keys) (drop n knowns) ≡ 0
-none_behind zero keys knowns none = none
-none_behind (suc n) [] [] none = refl
-none_behind (suc n) [] (known ∷ knowns) none = refl
-none_behind (suc n) (key ∷ keys) [] none = none_behind_none n keys
-  where
-    none_behind_none : (n : ℕ) (keys : List Key) → working_count (drop n keys) [] ≡ 0
-    none_behind_none zero [] = refl
-    none_behind_none zero (key ∷ keys) = refl
-    none_behind_none (suc n) [] = refl
-    none_behind_none (suc n) (key ∷ keys) = none_behind_none n keys
-none_behind (suc n) (key ∷ keys) (known ∷ knowns) none = none_behind n keys knowns (omega arith)
-
--- then no key has the turn
-pub none_next : (c : ClientState) → working_count c.keys c.knowns ≡ 0 → next_working c ≡ None
-none_next c none =
-    rw (none_from c.next (drop c.next c.keys) (drop c.next c.knowns) (none_behind c.next c.keys c.knowns none), none_from 0 c.keys c.knowns none) refl
 
 -- a key of which nothing is known is worked on, since every chain has a step
 fresh_works : (key : Key) → is_working key fresh_knowledge ≡ true

@@ -3,7 +3,7 @@ use Rattle.std.proofs.Common.{◌≡◌, ℕ, zero, suc, Bool, nat_lt, List, [],
 use Rattle.std.proofs.lemmas.Bool.{cases_Bool}
 use Rattle.std.specs.List.{slice_get}
 use Rattle.std.specs.Option.{is_some}
-use Rattle.kmip_batches.specs.Items.{replies_in}
+use Rattle.kmip_fields.specs.declared.fault.MessageFault.{MessageFault}
 use Rattle.kmip_batches.specs.Batches.{replies_read}
 use Rattle.kmip_objects.specs.declared.attributes.Attrs.{Attrs}
 use Rattle.kmip_messages.specs.declared.reply.Outcome.{Outcome}
@@ -13,8 +13,8 @@ use Rattle.kmip_objects.specs.declared.step.Step.{Step}
 use Rattle.kmip_objects.specs.declared.step.Step.TheVariants as steps
 use Rattle.kmip_chains.specs.Chains.{place_of, step_place}
 use Rattle.kmip_chains.specs.declared.key.Key.{Key}
-use Rattle.kmip_client.specs.Clients.{ClientState, changed_by, lost_at, lost_working}
-use Rattle.kmip_client.specs.Hearing.{has_failed, heard_alone, heard_about, heard_by, is_other_operation, subject_of, teach, unreadable, with_heard, with_news}
+use Rattle.kmip_client.specs.Clients.{changed_at, changed_by, lost_working}
+use Rattle.kmip_client.specs.Hearing.{has_failed, hear_all, heard_about, heard_by, heard_in, is_other_operation, known_after_each, known_after_reply, subject_of, teach, with_heard, with_news}
 use Rattle.kmip_knowledge.specs.Knowledge.{is_working}
 use Rattle.kmip_knowledge.specs.Learning.{attributes_learnt, created_learnt, enter, is_known, is_named, is_other, is_planned, learn, located_learnt, place_learnt, raise, state_learnt, step_learnt}
 use Rattle.kmip_knowledge.specs.declared.fault.HearFault.{HearFault}
@@ -182,7 +182,7 @@ some_fact : (x y : Fact) → Some x ≡ Some y → x ≡ y
 some_fact x y is = cc
 
 with_heard_blind : (subject : Subject) (xs ys : List Knowledge) (s t : Result (News × Knowledge) HearFault) → facts xs ≡ facts ys → fact_taught s ≡ fact_taught t
-    → facts (knowns_heard xs (with_heard subject xs s)) ≡ facts (knowns_heard ys (with_heard subject ys t))
+    → facts (known_after_reply (with_heard subject xs s) xs) ≡ facts (known_after_reply (with_heard subject ys t) ys)
 with_heard_blind subject xs ys (Ok a) (Ok b) same one = set_blind xs ys subject.key a.1 b.1 same (some_fact (fact_of a.1) (fact_of b.1) one)
 with_heard_blind subject xs ys (Ok a) (Err fault) same one = absurd cc
 with_heard_blind subject xs ys (Err fault) (Ok b) same one = absurd cc
@@ -190,7 +190,7 @@ with_heard_blind subject xs ys (Err fault) (Err other) same one = same
 
 heard_by_blind : (subject : Subject) (outcome : Outcome) (xs ys : List Knowledge) (key : Option Key) (x y : Option Knowledge) → facts xs ≡ facts ys
     → option_map fact_of x ≡ option_map fact_of y
-    → facts (knowns_heard xs (heard_by subject outcome xs key x)) ≡ facts (knowns_heard ys (heard_by subject outcome ys key y))
+    → facts (known_after_reply (heard_by subject outcome xs key x) xs) ≡ facts (known_after_reply (heard_by subject outcome ys key y) ys)
 heard_by_blind subject outcome xs ys None x y same one = same
 heard_by_blind subject outcome xs ys (Some key) None None same one = same
 heard_by_blind subject outcome xs ys (Some key) None (Some y) same one = absurd cc
@@ -199,7 +199,7 @@ heard_by_blind subject outcome xs ys (Some key) (Some x) (Some y) same one =
     with_heard_blind subject xs ys (teach key outcome x) (teach key outcome y) same (teach_blind key outcome x y (some_fact (fact_of x) (fact_of y) one))
 
 heard_about_blind : (keys : List Key) (reply : Reply) (subject : Option Subject) (xs ys : List Knowledge) → facts xs ≡ facts ys
-    → facts (knowns_heard xs (heard_about keys reply subject xs)) ≡ facts (knowns_heard ys (heard_about keys reply subject ys))
+    → facts (known_after_reply (heard_about keys reply subject xs) xs) ≡ facts (known_after_reply (heard_about keys reply subject ys) ys)
 heard_about_blind keys reply None xs ys same = same
 heard_about_blind keys reply (Some subject) xs ys same =
     elim (cases_Bool (is_other_operation reply.operation subject.operation)) [
@@ -210,16 +210,22 @@ heard_about_blind keys reply (Some subject) xs ys same =
           (fact_at xs ys subject.key same))
     ]
 
-alone_blind : (keys : List Key) (fault : HearFault) (replies : List Reply) (xs ys : List Knowledge) → facts xs ≡ facts ys
-    → facts (knowns_heard xs (heard_alone keys fault replies xs)) ≡ facts (knowns_heard ys (heard_alone keys fault replies ys))
-alone_blind keys fault [] xs ys same = same
-alone_blind keys fault (reply ∷ []) xs ys same = heard_about_blind keys reply (subject_of keys reply.id) xs ys same
-alone_blind keys fault (reply ∷ other ∷ replies) xs ys same = same
+each_blind : (keys : List Key) (replies : List Reply) (xs ys : List Knowledge) → facts xs ≡ facts ys
+    → facts (known_after_each keys replies xs) ≡ facts (known_after_each keys replies ys)
+each_blind keys [] xs ys same = same
+each_blind keys (reply ∷ replies) xs ys same =
+    each_blind keys replies (known_after_reply (heard_in keys reply xs) xs) (known_after_reply (heard_in keys reply ys) ys)
+    (heard_about_blind keys reply (subject_of keys reply.id) xs ys same)
+
+all_blind : (keys : List Key) (read : Result (List Reply) MessageFault) (xs ys : List Knowledge) → facts xs ≡ facts ys
+    → facts (knowns_heard xs (hear_all keys xs read)) ≡ facts (knowns_heard ys (hear_all keys ys read))
+all_blind keys (Ok replies) xs ys same = each_blind keys replies xs ys same
+all_blind keys (Err fault) xs ys same = same
 
 pub heard_blind : (keys : List Key) (xs ys : List Knowledge) (answer : Option (List ℕ)) → facts xs ≡ facts ys
     → facts (heard keys xs answer) ≡ facts (heard keys ys answer)
 heard_blind keys xs ys None same = same
-heard_blind keys xs ys (Some bytes) same = alone_blind keys (unreadable (replies_read bytes)) (replies_in bytes) xs ys same
+heard_blind keys xs ys (Some bytes) same = all_blind keys (replies_read bytes) xs ys same
 
 -- ---- an answer that is lost
 
@@ -236,5 +242,5 @@ changed_lost knowns place None known here = refl
 changed_lost knowns place (Some key) None here = refl
 changed_lost knowns place (Some key) (Some known) here = set_same fact_of knowns place known (lost_working key known) here (lost_one key known)
 
-pub lost_facts : (c : ClientState) (place : ℕ) → facts (lost_at c place).knowns ≡ facts c.knowns
-lost_facts c place = changed_lost c.knowns place (slice_get c.keys place) (slice_get c.knowns place) refl
+pub lost_facts : (keys : List Key) (knowns : List Knowledge) (place : ℕ) → facts (changed_at lost_working keys knowns place) ≡ facts knowns
+lost_facts keys knowns place = changed_lost knowns place (slice_get keys place) (slice_get knowns place) refl

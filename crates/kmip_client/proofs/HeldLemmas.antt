@@ -1,11 +1,9 @@
 -- What is known stays true, as long as what comes back is.
-use Rattle.std.proofs.Common.{◌≡◌, ◌≢◌, ℕ, zero, suc, ◌+◌, ◌≤◌, ◌<◌, Bool, true, false, ◌&&◌, nat_lt, ℤ, List, [], ◌∷◌, map, get_or, Option, Some, None, Result, Ok, Err, IfOk, OnErr, subst, refl, sym, ap, ◌∙◌, inl, inr, arith}
+use Rattle.std.proofs.Common.{◌≡◌, ◌≢◌, ℕ, ◌+◌, ◌≤◌, ◌<◌, Bool, true, false, ◌&&◌, nat_lt, ℤ, List, [], ◌∷◌, map, Option, Some, None, Result, Ok, Err, IfOk, OnErr, subst, refl, sym, ap, ◌∙◌, inl, inr, arith}
 use Rattle.std.proofs.lemmas.Bool.{cases_Bool, ltb-false, eq-eqb}
 use Rattle.std.proofs.lemmas.Bool.Decides.{Decides-int_eq}
-use Rattle.std.specs.List.{All, slice_get}
 use Rattle.std.specs.Option.{is_some, option_map_or, unwrap_or}
 use Rattle.std.specs.Ordering.{int_eq}
-use Rattle.kmip_batches.specs.Items.{requests_in}
 use Rattle.kmip_objects.specs.Objects.{Object}
 use Rattle.kmip_messages.specs.declared.reply.Outcome.{Outcome}
 use Rattle.kmip_messages.specs.declared.reply.Outcome.TheVariants.{Created, Located, Attributes, Activated, Revoked, Destroyed, Failed}
@@ -16,8 +14,7 @@ use Rattle.kmip_objects.specs.declared.step.Step.{Step}
 use Rattle.kmip_objects.specs.declared.step.Step.TheVariants as steps
 use Rattle.kmip_chains.specs.Chains.{step_place}
 use Rattle.kmip_chains.specs.Laws.{PlacesAreWithin, NextStepsStand}
-use Rattle.kmip_plan.specs.Laws.{KeysAreFound}
-use Rattle.kmip_plan.specs.Plans.{IsLawful, IsPlanned}
+use Rattle.kmip_plan.specs.Plans.{IsPlanned}
 use Rattle.kmip_chains.specs.declared.key.Key.{Key}
 use Rattle.kmip_knowledge.specs.declared.fault.HearFault.{HearFault}
 use Rattle.kmip_knowledge.specs.declared.fault.HearFault.TheVariants as faults
@@ -29,14 +26,14 @@ use Rattle.kmip_client.specs.declared.subject.Subject.{Subject}
 use Rattle.kmip_client.specs.Clients.{lost_working, changed_at}
 use Rattle.kmip_client.specs.Hearing.{subject_of, heard_about}
 use Rattle.kmip_client.specs.Held.{IsHeld, Held}
-use Rattle.kmip_client.specs.Justified.{MayAsk, Justified, JustifiedMessage}
+use Rattle.kmip_client.specs.Justified.{MayAsk, Justified}
 use Rattle.kmip_knowledge.specs.Knowledge.{chain_length, fresh_knowledge, is_working, lose}
 use Rattle.kmip_knowledge.specs.Learning.{is_known, is_other, is_number, is_planned, is_named, raise, enter, state_learnt, attributes_learnt, created_learnt, none_learnt, one_learnt, located_learnt, step_learnt, learn}
 use Rattle.kmip_client.specs.Places.{uid_of, position}
 use Rattle.kmip_client.specs.Questions.{step_ask, phase_ask, request_about}
 use Rattle.kmip_client.specs.Shapes.{PhaseSuits}
 use Rattle.kmip_client.specs.Truth.{IsShown, StepIsDone, AreFound, TrueOutcome, TrueReply}
-use Rattle.kmip_client.proofs.ClientLemmas.{at_both, fresh_holds, lost_keeps}
+use Rattle.kmip_client.proofs.ClientLemmas.{fresh_holds, lost_keeps}
 use Rattle.kmip_client.proofs.HeardLemmas.{heard_keeps, heard_view, working_parts}
 use Rattle.kmip_client.proofs.LearningLemmas.{some_is, lost_suits, own_is, known_is, not_none, none_of, ok, same_ok, refused}
 
@@ -245,21 +242,3 @@ question_justified keys objects key known law planned held works = record {
   id_is = refl;
   may = held_may_ask objects key known law held works;
 }
-
-only_one : {A : Type 0} (P : A → Type 0) (x d : A) (k : ℕ) → P x → k < 1 → P (get_or (x ∷ []) k d)
-only_one P x d zero holds less = holds
-only_one P x d (suc k) holds less = absurd (omega arith)
-
-pub all_one : {A : Type 0} (P : A → Type 0) (x : A) → P x → All P (x ∷ [])
-all_one P x holds = λ k d less. only_one P x d k holds less
-
-pub the_one : {A : Type 0} (P : A → Type 0) (xs : List A) (x : A) → xs ≡ x ∷ [] → All P xs → P x
-the_one P xs x is each = (subst (λ ys. All P ys) is each) 0 x (omega arith)
-
-pub about_justified : (keys : List Key) (objects : List Object) (knowns : List Knowledge) (place : ℕ) (key : Key) (known : Knowledge) (bytes : List ℕ)
-    → NextStepsStand → KeysAreFound → IsLawful keys → Held objects keys knowns → slice_get keys place ≡ Some key → slice_get knowns place ≡ Some known
-    → is_working key known ≡ true → requests_in bytes ≡ request_about key known ∷ [] → JustifiedMessage keys objects bytes
-about_justified keys objects knowns place key known bytes law found lawful held here there works asks =
-    subst (λ rs. All (Justified keys objects) rs) (sym asks)
-    (all_one (Justified keys objects) (request_about key known)
-    (question_justified keys objects key known law (found keys place key lawful here) (at_both (IsHeld objects) keys knowns place key known held here there) works))

@@ -2,7 +2,6 @@ pub mod LearningLemmas
 pub mod CountLemmas
 pub mod ClientLemmas
 pub mod QuestionLemmas
-pub mod TurnLemmas
 pub mod SubjectLemmas
 pub mod HeardLemmas
 pub mod HeldLemmas
@@ -10,4 +9,5 @@ pub mod SavingLemmas
 pub mod OnwardLemmas
 pub mod FactLemmas
 pub mod ProlongedLemmas
-pub mod BatchLemmas
+pub mod AskingLemmas
+pub mod MessageLemmas

@@ -1,13 +1,11 @@
--- What is learnt from bytes: by the reply's id, whatever was asked last.
+-- What is learnt from bytes: of each reply for itself, by its id, whatever was asked last.
 -- Source: KMIP 2.1, Message Structure (Unique Batch Item ID) and Operations; the id and the order of the checks are own.
 use Rattle.std.specs.Prelude.{◌≡◌, ℕ, Bool, true, false, not, ◌&&◌, ◌||◌, ◌==◌, nat_le, nat_lt, List, [], ◌∷◌, Option, Some, None, Result, Ok, Err, slice_get, slice_set, if◌then◌else◌}
 use Rattle.std.specs.List.{position}
 use Rattle.std.specs.Option.{is_some, option_map_or, option_and_then}
 use Rattle.kmip_fields.specs.Faults.{is_no_memory}
-use Rattle.kmip_batches.specs.Items.{replies_in}
 use Rattle.kmip_batches.specs.Batches.{replies_read}
 use Rattle.kmip_fields.specs.declared.fault.MessageFault.{MessageFault}
-use Rattle.kmip_fields.specs.declared.fault.MessageFault.TheVariants.{BatchCount}
 use Rattle.kmip_messages.specs.declared.reply.Outcome.{Outcome}
 use Rattle.kmip_messages.specs.declared.reply.Outcome.TheVariants.{Failed}
 use Rattle.kmip_messages.specs.declared.reply.Reply.{Reply}
@@ -31,7 +29,6 @@ use Rattle.kmip_client.specs.declared.hearing.News.{News}
 use Rattle.kmip_client.specs.declared.hearing.News.TheVariants as news
 use Rattle.kmip_knowledge.specs.declared.knowledge.Knowledge.{Knowledge}
 use Rattle.kmip_client.specs.declared.subject.Subject.{Subject}
-use Rattle.kmip_client.specs.Clients.{ClientState}
 use Rattle.kmip_knowledge.specs.Knowledge.{is_working}
 use Rattle.kmip_knowledge.specs.Learning.{learn}
 
@@ -128,27 +125,42 @@ heard_about keys reply (Some subject) knowns =
 abbrev pub heard_in : List Key → Reply → List Knowledge → Result (Heard × List Knowledge) HearFault
 heard_in keys reply knowns = heard_about keys reply (subject_of keys reply.id) knowns
 
+-- ---- several replies
+
+-- what is known after a reply; one that is refused teaches nothing
+abbrev pub known_after_reply : Result (Heard × List Knowledge) HearFault → List Knowledge → List Knowledge
+known_after_reply (Ok heard) knowns = heard.1
+known_after_reply (Err fault) knowns = knowns
+
+abbrev pub heard_of : Result (Heard × List Knowledge) HearFault → Result Heard HearFault
+heard_of (Ok heard) = Ok heard.0
+heard_of (Err fault) = Err fault
+
+-- what is heard of each reply in turn, and what is known after them
+abbrev pub hear_each : List Key → List Reply → List Knowledge → List (Result Heard HearFault)
+hear_each keys [] knowns = []
+hear_each keys (reply ∷ replies) knowns =
+    heard_of (heard_in keys reply knowns) ∷ hear_each keys replies (known_after_reply (heard_in keys reply knowns) knowns)
+
+abbrev pub known_after_each : List Key → List Reply → List Knowledge → List Knowledge
+known_after_each keys [] knowns = knowns
+known_after_each keys (reply ∷ replies) knowns = known_after_each keys replies (known_after_reply (heard_in keys reply knowns) knowns)
+
 -- ---- bytes
 
--- bytes that are no message of one reply are refused: by the fault of reading them, or for how many there are
-abbrev pub unreadable : Result (List Reply) MessageFault → HearFault
-unreadable (Err fault) = faults.Unreadable fault
-unreadable (Ok replies) = faults.Unreadable BatchCount
-
--- Private: the same of a call that may run out of memory
+-- Private: bytes that are no reply, in a call that may run out of memory
 abbrev pub unheard : MessageFault → HearFault
 unheard fault = if is_no_memory fault then faults.NoMemory else faults.Unreadable fault
 
-abbrev pub heard_alone : List Key → HearFault → List Reply → List Knowledge → Result (Heard × List Knowledge) HearFault
-heard_alone keys fault [] knowns = Err fault
-heard_alone keys fault (reply ∷ []) knowns = heard_in keys reply knowns
-heard_alone keys fault (reply ∷ other ∷ replies) knowns = Err fault
+-- what a client hears in the replies of a message, and what it knows after them; bytes that are no message teach nothing
+abbrev pub hear_all : List Key → List Knowledge → Result (List Reply) MessageFault → Result (List (Result Heard HearFault) × List Knowledge) HearFault
+hear_all keys knowns (Ok replies) = Ok (hear_each keys replies knowns, known_after_each keys replies knowns)
+hear_all keys knowns (Err fault) = Err (faults.Unreadable fault)
 
--- what a client hears in some bytes, and what it knows after it; or why it learns nothing
-abbrev pub hear : ClientState → List ℕ → Result (Heard × List Knowledge) HearFault
-hear c bytes = heard_alone c.keys (unreadable (replies_read bytes)) (replies_in bytes) c.knowns
+abbrev pub hear : List Key → List Knowledge → List ℕ → Result (List (Result Heard HearFault) × List Knowledge) HearFault
+hear keys knowns bytes = hear_all keys knowns (replies_read bytes)
 
--- a refusal is the one that hearing gives, unless memory ran out
-abbrev pub Refuses : HearFault → Result (Heard × List Knowledge) HearFault → Type 0
+-- a message is refused for the fault of reading it, unless memory ran out
+abbrev pub Refuses : HearFault → Result (List (Result Heard HearFault) × List Knowledge) HearFault → Type 0
 Refuses faults.NoMemory heard = Unit {0}
 Refuses fault heard = heard ≡ Err fault

@@ -21,14 +21,14 @@ fact_of known = record { identifier = known.identifier; done = known.done; clash
 abbrev pub facts : List Knowledge → List Fact
 facts knowns = map fact_of knowns
 
--- a reply that is refused, and none at all, change nothing
-abbrev pub knowns_heard : List Knowledge → Result (Heard × List Knowledge) HearFault → List Knowledge
+-- each reply of a message is learnt from; one that is refused, and no message at all, change nothing
+abbrev pub knowns_heard : List Knowledge → Result (List (Result Heard HearFault) × List Knowledge) HearFault → List Knowledge
 knowns_heard knowns (Ok lesson) = lesson.1
 knowns_heard knowns (Err fault) = knowns
 
 abbrev pub heard : List Key → List Knowledge → Option (List ℕ) → List Knowledge
 heard keys knowns None = knowns
-heard keys knowns (Some bytes) = knowns_heard knowns (hear (record { keys = keys; knowns = knowns; next = 0 }) bytes)
+heard keys knowns (Some bytes) = knowns_heard knowns (hear keys knowns bytes)
 
 -- what is known after some answers, one after the other
 abbrev pub known_after : List Key → List Knowledge → List (Option (List ℕ)) → List Knowledge

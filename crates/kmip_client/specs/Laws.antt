@@ -15,8 +15,8 @@ use Rattle.kmip_knowledge.specs.declared.clash.Clash.{Clash}
 use Rattle.kmip_knowledge.specs.declared.knowledge.Knowledge.{Knowledge}
 use Rattle.kmip_knowledge.specs.declared.knowledge.Verdict.TheVariants.{Conflict}
 use Rattle.std.specs.List.{All}
-use Rattle.kmip_client.specs.Batches.{known_after_each}
-use Rattle.kmip_client.specs.Clients.{ClientState, changed_at, lost_at, lost_working, verdict_at, AreSettled, NoneWorks}
+use Rattle.kmip_client.specs.Clients.{changed_at, lost_working, verdict_at, AreSettled, NoneWorks}
+use Rattle.kmip_client.specs.Hearing.{known_after_each}
 use Rattle.kmip_client.specs.Held.{TrueProgress, IsHeld, Held}
 use Rattle.kmip_client.specs.Justified.{MayAsk, Justified}
 use Rattle.kmip_client.specs.Known.{facts, heard}
@@ -83,7 +83,7 @@ HearingIsBlind =
 
 -- and an answer that is lost changes nothing but that
 abbrev pub LossesTeachNothing : Type 0
-LossesTeachNothing = (c : ClientState) (place : ℕ) → facts (lost_at c place).knowns ≡ facts c.knowns
+LossesTeachNothing = (keys : List Key) (knowns : List Knowledge) (place : ℕ) → facts (changed_at lost_working keys knowns place) ≡ facts knowns
 
 -- replies that are true keep what is known true, heard in turn; and so does a loss
 abbrev pub HearingKeepsTheTruth : Type 0

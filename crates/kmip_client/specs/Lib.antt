@@ -10,5 +10,5 @@ pub mod Places
 pub mod Justified
 pub mod Truth
 pub mod Held
-pub mod Batches
+pub mod Asking
 pub mod Laws

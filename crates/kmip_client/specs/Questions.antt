@@ -3,7 +3,6 @@
 use Rattle.std.specs.Prelude.{ℕ, ◌+◌, List, [], ◌∷◌, Option, Some, None}
 use Rattle.std.specs.Option.{unwrap_or}
 use Rattle.kmip_messages.specs.Operations.{operation_of}
-use Rattle.kmip_batches.specs.Written.{requests_item}
 use Rattle.kmip_objects.specs.Attributes.{by_name}
 use Rattle.kmip_objects.specs.Searching.{every_state}
 use Rattle.kmip_messages.specs.declared.request.Ask.{Ask}
@@ -11,11 +10,9 @@ use Rattle.kmip_messages.specs.declared.request.Ask.TheVariants as asks
 use Rattle.kmip_messages.specs.declared.request.Request.{Request}
 use Rattle.kmip_objects.specs.declared.step.Step.{Step}
 use Rattle.kmip_objects.specs.declared.step.Step.TheVariants.{Create, Activate, Revoke, Destroy}
-use Rattle.kmip_ttlv.specs.Spelling.{canon}
 use Rattle.kmip_chains.specs.Chains.{step_at}
 use Rattle.kmip_chains.specs.declared.key.Key.{Key}
 use Rattle.kmip_knowledge.specs.declared.knowledge.Knowledge.{Knowledge}
-use Rattle.kmip_client.specs.declared.question.Question.{Question}
 use Rattle.kmip_knowledge.specs.declared.knowledge.Phase.{Phase}
 use Rattle.kmip_knowledge.specs.declared.knowledge.Phase.TheVariants.{Look, Make, Check, Go}
 
@@ -49,11 +46,3 @@ id_of operation key = operation ∷ key.attrs.name
 -- the question about a key
 abbrev pub request_about : Key → Knowledge → Request
 request_about key known = record { id = Some (id_of (operation_of (ask_about key known)) key); ask = ask_about key known }
-
--- that question, as it is sent about the key at a place
-abbrev pub question_about : ℕ → Key → Knowledge → Question
-question_about place key known = record {
-  key = place;
-  operation = operation_of (ask_about key known);
-  bytes = canon (requests_item (request_about key known ∷ []));
-}

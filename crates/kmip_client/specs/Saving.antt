@@ -20,4 +20,4 @@ abbrev pub progress : ClientState → List Known
 progress c = map known_of c.knowns
 
 abbrev pub resume : List Key → List Known → ClientState
-resume keys saved = record { keys = keys; knowns = map knowledge_from saved; next = 0 }
+resume keys saved = record { keys = keys; knowns = map knowledge_from saved; next = 0; batch = 1 }

@@ -3,6 +3,7 @@
 use Rattle.std.specs.Prelude.{◌≡◌, ◌≢◌, ◌≤◌, ◌<◌, ℕ, List, length, Option, Some, None, IfSome, IsTrue}
 use Rattle.std.specs.List.{AllZip}
 use Rattle.kmip_objects.specs.Ranges.{is_identifier}
+use Rattle.kmip_batches.specs.Members.{may_have}
 use Rattle.kmip_plan.specs.Plans.{IsLawful}
 use Rattle.kmip_chains.specs.declared.key.Key.{Key}
 use Rattle.kmip_knowledge.specs.declared.knowledge.Knowledge.{Knowledge}
@@ -39,3 +40,7 @@ pub record AreShaped (keys : List Key) (knowns : List Knowledge) (next working :
   pub each : AllZip IsShaped keys knowns
   pub turn : next ≤ length keys
   pub counted : working ≡ working_count keys knowns
+
+-- Private: the same, and how many keys a message asks about at most
+abbrev pub IsClient : List Key → List Knowledge → ℕ → ℕ → ℕ → Type 0
+IsClient keys knowns next working batch = AreShaped keys knowns next working × IsTrue (may_have batch)

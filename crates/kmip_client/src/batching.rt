@@ -1,17 +1,17 @@
-//! Several questions in one message, each about another key.
+//! Whose turn it is, and the message that asks about them.
 ghost use Rattle.std.specs.Prelude.{◌≡◌, ◌≤◌, ◌++◌, List, [], length, drop, take, Some, IfOk, IsTrue, OnOk};
 ghost use Rattle.std.specs.List.{All, AllZip};
 ghost use Rattle.kmip_objects.specs.Objects.{Object};
 ghost use Rattle.kmip_messages.specs.Operations.{operation_of};
 ghost use Rattle.kmip_batches.specs.Members.{may_have};
 ghost use Rattle.kmip_plan.specs.Plans.{IsLawful, EachFits};
-ghost use Rattle.kmip_client.specs.Batches.{
+ghost use Rattle.kmip_client.specs.Asking.{
   all_working_from,
   next_places,
   at_place,
   part_about,
-  questions_at,
-  AreAbout,
+  question_at,
+  IsAbout,
   AreApart,
 };
 ghost use Rattle.kmip_client.specs.Clients.{WorksAt, AreSettled};
@@ -20,7 +20,7 @@ ghost use Rattle.kmip_client.specs.Justified.{JustifiedMessage};
 ghost use Rattle.kmip_client.specs.Questions.{request_about};
 ghost use Rattle.kmip_client.specs.Shapes.{IsShaped};
 
-use crate::question::request_about;
+use crate::question::{Part, Parts, Question, request_about};
 use kmip_batches::write_request;
 use kmip_chains::Key;
 use kmip_chains::laws::steps_have_places;
@@ -29,48 +29,6 @@ use kmip_messages::Request;
 use kmip_plan::laws::keys_have_names;
 use kmip_ttlv::{Bytes, NoMemory};
 use std::alloc::Global;
-use std::marker::Model;
-
-/// One question of a message.
-#[derive(Clone, Copy, Debug, PartialEq, Eq)]
-pub struct Part {
-    /// The place of the key that it is about, from 0.
-    pub key: usize,
-    /// The number of the operation that it asks.
-    pub operation: u32,
-}
-
-/// What a message asks, question by question. A contract sees the list of them.
-#[derive(Debug, Drop)]
-pub struct Parts {
-    items: Vec<Part>,
-}
-
-impl Model for Parts {
-    ghost use Rattle.std.specs.Prelude.{List};
-    ghost use Rattle.kmip_client.specs.declared.batching.Part.{Part};
-
-    ghost Value = { List Part };
-
-    ghost view = { λ p. p.items.items };
-}
-
-impl Parts {
-    /// The questions, in the order in which they stand in the message.
-    pub fn as_slice(&self) -> &[Part]
-        ensures { result.now ≡ self.now }
-    {
-        self.items.as_slice()
-    }
-}
-
-/// A message of one to eight questions that is to be sent.
-#[derive(Debug, Drop)]
-pub struct Questions {
-    pub parts: Parts,
-    /// The message, as it is sent.
-    pub bytes: Bytes,
-}
 
 /// The places of the first keys, at most so many, that are worked on: from a place on, and then
 /// from the front.
@@ -86,8 +44,8 @@ pub(crate) fn next_places(
 ) -> Result<Vec<usize>, NoMemory>
     requires as_many { length knowns.now ≡ length keys.now }
     requires within { next ≤ length keys.now }
-    ensures places { IfOk result (λ v. v.items
-        ≡ next_places most (record { keys = keys.now; knowns = knowns.now; next = next })) }
+    ensures places { IfOk result (λ v. v.items ≡ next_places
+        (record { keys = keys.now; knowns = knowns.now; next = next; batch = most })) }
     ensures work { IfOk result (λ v. All (WorksAt keys.now knowns.now) v.items) }
     ensures apart { IfOk result (λ v. AreApart v.items) }
     ensures none { IfOk result (λ v. v.items ≡ [] → 1 ≤ most → AreSettled keys.now knowns.now) }
@@ -128,20 +86,20 @@ fn push_working(
 ///
 /// # Errors
 /// Where there is no memory for it.
-pub(crate) fn questions_at(
+pub(crate) fn question_at(
     alloc: Global,
     keys: &[Key],
     knowns: &[Knowledge],
     places: &[usize],
-) -> Result<Questions, NoMemory>
+) -> Result<Question, NoMemory>
     requires shaped { AllZip IsShaped keys.now knowns.now }
     requires fits { EachFits keys.now }
     requires lawful { IsLawful keys.now }
     requires works { All (WorksAt keys.now knowns.now) places.now }
     requires apart { AreApart places.now }
     requires some { IsTrue (may_have (length places.now)) }
-    ensures questions { IfOk result (λ q. q ≡ questions_at keys.now knowns.now places.now) }
-    ensures about { IfOk result (λ q. AreAbout keys.now knowns.now places.now q) }
+    ensures question { IfOk result (λ q. q ≡ question_at keys.now knowns.now places.now) }
+    ensures about { IfOk result (λ q. IsAbout keys.now knowns.now places.now q) }
     ensures justified { (objects : List Object) → Held objects keys.now knowns.now
         → IfOk result (λ q. JustifiedMessage keys.now objects q.bytes) }
 {
@@ -158,8 +116,8 @@ pub(crate) fn questions_at(
         requests.push(request)?;
     }
     let bytes = write_request(alloc, requests.as_slice())?;
-    Ok(Questions {
-        parts: Parts { items: parts },
+    Ok(Question {
+        parts: Parts::from_vec(parts),
         bytes: Bytes::from_vec(bytes),
     })
 }

@@ -1,21 +1,10 @@
 //! A client of one plan.
-ghost use Rattle.std.specs.Prelude.{◌≡◌, List, ◌≤◌, ◌<◌, ◌*◌, length, map, drop, Some, None, Ok, Err, IfOk, IfErr, IfSome, IsTrue, OnOk, OnErr, option_map};
-ghost use Rattle.kmip_fields.specs.declared.fault.MessageFault.TheVariants.{BatchCount};
-ghost use Rattle.kmip_knowledge.specs.declared.fault.HearFault.TheVariants.{Unreadable};
-ghost use Rattle.kmip_messages.specs.BatchItems.{answer_fits};
-ghost use Rattle.kmip_messages.specs.Fits.{outcome_fits};
-ghost use Rattle.std.specs.List.{All, AllZip};
+ghost use Rattle.std.specs.Prelude.{◌≡◌, List, ◌≤◌, ◌<◌, ◌*◌, length, map, None, Ok, IfOk, IfErr, IfSome, IsTrue, OnOk, OnErr, option_map};
+ghost use Rattle.std.specs.List.{AllZip};
 ghost use Rattle.kmip_batches.specs.Members.{may_have};
-ghost use Rattle.kmip_client.specs.Batches.{
-  next_places,
-  next_questions,
-  after_questions,
-  AreAbout,
-  hear_batch,
-  RefusesBatch,
-};
+ghost use Rattle.kmip_client.specs.Asking.{next_places, next_question, after_ask, IsAbout};
 ghost use Rattle.kmip_plan.specs.Limits.{most_keys};
-ghost use Rattle.kmip_plan.specs.Plans.{IsLawful, EachFits};
+ghost use Rattle.kmip_plan.specs.Plans.{IsLawful};
 ghost use Rattle.kmip_client.specs.Bounding.{most_left};
 ghost use Rattle.kmip_client.specs.Clients.{
   fresh,
@@ -25,72 +14,68 @@ ghost use Rattle.kmip_client.specs.Clients.{
   lost_working,
   changed_at,
   lost_at,
-  working_from,
-  next_working,
-  next_question,
-  question_at,
-  after_ask,
-  WorksAt,
-  IsAbout,
   AreSettled,
   VerdictsStay,
   working_count,
   SomeWorks,
   NoneWorks,
 };
-ghost use Rattle.kmip_client.specs.Hearing.{heard_in, heard_alone, hear, Refuses};
+ghost use Rattle.kmip_client.specs.Hearing.{hear, Refuses};
 ghost use Rattle.kmip_client.specs.Held.{Held, TrueProgress};
 ghost use Rattle.kmip_client.specs.Saving.{progress, resume};
 ghost use Rattle.kmip_client.specs.Standing.{AreWithin, counts_of, verdicts_of};
 ghost use Rattle.kmip_progress.specs.Suiting.{Suits};
 ghost use Rattle.kmip_client.specs.Justified.{JustifiedMessage};
-ghost use Rattle.kmip_client.specs.Shapes.{IsShaped, IsKept};
-ghost use Rattle.kmip_client.specs.Truth.{TrueReply, TrueMessage};
+ghost use Rattle.kmip_client.specs.Shapes.{IsKept};
+ghost use Rattle.kmip_client.specs.Truth.{TrueMessage};
 ghost use Rattle.kmip_objects.specs.Objects.{Object};
 ghost use Rattle.kmip_knowledge.specs.Knowledge.{fresh_knowledge};
 
-use crate::batching::{Questions, next_places, questions_at};
+use crate::batching::{next_places, question_at};
 use crate::bounding::most_left;
-use crate::hearing::{Heard, hear_about, hear_message, unheard};
-use crate::question::{Question, question_about};
+use crate::hearing::{Heard, hear_message};
+use crate::question::Question;
 use crate::saving::{all_knowledge, all_known, count_working};
 use crate::standing::{all_counts, all_verdicts, verdict_of};
-use crate::subject::subject_of;
-use kmip_batches::read_reply;
 use kmip_chains::Key;
 use kmip_chains::laws::{states_have_places, steps_have_places};
 use kmip_knowledge::{HearFault, Knowledge, Verdict};
-use kmip_messages::{MessageFault, Reply};
 use kmip_plan::Plan;
-use kmip_plan::laws::keys_have_names;
 use kmip_progress::Progress;
 use kmip_ttlv::{NoMemory, Text};
 use std::alloc::Global;
 use std::marker::Model;
 
-/// What is known of each key of a plan, and whose turn it is. A contract sees the keys, what is
-/// known of each, and the place at which the next key is looked for.
+/// What is known of each key of a plan, whose turn it is, and how many questions a message has at
+/// most. A contract sees the keys, what is known of each, the place at which the next key is looked
+/// for, and that number.
 #[derive(Debug, Drop)]
 pub struct Client<'p> {
     plan: &'p Plan,
     knowns: Vec<Knowledge>,
     next: usize,
     working: usize,
+    batch: usize,
 }
 
 impl<'p> Model for Client<'p> {
     ghost use Rattle.kmip_client.specs.Clients.{ClientState};
-    ghost use Rattle.kmip_client.specs.Shapes.{AreShaped};
+    ghost use Rattle.kmip_client.specs.Shapes.{IsClient};
 
     ghost Value = { ClientState };
 
-    ghost view = { λ c. record { keys = c.plan.now; knowns = c.knowns.items; next = c.next } };
+    ghost view = { λ c. record {
+      keys = c.plan.now;
+      knowns = c.knowns.items;
+      next = c.next;
+      batch = c.batch;
+    } };
 
-    ghost invariant = { λ c. AreShaped c.plan.now c.knowns.items c.next c.working };
+    ghost invariant = { λ c. IsClient c.plan.now c.knowns.items c.next c.working c.batch };
 }
 
 impl<'p> Client<'p> {
-    /// A client that knows nothing yet of the plan's keys.
+    /// A client that knows nothing yet of the plan's keys, and asks about one in a message.
     ///
     /// # Errors
     /// Where there is no memory for it.
@@ -105,11 +90,12 @@ impl<'p> Client<'p> {
             knowns,
             next: 0,
             working: plan.count(),
+            batch: 1,
         })
     }
 
-    /// A client that knows what was known when this progress was saved, and looks at each object
-    /// again.
+    /// A client that knows what was known when this progress was saved, looks at each object again,
+    /// and asks about one key in a message.
     ///
     /// # Errors
     /// Where there is no memory for it.
@@ -126,6 +112,7 @@ impl<'p> Client<'p> {
             knowns,
             next: 0,
             working,
+            batch: 1,
         })
     }
 
@@ -151,15 +138,26 @@ impl<'p> Client<'p> {
         self.plan
     }
 
-    /// The next question: about the first key that is worked on after the one asked last, in the
-    /// order of the plan, which begins again at its end. None where no key is worked on.
+    /// From now on a message has at most so many questions, 1 to 8, each about another key. Takes no
+    /// memory.
+    pub fn set_batch(&mut self, most: usize)
+        requires { IsTrue (may_have most) }
+        ensures { self.new ≡ record self.old { batch = most } }
+    {
+        self.batch = most;
+    }
+
+    /// The next message: about the first keys that are worked on after the one asked last, in the
+    /// order of the plan, which begins again at its end, each once, and as many as `set_batch`
+    /// allows. None where no key is worked on.
     ///
     /// # Errors
     /// Where there is no memory for it; the client is then as it was.
     pub fn ask(&mut self, alloc: Global) -> Result<Option<Question>, NoMemory>
         ensures question { IfOk result (λ question. question ≡ next_question self.old) }
         ensures about { IfOk result (λ question. IfSome question (λ q.
-            IsAbout self.old.keys self.old.knowns q)) }
+            IsAbout self.old.keys self.old.knowns (next_places self.old) q)) }
+        ensures few { length (next_places self.old) ≤ self.old.batch }
         ensures none { IfOk result (λ question. question ≡ None
             → AreSettled self.old.keys self.old.knowns) }
         ensures justified { (objects : List Object) → Held objects self.old.keys self.old.knowns
@@ -172,129 +170,33 @@ impl<'p> Client<'p> {
             return Ok(None);
         }
         let keys = self.plan.keys();
-        let Some(place) = next_working(keys, self.knowns.as_slice(), self.next) else {
-            return Ok(None);
-        };
-        let question = question_at(alloc, keys, self.knowns.as_slice(), place)?;
-        self.next = place + 1;
-        Ok(Some(question))
-    }
-
-    /// The next message, of at most so many questions: about the first keys that are worked on
-    /// after the one asked last, in the order of the plan, which begins again at its end, each
-    /// once. None where no key is worked on.
-    ///
-    /// # Errors
-    /// Where there is no memory for it; the client is then as it was.
-    pub fn ask_batch(&mut self, alloc: Global, most: usize) -> Result<Option<Questions>, NoMemory>
-        requires { IsTrue (may_have most) }
-        ensures questions { IfOk result (λ questions. questions ≡ next_questions most self.old) }
-        ensures about { IfOk result (λ questions. IfSome questions (λ q.
-            AreAbout self.old.keys self.old.knowns (next_places most self.old) q)) }
-        ensures none { IfOk result (λ questions. questions ≡ None
-            → AreSettled self.old.keys self.old.knowns) }
-        ensures justified { (objects : List Object) → Held objects self.old.keys self.old.knowns
-            → IfOk result (λ questions. IfSome questions (λ q.
-            JustifiedMessage self.old.keys objects q.bytes)) }
-        ensures turn { OnOk result (self.new ≡ after_questions most self.old) }
-        ensures same { OnErr result (self.new ≡ self.old) }
-    {
-        let keys = self.plan.keys();
-        let places = next_places(alloc, keys, self.knowns.as_slice(), self.next, most)?;
+        let places = next_places(alloc, keys, self.knowns.as_slice(), self.next, self.batch)?;
         let Some(last) = places.last() else {
             return Ok(None);
         };
         let next = last + 1;
-        let questions = questions_at(alloc, keys, self.knowns.as_slice(), places.as_slice())?;
+        let question = question_at(alloc, keys, self.knowns.as_slice(), places.as_slice())?;
         self.next = next;
-        Ok(Some(questions))
-    }
-
-    /// Learns from any bytes that have come, about the key that the reply's id names, whatever was
-    /// asked last.
-    ///
-    /// # Errors
-    /// The first fault in the order of `HearFault`; `NoMemory` where it comes before any other. The
-    /// client is then as it was.
-    pub fn hear(&mut self, alloc: Global, bytes: &[u8]) -> Result<Heard, HearFault>
-        ensures heard { IfOk result (λ heard.
-            hear self.old bytes.now ≡ Ok (heard, self.new.knowns)) }
-        ensures stays { self.new ≡ record self.old { knowns = self.new.knowns } }
-        ensures fault { IfErr result (λ fault. Refuses fault (hear self.old bytes.now)) }
-        ensures same { OnErr result (self.new ≡ self.old) }
-        ensures kept { AllZip IsKept self.old.knowns self.new.knowns }
-        ensures settled { VerdictsStay self.old.keys self.old.knowns self.new.knowns }
-        ensures held { (objects : List Object) → Held objects self.old.keys self.old.knowns
-            → TrueMessage self.old.keys objects bytes.now
-            → Held objects self.new.keys self.new.knowns }
-    {
-        match read_reply(alloc, bytes) {
-            Ok(replies) => self.hear_alone(replies),
-            Err(fault) => Err(unheard(fault)),
-        }
-    }
-
-    /// Learns from the reply of a message that has one.
-    fn hear_alone(&mut self, mut replies: Vec<Reply>) -> Result<Heard, HearFault>
-        requires { All (λ r. IsTrue (answer_fits r)) replies.items }
-        ensures heard { IfOk result (λ heard. heard_alone self.old.keys (Unreadable BatchCount)
-            replies.items self.old.knowns ≡ Ok (heard, self.new.knowns)) }
-        ensures stays { self.new ≡ record self.old { knowns = self.new.knowns } }
-        ensures fault { IfErr result (λ e. heard_alone self.old.keys (Unreadable BatchCount)
-            replies.items self.old.knowns ≡ Err e) }
-        ensures same { OnErr result (self.new ≡ self.old) }
-        ensures kept { AllZip IsKept self.old.knowns self.new.knowns }
-        ensures settled { VerdictsStay self.old.keys self.old.knowns self.new.knowns }
-        ensures held { (objects : List Object) → Held objects self.old.keys self.old.knowns
-            → All (TrueReply self.old.keys objects) replies.items
-            → Held objects self.new.keys self.new.knowns }
-    {
-        let last = replies.pop();
-        let Some(reply) = last else {
-            return Err(HearFault::Unreadable(MessageFault::BatchCount));
-        };
-        if !replies.is_empty() {
-            return Err(HearFault::Unreadable(MessageFault::BatchCount));
-        }
-        self.hear_reply(reply)
-    }
-
-    fn hear_reply(&mut self, reply: Reply) -> Result<Heard, HearFault>
-        requires { IsTrue (outcome_fits reply.operation reply.outcome) }
-        ensures heard { IfOk result (λ heard.
-            heard_in self.old.keys reply self.old.knowns ≡ Ok (heard, self.new.knowns)) }
-        ensures stays { self.new ≡ record self.old { knowns = self.new.knowns } }
-        ensures fault { IfErr result (λ e. heard_in self.old.keys reply self.old.knowns
-            ≡ Err e) }
-        ensures same { OnErr result (self.new ≡ self.old) }
-        ensures kept { AllZip IsKept self.old.knowns self.new.knowns }
-        ensures settled { VerdictsStay self.old.keys self.old.knowns self.new.knowns }
-        ensures held { (objects : List Object) → Held objects self.old.keys self.old.knowns
-            → TrueReply self.old.keys objects reply
-            → Held objects self.new.keys self.new.knowns }
-    {
-        steps_have_places();
-        states_have_places();
-        let keys = self.plan.keys();
-        let subject = subject_of(keys, self.next.saturating_sub(1), &reply.id);
-        hear_about(keys, &mut self.knowns, &mut self.working, subject, reply)
+        Ok(Some(question))
     }
 
     /// Learns from the replies of a message in turn, each about the key that its id names, whatever
-    /// was asked last. A reply that is refused changes nothing itself.
+    /// was asked last. A reply that is refused changes nothing itself, and its member of the list
+    /// says why: the first fault in the order of `HearFault`.
     ///
     /// # Errors
     /// `Unreadable` where the bytes are no message of replies, and `NoMemory`. The client is then
     /// as it was.
-    pub fn hear_batch(
+    pub fn hear(
         &mut self,
         alloc: Global,
         bytes: &[u8],
     ) -> Result<Vec<Result<Heard, HearFault>>, HearFault>
         ensures heard { IfOk result (λ heard.
-            hear_batch self.old bytes.now ≡ Ok (heard.items, self.new.knowns)) }
+            hear self.old.keys self.old.knowns bytes.now ≡ Ok (heard.items, self.new.knowns)) }
         ensures stays { self.new ≡ record self.old { knowns = self.new.knowns } }
-        ensures fault { IfErr result (λ fault. RefusesBatch fault (hear_batch self.old bytes.now)) }
+        ensures fault { IfErr result (λ fault.
+            Refuses fault (hear self.old.keys self.old.knowns bytes.now)) }
         ensures same { OnErr result (self.new ≡ self.old) }
         ensures kept { AllZip IsKept self.old.knowns self.new.knowns }
         ensures settled { VerdictsStay self.old.keys self.old.knowns self.new.knowns }
@@ -394,59 +296,6 @@ impl<'p> Client<'p> {
     {
         lose(self.plan.keys(), &mut self.knowns, key);
     }
-}
-
-/// The place of the first key that is worked on from a place on, else from the front.
-fn next_working(keys: &[Key], knowns: &[Knowledge], next: usize) -> Option<usize>
-    requires as_many { length knowns.now ≡ length keys.now }
-    requires within { next ≤ length keys.now }
-    ensures place { result
-        ≡ next_working (record { keys = keys.now; knowns = knowns.now; next = next }) }
-    ensures none { result ≡ None → AreSettled keys.now knowns.now }
-    ensures works { IfSome result (λ place. WorksAt keys.now knowns.now place) }
-{
-    match working_from(keys, knowns, next) {
-        Some(place) => Some(place),
-        None => working_from(keys, knowns, 0),
-    }
-}
-
-/// The place of the first key that is worked on from a place on.
-fn working_from(keys: &[Key], knowns: &[Knowledge], from: usize) -> Option<usize>
-    requires as_many { length knowns.now ≡ length keys.now }
-    requires within { from ≤ length keys.now }
-    ensures place { result ≡ working_from from (drop from keys.now) (drop from knowns.now) }
-    ensures works { IfSome result (λ place. WorksAt keys.now knowns.now place) }
-{
-    for place in from..keys.len() {
-        if knowns[place].is_working(&keys[place]) {
-            return Some(place);
-        }
-    }
-    None
-}
-
-/// The question about the key at a place, which is worked on.
-fn question_at(
-    alloc: Global,
-    keys: &[Key],
-    knowns: &[Knowledge],
-    place: usize,
-) -> Result<Question, NoMemory>
-    requires shaped { AllZip IsShaped keys.now knowns.now }
-    requires fits { EachFits keys.now }
-    requires works { WorksAt keys.now knowns.now place }
-    requires lawful { IsLawful keys.now }
-    ensures justified { (objects : List Object) → Held objects keys.now knowns.now
-        → IfOk result (λ q. JustifiedMessage keys.now objects q.bytes) }
-    ensures question { IfOk result (λ q. question_at keys.now knowns.now place ≡ Some q) }
-    ensures about { IfOk result (λ q. IsAbout keys.now knowns.now q) }
-{
-    steps_have_places();
-    keys_have_names();
-    let key = &keys[place];
-    let known = &knowns[place];
-    question_about(alloc, place, key, known)
 }
 
 /// Nothing, for each of the keys.

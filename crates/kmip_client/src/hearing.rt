@@ -2,9 +2,7 @@
 ghost use Rattle.std.specs.Prelude.{◌≡◌, ◌≤◌, ◌+◌, Ok, Err, IfOk, IfErr, IsTrue, OnErr, OnOk, Some, is_some, option_map};
 ghost use Rattle.std.specs.List.{All};
 ghost use Rattle.kmip_messages.specs.BatchItems.{answer_fits};
-ghost use Rattle.kmip_batches.specs.Batches.{replies_read};
 ghost use Rattle.kmip_batches.specs.Items.{replies_in};
-ghost use Rattle.kmip_client.specs.Batches.{hear_all, known_after_each, RefusesBatch};
 ghost use Rattle.kmip_client.specs.Clients.{one_if, working_count};
 ghost use Rattle.kmip_plan.specs.Plans.{IsLawful};
 ghost use Rattle.kmip_knowledge.specs.Knowledge.{is_working};
@@ -18,7 +16,10 @@ ghost use Rattle.kmip_client.specs.Hearing.{
   teach,
   heard_at,
   heard_about,
+  hear,
+  known_after_each,
   unheard,
+  Refuses,
 };
 
 use crate::subject::{Subject, subject_of};
@@ -66,14 +67,13 @@ pub(crate) fn hear_message(
 ) -> Result<Vec<Result<Heard, HearFault>>, HearFault>
     requires lawful { IsLawful keys.now }
     requires counted { working.old ≡ working_count keys.now knowns.old.items }
-    ensures heard { IfOk result (λ heard.
-        hear_all keys.now knowns.old.items (replies_read bytes.now)
+    ensures heard { IfOk result (λ heard. hear keys.now knowns.old.items bytes.now
         ≡ Ok (heard.items, knowns.new.items)) }
     ensures known { OnOk result (knowns.new.items
         ≡ known_after_each keys.now (replies_in bytes.now) knowns.old.items) }
     ensures fits { OnOk result (All (λ r. IsTrue (answer_fits r)) (replies_in bytes.now)) }
     ensures fault { IfErr result (λ fault.
-        RefusesBatch fault (hear_all keys.now knowns.old.items (replies_read bytes.now))) }
+        Refuses fault (hear keys.now knowns.old.items bytes.now)) }
     ensures same { OnErr result (knowns.new.items ≡ knowns.old.items) }
     ensures counted { working.new ≡ working_count keys.now knowns.new.items }
 {
@@ -233,7 +233,7 @@ fn is_other_operation(told: Option<u32>, operation: u32) -> bool
 }
 
 /// What it is to hear bytes that are no reply.
-pub(crate) fn unheard(fault: MessageFault) -> HearFault
+fn unheard(fault: MessageFault) -> HearFault
     ensures { result ≡ unheard fault }
 {
     match fault {

@@ -12,8 +12,7 @@ mod saving;
 mod standing;
 mod subject;
 
-pub use batching::{Part, Parts, Questions};
 pub use client::Client;
 pub use hearing::{Heard, News};
 pub use kmip_knowledge::{Clash, HearFault, Knowledge, Phase, Verdict};
-pub use question::Question;
+pub use question::{Part, Parts, Question};

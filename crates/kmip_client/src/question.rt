@@ -1,20 +1,15 @@
-//! What is asked about a key.
-ghost use Rattle.std.specs.Prelude.{◌≡◌, ◌<◌, [], IfOk, IsTrue, option_map};
+//! What is asked about a key, and a message that asks about several.
+ghost use Rattle.std.specs.Prelude.{◌≡◌, ◌<◌, [], IfOk, option_map};
 ghost use Rattle.std.specs.Option.{unwrap_or};
-ghost use Rattle.kmip_batches.specs.Items.{AsksAlone};
-ghost use Rattle.kmip_plan.specs.Plans.{key_fits};
 ghost use Rattle.kmip_client.specs.Questions.{
   next_ask,
   step_ask,
   ask_about,
   id_of,
   request_about,
-  question_about,
 };
 ghost use Rattle.kmip_client.specs.Shapes.{IsShaped};
 
-use kmip_batches::write_request;
-use kmip_chains::laws::steps_have_places;
 use kmip_chains::{Key, chain};
 use kmip_knowledge::{Knowledge, Phase};
 use kmip_messages::{Ask, Request};
@@ -22,46 +17,57 @@ use kmip_objects::standard::{STORAGE_DESTROYED, STORAGE_ON_LINE};
 use kmip_objects::{Attrs, Step};
 use kmip_ttlv::{Bytes, NoMemory, Text};
 use std::alloc::Global;
+use std::marker::Model;
 
 /// The Storage Status Mask of a Locate that finds an object whatever has become of it.
 const EVERY_STATE: i32 = (STORAGE_ON_LINE + STORAGE_DESTROYED) as i32;
 
-/// A question that is to be sent.
-#[derive(Debug, Drop)]
-pub struct Question {
+/// One question of a message.
+#[derive(Clone, Copy, Debug, PartialEq, Eq)]
+pub struct Part {
     /// The place of the key that it is about, from 0.
     pub key: usize,
     /// The number of the operation that it asks.
     pub operation: u32,
-    /// The request, as it is sent.
-    pub bytes: Bytes,
 }
 
-/// The question about the key at a place.
-///
-/// # Errors
-/// Where there is no memory for it.
-pub(crate) fn question_about(
-    alloc: Global,
-    place: usize,
-    key: &Key,
-    known: &Knowledge,
-) -> Result<Question, NoMemory>
-    requires shaped { IsShaped key.now known.now }
-    requires fits { IsTrue (key_fits key.now) }
-    ensures question { IfOk result (λ q. q ≡ question_about place key.now known.now) }
-    ensures asks { IfOk result (λ q. AsksAlone q.bytes (request_about key.now known.now)) }
-{
-    steps_have_places();
-    let request = request_about(alloc, key, known)?;
-    let operation = request.ask.operation();
-    let requests = vec![in alloc; request]?;
-    let bytes = write_request(alloc, requests.as_slice())?;
-    Ok(Question {
-        key: place,
-        operation,
-        bytes: Bytes::from_vec(bytes),
-    })
+/// What a message asks, question by question. A contract sees the list of them.
+#[derive(Debug, Drop)]
+pub struct Parts {
+    items: Vec<Part>,
+}
+
+impl Model for Parts {
+    ghost use Rattle.std.specs.Prelude.{List};
+    ghost use Rattle.kmip_client.specs.declared.question.Part.{Part};
+
+    ghost Value = { List Part };
+
+    ghost view = { λ p. p.items.items };
+}
+
+impl Parts {
+    /// The questions of the vector. Takes no memory.
+    pub(crate) fn from_vec(items: Vec<Part>) -> Parts
+        ensures { result ≡ items.items }
+    {
+        Parts { items }
+    }
+
+    /// The questions, in the order in which they stand in the message.
+    pub fn as_slice(&self) -> &[Part]
+        ensures { result.now ≡ self.now }
+    {
+        self.items.as_slice()
+    }
+}
+
+/// A message of one to eight questions that is to be sent.
+#[derive(Debug, Drop)]
+pub struct Question {
+    pub parts: Parts,
+    /// The message, as it is sent.
+    pub bytes: Bytes,
 }
 
 /// The request, with its id.

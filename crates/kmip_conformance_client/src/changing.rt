@@ -4,7 +4,7 @@ ghost use Rattle.std.specs.Prelude.{◌<◌, length};
 use crate::asserting::assert_text;
 use crate::phase_rows::phases;
 use crate::phases::{client_after, told_by};
-use crate::talking::{known, plan_of};
+use crate::talking::{is_taken, known, plan_of};
 use Saying::{Bare, Found, Made, Refused};
 use kmip_client::Client;
 use kmip_plan::Plan;
@@ -353,7 +353,7 @@ fn assert_refused_alike<'p>(
             continue;
         }
         let message = changed(alloc, bytes, place, value)?;
-        if clients.trying.hear(alloc, message.as_slice()).is_ok() {
+        if is_taken(alloc, &mut clients.trying, message.as_slice()) {
             clients.trying = client_after(alloc, plan, replies)?;
         } else {
             refuse(rt, alloc, &mut clients.keeping, message.as_slice());
@@ -364,7 +364,7 @@ fn assert_refused_alike<'p>(
 
 /// A client hears a message and refuses it.
 fn refuse(rt: &impl Abort, alloc: Global, client: &mut Client<'_>, message: &[u8]) {
-    let is_refused = client.hear(alloc, message).is_err();
+    let is_refused = !is_taken(alloc, client, message);
     assert!(rt; is_refused, "{message:?}");
 }
 

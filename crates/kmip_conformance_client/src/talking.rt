@@ -1,7 +1,7 @@
 //! A client that is talked to: its plan, what is done to it, and how it answers, in words.
 
 use crate::asserting::assert_text;
-use kmip_client::{Client, HearFault, Heard, News, Question, Verdict};
+use kmip_client::{Client, HearFault, Heard, News, Part, Question, Verdict};
 use kmip_messages::MessageFault;
 use kmip_plan::{Plan, read_plan};
 use std::alloc::{AllocError, Global};
@@ -45,7 +45,8 @@ fn push_key(alloc: Global, text: &mut String, name: &str, target: &str) -> Resul
     text.push_str(key.as_str())
 }
 
-/// The key and the operation of the next question, with its bytes where they are not the wanted ones.
+/// The key and the operation of each part of the next message, with semicolons between, and its bytes
+/// where they are not the wanted ones.
 pub fn asked(alloc: Global, client: &mut Client<'_>, wanted: &str) -> Result<String, Fail> {
     match client.ask(alloc)? {
         Some(question) => question_text(alloc, &question, wanted),
@@ -53,30 +54,81 @@ pub fn asked(alloc: Global, client: &mut Client<'_>, wanted: &str) -> Result<Str
     }
 }
 
-/// The key and the operation of a question, with its bytes where they are not the wanted ones.
+/// The same of a message.
 fn question_text(alloc: Global, question: &Question, wanted: &str) -> Result<String, Fail> {
-    let text = hex::encode(alloc, question.bytes.as_slice())?;
-    let bytes = text.as_str();
-    if wanted.is_empty() || bytes == wanted {
-        return Ok(format!(in alloc; "{} {:x}", question.key, question.operation)?);
+    let mut text = String::new(alloc);
+    for part in question.parts.as_slice() {
+        push_part(&mut text, *part)?;
     }
-    Ok(format!(in alloc; "{} {:x} {bytes}", question.key, question.operation)?)
+    let bytes = hex::encode(alloc, question.bytes.as_slice())?;
+    if !wanted.is_empty() && bytes.as_str() != wanted {
+        text.push(' ')?;
+        text.push_str(bytes.as_str())?;
+    }
+    Ok(text)
 }
 
-/// The key, the operation and the news of a reply, or the fault.
-pub fn heard(alloc: Global, client: &mut Client<'_>, bytes: &[u8]) -> Result<String, AllocError> {
-    heard_text(alloc, client.hear(alloc, bytes))
+/// Writes the key and the operation of a part behind those before it.
+fn push_part(text: &mut String, part: Part) -> Result<(), Fail> {
+    if !text.is_empty() {
+        text.push(';')?;
+    }
+    write!(text, "{} {:x}", part.key, part.operation)?;
+    Ok(())
 }
 
-/// The same of what was heard.
-pub fn heard_text(alloc: Global, heard: Result<Heard, HearFault>) -> Result<String, AllocError> {
-    match heard {
-        Ok(heard) => {
-            let news = news_word(heard.news);
-            format!(in alloc; "{} {:x} {news}", heard.key, heard.operation)
-        }
-        Err(HearFault::Unreadable(fault)) => unreadable(alloc, fault),
-        Err(fault) => String::from_str(alloc, fault.name()),
+/// The key, the operation and the news of each reply of a message or its fault, with semicolons between;
+/// or why the bytes are none.
+pub fn heard(alloc: Global, client: &mut Client<'_>, bytes: &[u8]) -> Result<String, Fail> {
+    match client.hear(alloc, bytes) {
+        Ok(all) => replies_text(alloc, all.as_slice()),
+        Err(fault) => Ok(fault_text(alloc, fault)?),
+    }
+}
+
+/// The same of the replies of a message.
+fn replies_text(alloc: Global, all: &[Result<Heard, HearFault>]) -> Result<String, Fail> {
+    let mut text = String::new(alloc);
+    for reply in all {
+        push_reply(alloc, &mut text, reply)?;
+    }
+    Ok(text)
+}
+
+/// Writes what was heard of a reply behind what was heard of those before it.
+fn push_reply(
+    alloc: Global,
+    text: &mut String,
+    reply: &Result<Heard, HearFault>,
+) -> Result<(), Fail> {
+    if !text.is_empty() {
+        text.push(';')?;
+    }
+    let told = match reply {
+        Ok(heard) => heard_text(alloc, heard)?,
+        Err(fault) => fault_text(alloc, *fault)?,
+    };
+    text.push_str(told.as_str())?;
+    Ok(())
+}
+
+fn heard_text(alloc: Global, heard: &Heard) -> Result<String, AllocError> {
+    let news = news_word(heard.news);
+    format!(in alloc; "{} {:x} {news}", heard.key, heard.operation)
+}
+
+fn fault_text(alloc: Global, fault: HearFault) -> Result<String, AllocError> {
+    match fault {
+        HearFault::Unreadable(fault) => unreadable(alloc, fault),
+        _ => String::from_str(alloc, fault.name()),
+    }
+}
+
+/// Whether some reply of these bytes is learnt from.
+pub fn is_taken(alloc: Global, client: &mut Client<'_>, bytes: &[u8]) -> bool {
+    match client.hear(alloc, bytes) {
+        Ok(all) => all.as_slice().iter().any(|reply| reply.is_ok()),
+        Err(_) => false,
     }
 }
 
@@ -180,10 +232,10 @@ pub fn assert_heard(
     Ok(())
 }
 
-/// The same of a reply in hexadecimal.
-fn heard_in_digits(alloc: Global, client: &mut Client<'_>, text: &str) -> Result<String, Fail> {
+/// What is said to a message of replies in hexadecimal.
+pub fn heard_in_digits(alloc: Global, client: &mut Client<'_>, text: &str) -> Result<String, Fail> {
     let bytes = hex::decode(alloc, text)?;
-    Ok(heard(alloc, client, bytes.as_slice())?)
+    heard(alloc, client, bytes.as_slice())
 }
 
 /// Does an act to a client. What the client says to it; nothing where it says nothing.

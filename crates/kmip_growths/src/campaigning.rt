@@ -1,4 +1,5 @@
 //! A campaign that destroys `k1`, over a link in memory that loses nothing.
+ghost use Rattle.kmip_session.specs.Campaign.{MayBatch};
 
 use crate::plans::DESTROYED;
 use crate::setback::Setback;
@@ -14,6 +15,7 @@ use std::alloc::Global;
 pub(crate) const ONE_RUN: [Run; 1] = [Run {
     start: Start::Fresh,
     limit: 6,
+    batch: 1,
     save: false,
 }];
 
@@ -23,16 +25,19 @@ pub(crate) const SAVED_RUNS: [Run; 3] = [
     Run {
         start: Start::Fresh,
         limit: 2,
+        batch: 1,
         save: true,
     },
     Run {
         start: Start::Same,
         limit: 1,
+        batch: 1,
         save: true,
     },
     Run {
         start: Start::Saved(1),
         limit: 6,
+        batch: 1,
         save: true,
     },
 ];
@@ -40,7 +45,9 @@ pub(crate) const SAVED_RUNS: [Run; 3] = [
 /// Tries `campaign`: why its last run stopped, and the objects. Where it lacked memory, its runs and
 /// saves have to be the first of those of a campaign that did not; then it is made over the same link
 /// again.
-pub(crate) fn try_campaign(rt: &HostRuntime, case: &str, runs: &[Run]) -> Result<(), Setback> {
+pub(crate) fn try_campaign(rt: &HostRuntime, case: &str, runs: &[Run]) -> Result<(), Setback>
+    requires { MayBatch runs.now }
+{
     let alloc = rt.alloc();
     let plan = read_plan(alloc, DESTROYED)?;
     let mut calm = new_link(alloc);

@@ -2,7 +2,7 @@
 
 use crate::plans::ACTIVE;
 use crate::setback::Setback;
-use kmip_client::{Client, HearFault, News};
+use kmip_client::{Client, HearFault, Heard, News, Question};
 use kmip_plan::read_plan;
 use kmip_ttlv::NoMemory;
 use kmip_vectors::{ASK_ACTIVATE, CREATE_K1, CREATE_K1_REPLY, LOCATE_K1, LOCATE_K1_NONE};
@@ -85,7 +85,7 @@ fn make(
     }
 }
 
-/// Asks the client for its question: whether it is the wanted one.
+/// Asks the client for its question: whether it is the wanted one, and about one key.
 fn ask(alloc: Global, client: &mut Client<'_>, wanted: &[u8]) -> Result<Said, NoMemory> {
     let Some(question) = client.ask(alloc)? else {
         return Ok(Said {
@@ -93,29 +93,54 @@ fn ask(alloc: Global, client: &mut Client<'_>, wanted: &[u8]) -> Result<Said, No
             word: "no question",
         });
     };
+    Ok(said_of_question(&question, wanted))
+}
+
+fn said_of_question(question: &Question, wanted: &[u8]) -> Said {
+    let &[part] = question.parts.as_slice() else {
+        return Said {
+            operation: 0,
+            word: "several questions",
+        };
+    };
     let is_wanted = question.bytes.as_slice() == wanted;
-    Ok(Said {
-        operation: question.operation,
+    Said {
+        operation: part.operation,
         word: if is_wanted {
             "the question"
         } else {
             "another question"
         },
-    })
+    }
 }
 
-/// Lets the client hear a reply: what came of it.
+/// Lets the client hear a message of one reply: what came of it.
 fn hear(alloc: Global, client: &mut Client<'_>, reply: &[u8]) -> Result<Said, NoMemory> {
     match client.hear(alloc, reply) {
-        Ok(heard) => Ok(Said {
+        Ok(all) => Ok(said_of_replies(all.as_slice())),
+        Err(HearFault::NoMemory) => Err(NoMemory),
+        Err(fault) => Ok(said_of_fault(fault)),
+    }
+}
+
+fn said_of_replies(all: &[Result<Heard, HearFault>]) -> Said {
+    match all {
+        [Ok(heard)] => Said {
             operation: heard.operation,
             word: news_word(heard.news),
-        }),
-        Err(HearFault::NoMemory) => Err(NoMemory),
-        Err(fault) => Ok(Said {
+        },
+        [Err(fault)] => said_of_fault(*fault),
+        _ => Said {
             operation: 0,
-            word: fault.name(),
-        }),
+            word: "several replies",
+        },
+    }
+}
+
+fn said_of_fault(fault: HearFault) -> Said {
+    Said {
+        operation: 0,
+        word: fault.name(),
     }
 }
 

@@ -7,7 +7,7 @@ use Rattle.kmip_messages.specs.declared.reply.Outcome.{Outcome}
 use Rattle.kmip_messages.specs.declared.reply.Outcome.TheVariants.{Failed}
 use Rattle.kmip_messages.specs.declared.reply.Reply.{Reply}
 use Rattle.kmip_messages.specs.declared.standard.TheConstants.{REASON_SERVER_FULL}
-use Rattle.kmip_schedule.specs.Clean.{Disturbances, one_disturbed, one_strange}
+use Rattle.kmip_schedule.specs.Clean.{Disturbances, one_disturbed}
 use Rattle.kmip_schedule.specs.Past.{Names}
 
 -- the reply says that the server has no room
@@ -31,6 +31,6 @@ is_disturbed amiss (Some given) = amiss || lacks_room given
 abbrev pub every_name : Names
 every_name name = true
 
--- the counts after an exchange: one more where it is disturbed, and one more strange where it is that too
-abbrev pub counted : Bool → Bool → Disturbances → Disturbances
-counted disturbed strange before = if disturbed then (if strange then one_strange before else one_disturbed before) else before
+-- the counts after an exchange that sent so many requests, and handed over so many strange replies: the same where it is not disturbed
+abbrev pub counted : Bool → ℕ → ℕ → Disturbances → Disturbances
+counted disturbed requests strange before = if disturbed then one_disturbed requests strange before else before

@@ -1,9 +1,9 @@
 //! Which exchanges are counted as disturbed.
-ghost use Rattle.std.specs.Prelude.{◌≡◌, ◌||◌, IfOk, option_map, if◌then◌else◌};
+ghost use Rattle.std.specs.Prelude.{◌≡◌, ◌||◌, IfOk, filter, length, option_map};
 ghost use Rattle.std.specs.List.{filter_map, list_any};
 ghost use Rattle.std.specs.Result.{result_ok};
 ghost use Rattle.kmip_batches.specs.Items.{replies_in, requests_in};
-ghost use Rattle.kmip_schedule.specs.Clean.{but_of, hands_strange, is_name_of, names_one, one_disturbed, one_strange};
+ghost use Rattle.kmip_schedule.specs.Clean.{but_of, is_name_of, names_one, one_disturbed, strange_handed};
 ghost use Rattle.kmip_losses.specs.Counting.{counted, every_name, is_disturbed, is_full};
 
 use kmip_batches::{read_reply, read_request};
@@ -16,10 +16,12 @@ use std::marker::Model;
 /// A question of a message: a request, or why it is refused.
 type Question = Result<Request, Refusal>;
 
-/// How many exchanges were disturbed, and how many of those handed over a reply about another key.
+/// How many exchanges were disturbed, how many requests these sent, and how many replies about other
+/// keys they handed over.
 #[derive(Clone, Copy, Debug)]
 pub struct Counts {
     pub disturbed: usize,
+    pub requests: usize,
     pub strange: usize,
 }
 
@@ -28,36 +30,48 @@ impl Model for Counts {
 
     ghost Value = { Disturbances };
 
-    ghost view = { λ c. record { disturbed = c.disturbed; strange = c.strange } };
+    ghost view = { λ c. record {
+      disturbed = c.disturbed;
+      requests = c.requests;
+      strange = c.strange;
+    } };
 
-    ghost inverse = { λ d. record { disturbed = d.disturbed; strange = d.strange } };
+    ghost inverse = { λ d. record {
+      disturbed = d.disturbed;
+      requests = d.requests;
+      strange = d.strange;
+    } };
 }
 
-/// The counts after one more disturbed exchange.
+/// The counts after one more disturbed exchange, which sent so many requests and handed over so many
+/// strange replies.
 ///
 /// # Errors
 /// Where a count would pass `usize::MAX`.
-fn raised(counts: Counts, strange: bool) -> Result<Counts, NoMemory>
-    ensures { IfOk result
-        (λ c. c ≡ if strange then one_strange counts else one_disturbed counts) }
+fn raised(counts: Counts, requests: usize, strange: usize) -> Result<Counts, NoMemory>
+    ensures { IfOk result (λ c. c ≡ one_disturbed requests strange counts) }
 {
     let Some(disturbed) = counts.disturbed.checked_add(1) else {
         return Err(NoMemory);
     };
-    if !strange {
-        let strange = counts.strange;
-        return Ok(Counts { disturbed, strange });
-    }
-    let Some(strange) = counts.strange.checked_add(1) else {
+    let Some(requests) = counts.requests.checked_add(requests) else {
         return Err(NoMemory);
     };
-    Ok(Counts { disturbed, strange })
+    let Some(strange) = counts.strange.checked_add(strange) else {
+        return Err(NoMemory);
+    };
+    Ok(Counts {
+        disturbed,
+        requests,
+        strange,
+    })
 }
 
 /// The counts after an exchange, by what it hands over, and whether it went amiss before that: its
 /// message was not served once, or another message than that to it came. It is disturbed where it
-/// went amiss, where nothing is handed over, or where a reply says that the server has no room; and
-/// strange then too where a reply is about a key that no request of the message is about.
+/// went amiss, where nothing is handed over, or where a reply says that the server has no room. Its
+/// requests are counted then too, and its strange replies: those about a key that no request of the
+/// message is about.
 ///
 /// # Errors
 /// Where there is no memory, or a count would pass `usize::MAX`.
@@ -70,18 +84,37 @@ pub fn counts_after(
 ) -> Result<Counts, NoMemory>
     ensures { IfOk result (λ c. c ≡ counted
         (is_disturbed amiss (option_map (λ m. m.now) answer.entry))
-        (hands_strange every_name request.now (option_map (λ m. m.now) answer.entry)) counts) }
+        (length (requests_in request.now))
+        (strange_handed every_name request.now (option_map (λ m. m.now) answer.entry)) counts) }
 {
     let Some(given) = answer else {
-        return raised(counts, false);
+        return count_disturbed(alloc, counts, request, &[]);
     };
     let replies = replies_in(alloc, given)?;
     if !is_disturbed(amiss, replies.as_slice()) {
         return Ok(counts);
     }
+    count_disturbed(alloc, counts, request, replies.as_slice())
+}
+
+/// The counts after one more disturbed exchange of this message, which handed over these replies.
+///
+/// # Errors
+/// Where there is no memory, or a count would pass `usize::MAX`.
+fn count_disturbed(
+    alloc: Global,
+    counts: Counts,
+    request: &[u8],
+    replies: &[Reply],
+) -> Result<Counts, NoMemory>
+    ensures { IfOk result (λ c. c ≡ one_disturbed (length (requests_in request.now))
+        (length (filter (λ r. names_one (but_of (requests_in request.now) every_name) r.id)
+        replies.now)) counts) }
+{
     let questions = questions_in(alloc, request)?;
-    let strange = is_strange(questions.as_slice(), replies.as_slice());
-    raised(counts, strange)
+    let requests = count_requests(questions.as_slice());
+    let strange = count_strange(questions.as_slice(), replies);
+    raised(counts, requests, strange)
 }
 
 /// The replies that the bytes are; none where they are no message of replies.
@@ -148,15 +181,23 @@ fn is_full(reply: &Reply) -> bool
     }
 }
 
-/// Whether one of these replies is about a key that none of the questions is about.
-fn is_strange(questions: &[Question], replies: &[Reply]) -> bool
-    ensures { result ≡ list_any
+/// How many of the questions are requests, and no refusals.
+fn count_requests(questions: &[Question]) -> usize
+    ensures { result ≡ length (filter_map result_ok questions.now) }
+{
+    questions.iter().filter(|question| question.is_ok()).count()
+}
+
+/// How many of these replies are about a key that none of the questions is about.
+fn count_strange(questions: &[Question], replies: &[Reply]) -> usize
+    ensures { result ≡ length (filter
         (λ r. names_one (but_of (filter_map result_ok questions.now) every_name) r.id)
-        replies.now }
+        replies.now) }
 {
     replies
         .iter()
-        .any(|reply| is_about_other(questions, &reply.id))
+        .filter(|reply| is_about_other(questions, &reply.id))
+        .count()
 }
 
 /// Whether the id of a reply names a key that none of the questions is about.

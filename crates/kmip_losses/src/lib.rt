@@ -1,5 +1,5 @@
-//! What a link counts of its exchanges: how many were disturbed, and how many of those handed over a
-//! reply about another key than the one that was asked about.
+//! What a link counts of its exchanges: how many were disturbed, how many requests these sent, and how
+//! many replies they handed over about other keys than those that were asked about.
 #![tactic(auto)]
 
 mod counting;

@@ -1,4 +1,6 @@
 //! The program `run`, over sockets and a file.
+ghost use Rattle.std.specs.Prelude.{IsTrue};
+ghost use Rattle.kmip_batches.specs.Members.{may_have};
 
 use crate::linking::{loopback, refused, tcp_link, unix_link};
 use crate::options::{Peer, RunOptions};
@@ -7,7 +9,7 @@ use crate::showing::Standing;
 use crate::telling::Teller;
 use kmip_commands::ExitStatus;
 use kmip_progress_file::{LockFault, ProgressFile, ProgressLock};
-use kmip_run::{RunInput, run_run};
+use kmip_run::{RunInput, batch_of, run_run};
 use kmip_running::{Keeper, Observed, Paced, SaveFault};
 use kmip_schedule::Link;
 use std::alloc::Global;
@@ -61,6 +63,7 @@ pub fn run_plan(rt: &HostRuntime, options: &RunOptions) -> io::Result<ExitStatus
         plan: plan.as_str(),
         path,
         limit: options.limit as usize,
+        batch: batch_of(options.batch),
     };
     let saved = match &saved {
         Some(text) => Some(text.as_str()),
@@ -108,7 +111,9 @@ fn run_with(
     input: &RunInput<'_>,
     saved: Option<&str>,
     keeper: FileKeeper<'_>,
-) -> io::Result<ExitStatus> {
+) -> io::Result<ExitStatus>
+    requires { IsTrue (may_have input.now.batch) }
+{
     let limit = Duration::from_secs(options.timeout);
     match &options.peer {
         Peer::Tcp(address) => {
@@ -134,7 +139,9 @@ fn run_over<L: Link + Drop>(
     saved: Option<&str>,
     keeper: FileKeeper<'_>,
     link: L,
-) -> io::Result<ExitStatus> {
+) -> io::Result<ExitStatus>
+    requires { IsTrue (may_have input.now.batch) }
+{
     let told = Observed::new(link, Teller::new(rt, keeper.standing, options.is_verbose));
     let mut link = Paced::new(told, rt, options.wait);
     let mut keeper = keeper;

@@ -12,6 +12,7 @@ mod showing;
 mod telling;
 
 pub use carrying::run_plan;
+pub use kmip_run::batch_of;
 pub use options::{Peer, ProbeOptions, RunOptions, ServeOptions};
 pub use probing::probe_server;
 pub use reading::{refusal_of, text_or_why_not};

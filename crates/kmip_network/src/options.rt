@@ -11,6 +11,8 @@ pub struct RunOptions {
     pub progress: String,
     /// How many exchanges it makes at most.
     pub limit: u64,
+    /// How many keys a message asks about at most.
+    pub batch: u64,
     /// Where the server is.
     pub peer: Peer,
     /// How long an exchange may take, in seconds.

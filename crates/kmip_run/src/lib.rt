@@ -1,11 +1,13 @@
 //! The command `run`: a plan is carried out over a link, and what is known is saved after each exchange.
 #![tactic(auto)]
 
+mod batch;
 mod beginning;
 mod running;
 mod standing;
 mod telling;
 
+pub use batch::batch_of;
 pub use beginning::begin;
 pub use running::{RunInput, run, run_run};
 pub use standing::standing_line;

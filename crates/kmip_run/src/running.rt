@@ -1,6 +1,7 @@
 //! The command `run`: a plan is carried out over a link, and what is known is kept after each exchange.
-ghost use Rattle.std.specs.Prelude.{◌≡◌, ◌≢◌, ◌⊎◌, List, [], Ok, IfErr, IfOk, option_map};
+ghost use Rattle.std.specs.Prelude.{◌≡◌, ◌≢◌, ◌⊎◌, List, [], Ok, IfErr, IfOk, IsTrue, option_map};
 ghost use Rattle.std.specs.Io.KnownBytes.{Appends};
+ghost use Rattle.kmip_batches.specs.Members.{may_have};
 ghost use Rattle.kmip_plan.specs.Reading.{plan_read};
 ghost use Rattle.kmip_chains.specs.declared.key.Key.{Key};
 ghost use Rattle.kmip_commands.specs.Printing.{IfFailed, IfWhole, UnlessOutput, fault_line};
@@ -41,6 +42,8 @@ pub struct RunInput<'a> {
     pub path: &'a str,
     /// How many exchanges may be made at most.
     pub limit: usize,
+    /// How many keys a message asks about at most, 1 to 8.
+    pub batch: usize,
 }
 
 /// The text of a run, and whether something was refused, not written or left unfinished.
@@ -59,6 +62,7 @@ pub fn run_run<L: Link, K: Keeper, W: Write>(
     keeper: &mut K,
     writer: &mut W,
 ) -> ExitStatus
+    requires { IsTrue (may_have input.now.batch) }
     ensures text { IfWhole result (λ r. WritesRun (plan_read input.now.plan.now)
         (option_map (λ text. text.now) saved.entry) input.now.path.now input.now.limit r
         (W.contents writer.old) (W.contents writer.new)) }
@@ -92,6 +96,7 @@ pub fn run<L: Link, K: Keeper, W: Write>(
     keeper: &mut K,
     writer: &mut W,
 ) -> Result<bool, CommandFault>
+    requires { IsTrue (may_have input.now.batch) }
     ensures text { IfOk result (λ r. WritesRun (plan_read input.now.plan.now)
         (option_map (λ text. text.now) saved.entry) input.now.path.now input.now.limit r
         (W.contents writer.old) (W.contents writer.new)) }
@@ -120,6 +125,7 @@ fn told_of<L: Link, K: Keeper>(
     link: &mut L,
     keeper: &mut K,
 ) -> Result<Told, NoMemory>
+    requires { IsTrue (may_have input.now.batch) }
     ensures text { IfOk result (λ told. TellsRun (plan_read input.now.plan.now)
         (option_map (λ text. text.now) saved.entry) input.now.path.now input.now.limit
         told.refused told.text.items) }
@@ -155,6 +161,7 @@ fn told_of_plan<L: Link, K: Keeper>(
     link: &mut L,
     keeper: &mut K,
 ) -> Result<Told, NoMemory>
+    requires { IsTrue (may_have input.now.batch) }
     ensures text { IfOk result (λ told. TellsRunFrom plan.now input.now.path.now input.now.limit
         (begin_knowns plan.now (option_map (λ text. text.now) saved.entry))
         told.refused told.text.items) }
@@ -167,6 +174,7 @@ fn told_of_plan<L: Link, K: Keeper>(
     match begin(alloc, plan, saved) {
         Ok(client) => {
             let mut client = client;
+            client.set_batch(input.batch);
             told_of_exchanges(alloc, &mut client, input, link, keeper)
         }
         Err(ProgressFault::NoMemory) => Err(NoMemory),

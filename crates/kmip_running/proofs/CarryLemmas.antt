@@ -16,7 +16,7 @@ use Rattle.kmip_schedule.specs.Past.{Names, Past, is_planned}
 use Rattle.kmip_client.specs.Saving.{progress}
 use Rattle.kmip_progress.specs.Texts.{progress_text}
 use Rattle.kmip_schedule.specs.Sound.{Sound}
-use Rattle.kmip_session.specs.Driving.{AreFinished, Grown, IsGood, IsSettling, Keeps, Learnt, Stands, WentOn, need}
+use Rattle.kmip_session.specs.Driving.{AreFinished, AsksOne, Grown, IsGood, IsSettling, Keeps, Learnt, Nearer, Stands, WentOn, need}
 use Rattle.kmip_session.specs.declared.stop.Stop.{Stop}
 use Rattle.kmip_session.specs.declared.stop.Stop.TheVariants as stops
 use Rattle.kmip_running.specs.Carried.{Carried, CarryingLaws, Went}
@@ -70,9 +70,9 @@ finished_settled objects (key ∷ keys) (known ∷ knowns) held finished = (
 )
 
 -- what is saved is so under another premise that gives the first
-saved_from_start : (keys : List Key) (good better holds then : Type 0) (begun ended : Moment) (result : Result Stop SaveFault) (n : ℕ) (old new : List (List ℕ)) → (good → better)
-    → (holds → then) → AreSaved keys better then begun ended result n old new → AreSaved keys good holds begun ended result n old new
-saved_from_start keys good better holds then begun ended result n old new betters gives a = record {
+saved_from_start : (keys : List Key) (most : ℕ) (good better holds then : Type 0) (begun ended : Moment) (result : Result Stop SaveFault) (n : ℕ) (old new : List (List ℕ)) → (good → better)
+    → (holds → then) → AreSaved keys most better then begun ended result n old new → AreSaved keys most good holds begun ended result n old new
+saved_from_start keys most good better holds then begun ended result n old new betters gives a = record {
   moments = a.moments;
   texts_are = a.texts_are;
   as_many = a.as_many;
@@ -89,9 +89,9 @@ module _ {L : Type 0} (past : L → Past) (honest calm : L → Names → Type 0)
   -- what driving promises of the exchanges that it makes
   pub drove : (a b : ClientState) (x y : L) (driven : Stop × ℕ) → (IsGood past honest a x → IsGood past honest b y)
       → (IsGood past honest a x → WentOn a.keys (past x) (past y))
-      → (honest x (is_planned a.keys) → honest y (is_planned a.keys) × (driven.0 ≢ stops.NoMemory → Learnt a.keys (past x) (past y) a.knowns b.knowns driven.1))
+      → (honest x (is_planned a.keys) → honest y (is_planned a.keys) × (driven.0 ≢ stops.NoMemory → Learnt a.keys a.batch (past x) (past y) a.knowns b.knowns driven.1))
       → (honest x (is_planned a.keys) → Grown (past x) (past y)) → Keeps a b
-      → (IsSettling past calm a x → driven.0 ≢ stops.NoMemory → IsSettling past calm b y × (driven.1 + need b (past y) ≡ need a (past x)))
+      → (IsSettling past calm a x → driven.0 ≢ stops.NoMemory → Nearer past calm a b x y driven.1)
       → Went past honest calm a b x y (Ok driven.0) driven.1
   drove a b x y driven good goes known grown keeps near = record {
     good = good;
@@ -126,7 +126,7 @@ module _ {L : Type 0} (past : L → Past) (honest calm : L → Names → Type 0)
   }
 
   learns : (a b : ClientState) (x y : L) (stop : Stop) (n : ℕ) → stop ≢ stops.NoMemory → Went past honest calm a b x y (Ok stop) n → honest x (is_planned a.keys)
-      → Learnt a.keys (past x) (past y) a.knowns b.knowns n
+      → Learnt a.keys a.batch (past x) (past y) a.knowns b.knowns n
   learns a b x y stop n in_memory went holds = (went.known holds).1 (λ is. in_memory (stop_is stop stops.NoMemory is))
 
   module _ {K : Type 0} (keeps : K → Type 0) (saved : K → List (List ℕ)) where
@@ -136,7 +136,7 @@ module _ {L : Type 0} (past : L → Past) (honest calm : L → Names → Type 0)
       went = without a b x y driven.0 driven.1 went;
       kept = λ keeping. (
         keeping,
-        saved_none a.keys (IsGood past honest a x) (honest x (is_planned a.keys)) (moment past a x) (moment past b y) stops.NoMemory (saved i) went.keeps.kept
+        saved_none a.keys a.batch (IsGood past honest a x) (honest x (is_planned a.keys)) (moment past a x) (moment past b y) stops.NoMemory (saved i) went.keeps.kept
             (λ holds memory. absurd (memory refl)),
       );
     }
@@ -149,7 +149,7 @@ module _ {L : Type 0} (past : L → Past) (honest calm : L → Names → Type 0)
           went = went_so;
           kept = λ keeping. (
             keeping,
-            saved_none a.keys (IsGood past honest a x) (honest x (is_planned a.keys)) (moment past a x) (moment past b y) driven.0 (saved i) went.keeps.kept
+            saved_none a.keys a.batch (IsGood past honest a x) (honest x (is_planned a.keys)) (moment past a x) (moment past b y) driven.0 (saved i) went.keeps.kept
                 (λ holds memory. learns a b x y driven.0 0 memory went_so holds),
           );
         }
@@ -164,7 +164,7 @@ module _ {L : Type 0} (past : L → Past) (honest calm : L → Names → Type 0)
           kept = λ keeping.
               let so = saves keeping in (
                 so.0,
-                saved_one a.keys (IsGood past honest a x) (honest x (is_planned a.keys)) (moment past a x) (moment past b y) driven.0 (saved i) (saved j) went.keeps.kept
+                saved_one a.keys a.batch (IsGood past honest a x) (honest x (is_planned a.keys)) (moment past a x) (moment past b y) driven.0 (saved i) (saved j) went.keeps.kept
                     (learns a b x y driven.0 1 memory went_so)
                     (subst (λ ks. saved j ≡ saved i ++ progress_text ks (progress b) ∷ []) went.keeps.keys_stay so.1)
                     (λ good. subst (λ ks. Held (past y).objects ks b.knowns) went.keeps.keys_stay (went.good good).held),
@@ -181,7 +181,7 @@ module _ {L : Type 0} (past : L → Past) (honest calm : L → Names → Type 0)
           kept = λ keeping.
               let so = saves keeping in (
                 so.0,
-                saved_not a.keys (IsGood past honest a x) (honest x (is_planned a.keys)) (moment past a x) (moment past b y) fault (saved i) (saved j) went.keeps.kept
+                saved_not a.keys a.batch (IsGood past honest a x) (honest x (is_planned a.keys)) (moment past a x) (moment past b y) fault (saved i) (saved j) went.keeps.kept
                     (learns a b x y driven.0 1 memory went_so) so.1,
               );
         }
@@ -196,7 +196,7 @@ module _ {L : Type 0} (past : L → Past) (honest calm : L → Names → Type 0)
           went = went;
           kept = λ keeping. (
             keeping,
-            saved_none c.keys (IsGood past honest c x) (honest x (is_planned c.keys)) (moment past c x) (moment past c x) stops.Limit (saved i) (kept_itself c.knowns)
+            saved_none c.keys c.batch (IsGood past honest c x) (honest x (is_planned c.keys)) (moment past c x) (moment past c x) stops.Limit (saved i) (kept_itself c.knowns)
                 (λ holds memory. learns c c x x stops.Limit 0 memory went holds),
           );
         }
@@ -213,15 +213,17 @@ module _ {L : Type 0} (past : L → Past) (honest calm : L → Names → Type 0)
               let before = first.kept keeping in
               let after = second.kept before.0 in (
                 after.0,
-                saved_then l.blind a.keys (IsGood past honest a x) (honest x (is_planned a.keys)) (moment past a x) (moment past b y) (moment past c z) stops.Limit result m n (saved i)
+                saved_then l.blind a.keys a.batch (IsGood past honest a x) (honest x (is_planned a.keys)) (moment past a x) (moment past b y) (moment past c z) stops.Limit result m n (saved i)
                     (saved j) (saved k) memory
                     (λ good knowns.
                     l.known_for_good a.keys knowns (past y).objects (past z).objects lawful
                     (subst (λ ks. WentOn ks (past y) (past z)) keys (second.went.goes (first.went.good good))).onward)
                     before.1
-                    (saved_from_start a.keys (IsGood past honest a x) (IsGood past honest b y) (honest x (is_planned a.keys)) (honest y (is_planned a.keys)) (moment past b y) (moment past c z) result n (saved j)
+                    (saved_from_start a.keys a.batch (IsGood past honest a x) (IsGood past honest b y) (honest x (is_planned a.keys)) (honest y (is_planned a.keys)) (moment past b y) (moment past c z) result n (saved j)
                     (saved k) first.went.good (λ holds. (first.went.known holds).0)
-                    (subst (λ ks. AreSaved ks (IsGood past honest b y) (honest y (is_planned ks)) (moment past b y) (moment past c z) result n (saved j) (saved k)) keys after.1)),
+                    (subst (λ ks. AreSaved ks a.batch (IsGood past honest b y) (honest y (is_planned ks)) (moment past b y) (moment past c z) result n (saved j) (saved k)) keys
+                    (subst (λ most. AreSaved b.keys most (IsGood past honest b y) (honest y (is_planned b.keys)) (moment past b y) (moment past c z) result n (saved j) (saved k))
+                    first.went.keeps.batch_stays after.1))),
               );
         }
 
@@ -257,10 +259,10 @@ module _ {L : Type 0} (past : L → Past) (honest calm : L → Names → Type 0)
           kept = λ keeping.
               let before = first.kept keeping in (
                 before.0,
-                saved_closed l.blind a.keys (IsGood past honest a x) (honest x (is_planned a.keys)) (moment past a x) (moment past b y) (moment past b z) result ended m (saved i) (saved j)
+                saved_closed l.blind a.keys a.batch (IsGood past honest a x) (honest x (is_planned a.keys)) (moment past a x) (moment past b y) (moment past b z) result ended m (saved i) (saved j)
                     refl
                     (λ holds.
-                    learnt_delivered l.requests a.keys (is_planned a.keys) (past y) (past z) b.knowns
+                    learnt_delivered l.requests a.keys a.batch (is_planned a.keys) (past y) (past z) b.knowns
                     (delivers (is_planned a.keys) (first.went.known holds).0).1)
                     (same_unsaved closed result ended same stop fault) memory (λ done. (whole done).0)
                     (λ good knowns.
@@ -289,33 +291,36 @@ limit_last (Err e) (Err f) last same stop fault is = sym fault ∙ is
 
 module _ {L : Type 0} (past : L → Past) (honest calm : L → Names → Type 0) where
   -- over a calm link, with as many exchanges as the plan is bounded by, all keys are finished
-  settled_stop : CarryingLaws → (a b : ClientState) (x y : L) (stop : Stop) (made limit : ℕ) → IsLawful a.keys → IsSettling past calm a x → IsSettling past calm b y
-      → made + need b (past y) ≡ need a (past x) → stop ≢ stops.NoMemory → Stands stop b.keys b.knowns → (stop ≡ stops.Limit → made ≡ limit) → bound a.keys ≤ limit
-      → (stop ≡ stops.AllFinished) × (made ≡ need a (past x)) × (made ≤ bound a.keys)
-  settled_stop l a b x y stops.AllFinished made limit lawful first last sum memory stands at enough =
-      let held = last.ready.held in
+  settled_stop : CarryingLaws → (a b : ClientState) (x y : L) (stop : Stop) (made limit : ℕ) → IsLawful a.keys → IsSettling past calm a x
+      → Nearer past calm a b x y made → stop ≢ stops.NoMemory → Stands stop b.keys b.knowns → (stop ≡ stops.Limit → made ≡ limit) → bound a.keys ≤ limit
+      → (stop ≡ stops.AllFinished) × (made ≤ need a (past x)) × (AsksOne a → made ≡ need a (past x)) × (made ≤ bound a.keys)
+  settled_stop l a b x y stops.AllFinished made limit lawful first near memory stands at enough =
+      let held = near.settling.ready.held in
       let few = l.bounded (past x).room a.keys (past x).objects a.knowns lawful first.ready in
       let nothing = l.needed b.keys (past y).objects b.knowns held (finished_settled (past y).objects b.keys b.knowns held stands) in
-      (refl, omega (arith, sum, nothing), omega (arith, sum, nothing, few))
-  settled_stop l a b x y stops.Limit made limit lawful first last sum memory stands at enough =
+      let sum = near.nearer in
+      (refl, omega (arith, sum), λ one. omega (arith, near.exactly one, nothing), omega (arith, sum, few))
+  settled_stop l a b x y stops.Limit made limit lawful first near memory stands at enough =
       let few = l.bounded (past x).room a.keys (past x).objects a.knowns lawful first.ready in
       let all = at refl in
+      let sum = near.nearer in
       let nothing : need b (past y) ≡ 0 = omega (arith, sum, few, enough, all) in
-      let both : Working ≡ Finished = sym stands.2 ∙ l.needless b.keys (past y).objects b.knowns last.ready.held nothing stands.0 stands.1 in
+      let both : Working ≡ Finished = sym stands.2 ∙ l.needless b.keys (past y).objects b.knowns near.settling.ready.held nothing stands.0 stands.1 in
       absurd cc
-  settled_stop l a b x y stops.Conflict made limit lawful first last sum memory stands at enough =
+  settled_stop l a b x y stops.Conflict made limit lawful first near memory stands at enough =
       let clash = stands.1 in
-      absurd (l.no_conflict (past y).objects b.keys b.knowns last.ready.held clash.0 clash.1 clash.3)
-  settled_stop l a b x y stops.NoMemory made limit lawful first last sum memory stands at enough = absurd (memory refl)
+      absurd (l.no_conflict (past y).objects b.keys b.knowns near.settling.ready.held clash.0 clash.1 clash.3)
+  settled_stop l a b x y stops.NoMemory made limit lawful first near memory stands at enough = absurd (memory refl)
 
   pub settled_end : CarryingLaws → (a b : ClientState) (x y : L) (result : Result Stop SaveFault) (made limit : ℕ) → IsLawful a.keys
       → Went past honest calm a b x y result made → IfOk result (λ stop. Stands stop b.keys b.knowns) → (result ≡ Ok stops.Limit → made ≡ limit)
-      → IsSettling past calm a x → bound a.keys ≤ limit → IsWhole result → (result ≡ Ok stops.AllFinished) × (made ≡ need a (past x)) × (made ≤ bound a.keys)
+      → IsSettling past calm a x → bound a.keys ≤ limit → IsWhole result → (result ≡ Ok stops.AllFinished) × (made ≤ need a (past x))
+      × (AsksOne a → made ≡ need a (past x)) × (made ≤ bound a.keys)
   settled_end l a b x y (Err fault) made limit lawful went stands at settling enough whole = absurd whole
   settled_end l a b x y (Ok stop) made limit lawful went stands at settling enough whole =
       let near = went.near settling whole in
-      let end = settled_stop l a b x y stop made limit lawful settling near.0 near.1 whole stands (λ is. at (ap Ok is)) enough in
-      (ap Ok end.0, end.1, end.2)
+      let end = settled_stop l a b x y stop made limit lawful settling near whole stands (λ is. at (ap Ok is)) enough in
+      (ap Ok end.0, end.1, end.2, end.3)
 
   -- what is true is in no conflict
   pub good_end : CarryingLaws → (a b : ClientState) (x y : L) (result : Result Stop SaveFault) (made : ℕ) → Went past honest calm a b x y result made

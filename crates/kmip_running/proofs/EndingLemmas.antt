@@ -17,19 +17,19 @@ pub in_memory : (result : Result Stop SaveFault) → IsWhole result → IsInMemo
 in_memory (Ok stop) whole = λ is. whole (stop_is stop stops.NoMemory is)
 in_memory (Err fault) whole = absurd whole
 
-sent_long : (keys : List Key) (old new : Past) (knowns nexts : List Knowledge) (made : ℕ) → Learnt keys old new knowns nexts made
+sent_long : (keys : List Key) (most : ℕ) (old new : Past) (knowns nexts : List Knowledge) (made : ℕ) → Learnt keys most old new knowns nexts made
     → length new.sent ≡ length old.sent + made
-sent_long keys old new knowns nexts made learnt =
+sent_long keys most old new knowns nexts made learnt =
     ap length learnt.sent_are ∙ length-append old.sent learnt.questions ∙ ap (λ n. length old.sent + n) learnt.as_many_questions
 
 -- where memory sufficed and all was saved
-pub ended_whole : {V E : Type 0} (keys : List Key) (old mid : Past) (knowns nexts : List Knowledge) (closed : Result V E) (result last : Result Stop SaveFault) (made : ℕ)
+pub ended_whole : {V E : Type 0} (keys : List Key) (most : ℕ) (old mid : Past) (knowns nexts : List Knowledge) (closed : Result V E) (result last : Result Stop SaveFault) (made : ℕ)
     (before noted after : List ℕ) → OnOk closed (last ≡ result) → OnErr closed (OnOk result (last ≡ Ok stops.NoMemory)) → OnErr result (last ≡ result)
-    → (IsInMemory result → Learnt keys old mid knowns nexts made) → noted ≡ before → OnOk closed (EndedAt (length mid.sent) noted after) → IsWhole last
+    → (IsInMemory result → Learnt keys most old mid knowns nexts made) → noted ≡ before → OnOk closed (EndedAt (length mid.sent) noted after) → IsWhole last
     → EndedAt (length old.sent + made) before after
-ended_whole keys old mid knowns nexts closed result last made before noted after same stop fault learnt none close whole =
+ended_whole keys most old mid knowns nexts closed result last made before noted after same stop fault learnt none close whole =
     let both = whole_before {P = EndedAt (length mid.sent) noted after} closed result last same stop fault whole in
-    let long = sent_long keys old mid knowns nexts made (learnt (in_memory result both.0)) in
+    let long = sent_long keys most old mid knowns nexts made (learnt (in_memory result both.0)) in
     both.1 close ∙ ap (λ ns. ns ++ length mid.sent ∷ []) none ∙ ap (λ n. before ++ n ∷ []) long
 
 -- or not

@@ -34,8 +34,8 @@ no_answers [] none = refl
 no_answers (x ∷ xs) none = absurd (omega (arith, none))
 
 -- no exchange changes no text
-pub same_text : (keys : List Key) (a b : Moment) → Learnt keys a.past b.past a.knowns b.knowns 0 → text_at keys b ≡ text_at keys a
-same_text keys a b learnt =
+pub same_text : (keys : List Key) (most : ℕ) (a b : Moment) → Learnt keys most a.past b.past a.knowns b.knowns 0 → text_at keys b ≡ text_at keys a
+same_text keys most a b learnt =
     let same : facts b.knowns ≡ facts a.knowns =
     learnt.known_is ∙ ap (λ answers. facts (known_after keys a.knowns answers)) (no_answers learnt.answers learnt.as_many_answers) in
     ap (λ known. progress_text keys known) (saved_facts b.knowns ∙ ap (λ fs. map saved_of fs) same ∙ sym (saved_facts a.knowns))
@@ -52,27 +52,27 @@ last_joined : (begun : Moment) (first : List Moment) (m : Moment) (second : List
 last_joined begun [] m second = refl
 last_joined begun (x ∷ first) m second = last_joined x first m second
 
-taught_joined : HearingIsBlind → (keys : List Key) (begun : Moment) (first : List Moment) (mid : Moment) (second : List Moment) → AreInTurn keys begun first
-    → Learnt keys (last_moment begun first).past mid.past (last_moment begun first).knowns mid.knowns 0 → AreInTurn keys mid second
-    → AreInTurn keys begun (first ++ second)
-taught_joined blind keys begun [] mid [] before between after = tt
-taught_joined blind keys begun [] mid (m ∷ second) before between after =
-    (learnt_then blind keys begun.past mid.past m.past begun.knowns mid.knowns m.knowns 0 1 between after.0, after.1)
-taught_joined blind keys begun (m ∷ first) mid second before between after =
-    (before.0, taught_joined blind keys m first mid second before.1 between after)
+taught_joined : HearingIsBlind → (keys : List Key) (most : ℕ) (begun : Moment) (first : List Moment) (mid : Moment) (second : List Moment) → AreInTurn keys most begun first
+    → Learnt keys most (last_moment begun first).past mid.past (last_moment begun first).knowns mid.knowns 0 → AreInTurn keys most mid second
+    → AreInTurn keys most begun (first ++ second)
+taught_joined blind keys most begun [] mid [] before between after = tt
+taught_joined blind keys most begun [] mid (m ∷ second) before between after =
+    (learnt_then blind keys most begun.past mid.past m.past begun.knowns mid.knowns m.knowns 0 1 between after.0, after.1)
+taught_joined blind keys most begun (m ∷ first) mid second before between after =
+    (before.0, taught_joined blind keys most m first mid second before.1 between after)
 
-rest_joined : HearingIsBlind → (keys : List Key) (begun : Moment) (first : List Moment) (mid : Moment) (second : List Moment) (ended : Moment) (n : ℕ)
-    → Learnt keys (last_moment begun first).past mid.past (last_moment begun first).knowns mid.knowns 0
-    → Learnt keys (last_moment mid second).past ended.past (last_moment mid second).knowns ended.knowns n
-    → Learnt keys (last_moment begun (first ++ second)).past ended.past (last_moment begun (first ++ second)).knowns ended.knowns n
-rest_joined blind keys begun first mid [] ended n before after =
+rest_joined : HearingIsBlind → (keys : List Key) (most : ℕ) (begun : Moment) (first : List Moment) (mid : Moment) (second : List Moment) (ended : Moment) (n : ℕ)
+    → Learnt keys most (last_moment begun first).past mid.past (last_moment begun first).knowns mid.knowns 0
+    → Learnt keys most (last_moment mid second).past ended.past (last_moment mid second).knowns ended.knowns n
+    → Learnt keys most (last_moment begun (first ++ second)).past ended.past (last_moment begun (first ++ second)).knowns ended.knowns n
+rest_joined blind keys most begun first mid [] ended n before after =
     let last = last_moment begun first in
     let same : 0 + n ≡ n = omega arith in
-    subst (λ ms. Learnt keys (last_moment begun ms).past ended.past (last_moment begun ms).knowns ended.knowns n) (sym (append-nil first))
-    (subst (λ k. Learnt keys last.past ended.past last.knowns ended.knowns k) same
-    (learnt_then blind keys last.past mid.past ended.past last.knowns mid.knowns ended.knowns 0 n before after))
-rest_joined blind keys begun first mid (m ∷ second) ended n before after =
-    subst (λ last. Learnt keys last.past ended.past last.knowns ended.knowns n) (sym (last_joined begun first m second)) after
+    subst (λ ms. Learnt keys most (last_moment begun ms).past ended.past (last_moment begun ms).knowns ended.knowns n) (sym (append-nil first))
+    (subst (λ k. Learnt keys most last.past ended.past last.knowns ended.knowns k) same
+    (learnt_then blind keys most last.past mid.past ended.past last.knowns mid.knowns ended.knowns 0 n before after))
+rest_joined blind keys most begun first mid (m ∷ second) ended n before after =
+    subst (λ last. Learnt keys most last.past ended.past last.knowns ended.knowns n) (sym (last_joined begun first m second)) after
 
 last_text : (keys : List Key) (begun : Moment) (first : List Moment) (mid : Moment) (second : List Moment) (ended : Moment)
     → text_at keys mid ≡ text_at keys (last_moment begun first) → text_at keys ended ≡ text_at keys (last_moment mid second)
@@ -96,9 +96,9 @@ still_true keys good mid ended moments stays holds all =
 -- ---- what is saved
 
 -- nothing, where no exchange was made
-pub saved_none : (keys : List Key) (good honest : Type 0) (begun ended : Moment) (stop : Stop) (texts : List (List ℕ)) → AllZip IsKept begun.knowns ended.knowns
-    → (honest → stop ≢ stops.NoMemory → Learnt keys begun.past ended.past begun.knowns ended.knowns 0) → AreSaved keys good honest begun ended (Ok stop) 0 texts texts
-saved_none keys good honest begun ended stop texts kept learnt = record {
+pub saved_none : (keys : List Key) (most : ℕ) (good honest : Type 0) (begun ended : Moment) (stop : Stop) (texts : List (List ℕ)) → AllZip IsKept begun.knowns ended.knowns
+    → (honest → stop ≢ stops.NoMemory → Learnt keys most begun.past ended.past begun.knowns ended.knowns 0) → AreSaved keys most good honest begun ended (Ok stop) 0 texts texts
+saved_none keys most good honest begun ended stop texts kept learnt = record {
   moments = [];
   texts_are = sym (append-nil texts);
   as_many = refl;
@@ -106,20 +106,20 @@ saved_none keys good honest begun ended stop texts kept learnt = record {
   taught = λ holds. tt;
   rest = λ holds memory. learnt holds (λ is. memory (ap Ok is));
   true_of = λ holds. All-nil (λ (m : Moment). Held ended.past.objects keys m.knowns);
-  last_is = λ holds whole. same_text keys begun ended (learnt holds whole);
+  last_is = λ holds whole. same_text keys most begun ended (learnt holds whole);
 }
 
 -- what is known after an exchange
-pub saved_one : (keys : List Key) (good honest : Type 0) (begun ended : Moment) (stop : Stop) (old new : List (List ℕ)) → AllZip IsKept begun.knowns ended.knowns
-    → (honest → Learnt keys begun.past ended.past begun.knowns ended.knowns 1) → new ≡ old ++ text_at keys ended ∷ []
-    → (good → Held ended.past.objects keys ended.knowns) → AreSaved keys good honest begun ended (Ok stop) 1 old new
-saved_one keys good honest begun ended stop old new kept learnt is held = record {
+pub saved_one : (keys : List Key) (most : ℕ) (good honest : Type 0) (begun ended : Moment) (stop : Stop) (old new : List (List ℕ)) → AllZip IsKept begun.knowns ended.knowns
+    → (honest → Learnt keys most begun.past ended.past begun.knowns ended.knowns 1) → new ≡ old ++ text_at keys ended ∷ []
+    → (good → Held ended.past.objects keys ended.knowns) → AreSaved keys most good honest begun ended (Ok stop) 1 old new
+saved_one keys most good honest begun ended stop old new kept learnt is held = record {
   moments = ended ∷ [];
   texts_are = is;
   as_many = refl;
   kept = (kept, (kept_itself ended.knowns, tt));
   taught = λ holds. (learnt holds, tt);
-  rest = λ holds memory. learnt_nothing keys ended.past ended.knowns;
+  rest = λ holds memory. learnt_nothing keys most ended.past ended.knowns;
   true_of = λ holds.
       let P : Moment → Type 0 = λ m. Held ended.past.objects keys m.knowns in
       All-cons P ended [] (held holds) (All-nil P);
@@ -127,9 +127,9 @@ saved_one keys good honest begun ended stop old new kept learnt is held = record
 }
 
 -- or nothing again, where it was not saved
-pub saved_not : (keys : List Key) (good honest : Type 0) (begun ended : Moment) (fault : SaveFault) (old new : List (List ℕ)) → AllZip IsKept begun.knowns ended.knowns
-    → (honest → Learnt keys begun.past ended.past begun.knowns ended.knowns 1) → new ≡ old → AreSaved keys good honest begun ended (Err fault) 1 old new
-saved_not keys good honest begun ended fault old new kept learnt same = record {
+pub saved_not : (keys : List Key) (most : ℕ) (good honest : Type 0) (begun ended : Moment) (fault : SaveFault) (old new : List (List ℕ)) → AllZip IsKept begun.knowns ended.knowns
+    → (honest → Learnt keys most begun.past ended.past begun.knowns ended.knowns 1) → new ≡ old → AreSaved keys most good honest begun ended (Err fault) 1 old new
+saved_not keys most good honest begun ended fault old new kept learnt same = record {
   moments = [];
   texts_are = same ∙ sym (append-nil old);
   as_many = refl;
@@ -140,10 +140,10 @@ saved_not keys good honest begun ended fault old new kept learnt same = record {
   last_is = λ holds whole. absurd whole;
 }
 
-pub saved_then : HearingIsBlind → (keys : List Key) (good honest : Type 0) (begun mid ended : Moment) (stop : Stop) (result : Result Stop SaveFault) (m n : ℕ)
-    (old between new : List (List ℕ)) → stop ≢ stops.NoMemory → StaysTrue keys good mid ended → AreSaved keys good honest begun mid (Ok stop) m old between
-    → AreSaved keys good honest mid ended result n between new → AreSaved keys good honest begun ended result (m + n) old new
-saved_then blind keys good honest begun mid ended stop result m n old between new memory stays a b =
+pub saved_then : HearingIsBlind → (keys : List Key) (most : ℕ) (good honest : Type 0) (begun mid ended : Moment) (stop : Stop) (result : Result Stop SaveFault) (m n : ℕ)
+    (old between new : List (List ℕ)) → stop ≢ stops.NoMemory → StaysTrue keys good mid ended → AreSaved keys most good honest begun mid (Ok stop) m old between
+    → AreSaved keys most good honest mid ended result n between new → AreSaved keys most good honest begun ended result (m + n) old new
+saved_then blind keys most good honest begun mid ended stop result m n old between new memory stays a b =
     let in_memory : IsInMemory (Ok stop) = λ is. memory (stop_is stop stops.NoMemory is) in
     record {
       moments = a.moments ++ b.moments;
@@ -152,8 +152,8 @@ saved_then blind keys good honest begun mid ended stop result m n old between ne
       as_many = let long = length-append a.moments b.moments in omega (arith, long, a.as_many, b.as_many);
       kept = subst (λ ms. AreKept begun.knowns ms) (sym (append_assoc a.moments b.moments (ended ∷ [])))
           (kept_joined begun.knowns a.moments mid (b.moments ++ ended ∷ []) a.kept b.kept);
-      taught = λ holds. taught_joined blind keys begun a.moments mid b.moments (a.taught holds) (a.rest holds in_memory) (b.taught holds);
-      rest = λ holds whole. rest_joined blind keys begun a.moments mid b.moments ended (unsaved result) (a.rest holds in_memory) (b.rest holds whole);
+      taught = λ holds. taught_joined blind keys most begun a.moments mid b.moments (a.taught holds) (a.rest holds in_memory) (b.taught holds);
+      rest = λ holds whole. rest_joined blind keys most begun a.moments mid b.moments ended (unsaved result) (a.rest holds in_memory) (b.rest holds whole);
       true_of = λ holds.
           All-append (λ (m : Moment). Held ended.past.objects keys m.knowns) a.moments b.moments
           (still_true keys good mid ended a.moments stays holds (a.true_of holds)) (b.true_of holds);
@@ -161,11 +161,11 @@ saved_then blind keys good honest begun mid ended stop result m n old between ne
     }
 
 -- the end of the run saves nothing
-pub saved_closed : HearingIsBlind → (keys : List Key) (good honest : Type 0) (begun mid ended : Moment) (result last : Result Stop SaveFault) (m : ℕ) (old new : List (List ℕ))
-    → mid.knowns ≡ ended.knowns → (honest → Learnt keys mid.past ended.past mid.knowns ended.knowns 0) → unsaved last ≡ unsaved result
-    → (IsInMemory last → IsInMemory result) → (IsWhole last → IsWhole result) → StaysTrue keys good mid ended → AreSaved keys good honest begun mid result m old new
-    → AreSaved keys good honest begun ended last m old new
-saved_closed blind keys good honest begun mid ended result last m old new same learnt as_many memory whole stays a = record {
+pub saved_closed : HearingIsBlind → (keys : List Key) (most : ℕ) (good honest : Type 0) (begun mid ended : Moment) (result last : Result Stop SaveFault) (m : ℕ) (old new : List (List ℕ))
+    → mid.knowns ≡ ended.knowns → (honest → Learnt keys most mid.past ended.past mid.knowns ended.knowns 0) → unsaved last ≡ unsaved result
+    → (IsInMemory last → IsInMemory result) → (IsWhole last → IsWhole result) → StaysTrue keys good mid ended → AreSaved keys most good honest begun mid result m old new
+    → AreSaved keys most good honest begun ended last m old new
+saved_closed blind keys most good honest begun mid ended result last m old new same learnt as_many memory whole stays a = record {
   moments = a.moments;
   texts_are = a.texts_are;
   as_many = omega (arith, as_many, a.as_many);
@@ -174,8 +174,8 @@ saved_closed blind keys good honest begun mid ended result last m old new same l
   rest = λ holds in_memory.
       let before = last_moment begun a.moments in
       let none : unsaved result + 0 ≡ unsaved last = omega (arith, as_many) in
-      subst (λ n. Learnt keys before.past ended.past before.knowns ended.knowns n) none
-      (learnt_then blind keys before.past mid.past ended.past before.knowns mid.knowns ended.knowns (unsaved result) 0 (a.rest holds (memory in_memory)) (learnt holds));
+      subst (λ n. Learnt keys most before.past ended.past before.knowns ended.knowns n) none
+      (learnt_then blind keys most before.past mid.past ended.past before.knowns mid.knowns ended.knowns (unsaved result) 0 (a.rest holds (memory in_memory)) (learnt holds));
   true_of = λ holds. still_true keys good mid ended a.moments stays holds (a.true_of holds);
-  last_is = λ holds done. same_text keys mid ended (learnt holds) ∙ a.last_is holds (whole done);
+  last_is = λ holds done. same_text keys most mid ended (learnt holds) ∙ a.last_is holds (whole done);
 }

@@ -1,5 +1,5 @@
 -- What exchanges keep and teach, one after the other.
-use Rattle.std.proofs.Common.{◌≡◌, ◌≢◌, ℕ, ◌+◌, List, [], ◌∷◌, ◌++◌, length, flat_map, Option, Result, Ok, OnOk, sym, ap, subst, refl, ◌∙◌, append_assoc, append-nil, arith}
+use Rattle.std.proofs.Common.{◌≡◌, ◌≢◌, ℕ, ◌+◌, List, [], ◌∷◌, ◌++◌, length, flat_map, Option, Result, Ok, OnOk, sym, ap, subst, refl, inl, inr, ◌≤◌, ◌∙◌, append_assoc, append-nil, arith}
 use Rattle.std.proofs.lemmas.List.{length-append}
 use Rattle.std.proofs.lemmas.List.Concat.{flat_map-append}
 use Rattle.std.proofs.lemmas.List.Elements.{All-append, All-nil}
@@ -16,7 +16,7 @@ use Rattle.kmip_schedule.specs.Laws.{DeliveriesKeepTheRequests}
 use Rattle.kmip_schedule.specs.Moves.{Delivered}
 use Rattle.kmip_schedule.specs.Past.{Names, Past, is_planned}
 use Rattle.kmip_settling.specs.Ready.{IsReady}
-use Rattle.kmip_session.specs.Driving.{Grown, IsGood, IsQuestion, Keeps, Learnt, WentOn, need}
+use Rattle.kmip_session.specs.Driving.{AsksOne, Grown, IsGood, IsQuestion, Keeps, Learnt, WentOn, need}
 use Rattle.kmip_session.specs.declared.stop.Stop.{Stop}
 use Rattle.kmip_session.specs.declared.stop.Stop.TheVariants as stops
 use Rattle.kmip_running.specs.Carried.{CarryingLaws, Went}
@@ -47,11 +47,11 @@ kept_then (x ∷ a) (y ∷ b) (z ∷ c) first second = (
 )
 
 keeps_itself : (c : ClientState) → Keeps c c
-keeps_itself c = record { keys_stay = refl; kept = kept_itself c.knowns }
+keeps_itself c = record { keys_stay = refl; batch_stays = refl; kept = kept_itself c.knowns }
 
 keeps_then : (a b c : ClientState) → Keeps a b → Keeps b c → Keeps a c
 keeps_then a b c first second =
-    record { keys_stay = second.keys_stay ∙ first.keys_stay; kept = kept_then a.knowns b.knowns c.knowns first.kept second.kept }
+    record { keys_stay = second.keys_stay ∙ first.keys_stay; batch_stays = second.batch_stays ∙ first.batch_stays; kept = kept_then a.knowns b.knowns c.knowns first.kept second.kept }
 
 -- ---- what exchanges teach
 
@@ -72,8 +72,8 @@ joined old between new xs ys first second = second ∙ ap (λ zs. zs ++ ys) firs
 as_many : {A : Type 0} (xs ys : List A) (m n : ℕ) → length xs ≡ m → length ys ≡ n → length (xs ++ ys) ≡ m + n
 as_many xs ys m n first second = length-append xs ys ∙ ap (λ k. k + length ys) first ∙ ap (λ k. m + k) second
 
-pub learnt_nothing : (keys : List Key) (p : Past) (knowns : List Knowledge) → Learnt keys p p knowns knowns 0
-learnt_nothing keys p knowns = record {
+pub learnt_nothing : (keys : List Key) (most : ℕ) (p : Past) (knowns : List Knowledge) → Learnt keys most p p knowns knowns 0
+learnt_nothing keys most p knowns = record {
   questions = [];
   answers = [];
   sent_are = sym (append-nil p.sent);
@@ -81,13 +81,13 @@ learnt_nothing keys p knowns = record {
   requests_are = sym (append-nil p.requests);
   as_many_questions = refl;
   as_many_answers = refl;
-  each = All-nil (IsQuestion keys);
+  each = All-nil (IsQuestion keys most);
   known_is = refl;
 }
 
-pub learnt_then : HearingIsBlind → (keys : List Key) (old between new : Past) (knowns known nexts : List Knowledge) (m n : ℕ) → Learnt keys old between knowns known m
-    → Learnt keys between new known nexts n → Learnt keys old new knowns nexts (m + n)
-learnt_then blind keys old between new knowns known nexts m n a b = record {
+pub learnt_then : HearingIsBlind → (keys : List Key) (most : ℕ) (old between new : Past) (knowns known nexts : List Knowledge) (m n : ℕ) → Learnt keys most old between knowns known m
+    → Learnt keys most between new known nexts n → Learnt keys most old new knowns nexts (m + n)
+learnt_then blind keys most old between new knowns known nexts m n a b = record {
   questions = a.questions ++ b.questions;
   answers = a.answers ++ b.answers;
   sent_are = joined old.sent between.sent new.sent a.questions b.questions a.sent_are b.sent_are;
@@ -97,16 +97,16 @@ learnt_then blind keys old between new knowns known nexts m n a b = record {
       ∙ ap (λ rs. old.requests ++ rs) (sym (flat_map-append requests_in a.questions b.questions));
   as_many_questions = as_many a.questions b.questions m n a.as_many_questions b.as_many_questions;
   as_many_answers = as_many a.answers b.answers m n a.as_many_answers b.as_many_answers;
-  each = All-append (IsQuestion keys) a.questions b.questions a.each b.each;
+  each = All-append (IsQuestion keys most) a.questions b.questions a.each b.each;
   known_is =
       b.known_is ∙ known_blind blind keys known (known_after keys knowns a.answers) b.answers a.known_is
       ∙ ap facts (sym (known_append keys knowns a.answers b.answers));
 }
 
 -- whatever happens between exchanges teaches nothing
-pub learnt_delivered : DeliveriesKeepTheRequests → (keys : List Key) (names : Names) (old new : Past) (knowns : List Knowledge) → Delivered names old new
-    → Learnt keys old new knowns knowns 0
-learnt_delivered requests keys names old new knowns done =
+pub learnt_delivered : DeliveriesKeepTheRequests → (keys : List Key) (most : ℕ) (names : Names) (old new : Past) (knowns : List Knowledge) → Delivered names old new
+    → Learnt keys most old new knowns knowns 0
+learnt_delivered requests keys most names old new knowns done =
     let grows = requests names old new done in
     record {
       questions = [];
@@ -116,7 +116,7 @@ learnt_delivered requests keys names old new knowns done =
       requests_are = grows.requests ∙ sym (append-nil old.requests);
       as_many_questions = refl;
       as_many_answers = refl;
-      each = All-nil (IsQuestion keys);
+      each = All-nil (IsQuestion keys most);
       known_is = refl;
     }
 
@@ -147,6 +147,11 @@ grown_delivered requests names old new done =
       handed = still old.handed new.handed grows.handed;
     }
 
+-- who asks one key at once goes on doing so
+asks_one : (a b : ClientState) → Keeps a b → AsksOne a → AsksOne b
+asks_one a b keeps (inl one) = inl (keeps.batch_stays ∙ one)
+asks_one a b keeps (inr alone) = inr (ap length keeps.keys_stay ∙ alone)
+
 pub stop_is : (s t : Stop) → ok s ≡ ok t → s ≡ t
 stop_is s t is = cc
 
@@ -157,10 +162,10 @@ module _ {L : Type 0} (past : L → Past) (honest calm : L → Names → Type 0)
   went_nowhere l c x result = record {
     good = λ good. good;
     goes = λ good. record { onward = l.itself c.keys (past x).objects; mirrored = λ image. image };
-    known = λ holds. (holds, λ memory. learnt_nothing c.keys (past x) c.knowns);
+    known = λ holds. (holds, λ memory. learnt_nothing c.keys c.batch (past x) c.knowns);
     grown = λ holds. grown_itself (past x);
     keeps = keeps_itself c;
-    near = λ settling whole. (settling, omega arith);
+    near = λ settling whole. record { settling = settling; nearer = omega arith; exactly = λ one. omega arith };
   }
 
   pub went_then : CarryingLaws → (a b c : ClientState) (x y z : L) (stop : Stop) (result : Result Stop SaveFault) (m n : ℕ) → stop ≢ stops.NoMemory
@@ -182,16 +187,21 @@ module _ {L : Type 0} (past : L → Past) (honest calm : L → Names → Type 0)
             let after = second.known (subst (λ ks. honest y (is_planned ks)) (sym keys) before.0) in (
               subst (λ ks. honest z (is_planned ks)) keys after.0,
               λ whole.
-                  learnt_then l.blind a.keys (past x) (past y) (past z) a.knowns b.knowns c.knowns m n (before.1 in_memory)
-                  (subst (λ ks. Learnt ks (past y) (past z) b.knowns c.knowns n) keys (after.1 whole)),
+                  learnt_then l.blind a.keys a.batch (past x) (past y) (past z) a.knowns b.knowns c.knowns m n (before.1 in_memory)
+                  (subst (λ ks. Learnt ks a.batch (past y) (past z) b.knowns c.knowns n) keys
+                  (subst (λ most. Learnt b.keys most (past y) (past z) b.knowns c.knowns n) first.keeps.batch_stays (after.1 whole))),
             );
         grown = λ holds.
             grown_then (past x) (past y) (past z) (first.grown holds) (second.grown (subst (λ ks. honest y (is_planned ks)) (sym keys) (first.known holds).0));
         keeps = keeps_then a b c first.keeps second.keeps;
         near = λ settling whole.
             let before = first.near settling memory in
-            let after = second.near before.0 whole in
-            (after.0, omega (arith, before.1, after.1));
+            let after = second.near before.settling whole in
+            record {
+              settling = after.settling;
+              nearer = omega (arith, before.nearer, after.nearer);
+              exactly = λ one. omega (arith, before.exactly one, after.exactly (asks_one a b first.keeps one));
+            };
       }
 
   -- the end of the run, after these exchanges
@@ -216,9 +226,9 @@ module _ {L : Type 0} (past : L → Past) (honest calm : L → Names → Type 0)
               step.0,
               λ in_memory.
                   let none : m + 0 ≡ m = omega arith in
-                  subst (λ n. Learnt a.keys (past x) (past z) a.knowns b.knowns n) none
-                  (learnt_then l.blind a.keys (past x) (past y) (past z) a.knowns b.knowns b.knowns m 0 (before.1 (memory in_memory))
-                  (learnt_delivered l.requests a.keys (is_planned a.keys) (past y) (past z) b.knowns step.1)),
+                  subst (λ n. Learnt a.keys a.batch (past x) (past z) a.knowns b.knowns n) none
+                  (learnt_then l.blind a.keys a.batch (past x) (past y) (past z) a.knowns b.knowns b.knowns m 0 (before.1 (memory in_memory))
+                  (learnt_delivered l.requests a.keys a.batch (is_planned a.keys) (past y) (past z) b.knowns step.1)),
             );
         grown = λ holds.
             let step = delivers (is_planned a.keys) (first.known holds).0 in
@@ -227,14 +237,16 @@ module _ {L : Type 0} (past : L → Past) (honest calm : L → Names → Type 0)
         near = λ settling done.
             let held = whole done in
             let before = first.near settling held.0 in
-            let step = calms (is_planned b.keys) before.0.calm_for in
-            let same = held.1 step.1 in (
-              record {
+            let step = calms (is_planned b.keys) before.settling.calm_for in
+            let same = held.1 step.1 in
+            record {
+              settling = record {
                 calm_for = step.0;
-                ready = subst (λ (p : Past). IsReady p.room b.keys p.objects b.knowns) (sym same) before.0.ready;
-              },
-              subst (λ (p : Past). m + need b p ≡ need a (past x)) (sym same) before.1,
-            );
+                ready = subst (λ (p : Past). IsReady p.room b.keys p.objects b.knowns) (sym same) before.settling.ready;
+              };
+              nearer = subst (λ (p : Past). m + need b p ≤ need a (past x)) (sym same) before.nearer;
+              exactly = λ one. subst (λ (p : Past). m + need b p ≡ need a (past x)) (sym same) (before.exactly one);
+            };
       }
     where
       good_closed : IsGood past honest b y → IsGood past honest b z × WentOn b.keys (past y) (past z)

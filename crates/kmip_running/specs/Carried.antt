@@ -1,13 +1,13 @@
 -- Private: what the parts of carrying out a plan keep.
 -- Source: own.
-use Rattle.std.specs.Prelude.{◌≡◌, ◌+◌, ℕ, List, Result}
+use Rattle.std.specs.Prelude.{ℕ, List, Result}
 use Rattle.kmip_client.specs.Clients.{ClientState}
 use Rattle.kmip_client.specs.Laws.{OnwardToItself, OnwardTwice, HeldForGood, HeldIsNoConflict, HearingIsBlind}
 use Rattle.kmip_schedule.specs.Laws.{DeliveriesKeepSound, DeliveriesKeepTheImage, DeliveriesKeepTheRequests, ObjectsGoOnward}
 use Rattle.kmip_schedule.specs.Past.{Past, Names, is_planned}
 use Rattle.kmip_settling.specs.Laws.{NeedsAreBounded, WhoIsSettledNeedsNothing, WhoNeedsNothingIsFinished}
 use Rattle.kmip_settling.specs.LosingLaws.{LateArrivalsAddNothing, LeftIsBounded, NeedsAreLeft}
-use Rattle.kmip_session.specs.Driving.{Grown, IsGood, IsSettling, Keeps, Learnt, WentOn, need}
+use Rattle.kmip_session.specs.Driving.{Grown, IsGood, IsSettling, Keeps, Learnt, Nearer, WentOn}
 use Rattle.kmip_session.specs.declared.stop.Stop.{Stop}
 use Rattle.kmip_running.specs.Saved.{AreSaved, IsInMemory, IsWhole, moment}
 use Rattle.kmip_running.specs.declared.keeper.SaveFault.{SaveFault}
@@ -35,13 +35,13 @@ pub record Went {L : Type 0} (past : L → Past) (honest calm : L → Names → 
   pub good : IsGood past honest a x → IsGood past honest b y
   pub goes : IsGood past honest a x → WentOn a.keys (past x) (past y)
   pub known : honest x (is_planned a.keys)
-      → honest y (is_planned a.keys) × (IsInMemory result → Learnt a.keys (past x) (past y) a.knowns b.knowns made)
+      → honest y (is_planned a.keys) × (IsInMemory result → Learnt a.keys a.batch (past x) (past y) a.knowns b.knowns made)
   pub grown : honest x (is_planned a.keys) → Grown (past x) (past y)
   pub keeps : Keeps a b
-  pub near : IsSettling past calm a x → IsWhole result → IsSettling past calm b y × (made + need b (past y) ≡ need a (past x))
+  pub near : IsSettling past calm a x → IsWhole result → Nearer past calm a b x y made
 
 -- so many exchanges were made, and what was known after each was saved
 pub record Carried {L K : Type 0} (past : L → Past) (honest calm : L → Names → Type 0) (keeps : K → Type 0) (saved : K → List (List ℕ)) (a b : ClientState) (x y : L) (i j : K) (result : Result Stop SaveFault) (made : ℕ) : Type 0 where
   pub went : Went past honest calm a b x y result made
   pub kept : keeps i
-      → keeps j × AreSaved a.keys (IsGood past honest a x) (honest x (is_planned a.keys)) (moment past a x) (moment past b y) result made (saved i) (saved j)
+      → keeps j × AreSaved a.keys a.batch (IsGood past honest a x) (honest x (is_planned a.keys)) (moment past a x) (moment past b y) result made (saved i) (saved j)

@@ -34,10 +34,10 @@ last_moment before [] = before
 last_moment before (moment ∷ moments) = last_moment moment moments
 
 -- each moment is one exchange later than the one before it, and what is new was taught by its answer
-abbrev pub AreInTurn : List Key → Moment → List Moment → Type 0
-AreInTurn keys before [] = ⊤
-AreInTurn keys before (moment ∷ moments) =
-    Learnt keys before.past moment.past before.knowns moment.knowns 1 × AreInTurn keys moment moments
+abbrev pub AreInTurn : List Key → ℕ → Moment → List Moment → Type 0
+AreInTurn keys most before [] = ⊤
+AreInTurn keys most before (moment ∷ moments) =
+    Learnt keys most before.past moment.past before.knowns moment.knowns 1 × AreInTurn keys most moment moments
 
 -- at no moment is taken back what was known before
 abbrev pub AreKept : List Knowledge → List Moment → Type 0
@@ -61,13 +61,13 @@ unsaved (Err fault) = 1
 -- Between two moments these texts were saved: one after each exchange, of what was then known. Over an honest link each of them has
 -- what the one before it had and what one more answer taught, and the last one says all that is known at the end. Where all was good at
 -- the start, what each of them says is true of the objects at the end.
-pub record AreSaved (keys : List Key) (good honest : Type 0) (begun ended : Moment) (result : Result Stop SaveFault) (exchanges : ℕ) (old new : List (List ℕ)) : Type 0 where
+pub record AreSaved (keys : List Key) (most : ℕ) (good honest : Type 0) (begun ended : Moment) (result : Result Stop SaveFault) (exchanges : ℕ) (old new : List (List ℕ)) : Type 0 where
   pub moments : List Moment
   pub texts_are : new ≡ old ++ map (text_at keys) moments
   pub as_many : length moments + unsaved result ≡ exchanges
   pub kept : AreKept begun.knowns (moments ++ ended ∷ [])
-  pub taught : honest → AreInTurn keys begun moments
+  pub taught : honest → AreInTurn keys most begun moments
   pub rest : honest → IsInMemory result
-      → Learnt keys (last_moment begun moments).past ended.past (last_moment begun moments).knowns ended.knowns (unsaved result)
+      → Learnt keys most (last_moment begun moments).past ended.past (last_moment begun moments).knowns ended.knowns (unsaved result)
   pub true_of : good → All (λ (moment : Moment). Held ended.past.objects keys moment.knowns) moments
   pub last_is : honest → IsWhole result → text_at keys ended ≡ text_at keys (last_moment begun moments)

@@ -7,7 +7,7 @@ ghost use Rattle.kmip_progress.specs.Texts.{progress_text};
 ghost use Rattle.kmip_schedule.specs.Ending.{EndedAt};
 ghost use Rattle.kmip_schedule.specs.Moves.{Delivered};
 ghost use Rattle.kmip_schedule.specs.Past.{Names, is_planned};
-ghost use Rattle.kmip_session.specs.Driving.{IsGood, IsSettling, need, WentOn, Learnt, Grown, Keeps, Stands};
+ghost use Rattle.kmip_session.specs.Driving.{AsksOne, IsGood, IsSettling, Nearer, need, WentOn, Learnt, Grown, Keeps, Stands};
 ghost use Rattle.kmip_session.specs.Losing.{ArePaid, IsEnough, left_for};
 ghost use Rattle.kmip_running.specs.Carried.{Carried, CarryingLaws};
 ghost use Rattle.kmip_running.specs.Saved.{AreSaved, IsInMemory, IsWhole, moment};
@@ -27,7 +27,7 @@ use kmip_settling::losing_laws::{late_arrivals_add_nothing, left_is_bounded};
 use kmip_ttlv::NoMemory;
 use std::alloc::Global;
 
-/// Asks one question after the other over the link and learns from what comes back, until no key
+/// Sends one message after the other over the link and learns from what comes back, until no key
 /// of the plan is worked on any more, or `limit` exchanges were made; after each exchange the
 /// keeper is given the text of what is then known. Where no exchange is made nothing is saved. Then
 /// the run is ended over the link, once and right behind its last exchange; failures of the link are
@@ -52,13 +52,13 @@ pub fn carry_out<L: Link, K: Keeper>(
         → WentOn client.old.keys (L.past link.old) (L.past link.new) }
     ensures known { L.honest link.old (is_planned client.old.keys)
         → L.honest link.new (is_planned client.old.keys)
-        × (IsInMemory result.0 → Learnt client.old.keys (L.past link.old)
+        × (IsInMemory result.0 → Learnt client.old.keys client.old.batch (L.past link.old)
         (L.past link.new) client.old.knowns client.new.knowns result.1) }
     ensures grown { L.honest link.old (is_planned client.old.keys)
         → Grown (L.past link.old) (L.past link.new) }
     ensures kept { Keeps client.old client.new }
     ensures saved { K.keeps keeper.old → K.keeps keeper.new
-        × AreSaved client.old.keys (IsGood L.past L.honest client.old link.old)
+        × AreSaved client.old.keys client.old.batch (IsGood L.past L.honest client.old link.old)
         (L.honest link.old (is_planned client.old.keys))
         (moment L.past client.old link.old) (moment L.past client.new link.new)
         result.0 result.1 (K.saved keeper.old) (K.saved keeper.new) }
@@ -66,12 +66,12 @@ pub fn carry_out<L: Link, K: Keeper>(
     ensures limit { result.0 ≡ Ok Stop.Limit → result.1 ≡ limit }
     ensures within { result.1 ≤ limit }
     ensures calm { IsSettling L.past L.calm client.old link.old → IsWhole result.0
-        → IsSettling L.past L.calm client.new link.new
-        × (result.1 + need client.new (L.past link.new) ≡ need client.old (L.past link.old)) }
+        → Nearer L.past L.calm client.old client.new link.old link.new result.1 }
     ensures settles { IsSettling L.past L.calm client.old link.old
         → bound client.old.keys ≤ limit → IsWhole result.0
         → (result.0 ≡ Ok Stop.AllFinished)
-        × (result.1 ≡ need client.old (L.past link.old))
+        × (result.1 ≤ need client.old (L.past link.old))
+        × (AsksOne client.old → result.1 ≡ need client.old (L.past link.old))
         × (result.1 ≤ bound client.old.keys) }
     ensures losing { IsGood L.past L.honest client.old link.old → IsInMemory result.0
         → ArePaid result.1 (left_for client.old (L.past link.old))

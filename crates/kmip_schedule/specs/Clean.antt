@@ -47,43 +47,34 @@ is_name_of name request = names_one (pointwise nat_eq name) request.id
 abbrev pub but_of : List Request → Names → Names
 but_of requests names = λ name. names name && not (list_any (is_name_of name) requests)
 
--- the message has a reply about a key of these names that its question is not about
-abbrev pub is_strange : Names → List ℕ → List ℕ → Bool
-is_strange names sent given = list_any (λ reply. names_one (but_of (requests_in sent) names) reply.id) (replies_in given)
-
--- so has what was handed over
-abbrev pub hands_strange : Names → List ℕ → Option (List ℕ) → Bool
-hands_strange names sent answer = option_map_or (is_strange names sent) answer false
-
--- how many of its replies are; and how many of what was handed over
+-- how many replies of a message are about a key of these names that its question is not about; and how many of what was handed over
 abbrev pub strange_replies : Names → List ℕ → List ℕ → ℕ
 strange_replies names sent given = length (filter (λ reply. names_one (but_of (requests_in sent) names) reply.id) (replies_in given))
 
 abbrev pub strange_handed : Names → List ℕ → Option (List ℕ) → ℕ
 strange_handed names sent answer = option_map_or (strange_replies names sent) answer 0
 
--- How many exchanges over a link were disturbed, and how many handed over a reply about another key.
+-- How many exchanges over a link were disturbed, how many requests these sent, and how many replies about other keys they handed over.
 pub record Disturbances : Type 0 where
   pub disturbed : ℕ
+  pub requests : ℕ
   pub strange : ℕ
 
--- one more was disturbed, and one more was strange too
-abbrev pub one_disturbed : Disturbances → Disturbances
-one_disturbed d = record { disturbed = d.disturbed + 1; strange = d.strange }
+-- one more exchange was disturbed, that sent so many requests, and handed over so many replies about other keys
+abbrev pub one_disturbed : ℕ → ℕ → Disturbances → Disturbances
+one_disturbed requests strange d = record { disturbed = d.disturbed + 1; requests = d.requests + requests; strange = d.strange + strange }
 
-abbrev pub one_strange : Disturbances → Disturbances
-one_strange d = record { disturbed = d.disturbed + 1; strange = d.strange + 1 }
-
--- An exchange is clean, or it is counted; and counted as strange where it hands over a reply about another key of these names.
+-- An exchange is clean, or it is counted, with its requests, and with at least as many strange replies as it hands over about keys of
+-- these names.
 abbrev pub IsCounted : Names → Past → List ℕ → Option (List ℕ) → Past → Disturbances → Disturbances → Type 0
 IsCounted names old sent answer new before after =
     (IsClean names old sent answer new × (after ≡ before))
-    ⊎ ((hands_strange names sent answer ≡ false) × (after ≡ one_disturbed before))
-    ⊎ (after ≡ one_strange before)
+    ⊎ ((strange : ℕ) × (strange_handed names sent answer ≤ strange) × (after ≡ one_disturbed (length (requests_in sent)) strange before))
 
 -- no count falls
 abbrev pub AreNoFewer : Disturbances → Disturbances → Type 0
-AreNoFewer before after = (before.disturbed ≤ after.disturbed) × (before.strange ≤ after.strange)
+AreNoFewer before after =
+    (before.disturbed ≤ after.disturbed) × (before.requests ≤ after.requests) × (before.strange ≤ after.strange)
 
 -- the same of what an exchange answers; a failure of the network hands nothing over, and of want of memory only that no count falls
 abbrev pub Counted : Names → Past → List ℕ → Result (Option (List ℕ)) LinkFault → Past → Disturbances → Disturbances → Type 0

@@ -29,8 +29,8 @@ pub trait Link {
     /// How often its network has failed, up to 2^64 - 1. From then on it sends nothing.
     ghost failures: { Self → ℕ };
 
-    /// How many of its exchanges were disturbed, and how many of those handed over a reply about
-    /// another key.
+    /// How many of its exchanges were disturbed, how many requests these sent, and how many replies
+    /// about other keys they handed over.
     ghost disturbances: { Self → Disturbances };
 
     /// Where the runs that were ended over it did: how many messages had been sent then, in order.

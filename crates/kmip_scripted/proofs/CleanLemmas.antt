@@ -6,7 +6,7 @@ use Rattle.std.proofs.lemmas.Option.{same_Some}
 use Rattle.kmip_batches.specs.Items.{parts_in, replies_in, requests_in, stops_in}
 use Rattle.kmip_server.specs.Batching.{batch_reply}
 use Rattle.kmip_schedule.specs.Calm.{AreTaken}
-use Rattle.kmip_schedule.specs.Clean.{Disturbances, HasRoom, IsClean, IsCounted, hands_strange}
+use Rattle.kmip_schedule.specs.Clean.{Disturbances, HasRoom, IsClean, IsCounted, strange_handed}
 use Rattle.kmip_schedule.specs.Exchanges.{with_asked}
 use Rattle.kmip_schedule.specs.Laws.{DeliveriesJoin, NothingIsDelivered}
 use Rattle.kmip_schedule.specs.Moves.{Delivered}
@@ -18,7 +18,7 @@ use Rattle.kmip_scripted.specs.Disturbing.{is_disturbed, is_repeated}
 use Rattle.kmip_scripted.specs.Early.{AreOfEarlier, IsEarly, IsOfEarlier, asked_only}
 use Rattle.kmip_scripted.specs.Scenes.{Scene, disturbances_in, past_in, with_disturbances}
 use Rattle.kmip_scripted.specs.Words.{after_word, before_play, exchange_word, first_of, goes_on, message_at, play, played, with_delivered, with_request, with_words, words_after_exchange}
-use Rattle.kmip_scripted.proofs.CountLemmas.{have_room, nothing_strange, played_keeps, prepared_keeps}
+use Rattle.kmip_scripted.proofs.CountLemmas.{have_room, no_more_strange, played_keeps, prepared_keeps}
 use Rattle.kmip_scripted.proofs.FollowLemmas.{asked_past, handed}
 use Rattle.kmip_scripted.proofs.WordLemmas.{by_other, by_test}
 
@@ -176,7 +176,8 @@ pub record AreSteps (names : Names) (request : List ℕ) (old prepared mid last 
       → AreTaken (stops_in request) (parts_in request) (replies_in (batch_reply prepared.stock request (pos 0))) (past_in prepared) (past_in mid)
   pub mid_is : mid ≡ (played request prepared).1
   pub answer_is : answer ≡ (played request prepared).0
-  pub counts_are : counts ≡ counted (is_disturbed word repeated answer) (hands_strange every_name request answer) (disturbances_in mid)
+  pub counts_are : counts
+      ≡ counted (is_disturbed word repeated answer) (length (requests_in request)) (strange_handed every_name request answer) (disturbances_in mid)
   pub last_is : last ≡ handed request word answer mid
   pub new_is : new ≡ with_disturbances counts last
 
@@ -201,9 +202,6 @@ clean nothing names request old prepared mid last new word repeated answer count
       is = ap past_in steps.new_is ∙ ap past_in steps.last_is;
     }
 
-counts_by : (disturbed strange : Bool) (before : Disturbances) (one other : Bool) → disturbed ≡ one → strange ≡ other → counted disturbed strange before ≡ counted one other before
-counts_by disturbed strange before one other is also = ap (λ b. counted b strange before) is ∙ ap (λ b. counted one b before) also
-
 pub is_counted : (nothing : NothingIsDelivered) (names : Names) (request : List ℕ) (old prepared mid last new : Scene) (word : Word) (repeated : Bool) (answer : Option (List ℕ)) (counts : Disturbances)
     → AreSteps names request old prepared mid last new word repeated answer counts
     → IsCounted names (past_in old) request answer (past_in new) (disturbances_in old) (disturbances_in new)
@@ -211,16 +209,14 @@ is_counted nothing names request old prepared mid last new word repeated answer 
     let kept : disturbances_in mid ≡ disturbances_in old =
     ap disturbances_in steps.mid_is ∙ played_keeps request prepared ∙ ap disturbances_in steps.prepared_is ∙ prepared_keeps request old in
     let disturbed = is_disturbed word repeated answer in
-    let strange = hands_strange every_name request answer in
-    let now : disturbances_in new ≡ counted disturbed strange (disturbances_in old) =
-    ap disturbances_in steps.new_is ∙ steps.counts_are ∙ ap (counted disturbed strange) kept in
+    let asked = length (requests_in request) in
+    let strange = strange_handed every_name request answer in
+    let now : disturbances_in new ≡ counted disturbed asked strange (disturbances_in old) =
+    ap disturbances_in steps.new_is ∙ steps.counts_are ∙ ap (counted disturbed asked strange) kept in
     elim (cases_Bool disturbed) [
       | inr calm ↦ inl (
         clean nothing names request old prepared mid last new word repeated answer counts steps (undisturbed word repeated answer calm),
-        now ∙ ap (λ b. counted b strange (disturbances_in old)) calm,
+        now ∙ ap (λ b. counted b asked strange (disturbances_in old)) calm,
       )
-      | inl so ↦ elim (cases_Bool strange) [
-        | inr own ↦ inr (inl (nothing_strange names request answer own, now ∙ counts_by disturbed strange (disturbances_in old) true false so own))
-        | inl other ↦ inr (inr (now ∙ counts_by disturbed strange (disturbances_in old) true true so other))
-      ]
+      | inl so ↦ inr (strange, no_more_strange names request answer, now ∙ ap (λ b. counted b asked strange (disturbances_in old)) so)
     ]

@@ -1,5 +1,5 @@
 -- The counts of a link in memory: they stay until an exchange is handed over, and what is counted as strange by every name.
-use Rattle.std.proofs.Common.{◌≡◌, ◌≢◌, ◌==◌, ℕ, nat_le, pos, Bool, true, false, not, ◌&&◌, length, if◌then◌else◌, List, [], ◌∷◌, Option, Some, None, Ok, refl, sym, ap, subst, ◌∙◌, inl, inr, arith, eq-eqb}
+use Rattle.std.proofs.Common.{◌≡◌, ◌≢◌, ◌≤◌, ◌==◌, ℕ, nat_le, pos, Bool, true, false, not, ◌&&◌, length, filter, if◌then◌else◌, List, [], ◌∷◌, Option, Some, None, Ok, refl, sym, ap, subst, ◌∙◌, inl, inr, arith, eq-eqb}
 use Rattle.std.specs.List.{All, list_any}
 use Rattle.std.proofs.lemmas.Bool.{cases_Bool, eqb-true, or_from, or_parts}
 use Rattle.std.proofs.lemmas.List.Elements.{All-cons, All-head, All-nil, All-tail}
@@ -10,7 +10,7 @@ use Rattle.kmip_messages.specs.declared.reply.Reply.{Reply}
 use Rattle.kmip_messages.specs.declared.request.Request.{Request}
 use Rattle.kmip_messages.specs.declared.standard.TheConstants.{REASON_SERVER_FULL}
 use Rattle.kmip_server.specs.Batching.{batch_reply}
-use Rattle.kmip_schedule.specs.Clean.{AreNoFewer, HasRoom, IsRoomy, but_of, hands_strange, is_name_of, names_one}
+use Rattle.kmip_schedule.specs.Clean.{AreNoFewer, HasRoom, IsRoomy, but_of, is_name_of, names_one, strange_handed}
 use Rattle.kmip_schedule.specs.Past.{Names}
 use Rattle.kmip_scripted.specs.declared.script.Word.{Word}
 use Rattle.kmip_scripted.specs.declared.script.Word.TheVariants.{Pass, LoseRequest, LoseReply, Cut, Stale, Again, Save, Prolong, Restart}
@@ -86,7 +86,7 @@ pub run_keeps : (s : Scene) → disturbances_in (after_run s) ≡ disturbances_i
 run_keeps s = words_keep true s.words s
 
 pub no_fewer : (s new : Scene) → disturbances_in new ≡ disturbances_in s → AreNoFewer (disturbances_in s) (disturbances_in new)
-no_fewer s new same = subst (AreNoFewer (disturbances_in s)) (sym same) (omega arith, omega arith)
+no_fewer s new same = subst (AreNoFewer (disturbances_in s)) (sym same) (omega arith, omega arith, omega arith)
 
 -- ---- room
 
@@ -119,7 +119,7 @@ none_is_full (reply ∷ replies) roomy =
     or_from (is_full reply) (list_any is_full replies) (full_is reply.outcome (All-head HasRoom reply replies roomy))
     (none_is_full replies (All-tail HasRoom reply replies roomy))
 
--- ---- what is not strange by every name is so by none
+-- ---- what is strange by some names is so by every name
 
 other_by : (in_names own : Bool) → not own ≡ false → (in_names && not own) ≡ false
 other_by true own is = is
@@ -131,26 +131,32 @@ one_by requests names None is = refl
 one_by requests names (Some []) is = refl
 one_by requests names (Some (operation ∷ name)) is = other_by (names name) (list_any (is_name_of name) requests) is
 
-none_by : (requests : List Request) (names : Names) (replies : List Reply)
-    → list_any (λ reply. names_one (but_of requests every_name) reply.id) replies ≡ false
-    → list_any (λ reply. names_one (but_of requests names) reply.id) replies ≡ false
-none_by requests names [] is = refl
-none_by requests names (reply ∷ replies) is =
-    let parts = or_parts (names_one (but_of requests every_name) reply.id) (list_any (λ r. names_one (but_of requests every_name) r.id) replies) is in
-    or_from (names_one (but_of requests names) reply.id) (list_any (λ r. names_one (but_of requests names) r.id) replies)
-    (one_by requests names reply.id parts.0) (none_by requests names replies parts.1)
+-- where each row that is not of the other kind is not of this one, no more are of this one
+no_more : {R : Type 0} (one other : R → Bool) → ((row : R) → other row ≡ false → one row ≡ false) → (rows : List R)
+    → length (filter one rows) ≤ length (filter other rows)
+no_more one other is [] = omega arith
+no_more one other is (row ∷ rows) =
+    let rest = no_more one other is rows in
+    elim (cases_Bool (other row)) [
+      | inl so ↦ elim (cases_Bool (one row)) [
+        | inl too ↦ rw (so, too) (omega (arith, rest))
+        | inr differs ↦ rw (so, differs) (omega (arith, rest))
+      ]
+      | inr differs ↦ let too = is row differs in rw (differs, too) rest
+    ]
 
-pub nothing_strange : (names : Names) (sent : List ℕ) (answer : Option (List ℕ)) → hands_strange every_name sent answer ≡ false
-    → hands_strange names sent answer ≡ false
-nothing_strange names sent None is = refl
-nothing_strange names sent (Some given) is = none_by (requests_in sent) names (replies_in given) is
+pub no_more_strange : (names : Names) (sent : List ℕ) (answer : Option (List ℕ)) → strange_handed names sent answer ≤ strange_handed every_name sent answer
+no_more_strange names sent None = omega arith
+no_more_strange names sent (Some given) =
+    no_more (λ reply. names_one (but_of (requests_in sent) names) reply.id) (λ reply. names_one (but_of (requests_in sent) every_name) reply.id)
+    (λ reply. one_by (requests_in sent) names reply.id) (replies_in given)
 
 -- ---- where no word is left, and the server has room
 
 calm_kept : (request : List ℕ) (s : Scene) → All HasRoom (replies_in (batch_reply s.stock request (pos 0)))
     → disturbances_in (exchange request (with_words [] s)).1 ≡ disturbances_in s
 calm_kept request s roomy =
-    ap (λ disturbed. counted disturbed (hands_strange every_name request (Some (batch_reply s.stock request (pos 0)))) (disturbances_in s))
+    ap (λ disturbed. counted disturbed (length (requests_in request)) (strange_handed every_name request (Some (batch_reply s.stock request (pos 0)))) (disturbances_in s))
     (none_is_full (replies_in (batch_reply s.stock request (pos 0))) roomy)
 
 pub calm_is_kept : (request : List ℕ) (s : Scene) → s.words ≡ [] → IsRoomy (Ok (exchange request s).0)

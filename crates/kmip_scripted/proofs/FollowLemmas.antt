@@ -6,7 +6,7 @@ use Rattle.std.proofs.lemmas.List.Elements.{All-contains_itself, All-weaker, Con
 use Rattle.kmip_batches.specs.Items.{parts_in, replies_in, requests_in, stops_in}
 use Rattle.kmip_server.specs.Batching.{batch_reply}
 use Rattle.kmip_schedule.specs.Calm.{AreTaken, Calmly}
-use Rattle.kmip_schedule.specs.Clean.{Disturbances, hands_strange}
+use Rattle.kmip_schedule.specs.Clean.{Disturbances, strange_handed}
 use Rattle.kmip_schedule.specs.Exchanges.{AreGiven, HandsOver, with_asked}
 use Rattle.kmip_schedule.specs.Moves.{Delivered}
 use Rattle.kmip_schedule.specs.Past.{Names}
@@ -76,12 +76,13 @@ hands_over names request old prepared mid last new word answer counts delivered 
 -- what is handed over, and counted
 abbrev counted_by : List ℕ → Bool → Word → Option (List ℕ) → Scene → Scene
 counted_by request repeated word answer s =
-    with_disturbances (counted (is_disturbed word repeated answer) (hands_strange every_name request answer) (disturbances_in s)) (handed request word answer s)
+    with_disturbances (counted (is_disturbed word repeated answer) (length (requests_in request)) (strange_handed every_name request answer) (disturbances_in s))
+    (handed request word answer s)
 
 pub exact_is : (request : List ℕ) (old prepared mid last new : Scene) (word : Word) (repeated : Bool) (answer : Option (List ℕ)) (counts : Disturbances)
     → repeated ≡ is_repeated (length old.asked) old.words → prepared ≡ before_play request old → word ≡ exchange_word prepared.words
     → mid ≡ (played request prepared).1 → answer ≡ (played request prepared).0
-    → counts ≡ counted (is_disturbed word repeated answer) (hands_strange every_name request answer) (disturbances_in mid)
+    → counts ≡ counted (is_disturbed word repeated answer) (length (requests_in request)) (strange_handed every_name request answer) (disturbances_in mid)
     → last ≡ handed request word answer mid → new ≡ with_disturbances counts last → new ≡ (exchange request old).1
 exact_is request old prepared mid last new word repeated answer counts again was next left is counts_are now more =
     more ∙ ap (with_disturbances counts) now ∙ ap (λ d. with_disturbances d (handed request word answer mid)) counts_are

@@ -1,29 +1,34 @@
 -- The runs of a script, word by word.
-use Rattle.std.proofs.Common.{◌≡◌, ◌≤◌, ◌<◌, ◌+◌, ℕ, Bool, true, false, List, [], ◌∷◌, ◌++◌, drop, length, get_or, Option, refl, sym, ap, subst, ◌∙◌, arith, append_assoc}
+use Rattle.std.proofs.Common.{◌≡◌, ◌≤◌, ◌<◌, ◌+◌, ℕ, Bool, true, false, List, [], ◌∷◌, ◌++◌, drop, length, get_or, Option, Result, Ok, Err, IfOk, IsTrue, rules, refl, sym, ap, subst, ◌∙◌, arith, append_assoc}
 use Rattle.std.proofs.lemmas.List.{drop_more, drop_all}
+use Rattle.std.proofs.lemmas.List.Elements.{All-cons, All-head, All-nil, All-tail}
 use Rattle.kmip_session.specs.declared.campaigning.Run.{Run}
 use Rattle.kmip_session.specs.declared.campaigning.Start.{Start}
+use Rattle.kmip_session.specs.declared.campaigning.Start.TheVariants.{Fresh, Same}
+use Rattle.kmip_session.specs.Campaign.{MayBatch}
+use Rattle.kmip_batches.specs.Members.{may_have}
 use Rattle.kmip_scripted.specs.declared.runs.Part.{Part}
 use Rattle.kmip_scripted.specs.declared.script.Word.{Word}
+use Rattle.kmip_scripted.specs.declared.script.Word.TheVariants as words
 use Rattle.kmip_scripted.specs.declared.script.Word.TheVariants.{Restart}
-use Rattle.kmip_scripted.specs.Runs.{grown, left_of, runs_from, start_at}
+use Rattle.kmip_scripted.specs.Runs.{grown, left_of, runs_from, start_at, with_last_saved, with_word}
 
 -- no exchange more
 pub grown_none : (runs : List Run) → grown 0 runs ≡ runs
 grown_none [] = refl
 grown_none (run ∷ runs) =
     let same : 0 + run.limit ≡ run.limit = omega arith in
-    ap (λ n. record { start = run.start; limit = n; save = run.save } ∷ runs) same
+    ap (λ n. record { start = run.start; limit = n; batch = run.batch; save = run.save } ∷ runs) same
 
 -- the word ends a run that is not saved
 ended_at : (more : ℕ) (part : Part) (begun : Bool) (next : Option ℕ) (rest : List Word) (old new : List Run) → begun ≡ true
-    → new ≡ old ++ record { start = part.start; limit = part.limit; save = false } ∷ []
+    → new ≡ old ++ record { start = part.start; limit = part.limit; batch = 1; save = false } ∷ []
     → new ++ runs_from more false (start_at next) rest ≡ old ++ grown part.limit (runs_from more begun part.start (Restart next ∷ rest))
 ended_at more part true next rest old new is joined =
     let whole : part.limit + 0 ≡ part.limit = omega arith in
     ap (λ runs. runs ++ runs_from more false (start_at next) rest) joined
-    ∙ append_assoc old (record { start = part.start; limit = part.limit; save = false } ∷ []) (runs_from more false (start_at next) rest)
-    ∙ ap (λ n. old ++ record { start = part.start; limit = n; save = false } ∷ runs_from more false (start_at next) rest) (sym whole)
+    ∙ append_assoc old (record { start = part.start; limit = part.limit; batch = 1; save = false } ∷ []) (runs_from more false (start_at next) rest)
+    ∙ ap (λ n. old ++ record { start = part.start; limit = n; batch = 1; save = false } ∷ runs_from more false (start_at next) rest) (sym whole)
 ended_at more part false next rest old new is joined = absurd cc
 
 -- what is noted of a word, and then what is left, is what was left with the word
@@ -39,7 +44,7 @@ restarts_by part next old new same word after word_is after_is =
 
 pub ended : (part : Part) (word : Word) (next : Option ℕ) (old new : List Run) (after : Part) → word ≡ Restart next
     → after ≡ record { start = start_at next; limit = 0; begun = false } → part.begun ≡ true
-    → new ≡ old ++ record { start = part.start; limit = part.limit; save = false } ∷ [] → Restarts part word old new after
+    → new ≡ old ++ record { start = part.start; limit = part.limit; batch = 1; save = false } ∷ [] → Restarts part word old new after
 ended part word next old new after word_is after_is is joined =
     restarts_by part next old new (λ more rest. ended_at more part part.begun next rest old new is joined) word after word_is after_is
 
@@ -84,10 +89,52 @@ one_taken start words given place word old new runs runs' are below so_far limit
 }
 
 pub all_taken : (start : Start) (words : List Word) (place : ℕ) (part : Part) (more : ℕ) (run : Run) (runs new : List Run) → length words ≤ place
-    → AreTaken start words place part runs → run ≡ record { start = part.start; limit = part.limit + more; save = false }
+    → AreTaken start words place part runs → run ≡ record { start = part.start; limit = part.limit + more; batch = 1; save = false }
     → new ≡ runs ++ run ∷ [] → new ≡ runs_from more false start words
 all_taken start words place part more run runs new past taken is joined =
     joined
     ∙ ap (λ last. runs ++ last ∷ []) is
     ∙ ap (λ left. runs ++ left_of more part left) (sym (drop_all place words past))
     ∙ taken.same more
+
+-- ---- each asks about one key at once
+
+one_more : (word : Word) (runs : List Run) → MayBatch runs → MayBatch (with_word word runs)
+one_more word [] may = may
+one_more word (run ∷ runs) may =
+    All-cons (λ (r : Run). IsTrue (may_have r.batch)) _ runs (All-head (λ (r : Run). IsTrue (may_have r.batch)) run runs may)
+    (All-tail (λ (r : Run). IsTrue (may_have r.batch)) run runs may)
+
+one_first : (start : Start) (limit : ℕ) (save : Bool) (runs : List Run) → MayBatch runs → MayBatch (record { start = start; limit = limit; batch = 1; save = save } ∷ runs)
+one_first start limit save runs may = All-cons (λ (r : Run). IsTrue (may_have r.batch)) (record { start = start; limit = limit; batch = 1; save = save }) runs (search rules) may
+
+pub runs_may : (more : ℕ) (begun : Bool) (start : Start) (ws : List Word) → MayBatch (runs_from more begun start ws)
+runs_may more begun start [] = one_first start more false [] (All-nil (λ (r : Run). IsTrue (may_have r.batch)))
+runs_may more begun start (words.Save ∷ rest) = one_first start 0 true (runs_from more false Same rest) (runs_may more false Same rest)
+runs_may more begun start (words.Prolong ∷ rest) = one_first start 0 true (runs_from more false Same rest) (runs_may more false Same rest)
+runs_may more true start (words.Restart next ∷ rest) = one_first start 0 false (runs_from more false (start_at next) rest) (runs_may more false (start_at next) rest)
+runs_may more false start (words.Restart next ∷ rest) = runs_may more false (start_at next) rest
+runs_may more begun start (words.Pass ∷ rest) = one_more words.Pass (runs_from more true start rest) (runs_may more true start rest)
+runs_may more begun start (words.LoseRequest ∷ rest) = one_more words.LoseRequest (runs_from more true start rest) (runs_may more true start rest)
+runs_may more begun start (words.LoseReply ∷ rest) = one_more words.LoseReply (runs_from more true start rest) (runs_may more true start rest)
+runs_may more begun start (words.Cut size ∷ rest) = one_more (words.Cut size) (runs_from more true start rest) (runs_may more true start rest)
+runs_may more begun start (words.Stale number ∷ rest) = one_more (words.Stale number) (runs_from more true start rest) (runs_may more true start rest)
+runs_may more begun start (words.Again number ∷ rest) = one_more (words.Again number) (runs_from more true start rest) (runs_may more true start rest)
+
+saved_may : (runs : List Run) → MayBatch runs → MayBatch (with_last_saved runs)
+saved_may [] may = may
+saved_may (run ∷ []) may = one_kept run [] (All-head (λ (r : Run). IsTrue (may_have r.batch)) run [] may) may
+  where
+    one_kept : (run : Run) (runs : List Run) → IsTrue (may_have run.batch) → MayBatch (run ∷ runs) → MayBatch (record run { save = true } ∷ runs)
+    one_kept run runs own may =
+        All-cons (λ (r : Run). IsTrue (may_have r.batch)) (record run { save = true }) runs own (All-tail (λ (r : Run). IsTrue (may_have r.batch)) run runs may)
+saved_may (run ∷ other ∷ runs) may =
+    All-cons (λ (r : Run). IsTrue (may_have r.batch)) run (with_last_saved (other ∷ runs)) (All-head (λ (r : Run). IsTrue (may_have r.batch)) run (other ∷ runs) may)
+    (saved_may (other ∷ runs) (All-tail (λ (r : Run). IsTrue (may_have r.batch)) run (other ∷ runs) may))
+
+pub before_may : (ws : List Word) → MayBatch (with_last_saved (runs_from 0 false Fresh ws))
+before_may ws = saved_may (runs_from 0 false Fresh ws) (runs_may 0 false Fresh ws)
+
+pub if_ok : {A E : Type 0} (P Q : A → Type 0) (r : Result A E) → ((x : A) → P x → Q x) → IfOk r P → IfOk r Q
+if_ok P Q (Ok x) to holds = to x holds
+if_ok P Q (Err e) to holds = tt

@@ -27,10 +27,10 @@ with_word word (run ∷ runs) = record run { limit = (if is_exchange word then 1
 -- no run only says what the next one begins with; `prolong` ends a run as `save` does. No word ends the last run, which may make `more`
 -- exchanges than it has words for.
 abbrev pub runs_from : ℕ → Bool → Start → List Word → List Run
-runs_from more begun start [] = record { start = start; limit = more; save = false } ∷ []
-runs_from more begun start (Save ∷ words) = record { start = start; limit = 0; save = true } ∷ runs_from more false Same words
-runs_from more begun start (Prolong ∷ words) = record { start = start; limit = 0; save = true } ∷ runs_from more false Same words
-runs_from more true start (Restart next ∷ words) = record { start = start; limit = 0; save = false } ∷ runs_from more false (start_at next) words
+runs_from more begun start [] = record { start = start; limit = more; batch = 1; save = false } ∷ []
+runs_from more begun start (Save ∷ words) = record { start = start; limit = 0; batch = 1; save = true } ∷ runs_from more false Same words
+runs_from more begun start (Prolong ∷ words) = record { start = start; limit = 0; batch = 1; save = true } ∷ runs_from more false Same words
+runs_from more true start (Restart next ∷ words) = record { start = start; limit = 0; batch = 1; save = false } ∷ runs_from more false (start_at next) words
 runs_from more false start (Restart next ∷ words) = runs_from more false (start_at next) words
 runs_from more begun start (word ∷ words) = with_word word (runs_from more true start words)
 

@@ -23,8 +23,9 @@ pub record Scene : Type 0 where
   pub sent : List (List ℕ)
   pub followed : List Word
   pub handed : List (Option (List ℕ))
-  -- how many exchanges were disturbed, and how many of those handed over a reply about another key
+  -- how many exchanges were disturbed, how many requests these sent, and how many replies about other keys they handed over
   pub disturbed : ℕ
+  pub disturbed_requests : ℕ
   pub strange : ℕ
   -- how many had been sent where each run ended
   pub ended : List ℕ
@@ -45,14 +46,27 @@ past_in s = record {
 
 -- where nothing has happened over a server, with these words left
 abbrev pub scene_of : Stock → List Word → Scene
-scene_of stock words = record { stock = stock; asked = []; given = []; effects = []; sent = []; followed = []; handed = []; disturbed = 0; strange = 0; ended = []; words = words }
+scene_of stock words = record {
+  stock = stock;
+  asked = [];
+  given = [];
+  effects = [];
+  sent = [];
+  followed = [];
+  handed = [];
+  disturbed = 0;
+  disturbed_requests = 0;
+  strange = 0;
+  ended = [];
+  words = words;
+}
 
--- how many exchanges were disturbed
+-- how many exchanges were disturbed, with their requests and their strange replies
 abbrev pub disturbances_in : Scene → Disturbances
-disturbances_in s = record { disturbed = s.disturbed; strange = s.strange }
+disturbances_in s = record { disturbed = s.disturbed; requests = s.disturbed_requests; strange = s.strange }
 
 abbrev pub with_disturbances : Disturbances → Scene → Scene
-with_disturbances d s = record s { disturbed = d.disturbed; strange = d.strange }
+with_disturbances d s = record s { disturbed = d.disturbed; disturbed_requests = d.requests; strange = d.strange }
 
 -- Private: the requests of a message were all asked.
 abbrev pub WasAsked : List ℕ → Scene → Type 0

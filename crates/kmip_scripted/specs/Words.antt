@@ -3,8 +3,9 @@
 use Rattle.std.specs.Prelude.{◌≡◌, ◌⊎◌, ◌==◌, ◌-◌, ◌<◌, ℕ, nat_le, pos, Bool, true, false, not, ◌&&◌, List, [], ◌∷◌, ◌++◌, filter, length, Option, Some, None, if◌then◌else◌}
 use Rattle.std.specs.List.{slice_get}
 use Rattle.std.specs.Option.{option_flatten}
+use Rattle.kmip_batches.specs.Items.{requests_in}
 use Rattle.kmip_server.specs.Batching.{batch_reply}
-use Rattle.kmip_schedule.specs.Clean.{hands_strange}
+use Rattle.kmip_schedule.specs.Clean.{strange_handed}
 use Rattle.kmip_scripted.specs.declared.script.Word.{Word}
 use Rattle.kmip_scripted.specs.declared.script.Word.TheVariants.{Pass, LoseRequest, LoseReply, Cut, Stale, Again, Save, Prolong, Restart}
 use Rattle.kmip_losses.specs.Counting.{counted, every_name}
@@ -126,10 +127,14 @@ abbrev pub with_handed : List ℕ → Word → Option (List ℕ) × Scene → Op
 with_handed request word p =
     (p.0, record p.1 { sent = p.1.sent ++ request ∷ []; followed = p.1.followed ++ word ∷ []; handed = p.1.handed ++ p.0 ∷ [] })
 
--- the exchange is counted, where it was disturbed: by the words before it, its own word and what it hands over
+-- the exchange is counted, where it was disturbed: by the words before it, its own word and what it hands over; with its requests, and the
+-- strange replies among what it hands over
 abbrev pub with_counted : List ℕ → Bool → Word → Option (List ℕ) × Scene → Option (List ℕ) × Scene
-with_counted request repeated word p =
-    (p.0, with_disturbances (counted (is_disturbed word repeated p.0) (hands_strange every_name request p.0) (disturbances_in p.1)) p.1)
+with_counted request repeated word p = (
+  p.0,
+  with_disturbances
+      (counted (is_disturbed word repeated p.0) (length (requests_in request)) (strange_handed every_name request p.0) (disturbances_in p.1)) p.1,
+)
 
 -- what an exchange hands over, and what it leaves
 abbrev pub exchange : List ℕ → Scene → Option (List ℕ) × Scene

@@ -1,7 +1,8 @@
 //! The exchanges that go amiss, and so are counted as disturbed.
-ghost use Rattle.std.specs.Prelude.{◌≡◌, ◌==◌, ◌+◌, IfOk, option_map};
+ghost use Rattle.std.specs.Prelude.{◌≡◌, ◌==◌, ◌+◌, IfOk, length, option_map};
+ghost use Rattle.kmip_batches.specs.Items.{requests_in};
 ghost use Rattle.kmip_losses.specs.Counting.{counted, every_name};
-ghost use Rattle.kmip_schedule.specs.Clean.{hands_strange};
+ghost use Rattle.kmip_schedule.specs.Clean.{strange_handed};
 ghost use Rattle.kmip_scripted.specs.Disturbing.{is_disturbed, is_pass, is_repeated};
 
 use crate::script::Word;
@@ -25,7 +26,8 @@ pub(crate) fn counts_after(
 ) -> Result<Counts, NoMemory>
     ensures { IfOk result (λ c. c ≡ counted
         (is_disturbed word repeated (option_map (λ m. m.now) answer.entry))
-        (hands_strange every_name request.now (option_map (λ m. m.now) answer.entry)) counts) }
+        (length (requests_in request.now))
+        (strange_handed every_name request.now (option_map (λ m. m.now) answer.entry)) counts) }
 {
     let amiss = !is_pass(word) || repeated;
     kmip_losses::counts_after(alloc, counts, request, amiss, answer)

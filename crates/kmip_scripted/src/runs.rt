@@ -1,8 +1,8 @@
 //! The runs that a script makes.
 ghost use Rattle.std.specs.Prelude.{◌≡◌, ◌≤◌, ◌<◌, ◌+◌, ◌*◌, ◌++◌, [], ◌∷◌, List, ℕ, false, filter, length, map, OnOk, IfOk};
-ghost use Rattle.std.specs.List.{position};
+ghost use Rattle.std.specs.List.{All, position};
 ghost use Rattle.kmip_plan.specs.Limits.{most_keys};
-ghost use Rattle.kmip_session.specs.Campaign.{saves};
+ghost use Rattle.kmip_session.specs.Campaign.{MayBatch, saves};
 ghost use Rattle.kmip_session.specs.declared.campaigning.Start.TheVariants.{Fresh};
 ghost use Rattle.kmip_scripted.specs.Runs.{left_of, lists_of, runs_from, runs_of, start_at, with_last_saved, words_before, words_behind};
 ghost use Rattle.kmip_scripted.specs.Words.{is_prolong, prolongings};
@@ -20,13 +20,14 @@ impl Script {
     /// that is saved, and the next one goes on from there; `restart` ends one that is not, and says
     /// what the next begins with. A `restart` that no other word stands before makes no run. A run
     /// may make as many exchanges as it has words of exchanges; the last one, which no word ends,
-    /// as many more as the plan's bound.
+    /// as many more as the plan's bound. Each asks about one key at once.
     ///
     /// # Errors
     /// Where there is no memory for them.
     pub fn runs(&self, alloc: Global, plan: &Plan) -> Result<Vec<Run>, NoMemory>
         requires none { prolongings self.now ≡ 0 }
-        ensures { IfOk result (λ runs. runs.items ≡ runs_of plan.now self.now) }
+        ensures runs { IfOk result (λ runs. runs.items ≡ runs_of plan.now self.now) }
+        ensures batches { IfOk result (λ runs. MayBatch runs.items) }
     {
         runs_from(alloc, self.words(), Start::Fresh, bound(plan))
     }
@@ -41,8 +42,9 @@ impl Script {
     /// Where there is no memory for them.
     pub fn lists(&self, alloc: Global, plan: &Plan) -> Result<Vec<Vec<Run>>, NoMemory>
         requires one { prolongings self.now ≡ 1 }
-        ensures { IfOk result (λ lists.
+        ensures lists { IfOk result (λ lists.
             map (λ runs. runs.items) lists.items ≡ lists_of plan.now self.now) }
+        ensures batches { IfOk result (λ lists. All (λ runs. MayBatch runs.items) lists.items) }
     {
         let (first, further) = parts(self.words());
         let before = runs_before(alloc, first)?;
@@ -139,11 +141,12 @@ impl Part {
 
     /// The run, where no further word is taken.
     fn run(self, save: bool) -> Run
-        ensures { result ≡ record { start = self.start; limit = self.limit; save = save } }
+        ensures { result ≡ record { start = self.start; limit = self.limit; batch = 1; save = save } }
     {
         Run {
             start: self.start,
             limit: self.limit,
+            batch: 1,
             save,
         }
     }

@@ -1,10 +1,10 @@
 //! A link in memory that follows a script.
 ghost use Rattle.std.specs.Prelude.{◌≡◌, ℕ, List, ◌++◌, [], ◌∷◌, pos, drop, length, IfOk, OnErr, OnOk, option_map};
-ghost use Rattle.kmip_batches.specs.Items.{parts_in, replies_in, stops_in};
+ghost use Rattle.kmip_batches.specs.Items.{parts_in, replies_in, requests_in, stops_in};
 ghost use Rattle.kmip_server.specs.Batching.{AreServedInTurn, batch_reply, effects_in};
 ghost use Rattle.kmip_server.specs.Shown.{HasLawfulObjects};
 ghost use Rattle.kmip_schedule.specs.Calm.{AreTaken};
-ghost use Rattle.kmip_schedule.specs.Clean.{hands_strange};
+ghost use Rattle.kmip_schedule.specs.Clean.{strange_handed};
 ghost use Rattle.kmip_schedule.specs.Moves.{Delivered};
 ghost use Rattle.kmip_schedule.specs.Past.{Names};
 ghost use Rattle.kmip_losses.specs.Counting.{counted, every_name};
@@ -58,6 +58,7 @@ impl<S: Records> Model for Scripted<S> {
       followed = s.followed.items;
       handed = s.handed.items;
       disturbed = s.counts.disturbed;
+      disturbed_requests = s.counts.requests;
       strange = s.counts.strange;
       ended = s.ended.items;
       words = s.words.items;
@@ -81,6 +82,7 @@ impl<S: Records> Scripted<S> {
             handed: Vec::new(alloc),
             counts: Counts {
                 disturbed: 0,
+                requests: 0,
                 strange: 0,
             },
             ended: Vec::new(alloc),
@@ -146,7 +148,14 @@ impl<S: Records> Scripted<S> {
         self.counts.disturbed
     }
 
-    /// How many of those handed over a reply about another key than the request was about.
+    /// How many requests the disturbed exchanges sent.
+    pub fn disturbed_requests(&self) -> usize
+        ensures { result ≡ self.now.disturbed_requests }
+    {
+        self.counts.requests
+    }
+
+    /// How many replies the disturbed exchanges handed over about other keys than their requests.
     pub fn strange(&self) -> usize
         ensures { result ≡ self.now.strange }
     {
@@ -301,7 +310,8 @@ impl<S: Records> Scripted<S> {
     ) -> Result<Counts, NoMemory>
         ensures { IfOk result (λ c. c ≡ counted
             (is_disturbed word repeated (option_map (λ m. m.now) answer.entry))
-            (hands_strange every_name request.now (option_map (λ m. m.now) answer.entry))
+            (length (requests_in request.now))
+            (strange_handed every_name request.now (option_map (λ m. m.now) answer.entry))
             (disturbances_in self.now)) }
     {
         counts_after(alloc, self.counts, request, word, repeated, answer)

@@ -12,7 +12,7 @@ use Rattle.kmip_settling.specs.Needs.{missing}
 use Rattle.kmip_settling.specs.Ready.{IsReady}
 use Rattle.kmip_session.specs.Campaign.{CalmLink}
 use Rattle.kmip_session.specs.CampaignParts.{CampaignLaws, HasSettled, IsNoted, Standing}
-use Rattle.kmip_session.specs.Driving.{IsGood, IsSettling, need}
+use Rattle.kmip_session.specs.Driving.{AsksOne, IsGood, IsSettling, Nearer, need}
 use Rattle.kmip_session.specs.declared.campaigning.Run.{Run}
 use Rattle.kmip_session.specs.declared.campaigning.RunEnd.{RunEnd}
 use Rattle.kmip_session.specs.declared.stop.Stop.{Stop}
@@ -36,8 +36,8 @@ module _ {L : Type 0} (past : L → Past) (honest calm : L → Names → Type 0)
       → (All (TrueProgress (past x).objects keys) saved → Held (past x).objects a.keys a.knowns → Held (past x).objects b.keys b.knowns)
       → (IsGood past honest b x → IsGood past honest c y)
       → (IsSettling past calm b x → bound b.keys ≤ run.limit → driven.0 ≢ stops.NoMemory
-      → (driven.0 ≡ stops.AllFinished) × (driven.1 ≡ need b (past x)) × (driven.1 ≤ bound b.keys))
-      → (IsSettling past calm b x → driven.0 ≢ stops.NoMemory → IsSettling past calm c y × (driven.1 + need c (past y) ≡ need b (past x)))
+      → (driven.0 ≡ stops.AllFinished) × (driven.1 ≤ need b (past x)) × (AsksOne b → driven.1 ≡ need b (past x)) × (driven.1 ≤ bound b.keys))
+      → (IsSettling past calm b x → driven.0 ≢ stops.NoMemory → Nearer past calm b c x y driven.1)
       → driven.0 ≢ stops.NoMemory → IsNoted c.keys run c.knowns driven ends nexts
       → ((names : Names) → calm y names → calm z names × OnOk closed (past z ≡ past y)) → Standing past honest keys a x ends saved → CalmLink past calm keys x
       → OnOk closed (HasSettled keys run ends nexts × CalmLink past calm keys z)
@@ -45,7 +45,7 @@ module _ {L : Type 0} (past : L → Past) (honest calm : L → Names → Type 0)
       let held = begun standing.noted.true_saved standing.good.held in
       let after = good (good_with past honest a b x (b_keys ∙ sym a_keys) standing.good held) in
       let settling = settling_from l b x b_keys calmly held in
-      let still = (calms settling memory).0 in
+      let still = (calms settling memory).settling in
       let close = closes (is_planned keys) (subst (λ ks. calm y (is_planned ks)) c_keys still.calm_for) in
       on_ok closed
       (λ same. (
@@ -55,7 +55,7 @@ module _ {L : Type 0} (past : L → Past) (honest calm : L → Names → Type 0)
           settles = λ enough.
               let settled = settles settling (subst (λ ks. bound ks ≤ run.limit) (sym b_keys) enough) memory in (
                 noted.stop_is ∙ settled.0,
-                subst (λ n. n ≤ bound keys) (sym noted.exchanges_is) (subst (λ ks. driven.1 ≤ bound ks) b_keys settled.2),
+                subst (λ n. n ≤ bound keys) (sym noted.exchanges_is) (subst (λ ks. driven.1 ≤ bound ks) b_keys settled.3),
               );
         },
         record {

@@ -18,7 +18,7 @@ use Rattle.kmip_knowledge.specs.declared.knowledge.Verdict.TheVariants.{Finished
 use Rattle.kmip_schedule.specs.Past.{Names, Past}
 use Rattle.kmip_settling.specs.Needs.{chains_and_looks, need_all}
 use Rattle.kmip_settling.specs.Ready.{IsReady}
-use Rattle.kmip_session.specs.Driving.{AreFinished, IsComplete, IsSettling, IsUntouched, need}
+use Rattle.kmip_session.specs.Driving.{AreFinished, AsksOne, IsComplete, IsSettling, IsUntouched, need}
 use Rattle.kmip_session.specs.Lawbook.{Lawbook}
 
 clash_unfinished : {X : Type 0} (clash : Option Clash) → clash_verdict clash ≡ Finished → X
@@ -95,11 +95,13 @@ module _ {L : Type 0} (past : L → Past) (calm : L → Names → Type 0) where
   )
 
   pub completed : Lawbook → (c next : ClientState) (x y : L) (made : ℕ) → IsLawful c.keys → IsUntouched past calm c x → IsSettling past calm next y
-      → next.keys ≡ c.keys → made ≡ need c (past x) → AreFinished next.keys next.knowns
-      → (made ≡ chains_and_looks c.keys) × IsComplete c.keys (past y).objects next.knowns
-  completed l c next x y made lawful start settling keys exact finished = (
-    exact ∙ (untouched_settles l c x lawful start).1,
-    complete l c.keys (past y).objects next.knowns lawful
-        (subst (λ ks. Held (past y).objects ks next.knowns) keys settling.ready.held)
-        (subst (λ ks. AreFinished ks next.knowns) keys finished),
-  )
+      → next.keys ≡ c.keys → made ≤ need c (past x) → (AsksOne c → made ≡ need c (past x)) → AreFinished next.keys next.knowns
+      → (made ≤ chains_and_looks c.keys) × (AsksOne c → made ≡ chains_and_looks c.keys) × IsComplete c.keys (past y).objects next.knowns
+  completed l c next x y made lawful start settling keys few exactly finished =
+      let chains = (untouched_settles l c x lawful start).1 in (
+        omega (arith, few, chains),
+        λ one. exactly one ∙ chains,
+        complete l c.keys (past y).objects next.knowns lawful
+            (subst (λ ks. Held (past y).objects ks next.knowns) keys settling.ready.held)
+            (subst (λ ks. AreFinished ks next.knowns) keys finished),
+      )

@@ -1,18 +1,30 @@
 -- What is kept over several exchanges.
-use Rattle.std.proofs.Common.{◌≡◌, ◌≢◌, ◌≤◌, ℕ, ◌+◌, List, length, subst, sym, arith}
+use Rattle.std.proofs.Common.{◌≡◌, ◌≢◌, ◌≤◌, ℕ, ◌+◌, List, length, ap, subst, sym, inl, inr, ◌∙◌, arith}
 use Rattle.std.specs.Prelude.{⊤}
 use Rattle.kmip_chains.specs.declared.key.Key.{Key}
 use Rattle.kmip_client.specs.Clients.{AreSettled, ClientState}
 use Rattle.kmip_client.specs.Known.{facts}
+use Rattle.kmip_knowledge.specs.declared.knowledge.Knowledge.{Knowledge}
 use Rattle.kmip_schedule.specs.Past.{Names, Past, is_planned}
-use Rattle.kmip_session.specs.Driving.{Grown, IsBrokenOff, IsGood, IsSettling, Keeps, KeepsFurther, Learnt, SomeClash, Stands, WentOn}
+use Rattle.kmip_session.specs.Driving.{AsksOne, Grown, IsBrokenOff, IsGood, IsSettling, Keeps, KeepsFurther, Learnt, Nearer, SomeClash, Stands, WentOn}
 use Rattle.kmip_session.specs.Lawbook.{Lawbook}
 use Rattle.kmip_session.specs.declared.stop.Stop.{Stop}
 use Rattle.kmip_session.specs.declared.stop.Stop.TheVariants as stops
 use Rattle.kmip_session.proofs.FurtherLemmas.{further_nowhere, further_then}
 use Rattle.kmip_session.proofs.GoodLemmas.{keeps_itself, keeps_then, went_nowhere, went_then}
-use Rattle.kmip_session.proofs.SettleLemmas.{Nearer, nearer_none, nearer_then}
+use Rattle.kmip_session.proofs.SettleLemmas.{nearer_none, nearer_then}
 use Rattle.kmip_session.proofs.KnownLemmas.{grown_itself, grown_then, learnt_long, learnt_nothing, learnt_still, learnt_then, stays_itself}
+
+-- of the plan and the number of keys that stay
+learnt_of : (keys own : List Key) (most many : ℕ) (old new : Past) (knowns nexts : List Knowledge) (n : ℕ) → own ≡ keys → many ≡ most
+    → Learnt own many old new knowns nexts n → Learnt keys most old new knowns nexts n
+learnt_of keys own most many old new knowns nexts n same batch learnt =
+    subst (λ ks. Learnt ks most old new knowns nexts n) same (subst (λ b. Learnt own b old new knowns nexts n) batch learnt)
+
+-- so does who asks one key at once
+pub asks_one : (a b : ClientState) → Keeps a b → AsksOne a → AsksOne b
+asks_one a b keeps (inl one) = inl (keeps.batch_stays ∙ one)
+asks_one a b keeps (inr alone) = inr (ap length keeps.keys_stay ∙ alone)
 
 module _ {L : Type 0} (past : L → Past) (honest calm : L → Names → Type 0) where
   -- after so many exchanges
@@ -20,7 +32,7 @@ module _ {L : Type 0} (past : L → Past) (honest calm : L → Names → Type 0)
     pub good : IsGood past honest first start → IsGood past honest now link
     pub goes : IsGood past honest first start → WentOn first.keys (past start) (past link)
     pub known : honest start (is_planned first.keys)
-        → honest link (is_planned first.keys) × Learnt first.keys (past start) (past link) first.knowns now.knowns made
+        → honest link (is_planned first.keys) × Learnt first.keys first.batch (past start) (past link) first.knowns now.knowns made
     pub grown : honest start (is_planned first.keys) → Grown (past start) (past link)
     pub keeps : Keeps first now
     pub near : IsSettling past calm first start → Nearer past calm first now start link made
@@ -31,7 +43,7 @@ module _ {L : Type 0} (past : L → Past) (honest calm : L → Names → Type 0)
   driven_none l c link = record {
     good = λ good. good;
     goes = λ good. went_nowhere l c.keys (past link);
-    known = λ holds. (holds, learnt_nothing c.keys (past link) c.knowns);
+    known = λ holds. (holds, learnt_nothing c.keys c.batch (past link) c.knowns);
     grown = λ holds. grown_itself (past link);
     keeps = keeps_itself c;
     near = nearer_none past calm c link;
@@ -60,8 +72,8 @@ module _ {L : Type 0} (past : L → Past) (honest calm : L → Names → Type 0)
         let before = first.known holds in
         let after = second.known (subst (λ ks. honest y (is_planned ks)) (sym first.keeps.keys_stay) before.0) in (
           subst (λ ks. honest z (is_planned ks)) first.keeps.keys_stay after.0,
-          learnt_then l.blind a.keys (past x) (past y) (past z) a.knowns b.knowns c.knowns m n before.1
-              (subst (λ ks. Learnt ks (past y) (past z) b.knowns c.knowns n) first.keeps.keys_stay after.1),
+          learnt_then l.blind a.keys a.batch (past x) (past y) (past z) a.knowns b.knowns c.knowns m n before.1
+              (learnt_of a.keys b.keys a.batch b.batch (past y) (past z) b.knowns c.knowns n first.keeps.keys_stay first.keeps.batch_stays after.1),
         );
     grown = λ holds.
         grown_then (past x) (past y) (past z) (first.grown holds)
@@ -69,41 +81,42 @@ module _ {L : Type 0} (past : L → Past) (honest calm : L → Names → Type 0)
     keeps = keeps_then a b c first.keeps second.keeps;
     near = λ settling.
         let before = first.near settling in
-        nearer_then past calm a b c x y z m n before (second.near before.0);
+        nearer_then past calm a b c x y z m n (asks_one a b first.keeps) before (second.near before.settling);
     honest_still = λ names holds. second.honest_still names (first.honest_still names holds);
     further = further_last l a b c x y z m ⊤ first second.further;
   }
 
   -- and a last turn that asked nothing
   pub known_end : Lawbook → (a b c : ClientState) (x y z : L) (m : ℕ) → Driven a b x y m
-      → (honest y (is_planned b.keys) → honest z (is_planned b.keys) × Learnt b.keys (past y) (past z) b.knowns c.knowns 0)
-      → honest x (is_planned a.keys) → honest z (is_planned a.keys) × Learnt a.keys (past x) (past z) a.knowns c.knowns m
+      → (honest y (is_planned b.keys) → honest z (is_planned b.keys) × Learnt b.keys b.batch (past y) (past z) b.knowns c.knowns 0)
+      → honest x (is_planned a.keys) → honest z (is_planned a.keys) × Learnt a.keys a.batch (past x) (past z) a.knowns c.knowns m
   known_end l a b c x y z m first last holds =
       let before = first.known holds in
       let after = last (subst (λ ks. honest y (is_planned ks)) (sym first.keeps.keys_stay) before.0) in
       let none : m + 0 ≡ m = omega arith in (
         subst (λ ks. honest z (is_planned ks)) first.keeps.keys_stay after.0,
-        subst (λ n. Learnt a.keys (past x) (past z) a.knowns c.knowns n) none
-            (learnt_then l.blind a.keys (past x) (past y) (past z) a.knowns b.knowns c.knowns m 0 before.1
-            (subst (λ ks. Learnt ks (past y) (past z) b.knowns c.knowns 0) first.keeps.keys_stay after.1)),
+        subst (λ n. Learnt a.keys a.batch (past x) (past z) a.knowns c.knowns n) none
+            (learnt_then l.blind a.keys a.batch (past x) (past y) (past z) a.knowns b.knowns c.knowns m 0 before.1
+            (learnt_of a.keys b.keys a.batch b.batch (past y) (past z) b.knowns c.knowns 0 first.keeps.keys_stay first.keeps.batch_stays after.1)),
       )
 
   -- and a last exchange in which memory ran out
   pub broken_end : (a b c : ClientState) (x y z : L) (m : ℕ) → Driven a b x y m
-      → (honest y (is_planned b.keys) → (facts c.knowns ≡ facts b.knowns) × IsBrokenOff b.keys (past y) (past z)) → honest x (is_planned a.keys)
-      → (between : Past) × Learnt a.keys (past x) between a.knowns c.knowns m × IsBrokenOff a.keys between (past z)
+      → (honest y (is_planned b.keys) → (facts c.knowns ≡ facts b.knowns) × IsBrokenOff b.keys b.batch (past y) (past z)) → honest x (is_planned a.keys)
+      → (between : Past) × Learnt a.keys a.batch (past x) between a.knowns c.knowns m × IsBrokenOff a.keys a.batch between (past z)
   broken_end a b c x y z m first last holds =
       let before = first.known holds in
       let off = last (subst (λ ks. honest y (is_planned ks)) (sym first.keeps.keys_stay) before.0) in (
         past y,
-        learnt_still a.keys (past x) (past y) (past y) a.knowns b.knowns c.knowns m before.1 (stays_itself (past y)) off.0,
-        subst (λ ks. IsBrokenOff ks (past y) (past z)) first.keeps.keys_stay off.1,
+        learnt_still a.keys a.batch (past x) (past y) (past y) a.knowns b.knowns c.knowns m before.1 (stays_itself (past y)) off.0,
+        subst (λ ks. IsBrokenOff ks a.batch (past y) (past z)) first.keeps.keys_stay
+            (subst (λ most. IsBrokenOff b.keys most (past y) (past z)) first.keeps.batch_stays off.1),
       )
 
   -- so few exchanges were made
   pub few_made : (a b : ClientState) (x y : L) (m limit : ℕ) → Driven a b x y m → m ≤ limit → honest x (is_planned a.keys) → length (past y).sent ≤ length (past x).sent + limit
   few_made a b x y m limit driven within holds =
-      let long = learnt_long a.keys (past x) (past y) a.knowns b.knowns m (driven.known holds).1 in
+      let long = learnt_long a.keys a.batch (past x) (past y) a.knowns b.knowns m (driven.known holds).1 in
       omega (arith, long, within)
 
   -- what is good is in no conflict

@@ -132,11 +132,11 @@ join_one end ends nexts whole sent made later last old mid new joined exchanges 
     }
 
 -- a run was driven, noted and ended
-pub join_run : (keys planned : List Key) (names : Names) (run : Run) (knowns nexts known : List Knowledge) (driven : Stop × ℕ) (x y z : Past) (old new : CampaignEnd) (whole : Type 0)
-    (ended mid after : List ℕ) → HasEnded planned run known driven old new → Learnt keys x y knowns nexts driven.1 → Delivered names y z → mid ≡ ended
+pub join_run : (keys planned : List Key) (most : ℕ) (names : Names) (run : Run) (knowns nexts known : List Knowledge) (driven : Stop × ℕ) (x y z : Past) (old new : CampaignEnd) (whole : Type 0)
+    (ended mid after : List ℕ) → HasEnded planned run known driven old new → Learnt keys most x y knowns nexts driven.1 → Delivered names y z → mid ≡ ended
     → (whole → EndedAt (length y.sent) mid after) → EndedAt (length y.sent) mid after ⊎ (after ≡ mid)
     → EndsJoin old.runs.items new.runs.items whole (length x.sent) (length z.sent) ended after
-join_run keys planned names run knowns nexts known driven x y z old new whole ended mid after noted learnt delivered same closed once =
+join_run keys planned most names run knowns nexts known driven x y z old new whole ended mid after noted learnt delivered same closed once =
     let n = noted.noted in
     join_one n.end old.runs.items new.runs.items whole (length x.sent) driven.1 (length y.sent) (length z.sent) ended mid after n.joined n.exchanges_is
-    (learnt_long keys x y knowns nexts driven.1 learnt) (ap length (delivered_stays names y z delivered).sent_stays) same closed once
+    (learnt_long keys most x y knowns nexts driven.1 learnt) (ap length (delivered_stays names y z delivered).sent_stays) same closed once

@@ -5,7 +5,8 @@ use Rattle.kmip_batches.specs.Items.{requests_in}
 use Rattle.kmip_plan.specs.Plans.{IsLawful}
 use Rattle.kmip_plan.specs.Prolonging.{Prolongs}
 use Rattle.kmip_chains.specs.declared.key.Key.{Key}
-use Rattle.kmip_client.specs.Clients.{ClientState, IsAbout}
+use Rattle.kmip_client.specs.Asking.{IsAbout}
+use Rattle.kmip_client.specs.Clients.{ClientState}
 use Rattle.kmip_client.specs.Justified.{Justified, JustifiedMessage}
 use Rattle.kmip_client.specs.Laws.{OnwardToItself, OnwardTwice}
 use Rattle.kmip_client.specs.declared.question.Question.{Question}
@@ -62,15 +63,15 @@ module _ {L : Type 0} (past : L → Past) (honest calm : L → Names → Type 0)
       )
 
   -- and answered
-  pub further_asked : Lawbook → (c : ClientState) (x y : L) (sent : List ℕ) (answered : Result (Option (List ℕ)) LinkFault) (question : Question) (whole : Type 0)
-      → IsLawful c.keys → IsAbout c.keys c.knowns question → sent ≡ question.bytes
+  pub further_asked : Lawbook → (c : ClientState) (x y : L) (sent : List ℕ) (answered : Result (Option (List ℕ)) LinkFault) (places : List ℕ) (question : Question)
+      (whole : Type 0) → IsLawful c.keys → IsAbout c.keys c.knowns places question → sent ≡ question.bytes
       → ((names : Names) → honest x names → honest y names × Exchanged names (past x) sent answered (past y))
       → ((names : Names) → calm x names → calm y names × CalmlyExchanged names (past x) sent answered (past y))
       → ((link : L) (names : Names) → calm link names → honest link names)
       → ((link : L) (names fewer : Names) → AreAmong fewer names → calm link names → calm link fewer)
       → (whole → (answer : Option (List ℕ)) × (or_loss answered ≡ Some answer))
       → JustifiedMessage c.keys (past x).objects sent → IsGood past honest c x → KeepsFurther past honest calm c.keys whole x y
-  further_asked l c x y sent answered question whole lawful_keys about bytes goes goes_calmly calm_honest calm_fewer answers just good = record {
+  further_asked l c x y sent answered places question whole lawful_keys about bytes goes goes_calmly calm_honest calm_fewer answers just good = record {
     good = λ further lawful prolongs far. asked_further l c.keys further x y sent answered lawful prolongs just goes far;
     calmly = λ is further lawful prolongs far.
         let far_good : GoodLink past honest further x = record { honest_for = calm_honest x (is_planned further) far.calm_for; sound = far.sound } in
@@ -87,7 +88,7 @@ module _ {L : Type 0} (past : L → Past) (honest calm : L → Names → Type 0)
         record {
           calm_for = step.0;
           sound = after.sound;
-          roomy = l.room further c.keys (is_planned c.keys) (past x) (past y) c.knowns question answer.0 lawful_keys lawful prolongs far.sound ready about done roomy;
+          roomy = l.room further c.keys (is_planned c.keys) (past x) (past y) c.knowns places question answer.0 lawful_keys lawful prolongs far.sound ready about done roomy;
         };
   }
 

@@ -4,7 +4,8 @@ use Rattle.std.specs.List.{AllZip}
 use Rattle.kmip_objects.specs.Objects.{Object}
 use Rattle.kmip_plan.specs.Plans.{IsLawful}
 use Rattle.kmip_chains.specs.declared.key.Key.{Key}
-use Rattle.kmip_client.specs.Clients.{ClientState, after_ask}
+use Rattle.kmip_client.specs.Asking.{after_ask}
+use Rattle.kmip_client.specs.Clients.{ClientState}
 use Rattle.kmip_client.specs.Held.{Held}
 use Rattle.kmip_client.specs.Justified.{JustifiedMessage}
 use Rattle.kmip_client.specs.Shapes.{IsKept}
@@ -41,14 +42,14 @@ kept_then (x ∷ a) (y ∷ b) (z ∷ c) first second = (
 )
 
 pub keeps_itself : (c : ClientState) → Keeps c c
-keeps_itself c = record { keys_stay = refl; kept = kept_itself c.knowns }
+keeps_itself c = record { keys_stay = refl; batch_stays = refl; kept = kept_itself c.knowns }
 
 pub keeps_then : (a b c : ClientState) → Keeps a b → Keeps b c → Keeps a c
 keeps_then a b c first second =
-    record { keys_stay = second.keys_stay ∙ first.keys_stay; kept = kept_then a.knowns b.knowns c.knowns first.kept second.kept }
+    record { keys_stay = second.keys_stay ∙ first.keys_stay; batch_stays = second.batch_stays ∙ first.batch_stays; kept = kept_then a.knowns b.knowns c.knowns first.kept second.kept }
 
 pub keeps_asked : (c next : ClientState) → next ≡ after_ask c → Keeps c next
-keeps_asked c next is = subst (λ n. Keeps c n) (sym is) (record { keys_stay = refl; kept = kept_itself c.knowns })
+keeps_asked c next is = subst (λ n. Keeps c n) (sym is) (record { keys_stay = refl; batch_stays = refl; kept = kept_itself c.knowns })
 
 -- ---- what goes on
 

@@ -4,10 +4,9 @@ use Rattle.std.proofs.lemmas.List.Elements.{All-append, All-cons, All-nil}
 use Rattle.std.proofs.lemmas.List.{length-append}
 use Rattle.std.proofs.lemmas.List.Concat.{flat_map-append}
 use Rattle.kmip_batches.specs.Items.{requests_in}
-use Rattle.kmip_plan.specs.Laws.{KeysAreFound}
-use Rattle.kmip_plan.specs.Plans.{IsLawful}
 use Rattle.kmip_chains.specs.declared.key.Key.{Key}
-use Rattle.kmip_client.specs.Clients.{ClientState, IsAbout, lost_at}
+use Rattle.kmip_client.specs.Asking.{IsAbout}
+use Rattle.kmip_client.specs.Clients.{ClientState}
 use Rattle.kmip_client.specs.Laws.{HearingIsBlind, LossesTeachNothing}
 use Rattle.kmip_knowledge.specs.declared.knowledge.Knowledge.{Knowledge}
 use Rattle.kmip_client.specs.declared.question.Question.{Question}
@@ -16,7 +15,7 @@ use Rattle.kmip_schedule.specs.Moves.{Delivered, Move, after_move, after_moves}
 use Rattle.kmip_schedule.specs.Past.{Names, Past}
 use Rattle.kmip_schedule.specs.declared.link.LinkFault.{LinkFault}
 use Rattle.kmip_schedule.specs.declared.link.LinkFault.TheVariants.{Io, Frame, NoMemory}
-use Rattle.kmip_session.specs.Driving.{Grown, IsBrokenOff, IsQuestion, Learnt}
+use Rattle.kmip_session.specs.Driving.{Grown, IsBrokenOff, IsQuestion, IsToBePut, Learnt}
 use Rattle.kmip_client.specs.Known.{facts, heard, known_after}
 use Rattle.kmip_schedule.specs.Losses.{or_loss}
 use Rattle.kmip_settling.specs.Turns.{taught}
@@ -29,8 +28,8 @@ known_append : (keys : List Key) (knowns : List Knowledge) (xs ys : List (Option
 known_append keys knowns [] ys = refl
 known_append keys knowns (x ∷ xs) ys = known_append keys (heard keys knowns x) xs ys
 
-pub learnt_nothing : (keys : List Key) (p : Past) (knowns : List Knowledge) → Learnt keys p p knowns knowns 0
-learnt_nothing keys p knowns = record {
+pub learnt_nothing : (keys : List Key) (most : ℕ) (p : Past) (knowns : List Knowledge) → Learnt keys most p p knowns knowns 0
+learnt_nothing keys most p knowns = record {
   questions = [];
   answers = [];
   sent_are = sym (append-nil p.sent);
@@ -38,7 +37,7 @@ learnt_nothing keys p knowns = record {
   requests_are = sym (append-nil p.requests);
   as_many_questions = refl;
   as_many_answers = refl;
-  each = All-nil (IsQuestion keys);
+  each = All-nil (IsQuestion keys most);
   known_is = refl;
 }
 
@@ -48,9 +47,9 @@ joined old between new xs ys first second = second ∙ ap (λ zs. zs ++ ys) firs
 as_many : {A : Type 0} (xs ys : List A) (m n : ℕ) → length xs ≡ m → length ys ≡ n → length (xs ++ ys) ≡ m + n
 as_many xs ys m n first second = length-append xs ys ∙ ap (λ k. k + length ys) first ∙ ap (λ k. m + k) second
 
-pub learnt_then : HearingIsBlind → (keys : List Key) (old between new : Past) (knowns known nexts : List Knowledge) (m n : ℕ) → Learnt keys old between knowns known m
-    → Learnt keys between new known nexts n → Learnt keys old new knowns nexts (m + n)
-learnt_then blind keys old between new knowns known nexts m n a b = record {
+pub learnt_then : HearingIsBlind → (keys : List Key) (most : ℕ) (old between new : Past) (knowns known nexts : List Knowledge) (m n : ℕ) → Learnt keys most old between knowns known m
+    → Learnt keys most between new known nexts n → Learnt keys most old new knowns nexts (m + n)
+learnt_then blind keys most old between new knowns known nexts m n a b = record {
   questions = a.questions ++ b.questions;
   answers = a.answers ++ b.answers;
   sent_are = joined old.sent between.sent new.sent a.questions b.questions a.sent_are b.sent_are;
@@ -60,7 +59,7 @@ learnt_then blind keys old between new knowns known nexts m n a b = record {
       ∙ ap (λ rs. old.requests ++ rs) (sym (flat_map-append requests_in a.questions b.questions));
   as_many_questions = as_many a.questions b.questions m n a.as_many_questions b.as_many_questions;
   as_many_answers = as_many a.answers b.answers m n a.as_many_answers b.as_many_answers;
-  each = All-append (IsQuestion keys) a.questions b.questions a.each b.each;
+  each = All-append (IsQuestion keys most) a.questions b.questions a.each b.each;
   known_is =
       b.known_is ∙ known_blind blind keys known (known_after keys knowns a.answers) b.answers a.known_is
       ∙ ap facts (sym (known_append keys knowns a.answers b.answers));
@@ -118,18 +117,21 @@ handed_asks names old new sent answer hands =
       ap (λ (p : Past). p.requests) hands.is ∙ stays.requests_stay,
     )
 
-asked_one : KeysAreFound → (c : ClientState) (question : Question) → IsLawful c.keys → IsAbout c.keys c.knowns question → IsQuestion c.keys question.bytes
-asked_one found c question lawful about = record {
-  key = about.key;
-  known = about.known;
-  is_planned = found c.keys question.key about.key lawful about.key_is;
+asked_one : (c : ClientState) (places : List ℕ) (question : Question) → IsAbout c.keys c.knowns places question → length places ≤ c.batch
+    → IsQuestion c.keys c.batch question.bytes
+asked_one c places question about few = record {
+  knowns = c.knowns;
+  places = places;
+  some = about.some;
+  few = few;
+  works = about.works;
+  apart = about.apart;
   written = about.written;
 }
 
-pub learnt_one : KeysAreFound → LossesTeachNothing → (names : Names) (c next : ClientState) (old new : Past) (question : Question) (answer : Option (List ℕ)) → IsLawful c.keys
-    → IsAbout c.keys c.knowns question → HandsOver names old question.bytes answer new → next ≡ taught question answer c
-    → Learnt c.keys old new c.knowns next.knowns 1
-learnt_one found lost names c next old new question answer lawful about hands is =
+pub learnt_one : LossesTeachNothing → (names : Names) (c next : ClientState) (old new : Past) (question : Question) (answer : Option (List ℕ)) → IsToBePut c question
+    → HandsOver names old question.bytes answer new → next ≡ taught question answer c → Learnt c.keys c.batch old new c.knowns next.knowns 1
+learnt_one lost names c next old new question answer put hands is =
     let asks = handed_asks names old new question.bytes answer hands in
     record {
       questions = question.bytes ∷ [];
@@ -139,14 +141,14 @@ learnt_one found lost names c next old new question answer lawful about hands is
       requests_are = asks.2 ∙ ap (λ rs. old.requests ++ rs) (sym (append-nil (requests_in question.bytes)));
       as_many_questions = refl;
       as_many_answers = refl;
-      each = All-cons (IsQuestion c.keys) question.bytes [] (asked_one found c question lawful about) (All-nil (IsQuestion c.keys));
-      known_is = ap (λ (s : ClientState). facts s.knowns) is ∙ taught_facts lost question answer c;
+      each = All-cons (IsQuestion c.keys c.batch) question.bytes [] (asked_one c put.places question put.about put.few) (All-nil (IsQuestion c.keys c.batch));
+      known_is = ap (λ (s : ClientState). facts s.knowns) is ∙ taught_facts lost c.keys question answer c.knowns;
     }
 
 -- what is neither asked, sent nor handed over, and teaches no fact, changes nothing of it
-pub learnt_still : (keys : List Key) (old between new : Past) (knowns known next : List Knowledge) (exchanges : ℕ) → Learnt keys old between knowns known exchanges
-    → Stays between new → facts next ≡ facts known → Learnt keys old new knowns next exchanges
-learnt_still keys old between new knowns known next exchanges learnt stays same = record {
+pub learnt_still : (keys : List Key) (most : ℕ) (old between new : Past) (knowns known next : List Knowledge) (exchanges : ℕ) → Learnt keys most old between knowns known exchanges
+    → Stays between new → facts next ≡ facts known → Learnt keys most old new knowns next exchanges
+learnt_still keys most old between new knowns known next exchanges learnt stays same = record {
   questions = learnt.questions;
   answers = learnt.answers;
   sent_are = stays.sent_stays ∙ learnt.sent_are;
@@ -172,19 +174,19 @@ always_err (Err fault) holds = holds
 
 -- ---- an exchange that broke off
 
-pub lost_facts : LossesTeachNothing → (c next : ClientState) (place : ℕ) → next ≡ lost_at c place → facts next.knowns ≡ facts c.knowns
-lost_facts lost c next place is = ap (λ (s : ClientState). facts s.knowns) is ∙ lost c place
+pub lost_facts : LossesTeachNothing → (c next : ClientState) (question : Question) → next ≡ taught question None c → facts next.knowns ≡ facts c.knowns
+lost_facts lost c next question is = ap (λ (s : ClientState). facts s.knowns) is ∙ taught_facts lost c.keys question None c.knowns
 
-pub broken_nowhere : (keys : List Key) (p : Past) → IsBrokenOff keys p p
-broken_nowhere keys p = inl (refl, (refl, refl))
+pub broken_nowhere : (keys : List Key) (most : ℕ) (p : Past) → IsBrokenOff keys most p p
+broken_nowhere keys most p = inl (refl, (refl, refl))
 
 -- before it came to its end
-pub broken_asked : KeysAreFound → (names : Names) (c : ClientState) (old new : Past) (question : Question) (answered : Result (Option (List ℕ)) LinkFault)
-    → IsLawful c.keys → IsAbout c.keys c.knowns question → or_loss answered ≡ None → Exchanged names old question.bytes answered new → IsBrokenOff c.keys old new
-broken_asked found names c old new question (Ok answer) lawful about none done = absurd cc
-broken_asked found names c old new question (Err Io) lawful about none done = absurd cc
-broken_asked found names c old new question (Err Frame) lawful about none done = absurd cc
-broken_asked found names c old new question (Err NoMemory) lawful about none done = elim done [
+pub broken_asked : (names : Names) (c : ClientState) (old new : Past) (question : Question) (answered : Result (Option (List ℕ)) LinkFault)
+    → IsToBePut c question → or_loss answered ≡ None → Exchanged names old question.bytes answered new → IsBrokenOff c.keys c.batch old new
+broken_asked names c old new question (Ok answer) put none done = absurd cc
+broken_asked names c old new question (Err Io) put none done = absurd cc
+broken_asked names c old new question (Err Frame) put none done = absurd cc
+broken_asked names c old new question (Err NoMemory) put none done = elim done [
   | inl before ↦
       let stays = delivered_stays names old new before in
       inl (stays.requests_stay, (stays.sent_stays, stays.handed_stays))
@@ -192,34 +194,34 @@ broken_asked found names c old new question (Err NoMemory) lawful about none don
       let stays = delivered_stays names (with_asked question.bytes old) new after in
       inr (record {
         question = question.bytes;
-        is_question = asked_one found c question lawful about;
+        is_question = asked_one c put.places question put.about put.few;
         requests_are = stays.requests_stay;
         ended = inl (stays.sent_stays, stays.handed_stays);
       })
 ]
 
 -- and behind it
-pub broken_handed : KeysAreFound → (names : Names) (c : ClientState) (old new : Past) (question : Question) (answer : Option (List ℕ)) → IsLawful c.keys
-    → IsAbout c.keys c.knowns question → HandsOver names old question.bytes answer new → IsBrokenOff c.keys old new
-broken_handed found names c old new question answer lawful about hands =
+pub broken_handed : (names : Names) (c : ClientState) (old new : Past) (question : Question) (answer : Option (List ℕ)) → IsToBePut c question
+    → HandsOver names old question.bytes answer new → IsBrokenOff c.keys c.batch old new
+broken_handed names c old new question answer put hands =
     let asks = handed_asks names old new question.bytes answer hands in
     inr (record {
       question = question.bytes;
-      is_question = asked_one found c question lawful about;
+      is_question = asked_one c put.places question put.about put.few;
       requests_are = asks.2;
       ended = inr (answer, asks.0, asks.1);
     })
 
 -- ---- how many were sent
 
-pub learnt_long : (keys : List Key) (old new : Past) (knowns nexts : List Knowledge) (exchanges : ℕ) → Learnt keys old new knowns nexts exchanges
+pub learnt_long : (keys : List Key) (most : ℕ) (old new : Past) (knowns nexts : List Knowledge) (exchanges : ℕ) → Learnt keys most old new knowns nexts exchanges
     → length new.sent ≡ length old.sent + exchanges
-learnt_long keys old new knowns nexts exchanges learnt =
+learnt_long keys most old new knowns nexts exchanges learnt =
     ap length learnt.sent_are ∙ length-append old.sent learnt.questions ∙ ap (λ n. length old.sent + n) learnt.as_many_questions
 
-pub off_long : (keys : List Key) (old new : Past) → IsBrokenOff keys old new → length new.sent ≤ length old.sent + 1
-off_long keys old new (inl none) = let same = ap length none.1.0 in omega (arith, same)
-off_long keys old new (inr cut) = elim cut.ended [
+pub off_long : (keys : List Key) (most : ℕ) (old new : Past) → IsBrokenOff keys most old new → length new.sent ≤ length old.sent + 1
+off_long keys most old new (inl none) = let same = ap length none.1.0 in omega (arith, same)
+off_long keys most old new (inr cut) = elim cut.ended [
   | inl none ↦ let same = ap length none.0 in omega (arith, same)
   | inr one ↦ let more = ap length one.1 ∙ length-append old.sent (cut.question ∷ []) in omega (arith, more)
 ]

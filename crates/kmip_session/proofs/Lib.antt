@@ -1,3 +1,4 @@
+pub mod PutLemmas
 pub mod FactLemmas
 pub mod KnownLemmas
 pub mod GoodLemmas

@@ -1,18 +1,23 @@
 -- Over a link that goes on losing each exchange is paid for: by one that is left no more, or by what a disturbed one costs.
-use Rattle.std.proofs.Common.{◌≡◌, ◌≢◌, ◌≤◌, ℕ, ◌+◌, ◌*◌, Bool, true, false, List, length, Option, Some, None, Result, Ok, Err, inl, inr, sym, ap, subst, refl, ◌∙◌, arith}
+use Rattle.std.proofs.Common.{◌≡◌, ◌≤◌, ℕ, suc, ◌+◌, List, [], ◌∷◌, length, Option, Some, None, Result, Ok, Err, inl, inr, sym, ap, subst, refl, ◌∙◌, arith}
+use Rattle.std.proofs.lemmas.List.Elements.{All-head, All-tail}
+use Rattle.std.specs.List.{All}
 use Rattle.kmip_chains.specs.Chains.{bound}
 use Rattle.kmip_plan.specs.Plans.{IsLawful}
-use Rattle.kmip_client.specs.Clients.{AreSettled, ClientState, IsAbout, after_ask, one_if}
+use Rattle.kmip_client.specs.Asking.{requests_at}
+use Rattle.kmip_client.specs.Clients.{AreSettled, ClientState, WorksAt}
+use Rattle.kmip_chains.specs.declared.key.Key.{Key}
+use Rattle.kmip_knowledge.specs.declared.knowledge.Knowledge.{Knowledge}
 use Rattle.kmip_client.specs.declared.question.Question.{Question}
-use Rattle.kmip_schedule.specs.Clean.{Counted, Disturbances, IsCounted, hands_strange, one_disturbed, one_strange}
+use Rattle.kmip_schedule.specs.Clean.{Counted, Disturbances, IsCounted}
 use Rattle.kmip_schedule.specs.Exchanges.{Exchanged, HandsOver}
 use Rattle.kmip_schedule.specs.Past.{Names, Past, is_planned}
 use Rattle.kmip_schedule.specs.declared.link.LinkFault.{LinkFault}
 use Rattle.kmip_schedule.specs.declared.link.LinkFault.TheVariants.{Io, Frame, NoMemory}
 use Rattle.kmip_settling.specs.Losing.{left_all}
 use Rattle.kmip_settling.specs.Needs.{need_all}
-use Rattle.kmip_settling.specs.Turns.{taught}
-use Rattle.kmip_session.specs.Driving.{AreFinished, IsGood}
+use Rattle.kmip_settling.specs.Turns.{known_then, taught}
+use Rattle.kmip_session.specs.Driving.{AreFinished, IsGood, IsToBePut}
 use Rattle.kmip_session.specs.Lawbook.{Lawbook}
 use Rattle.kmip_session.specs.Losing.{ArePaid, cost, left_for}
 use Rattle.kmip_schedule.specs.Losses.{or_loss}
@@ -29,9 +34,12 @@ counted names old new sent (Err Io) answer d e is done = subst (λ a. IsCounted 
 counted names old new sent (Err Frame) answer d e is done = subst (λ a. IsCounted names old sent a new d e) (answer_is None answer is) done
 counted names old new sent (Err NoMemory) answer d e is done = absurd cc
 
-at_most_one : (b : Bool) → one_if b ≤ 1
-at_most_one true = omega arith
-at_most_one false = omega arith
+-- a message has a request for each key that it asks about
+as_many_asked : (keys : List Key) (knowns : List Knowledge) (places : List ℕ) → All (WorksAt keys knowns) places → length (requests_at keys knowns places) ≡ length places
+as_many_asked keys knowns [] works = refl
+as_many_asked keys knowns (place ∷ places) works =
+    let first = All-head (WorksAt keys knowns) place places works in
+    rw (first.key_is, first.known_is) (ap suc (as_many_asked keys knowns places (All-tail (WorksAt keys knowns) place places works)))
 
 pub paid_none : (left : ℕ) (d : Disturbances) → ArePaid 0 left left d d
 paid_none left d = omega arith
@@ -41,12 +49,12 @@ paid_then m n a b c d e f first second = omega (arith, first, second)
 
 module _ {L : Type 0} (past : L → Past) (honest : L → Names → Type 0) (counts : L → Disturbances) where
   pub paid_one : Lawbook → (c next : ClientState) (x y : L) (sent : List ℕ) (answered : Result (Option (List ℕ)) LinkFault) (question : Question)
-      (answer : Option (List ℕ)) → IsLawful c.keys → IsAbout c.keys c.knowns question → sent ≡ question.bytes
+      (answer : Option (List ℕ)) → IsLawful c.keys → IsToBePut c question → sent ≡ question.bytes
       → ((names : Names) → honest x names → honest y names × Exchanged names (past x) sent answered (past y))
       → ((names : Names) → honest x names → Counted names (past x) sent answered (past y) (counts x) (counts y)) → or_loss answered ≡ Some answer
       → IsGood past honest c x → next.keys ≡ c.keys → next ≡ taught question answer c
       → ArePaid 1 (left_for c (past x)) (left_for next (past y)) (counts x) (counts y)
-  paid_one l c next x y sent answered question answer lawful about bytes goes counting is good keys learnt =
+  paid_one l c next x y sent answered question answer lawful put bytes goes counting is good keys learnt =
       subst (λ ks. ArePaid 1 (left_for c (past x)) (left_all ks next.knowns (past y)) (counts x) (counts y)) (sym keys)
       (subst (λ (s : ClientState). ArePaid 1 (left_for c (past x)) (left_all c.keys s.knowns (past y)) (counts x) (counts y)) (sym learnt)
       (paid (subst (λ b. IsCounted names (past x) b answer (past y) (counts x) (counts y)) bytes
@@ -60,21 +68,16 @@ module _ {L : Type 0} (past : L → Past) (honest : L → Names → Type 0) (cou
           (handed_over names (past x) (past y) sent answered answer is (goes names good.honest_for).1)
 
       paid : IsCounted names (past x) question.bytes answer (past y) (counts x) (counts y)
-          → ArePaid 1 (left_for c (past x)) (left_all c.keys (taught question answer c).knowns (past y)) (counts x) (counts y)
+          → ArePaid 1 (left_for c (past x)) (left_all c.keys (known_then c.keys question answer c.knowns) (past y)) (counts x) (counts y)
       paid (inl (clean, same)) =
-          let nearer = l.clean c.keys (past x) (past y) c.next c.knowns question answer lawful good.sound good.held about clean in
+          let nearer = l.clean c.keys (past x) (past y) c.knowns put.places question answer lawful good.sound good.held put.about clean in
           let even = ap cost same in
-          omega (arith, nearer, even)
-      paid (inr (inl (own, more))) =
-          let costs = l.disturbed c.keys (past x) (past y) c.next c.knowns question answer lawful good.sound good.held about hands in
-          let none = ap one_if own in
-          let three = ap cost more in
-          omega (arith, costs, none, three)
-      paid (inr (inr more)) =
-          let costs = l.disturbed c.keys (past x) (past y) c.next c.knowns question answer lawful good.sound good.held about hands in
-          let one = at_most_one (hands_strange names question.bytes answer) in
-          let four = ap cost more in
-          omega (arith, costs, one, four)
+          omega (arith, nearer, even, put.about.some)
+      paid (inr (strange, enough, more)) =
+          let costs = l.disturbed c.keys (past x) (past y) c.knowns put.places question answer lawful good.sound good.held put.about hands in
+          let many = ap length put.about.asks ∙ as_many_asked c.keys c.knowns put.places put.about.works in
+          let all = ap cost more in
+          omega (arith, costs, enough, many, all)
 
   -- where no more may be left all keys are finished
   pub paid_off : Lawbook → (c : ClientState) (x : L) → IsGood past honest c x → left_for c (past x) ≡ 0 → AreFinished c.keys c.knowns

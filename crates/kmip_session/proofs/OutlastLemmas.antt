@@ -1,16 +1,15 @@
 -- Runs in turn over a link that goes on losing.
-use Rattle.std.proofs.Common.{◌≡◌, ◌≢◌, ◌≤◌, ℕ, suc, ◌+◌, List, [], ◌∷◌, ◌++◌, length, take, slice_get, Some, Result, OnOk, sym, ap, subst, refl, ◌∙◌, arith}
+use Rattle.std.proofs.Common.{◌≡◌, ◌≢◌, ℕ, suc, List, [], ◌∷◌, ◌++◌, take, slice_get, Some, sym, subst, refl, ◌∙◌}
 use Rattle.std.specs.List.{All}
-use Rattle.kmip_chains.specs.Chains.{bound}
 use Rattle.kmip_chains.specs.declared.key.Key.{Key}
 use Rattle.kmip_progress.specs.declared.known.Known.{Known}
 use Rattle.kmip_client.specs.Clients.{ClientState}
 use Rattle.kmip_client.specs.Held.{Held, TrueProgress}
 use Rattle.kmip_schedule.specs.Clean.{Disturbances}
-use Rattle.kmip_schedule.specs.Past.{Names, Past, is_planned}
-use Rattle.kmip_session.specs.CampaignParts.{CampaignLaws, IsNoted, Standing}
+use Rattle.kmip_schedule.specs.Past.{Names, Past}
+use Rattle.kmip_session.specs.CampaignParts.{IsNoted, Standing}
 use Rattle.kmip_session.specs.Driving.{IsGood}
-use Rattle.kmip_session.specs.Losing.{AllOutlast, HasOutlasted, IsEnough, Outlasts, cost}
+use Rattle.kmip_session.specs.Losing.{AllOutlast, HasOutlasted, IsEnough, Outlasts}
 use Rattle.kmip_session.specs.declared.campaigning.Run.{Run}
 use Rattle.kmip_session.specs.declared.campaigning.RunEnd.{RunEnd}
 use Rattle.kmip_session.specs.declared.stop.Stop.{Stop}

@@ -1,6 +1,6 @@
 -- What was known at the ends of some runs, and one run more.
 use Rattle.std.proofs.Common.{◌≡◌, ◌≤◌, ◌+◌, arith, ℕ, List, [], ◌∷◌, ◌++◌, length, slice_get, flat_map, map, Some, Result, Ok, Err, IsErr, IsOk, OnOk, sym, ap, subst, refl, ◌∙◌, inl, inr, append_assoc, append-nil}
-use Rattle.std.specs.List.{AllZip}
+use Rattle.std.specs.List.{All, AllZip}
 use Rattle.std.proofs.lemmas.Bool.{cases_Bool}
 use Rattle.std.proofs.lemmas.List.Concat.{flat_map-append}
 use Rattle.std.proofs.lemmas.Slice.Zip.{AllZip-long}
@@ -15,8 +15,8 @@ use Rattle.kmip_knowledge.specs.declared.knowledge.Knowledge.{Knowledge}
 use Rattle.kmip_schedule.specs.Moves.{Delivered}
 use Rattle.kmip_schedule.specs.Past.{Names, Past, is_planned}
 use Rattle.kmip_session.specs.CampaignParts.{AreSame, HasEnded, HasRun, IsBroken, begins_with}
-use Rattle.kmip_session.specs.Driving.{Grown, Keeps, Learnt}
-use Rattle.kmip_session.specs.Remembering.{AreHeard, AreKnownFrom, AreTaught, IsTalkOf, Shows, Talk, limit_at, saved_after, saved_from, start_knowns, starts, starts_from}
+use Rattle.kmip_session.specs.Driving.{Grown, IsQuestion, Keeps, Learnt}
+use Rattle.kmip_session.specs.Remembering.{AreAsked, AreHeard, AreKnownFrom, AreTaught, IsTalkOf, Shows, Talk, limit_at, saved_after, saved_from, start_knowns, starts, starts_from}
 use Rattle.kmip_session.specs.declared.campaigning.CampaignEnd.{CampaignEnd}
 use Rattle.kmip_session.specs.declared.campaigning.Run.{Run}
 use Rattle.kmip_session.specs.declared.campaigning.RunEnd.{RunEnd}
@@ -75,21 +75,28 @@ taught_push keys (s ∷ begun) (t ∷ talks) (k ∷ ends) start talk knowns taug
 pub flat_push : {A B : Type 0} (f : A → List B) (xs : List A) (x : A) → flat_map f xs ++ f x ≡ flat_map f (xs ++ x ∷ [])
 flat_push f xs x = ap (λ ys. flat_map f xs ++ ys) (sym (append-nil (f x))) ∙ sym (flat_map-append f xs (x ∷ []))
 
-heard_more : (keys : List Key) (begun known : List (List Knowledge)) (ends : List RunEnd) (old between new : Past) (start knowns : List Knowledge) (exchanges : ℕ) (end : RunEnd)
-    → end.exchanges ≡ exchanges → AreHeard keys begun known ends old between → Learnt keys between new start knowns exchanges
-    → AreHeard keys (begun ++ start ∷ []) (known ++ knowns ∷ []) (ends ++ end ∷ []) old new
-heard_more keys begun known ends old between new start knowns exchanges end is heard learnt =
+asked_push : (keys : List Key) (runs : List Run) (talks : List Talk) (run : Run) (talk : Talk) → slice_get runs (length talks) ≡ Some run → AreAsked keys runs talks
+    → All (IsQuestion keys run.batch) talk.questions → AreAsked keys runs (talks ++ talk ∷ [])
+asked_push keys [] [] run talk at asked each = absurd cc
+asked_push keys (first ∷ runs) [] run talk at asked each =
+    let same : run ≡ first = cc in
+    (subst (λ (r : Run). All (IsQuestion keys r.batch) talk.questions) same each, tt)
+asked_push keys [] (other ∷ talks) run talk at asked each = absurd asked
+asked_push keys (first ∷ runs) (other ∷ talks) run talk at asked each = (asked.0, asked_push keys runs talks run talk at asked.1 each)
+
+heard_more : (keys : List Key) (runs : List Run) (run : Run) (begun known : List (List Knowledge)) (ends : List RunEnd) (old between new : Past) (start knowns : List Knowledge)
+    (exchanges : ℕ) (end : RunEnd) → slice_get runs (length ends) ≡ Some run → end.exchanges ≡ exchanges → AreHeard keys runs begun known ends old between
+    → Learnt keys run.batch between new start knowns exchanges → AreHeard keys runs (begun ++ start ∷ []) (known ++ knowns ∷ []) (ends ++ end ∷ []) old new
+heard_more keys runs run begun known ends old between new start knowns exchanges end at is heard learnt =
     let talk : Talk = record { questions = learnt.questions; answers = learnt.answers } in
     let asked = flat_push (λ (t : Talk). t.questions) heard.talks talk in
     record {
       talks = heard.talks ++ talk ∷ [];
       taught = taught_push keys begun heard.talks known start talk knowns heard.taught learnt.known_is;
-      talks_are = zip_push (IsTalkOf keys) heard.talks ends talk end heard.talks_are
-          (record {
-            as_many_questions = learnt.as_many_questions ∙ sym is;
-            as_many_answers = learnt.as_many_answers ∙ sym is;
-            each = learnt.each;
-          });
+      talks_are = zip_push IsTalkOf heard.talks ends talk end heard.talks_are
+          (record { as_many_questions = learnt.as_many_questions ∙ sym is; as_many_answers = learnt.as_many_answers ∙ sym is });
+      asked = asked_push keys runs heard.talks run talk (subst (λ n. slice_get runs n ≡ Some run) (AllZip-long IsTalkOf heard.talks ends heard.talks_are) at) heard.asked
+          learnt.each;
       sent_are =
           joined old.sent between.sent new.sent (flat_map (λ (t : Talk). t.questions) heard.talks) learnt.questions heard.sent_are learnt.sent_are
           ∙ ap (λ sent. old.sent ++ sent) asked;
@@ -133,7 +140,7 @@ module _ {L : Type 0} (past : L → Past) (honest : L → Names → Type 0) (key
     pub kept : AllZip (AllZip IsKept) (starts keys carried runs known) known
     pub saved_are : carried ++ saved ≡ saved_from carried runs known
     pub last_is : c.knowns ≡ last_of known (fresh keys).knowns
-    pub heard : honest x (is_planned keys) → honest y (is_planned keys) × AreHeard keys (starts keys carried runs known) known ends (past x) (past y)
+    pub heard : honest x (is_planned keys) → honest y (is_planned keys) × AreHeard keys runs (starts keys carried runs known) known ends (past x) (past y)
 
   pub recalled_none : (c : ClientState) (x : L) (ends : List RunEnd) (saved : List (List Known)) → c.knowns ≡ (fresh keys).knowns → ends ≡ [] → saved ≡ []
       → Recalled c x x ends saved
@@ -148,11 +155,12 @@ module _ {L : Type 0} (past : L → Past) (honest : L → Names → Type 0) (key
         last_is = is;
         heard = λ holds. (
           holds,
-          subst (λ begun. AreHeard keys begun [] [] (past x) (past x)) (sym none)
+          subst (λ begun. AreHeard keys runs begun [] [] (past x) (past x)) (sym none)
               (record {
                 talks = [];
                 taught = tt;
                 talks_are = tt;
+                asked = tt;
                 sent_are = sym (append-nil (past x).sent);
                 handed_are = sym (append-nil (past x).handed);
                 requests_are = sym (append-nil (past x).requests);
@@ -187,9 +195,9 @@ module _ {L : Type 0} (past : L → Past) (honest : L → Names → Type 0) (key
             let first = before.heard holds in
             let second = ran.learnt first.0 in (
               second.0,
-              subst (λ s. AreHeard keys s (before.known ++ b.knowns ∷ []) (old.runs.items ++ noted.end ∷ []) (past x) (past z)) (sym further)
-                  (heard_more keys (starts keys carried runs before.known) before.known old.runs.items (past x) (past y) (past z) start b.knowns ran.driven.1 noted.end
-                  noted.exchanges_is first.1 second.1),
+              subst (λ s. AreHeard keys runs s (before.known ++ b.knowns ∷ []) (old.runs.items ++ noted.end ∷ []) (past x) (past z)) (sym further)
+                  (heard_more keys runs run (starts keys carried runs before.known) before.known old.runs.items (past x) (past y) (past z) start b.knowns ran.driven.1
+                  noted.end (subst (λ n. slice_get runs n ≡ Some run) (sym long) is) noted.exchanges_is first.1 second.1),
             );
       })
 
@@ -230,12 +238,12 @@ module _ {L : Type 0} (past : L → Past) (honest : L → Names → Type 0) (key
 
 module _ {L : Type 0} (past : L → Past) (honest : L → Names → Type 0) (keys : List Key) (carried : List (List Known)) where
   -- a run is begun, driven, noted and closed
-  pub ran_closed : (run : Run) (a b c : ClientState) (x y z : L) (driven : Stop × ℕ) (old new : CampaignEnd) → b.keys ≡ keys
+  pub ran_closed : (run : Run) (a b c : ClientState) (x y z : L) (driven : Stop × ℕ) (old new : CampaignEnd) → b.keys ≡ keys → b.batch ≡ run.batch
       → b.knowns ≡ begins_with keys carried run a old → Keeps b c
-      → (honest x (is_planned b.keys) → honest y (is_planned b.keys) × Learnt b.keys (past x) (past y) b.knowns c.knowns driven.1)
+      → (honest x (is_planned b.keys) → honest y (is_planned b.keys) × Learnt b.keys b.batch (past x) (past y) b.knowns c.knowns driven.1)
       → HasEnded c.keys run c.knowns driven old new → ((names : Names) → honest y names → honest z names × Delivered names (past y) (past z))
       → HasRun past honest keys carried run a c x z old new
-  ran_closed run a b c x y z driven old new b_keys begun keeps learnt ended closes = record {
+  ran_closed run a b c x y z driven old new b_keys b_batch begun keeps learnt ended closes = record {
     driven = driven;
     ended = subst (λ ks. HasEnded ks run c.knowns driven old new) (keeps.keys_stay ∙ b_keys) ended;
     kept = subst (λ start. AllZip IsKept start c.knowns) begun keeps.kept;
@@ -243,9 +251,10 @@ module _ {L : Type 0} (past : L → Past) (honest : L → Names → Type 0) (key
         let taught = learnt (subst (λ ks. honest x (is_planned ks)) (sym b_keys) holds) in
         let close = closes (is_planned keys) (subst (λ ks. honest y (is_planned ks)) b_keys taught.0) in (
           close.0,
-          learnt_still keys (past x) (past y) (past z) (begins_with keys carried run a old) c.knowns c.knowns driven.1
-              (subst (λ start. Learnt keys (past x) (past y) start c.knowns driven.1) begun
-              (subst (λ ks. Learnt ks (past x) (past y) b.knowns c.knowns driven.1) b_keys taught.1))
+          learnt_still keys run.batch (past x) (past y) (past z) (begins_with keys carried run a old) c.knowns c.knowns driven.1
+              (subst (λ start. Learnt keys run.batch (past x) (past y) start c.knowns driven.1) begun
+              (subst (λ most. Learnt keys most (past x) (past y) b.knowns c.knowns driven.1) b_batch
+              (subst (λ ks. Learnt ks b.batch (past x) (past y) b.knowns c.knowns driven.1) b_keys taught.1)))
               (delivered_stays (is_planned keys) (past y) (past z) close.1) refl,
         );
   }

@@ -1,7 +1,8 @@
 -- Runs in turn: what their ends report, and what is to hold of each end.
 -- Source: own.
-use Rattle.std.specs.Prelude.{◌≡◌, ◌≢◌, ◌≤◌, ℕ, ⊤, Bool, List, [], ◌∷◌, ◌++◌, ◌+◌, length, map, take, flat_map, string_bytes}
+use Rattle.std.specs.Prelude.{◌≡◌, ◌≢◌, ◌≤◌, ℕ, ⊤, Bool, List, [], ◌∷◌, ◌++◌, ◌+◌, length, map, take, flat_map, string_bytes, IsTrue}
 use Rattle.std.specs.List.{All, Contains}
+use Rattle.kmip_batches.specs.Members.{may_have}
 use Rattle.kmip_chains.specs.Chains.{bound, chain}
 use Rattle.kmip_chains.specs.declared.key.Key.{Key}
 use Rattle.kmip_progress.specs.declared.known.Known.{Known}
@@ -87,6 +88,10 @@ pub record CalmLink {L : Type 0} (past : L → Past) (calm : L → Names → Typ
 -- a run that may make as many exchanges as the plan is bounded by finishes all keys within that bound
 abbrev pub Settles : List Key → Run → RunEnd → Type 0
 Settles keys run end = bound keys ≤ run.limit → (end.stop ≡ stops.AllFinished) × (end.exchanges ≤ bound keys)
+
+-- each of the runs asks about one to eight keys at once
+abbrev pub MayBatch : List Run → Type 0
+MayBatch runs = All (λ (run : Run). IsTrue (may_have run.batch)) runs
 
 -- what is known at the end of the run is saved
 abbrev pub saves : Run → Bool

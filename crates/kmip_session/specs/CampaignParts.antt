@@ -102,7 +102,7 @@ pub record HasRun {L : Type 0} (past : L → Past) (honest : L → Names → Typ
   pub ended : HasEnded keys run b.knowns driven old new
   pub kept : AllZip IsKept (begins_with keys carried run a old) b.knowns
   pub learnt : honest x (is_planned keys) → honest y (is_planned keys)
-      × Learnt keys (past x) (past y) (begins_with keys carried run a old) b.knowns driven.1
+      × Learnt keys run.batch (past x) (past y) (begins_with keys carried run a old) b.knowns driven.1
 
 -- the run that was noted last, if it was allowed so many exchanges, has finished all keys
 pub record HasSettled (keys : List Key) (run : Run) (old new : List RunEnd) : Type 0 where

@@ -1,6 +1,6 @@
 -- What a run of exchanges does: what it keeps, what it asks, what the client learns of it, and why it ends.
 -- Source: own.
-use Rattle.std.specs.Prelude.{◌≡◌, ◌⊎◌, ◌≤◌, ◌<◌, ◌+◌, ℕ, IsSome, map, List, [], ◌∷◌, ◌++◌, length, flat_map, Option, Some, ⊤}
+use Rattle.std.specs.Prelude.{◌≡◌, ◌⊎◌, ◌≤◌, ◌<◌, ◌+◌, ℕ, IsSome, map, List, [], ◌∷◌, ◌++◌, length, flat_map, Option, Some, None, ⊤}
 use Rattle.std.specs.List.{All, AllZip}
 use Rattle.kmip_batches.specs.Items.{requests_in}
 use Rattle.kmip_objects.specs.Objects.{Object, object_named}
@@ -10,16 +10,17 @@ use Rattle.kmip_plan.specs.Plans.{IsLawful, IsPlanned}
 use Rattle.kmip_plan.specs.Prolonging.{Prolongs}
 use Rattle.kmip_chains.specs.declared.key.Key.{Key}
 use Rattle.kmip_ttlv.specs.Spelling.{canon}
-use Rattle.kmip_client.specs.Clients.{ClientState, after_ask, fresh, lost_at, next_question, NoneWorks, SomeWorks, verdict_at}
+use Rattle.kmip_client.specs.Asking.{AreApart, IsAbout, after_ask, next_question, requests_at}
+use Rattle.kmip_client.specs.Clients.{ClientState, fresh, NoneWorks, SomeWorks, WorksAt, verdict_at}
 use Rattle.kmip_client.specs.Held.{Held}
 use Rattle.kmip_client.specs.Places.{Onward, position}
 use Rattle.kmip_knowledge.specs.Knowledge.{chain_length}
-use Rattle.kmip_client.specs.Questions.{request_about}
 use Rattle.kmip_client.specs.Shapes.{IsKept}
 use Rattle.kmip_client.specs.Standing.{counts_of, verdicts_of}
 use Rattle.kmip_knowledge.specs.declared.clash.Clash.{Clash}
 use Rattle.kmip_knowledge.specs.declared.knowledge.Knowledge.{Knowledge}
 use Rattle.kmip_knowledge.specs.declared.knowledge.Verdict.TheVariants.{Finished, Conflict}
+use Rattle.kmip_client.specs.declared.question.Part.{Part}
 use Rattle.kmip_client.specs.declared.question.Question.{Question}
 use Rattle.kmip_schedule.specs.Machine.{IsMirrored}
 use Rattle.kmip_schedule.specs.Past.{Past, Names, is_planned}
@@ -28,6 +29,7 @@ use Rattle.kmip_client.specs.Known.{facts, known_after}
 use Rattle.kmip_settling.specs.Laws.{NoneIsMade}
 use Rattle.kmip_settling.specs.Needs.{need_all}
 use Rattle.kmip_settling.specs.Ready.{IsReady}
+use Rattle.kmip_settling.specs.Turns.{taught}
 use Rattle.kmip_session.specs.Campaign.{CalmLink, GoodLink}
 use Rattle.kmip_session.specs.declared.stop.Stop.{Stop}
 use Rattle.kmip_session.specs.declared.stop.Stop.TheVariants as stops
@@ -56,9 +58,20 @@ pub record IsComplete (keys : List Key) (objects : List Object) (knowns : List K
   pub counts : counts_of knowns ≡ map chain_length keys
   pub verdicts : verdicts_of keys knowns ≡ map (λ key. Finished) keys
 
--- how many exchanges all keys still need
+-- each message that the client sends asks about one key: it asks about no more at once, or the plan has no other
+abbrev pub AsksOne : ClientState → Type 0
+AsksOne c = (c.batch ≡ 1) ⊎ (length c.keys ≡ 1)
+
+-- how many questions all keys still need
 abbrev pub need : ClientState → Past → ℕ
 need c p = need_all c.keys c.knowns p.objects
+
+-- The client is ready still, and so many exchanges were made that it needs at least as many fewer questions; where each message asks
+-- one, exactly as many.
+pub record Nearer {L : Type 0} (past : L → Past) (calm : L → Names → Type 0) (c next : ClientState) (x y : L) (made : ℕ) : Type 0 where
+  pub settling : IsSettling past calm next y
+  pub nearer : made + need next (past y) ≤ need c (past x)
+  pub exactly : AsksOne c → made + need next (past y) ≡ need c (past x)
 
 -- The objects have gone onward for each key, and a past that was an image of the plan machine still is.
 pub record WentOn (keys : List Key) (old new : Past) : Type 0 where
@@ -73,16 +86,19 @@ pub record KeepsFurther {L : Type 0} (past : L → Past) (honest calm : L → Na
   pub calmly : whole → (further : List Key) → IsLawful further → Prolongs further keys → CalmLink past calm further old
       → CalmLink past calm further new
 
--- The bytes ask what a phase of a key of the plan asks, in their one written form.
-pub record IsQuestion (keys : List Key) (bytes : List ℕ) : Type 0 where
-  pub key : Key
-  pub known : Knowledge
-  pub is_planned : IsPlanned keys key
-  pub written : bytes ≡ canon (requests_item (request_about key known ∷ []))
+-- The bytes ask about one key of the plan or more, at most so many and each once, what a phase of each asks, in their one written form.
+pub record IsQuestion (keys : List Key) (most : ℕ) (bytes : List ℕ) : Type 0 where
+  pub knowns : List Knowledge
+  pub places : List ℕ
+  pub some : 1 ≤ length places
+  pub few : length places ≤ most
+  pub works : All (WorksAt keys knowns) places
+  pub apart : AreApart places
+  pub written : bytes ≡ canon (requests_item (requests_at keys knowns places))
 
--- So many exchanges were made, each with a question about a key of the plan; nothing else was asked. What is known now is what was
--- known before and what they handed over.
-pub record Learnt (keys : List Key) (old new : Past) (knowns nexts : List Knowledge) (exchanges : ℕ) : Type 0 where
+-- So many exchanges were made, each with a message about at most so many keys of the plan; nothing else was asked. What is known now is
+-- what was known before and what they handed over.
+pub record Learnt (keys : List Key) (most : ℕ) (old new : Past) (knowns nexts : List Knowledge) (exchanges : ℕ) : Type 0 where
   pub questions : List (List ℕ)
   pub answers : List (Option (List ℕ))
   pub sent_are : new.sent ≡ old.sent ++ questions
@@ -90,7 +106,7 @@ pub record Learnt (keys : List Key) (old new : Past) (knowns nexts : List Knowle
   pub requests_are : new.requests ≡ old.requests ++ flat_map requests_in questions
   pub as_many_questions : length questions ≡ exchanges
   pub as_many_answers : length answers ≡ exchanges
-  pub each : All (IsQuestion keys) questions
+  pub each : All (IsQuestion keys most) questions
   pub known_is : facts nexts ≡ facts (known_after keys knowns answers)
 
 -- Nothing that was asked, sent or handed over is taken back.
@@ -107,25 +123,36 @@ abbrev pub EndsOneExchange : List ℕ → Past → Past → Type 0
 EndsOneExchange question old new =
     (answer : Option (List ℕ)) × (new.sent ≡ old.sent ++ question ∷ []) × (new.handed ≡ old.handed ++ answer ∷ [])
 
--- A question about a key of the plan joined those asked, and its exchange came to its end or not.
-pub record IsCutShort (keys : List Key) (old new : Past) : Type 0 where
+-- The questions of a message about keys of the plan joined those asked, and its exchange came to its end or not.
+pub record IsCutShort (keys : List Key) (most : ℕ) (old new : Past) : Type 0 where
   pub question : List ℕ
-  pub is_question : IsQuestion keys question
+  pub is_question : IsQuestion keys most question
   pub requests_are : new.requests ≡ old.requests ++ requests_in question
   pub ended : EndsNoExchange old new ⊎ EndsOneExchange question old new
 
--- What memory that ran out leaves of the exchange in which it did: nothing that was asked, sent or handed over, or one question.
-abbrev pub IsBrokenOff : List Key → Past → Past → Type 0
-IsBrokenOff keys old new = ((new.requests ≡ old.requests) × EndsNoExchange old new) ⊎ IsCutShort keys old new
+-- What memory that ran out leaves of the exchange in which it did: nothing that was asked, sent or handed over, or one message.
+abbrev pub IsBrokenOff : List Key → ℕ → Past → Past → Type 0
+IsBrokenOff keys most old new = ((new.requests ≡ old.requests) × EndsNoExchange old new) ⊎ IsCutShort keys most old new
 
--- Private: what memory that ran out in a turn leaves of the client: it is as it was, or its next question was asked, and the key of
--- that is looked at again.
+-- Private: what memory that ran out in a turn leaves of the client: it is as it was, or its next message was sent, and the keys that
+-- this asks about are looked at again.
 abbrev pub IsGivenUp : ClientState → ClientState → Type 0
-IsGivenUp old new = (new ≡ old) ⊎ ((question : Question) × (next_question old ≡ Some question) × (new ≡ lost_at (after_ask old) question.key))
+IsGivenUp old new = (new ≡ old) ⊎ ((question : Question) × (next_question old ≡ Some question) × (new ≡ taught question None (after_ask old)))
 
--- The plan stays, and no identifier or count is taken back.
+-- Private: each part of a message is about a key of the plan.
+abbrev pub AreParts : List Key → List Part → Type 0
+AreParts keys parts = All (λ (part : Part). part.key < length keys) parts
+
+-- Private: a message that the client may send: about keys that it works on, and no more than it asks about at once.
+pub record IsToBePut (c : ClientState) (question : Question) : Type 0 where
+  pub places : List ℕ
+  pub about : IsAbout c.keys c.knowns places question
+  pub few : length places ≤ c.batch
+
+-- The plan stays, and how much is asked at once, and no identifier or count is taken back.
 pub record Keeps (old new : ClientState) : Type 0 where
   pub keys_stay : new.keys ≡ old.keys
+  pub batch_stays : new.batch ≡ old.batch
   pub kept : AllZip IsKept old.knowns new.knowns
 
 -- some key of the plan is in conflict; each is finished

@@ -17,7 +17,7 @@ use Rattle.kmip_settling.specs.Laws.{
   WhoIsSettledNeedsNothing,
   WhoNeedsNothingIsFinished,
 }
-use Rattle.kmip_settling.specs.LosingLaws.{CleanTurnsAreNearer, DisturbedTurnsCostTwo, LeftIsBounded, NeedsAreLeft}
+use Rattle.kmip_settling.specs.LosingLaws.{CleanTurnsAreNearer, DisturbedTurnsCostTwoEach, LeftIsBounded, NeedsAreLeft}
 
 pub record Lawbook : Type 0 where
   pub found : KeysAreFound
@@ -49,6 +49,6 @@ pub record Lawbook : Type 0 where
   pub room : RoomIsLeft
   pub less : ProlongedMissNoLess
   pub clean : CleanTurnsAreNearer
-  pub disturbed : DisturbedTurnsCostTwo
+  pub disturbed : DisturbedTurnsCostTwoEach
   pub needs_left : NeedsAreLeft
   pub left_bounded : LeftIsBounded

@@ -11,9 +11,10 @@ use Rattle.kmip_session.specs.declared.campaigning.Run.{Run}
 use Rattle.kmip_session.specs.declared.campaigning.RunEnd.{RunEnd}
 use Rattle.kmip_session.specs.declared.stop.Stop.TheVariants as stops
 
--- what disturbed exchanges cost: three each, and one more each that handed over a reply about another key
+-- what disturbed exchanges cost: one each, two more for each request that they sent, and one more for each reply about another key that
+-- they handed over
 abbrev pub cost : Disturbances → ℕ
-cost d = 3 * d.disturbed + d.strange
+cost d = d.disturbed + 2 * d.requests + d.strange
 
 -- how many exchanges may be left for all keys
 abbrev pub left_for : ClientState → Past → ℕ

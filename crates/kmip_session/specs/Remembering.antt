@@ -72,17 +72,23 @@ AreTaught keys (start ∷ starts) (talk ∷ talks) (knowns ∷ ends) =
     (facts knowns ≡ facts (known_after keys start talk.answers)) × AreTaught keys starts talks ends
 AreTaught keys starts talks ends = ⊥
 
--- as many were asked, and as many handed over, as the end says, each a question about a key of the plan
-pub record IsTalkOf (keys : List Key) (talk : Talk) (end : RunEnd) : Type 0 where
+-- as many messages were sent, and as many answers handed over, as the end says
+pub record IsTalkOf (talk : Talk) (end : RunEnd) : Type 0 where
   pub as_many_questions : length talk.questions ≡ end.exchanges
   pub as_many_answers : length talk.answers ≡ end.exchanges
-  pub each : All (IsQuestion keys) talk.questions
+
+-- each message of a run asks about keys of the plan, and no more of them than the run may ask about at once
+abbrev pub AreAsked : List Key → List Run → List Talk → Type 0
+AreAsked keys runs [] = ⊤
+AreAsked keys [] (talk ∷ talks) = ⊥
+AreAsked keys (run ∷ runs) (talk ∷ talks) = All (IsQuestion keys run.batch) talk.questions × AreAsked keys runs talks
 
 -- Between two pasts this was asked and handed over, run by run, and nothing else; and it is what the ends know.
-pub record AreHeard (keys : List Key) (begun known : List (List Knowledge)) (ends : List RunEnd) (old new : Past) : Type 0 where
+pub record AreHeard (keys : List Key) (runs : List Run) (begun known : List (List Knowledge)) (ends : List RunEnd) (old new : Past) : Type 0 where
   pub talks : List Talk
   pub taught : AreTaught keys begun talks known
-  pub talks_are : AllZip (IsTalkOf keys) talks ends
+  pub talks_are : AllZip IsTalkOf talks ends
+  pub asked : AreAsked keys runs talks
   pub sent_are : new.sent ≡ old.sent ++ flat_map (λ talk. talk.questions) talks
   pub handed_are : new.handed ≡ old.handed ++ flat_map (λ talk. talk.answers) talks
   pub requests_are : new.requests ≡ old.requests ++ flat_map requests_in (flat_map (λ talk. talk.questions) talks)
@@ -100,7 +106,7 @@ pub record AreKnownFrom (keys : List Key) (carried : List (List Known)) (runs : 
   pub kept : AllZip (AllZip IsKept) (starts keys carried runs known) known
   pub saved_are : carried ++ saved ≡ saved_from carried runs known
   pub until : Past
-  pub heard : honest → AreHeard keys (starts keys carried runs known) known ends old until
+  pub heard : honest → AreHeard keys runs (starts keys carried runs known) known ends old until
   pub grown : honest → Grown until new
   pub few_more : honest → length new.sent ≤ length until.sent + limit_at runs (length known)
   pub no_more : whole → until ≡ new

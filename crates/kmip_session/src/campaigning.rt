@@ -1,7 +1,8 @@
 //! Runs in turn over one link, each from nothing, from the run before it or from a saved progress.
-ghost use Rattle.std.specs.Prelude.{◌≡◌, ◌≢◌, ◌≤◌, ◌⊎◌, ℕ, List, [], ◌++◌, length, filter, map, take, Some, None, Ok, IfOk, OnErr, OnOk, IfSome, option_map, false, if◌then◌else◌};
+ghost use Rattle.std.specs.Prelude.{◌≡◌, ◌≢◌, ◌≤◌, ◌⊎◌, ℕ, List, [], ◌++◌, length, filter, map, take, Some, None, Ok, IfOk, OnErr, OnOk, IfSome, option_map, false, IsTrue, if◌then◌else◌};
 ghost use Rattle.std.specs.List.{All, AllZip, Contains};
 ghost use Rattle.kmip_objects.specs.Objects.{Object};
+ghost use Rattle.kmip_batches.specs.Members.{may_have};
 ghost use Rattle.kmip_client.specs.Held.{Held, TrueProgress};
 ghost use Rattle.kmip_progress.specs.Suiting.{Suits};
 ghost use Rattle.kmip_schedule.specs.Ending.{EndedAt};
@@ -11,7 +12,7 @@ ghost use Rattle.kmip_client.specs.Saving.{known_of};
 ghost use Rattle.kmip_schedule.specs.Past.{Past, Names, is_planned};
 ghost use Rattle.kmip_schedule.specs.Safe.{Safe};
 ghost use Rattle.kmip_schedule.specs.Sound.{Opening};
-ghost use Rattle.kmip_session.specs.Campaign.{CalmLink, GoodLink, HasNoConflict, IsEnd, Settles, reported, saves};
+ghost use Rattle.kmip_session.specs.Campaign.{CalmLink, GoodLink, HasNoConflict, IsEnd, MayBatch, Settles, reported, saves};
 ghost use Rattle.kmip_session.specs.CampaignParts.{
   AreSame,
   CampaignLaws,
@@ -58,12 +59,13 @@ pub enum Start {
     Saved(usize),
 }
 
-/// A run: what it begins with, how many exchanges it may make at most, and whether what is known
-/// at its end is saved.
+/// A run: what it begins with, how many exchanges it may make at most, how many keys each of its
+/// messages asks about at most, 1 to 8, and whether what is known at its end is saved.
 #[derive(Clone, Copy, Debug, PartialEq, Eq)]
 pub struct Run {
     pub start: Start,
     pub limit: usize,
+    pub batch: usize,
     pub save: bool,
 }
 
@@ -94,6 +96,7 @@ pub struct CampaignEnd {
 /// Makes the runs in turn, and ends each over the link. Want of memory ends the campaign, and keeps
 /// what was done: a run that it stopped has no end, `fault` says that it did.
 pub fn campaign<L: Link>(alloc: Global, plan: &Plan, link: &mut L, runs: &[Run]) -> CampaignEnd
+    requires { MayBatch runs.now }
     ensures safe { GoodLink L.past L.honest plan.now link.old
         → Safe plan.now (L.past link.new)
         (reported plan.now result.runs.items result.saved.items) }
@@ -156,7 +159,8 @@ pub(crate) fn run_all<L: Link>(
     runs: &[Run],
     carried: &[Progress],
 ) -> CampaignEnd
-    requires { All (Suits plan.now) carried.now }
+    requires carried { All (Suits plan.now) carried.now }
+    requires batches { MayBatch runs.now }
     ensures all { HasRunAll L.past L.honest L.calm plan.now carried.now runs.now result
         link.old link.new }
     ensures outlasts { GoodLink L.past L.honest plan.now link.old
@@ -192,6 +196,7 @@ fn run_each<L: Link>(
     requires no_end { end.old.runs.items ≡ [] }
     requires none_saved { end.old.saved.items ≡ [] }
     requires carried { All (Suits plan.now) carried.now }
+    requires batches { MayBatch runs.now }
     ensures suits { All (Suits plan.now) end.new.saved.items }
     ensures stands { GoodLink L.past L.honest plan.now link.old
         → All (TrueProgress (L.past link.old).objects plan.now) carried.now
@@ -243,6 +248,7 @@ fn one_run<'p, L: Link>(
 ) -> Result<(), NoMemory>
     requires keys { client.old.keys ≡ plan.now }
     requires carried { All (Suits plan.now) carried.now }
+    requires batch { IsTrue (may_have run.batch) }
     requires suits { All (Suits plan.now) end.old.saved.items }
     ensures keys { client.new.keys ≡ plan.now }
     ensures suits { All (Suits plan.now) end.new.saved.items }
@@ -278,20 +284,13 @@ fn one_run<'p, L: Link>(
 {
     laws_of_runs();
     plan.keys();
-    begin(
-        alloc,
-        plan,
-        client,
-        carried,
-        end.saved.as_slice(),
-        run.start,
-    )?;
+    begin(alloc, plan, client, carried, end.saved.as_slice(), run)?;
     let driven = drive(alloc, client, link, run.limit);
     finish(alloc, client, run, driven, end)?;
     close(alloc, link)
 }
 
-/// Gives the client what its run begins with.
+/// Gives the client what its run begins with, and how many keys it is to ask about at once.
 ///
 /// # Errors
 /// Where there is no memory; the client is then as it was.
@@ -301,9 +300,10 @@ fn begin<'p>(
     client: &mut Client<'p>,
     carried: &[Progress],
     saved: &[Progress],
-    start: Start,
+    run: Run,
 ) -> Result<(), NoMemory>
     requires keys { client.old.keys ≡ plan.now }
+    requires batch { IsTrue (may_have run.batch) }
     requires carried { All (Suits plan.now) carried.now }
     requires suits { All (Suits plan.now) saved.now }
     ensures keys { client.new.keys ≡ plan.now }
@@ -312,14 +312,19 @@ fn begin<'p>(
         → Held objects client.old.keys client.old.knowns
         → Held objects client.new.keys client.new.knowns }
     ensures begun { OnOk result (client.new.knowns
-        ≡ start_knowns plan.now start client.old.knowns (carried.now ++ saved.now)) }
+        ≡ start_knowns plan.now run.start client.old.knowns (carried.now ++ saved.now)) }
+    ensures batch { OnOk result (client.new.batch ≡ run.batch) }
 {
-    let number = match start {
-        Start::Same => return Ok(()),
+    let number = match run.start {
+        Start::Same => {
+            client.set_batch(run.batch);
+            return Ok(());
+        }
         Start::Fresh => 0,
         Start::Saved(number) => number,
     };
     *client = client_from(alloc, plan, carried, saved, number)?;
+    client.set_batch(run.batch);
     Ok(())
 }
 

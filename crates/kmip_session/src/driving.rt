@@ -1,20 +1,39 @@
 //! Runs of exchanges, until no key is worked on any more or as many were made as may be.
-ghost use Rattle.std.specs.Prelude.{◌≡◌, ◌≢◌, ◌≤◌, ◌<◌, ◌+◌, ℕ, List, length, true, false, Some, None, Ok, Err, IfOk, IsOk, IfSome, OnErr, OnOk, option_map};
+ghost use Rattle.std.specs.Prelude.{◌≡◌, ◌≢◌, ◌≤◌, ◌<◌, ◌+◌, ℕ, List, length, filter, false, Some, None, IfOk, IsOk, IfSome, OnErr, OnOk, option_map};
+ghost use Rattle.std.specs.List.{list_any};
 ghost use Rattle.kmip_objects.specs.Objects.{Object};
-ghost use Rattle.kmip_client.specs.Clients.{lost_at, one_if, AreSettled, IsAbout};
+ghost use Rattle.kmip_client.specs.Clients.{one_if, AreSettled};
 ghost use Rattle.kmip_client.specs.Held.{Held};
 ghost use Rattle.kmip_client.specs.Hearing.{hear};
 ghost use Rattle.kmip_client.specs.Justified.{JustifiedMessage};
 ghost use Rattle.kmip_client.specs.Truth.{TrueMessage};
 ghost use Rattle.kmip_chains.specs.Chains.{bound};
 ghost use Rattle.kmip_schedule.specs.Past.{Names, is_planned};
-ghost use Rattle.kmip_session.specs.Driving.{IsBrokenOff, IsGivenUp, IsGood, IsSettling, IsUntouched, IsComplete, KeepsFurther, need, WentOn, Learnt, Grown, Keeps, Stands};
+ghost use Rattle.kmip_session.specs.Driving.{
+  AsksOne,
+  IsBrokenOff,
+  IsGivenUp,
+  IsGood,
+  IsSettling,
+  IsToBePut,
+  IsUntouched,
+  IsComplete,
+  KeepsFurther,
+  need,
+  AreParts,
+  Nearer,
+  WentOn,
+  Learnt,
+  Grown,
+  Keeps,
+  Stands,
+};
 ghost use Rattle.kmip_client.specs.Known.{facts};
 ghost use Rattle.kmip_schedule.specs.Past.{Past};
 ghost use Rattle.kmip_session.specs.Lawbook.{Lawbook};
 ghost use Rattle.kmip_session.specs.Losing.{ArePaid, IsEnough, left_for};
 ghost use Rattle.kmip_settling.specs.Needs.{chains_and_looks};
-ghost use Rattle.kmip_settling.specs.Turns.{is_answer_to, taught, taught_by};
+ghost use Rattle.kmip_settling.specs.Turns.{answers_part, is_unanswered, lost_each, taught, taught_by};
 
 use crate::stop::Stop;
 use kmip_chains::laws::states_have_places;
@@ -22,7 +41,7 @@ use kmip_client::laws::{
     onward_is_an_order, prolonged_plans_keep_the_truth, the_settled_are_not_worked_on,
     truth_is_for_good, what_is_known_was_heard, what_is_true_is_no_conflict,
 };
-use kmip_client::{Client, HearFault, Heard, Question, Verdict};
+use kmip_client::{Client, HearFault, Heard, Part, Question, Verdict};
 use kmip_plan::laws::keys_have_names;
 use kmip_schedule::laws::{
     answers_are_true, deliveries_keep_sound, exchanges_keep_sound, objects_go_onward,
@@ -38,12 +57,13 @@ use kmip_settling::losing_laws::{a_losing_turn_is_bounded, left_is_bounded};
 use kmip_ttlv::NoMemory;
 use std::alloc::Global;
 
-/// Asks one question after the other over the link, and learns from what comes back: until no key
+/// Sends one message after the other over the link, and learns from what comes back: until no key
 /// of the plan is worked on any more, or `limit` exchanges were made. Answers why it stopped, and
 /// how many exchanges were made.
 ///
-/// An answer that does not come, that teaches nothing, or that is not to the question asked last,
-/// lets the key of that question be looked at again.
+/// Each key that a message asks about and that no reply of what comes back answers is looked at
+/// again: where nothing comes, where it is no message, and where its replies are to other questions
+/// or teach nothing.
 pub fn drive<L: Link>(
     alloc: Global,
     client: &mut Client<'_>,
@@ -56,12 +76,12 @@ pub fn drive<L: Link>(
         → WentOn client.old.keys (L.past link.old) (L.past link.new) }
     ensures known { L.honest link.old (is_planned client.old.keys)
         → L.honest link.new (is_planned client.old.keys)
-        × (result.0 ≢ Stop.NoMemory → Learnt client.old.keys (L.past link.old)
+        × (result.0 ≢ Stop.NoMemory → Learnt client.old.keys client.old.batch (L.past link.old)
         (L.past link.new) client.old.knowns client.new.knowns result.1) }
     ensures broken { L.honest link.old (is_planned client.old.keys) → result.0 ≡ Stop.NoMemory
-        → (between : Past) × Learnt client.old.keys (L.past link.old) between
+        → (between : Past) × Learnt client.old.keys client.old.batch (L.past link.old) between
         client.old.knowns client.new.knowns result.1
-        × IsBrokenOff client.old.keys between (L.past link.new) }
+        × IsBrokenOff client.old.keys client.old.batch between (L.past link.new) }
     ensures few { L.honest link.old (is_planned client.old.keys)
         → length (L.past link.new).sent ≤ length (L.past link.old).sent + limit }
     ensures grown { L.honest link.old (is_planned client.old.keys)
@@ -72,11 +92,11 @@ pub fn drive<L: Link>(
     ensures within { result.1 ≤ limit }
     ensures settles { IsSettling L.past L.calm client.old link.old
         → bound client.old.keys ≤ limit → result.0 ≢ Stop.NoMemory
-        → (result.0 ≡ Stop.AllFinished) × (result.1 ≡ need client.old (L.past link.old))
+        → (result.0 ≡ Stop.AllFinished) × (result.1 ≤ need client.old (L.past link.old))
+        × (AsksOne client.old → result.1 ≡ need client.old (L.past link.old))
         × (result.1 ≤ bound client.old.keys) }
     ensures calm { IsSettling L.past L.calm client.old link.old → result.0 ≢ Stop.NoMemory
-        → IsSettling L.past L.calm client.new link.new
-        × (result.1 + need client.new (L.past link.new) ≡ need client.old (L.past link.old)) }
+        → Nearer L.past L.calm client.old client.new link.old link.new result.1 }
     ensures losing { IsGood L.past L.honest client.old link.old → result.0 ≢ Stop.NoMemory
         → ArePaid result.1 (left_for client.old (L.past link.old))
         (left_for client.new (L.past link.new)) (L.disturbances link.old)
@@ -86,7 +106,8 @@ pub fn drive<L: Link>(
         → result.0 ≡ Stop.AllFinished }
     ensures finishes { IsUntouched L.past L.calm client.old link.old
         → bound client.old.keys ≤ limit → result.0 ≢ Stop.NoMemory
-        → (result.1 ≡ chains_and_looks client.old.keys)
+        → (result.1 ≤ chains_and_looks client.old.keys)
+        × (AsksOne client.old → result.1 ≡ chains_and_looks client.old.keys)
         × IsComplete client.old.keys (L.past link.new).objects client.new.knowns }
     ensures no_conflict { IsGood L.past L.honest client.old link.old
         → result.0 ≢ Stop.Conflict }
@@ -137,11 +158,11 @@ fn laws_below()
     a_losing_turn_is_bounded();
 }
 
-/// The next question, and what comes of it; false where no key is worked on.
+/// The next message, and what comes of it; false where no key is worked on.
 ///
 /// # Errors
-/// Where there is no memory; the client is then as it was, or the key that was asked about is looked
-/// at again.
+/// Where there is no memory; the client is then as it was, or the keys that were asked about are
+/// looked at again.
 fn turn<L: Link>(alloc: Global, client: &mut Client<'_>, link: &mut L) -> Result<bool, NoMemory>
     ensures good { IsGood L.past L.honest client.old link.old
         → IsGood L.past L.honest client.new link.new }
@@ -149,11 +170,11 @@ fn turn<L: Link>(alloc: Global, client: &mut Client<'_>, link: &mut L) -> Result
         → WentOn client.old.keys (L.past link.old) (L.past link.new) }
     ensures known { L.honest link.old (is_planned client.old.keys)
         → L.honest link.new (is_planned client.old.keys)
-        × IfOk result (λ asked. Learnt client.old.keys (L.past link.old) (L.past link.new)
-        client.old.knowns client.new.knowns (one_if asked)) }
+        × IfOk result (λ asked. Learnt client.old.keys client.old.batch (L.past link.old)
+        (L.past link.new) client.old.knowns client.new.knowns (one_if asked)) }
     ensures broken { L.honest link.old (is_planned client.old.keys) → OnErr result (
         (facts client.new.knowns ≡ facts client.old.knowns)
-        × IsBrokenOff client.old.keys (L.past link.old) (L.past link.new)) }
+        × IsBrokenOff client.old.keys client.old.batch (L.past link.old) (L.past link.new)) }
     ensures lost { OnErr result (IsGivenUp client.old client.new) }
     ensures grown { L.honest link.old (is_planned client.old.keys)
         → Grown (L.past link.old) (L.past link.new) }
@@ -161,8 +182,7 @@ fn turn<L: Link>(alloc: Global, client: &mut Client<'_>, link: &mut L) -> Result
     ensures none { IfOk result (λ asked. asked ≡ false
         → AreSettled client.new.keys client.new.knowns) }
     ensures calm { IsSettling L.past L.calm client.old link.old → IfOk result (λ asked.
-        IsSettling L.past L.calm client.new link.new × (one_if asked
-        + need client.new (L.past link.new) ≡ need client.old (L.past link.old))) }
+        Nearer L.past L.calm client.old client.new link.old link.new (one_if asked)) }
     ensures losing { IsGood L.past L.honest client.old link.old → IfOk result (λ asked.
         ArePaid (one_if asked) (left_for client.old (L.past link.old))
         (left_for client.new (L.past link.new)) (L.disturbances link.old)
@@ -181,35 +201,34 @@ fn turn<L: Link>(alloc: Global, client: &mut Client<'_>, link: &mut L) -> Result
     Ok(true)
 }
 
-/// Puts the question over the link, and learns from what comes back.
+/// Puts the message over the link, and learns from what comes back.
 ///
 /// # Errors
-/// Where there is no memory; the key of the question is then looked at again.
+/// Where there is no memory; the keys that it asks about are then looked at again.
 fn put<L: Link>(
     alloc: Global,
     client: &mut Client<'_>,
     link: &mut L,
     question: &Question,
 ) -> Result<(), NoMemory>
-    requires { IsAbout client.old.keys client.old.knowns question.now }
+    requires { IsToBePut client.old question.now }
     ensures good { IsGood L.past L.honest client.old link.old
         → JustifiedMessage client.old.keys (L.past link.old).objects question.now.bytes
         → IsGood L.past L.honest client.new link.new
         × WentOn client.old.keys (L.past link.old) (L.past link.new) }
     ensures known { L.honest link.old (is_planned client.old.keys)
         → L.honest link.new (is_planned client.old.keys)
-        × OnOk result (Learnt client.old.keys (L.past link.old) (L.past link.new)
-        client.old.knowns client.new.knowns 1) }
+        × OnOk result (Learnt client.old.keys client.old.batch (L.past link.old)
+        (L.past link.new) client.old.knowns client.new.knowns 1) }
     ensures broken { L.honest link.old (is_planned client.old.keys) → OnErr result (
         (facts client.new.knowns ≡ facts client.old.knowns)
-        × IsBrokenOff client.old.keys (L.past link.old) (L.past link.new)) }
-    ensures lost { OnErr result (client.new ≡ lost_at client.old question.now.key) }
+        × IsBrokenOff client.old.keys client.old.batch (L.past link.old) (L.past link.new)) }
+    ensures lost { OnErr result (client.new ≡ taught question.now None client.old) }
     ensures grown { L.honest link.old (is_planned client.old.keys)
         → Grown (L.past link.old) (L.past link.new) }
     ensures kept { Keeps client.old client.new }
     ensures calm { IsSettling L.past L.calm client.old link.old → OnOk result (
-        IsSettling L.past L.calm client.new link.new
-        × (1 + need client.new (L.past link.new) ≡ need client.old (L.past link.old))) }
+        Nearer L.past L.calm client.old client.new link.old link.new 1) }
     ensures losing { IsGood L.past L.honest client.old link.old → OnOk result (ArePaid 1
         (left_for client.old (L.past link.old)) (left_for client.new (L.past link.new))
         (L.disturbances link.old) (L.disturbances link.new)) }
@@ -224,53 +243,60 @@ fn put<L: Link>(
     L::calm_laws();
     let _plan = client.plan();
     let Ok(answer) = answer_or_loss(link.exchange(alloc, question.bytes.as_slice())) else {
-        client.lost(question.key);
+        lose_each(client, question.parts.as_slice());
         return Err(NoMemory);
     };
     learn(alloc, client, question, answer)
 }
 
-/// Learns from the answer to the question; where there is none, its key is looked at again.
+/// Learns from the answer to the message; where there is none, the keys that it asks about are
+/// looked at again.
 ///
 /// # Errors
-/// Where there is no memory; the key of the question is then looked at again.
+/// Where there is no memory; the keys are then looked at again.
 fn learn(
     alloc: Global,
     client: &mut Client<'_>,
     question: &Question,
     answer: Option<Vec<u8>>,
 ) -> Result<(), NoMemory>
-    requires { question.now.key < length client.old.keys }
+    requires { AreParts client.old.keys question.now.parts }
     ensures taught { OnOk result (client.new
         ≡ taught question.now (option_map (λ v. v.items) answer) client.old) }
-    ensures lost { OnErr result (client.new ≡ lost_at client.old question.now.key) }
+    ensures lost { OnErr result (client.new ≡ taught question.now None client.old) }
     ensures kept { Keeps client.old client.new }
     ensures held { (objects : List Object) → Held objects client.old.keys client.old.knowns
         → IfSome answer (λ v. TrueMessage client.old.keys objects v.items)
         → Held objects client.new.keys client.new.knowns }
 {
     let Some(reply) = answer else {
-        client.lost(question.key);
+        lose_each(client, question.parts.as_slice());
         return Ok(());
     };
-    hear(alloc, client, question, reply.as_slice())
+    hear(alloc, client, question.parts.as_slice(), reply.as_slice())
 }
 
-/// Learns from bytes that have come; where they are not the answer to the question, its key is
+/// Learns from bytes that have come; the keys of the parts of a message that they do not answer are
 /// looked at again.
 ///
 /// # Errors
-/// Where there is no memory; the key of the question is then looked at again.
+/// Where there is no memory; the keys of all parts are then looked at again.
 fn hear(
     alloc: Global,
     client: &mut Client<'_>,
-    question: &Question,
+    parts: &[Part],
     reply: &[u8],
 ) -> Result<(), NoMemory>
-    requires { question.now.key < length client.old.keys }
-    ensures taught { OnOk result (client.new
-        ≡ taught_by question.now client.old (hear client.old reply.now)) }
-    ensures lost { OnErr result (client.new ≡ lost_at client.old question.now.key) }
+    requires { AreParts client.old.keys parts.now }
+    ensures taught { OnOk result (client.new ≡ record client.old {
+      knowns =
+          taught_by client.old.keys parts.now client.old.knowns
+          (hear client.old.keys client.old.knowns reply.now);
+    }) }
+    ensures lost { OnErr result (client.new ≡ record client.old {
+      knowns =
+          lost_each client.old.keys parts.now client.old.knowns;
+    }) }
     ensures kept { Keeps client.old client.new }
     ensures held { (objects : List Object) → Held objects client.old.keys client.old.knowns
         → TrueMessage client.old.keys objects reply.now
@@ -278,23 +304,65 @@ fn hear(
 {
     match client.hear(alloc, reply) {
         Ok(heard) => {
-            if !is_answer_to(question, heard) {
-                client.lost(question.key);
-            }
+            lose_unanswered(client, parts, heard.as_slice());
             Ok(())
         }
         Err(fault) => {
-            client.lost(question.key);
+            lose_each(client, parts);
             unless_no_memory(fault)
         }
     }
 }
 
-/// Whether the reply is about the question's key, and answers its operation.
-fn is_answer_to(question: &Question, heard: Heard) -> bool
-    ensures { result ≡ is_answer_to question.now heard }
+/// The keys of these parts are looked at again.
+fn lose_each(client: &mut Client<'_>, parts: &[Part])
+    requires { AreParts client.old.keys parts.now }
+    ensures lost { client.new ≡ record client.old {
+      knowns =
+          lost_each client.old.keys parts.now client.old.knowns;
+    } }
+    ensures kept { Keeps client.old client.new }
+    ensures held { (objects : List Object) → Held objects client.old.keys client.old.knowns
+        → Held objects client.new.keys client.new.knowns }
 {
-    heard.key == question.key && heard.operation == question.operation
+    for part in parts {
+        client.lost(part.key);
+    }
+}
+
+/// The keys of the parts that nothing of what was heard answers are looked at again.
+fn lose_unanswered(client: &mut Client<'_>, parts: &[Part], heard: &[Result<Heard, HearFault>])
+    requires { AreParts client.old.keys parts.now }
+    ensures lost { client.new ≡ record client.old {
+      knowns = lost_each client.old.keys
+          (filter (is_unanswered heard.now) parts.now) client.old.knowns;
+    } }
+    ensures kept { Keeps client.old client.new }
+    ensures held { (objects : List Object) → Held objects client.old.keys client.old.knowns
+        → Held objects client.new.keys client.new.knowns }
+{
+    for part in parts {
+        if !is_answered(part, heard) {
+            client.lost(part.key);
+        }
+    }
+}
+
+/// Whether something of what was heard answers the part of the message.
+fn is_answered(part: &Part, heard: &[Result<Heard, HearFault>]) -> bool
+    ensures { result ≡ list_any (answers_part part.now) heard.now }
+{
+    heard.iter().any(|member| answers_part(part, member))
+}
+
+/// Whether what was heard of a reply is about the part's key, and answers its operation.
+fn answers_part(part: &Part, heard: &Result<Heard, HearFault>) -> bool
+    ensures { result ≡ answers_part part.now heard.now }
+{
+    match heard {
+        Ok(heard) => heard.key == part.key && heard.operation == part.operation,
+        Err(_) => false,
+    }
 }
 
 /// A refusal is passed over, want of memory is not.

@@ -7,7 +7,7 @@ ghost use Rattle.kmip_schedule.specs.Machine.{IsMirrored};
 ghost use Rattle.kmip_schedule.specs.Past.{is_planned};
 ghost use Rattle.kmip_schedule.specs.Safe.{Safe};
 ghost use Rattle.kmip_schedule.specs.Sound.{Opening};
-ghost use Rattle.kmip_session.specs.Campaign.{GoodLink, HasNoConflict, reported};
+ghost use Rattle.kmip_session.specs.Campaign.{GoodLink, HasNoConflict, MayBatch, reported};
 ghost use Rattle.kmip_session.specs.CampaignParts.{AreSame, CampaignLaws};
 ghost use Rattle.kmip_session.specs.Campaigns.{
   AreInTurn,
@@ -48,6 +48,7 @@ pub fn campaigns<L: Link>(
     requires some { 1 ≤ length plans.now }
     requires as_many { length runs.now ≡ length plans.now }
     requires prolong { AreProlonged plans.now }
+    requires batches { All (λ list. MayBatch list.items) runs.now }
     ensures safe { GoodStart L.past L.honest plans.now link.old
         → Safe (last_plan plans.now) (L.past link.new)
         (reported (last_plan plans.now) result.runs.items result.saved.items) }
@@ -113,6 +114,7 @@ fn run_plans<L: Link>(
     requires some { 1 ≤ length plans.now }
     requires as_many { length runs.now ≡ length plans.now }
     requires prolong { AreProlonged plans.now }
+    requires batches { All (λ list. MayBatch list.items) runs.now }
     ensures ran { HasRunPlans L.past L.honest L.calm plans.now (map (λ list. list.items) runs.now)
         (result ≡ Ok tt) link.old link.new end.new }
     ensures ended { L.honest link.old (is_planned (last_plan plans.now))
@@ -149,6 +151,7 @@ fn run_part<L: Link>(
     end: &mut CampaignEnd,
 ) -> Result<Vec<Progress>, NoMemory>
     requires carried { All (Suits plan.now) carried.now }
+    requires batches { MayBatch runs.now }
     requires prolongs { IfSome next (λ next. Prolongs next.now plan.now) }
     ensures ran { IfOk result (λ read. HasRunWhole L.past L.honest L.calm plan.now
         (option_map (λ next. next.now) next.entry) carried.now runs.now link.old link.new

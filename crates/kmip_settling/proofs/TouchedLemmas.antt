@@ -1,37 +1,33 @@
 -- What is left of keys of which more is known, whatever that is: at most one more for each, and no more for those that nothing was heard of.
 use Rattle.std.proofs.Common.{◌≡◌, ◌≤◌, ◌<◌, ℕ, suc, ◌+◌, ◌-◌, Bool, true, false, not, ◌||◌, nat_eq, nat_le, List, [], ◌∷◌, length, filter, is_some, Option, Some, None, Result, Ok, Err, slice_set, subst, refl, sym, ap, ◌∙◌, inl, inr, arith, if◌then◌else◌}
 use Rattle.std.specs.List.{All, list_any, slice_get}
-use Rattle.std.proofs.lemmas.Bool.{and_parts, cases_Bool, eq-eqb, eqb-true, leb-false, leb-true, ltb-true}
+use Rattle.std.proofs.lemmas.Bool.{cases_Bool, eq-eqb, eqb-true, leb-false, leb-true}
 use Rattle.std.proofs.lemmas.List.Elements.{All-cons, All-head, All-nil, All-tail}
 use Rattle.std.proofs.lemmas.Option.{same_Some}
 use Rattle.kmip_messages.specs.declared.reply.Reply.{Reply}
 use Rattle.kmip_chains.specs.declared.key.Key.{Key}
-use Rattle.kmip_plan.specs.Plans.{IsLawful}
 use Rattle.kmip_knowledge.specs.Knowledge.{chain_length, is_working}
 use Rattle.kmip_knowledge.specs.declared.fault.HearFault.{HearFault}
 use Rattle.kmip_knowledge.specs.declared.knowledge.Knowledge.{Knowledge}
 use Rattle.kmip_knowledge.specs.declared.knowledge.Phase.{Phase}
 use Rattle.kmip_knowledge.specs.declared.knowledge.Phase.TheVariants as phases
-use Rattle.kmip_client.specs.declared.batching.Part.{Part}
+use Rattle.kmip_client.specs.declared.question.Part.{Part}
 use Rattle.kmip_client.specs.declared.hearing.Heard.{Heard}
-use Rattle.kmip_client.specs.Batches.{known_after_each, known_after_reply}
+use Rattle.kmip_client.specs.Hearing.{known_after_each, known_after_reply, heard_in}
 use Rattle.kmip_client.specs.Clients.{changed_at, changed_by, lost_working, one_if}
-use Rattle.kmip_client.specs.Hearing.{heard_in}
 use Rattle.kmip_client.specs.Held.{Held}
 use Rattle.kmip_client.specs.Places.{position}
 use Rattle.kmip_client.specs.Shapes.{IsKept}
 use Rattle.kmip_client.specs.Truth.{TrueReply}
 use Rattle.kmip_schedule.specs.Past.{Past}
-use Rattle.kmip_schedule.specs.Sound.{Sound}
 use Rattle.kmip_settling.specs.Lawbook.{Lawbook}
 use Rattle.kmip_settling.specs.Losing.{is_under_way, left_of, left_all}
 use Rattle.kmip_settling.specs.Needs.{need_in}
 use Rattle.kmip_settling.specs.Turns.{lost_each}
 use Rattle.kmip_settling.proofs.HeardLemmas.{WasHeard, was_heard}
-use Rattle.kmip_settling.proofs.LearntLemmas.{learn_taught}
+use Rattle.kmip_settling.proofs.LearntLemmas.{kept_itself, learn_kept}
 use Rattle.kmip_settling.proofs.LeftLemmas.{AreNumbers, is_there, left_is}
-use Rattle.kmip_settling.proofs.LeftSumLemmas.{numbers, set_elsewhere, set_here}
-use Rattle.kmip_settling.proofs.SumLemmas.{held_at}
+use Rattle.kmip_settling.proofs.LeftSumLemmas.{set_elsewhere, set_here}
 
 -- ---- what may be left of a key, whatever of the truth it learns
 
@@ -186,7 +182,7 @@ pub gone_nowhere : (keys : List Key) (p : Past) (t : ℕ → Bool) (knowns : Lis
 gone_nowhere keys p t knowns held = record {
   held = held;
   kept = λ j known next was now.
-      subst (IsKept known) (same_Some known next (sym was ∙ now)) (record { identifier_kept = λ uid is. is; done_kept = omega arith });
+      subst (IsKept known) (same_Some known next (sym was ∙ now)) (kept_itself known);
   same = λ j apart. refl;
 }
 
@@ -214,43 +210,36 @@ gone_on keys p t knowns mids place mid next gone there kept counted held = recor
 
 -- ---- replies in turn
 
-heard_kept : (l : Lawbook) (keys : List Key) (p : Past) (knowns nexts : List Knowledge) (reply : Reply) (heard : Heard) → IsLawful keys → Sound keys p
-    → Held p.objects keys knowns → TrueReply keys p.objects reply → (h : WasHeard keys reply knowns heard nexts) → IsKept h.known h.new
-heard_kept l keys p knowns nexts reply heard lawful sound held so h =
-    let planned = l.found keys heard.key h.key lawful h.key_is in
-    elim (h.taught) [
-      | inl learnt ↦ (learn_taught h.key p h.known h.new reply.outcome
-          (record {
-            numbers = numbers l keys p h.key h.known sound planned (held_at keys knowns heard.key h.key h.known p.objects held h.key_is h.known_is);
-            works = ltb-true h.known.done (chain_length h.key) (and_parts _ _ learnt.0).0;
-          })
-          (so h.operation h.key.attrs.name h.key h.id_is planned) learnt.1).kept
-      | inr same ↦ subst (IsKept h.known) (sym same) (record { identifier_kept = λ uid is. is; done_kept = omega arith })
-    ]
+heard_kept : (keys : List Key) (knowns nexts : List Knowledge) (reply : Reply) (heard : Heard) → (h : WasHeard keys reply knowns heard nexts)
+    → IsKept h.known h.new
+heard_kept keys knowns nexts reply heard h = elim (h.taught) [
+  | inl learnt ↦ learn_kept h.key h.known h.new reply.outcome learnt.1
+  | inr same ↦ subst (IsKept h.known) (sym same) (kept_itself h.known)
+]
 
 -- whatever is known, what a reply is heard to say is of a key that is counted
 abbrev pub IsCountedReply : List Key → (ℕ → Bool) → Reply → Type 0
 IsCountedReply keys t reply = (knowns nexts : List Knowledge) (heard : Heard) → WasHeard keys reply knowns heard nexts → t heard.key ≡ true
 
-pub gone_heard : (l : Lawbook) (keys : List Key) (p : Past) (t : ℕ → Bool) (knowns : List Knowledge) (replies : List Reply) (mids : List Knowledge) → IsLawful keys
-    → Sound keys p → Gone keys p t knowns mids → All (TrueReply keys p.objects) replies → All (IsCountedReply keys t) replies
+pub gone_heard : (l : Lawbook) (keys : List Key) (p : Past) (t : ℕ → Bool) (knowns : List Knowledge) (replies : List Reply) (mids : List Knowledge)
+    → Gone keys p t knowns mids → All (TrueReply keys p.objects) replies → All (IsCountedReply keys t) replies
     → Gone keys p t knowns (known_after_each keys replies mids)
-gone_heard l keys p t knowns [] mids lawful sound gone so counted = gone
-gone_heard l keys p t knowns (reply ∷ replies) mids lawful sound gone so counted =
+gone_heard l keys p t knowns [] mids gone so counted = gone
+gone_heard l keys p t knowns (reply ∷ replies) mids gone so counted =
     let first = All-head (TrueReply keys p.objects) reply replies so in
     let one = by (heard_in keys reply mids) refl (l.held_heard p.objects keys (reply ∷ []) mids gone.held (All-cons (TrueReply keys p.objects) reply [] first (All-nil (TrueReply keys p.objects))))
-    first (All-head (IsCountedReply keys t) reply replies counted) in
-    gone_heard l keys p t knowns replies (known_after_reply (heard_in keys reply mids) mids) lawful sound one
+    (All-head (IsCountedReply keys t) reply replies counted) in
+    gone_heard l keys p t knowns replies (known_after_reply (heard_in keys reply mids) mids) one
     (All-tail (TrueReply keys p.objects) reply replies so) (All-tail (IsCountedReply keys t) reply replies counted)
   where
     by : (told : Result (Heard × List Knowledge) HearFault) → heard_in keys reply mids ≡ told → Held p.objects keys (known_after_reply (heard_in keys reply mids) mids)
-        → TrueReply keys p.objects reply → IsCountedReply keys t reply → Gone keys p t knowns (known_after_reply (heard_in keys reply mids) mids)
-    by (Err fault) is held so counted = subst (Gone keys p t knowns) (sym (ap (λ r. known_after_reply r mids) is)) gone
-    by (Ok (heard, nexts)) is held so counted =
+        → IsCountedReply keys t reply → Gone keys p t knowns (known_after_reply (heard_in keys reply mids) mids)
+    by (Err fault) is held counted = subst (Gone keys p t knowns) (sym (ap (λ r. known_after_reply r mids) is)) gone
+    by (Ok (heard, nexts)) is held counted =
         let h = was_heard keys reply mids heard nexts is in
         let all : known_after_reply (heard_in keys reply mids) mids ≡ slice_set mids heard.key h.new = ap (λ r. known_after_reply r mids) is ∙ h.all in
         subst (Gone keys p t knowns) (sym all)
-        (gone_on keys p t knowns mids heard.key h.known h.new gone h.known_is (heard_kept l keys p mids nexts reply heard lawful sound gone.held so h)
+        (gone_on keys p t knowns mids heard.key h.known h.new gone h.known_is (heard_kept keys mids nexts reply heard h)
         (counted mids nexts heard h) (subst (Held p.objects keys) all held))
 
 -- ---- losses in turn
@@ -258,7 +247,7 @@ gone_heard l keys p t knowns (reply ∷ replies) mids lawful sound gone so count
 lost_one_kept : (key : Key) (known : Knowledge) → IsKept known (lost_working key known)
 lost_one_kept key known = elim (cases_Bool (is_working key known)) [
   | inl works ↦ rw works (record { identifier_kept = λ uid is. is; done_kept = omega arith })
-  | inr settled ↦ rw settled (record { identifier_kept = λ uid is. is; done_kept = omega arith })
+  | inr settled ↦ rw settled (kept_itself known)
 ]
 
 pub gone_lost : (l : Lawbook) (keys : List Key) (p : Past) (t : ℕ → Bool) (knowns : List Knowledge) (parts : List Part) (mids : List Knowledge)

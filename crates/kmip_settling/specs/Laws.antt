@@ -1,6 +1,6 @@
 -- What holds of clients that settle over a calm link.
 -- Source: own: what the laws say.
-use Rattle.std.specs.Prelude.{◌≡◌, ◌≤◌, ◌<◌, ℕ, ◌+◌, List, ◌∷◌, length, Option, Some, None, Ok, slice_get}
+use Rattle.std.specs.Prelude.{◌≡◌, ◌≤◌, ◌<◌, ℕ, ◌+◌, List, length, Option, Some, None, Ok, slice_get}
 use Rattle.kmip_objects.specs.Objects.{Object, object_named}
 use Rattle.kmip_chains.specs.Chains.{bound}
 use Rattle.kmip_plan.specs.Plans.{IsLawful, IsPlanned}
@@ -8,10 +8,9 @@ use Rattle.kmip_plan.specs.Prolonging.{Prolongs}
 use Rattle.kmip_chains.specs.declared.key.Key.{Key}
 use Rattle.kmip_knowledge.specs.declared.knowledge.Knowledge.{Knowledge}
 use Rattle.kmip_knowledge.specs.declared.knowledge.Verdict.TheVariants.{Finished}
-use Rattle.kmip_client.specs.declared.batching.Questions.{Questions}
 use Rattle.kmip_client.specs.declared.question.Question.{Question}
-use Rattle.kmip_client.specs.Batches.{AreAbout}
-use Rattle.kmip_client.specs.Clients.{fresh, verdict_at, IsAbout, AreSettled}
+use Rattle.kmip_client.specs.Asking.{IsAbout}
+use Rattle.kmip_client.specs.Clients.{fresh, verdict_at, AreSettled}
 use Rattle.kmip_client.specs.Held.{Held}
 use Rattle.kmip_knowledge.specs.Knowledge.{chain_length}
 use Rattle.kmip_client.specs.Places.{position}
@@ -20,7 +19,7 @@ use Rattle.kmip_schedule.specs.Past.{Past, Names}
 use Rattle.kmip_schedule.specs.Sound.{Sound}
 use Rattle.kmip_settling.specs.Needs.{need_all, chains_and_looks, missing}
 use Rattle.kmip_settling.specs.Ready.{IsReady}
-use Rattle.kmip_settling.specs.Turns.{taught, taught_message}
+use Rattle.kmip_settling.specs.Turns.{known_then}
 
 -- a client that knows the truth of a sound past is ready, where there is room for the objects that are missing
 abbrev pub SoundIsReady : Type 0
@@ -44,47 +43,22 @@ NothingMadeNeedsTheChains =
     (keys : List Key) (objects : List Object) → IsLawful keys → NoneIsMade keys objects
     → need_all keys (fresh keys).knowns objects ≡ chains_and_looks keys
 
--- what is known after a turn
-abbrev pub known_after_turn : List Key → ℕ → List Knowledge → Question → Option (List ℕ) → List Knowledge
-known_after_turn keys next knowns question answer = (taught question answer (record { keys = keys; knowns = knowns; next = next })).knowns
-
--- after a question over a calm link the client is ready still, and needs one exchange less
+-- after a question over a calm link the client is ready still, and needs one exchange less for each key that it asks about
 abbrev pub CalmTurnsAreNearer : Type 0
 CalmTurnsAreNearer =
-    (keys : List Key) (names : Names) (old new : Past) (next : ℕ) (knowns : List Knowledge) (question : Question) (answer : Option (List ℕ))
-    → IsLawful keys → IsReady old.room keys old.objects knowns → IsAbout keys knowns question
+    (keys : List Key) (names : Names) (old new : Past) (knowns : List Knowledge) (places : List ℕ) (question : Question) (answer : Option (List ℕ))
+    → IsLawful keys → IsReady old.room keys old.objects knowns → IsAbout keys knowns places question
     → CalmlyExchanged names old question.bytes (Ok answer) new
-    → IsReady new.room keys new.objects (known_after_turn keys next knowns question answer)
-    × (need_all keys (known_after_turn keys next knowns question answer) new.objects + 1 ≡ need_all keys knowns old.objects)
-
--- what is known after a message of several questions
-abbrev pub known_after_message : List Key → ℕ → List Knowledge → Questions → Option (List ℕ) → List Knowledge
-known_after_message keys next knowns questions answer = (taught_message questions answer (record { keys = keys; knowns = knowns; next = next })).knowns
-
--- after such a message over a calm link the client is ready still, and needs one exchange less for each question
-abbrev pub CalmMessagesAreNearer : Type 0
-CalmMessagesAreNearer =
-    (keys : List Key) (names : Names) (old new : Past) (next : ℕ) (knowns : List Knowledge) (place : ℕ) (places : List ℕ) (questions : Questions)
-    (answer : Option (List ℕ)) → IsLawful keys → IsReady old.room keys old.objects knowns → AreAbout keys knowns (place ∷ places) questions
-    → CalmlyExchanged names old questions.bytes (Ok answer) new
-    → IsReady new.room keys new.objects (known_after_message keys next knowns questions answer)
-    × (need_all keys (known_after_message keys next knowns questions answer) new.objects + length (place ∷ places) ≡ need_all keys knowns old.objects)
+    → IsReady new.room keys new.objects (known_then keys question answer knowns)
+    × (need_all keys (known_then keys question answer knowns) new.objects + length places ≡ need_all keys knowns old.objects)
 
 -- and where there is room for what a plan that prolongs the client's misses, there is room for it still
 abbrev pub RoomIsLeft : Type 0
 RoomIsLeft =
-    (further keys : List Key) (names : Names) (old new : Past) (knowns : List Knowledge) (question : Question) (answer : Option (List ℕ))
-    → IsLawful keys → IsLawful further → Prolongs further keys → Sound further old → IsReady old.room keys old.objects knowns
-    → IsAbout keys knowns question → CalmlyExchanged names old question.bytes (Ok answer) new
-    → length old.objects + missing further old.objects ≤ old.room → length new.objects + missing further new.objects ≤ new.room
-
--- so it is after a message of several
-abbrev pub MessagesLeaveRoom : Type 0
-MessagesLeaveRoom =
-    (further keys : List Key) (names : Names) (old new : Past) (knowns : List Knowledge) (place : ℕ) (places : List ℕ) (questions : Questions)
+    (further keys : List Key) (names : Names) (old new : Past) (knowns : List Knowledge) (places : List ℕ) (question : Question)
     (answer : Option (List ℕ)) → IsLawful keys → IsLawful further → Prolongs further keys → Sound further old
-    → IsReady old.room keys old.objects knowns → AreAbout keys knowns (place ∷ places) questions
-    → CalmlyExchanged names old questions.bytes (Ok answer) new
+    → IsReady old.room keys old.objects knowns → IsAbout keys knowns places question
+    → CalmlyExchanged names old question.bytes (Ok answer) new
     → length old.objects + missing further old.objects ≤ old.room → length new.objects + missing further new.objects ≤ new.room
 
 -- it misses no fewer objects than the client's plan

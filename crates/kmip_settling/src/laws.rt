@@ -4,10 +4,8 @@ ghost use Rattle.kmip_settling.specs.Laws.{
   SoundIsReady,
   NothingMadeIsReady,
   NothingMadeNeedsTheChains,
-  CalmMessagesAreNearer,
   CalmTurnsAreNearer,
   RoomIsLeft,
-  MessagesLeaveRoom,
   ProlongedMissNoLess,
   NeedsAreBounded,
   WhoNeedsNothingIsFinished,
@@ -76,28 +74,18 @@ pub fn nothing_made_is_ready()
     laws_below();
 }
 
-/// A question that is asked over a calm link brings its key one exchange nearer to its end, and no
-/// other key further from it.
+/// A message of questions about several keys that is asked over a calm link brings each of these one
+/// exchange nearer to its end, and no other key further from it.
 pub fn a_calm_turn_is_nearer()
     ensures { CalmTurnsAreNearer }
 {
     laws_below();
 }
 
-/// A message of questions about several keys that is asked over a calm link brings each of these one
-/// exchange nearer to its end, and no other key further from it.
-pub fn a_calm_message_is_nearer()
-    ensures { CalmMessagesAreNearer }
-{
-    laws_below();
-}
-
 /// Where there is room for the objects that a plan misses which prolongs the client's, there is room
-/// for them after such a question too, and after such a message; and it misses no fewer than the
-/// client's plan.
+/// for them after such a message too; and it misses no fewer than the client's plan.
 pub fn room_is_left_for_prolonged_plans()
     ensures left { RoomIsLeft }
-    ensures messages { MessagesLeaveRoom }
     ensures missing { ProlongedMissNoLess }
 {
     laws_below();

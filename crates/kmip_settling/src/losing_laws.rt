@@ -3,9 +3,7 @@
 ghost use Rattle.kmip_settling.specs.LosingLaws.{
   LateArrivalsAddNothing,
   CleanTurnsAreNearer,
-  CleanMessagesAreNearer,
-  DisturbedTurnsCostTwo,
-  DisturbedMessagesCostTwoEach,
+  DisturbedTurnsCostTwoEach,
   NeedsAreLeft,
   LeftIsBounded,
   LeftIsWithinWhatIsKnown,
@@ -35,13 +33,11 @@ pub fn late_arrivals_add_nothing()
     laws_below();
 }
 
-/// A clean exchange leaves one less, and any other at most two more, or three where what it hands
-/// over is about a key that was not asked.
+/// A clean exchange leaves one less for each key that it asks about, and any other at most two more
+/// for each, and one more for each reply that it hands over about a key that was not asked.
 pub fn a_losing_turn_is_bounded()
     ensures clean { CleanTurnsAreNearer }
-    ensures messages { CleanMessagesAreNearer }
-    ensures disturbed { DisturbedTurnsCostTwo }
-    ensures disturbed_messages { DisturbedMessagesCostTwoEach }
+    ensures disturbed { DisturbedTurnsCostTwoEach }
 {
     laws_below();
 }

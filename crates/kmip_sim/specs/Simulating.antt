@@ -50,13 +50,13 @@ pub record TellsRuns (detail : Detail) (prolonged : ℕ) (Holds : List Word → 
   pub ended_is : ended ≡ campaign_ended end
   pub text_is : text ≡ simulation_text detail end link
 
--- so a script without `prolong` was simulated for these keys
-abbrev pub TellsSimulation : Detail → List Key → Result Bool NoMemory → List ℕ → Type 0
-TellsSimulation detail keys ended text = TellsRuns detail 0 (λ words end link. IsSimulated keys words end link) ended text
+-- so a script without `prolong` was simulated for these keys, of which each message asks about so many at most
+abbrev pub TellsSimulation : Detail → ℕ → List Key → Result Bool NoMemory → List ℕ → Type 0
+TellsSimulation detail batch keys ended text = TellsRuns detail 0 (λ words end link. IsSimulated keys batch words end link) ended text
 
 -- so a script with one `prolong` was simulated for these keys and, behind that word, for the further ones
-abbrev pub TellsSimulations : Detail → List Key → List Key → Result Bool NoMemory → List ℕ → Type 0
-TellsSimulations detail keys further ended text = TellsRuns detail 1 (λ words end link. AreSimulated (keys ∷ further ∷ []) words end link) ended text
+abbrev pub TellsSimulations : Detail → ℕ → List Key → List Key → Result Bool NoMemory → List ℕ → Type 0
+TellsSimulations detail batch keys further ended text = TellsRuns detail 1 (λ words end link. AreSimulated (keys ∷ further ∷ []) batch words end link) ended text
 
 -- the text is the line of a script that is refused
 pub record TellsScriptFault (ended : Result Bool NoMemory) (text : List ℕ) : Type 0 where
@@ -79,26 +79,26 @@ pub record TellsProlongsNot (keys further : List Key) (ended : Result Bool NoMem
   pub text_is : text ≡ prolongs_not_text
 
 -- The further plan prolongs the plan, and the text tells why a script is refused, or how one was simulated for both.
-pub record TellsProlonged (detail : Detail) (keys further : List Key) (ended : Result Bool NoMemory) (text : List ℕ) : Type 0 where
+pub record TellsProlonged (detail : Detail) (batch : ℕ) (keys further : List Key) (ended : Result Bool NoMemory) (text : List ℕ) : Type 0 where
   pub prolongs : Prolongs further keys
-  pub tells : TellsScriptFault ended text ⊎ TellsSimulations detail keys further ended text
+  pub tells : TellsScriptFault ended text ⊎ TellsSimulations detail batch keys further ended text
 
 -- The text tells of what was read of a plan, and of a further one where there is one: why the first of them that is refused is; else
 -- that the further one does not prolong the plan; else why a script is refused, or how one was simulated.
-abbrev pub TellsSim : Detail → Result (List Key) PlanFault → Option (Result (List Key) PlanFault) → Result Bool NoMemory → List ℕ → Type 0
-TellsSim detail (Err fault) further ended text = TellsPlanFault fault ended text
-TellsSim detail (Ok keys) None ended text = TellsScriptFault ended text ⊎ TellsSimulation detail keys ended text
-TellsSim detail (Ok keys) (Some (Err fault)) ended text = TellsPlanFault fault ended text
-TellsSim detail (Ok keys) (Some (Ok further)) ended text = TellsProlongsNot keys further ended text ⊎ TellsProlonged detail keys further ended text
+abbrev pub TellsSim : Detail → ℕ → Result (List Key) PlanFault → Option (Result (List Key) PlanFault) → Result Bool NoMemory → List ℕ → Type 0
+TellsSim detail batch (Err fault) further ended text = TellsPlanFault fault ended text
+TellsSim detail batch (Ok keys) None ended text = TellsScriptFault ended text ⊎ TellsSimulation detail batch keys ended text
+TellsSim detail batch (Ok keys) (Some (Err fault)) ended text = TellsPlanFault fault ended text
+TellsSim detail batch (Ok keys) (Some (Ok further)) ended text = TellsProlongsNot keys further ended text ⊎ TellsProlonged detail batch keys further ended text
 
 -- such a text was written
-pub record WritesSim (detail : Detail) (read : Result (List Key) PlanFault) (further : Option (Result (List Key) PlanFault)) (refused : Bool) (old new : Option (List ℕ)) : Type 0 where
+pub record WritesSim (detail : Detail) (batch : ℕ) (read : Result (List Key) PlanFault) (further : Option (Result (List Key) PlanFault)) (refused : Bool) (old new : Option (List ℕ)) : Type 0 where
   pub text : List ℕ
-  pub tells : TellsSim detail read further (Ok refused) text
+  pub tells : TellsSim detail batch read further (Ok refused) text
   pub written : Appends old new text
 
 -- The command broke off: nothing was written, or the runs of a campaign that ended for want of memory; and then a tail.
-pub record BreaksOffSim (detail : Detail) (read : Result (List Key) PlanFault) (further : Option (Result (List Key) PlanFault)) (tail : List ℕ) (old new : Option (List ℕ)) : Type 0 where
+pub record BreaksOffSim (detail : Detail) (batch : ℕ) (read : Result (List Key) PlanFault) (further : Option (Result (List Key) PlanFault)) (tail : List ℕ) (old new : Option (List ℕ)) : Type 0 where
   pub text : List ℕ
-  pub tells : (text ≡ []) ⊎ ((want : NoMemory) × TellsSim detail read further (Err want) text)
+  pub tells : (text ≡ []) ⊎ ((want : NoMemory) × TellsSim detail batch read further (Err want) text)
   pub written : Appends old new (text ++ tail)

@@ -1,5 +1,6 @@
 //! The command `sim`, over a writer and in memory.
-ghost use Rattle.std.specs.Prelude.{◌≡◌, ◌++◌, [], false, true, None, Some, Ok, IfOk, IfErr, OnErr, OnOk, option_map, string_bytes};
+ghost use Rattle.std.specs.Prelude.{◌≡◌, ◌++◌, [], false, true, None, Some, Ok, IfOk, IfErr, IsTrue, OnErr, OnOk, option_map, string_bytes};
+ghost use Rattle.kmip_batches.specs.Members.{may_have};
 ghost use Rattle.kmip_plan.specs.Prolonging.{Prolongs};
 ghost use Rattle.kmip_plan.specs.Reading.{plan_read};
 ghost use Rattle.kmip_check.specs.Checking.{is_memory};
@@ -31,33 +32,36 @@ use kmip_ttlv::NoMemory;
 use std::alloc::Global;
 use std::io::Write;
 
-/// Runs `sim`, and prints a line for want of memory.
+/// Runs `sim`, and prints a line for want of memory. A message asks about at most `batch` keys, 1 to
+/// 8.
 pub fn run_sim<W: Write>(
     alloc: Global,
     detail: Detail,
+    batch: usize,
     plan: &str,
     further: Option<&str>,
     script: &str,
     writer: &mut W,
 ) -> ExitStatus
-    ensures text { IfWhole result (λ r. WritesSim detail (plan_read plan.now)
+    requires batch { IsTrue (may_have batch) }
+    ensures text { IfWhole result (λ r. WritesSim detail batch (plan_read plan.now)
         (option_map (λ text. plan_read text.now) further.entry) r
         (W.contents writer.old) (W.contents writer.new)) }
-    ensures broken { IfFailed result (λ fault. UnlessOutput fault (BreaksOffSim detail
+    ensures broken { IfFailed result (λ fault. UnlessOutput fault (BreaksOffSim detail batch
         (plan_read plan.now) (option_map (λ text. plan_read text.now) further.entry)
         (fault_line fault) (W.contents writer.old) (W.contents writer.new))) }
 {
-    let ended = sim(alloc, detail, plan, further, script, writer);
+    let ended = sim(alloc, detail, batch, plan, further, script, writer);
     finished(ended, writer)
 }
 
 /// Carries out the text of a plan over a link to a server in memory that follows the text of a
 /// script, and writes in this detail how the runs of the script ended, what was asked, and the
-/// objects at the end. Where there is the text of a further plan, the script has the word `prolong`
-/// once: the runs behind it are for the further plan. Writes one line where the plan is refused, else
-/// where the further plan is or does not prolong the plan, else where the script is. Says whether one
-/// of them was refused, or the last run left a key of its plan unfinished. Nothing is written before
-/// all of it is made.
+/// objects at the end. A message asks about at most `batch` keys, 1 to 8. Where there is the text of
+/// a further plan, the script has the word `prolong` once: the runs behind it are for the further
+/// plan. Writes one line where the plan is refused, else where the further plan is or does not
+/// prolong the plan, else where the script is. Says whether one of them was refused, or the last run
+/// left a key of its plan unfinished. Nothing is written before all of it is made.
 ///
 /// # Errors
 ///
@@ -66,19 +70,21 @@ pub fn run_sim<W: Write>(
 pub fn sim<W: Write>(
     alloc: Global,
     detail: Detail,
+    batch: usize,
     plan: &str,
     further: Option<&str>,
     script: &str,
     writer: &mut W,
 ) -> Result<bool, CommandFault>
-    ensures text { IfOk result (λ r. WritesSim detail (plan_read plan.now)
+    requires batch { IsTrue (may_have batch) }
+    ensures text { IfOk result (λ r. WritesSim detail batch (plan_read plan.now)
         (option_map (λ text. plan_read text.now) further.entry) r
         (W.contents writer.old) (W.contents writer.new)) }
-    ensures broken { IfErr result (λ fault. UnlessOutput fault (BreaksOffSim detail
+    ensures broken { IfErr result (λ fault. UnlessOutput fault (BreaksOffSim detail batch
         (plan_read plan.now) (option_map (λ text. plan_read text.now) further.entry) []
         (W.contents writer.old) (W.contents writer.new))) }
 {
-    let told = told_of(alloc, detail, plan, further, script)?;
+    let told = told_of(alloc, detail, batch, plan, further, script)?;
     send(told.text.as_slice(), false, writer)?;
     Ok(told.ended?)
 }
@@ -92,19 +98,21 @@ pub fn sim<W: Write>(
 pub fn sim_bytes(
     alloc: Global,
     detail: Detail,
+    batch: usize,
     plan: &str,
     further: Option<&str>,
     script: &str,
     output: &mut Vec<u8>,
 ) -> Result<bool, NoMemory>
-    ensures text { IfOk result (λ r. WritesSim detail (plan_read plan.now)
+    requires batch { IsTrue (may_have batch) }
+    ensures text { IfOk result (λ r. WritesSim detail batch (plan_read plan.now)
         (option_map (λ text. plan_read text.now) further.entry) r
         (Some output.old.items) (Some output.new.items)) }
-    ensures broken { OnErr result (BreaksOffSim detail (plan_read plan.now)
+    ensures broken { OnErr result (BreaksOffSim detail batch (plan_read plan.now)
         (option_map (λ text. plan_read text.now) further.entry) []
         (Some output.old.items) (Some output.new.items)) }
 {
-    let told = told_of(alloc, detail, plan, further, script)?;
+    let told = told_of(alloc, detail, batch, plan, further, script)?;
     push_text(told.text.as_slice(), output)?;
     told.ended
 }
@@ -125,15 +133,17 @@ struct Told {
 fn told_of(
     alloc: Global,
     detail: Detail,
+    batch: usize,
     plan: &str,
     further: Option<&str>,
     script: &str,
 ) -> Result<Told, NoMemory>
-    ensures { IfOk result (λ told. TellsSim detail (plan_read plan.now)
+    requires batch { IsTrue (may_have batch) }
+    ensures { IfOk result (λ told. TellsSim detail batch (plan_read plan.now)
         (option_map (λ text. plan_read text.now) further.entry) told.ended told.text.items) }
 {
     match read_plan(alloc, plan) {
-        Ok(plan) => told_of_plan(alloc, detail, plan, further, script),
+        Ok(plan) => told_of_plan(alloc, detail, batch, plan, further, script),
         Err(fault) => Ok(told_of_fault(alloc, &fault)?),
     }
 }
@@ -142,18 +152,20 @@ fn told_of(
 fn told_of_plan(
     alloc: Global,
     detail: Detail,
+    batch: usize,
     plan: Plan,
     further: Option<&str>,
     script: &str,
 ) -> Result<Told, NoMemory>
-    ensures { IfOk result (λ told. TellsSim detail (Ok plan)
+    requires batch { IsTrue (may_have batch) }
+    ensures { IfOk result (λ told. TellsSim detail batch (Ok plan)
         (option_map (λ text. plan_read text.now) further.entry) told.ended told.text.items) }
 {
     let Some(further) = further else {
-        return told_of_script(alloc, detail, &plan, script);
+        return told_of_script(alloc, detail, batch, &plan, script);
     };
     match read_plan(alloc, further) {
-        Ok(further) => told_of_plans(alloc, detail, plan, further, script),
+        Ok(further) => told_of_plans(alloc, detail, batch, plan, further, script),
         Err(fault) => Ok(told_of_fault(alloc, &fault)?),
     }
 }
@@ -162,18 +174,20 @@ fn told_of_plan(
 fn told_of_plans(
     alloc: Global,
     detail: Detail,
+    batch: usize,
     plan: Plan,
     further: Plan,
     script: &str,
 ) -> Result<Told, NoMemory>
+    requires batch { IsTrue (may_have batch) }
     ensures { IfOk result (λ told.
-        TellsSim detail (Ok plan) (Some (Ok further)) told.ended told.text.items) }
+        TellsSim detail batch (Ok plan) (Some (Ok further)) told.ended told.text.items) }
 {
     if !prolongs(&further, &plan) {
         return told_of_prolongs_not(alloc);
     }
     match script_in(alloc, script, 1) {
-        Ok(script) => told_of_simulations(alloc, detail, plan, further, script),
+        Ok(script) => told_of_simulations(alloc, detail, batch, plan, further, script),
         Err(ScriptFault::Line(line)) => told_of_script_fault(alloc, line),
         Err(ScriptFault::NoMemory) => Err(NoMemory),
     }
@@ -183,13 +197,15 @@ fn told_of_plans(
 fn told_of_script(
     alloc: Global,
     detail: Detail,
+    batch: usize,
     plan: &Plan,
     script: &str,
 ) -> Result<Told, NoMemory>
-    ensures { IfOk result (λ told. TellsSim detail (Ok plan.now) None told.ended told.text.items) }
+    requires batch { IsTrue (may_have batch) }
+    ensures { IfOk result (λ told. TellsSim detail batch (Ok plan.now) None told.ended told.text.items) }
 {
     match script_in(alloc, script, 0) {
-        Ok(script) => told_of_simulation(alloc, detail, plan, script),
+        Ok(script) => told_of_simulation(alloc, detail, batch, plan, script),
         Err(ScriptFault::Line(line)) => told_of_script_fault(alloc, line),
         Err(ScriptFault::NoMemory) => Err(NoMemory),
     }
@@ -263,13 +279,15 @@ fn script_refusal_text(alloc: Global, line: usize) -> Result<String, NoMemory>
 fn told_of_simulation(
     alloc: Global,
     detail: Detail,
+    batch: usize,
     plan: &Plan,
     script: Script,
 ) -> Result<Told, NoMemory>
+    requires batch { IsTrue (may_have batch) }
     requires none { prolongings script ≡ 0 }
-    ensures { IfOk result (λ told. TellsSimulation detail plan.now told.ended told.text.items) }
+    ensures { IfOk result (λ told. TellsSimulation detail batch plan.now told.ended told.text.items) }
 {
-    let simulation = simulate(alloc, plan, script)?;
+    let simulation = simulate(alloc, plan, script, batch)?;
     let told = told_of_end(alloc, detail, &simulation)?;
     Ok(told)
 }
@@ -278,17 +296,19 @@ fn told_of_simulation(
 fn told_of_simulations(
     alloc: Global,
     detail: Detail,
+    batch: usize,
     plan: Plan,
     further: Plan,
     script: Script,
 ) -> Result<Told, NoMemory>
+    requires batch { IsTrue (may_have batch) }
     requires prolongs { Prolongs further plan }
     requires one { prolongings script ≡ 1 }
     ensures { IfOk result (λ told.
-        TellsSimulations detail plan further told.ended told.text.items) }
+        TellsSimulations detail batch plan further told.ended told.text.items) }
 {
     let plans = [plan, further];
-    let simulation = simulate_plans(alloc, plans.as_slice(), script)?;
+    let simulation = simulate_plans(alloc, plans.as_slice(), script, batch)?;
     let told = told_of_end(alloc, detail, &simulation)?;
     Ok(told)
 }

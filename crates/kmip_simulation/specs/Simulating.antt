@@ -1,6 +1,6 @@
 -- What holds of a campaign over a link in memory that followed a script, and of all that happened.
 -- Source: own.
-use Rattle.std.specs.Prelude.{◌≡◌, ⊤, List, [], length, filter, take, None}
+use Rattle.std.specs.Prelude.{◌≡◌, ℕ, ⊤, List, [], length, filter, map, take, None}
 use Rattle.std.specs.List.{All, AllZip}
 use Rattle.kmip_chains.specs.declared.key.Key.{Key}
 use Rattle.kmip_client.specs.Held.{TrueProgress}
@@ -24,6 +24,10 @@ use Rattle.kmip_scripted.specs.declared.script.Word.{Word}
 abbrev pub AreMade : List Key → List Run → CampaignEnd → Type 0
 AreMade keys runs end = AllZip (IsEnd keys) runs end.runs.items × (length end.saved.items ≡ length (filter saves runs))
 
+-- the runs, each of which asks about so many keys at once
+abbrev pub in_batches : ℕ → List Run → List Run
+in_batches batch runs = map (λ (run : Run). record run { batch = batch }) runs
+
 -- no word of a link's script is left: from then on it loses, delays and repeats nothing
 abbrev pub HasNoWord : Scene → Names → Type 0
 HasNoWord link names = link.words ≡ []
@@ -46,27 +50,27 @@ pub record IsCarriedOut (keys : List Key) (runs : List Run) (end : CampaignEnd) 
   pub outlasts : end.fault ≡ None → AllOutlast keys runs end.runs.items (disturbances_in before) (disturbances_in after)
   pub ended : AreEnded end.runs.items (end.fault ≡ None) (length before.sent) before.ended after.ended
 
--- The runs of a script were made for a plan over a link that began with nothing and followed the script, and ended so: the first of
--- them, and where memory sufficed all. With no word in the script the link was calm, and had room for all keys. No run but these ended
--- over the link.
-pub record IsSimulated (keys : List Key) (words : List Word) (end : CampaignEnd) (link : Scene) : Type 0 where
+-- The runs of a script were made for a plan, with so many keys asked about at once, over a link that began with nothing and followed the
+-- script, and ended so: the first of them, and where memory sufficed all. With no word in the script the link was calm, and had room for
+-- all keys. No run but these ended over the link.
+pub record IsSimulated (keys : List Key) (batch : ℕ) (words : List Word) (end : CampaignEnd) (link : Scene) : Type 0 where
   pub begun : Scene
   pub opening : Opening keys (past_in begun)
   pub mirrored : IsMirrored keys (past_in link)
   pub calm : words ≡ [] → CalmLink past_in HasNoWord keys begun
-  pub carried : IsCarriedOut keys (runs_of keys words) end begun link
+  pub carried : IsCarriedOut keys (in_batches batch (runs_of keys words)) end begun link
   pub ended : AreEnded end.runs.items (end.fault ≡ None) 0 [] link.ended
 
 -- After that, a second campaign made these runs for the same plan over the same link.
-pub record IsSimulatedAgain (keys : List Key) (words : List Word) (runs : List Run) (first second : CampaignEnd) (link : Scene) : Type 0 where
+pub record IsSimulatedAgain (keys : List Key) (batch : ℕ) (words : List Word) (runs : List Run) (first second : CampaignEnd) (link : Scene) : Type 0 where
   pub between : Scene
-  pub simulated : IsSimulated keys words first between
+  pub simulated : IsSimulated keys batch words first between
   pub carried : IsCarriedOut keys runs second between link
 
--- The runs of a script with one `prolong` were made for plans in turn, each of which prolongs the one before, over one link that began
--- with nothing and followed the script, and ended so. All that holds of the runs for one plan holds of these for the last plan, what was
--- saved under an earlier one included.
-pub record AreSimulated (plans : List (List Key)) (words : List Word) (end : CampaignEnd) (link : Scene) : Type 0 where
+-- The runs of a script with one `prolong` were made for plans in turn, each of which prolongs the one before, with so many keys asked
+-- about at once, over one link that began with nothing and followed the script, and ended so. All that holds of the runs for one plan
+-- holds of these for the last plan, what was saved under an earlier one included.
+pub record AreSimulated (plans : List (List Key)) (batch : ℕ) (words : List Word) (end : CampaignEnd) (link : Scene) : Type 0 where
   pub safe : Safe (last_plan plans) (past_in link) (reported (last_plan plans) end.runs.items end.saved.items)
   pub machine : IsMirrored (last_plan plans) (past_in link)
   pub sound : Sound (last_plan plans) (past_in link)
@@ -74,6 +78,6 @@ pub record AreSimulated (plans : List (List Key)) (words : List Word) (end : Cam
   pub true_saved : All (IsTrueFor (past_in link).objects (last_plan plans)) end.saved.items
   pub begun : Scene
   pub opening : (keys : List Key) → Opening keys (past_in begun)
-  pub in_turn : AreInTurn plans (lists_of (last_plan plans) words) end.runs.items end.saved.items ⊤ (CalmStart past_in HasNoWord plans begun) (end.fault ≡ None)
+  pub in_turn : AreInTurn plans (map (in_batches batch) (lists_of (last_plan plans) words)) end.runs.items end.saved.items ⊤ (CalmStart past_in HasNoWord plans begun) (end.fault ≡ None)
       (past_in begun) (past_in link)
   pub ended : AreEnded end.runs.items (end.fault ≡ None) 0 [] link.ended

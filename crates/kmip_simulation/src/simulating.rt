@@ -1,11 +1,14 @@
 //! A campaign over a link in memory that follows a script.
-ghost use Rattle.std.specs.Prelude.{◌≡◌, List, [], length, IfOk};
+ghost use Rattle.std.specs.Prelude.{◌≡◌, List, [], length, map, IfOk, IsTrue};
+ghost use Rattle.std.specs.List.{All};
+ghost use Rattle.kmip_batches.specs.Members.{may_have};
 ghost use Rattle.kmip_chains.specs.declared.key.Key.{Key};
 ghost use Rattle.kmip_schedule.specs.Sound.{Opening, Sound};
 ghost use Rattle.kmip_scripted.specs.Scenes.{past_in};
 ghost use Rattle.kmip_scripted.specs.Words.{next_words, prolongings};
+ghost use Rattle.kmip_session.specs.Campaign.{MayBatch};
 ghost use Rattle.kmip_session.specs.Campaigns.{AreProlonged};
-ghost use Rattle.kmip_simulation.specs.Simulating.{AreSimulated, IsCarriedOut, IsSimulated, IsSimulatedAgain};
+ghost use Rattle.kmip_simulation.specs.Simulating.{AreSimulated, IsCarriedOut, IsSimulated, IsSimulatedAgain, in_batches};
 ghost use Rattle.kmip_simulation.specs.SimText.{is_last_finished};
 ghost use Rattle.kmip_store.specs.declared.identifying.TheConstants.{MOST_ROOM};
 
@@ -26,18 +29,26 @@ pub struct Simulation {
 }
 
 /// Makes the runs of a script without `prolong` for a plan, over a link to a new server that follows
-/// the script. Where memory runs out in a run, the end says so and has the runs before it.
+/// the script; each message asks about so many keys at most, 1 to 8. Where memory runs out in a run,
+/// the end says so and has the runs before it.
 ///
 /// # Errors
 /// Where there is no memory for the list of the runs.
-pub fn simulate(alloc: Global, plan: &Plan, script: Script) -> Result<Simulation, NoMemory>
+pub fn simulate(
+    alloc: Global,
+    plan: &Plan,
+    script: Script,
+    batch: usize,
+) -> Result<Simulation, NoMemory>
     requires none { prolongings script ≡ 0 }
-    ensures { IfOk result (λ s. IsSimulated plan.now script s.end s.link) }
+    requires batch { IsTrue (may_have batch) }
+    ensures { IfOk result (λ s. IsSimulated plan.now batch script s.end s.link) }
 {
     nothing_done_is_sound();
     opening_is_mirrored();
     plan.keys();
     let runs = script.runs(alloc, plan)?;
+    let runs = in_batches(alloc, runs.as_slice(), batch)?;
     let mut link = new_link(alloc, script);
     let end = carry_out(alloc, plan, &mut link, runs.as_slice());
     Ok(Simulation { end, link })
@@ -52,12 +63,16 @@ pub fn simulate_again(
     alloc: Global,
     plan: &Plan,
     script: Script,
+    batch: usize,
     runs: &[Run],
 ) -> Result<(Simulation, CampaignEnd), NoMemory>
     requires none { prolongings script ≡ 0 }
-    ensures { IfOk result (λ s. IsSimulatedAgain plan.now script runs.now s.0.end s.1 s.0.link) }
+    requires batch { IsTrue (may_have batch) }
+    requires batches { MayBatch runs.now }
+    ensures { IfOk result (λ s.
+        IsSimulatedAgain plan.now batch script runs.now s.0.end s.1 s.0.link) }
 {
-    let mut first = simulate(alloc, plan, script)?;
+    let mut first = simulate(alloc, plan, script, batch)?;
     let second = carry_out(alloc, plan, &mut first.link, runs);
     Ok((first, second))
 }
@@ -70,6 +85,7 @@ fn carry_out(
     runs: &[Run],
 ) -> CampaignEnd
     requires sound { Sound plan.now (past_in link.old) }
+    requires batches { MayBatch runs.now }
     ensures { IsCarriedOut plan.now runs.now result link.old link.new }
 {
     campaign(alloc, plan, link, runs)
@@ -77,21 +93,67 @@ fn carry_out(
 
 /// Makes the runs of a script with one `prolong` over a link to a new server that follows the script:
 /// those before it for the first of two plans, and those behind it for the second, which prolongs the
-/// first. Where memory runs out in a run, the end says so and has the runs before it.
+/// first; each message asks about so many keys at most, 1 to 8. Where memory runs out in a run, the
+/// end says so and has the runs before it.
 ///
 /// # Errors
 /// Where there is no memory for the lists of the runs.
-pub fn simulate_plans(alloc: Global, plans: &[Plan], script: Script) -> Result<Simulation, NoMemory>
+pub fn simulate_plans(
+    alloc: Global,
+    plans: &[Plan],
+    script: Script,
+    batch: usize,
+) -> Result<Simulation, NoMemory>
     requires two { length plans.now ≡ 2 }
     requires prolong { AreProlonged plans.now }
     requires one { prolongings script ≡ 1 }
-    ensures { IfOk result (λ s. AreSimulated plans.now script s.end s.link) }
+    requires batch { IsTrue (may_have batch) }
+    ensures { IfOk result (λ s. AreSimulated plans.now batch script s.end s.link) }
 {
     nothing_done_is_sound();
     let lists = script.lists(alloc, &plans[1])?;
+    let lists = all_in_batches(alloc, lists.as_slice(), batch)?;
     let mut link = new_link(alloc, script);
     let end = campaigns(alloc, plans, &mut link, lists.as_slice());
     Ok(Simulation { end, link })
+}
+
+/// The runs, each of which asks about so many keys at once.
+///
+/// # Errors
+/// Where there is no memory for them.
+fn in_batches(alloc: Global, runs: &[Run], batch: usize) -> Result<Vec<Run>, NoMemory>
+    requires { IsTrue (may_have batch) }
+    ensures runs { IfOk result (λ v. v.items ≡ in_batches batch runs.now) }
+    ensures may { IfOk result (λ v. MayBatch v.items) }
+{
+    let mut batched = Vec::with_capacity(alloc, runs.len())?;
+    for run in runs {
+        batched.push(Run { batch, ..*run })?;
+    }
+    Ok(batched)
+}
+
+/// The same of lists of runs.
+///
+/// # Errors
+/// Where there is no memory for them.
+fn all_in_batches(
+    alloc: Global,
+    lists: &[Vec<Run>],
+    batch: usize,
+) -> Result<Vec<Vec<Run>>, NoMemory>
+    requires { IsTrue (may_have batch) }
+    ensures lists { IfOk result (λ v. map (λ list. list.items) v.items
+        ≡ map (in_batches batch) (map (λ list. list.items) lists.now)) }
+    ensures may { IfOk result (λ v. All (λ list. MayBatch list.items) v.items) }
+    ensures as_many { IfOk result (λ v. length v.items ≡ length lists.now) }
+{
+    let mut batched = Vec::with_capacity(alloc, lists.len())?;
+    for runs in lists {
+        batched.push(in_batches(alloc, runs.as_slice(), batch)?)?;
+    }
+    Ok(batched)
 }
 
 /// A link to a new server, over which nothing has happened yet.

@@ -35,4 +35,4 @@ unknown_past = record { room = 0; objects = []; requests = []; replies = []; eff
 
 -- Private: and no exchange is counted, clean or disturbed
 abbrev pub none_counted : Disturbances
-none_counted = record { disturbed = 0; strange = 0 }
+none_counted = record { disturbed = 0; requests = 0; strange = 0 }

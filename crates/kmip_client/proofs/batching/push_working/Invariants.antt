@@ -1,6 +1,6 @@
 -- What was noted and what is left up to the end, cut at the most, is the whole, cut there.
 use Rattle.std.proofs.Common.{◌≡◌, ◌≤◌, ◌++◌, length, take, drop}
-use Rattle.kmip_client.specs.Batches.{all_working_from}
+use Rattle.kmip_client.specs.Asking.{all_working_from}
 use Rattle.kmip_client.proofs.batching.push_working.Given as goal
 
 abbrev pub invariant-loop-place : goal.invariant-loop-place

@@ -2,12 +2,11 @@
 use Rattle.std.proofs.Common.{◌≡◌, ◌∙◌, length, Some, refl, sym, ap}
 use Rattle.std.proofs.lemmas.Option.{slice_get_read}
 use Rattle.kmip_messages.specs.declared.request.Request.{Request}
-use Rattle.kmip_client.specs.Batches.{at_place, part_about}
+use Rattle.kmip_client.specs.Asking.{at_place, part_about}
 use Rattle.kmip_client.specs.Questions.{request_about}
 use Rattle.kmip_client.specs.Shapes.{IsShaped}
-use Rattle.kmip_client.proofs.BatchLemmas.{at_said, part_of}
+use Rattle.kmip_client.proofs.AskingLemmas.{at_said, if_ok, part_of, within_some}
 use Rattle.kmip_client.proofs.ClientLemmas.{at_both}
-use Rattle.kmip_client.proofs.TurnLemmas.{if_ok, within_some}
 use Rattle.kmip_client.proofs.batching.request_at.Goals as goal
 
 pub request_about-requires : goal.request_about-requires

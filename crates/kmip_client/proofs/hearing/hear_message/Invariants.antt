@@ -2,7 +2,7 @@
 use Rattle.std.proofs.Common.{◌≡◌, ◌≤◌, ◌+◌, ◌++◌, length}
 use Rattle.std.specs.Vec.{vec_len, vec_capacity}
 use Rattle.kmip_batches.specs.Items.{replies_in}
-use Rattle.kmip_client.specs.Batches.{hear_each, known_after_each}
+use Rattle.kmip_client.specs.Hearing.{hear_each, known_after_each}
 use Rattle.kmip_client.specs.Clients.{working_count}
 use Rattle.kmip_client.proofs.hearing.hear_message.Given as goal
 

@@ -1,5 +1,5 @@
 -- Reply by reply, and for each key.
-use Rattle.kmip_client.proofs.BatchLemmas.{held_by_each}
+use Rattle.kmip_client.proofs.MessageLemmas.{held_by_each}
 use Rattle.kmip_client.proofs.HeldLemmas.{lost_held}
 use Rattle.kmip_client.proofs.laws.hearing_keeps_the_truth.Goals as goal
 

@@ -35,7 +35,7 @@ returns-clause-ended g c = λ honest.
     let done = c.exchange_in_turn-carried in
     let end = c.after_close.ensures in
     let known = done.ensures.carried.went.known honest in
-    ended_whole c.args.client.now.keys (past c.args.link.now) (past done.new.link) c.args.client.now.knowns done.new.client.knowns c.close-closed.result
+    ended_whole c.args.client.now.keys c.args.client.now.batch (past c.args.link.now) (past done.new.link) c.args.client.now.knowns done.new.client.knowns c.close-closed.result
     done.result.0 c.after_close.result done.result.1 (g.L.Link.ended c.args.link.now) (g.L.Link.ended done.new.link) (g.L.Link.ended c.close-closed.new.link)
     end.whole end.stop end.fault known.1 (done.ensures.ended honest) (c.close-closed.ensures.ended names known.0)
 

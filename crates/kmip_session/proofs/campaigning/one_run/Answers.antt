@@ -54,7 +54,7 @@ pub returns-clause-ran : goal.returns-clause-ran
 returns-clause-ran g c =
     always_ok c.close.result
     (ran_closed g.L.Link.past g.L.Link.honest c.args.plan.now c.args.carried.now c.args.run c.args.client.now c.begin.new.client c.drive-driven.new.client c.args.link.now
-    c.drive-driven.new.link c.close.new.link c.drive-driven.result c.args.end.now c.finish.new.end c.begin.ensures.keys
+    c.drive-driven.new.link c.close.new.link c.drive-driven.result c.args.end.now c.finish.new.end c.begin.ensures.keys c.in_ok-begin.ensures.batch
     (subst (λ ps. c.begin.new.client.knowns ≡ start_knowns c.args.plan.now c.args.run.start c.args.client.now.knowns (c.args.carried.now ++ ps)) c.as_slice.ensures.value
     c.in_ok-begin.ensures.begun)
     c.drive-driven.ensures.kept
@@ -65,7 +65,7 @@ pub returns-clause-broken : goal.returns-clause-broken
 returns-clause-broken g c =
     always_err c.close.result
     (inr (ran_closed g.L.Link.past g.L.Link.honest c.args.plan.now c.args.carried.now c.args.run c.args.client.now c.begin.new.client c.drive-driven.new.client c.args.link.now
-    c.drive-driven.new.link c.close.new.link c.drive-driven.result c.args.end.now c.finish.new.end c.begin.ensures.keys
+    c.drive-driven.new.link c.close.new.link c.drive-driven.result c.args.end.now c.finish.new.end c.begin.ensures.keys c.in_ok-begin.ensures.batch
     (subst (λ ps. c.begin.new.client.knowns ≡ start_knowns c.args.plan.now c.args.run.start c.args.client.now.knowns (c.args.carried.now ++ ps)) c.as_slice.ensures.value
     c.in_ok-begin.ensures.begun)
     c.drive-driven.ensures.kept
@@ -127,7 +127,7 @@ returns-clause-ended g c = λ honest.
     let driven = c.drive-driven.new.link in
     let known = c.drive-driven.ensures.known (subst (λ ks. g.L.Link.honest c.args.link.now (is_planned ks)) (sym c.begin.ensures.keys) honest) in
     let still = c.drive-driven.ensures.honest names honest in
-    join_run c.begin.new.client.keys c.drive-driven.new.client.keys names c.args.run c.begin.new.client.knowns c.drive-driven.new.client.knowns
+    join_run c.begin.new.client.keys c.drive-driven.new.client.keys c.begin.new.client.batch names c.args.run c.begin.new.client.knowns c.drive-driven.new.client.knowns
     c.drive-driven.new.client.knowns c.drive-driven.result (past c.args.link.now) (past driven) (past c.close.new.link) c.args.end.now c.finish.new.end
     (c.close.result ≡ Ok tt) (g.L.Link.ended c.args.link.now) (g.L.Link.ended driven) (g.L.Link.ended c.close.new.link) c.in_ok-finish.ensures.ended.0
     (known.1 c.in_ok-finish.ensures.ended.1) (c.close.ensures.honest names still).1 (c.drive-driven.ensures.ended names honest)

@@ -2,13 +2,13 @@
 use Rattle.std.proofs.Common.{◌≡◌, ◌≤◌, ◌<◌, ◌∙◌, refl, rules, subst, arith}
 use Rattle.std.specs.Prelude.{⊤}
 use Rattle.kmip_client.specs.Clients.{one_if}
-use Rattle.kmip_session.specs.Driving.{Learnt}
-use Rattle.kmip_session.specs.Losing.{ArePaid, IsEnough, left_for}
+use Rattle.kmip_session.specs.Driving.{Learnt, Nearer}
+use Rattle.kmip_session.specs.Losing.{ArePaid, left_for}
 use Rattle.kmip_session.proofs.LosingLemmas.{paid_end, paid_limit, paid_none, paid_then}
 use Rattle.kmip_session.proofs.CompleteLemmas.{completed, untouched_settles}
-use Rattle.kmip_session.proofs.DriveLemmas.{broken_end, driven_none, driven_then, few_made, further_if, further_last, known_end}
+use Rattle.kmip_session.proofs.DriveLemmas.{asks_one, broken_end, driven_none, driven_then, few_made, further_if, further_last, known_end}
 use Rattle.kmip_session.proofs.KnownLemmas.{learnt_long, off_long}
-use Rattle.kmip_session.proofs.SettleLemmas.{Nearer, finished_stop, nearer_end, nearer_limit}
+use Rattle.kmip_session.proofs.SettleLemmas.{finished_stop, nearer_end, nearer_limit}
 use Rattle.kmip_session.proofs.GoodLemmas.{keeps_then}
 use Rattle.kmip_session.proofs.driving.drive.Goals as goal
 
@@ -29,7 +29,7 @@ returns-in-Ok-false-clause-known g c = λ honest.
     let step = c.in-Ok-false.ensures.known holds in (
       step.0,
       subst
-          (λ asked. Learnt c.loop-made.client.keys (past c.loop-made.link) (past c.turn.new.link) c.loop-made.client.knowns c.turn.new.client.knowns (one_if asked))
+          (λ asked. Learnt c.loop-made.client.keys c.loop-made.client.batch (past c.loop-made.link) (past c.turn.new.link) c.loop-made.client.knowns c.turn.new.client.knowns (one_if asked))
           c.in-Ok-false.field-0-test step.1,
     )) honest in
     (ended.0, λ memory. ended.1)
@@ -54,7 +54,7 @@ loop-made-preserved g c =
                 let step = c.in-Ok-true.ensures.known honest in (
                   step.0,
                   subst
-                      (λ asked. Learnt c.loop-made.client.keys (past c.loop-made.link) (past c.turn.new.link) c.loop-made.client.knowns c.turn.new.client.knowns (one_if asked))
+                      (λ asked. Learnt c.loop-made.client.keys c.loop-made.client.batch (past c.loop-made.link) (past c.turn.new.link) c.loop-made.client.knowns c.turn.new.client.knowns (one_if asked))
                       c.in-Ok-true.field-0-test step.1,
                 );
             grown = c.turn.ensures.grown;
@@ -85,13 +85,15 @@ returns-in-Ok-false-clause-settles g c = λ settling enough memory.
     let first = c.loop-made.invariant.driven.near settling in
     let last =
     subst (λ asked. Nearer past calm c.loop-made.client c.turn.new.client c.loop-made.link c.turn.new.link (one_if asked)) c.in-Ok-false.field-0-test
-    (c.in-Ok-false.ensures.calm first.0) in
+    (c.in-Ok-false.ensures.calm first.settling) in
     let end =
-    nearer_end past calm l client c.loop-made.client c.turn.new.client c.args.link.now c.loop-made.link c.turn.new.link c.loop-made.made first last
+    nearer_end past calm l client c.loop-made.client c.turn.new.client c.args.link.now c.loop-made.link c.turn.new.link c.loop-made.made
+    (asks_one client c.loop-made.client c.loop-made.invariant.driven.keeps) first last
     (c.in-Ok-false.ensures.none c.in-Ok-false.field-0-test) in
     let few = l.bounded (past c.args.link.now).room client.keys (past c.args.link.now).objects client.knowns c.plan-plan.ensures.lawful settling.ready in (
-      finished_stop c.turn.new.client.keys c.turn.new.client.knowns c.stop_of.result end.2 c.stop_of.ensures.in_memory c.stop_of.ensures.stands,
+      finished_stop c.turn.new.client.keys c.turn.new.client.knowns c.stop_of.result end.3 c.stop_of.ensures.in_memory c.stop_of.ensures.stands,
       end.1,
+      end.2,
       omega (arith, end.1, few),
     )
 
@@ -108,7 +110,8 @@ returns-clause-settles g c = λ settling enough memory.
     nearer_limit past calm l client c.loop-made.client c.args.link.now c.loop-made.link c.args.limit c.plan-plan.ensures.lawful settling enough near in
     let few = l.bounded (past c.args.link.now).room client.keys (past c.args.link.now).objects client.knowns c.plan-plan.ensures.lawful settling.ready in (
       finished_stop c.loop-made.client.keys c.loop-made.client.knowns c.stop_of-2.result end.1 c.stop_of-2.ensures.in_memory c.stop_of-2.ensures.stands,
-      end.0,
+      omega (arith, end.0),
+      λ one. end.0,
       omega (arith, end.0, few),
     )
 
@@ -122,12 +125,13 @@ returns-in-Ok-false-clause-finishes g c = λ start enough memory.
     let first = c.loop-made.invariant.driven.near settling in
     let last =
     subst (λ asked. Nearer past calm c.loop-made.client c.turn.new.client c.loop-made.link c.turn.new.link (one_if asked)) c.in-Ok-false.field-0-test
-    (c.in-Ok-false.ensures.calm first.0) in
+    (c.in-Ok-false.ensures.calm first.settling) in
     let end =
-    nearer_end past calm l client c.loop-made.client c.turn.new.client c.args.link.now c.loop-made.link c.turn.new.link c.loop-made.made first last
+    nearer_end past calm l client c.loop-made.client c.turn.new.client c.args.link.now c.loop-made.link c.turn.new.link c.loop-made.made
+    (asks_one client c.loop-made.client c.loop-made.invariant.driven.keeps) first last
     (c.in-Ok-false.ensures.none c.in-Ok-false.field-0-test) in
     completed past calm l client c.turn.new.client c.args.link.now c.turn.new.link c.loop-made.made c.plan-plan.ensures.lawful start end.0
-    (c.turn.ensures.kept.keys_stay ∙ c.loop-made.invariant.driven.keeps.keys_stay) end.1 end.2
+    (c.turn.ensures.kept.keys_stay ∙ c.loop-made.invariant.driven.keeps.keys_stay) end.1 end.2 end.3
 
 pub returns-clause-finishes : goal.returns-clause-finishes
 returns-clause-finishes g c = λ start enough memory.
@@ -141,8 +145,8 @@ returns-clause-finishes g c = λ start enough memory.
     subst (λ n. Nearer past calm client c.loop-made.client c.args.link.now c.loop-made.link n) made (c.loop-made.invariant.driven.near settling) in
     let end =
     nearer_limit past calm l client c.loop-made.client c.args.link.now c.loop-made.link c.args.limit c.plan-plan.ensures.lawful settling enough near in
-    completed past calm l client c.loop-made.client c.args.link.now c.loop-made.link c.args.limit c.plan-plan.ensures.lawful start near.0
-    c.loop-made.invariant.driven.keeps.keys_stay end.0 end.1
+    completed past calm l client c.loop-made.client c.args.link.now c.loop-made.link c.args.limit c.plan-plan.ensures.lawful start near.settling
+    c.loop-made.invariant.driven.keeps.keys_stay (omega (arith, end.0)) (λ one. end.0) end.1
 
 pub returns-in-Ok-false-clause-broken : goal.returns-in-Ok-false-clause-broken
 returns-in-Ok-false-clause-broken g c = λ honest is. absurd (c.stop_of.ensures.in_memory is)
@@ -183,10 +187,10 @@ returns-in-Ok-false-clause-few g c = λ honest.
     let step = c.in-Ok-false.ensures.known holds in (
       step.0,
       subst
-          (λ asked. Learnt c.loop-made.client.keys (past c.loop-made.link) (past c.turn.new.link) c.loop-made.client.knowns c.turn.new.client.knowns (one_if asked))
+          (λ asked. Learnt c.loop-made.client.keys c.loop-made.client.batch (past c.loop-made.link) (past c.turn.new.link) c.loop-made.client.knowns c.turn.new.client.knowns (one_if asked))
           c.in-Ok-false.field-0-test step.1,
     )) honest in
-    let long = learnt_long c.args.client.now.keys (past c.args.link.now) (past c.turn.new.link) c.args.client.now.knowns c.turn.new.client.knowns c.loop-made.made ended.1 in
+    let long = learnt_long c.args.client.now.keys c.args.client.now.batch (past c.args.link.now) (past c.turn.new.link) c.args.client.now.knowns c.turn.new.client.knowns c.loop-made.made ended.1 in
     let below : c.loop-made.made < c.args.limit = search rules in
     omega (arith, long, below)
 
@@ -197,8 +201,8 @@ returns-in-Err-clause-few g c = λ honest.
     broken_end past g.L.Link.honest g.L.Link.calm c.args.client.now c.loop-made.client c.turn.new.client c.args.link.now c.loop-made.link c.turn.new.link
     c.loop-made.made c.loop-made.invariant.driven c.in-Err.ensures.broken honest in
     let keys = c.args.client.now.keys in
-    let first = learnt_long keys (past c.args.link.now) off.0 c.args.client.now.knowns c.turn.new.client.knowns c.loop-made.made off.1 in
-    let last = off_long keys off.0 (past c.turn.new.link) off.2 in
+    let first = learnt_long keys c.args.client.now.batch (past c.args.link.now) off.0 c.args.client.now.knowns c.turn.new.client.knowns c.loop-made.made off.1 in
+    let last = off_long keys c.args.client.now.batch off.0 (past c.turn.new.link) off.2 in
     let below : c.loop-made.made < c.args.limit = search rules in
     omega (arith, first, last, below)
 

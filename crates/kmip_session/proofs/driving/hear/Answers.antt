@@ -4,8 +4,12 @@ use Rattle.kmip_client.specs.Clients.{ClientState}
 use Rattle.kmip_session.proofs.GoodLemmas.{keeps_then}
 use Rattle.kmip_session.proofs.driving.hear.Goals as goal
 
-pub returns-then-not-is_answer_to-clause-kept : goal.returns-then-not-is_answer_to-clause-kept
-returns-then-not-is_answer_to-clause-kept c =
-    keeps_then c.args.client.now c.hear.new.self c.lost.new.self
-    (record { keys_stay = ap (λ (s : ClientState). s.keys) c.hear.ensures.stays; kept = c.hear.ensures.kept })
-    (record { keys_stay = ap (λ (s : ClientState). s.keys) c.lost.ensures.lost; kept = c.lost.ensures.kept })
+pub returns-in-Ok-clause-kept : goal.returns-in-Ok-clause-kept
+returns-in-Ok-clause-kept c =
+    keeps_then c.args.client.now c.hear.new.self c.lose_unanswered.new.client
+    (record {
+      keys_stay = ap (λ (s : ClientState). s.keys) c.hear.ensures.stays;
+      batch_stays = ap (λ (s : ClientState). s.batch) c.hear.ensures.stays;
+      kept = c.hear.ensures.kept;
+    })
+    c.lose_unanswered.ensures.kept

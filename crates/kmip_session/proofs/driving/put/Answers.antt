@@ -1,15 +1,16 @@
 -- Asked for good, handed over, and learnt.
-use Rattle.std.proofs.Common.{◌≡◌, None, rules, option_map, ap, subst, sym}
-use Rattle.std.proofs.lemmas.Option.{slice_get_within}
-use Rattle.kmip_client.specs.Clients.{ClientState}
+use Rattle.std.proofs.Common.{◌≡◌, None, rules, option_map, subst, sym}
 use Rattle.kmip_client.specs.Justified.{JustifiedMessage}
 use Rattle.kmip_schedule.specs.Exchanges.{Exchanged, HandsOver, answer_in}
 use Rattle.kmip_schedule.specs.Past.{is_planned}
 use Rattle.kmip_schedule.specs.Losses.{or_loss}
+use Rattle.kmip_settling.specs.Turns.{lost_each}
+use Rattle.kmip_session.specs.Driving.{AreParts}
 use Rattle.kmip_session.proofs.FurtherLemmas.{further_asked}
 use Rattle.kmip_session.proofs.GoodLemmas.{good_left, if_handed, left, told}
 use Rattle.kmip_session.proofs.KnownLemmas.{broken_asked, broken_handed, exchanged_grown, handed_over, learnt_one, lost_facts, on_err, on_ok}
 use Rattle.kmip_session.proofs.LosingLemmas.{paid_one}
+use Rattle.kmip_session.proofs.PutLemmas.{are_parts}
 use Rattle.kmip_session.proofs.SettleLemmas.{nearer_one}
 use Rattle.kmip_session.proofs.driving.put.Goals as goal
 
@@ -21,11 +22,14 @@ returns-in_default-clause-good g c = λ good just.
     let l =
     left past honest c.laws_below.ensures client c.args.link.now c.exchange.new.self c.as_slice.result.now _ c.plan-plan.ensures.lawful good
     (subst (λ bytes. JustifiedMessage client.keys (past c.args.link.now).objects bytes) (sym c.as_slice.ensures) just) c.exchange.ensures.honest in
-    good_left past honest client c.lost.new.self c.args.link.now c.exchange.new.self l (ap (λ (s : ClientState). s.keys) c.lost.ensures.lost)
-    (c.lost.ensures.held (past c.exchange.new.self).objects l.held)
+    good_left past honest client c.lose_each.new.client c.args.link.now c.exchange.new.self l c.lose_each.ensures.kept.keys_stay
+    (c.lose_each.ensures.held (past c.exchange.new.self).objects l.held)
+
+pub lose_each-requires : goal.lose_each-requires
+lose_each-requires g c = subst (AreParts c.args.client.now.keys) (sym c.as_slice-in_default.ensures) (are_parts c.args.client.now c.args.question.now c.requires)
 
 pub learn-requires : goal.learn-requires
-learn-requires g c = slice_get_within c.args.client.now.keys c.args.question.now.key c.requires.key c.requires.key_is
+learn-requires g c = are_parts c.args.client.now c.args.question.now c.requires
 
 pub returns-clause-good : goal.returns-clause-good
 returns-clause-good g c = λ good just.
@@ -52,8 +56,8 @@ returns-clause-known g c = λ honest.
     (handed_over (is_planned client.keys) (past c.args.link.now) (past c.exchange.new.self) c.as_slice.result.now _ _ (sym c.in-Ok.ensures) step.1) in (
       step.0,
       on_ok c.learn.result
-          (learnt_one c.laws_below.ensures.found c.laws_below.ensures.lost (is_planned client.keys) client c.learn.new.client (past c.args.link.now)
-          (past c.exchange.new.self) c.args.question.now _ c.plan-plan.ensures.lawful c.requires hands)
+          (learnt_one c.laws_below.ensures.lost (is_planned client.keys) client c.learn.new.client (past c.args.link.now) (past c.exchange.new.self)
+          c.args.question.now _ c.requires hands)
           c.learn.ensures.taught,
     )
 
@@ -83,12 +87,13 @@ returns-in_default-clause-broken g c = λ honest.
     let names = is_planned client.keys in
     let answered = answer_in (λ v. v.items) c.exchange.result in
     let none : or_loss answered ≡ None = search rules in
+    let lost =
+    subst (λ parts. c.lose_each.new.client ≡ record client { knowns = lost_each client.keys parts client.knowns }) c.as_slice-in_default.ensures c.lose_each.ensures.lost in
     let step =
     subst (λ bytes. Exchanged names (past c.args.link.now) bytes answered (past c.exchange.new.self)) c.as_slice.ensures
     (c.exchange.ensures.honest names honest).1 in (
-      lost_facts l.lost client c.lost.new.self c.args.question.now.key c.lost.ensures.lost,
-      broken_asked l.found names client (past c.args.link.now) (past c.exchange.new.self) c.args.question.now answered c.plan-plan.ensures.lawful c.requires none
-          step,
+      lost_facts l.lost client c.lose_each.new.client c.args.question.now lost,
+      broken_asked names client (past c.args.link.now) (past c.exchange.new.self) c.args.question.now answered c.requires none step,
     )
 
 pub returns-clause-broken : goal.returns-clause-broken
@@ -103,24 +108,24 @@ returns-clause-broken g c = λ honest.
     (c.exchange.ensures.honest names honest).1) in
     on_err c.learn.result
     (λ lost. (
-      lost_facts l.lost client c.learn.new.client c.args.question.now.key lost,
-      broken_handed l.found names client (past c.args.link.now) (past c.exchange.new.self) c.args.question.now _ c.plan-plan.ensures.lawful c.requires hands,
+      lost_facts l.lost client c.learn.new.client c.args.question.now lost,
+      broken_handed names client (past c.args.link.now) (past c.exchange.new.self) c.args.question.now _ c.requires hands,
     ))
     c.learn.ensures.lost
 
 pub returns-in_default-clause-further : goal.returns-in_default-clause-further
 returns-in_default-clause-further g c = λ good just.
     let client = c.args.client.now in
-    further_asked g.L.Link.past g.L.Link.honest g.L.Link.calm c.laws_below.ensures client c.args.link.now c.exchange.new.self c.as_slice.result.now _ c.args.question.now
-    _ c.plan-plan.ensures.lawful c.requires c.as_slice.ensures c.exchange.ensures.honest c.exchange.ensures.calm c.calm_laws.ensures.honest
+    further_asked g.L.Link.past g.L.Link.honest g.L.Link.calm c.laws_below.ensures client c.args.link.now c.exchange.new.self c.as_slice.result.now _ c.requires.places
+    c.args.question.now _ c.plan-plan.ensures.lawful c.requires.about c.as_slice.ensures c.exchange.ensures.honest c.exchange.ensures.calm c.calm_laws.ensures.honest
     (λ link names fewer among. (c.calm_laws.ensures.fewer link names fewer among).1) (λ is. absurd cc)
     (subst (λ bytes. JustifiedMessage client.keys (g.L.Link.past c.args.link.now).objects bytes) (sym c.as_slice.ensures) just) good
 
 pub returns-clause-further : goal.returns-clause-further
 returns-clause-further g c = λ good just.
     let client = c.args.client.now in
-    further_asked g.L.Link.past g.L.Link.honest g.L.Link.calm c.laws_below.ensures client c.args.link.now c.exchange.new.self c.as_slice.result.now _ c.args.question.now
-    _ c.plan-plan.ensures.lawful c.requires c.as_slice.ensures c.exchange.ensures.honest c.exchange.ensures.calm c.calm_laws.ensures.honest
+    further_asked g.L.Link.past g.L.Link.honest g.L.Link.calm c.laws_below.ensures client c.args.link.now c.exchange.new.self c.as_slice.result.now _ c.requires.places
+    c.args.question.now _ c.plan-plan.ensures.lawful c.requires.about c.as_slice.ensures c.exchange.ensures.honest c.exchange.ensures.calm c.calm_laws.ensures.honest
     (λ link names fewer among. (c.calm_laws.ensures.fewer link names fewer among).1) (λ is. (_, sym c.in-Ok.ensures))
     (subst (λ bytes. JustifiedMessage client.keys (g.L.Link.past c.args.link.now).objects bytes) (sym c.as_slice.ensures) just) good
 

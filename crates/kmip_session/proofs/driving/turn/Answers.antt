@@ -1,10 +1,11 @@
 -- Asking changes whose turn it is, and nothing else.
 use Rattle.std.proofs.Common.{◌≡◌, ap, rules, subst, sym}
-use Rattle.std.specs.Prelude.{⊤, IsOk}
+use Rattle.std.specs.Prelude.{⊤, IfSome, IsOk}
+use Rattle.kmip_client.specs.Asking.{IsAbout, next_places}
 use Rattle.kmip_client.specs.Clients.{ClientState}
 use Rattle.kmip_client.specs.Known.{facts}
 use Rattle.kmip_schedule.specs.Past.{is_planned}
-use Rattle.kmip_session.specs.Driving.{IsBrokenOff, Keeps, KeepsFurther, Learnt, WentOn}
+use Rattle.kmip_session.specs.Driving.{IsBrokenOff, IsToBePut, Keeps, KeepsFurther, Learnt, WentOn}
 use Rattle.kmip_session.proofs.DriveLemmas.{further_if}
 use Rattle.kmip_session.proofs.FurtherLemmas.{further_nowhere}
 use Rattle.kmip_session.proofs.GoodLemmas.{good_asked, keeps_asked, keeps_itself}
@@ -19,12 +20,20 @@ pub returns-in_default-clause-known : goal.returns-in_default-clause-known
 returns-in_default-clause-known g c = λ honest. (
   honest,
   subst
-      (λ (s : ClientState). Learnt c.args.client.now.keys (g.L.Link.past c.args.link.now) (g.L.Link.past c.args.link.now) c.args.client.now.knowns s.knowns 0) (sym c.in_ok-question.ensures.turn)
-      (learnt_nothing c.args.client.now.keys (g.L.Link.past c.args.link.now) c.args.client.now.knowns),
+      (λ (s : ClientState). Learnt c.args.client.now.keys c.args.client.now.batch (g.L.Link.past c.args.link.now) (g.L.Link.past c.args.link.now) c.args.client.now.knowns s.knowns 0) (sym c.in_ok-question.ensures.turn)
+      (learnt_nothing c.args.client.now.keys c.args.client.now.batch (g.L.Link.past c.args.link.now) c.args.client.now.knowns),
 )
 
 pub returns-in_default-clause-kept : goal.returns-in_default-clause-kept
 returns-in_default-clause-kept g c = keeps_asked c.args.client.now c.ask.new.self c.in_ok-question.ensures.turn
+
+pub put-requires : goal.put-requires
+put-requires g c =
+    subst (λ s. IsToBePut s c.in-Some.question) (sym c.in_ok-question.ensures.turn) (record {
+      places = next_places c.args.client.now;
+      about = subst (λ o. IfSome o (λ q. IsAbout c.args.client.now.keys c.args.client.now.knowns (next_places c.args.client.now) q)) c.in-Some.is c.in_ok-question.ensures.about;
+      few = c.ask.ensures.few;
+    })
 
 pub returns-clause-good : goal.returns-clause-good
 returns-clause-good g c = λ good.
@@ -52,7 +61,7 @@ pub returns-in_err-question-clause-broken : goal.returns-in_err-question-clause-
 returns-in_err-question-clause-broken g c = λ honest.
     always_err c.from_residual.result (
       ap (λ (s : ClientState). facts s.knowns) c.in_err-question.ensures.same,
-      broken_nowhere c.args.client.now.keys (g.L.Link.past c.args.link.now),
+      broken_nowhere c.args.client.now.keys c.args.client.now.batch (g.L.Link.past c.args.link.now),
     )
 
 pub returns-in_err-put-clause-broken : goal.returns-in_err-put-clause-broken
@@ -60,7 +69,7 @@ returns-in_err-put-clause-broken g c = λ honest.
     let past = g.L.Link.past in
     let asked = c.in_ok-question.ensures.turn in
     always_err c.from_residual-in_err-put.result
-    (subst (λ (s : ClientState). (facts c.put.new.client.knowns ≡ facts s.knowns) × IsBrokenOff s.keys (past c.args.link.now) (past c.put.new.link)) asked
+    (subst (λ (s : ClientState). (facts c.put.new.client.knowns ≡ facts s.knowns) × IsBrokenOff s.keys s.batch (past c.args.link.now) (past c.put.new.link)) asked
     (c.in_err-put.ensures.broken (subst (λ (s : ClientState). g.L.Link.honest c.args.link.now (is_planned s.keys)) (sym asked) honest)))
 
 pub returns-in_err-question-clause-further : goal.returns-in_err-question-clause-further

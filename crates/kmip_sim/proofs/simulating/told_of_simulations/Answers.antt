@@ -12,7 +12,7 @@ returns c =
       as_often = c.requires.one;
       end = simulation.end;
       link = simulation.link;
-      simulated = subst (λ plans. AreSimulated plans c.args.script simulation.end simulation.link) both c.in_ok-simulation.ensures;
+      simulated = subst (λ plans. AreSimulated plans c.args.batch c.args.script simulation.end simulation.link) both c.in_ok-simulation.ensures;
       ended_is = c.in_ok-told.ensures.ended;
       text_is = c.in_ok-told.ensures.text;
     }

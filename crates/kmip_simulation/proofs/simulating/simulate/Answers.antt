@@ -1,10 +1,11 @@
 -- Nothing has happened yet over the new link, so what the campaign makes of it is good.
-use Rattle.std.proofs.Common.{◌≡◌, None, subst, ap, ◌∙◌}
+use Rattle.std.proofs.Common.{◌≡◌, None, subst, sym, ap, ◌∙◌}
 use Rattle.kmip_schedule.specs.Sound.{Opening}
 use Rattle.kmip_scripted.specs.Runs.{runs_of}
 use Rattle.kmip_scripted.specs.Scenes.{past_in}
 use Rattle.kmip_scripted.specs.Words.{next_words}
-use Rattle.kmip_simulation.specs.Simulating.{IsCarriedOut}
+use Rattle.kmip_session.specs.Campaign.{MayBatch}
+use Rattle.kmip_simulation.specs.Simulating.{IsCarriedOut, in_batches}
 use Rattle.kmip_simulation.proofs.EndingLemmas.{ended_from_nothing}
 use Rattle.kmip_simulation.proofs.RoomLemmas.{has_room}
 use Rattle.kmip_simulation.proofs.simulating.simulate.Goals as goal
@@ -16,8 +17,10 @@ returns c =
     let after = c.carry_out-end.new.link in
     let end = c.carry_out-end.result in
     let opening : Opening keys (past_in link) = c.new_link-link.ensures.opening keys in
-    let runs : c.as_slice.result.now ≡ runs_of keys c.args.script = c.as_slice.ensures.value ∙ c.in_ok-runs.ensures in
-    let carried : IsCarriedOut keys (runs_of keys c.args.script) end link after = subst (λ rs. IsCarriedOut keys rs end link after) runs c.carry_out-end.ensures in
+    let batch = c.args.batch in
+    let runs : c.as_slice-2.result.now ≡ in_batches batch (runs_of keys c.args.script) =
+    c.as_slice-2.ensures.value ∙ c.in_ok-runs-2.ensures.runs ∙ ap (in_batches batch) (c.as_slice.ensures.value ∙ c.in_ok-runs.ensures.runs) in
+    let carried : IsCarriedOut keys (in_batches batch (runs_of keys c.args.script)) end link after = subst (λ rs. IsCarriedOut keys rs end link after) runs c.carry_out-end.ensures in
     record {
       begun = link;
       opening = opening;
@@ -35,4 +38,5 @@ returns c =
 pub carry_out-end-requires : goal.carry_out-end-requires
 carry_out-end-requires c = record {
   sound = c.nothing_done_is_sound.ensures c.args.plan.now (past_in c.new_link-link.result) (c.new_link-link.ensures.opening c.args.plan.now);
+  batches = subst MayBatch (sym c.as_slice-2.ensures.value) c.in_ok-runs-2.ensures.may;
 }

@@ -5,7 +5,7 @@ use Rattle.kmip_schedule.specs.Sound.{Opening}
 use Rattle.kmip_scripted.specs.Runs.{lists_of}
 use Rattle.kmip_scripted.specs.Scenes.{past_in}
 use Rattle.kmip_session.specs.Campaigns.{AreInTurn, CalmStart, GoodStart, first_plan, last_plan}
-use Rattle.kmip_simulation.specs.Simulating.{HasNoWord}
+use Rattle.kmip_simulation.specs.Simulating.{HasNoWord, in_batches}
 use Rattle.kmip_simulation.proofs.EndingLemmas.{ended_from_nothing}
 use Rattle.kmip_simulation.proofs.PlansLemmas.{second_is}
 use Rattle.kmip_simulation.proofs.simulating.simulate_plans.Goals as goal
@@ -22,8 +22,11 @@ returns c =
       none_further = λ key planned none. (opening (last_plan plans)).no_object key planned;
     } in
     let second = second_is plans c.index-plans-1.result c.requires.two c.index-plans-1.is in
-    let runs : map (λ list. list.items) c.as_slice.result.now ≡ lists_of (last_plan plans) c.args.script =
-    ap (map (λ list. list.items)) c.as_slice.ensures.value ∙ c.in_ok-lists.ensures ∙ ap (λ keys. lists_of keys c.args.script) second in
+    let batch = c.args.batch in
+    let runs : map (λ list. list.items) c.as_slice-2.result.now ≡ map (in_batches batch) (lists_of (last_plan plans) c.args.script) =
+    ap (map (λ list. list.items)) c.as_slice-2.ensures.value ∙ c.in_ok-lists-2.ensures.lists
+    ∙ ap (λ ls. map (in_batches batch) (map (λ list. list.items) ls)) c.as_slice.ensures.value
+    ∙ ap (map (in_batches batch)) (c.in_ok-lists.ensures.lists ∙ ap (λ keys. lists_of keys c.args.script) second) in
     record {
       safe = c.campaigns-end.ensures.safe good;
       machine = (c.campaigns-end.ensures.machine good).0 (opening (last_plan plans));

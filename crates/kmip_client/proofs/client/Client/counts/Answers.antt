@@ -3,7 +3,7 @@ use Rattle.std.proofs.Common.{◌≡◌, subst}
 use Rattle.kmip_client.specs.Clients.{ClientState}
 use Rattle.kmip_client.specs.Standing.{AreWithin, counts_of}
 use Rattle.kmip_client.proofs.CountLemmas.{shaped_within}
-use Rattle.kmip_client.proofs.TurnLemmas.{if_ok}
+use Rattle.kmip_client.proofs.AskingLemmas.{if_ok}
 use Rattle.kmip_client.proofs.client.Client.counts.Goals as goal
 
 pub returns-clause-within : goal.returns-clause-within
@@ -13,4 +13,4 @@ returns-clause-within c =
     (λ counts is.
     rw (is, c.as_slice.ensures.value)
     (subst (λ (s : ClientState). AreWithin s.keys (counts_of inside.knowns.items)) c.self.view_is
-    (shaped_within inside.plan.now inside.knowns.items c.self.invariant.each))) c.all_counts.ensures
+    (shaped_within inside.plan.now inside.knowns.items c.self.invariant.0.each))) c.all_counts.ensures

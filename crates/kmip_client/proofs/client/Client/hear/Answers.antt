@@ -1,13 +1,42 @@
--- A message that is read says its replies; where it is none, nothing is learnt.
-use Rattle.std.proofs.Common.{subst}
-use Rattle.std.specs.List.{All}
-use Rattle.kmip_client.specs.Truth.{TrueReply}
-use Rattle.kmip_client.proofs.HeardLemmas.{all_kept}
+-- Reply by reply.
+use Rattle.std.proofs.Common.{◌≡◌, sym, subst}
+use Rattle.std.specs.List.{AllZip}
+use Rattle.kmip_client.specs.Clients.{ClientState, working_count, VerdictsStay}
+use Rattle.kmip_client.specs.Held.{Held}
+use Rattle.kmip_client.specs.Shapes.{IsKept}
+use Rattle.kmip_client.specs.Truth.{TrueMessage}
+use Rattle.kmip_client.proofs.MessageLemmas.{Kept, kept_by_message, held_by_message}
 use Rattle.kmip_client.proofs.client.Client.hear.Goals as goal
 
-pub returns-in-Err-clause-kept : goal.returns-in-Err-clause-kept
-returns-in-Err-clause-kept c = all_kept c.args.self.now.knowns
+kept_here : (c : goal.After-hear_message) → Kept c.self.inside.plan.now c.self.inside.knowns.items c.hear_message.new.knowns.items c.self.inside.next
+kept_here c =
+    kept_by_message c.self.inside.plan.now c.keys-keys.result.now c.args.bytes.now c.self.inside.knowns.items c.hear_message.new.knowns.items c.self.inside.next
+    c.self.inside.working c.hear_message.result c.steps_have_places.ensures.within c.states_have_places.ensures.within c.keys-keys.ensures.value
+    c.hear_message.ensures.known c.hear_message.ensures.fits c.hear_message.ensures.same c.self.invariant.0
 
-pub returns-in-Ok-clause-held : goal.returns-in-Ok-clause-held
-returns-in-Ok-clause-held c = λ objects held so.
-    c.hear_alone.ensures.held objects held (subst (All (TrueReply c.args.self.now.keys objects)) c.in-Ok.ensures.says so)
+pub invariant_of-self : goal.invariant_of-self
+invariant_of-self c =
+    let kept = kept_here c in (
+      record {
+        lawful = kept.shaped.lawful;
+        each = kept.shaped.each;
+        turn = kept.shaped.turn;
+        counted = subst (λ ks. c.hear_message.new.working ≡ working_count ks c.hear_message.new.knowns.items) c.keys-keys.ensures.value
+            c.hear_message.ensures.counted;
+      },
+      c.self.invariant.1,
+    )
+
+pub returns-clause-kept : goal.returns-clause-kept
+returns-clause-kept c = subst (λ (s : ClientState). AllZip IsKept s.knowns c.hear_message.new.knowns.items) c.self.view_is (kept_here c).kept
+
+pub returns-clause-settled : goal.returns-clause-settled
+returns-clause-settled c =
+    subst (λ (s : ClientState). VerdictsStay s.keys s.knowns c.hear_message.new.knowns.items) c.self.view_is (kept_here c).stays
+
+pub returns-clause-held : goal.returns-clause-held
+returns-clause-held c = λ objects held so.
+    held_by_message objects c.self.inside.plan.now c.keys-keys.result.now c.args.bytes.now c.self.inside.knowns.items c.hear_message.new.knowns.items
+    c.hear_message.result c.states_have_places.ensures.within c.keys-keys.ensures.value c.hear_message.ensures.known c.hear_message.ensures.same
+    (subst (λ (s : ClientState). Held objects s.keys s.knowns) (sym c.self.view_is) held)
+    (subst (λ (s : ClientState). TrueMessage s.keys objects c.args.bytes.now) (sym c.self.view_is) so)

@@ -12,8 +12,10 @@ use Rattle.kmip_client.proofs.client.Client.lost.Goals as goal
 
 pub invariant_of-self : goal.invariant_of-self
 invariant_of-self c =
-    rw (c.lose.ensures, c.keys.ensures.value)
-    (lost_are_shaped c.self.inside.plan.now c.self.inside.knowns.items c.self.inside.next c.self.inside.working c.args.key c.self.invariant)
+    rw (c.lose.ensures, c.keys.ensures.value) (
+      lost_are_shaped c.self.inside.plan.now c.self.inside.knowns.items c.self.inside.next c.self.inside.working c.args.key c.self.invariant.0,
+      c.self.invariant.1,
+    )
 
 pub returns-clause-settled : goal.returns-clause-settled
 returns-clause-settled c =

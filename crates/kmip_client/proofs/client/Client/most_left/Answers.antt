@@ -5,4 +5,4 @@ use Rattle.kmip_client.proofs.client.Client.most_left.Goals as goal
 
 pub most_left-requires-clause-as_many : goal.most_left-requires-clause-as_many
 most_left-requires-clause-as_many c =
-    rw (c.as_slice.ensures.value, c.keys.ensures.value) (AllZip-long IsShaped c.self.inside.plan.now c.self.inside.knowns.items c.self.invariant.each)
+    rw (c.as_slice.ensures.value, c.keys.ensures.value) (AllZip-long IsShaped c.self.inside.plan.now c.self.inside.knowns.items c.self.invariant.0.each)

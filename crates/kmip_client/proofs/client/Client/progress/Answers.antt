@@ -11,7 +11,7 @@ pub returns-clause-suits : goal.returns-clause-suits
 returns-clause-suits c =
     rw (c.new.ensures, c.in_ok-known.ensures, c.as_slice.ensures.value)
     (subst (λ (s : ClientState). Suits s.keys (map known_of c.self.inside.knowns.items)) c.self.view_is
-    (all_suit c.self.inside.plan.now c.self.inside.knowns.items c.self.invariant.each))
+    (all_suit c.self.inside.plan.now c.self.inside.knowns.items c.self.invariant.0.each))
 
 pub returns-clause-held : goal.returns-clause-held
 returns-clause-held c = λ objects held.

@@ -1,6 +1,7 @@
 -- The request was asked, things happened, the word was done, and its answer was handed over.
-use Rattle.std.proofs.Common.{sym, ap, subst, ◌∙◌, inr, option_map}
-use Rattle.kmip_schedule.specs.Clean.{hands_strange}
+use Rattle.std.proofs.Common.{sym, ap, subst, ◌∙◌, inr, length, option_map}
+use Rattle.kmip_batches.specs.Items.{requests_in}
+use Rattle.kmip_schedule.specs.Clean.{strange_handed}
 use Rattle.kmip_schedule.specs.Moves.{Delivered}
 use Rattle.kmip_schedule.specs.Past.{Names}
 use Rattle.kmip_schedule.specs.Exchanges.{with_asked}
@@ -52,7 +53,7 @@ returns-clause-counted g c = λ names.
       mid_is = c.in_ok-answer.ensures.ok;
       answer_is = c.in_ok-answer.ensures.answer;
       counts_are = c.in_ok-counts.ensures
-          ∙ ap (λ a. counted (is_disturbed c.next_word-word.result c.is_repeated-repeated.result a) (hands_strange every_name c.args.request.now a) (disturbances_in c.take_and_play.new.self)) c.bytes_of-handed.ensures;
+          ∙ ap (λ a. counted (is_disturbed c.next_word-word.result c.is_repeated-repeated.result a) (length (requests_in c.args.request.now)) (strange_handed every_name c.args.request.now a) (disturbances_in c.take_and_play.new.self)) c.bytes_of-handed.ensures;
       last_is = c.in_ok-hand_over.ensures.ok ∙ ap (λ a. handed c.args.request.now c.next_word-word.result a c.take_and_play.new.self) c.bytes_of-handed.ensures;
       new_is = c.count.ensures;
     })

@@ -1,12 +1,16 @@
 -- Each request is that of a key that is worked on.
 use Rattle.std.proofs.Common.{◌≡◌, ◌∙◌, nat_le, not, length, map, Ok, ap, sym, subst, arith}
+use Rattle.std.proofs.lemmas.Bool.{and_parts, leb-true}
 use Rattle.std.specs.List.{All}
+use Rattle.kmip_ttlv.specs.Spelling.{canon}
+use Rattle.kmip_messages.specs.declared.standard.TheConstants.{MOST_QUESTIONS}
+use Rattle.kmip_batches.specs.Written.{requests_item}
 use Rattle.kmip_batches.specs.Items.{parts_in, requests_in, stops_in}
-use Rattle.kmip_client.specs.Batches.{part_about, requests_at}
+use Rattle.kmip_client.specs.Asking.{part_about, requests_at}
 use Rattle.kmip_client.specs.Justified.{Justified}
 use Rattle.kmip_client.specs.Questions.{request_about}
-use Rattle.kmip_client.proofs.BatchLemmas.{all_there, batch_fits, requests_are_fit, requests_justified}
-use Rattle.kmip_client.proofs.batching.questions_at.Goals as goal
+use Rattle.kmip_client.proofs.AskingLemmas.{all_there, batch_fits, requests_are_fit, requests_justified}
+use Rattle.kmip_client.proofs.batching.question_at.Goals as goal
 
 pub write_request-requires : goal.write_request-requires
 write_request-requires c =
@@ -20,7 +24,7 @@ returns-clause-justified c = λ objects held.
     let asked : c.as_slice.result.now ≡ requests_at c.args.keys.now c.args.knowns.now c.args.places.now =
     c.as_slice.ensures.value ∙ all_there (λ place key known. request_about key known) c.args.keys.now c.args.knowns.now c.args.places.now c.loop-place.place-index c.loop-place.requests.items
     (omega (arith, c.loop-place-test.false)) c.loop-place.invariant.1 in
-    subst (λ rs. All (Justified c.args.keys.now objects) rs) (sym (ap requests_in c.from_vec.ensures ∙ c.in_ok-bytes.ensures.asks ∙ asked))
+    subst (λ rs. All (Justified c.args.keys.now objects) rs) (sym (ap requests_in c.from_vec-2.ensures ∙ c.in_ok-bytes.ensures.asks ∙ asked))
     (requests_justified c.args.keys.now objects c.args.knowns.now c.args.places.now c.steps_have_places.ensures.next c.keys_have_names.ensures.found
     c.requires.lawful held c.requires.works)
 
@@ -31,11 +35,13 @@ returns-clause-about c =
     c.loop-place.requests.items (omega (arith, c.loop-place-test.false)) c.loop-place.invariant.1 in
     let many = (requests_are_fit c.args.keys.now c.args.knowns.now c.args.places.now c.steps_have_places.ensures.revoke c.requires.shaped c.requires.fits c.requires.works).1 in
     record {
+      some = leb-true 1 (length c.args.places.now) (and_parts (nat_le 1 (length c.args.places.now)) (nat_le (length c.args.places.now) MOST_QUESTIONS) c.requires.some).0;
       works = c.requires.works;
       apart = c.requires.apart;
-      parts_are = all_there part_about c.args.keys.now c.args.knowns.now c.args.places.now c.loop-place.place-index c.loop-place.parts.items
+      parts_are = c.from_vec.ensures ∙ all_there part_about c.args.keys.now c.args.knowns.now c.args.places.now c.loop-place.place-index c.loop-place.parts.items
           (omega (arith, c.loop-place-test.false)) c.loop-place.invariant.0;
-      asks = ap requests_in c.from_vec.ensures ∙ c.in_ok-bytes.ensures.asks ∙ asked;
-      asks_alone = ap parts_in c.from_vec.ensures ∙ c.in_ok-bytes.ensures.parts ∙ ap (map Ok) asked;
-      goes_on = ap stops_in c.from_vec.ensures ∙ c.in_ok-bytes.ensures.stops ∙ ap (λ rs. not (nat_le 2 (length rs))) asked ∙ ap (λ n. not (nat_le 2 n)) many;
+      written = c.from_vec-2.ensures ∙ c.in_ok-bytes.ensures.bytes ∙ ap (λ rs. canon (requests_item rs)) asked;
+      asks = ap requests_in c.from_vec-2.ensures ∙ c.in_ok-bytes.ensures.asks ∙ asked;
+      asks_alone = ap parts_in c.from_vec-2.ensures ∙ c.in_ok-bytes.ensures.parts ∙ ap (map Ok) asked;
+      goes_on = ap stops_in c.from_vec-2.ensures ∙ c.in_ok-bytes.ensures.stops ∙ ap (λ rs. not (nat_le 2 (length rs))) asked ∙ ap (λ n. not (nat_le 2 n)) many;
     }

@@ -1,7 +1,7 @@
 -- What stands in the message, and then what is left, is all of it.
 use Rattle.std.proofs.Common.{◌≡◌, ◌++◌, drop}
-use Rattle.kmip_client.specs.Batches.{at_places, part_about, requests_at}
-use Rattle.kmip_client.proofs.batching.questions_at.Given as goal
+use Rattle.kmip_client.specs.Asking.{at_places, part_about, requests_at}
+use Rattle.kmip_client.proofs.batching.question_at.Given as goal
 
 abbrev pub invariant-loop-place : goal.invariant-loop-place
 invariant-loop-place l =

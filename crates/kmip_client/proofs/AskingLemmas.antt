@@ -1,38 +1,29 @@
--- Several questions in a message: whose turn it is, and what is learnt of several replies.
-use Rattle.std.proofs.Common.{◌≡◌, ◌≢◌, ℕ, zero, suc, ◌+◌, ◌≤◌, ◌<◌, Bool, true, ◌&&◌, List, [], ◌∷◌, ◌++◌, length, take, drop, Option, Some, Result, Ok, Err, IfOk, OnOk, OnErr, IsTrue, subst, refl, sym, ap, ◌∙◌, inl, inr, arith, append-nil}
-use Rattle.std.proofs.lemmas.Bool.{cases_Bool, and_parts}
+-- Whose turn it is, and what is asked.
+use Rattle.std.proofs.Common.{◌≡◌, ◌≢◌, ℕ, zero, suc, ◌+◌, ◌≤◌, ◌<◌, Bool, true, ◌&&◌, List, [], ◌∷◌, ◌++◌, length, take, drop, Option, Some, Result, Ok, Err, IfOk, subst, refl, sym, ap, ◌∙◌, inl, inr, arith, append-nil}
+use Rattle.std.proofs.lemmas.Bool.{cases_Bool}
 use Rattle.std.proofs.lemmas.List.Elements.{All-nil, All-cons, All-head, All-tail, All-append, All-take, All-weaker}
 use Rattle.std.specs.List.{All, AllZip, list_all, slice_get}
 use Rattle.kmip_objects.specs.Objects.{Object}
-use Rattle.kmip_messages.specs.BatchItems.{answer_fits}
-use Rattle.kmip_messages.specs.Fits.{outcome_fits}
 use Rattle.kmip_messages.specs.RequestFits.{request_fits}
-use Rattle.kmip_messages.specs.declared.reply.Reply.{Reply}
 use Rattle.kmip_messages.specs.declared.request.Request.{Request}
 use Rattle.kmip_messages.specs.Operations.{operation_of}
-use Rattle.kmip_batches.specs.Items.{replies_in}
 use Rattle.kmip_batches.specs.Members.{may_have}
 use Rattle.kmip_batches.specs.Written.{requests_fit}
-use Rattle.kmip_chains.specs.Laws.{NextStepsStand, RevokesAreOfTheRevoked, StepsAreWithin, PlacesAreWithin}
+use Rattle.kmip_chains.specs.Laws.{NextStepsStand, RevokesAreOfTheRevoked}
 use Rattle.kmip_chains.specs.declared.key.Key.{Key}
 use Rattle.kmip_plan.specs.Laws.{KeysAreFound}
 use Rattle.kmip_plan.specs.Plans.{IsLawful, EachFits}
 use Rattle.kmip_knowledge.specs.Knowledge.{is_working}
-use Rattle.kmip_knowledge.specs.declared.fault.HearFault.{HearFault}
 use Rattle.kmip_knowledge.specs.declared.knowledge.Knowledge.{Knowledge}
-use Rattle.kmip_client.specs.declared.batching.Part.{Part}
-use Rattle.kmip_client.specs.declared.hearing.Heard.{Heard}
-use Rattle.kmip_client.specs.Batches.{all_working_from, in_turn, next_places, at_place, at_places, requests_at, known_after_reply, heard_of, known_after_each, AreApart}
-use Rattle.kmip_client.specs.Clients.{ClientState, WorksAt, AreSettled, working_count, VerdictsStay}
-use Rattle.kmip_client.specs.Hearing.{heard_in, subject_of}
+use Rattle.kmip_client.specs.declared.question.Part.{Part}
+use Rattle.kmip_client.specs.Asking.{all_working_from, in_turn, next_places, at_place, at_places, requests_at, AreApart}
+use Rattle.kmip_client.specs.Clients.{ClientState, WorksAt, AreSettled, one_if, working_count}
 use Rattle.kmip_client.specs.Held.{Held, IsHeld}
 use Rattle.kmip_client.specs.Justified.{Justified}
 use Rattle.kmip_client.specs.Questions.{request_about}
-use Rattle.kmip_client.specs.Shapes.{IsShaped, AreShaped, IsKept}
-use Rattle.kmip_client.specs.Truth.{TrueReply, TrueMessage}
+use Rattle.kmip_client.specs.Shapes.{IsShaped}
 use Rattle.kmip_client.proofs.ClientLemmas.{at_both}
-use Rattle.kmip_client.proofs.HeardLemmas.{all_kept, kept_after, shaped_after, stays_after}
-use Rattle.kmip_client.proofs.HeldLemmas.{held_after, question_justified}
+use Rattle.kmip_client.proofs.HeldLemmas.{question_justified}
 use Rattle.kmip_client.proofs.QuestionLemmas.{question_fits}
 
 -- ---- whose turn it is
@@ -91,9 +82,9 @@ works_from n (k ∷ ks) (o ∷ os) keys knowns here there =
     ]
 
 -- each key that is asked about is worked on
-pub places_work : (most : ℕ) (c : ClientState) → All (WorksAt c.keys c.knowns) (next_places most c)
-places_work most c =
-    All-take (WorksAt c.keys c.knowns) most (in_turn c)
+pub places_work : (c : ClientState) → All (WorksAt c.keys c.knowns) (next_places c)
+places_work c =
+    All-take (WorksAt c.keys c.knowns) c.batch (in_turn c)
     (All-append (WorksAt c.keys c.knowns)
     (all_working_from c.next (drop c.next c.keys) (drop c.next c.knowns)) (all_working_from 0 (take c.next c.keys) (take c.next c.knowns))
     (works_from c.next (drop c.next c.keys) (drop c.next c.knowns) c.keys c.knowns (get_drop c.next c.keys) (get_drop c.next c.knowns))
@@ -139,18 +130,18 @@ apart_cut zero places apart = tt
 apart_cut (suc most) [] apart = tt
 apart_cut (suc most) (place ∷ places) apart = (All-take (λ p. p ≢ place) most places apart.0, apart_cut most places apart.1)
 
-few_cut : {A : Type 0} (n : ℕ) (xs : List A) → length (take n xs) ≤ n
+pub few_cut : {A : Type 0} (n : ℕ) (xs : List A) → length (take n xs) ≤ n
 few_cut zero xs = omega arith
 few_cut (suc n) [] = omega arith
 few_cut (suc n) (x ∷ xs) = omega (arith, few_cut n xs)
 
 -- no key is asked about twice
-pub places_apart : (most : ℕ) (c : ClientState) → AreApart (next_places most c)
-places_apart most c =
+pub places_apart : (c : ClientState) → AreApart (next_places c)
+places_apart c =
     let behind : List ℕ = all_working_from c.next (drop c.next c.keys) (drop c.next c.knowns) in
     let front : List ℕ = all_working_from 0 (take c.next c.keys) (take c.next c.knowns) in
     let few = few_cut c.next c.keys in
-    apart_cut most (in_turn c)
+    apart_cut c.batch (in_turn c)
     (apart_both c.next behind front (apart_from c.next (drop c.next c.keys) (drop c.next c.knowns)) (apart_from 0 (take c.next c.keys) (take c.next c.knowns))
     (All-weaker (λ p. (c.next ≤ p) × (p < c.next + length (drop c.next c.keys))) (λ p. c.next ≤ p) (λ p is. is.0) behind
     (within_from c.next (drop c.next c.keys) (drop c.next c.knowns)))
@@ -159,7 +150,7 @@ places_apart most c =
 
 -- ---- none has the turn
 
-none_all : (place : ℕ) (keys : List Key) (knowns : List Knowledge) → length knowns ≡ length keys → all_working_from place keys knowns ≡ [] → AreSettled keys knowns
+pub none_all : (place : ℕ) (keys : List Key) (knowns : List Knowledge) → length knowns ≡ length keys → all_working_from place keys knowns ≡ [] → AreSettled keys knowns
 none_all place [] [] many none = tt
 none_all place [] (known ∷ knowns) many none = absurd (omega arith)
 none_all place (key ∷ keys) [] many none = absurd (omega arith)
@@ -196,13 +187,63 @@ both_none : {A : Type 0} (xs ys : List A) → xs ++ ys ≡ [] → (xs ≡ []) ×
 both_none [] ys none = (refl, none)
 both_none (x ∷ xs) ys none = absurd cc
 
-pub no_places : (most : ℕ) (c : ClientState) → 1 ≤ most → length c.knowns ≡ length c.keys → next_places most c ≡ [] → AreSettled c.keys c.knowns
-no_places most c some many none =
+pub no_places : (c : ClientState) → 1 ≤ c.batch → length c.knowns ≡ length c.keys → next_places c ≡ [] → AreSettled c.keys c.knowns
+no_places c some many none =
     let parts = both_none (all_working_from c.next (drop c.next c.keys) (drop c.next c.knowns)) (all_working_from 0 (take c.next c.keys) (take c.next c.knowns))
-    (cut_none most (in_turn c) some none) in
+    (cut_none c.batch (in_turn c) some none) in
     none_parts c.next 0 c.next c.keys c.knowns many parts.1 parts.0
 
+-- and none is asked about where none is counted
+pub none_from : (place : ℕ) (keys : List Key) (knowns : List Knowledge) → working_count keys knowns ≡ 0 → all_working_from place keys knowns ≡ []
+none_from place [] knowns none = refl
+none_from place (key ∷ keys) [] none = refl
+none_from place (key ∷ keys) (known ∷ knowns) none =
+    elim (cases_Bool (is_working key known)) [
+      | inl works ↦ absurd (omega (arith, ap one_if works))
+      | inr settled ↦ rw settled (none_from (place + 1) keys knowns (omega arith))
+    ]
+
+-- fewer are counted in a part
+none_behind : (n : ℕ) (keys : List Key) (knowns : List Knowledge) → working_count keys knowns ≡ 0 → working_count (drop n keys) (drop n knowns) ≡ 0
+none_behind zero keys knowns none = none
+none_behind (suc n) [] [] none = refl
+none_behind (suc n) [] (known ∷ knowns) none = refl
+none_behind (suc n) (key ∷ keys) [] none = unknown n keys
+  where
+    unknown : (n : ℕ) (keys : List Key) → working_count (drop n keys) [] ≡ 0
+    unknown zero [] = refl
+    unknown zero (key ∷ keys) = refl
+    unknown (suc n) [] = refl
+    unknown (suc n) (key ∷ keys) = unknown n keys
+none_behind (suc n) (key ∷ keys) (known ∷ knowns) none = none_behind n keys knowns (omega arith)
+
+none_before : (n : ℕ) (keys : List Key) (knowns : List Knowledge) → working_count keys knowns ≡ 0 → working_count (take n keys) (take n knowns) ≡ 0
+none_before zero keys knowns none = refl
+none_before (suc n) [] knowns none = refl
+none_before (suc n) (key ∷ keys) [] none = refl
+none_before (suc n) (key ∷ keys) (known ∷ knowns) none = omega (arith, none, none_before n keys knowns (omega (arith, none)))
+
+pub none_next : (c : ClientState) → working_count c.keys c.knowns ≡ 0 → next_places c ≡ []
+none_next c none =
+    rw (
+      none_from c.next (drop c.next c.keys) (drop c.next c.knowns) (none_behind c.next c.keys c.knowns none),
+      none_from 0 (take c.next c.keys) (take c.next c.knowns) (none_before c.next c.keys c.knowns none),
+    ) (nothing_cut c.batch)
+  where
+    nothing_cut : (n : ℕ) → take {A = ℕ} n [] ≡ []
+    nothing_cut zero = refl
+    nothing_cut (suc n) = refl
+
 -- ---- what is asked
+
+pub within_some : {A : Type 0} (xs : List A) (place : ℕ) (x : A) → slice_get xs place ≡ Some x → place < length xs
+within_some [] place x is = absurd cc
+within_some (a ∷ xs) zero x is = omega arith
+within_some (a ∷ xs) (suc place) x is = omega (arith, within_some xs place x is)
+
+pub if_ok : {A E : Type 0} (P Q : A → Type 0) (r : Result A E) → ((x : A) → P x → Q x) → IfOk r P → IfOk r Q
+if_ok P Q (Ok x) to holds = to x holds
+if_ok P Q (Err e) to holds = tt
 
 pub at_said : {A : Type 0} (f : ℕ → Key → Knowledge → A) (keys : List Key) (knowns : List Knowledge) (place : ℕ) (key : Key) (known : Knowledge)
     → slice_get keys place ≡ Some key → slice_get knowns place ≡ Some known → at_place f keys knowns place ≡ Some (f place key known)
@@ -270,103 +311,3 @@ batch_fits keys knowns places rs law shaped fit works some is =
 -- the part of a message that asks what a request does
 abbrev pub part_of : ℕ → Request → Part
 part_of place r = record { key = place; operation = operation_of r.ask }
-
--- ---- what is heard
-
-said_ok : (h : Result (Heard × List Knowledge) HearFault) (knowns : List Knowledge) → IfOk (heard_of h) (λ x. h ≡ Ok (x, known_after_reply h knowns))
-said_ok (Ok heard) knowns = refl
-said_ok (Err fault) knowns = tt
-
-said_err : (h : Result (Heard × List Knowledge) HearFault) (knowns : List Knowledge) → OnErr (heard_of h) (known_after_reply h knowns ≡ knowns)
-said_err (Ok heard) knowns = tt
-said_err (Err fault) knowns = refl
-
-pub outcome_of : (r : Reply) → answer_fits r ≡ true → outcome_fits r.operation r.outcome ≡ true
-outcome_of r fits = (and_parts _ (outcome_fits r.operation r.outcome) fits).1
-
--- the shape of what is known after one reply, and that nothing was taken back
-pub record Kept (keys : List Key) (knowns nexts : List Knowledge) (next : ℕ) : Type 0 where
-  pub shaped : AreShaped keys nexts next (working_count keys nexts)
-  pub kept : AllZip IsKept knowns nexts
-  pub stays : VerdictsStay keys knowns nexts
-
-kept_on : {knowns mids nexts : Knowledge} → IsKept knowns mids → IsKept mids nexts → IsKept knowns nexts
-kept_on first second = record {
-  identifier_kept = λ uid is. second.identifier_kept uid (first.identifier_kept uid is);
-  done_kept = omega (arith, first.done_kept, second.done_kept);
-}
-
-all_kept_on : (knowns mids nexts : List Knowledge) → AllZip IsKept knowns mids → AllZip IsKept mids nexts → AllZip IsKept knowns nexts
-all_kept_on [] [] [] first second = tt
-all_kept_on [] [] (c ∷ nexts) first second = absurd second
-all_kept_on [] (b ∷ mids) nexts first second = absurd first
-all_kept_on (a ∷ knowns) [] nexts first second = absurd first
-all_kept_on (a ∷ knowns) (b ∷ mids) [] first second = absurd second
-all_kept_on (a ∷ knowns) (b ∷ mids) (c ∷ nexts) first second = (kept_on first.0 second.0, all_kept_on knowns mids nexts first.1 second.1)
-
-stay_on : (keys : List Key) (knowns mids nexts : List Knowledge) → VerdictsStay keys knowns mids → VerdictsStay keys mids nexts → VerdictsStay keys knowns nexts
-stay_on keys knowns mids nexts first second = λ place settled.
-    second place (λ is. settled (sym (first place settled) ∙ is)) ∙ first place settled
-
-kept_by_one : (keys : List Key) (reply : Reply) (knowns : List Knowledge) (next working : ℕ) → StepsAreWithin → PlacesAreWithin → answer_fits reply ≡ true
-    → AreShaped keys knowns next working → Kept keys knowns (known_after_reply (heard_in keys reply knowns) knowns) next
-kept_by_one keys reply knowns next working steps_in places_in fits shaped =
-    let h = heard_in keys reply knowns in
-    let nexts = known_after_reply h knowns in
-    let fine = outcome_of reply fits in record {
-      shaped = shaped_after keys keys reply (subject_of keys reply.id) knowns nexts next working (working_count keys nexts) (heard_of h)
-          steps_in places_in fine refl refl shaped (said_ok h knowns) (said_err h knowns) refl;
-      kept = kept_after keys keys reply (subject_of keys reply.id) knowns nexts next working (heard_of h) steps_in places_in fine refl refl shaped
-          (said_ok h knowns) (said_err h knowns);
-      stays = stays_after keys keys reply (subject_of keys reply.id) knowns nexts (heard_of h) refl refl (said_ok h knowns) (said_err h knowns);
-    }
-
-pub kept_by_each : (keys : List Key) (replies : List Reply) (knowns : List Knowledge) (next working : ℕ) → StepsAreWithin → PlacesAreWithin
-    → All (λ r. IsTrue (answer_fits r)) replies → AreShaped keys knowns next working → Kept keys knowns (known_after_each keys replies knowns) next
-kept_by_each keys [] knowns next working steps_in places_in fits shaped = record {
-  shaped = record { lawful = shaped.lawful; each = shaped.each; turn = shaped.turn; counted = refl };
-  kept = all_kept knowns;
-  stays = λ place settled. refl;
-}
-kept_by_each keys (reply ∷ replies) knowns next working steps_in places_in fits shaped =
-    let nexts = known_after_reply (heard_in keys reply knowns) knowns in
-    let last = known_after_each keys replies nexts in
-    let first = kept_by_one keys reply knowns next working steps_in places_in (All-head (λ r. IsTrue (answer_fits r)) reply replies fits) shaped in
-    let more = kept_by_each keys replies nexts next (working_count keys nexts) steps_in places_in (All-tail (λ r. IsTrue (answer_fits r)) reply replies fits)
-    first.shaped in record {
-      shaped = more.shaped;
-      kept = all_kept_on knowns nexts last first.kept more.kept;
-      stays = stay_on keys knowns nexts last first.stays more.stays;
-    }
-
-pub held_by_each : (objects : List Object) (keys : List Key) (replies : List Reply) (knowns : List Knowledge) → PlacesAreWithin → Held objects keys knowns
-    → All (TrueReply keys objects) replies → Held objects keys (known_after_each keys replies knowns)
-held_by_each objects keys [] knowns places_in held so = held
-held_by_each objects keys (reply ∷ replies) knowns places_in held so =
-    let h = heard_in keys reply knowns in
-    let nexts = known_after_reply h knowns in
-    held_by_each objects keys replies nexts places_in
-    (held_after objects keys keys reply (subject_of keys reply.id) knowns nexts (heard_of h) places_in refl refl (said_ok h knowns) (said_err h knowns) held
-    (All-head (TrueReply keys objects) reply replies so))
-    (All-tail (TrueReply keys objects) reply replies so)
-
--- ---- after a call that may have refused the message
-
-pub kept_by_message : {A : Type 0} (keys ks : List Key) (given : List ℕ) (knowns nexts : List Knowledge) (next working : ℕ) (r : Result A HearFault)
-    → StepsAreWithin → PlacesAreWithin → ks ≡ keys → OnOk r (nexts ≡ known_after_each ks (replies_in given) knowns)
-    → OnOk r (All (λ x. IsTrue (answer_fits x)) (replies_in given)) → OnErr r (nexts ≡ knowns) → AreShaped keys knowns next working
-    → Kept keys knowns nexts next
-kept_by_message keys ks given knowns nexts next working (Ok heard) steps_in places_in same is fits unchanged shaped =
-    let own : nexts ≡ known_after_each keys (replies_in given) knowns = subst (λ k. nexts ≡ known_after_each k (replies_in given) knowns) same is in
-    subst (λ k. Kept keys knowns k next) (sym own) (kept_by_each keys (replies_in given) knowns next working steps_in places_in fits shaped)
-kept_by_message keys ks given knowns nexts next working (Err fault) steps_in places_in same is fits unchanged shaped =
-    subst (λ k. Kept keys knowns k next) (sym unchanged)
-    (kept_by_each keys [] knowns next working steps_in places_in (All-nil (λ x. IsTrue (answer_fits x))) shaped)
-
-pub held_by_message : {A : Type 0} (objects : List Object) (keys ks : List Key) (given : List ℕ) (knowns nexts : List Knowledge) (r : Result A HearFault)
-    → PlacesAreWithin → ks ≡ keys → OnOk r (nexts ≡ known_after_each ks (replies_in given) knowns) → OnErr r (nexts ≡ knowns)
-    → Held objects keys knowns → TrueMessage keys objects given → Held objects keys nexts
-held_by_message objects keys ks given knowns nexts (Ok heard) places_in same is unchanged held so =
-    let own : nexts ≡ known_after_each keys (replies_in given) knowns = subst (λ k. nexts ≡ known_after_each k (replies_in given) knowns) same is in
-    subst (λ k. Held objects keys k) (sym own) (held_by_each objects keys (replies_in given) knowns places_in held so)
-held_by_message objects keys ks given knowns nexts (Err fault) places_in same is unchanged held so = subst (λ k. Held objects keys k) (sym unchanged) held
