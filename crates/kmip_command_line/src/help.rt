@@ -127,6 +127,13 @@ reply to another question, the outcome begins with `answers OPERATION NAME`:
   exchange 2 Create k1, lose-reply: no reply
 Where there is no memory in a run, no exchange is printed.
 
+With --batch B a message asks about up to B keys, and its reply answers all that it asks; what a run asks
+together stands in one line, with `, ` between:
+  ask 1 Locate k1, Locate k2
+The script is of messages then: a word is for one exchange, whatever it asks, and its bytes that a `cut`
+leaves are those of the whole message. The last run goes on for as many exchanges as with one key a
+message, and needs fewer where nothing is lost.
+
 With --then the keys are brought further while the network goes on as it does: the runs before the one
 word `prolong` are of the plan, and those behind it of the further plan, which has to prolong it as `check
 --help` says. The server and all that is under way stay, so a request of before can still arrive, and its
@@ -190,6 +197,10 @@ While it works, it shows on standard error how far it is, in one line that is wr
 exchange, where that is a terminal and `--verbose` does not tell each exchange there:
   1 of 3 keys finished, at most 9 more exchanges if nothing more is lost; 8 made, 2 without a reply
 
+With `--batch B` a message asks about up to B keys, each once, and the server answers them in turn: a plan
+of many keys takes about B times fewer exchanges. What is promised is the same; where a reply is lost, B
+keys are looked at before anything more is asked for them.
+
 With `--loopback` the server is one in this process with no object, so it suits a first run.";
 
 pub(crate) const PROBE: &str =
@@ -245,6 +256,8 @@ pub(crate) const SOCKET: &str =
 pub(crate) const LOOPBACK: &str = "Have a new server in this process, over a port of this machine";
 
 pub(crate) const LIMIT: &str = "How many exchanges are made at most";
+
+pub(crate) const BATCH: &str = "How many keys a message asks about at most";
 
 pub(crate) const TIMEOUT: &str = "The longest that an exchange takes, with connecting";
 

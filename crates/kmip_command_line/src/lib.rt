@@ -18,7 +18,7 @@ use help::{
 use kmip_choices::{Choice, answer_of, check_of, detail_of, form_of, simulation_of};
 use kmip_commands::{CommandFault, ExitStatus};
 use network::{
-    WrongValue, flag, probe_command, probe_options, run_command, run_options, serve_command,
+    WrongValue, batch, flag, probe_command, probe_options, run_command, run_options, serve_command,
     serve_options,
 };
 pub use running::{run, run_words};
@@ -46,7 +46,8 @@ pub fn chosen(alloc: Global, words: &[String]) -> Result<Choice, Error> {
             let script = options.get_str("script").unwrap_or("");
             let detail = detail_of(options.get_flag("trace"));
             let further = options.get_str("then");
-            Ok(simulation_of(alloc, plan, further, script, detail)?)
+            let batch = options.get_one::<u64>("batch").unwrap_or(1);
+            Ok(simulation_of(alloc, plan, further, script, detail, batch)?)
         }
         Some(("run", options)) => match run_options(alloc, options)? {
             Ok(options) => Ok(Choice::Run(options)),
@@ -108,6 +109,7 @@ fn command<'a>(alloc: Global) -> Result<Command<'a>, AllocError> {
         .arg(path(alloc, "plan", PLAN))?
         .arg(then)?
         .arg(path(alloc, "script", SCRIPT))?
+        .arg(batch(alloc))?
         .arg(flag(alloc, "trace", TRACE))?;
     Command::new(alloc, "kmipctl")
         .version(VERSION)

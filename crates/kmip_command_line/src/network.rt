@@ -1,7 +1,7 @@
 //! The words of `run`, `probe` and `serve`.
 
 use crate::help::{
-    CONNECT, CONNECTIONS, LIMIT, LOOPBACK, NAME_PREFIX, NOW, PLAN, PORT, PROBE, PROBE_LONG,
+    BATCH, CONNECT, CONNECTIONS, LIMIT, LOOPBACK, NAME_PREFIX, NOW, PLAN, PORT, PROBE, PROBE_LONG,
     PROGRESS, RUN, RUN_LONG, SERVE, SERVE_LONG, SERVE_TIMEOUT, SOCKET, TIMEOUT, VERBOSE, WAIT,
     WRONG_ADDRESS, WRONG_PREFIX,
 };
@@ -9,6 +9,7 @@ use crate::path;
 use clap::builder::ValueParser;
 use clap::{Arg, ArgAction, ArgGroup, ArgMatches, Command};
 use kmip_network::{Peer, ProbeOptions, RunOptions, ServeOptions};
+use kmip_messages::standard::MOST_QUESTIONS;
 use kmip_premises::is_prefix;
 use std::alloc::{AllocError, Global};
 use std::net::SocketAddrV4;
@@ -51,6 +52,7 @@ pub(crate) fn run_options(
         plan: String::from_str(alloc, options.get_str("plan").unwrap_or(""))?,
         progress: String::from_str(alloc, options.get_str("progress").unwrap_or(""))?,
         limit: options.get_one::<u64>("limit").unwrap_or(MOST_COUNT),
+        batch: options.get_one::<u64>("batch").unwrap_or(1),
         peer,
         timeout: options.get_one::<u64>("timeout").unwrap_or(MOST_SECONDS),
         wait: options.get_one::<u64>("wait").unwrap_or(0),
@@ -112,6 +114,7 @@ pub(crate) fn run_command<'a>(alloc: Global) -> Result<Command<'a>, AllocError> 
         .arg(path(alloc, "progress", PROGRESS))?;
     with_server(alloc, command)?
         .arg(number(alloc, "limit", "N", LIMIT, 0, MOST_COUNT).default_value("10000"))?
+        .arg(batch(alloc))?
         .arg(timeout(alloc))?
         .arg(number(alloc, "wait", "MILLISECONDS", WAIT, 0, MOST_WAIT).default_value("100"))?
         .arg(flag(alloc, "verbose", VERBOSE))
@@ -151,6 +154,11 @@ fn with_server<'a>(alloc: Global, command: Command<'a>) -> Result<Command<'a>, A
         .arg(socket)?
         .arg(flag(alloc, "loopback", LOOPBACK))?
         .group(peers)
+}
+
+/// The option for how many keys a message may ask about.
+pub(crate) fn batch<'a>(alloc: Global) -> Arg<'a> {
+    number(alloc, "batch", "B", BATCH, 1, MOST_QUESTIONS as u64).default_value("1")
 }
 
 /// The option for how long an exchange may take.

@@ -3,6 +3,7 @@
 use Rattle.std.specs.Prelude.{◌≡◌, ◌≢◌, ◌≤◌, ◌⊎◌, ⊤, ℕ, Bool, true, not, List, ◌++◌, codes, Option, Some, None, Result, Ok, Err}
 use Rattle.std.specs.Fmt.{decimal}
 use Rattle.std.specs.Io.KnownBytes.{Appends}
+use Rattle.std.specs.List.{All}
 use Rattle.kmip_objects.specs.Objects.{Object}
 use Rattle.kmip_plan.specs.declared.fault.PlanFault.{PlanFault}
 use Rattle.kmip_chains.specs.declared.key.Key.{Key}
@@ -17,7 +18,7 @@ use Rattle.kmip_client.specs.Standing.{counts_of, verdicts_of}
 use Rattle.kmip_knowledge.specs.declared.knowledge.Knowledge.{Knowledge}
 use Rattle.kmip_schedule.specs.Past.{Names, Past}
 use Rattle.kmip_session.specs.Campaign.{GoodLink}
-use Rattle.kmip_session.specs.Driving.{Stands, WentOn}
+use Rattle.kmip_session.specs.Driving.{IsQuestion, Stands, WentOn}
 use Rattle.kmip_session.specs.Reporting.{report_text}
 use Rattle.kmip_session.specs.Stops.{is_all_finished, stop_name}
 use Rattle.kmip_session.specs.declared.stop.Stop.{Stop}
@@ -88,3 +89,9 @@ IsTrueText objects keys (Some text) = (saved : List Known) → read_text keys te
 pub record KeepsSafe {L : Type 0} (past : L → Past) (honest : L → Names → Type 0) (keys : List Key) (old new : L) : Type 0 where
   pub stays_good : GoodLink past honest keys new
   pub went_on : WentOn keys (past old) (past new)
+
+-- Each message that was sent asks about at most so many of these keys, and about none of them twice.
+pub record AsksFew (keys : List Key) (most : ℕ) (old new : Past) : Type 0 where
+  pub messages : List (List ℕ)
+  pub sent_are : new.sent ≡ old.sent ++ messages
+  pub each : All (IsQuestion keys most) messages

@@ -5,9 +5,11 @@ ghost use Rattle.kmip_batches.specs.Members.{may_have};
 ghost use Rattle.kmip_plan.specs.Reading.{plan_read};
 ghost use Rattle.kmip_chains.specs.declared.key.Key.{Key};
 ghost use Rattle.kmip_commands.specs.Printing.{IfFailed, IfWhole, UnlessOutput, fault_line};
+ghost use Rattle.kmip_schedule.specs.Past.{is_planned};
 ghost use Rattle.kmip_session.specs.Campaign.{GoodLink};
 ghost use Rattle.kmip_session.specs.Driving.{IsGood};
 ghost use Rattle.kmip_run.specs.RunText.{
+  AsksFew,
   IsTrueText,
   KeepsSafe,
   TellsExchanges,
@@ -73,6 +75,9 @@ pub fn run_run<L: Link, K: Keeper, W: Write>(
         → IsTrueText (L.past link.old).objects keys
         (option_map (λ text. text.now) saved.entry)
         → KeepsSafe L.past L.honest keys link.old link.new }
+    ensures few { (keys : List Key) → plan_read input.now.plan.now ≡ Ok keys
+        → L.honest link.old (is_planned keys) → IfWhole result (λ r. AsksFew keys input.now.batch
+        (L.past link.old) (L.past link.new)) }
 {
     let ended = run(alloc, input, saved, link, keeper, writer);
     finished(ended, writer)
@@ -83,6 +88,7 @@ pub fn run_run<L: Link, K: Keeper, W: Write>(
 /// keys and a line that says why it stopped and after how many exchanges; or one line where the plan
 /// is refused, else where the progress is, and one where what is known could not be kept. Says whether
 /// something was refused, not kept, or left unfinished. Nothing is written before the run has ended.
+/// Each message asks about at most as many keys as the input says.
 ///
 /// # Errors
 ///
@@ -108,6 +114,9 @@ pub fn run<L: Link, K: Keeper, W: Write>(
         → IsTrueText (L.past link.old).objects keys
         (option_map (λ text. text.now) saved.entry)
         → KeepsSafe L.past L.honest keys link.old link.new }
+    ensures few { (keys : List Key) → plan_read input.now.plan.now ≡ Ok keys
+        → L.honest link.old (is_planned keys) → IfOk result (λ r. AsksFew keys input.now.batch
+        (L.past link.old) (L.past link.new)) }
 {
     let told = told_of(alloc, input, saved, link, keeper)?;
     send(told.text.as_slice(), false, writer)?;
@@ -134,6 +143,9 @@ fn told_of<L: Link, K: Keeper>(
         → IsTrueText (L.past link.old).objects keys
         (option_map (λ text. text.now) saved.entry)
         → KeepsSafe L.past L.honest keys link.old link.new }
+    ensures few { (keys : List Key) → plan_read input.now.plan.now ≡ Ok keys
+        → L.honest link.old (is_planned keys) → IfOk result (λ r. AsksFew keys input.now.batch
+        (L.past link.old) (L.past link.new)) }
 {
     onward_is_an_order();
     match read_plan(alloc, input.plan) {
@@ -169,6 +181,8 @@ fn told_of_plan<L: Link, K: Keeper>(
         → IsTrueText (L.past link.old).objects plan.now
         (option_map (λ text. text.now) saved.entry)
         → KeepsSafe L.past L.honest plan.now link.old link.new }
+    ensures few { L.honest link.old (is_planned plan.now) → IfOk result (λ r. AsksFew plan.now
+        input.now.batch (L.past link.old) (L.past link.new)) }
 {
     onward_is_an_order();
     match begin(alloc, plan, saved) {
@@ -204,6 +218,8 @@ fn told_of_exchanges<L: Link, K: Keeper>(
         ⊎ TellsUnwritten input.now.path.now told.refused told.text.items) }
     ensures safe { IsGood L.past L.honest client.old link.old
         → KeepsSafe L.past L.honest client.old.keys link.old link.new }
+    ensures few { L.honest link.old (is_planned client.old.keys) → IfOk result (λ r. AsksFew
+        client.old.keys client.old.batch (L.past link.old) (L.past link.new)) }
 {
     let (ended, exchanges) = carry_out(alloc, client, link, keeper, input.limit);
     match ended {
