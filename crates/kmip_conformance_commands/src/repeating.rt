@@ -94,7 +94,7 @@ impl Link for Repeating {
 
     ghost ended = { λ link. [] };
 
-    ghost disturbances = { λ link. record { disturbed = 0; strange = 0 } };
+    ghost disturbances = { λ link. record { disturbed = 0; requests = 0; strange = 0 } };
 
     fn exchange(&mut self, alloc: Global, request: &[u8]) -> Result<Option<Vec<u8>>, LinkFault> {
         match self.reply_to(alloc, request) {
