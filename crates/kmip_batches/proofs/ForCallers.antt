@@ -1,5 +1,5 @@
 -- For lemma files above, which speak of replies where no call stands near, so that no clause serves: which ones can be written together.
-use Rattle.std.proofs.Common.{◌≡◌, ◌≤◌, ◌+◌, ◌*◌, ◌&&◌, ℕ, pos, Bool, true, List, [], ◌∷◌, length, IsTrue, refl, arith}
+use Rattle.std.proofs.Common.{◌≡◌, ◌≤◌, ◌*◌, ◌&&◌, pos, Bool, true, List, [], ◌∷◌, length, IsTrue, refl, arith}
 use Rattle.std.specs.List.{All, AllByRecursion, list_all}
 use Rattle.std.proofs.lemmas.Bool.{and_parts, le-leb, leb-true}
 use Rattle.std.proofs.lemmas.List.Elements.{recursion_from_All}

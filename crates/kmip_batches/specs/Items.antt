@@ -43,10 +43,6 @@ stops_in bytes = stops_of (batch_read bytes)
 unfoldable pub requests_in : List ℕ → List Request
 requests_in bytes = filter_map result_ok (parts_in bytes)
 
--- the bytes ask this request alone
-abbrev pub AsksAlone : List ℕ → Request → Type 0
-AsksAlone bytes request = (requests_in bytes ≡ request ∷ []) × (parts_in bytes ≡ Ok request ∷ [])
-
 -- ---- said
 
 -- the replies that were read

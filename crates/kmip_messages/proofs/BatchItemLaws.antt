@@ -3,7 +3,6 @@
 use Rattle.std.proofs.Common.{◌≡◌, ℕ, Bool, true, ◌&&◌, List, Option, Result, Ok, Err, IsTrue, refl, sym, ap, subst, ◌∙◌}
 use Rattle.std.specs.Prelude.{IfOk, IfErr}
 use Rattle.std.specs.Option.{option_map_or}
-use Rattle.std.proofs.lemmas.Bool.{and_parts}
 use Rattle.kmip_ttlv.specs.Node.{Node, node, enumeration}
 use Rattle.kmip_ttlv.specs.Fitting.{IsBytes}
 use Rattle.kmip_ttlv.specs.Spelling.{Spells}
@@ -19,7 +18,6 @@ use Rattle.kmip_messages.specs.declared.request.Request.{Request}
 use Rattle.kmip_messages.specs.declared.reply.Reply.{Reply}
 use Rattle.kmip_messages.specs.declared.standard.TheConstants.{TAG_OPERATION, TAG_PROTOCOL_VERSION}
 use Rattle.kmip_messages.specs.BatchItems.{Question, question, question_at, IsQuestion, IsAnswer, answer_fits}
-use Rattle.kmip_messages.specs.Fits.{outcome_fits, HasValuesInRange}
 use Rattle.kmip_messages.specs.Operations.{operation_of}
 use Rattle.kmip_messages.specs.Parts.{message_at}
 use Rattle.kmip_messages.specs.Ranges.{is_batch_id}
@@ -145,12 +143,9 @@ answer-law batch = reads-as (answered_format.read batch) (answered_format.Says b
     (λ r is. is_answered batch r is)
     (reads answered_format answered-good batch)
 
-in_range : (r : Reply) → answer_fits r ≡ true → HasValuesInRange r
-in_range r fits = and_parts (option_map_or is_batch_id r.id true) (outcome_fits r.operation r.outcome) fits
-
 -- The written form of a reply is that reply.
 pub answer_written : (r : Reply) → answer_fits r ≡ true → IsAnswer (answered_format.write r) r
-answer_written r fits = answered_is (answered_format.write r) r (answered-good.written r (answer_in_format r (in_range r fits)))
+answer_written r fits = answered_is (answered_format.write r) r (answered-good.written r (answer_in_format r fits))
 
 -- What a Batch Item answers is in its ranges.
 pub answer_in_range : (batch : List Node) (r : Reply) → IsAnswer batch r → answer_fits r ≡ true

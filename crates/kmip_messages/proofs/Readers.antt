@@ -1,37 +1,17 @@
 -- A reader reads what a relation says: a value is read just where the relation holds of it.
-use Rattle.std.proofs.Common.{◌≡◌, ℕ, pos, true, List, Option, Some, None, Result, Ok, Err, ◌==◌, refl, sym, ap, subst, ◌∙◌}
+use Rattle.std.proofs.Common.{◌≡◌, ℕ, true, List, Option, Some, None, Ok, Err, ◌==◌, refl, sym, ap, subst, ◌∙◌}
 use Rattle.std.proofs.lemmas.Bool.{eqb-true, eq-eqb}
-use Rattle.std.proofs.lemmas.Bool.Decides.{Decides-int_eq}
-use Rattle.kmip_ttlv.specs.Node.{Node, node, Content, integer, enumeration, tag_of, content_of, as_structure}
-use Rattle.kmip_ttlv.proofs.ReadSteps.{Reads, same_ok, not_ok, reads-ok, reads-as}
-use Rattle.kmip_fields.specs.declared.fault.MessageFault.{MessageFault}
+use Rattle.kmip_ttlv.specs.Node.{Node, node, Content, enumeration, tag_of, content_of, as_structure}
+use Rattle.kmip_ttlv.proofs.ReadSteps.{Reads, not_ok, reads-ok, reads-as}
 use Rattle.kmip_fields.specs.declared.fault.MessageFault.TheVariants.{NotMessage}
-use Rattle.kmip_fields.specs.Formats.{inside, integers, enumerations, texts, bytes}
+use Rattle.kmip_fields.specs.Formats.{inside, enumerations, texts, bytes}
 use Rattle.kmip_fields.specs.FormatLaws.{IsPart}
-use Rattle.kmip_fields.proofs.ItemReads.{reads-if, same_some, not_some, structure_kind, integer_kind, enumeration_kind, text_kind, bytes_kind}
+use Rattle.kmip_fields.proofs.ItemReads.{reads-if, same_some, not_some, structure_kind, enumeration_kind, text_kind, bytes_kind}
 use Rattle.kmip_fields.proofs.FormatParts.{required-part, optional-part, ranged-part, fixed-part}
-use Rattle.kmip_messages.specs.declared.standard.TheConstants.{TAG_UNIQUE_BATCH_ITEM_ID, TAG_UNIQUE_IDENTIFIER, TAG_BATCH_COUNT, TAG_NAME_TYPE, NAME_TYPE_UNINTERPRETED_TEXT_STRING}
+use Rattle.kmip_messages.specs.declared.standard.TheConstants.{TAG_UNIQUE_BATCH_ITEM_ID, TAG_UNIQUE_IDENTIFIER, TAG_NAME_TYPE, NAME_TYPE_UNINTERPRETED_TEXT_STRING}
 use Rattle.kmip_fields.specs.Standing.{Once}
 use Rattle.kmip_messages.specs.Marks.{IsMarked, IsIdentifier}
-use Rattle.kmip_messages.specs.Parts.{message_in, message_at, id_format, identifier_format, count_format, plain_format}
-use Rattle.kmip_messages.specs.RequestReading.{refused, carrying}
-
--- what a refusal carries does not matter
-pub reads-refused : {A : Type 0} (operation : Option ℕ) (id : Option (List ℕ)) (r : Result A MessageFault) (P : A → Type 0)
-    → Reads r P → Reads (refused operation id r) P
-reads-refused operation id (Ok x) P h = record {
-  sound = λ a e. h.sound a (ap Ok (same_ok x a e));
-  complete = λ a p. ap Ok (same_ok x a (h.complete a p));
-}
-reads-refused operation id (Err e) P h = record {
-  sound = λ a is. not_ok _ a is;
-  complete = λ a p. not_ok e a (h.complete a p);
-}
-
-pub reads-carrying : {A : Type 0} (known : Result (ℕ × Option (List ℕ)) MessageFault) (r : Result A MessageFault) (P : A → Type 0)
-    → Reads r P → Reads (carrying known r) P
-reads-carrying (Ok known) r P h = reads-refused (Some known.0) known.1 r P h
-reads-carrying (Err e) r P h = reads-refused None None r P h
+use Rattle.kmip_messages.specs.Parts.{message_in, message_at, id_format, identifier_format, plain_format}
 
 -- ---- parts of both kinds of message
 
@@ -80,16 +60,10 @@ pub is_identifier_said : (payload : List Node) (uid : List ℕ) → IsIdentifier
 unfolding identifier_format
 is_identifier_said payload uid is = (is.stands, is.in_range)
 
-pub count_part : IsPart count_format
-count_part = fixed-part _ _ _ _ refl refl (required-part integers TAG_BATCH_COUNT integer_kind)
-
 pub plain_part : IsPart plain_format
 plain_part = fixed-part _ _ _ _ refl refl (required-part enumerations TAG_NAME_TYPE enumeration_kind)
 
--- what they say
-pub one_is : (header : List Node) → count_format.Says header tt → Once TAG_BATCH_COUNT (integer (pos 1)) header
-one_is header (count, stands, is_one) = subst (λ z. Once TAG_BATCH_COUNT (integer z) header) ((Decides-int_eq count (pos 1)).0 is_one) stands
-
+-- what it says
 pub plain_is : (name : List Node) → plain_format.Says name tt → Once TAG_NAME_TYPE (enumeration NAME_TYPE_UNINTERPRETED_TEXT_STRING) name
 plain_is name (kind, stands, plain) =
     subst (λ t. Once TAG_NAME_TYPE (enumeration t) name) (eqb-true kind NAME_TYPE_UNINTERPRETED_TEXT_STRING plain) stands

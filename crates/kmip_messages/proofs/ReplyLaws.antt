@@ -1,24 +1,25 @@
 -- The formats of replies are good: what is read is what is said, and what is written says it again.
-use Rattle.std.proofs.Common.{◌≡◌, ℕ, ℤ, Bool, true, false, List, [], ◌∷◌, Option, Some, None, ◌==◌, ◌&&◌, ◌||◌, refl, sym, ap, ◌∙◌}
+use Rattle.std.proofs.Common.{◌≡◌, ℕ, Bool, true, false, List, [], ◌∷◌, Option, Some, None, ◌==◌, ◌&&◌, ◌||◌, refl, sym, ap, ◌∙◌}
 use Rattle.std.proofs.lemmas.Bool.{and_parts, eqb-true}
 use Rattle.std.specs.Option.{option_map_or}
 use Rattle.kmip_ttlv.specs.Node.{Node}
 use Rattle.kmip_fields.specs.Formats.{integers, enumerations, texts, choose, Chosen}
 use Rattle.kmip_fields.specs.FormatLaws.{IsGood, IsPart}
 use Rattle.kmip_fields.proofs.ItemReads.{integer_kind, enumeration_kind, text_kind}
-use Rattle.kmip_fields.proofs.FormatParts.{required-part, optional-part, unread-part, repeated-part, structure-part, optional_structure-part, sole-part, ranged-part, as_record-good, said_record-part, as_case-part, both-part, reversed-part, left-part, right-part, fixed-part, followed-part, told_by-part, refusing-part, choose-part}
+use Rattle.kmip_fields.proofs.FormatParts.{required-part, optional-part, unread-part, repeated-part, structure-part, optional_structure-part, ranged-part, as_record-good, said_record-part, as_case-part, both-part, reversed-part, left-part, right-part, fixed-part, followed-part, told_by-part, refusing-part, choose-part}
 use Rattle.kmip_objects.specs.declared.attributes.Attrs.{Attrs}
 use Rattle.kmip_objects.specs.Ranges.{is_identifier}
 use Rattle.kmip_messages.specs.declared.reply.Outcome.{Outcome}
 use Rattle.kmip_messages.specs.declared.reply.Outcome.TheVariants.{Created, Located, Attributes, Activated, Revoked, Destroyed, Failed}
 use Rattle.kmip_messages.specs.declared.reply.Reply.{Reply}
 use Rattle.kmip_messages.specs.declared.standard.TheConstants.{TAG_RESPONSE_PAYLOAD, TAG_RESULT_STATUS, TAG_RESULT_REASON, STATUS_SUCCESS, STATUS_OPERATION_FAILED, OPERATION_CREATE, OPERATION_LOCATE, OPERATION_GET_ATTRIBUTES, OPERATION_ACTIVATE, OPERATION_REVOKE, OPERATION_DESTROY}
-use Rattle.kmip_messages.specs.Fits.{is_own, outcome_fits, HasValuesInRange}
+use Rattle.kmip_messages.specs.BatchItems.{answer_fits}
+use Rattle.kmip_messages.specs.Fits.{is_own, outcome_fits}
 use Rattle.kmip_messages.specs.Parts.{id_format, identifier_format}
-use Rattle.kmip_messages.specs.Ranges.{is_operation}
-use Rattle.kmip_messages.specs.ReplyFormats.{any_name_parts_format, attrs_format, in_created, in_located, in_attributes, in_activated, in_revoked, in_destroyed, in_failed, created_format, identifiers_format, object_format, answer_format, located_format, succeeded, success_of_format, success_format, failed_format, is_status, status_of, outcome_format, any_version_parts_format, reply_header_parts_format, reply_header_format, answered_format, reply_format}
+use Rattle.kmip_messages.specs.Ranges.{is_batch_id, is_operation}
+use Rattle.kmip_messages.specs.ReplyFormats.{any_name_parts_format, attrs_format, in_created, in_located, in_attributes, in_activated, in_revoked, in_destroyed, in_failed, created_format, identifiers_format, object_format, answer_format, located_format, succeeded, success_of_format, success_format, failed_format, is_status, status_of, outcome_format, any_version_parts_format, answered_format}
 use Rattle.kmip_messages.proofs.AttributeLaws.{attrs_with-part}
-use Rattle.kmip_messages.proofs.Readers.{id_part, identifier_part, plain_part, count_part}
+use Rattle.kmip_messages.proofs.Readers.{id_part, identifier_part, plain_part}
 use Rattle.kmip_messages.proofs.RequestLaws.{chosen, last_holds}
 
 -- ---- attributes
@@ -204,30 +205,17 @@ outcome-part asked = said_record-part _ _ _ (λ ns p says. ap (λ s. (s, p.1)) (
     (followed-part _ _ _ refl (λ status. status_tags asked (status == STATUS_SUCCESS)) (ranged-part _ _ _ (required-part enumerations _ enumeration_kind))
     (λ status. choose-part _ _ _ (success-part asked) failed-part))
 
--- ---- the message
+-- ---- the version, and the Batch Item
 
 pub any_version_parts-part : IsPart any_version_parts_format
 unfolding any_version_parts_format
 any_version_parts-part = fixed-part _ _ _ _ refl refl (both-part _ _ refl (required-part integers _ integer_kind) (required-part integers _ integer_kind))
-
-reply_header_parts-part : (now : ℤ) → IsPart (reply_header_parts_format now)
-unfolding reply_header_parts_format
-reply_header_parts-part now =
-    right-part _ _ refl (structure-part _ _ any_version_parts-part.good) (right-part _ _ refl (unread-part _ _ (refl, tt)) count_part)
-
-reply_header-part : (now : ℤ) → IsPart (reply_header_format now)
-unfolding reply_header_format
-reply_header-part now = structure-part _ _ (reply_header_parts-part now).good
 
 pub answered-good : IsGood answered_format
 unfolding answered_format id_format
 answered-good = as_record-good _ _ _ (λ ns p says. refl) (λ r. refl)
     (followed-part _ _ _ refl (λ known. outcome_tags known.0) (reversed-part _ _ refl (optional-part enumerations _ enumeration_kind) id_part)
     (λ known. outcome-part known.0)).good
-
-pub reply-good : (now : ℤ) → IsGood (reply_format now)
-unfolding reply_format reply_header_format
-reply-good now = (right-part _ _ refl (reply_header-part now) (sole-part _ _ answered-good)).good
 
 -- ---- a reply in its ranges is one that the formats can say
 
@@ -255,10 +243,8 @@ payload_fits (Revoked uid) asked fits = fits
 payload_fits (Destroyed uid) asked fits = fits
 payload_fits (Failed reason) asked fits = refl
 
-pub answer_in_format : (r : Reply) → HasValuesInRange r → answered_format.fits r ≡ true
+pub answer_in_format : (r : Reply) → answer_fits r ≡ true → answered_format.fits r ≡ true
 unfolding answered_format id_format
-answer_in_format r fits = both _ ((outcome_format r.operation).fits r.outcome) fits.0 (payload_fits r.outcome r.operation fits.1)
-
-pub reply_in_format : (r : Reply) (now : ℤ) → HasValuesInRange r → (reply_format now).fits r ≡ true
-unfolding reply_format reply_header_format reply_header_parts_format any_version_parts_format
-reply_in_format r now fits = answer_in_format r fits
+answer_in_format r fits =
+    let parts = and_parts (option_map_or is_batch_id r.id true) (outcome_fits r.operation r.outcome) fits in
+    both _ ((outcome_format r.operation).fits r.outcome) parts.0 (payload_fits r.outcome r.operation parts.1)

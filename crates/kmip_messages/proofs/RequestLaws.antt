@@ -6,7 +6,7 @@ use Rattle.kmip_ttlv.specs.Node.{Node}
 use Rattle.kmip_fields.specs.Formats.{integers, enumerations, texts, Chosen}
 use Rattle.kmip_fields.specs.FormatLaws.{IsGood, IsPart}
 use Rattle.kmip_fields.proofs.ItemReads.{integer_kind, enumeration_kind, text_kind}
-use Rattle.kmip_fields.proofs.FormatParts.{required-part, optional-part, structure-part, sole-part, ranged-part, fixed-part, present-part, as_record-good, as_record-part, as_case-good, both-part, reversed-part, left-part, right-part, followed-part, closed-good, refusing-part, choose-good}
+use Rattle.kmip_fields.proofs.FormatParts.{required-part, optional-part, structure-part, ranged-part, fixed-part, present-part, as_record-good, as_record-part, as_case-good, both-part, reversed-part, left-part, right-part, followed-part, closed-good, refusing-part, choose-good}
 use Rattle.kmip_objects.specs.declared.attributes.KeyAttrs.{KeyAttrs}
 use Rattle.kmip_objects.specs.declared.attributes.Attrs.{Attrs}
 use Rattle.kmip_objects.specs.Ranges.{is_name, is_algorithm, is_length, is_usage, attrs_fit}
@@ -18,9 +18,9 @@ use Rattle.kmip_messages.specs.Operations.{operation_of}
 use Rattle.kmip_messages.specs.Parts.{id_format, identifier_format}
 use Rattle.kmip_messages.specs.Ranges.{is_batch_id, is_operation}
 use Rattle.kmip_messages.specs.RequestFits.{ask_fits, request_fits}
-use Rattle.kmip_messages.specs.RequestFormats.{name_parts_format, name_format, key_attrs_format, filter_format, in_create, in_locate, in_get_attributes, in_activate, in_revoke, in_destroy, create_format, locate_format, reason_format, revoke_format, payload_format, version_parts_format, header_parts_format, header_format, known_format, asked_format, item_format, message_format}
+use Rattle.kmip_messages.specs.RequestFormats.{name_parts_format, name_format, key_attrs_format, filter_format, in_create, in_locate, in_get_attributes, in_activate, in_revoke, in_destroy, create_format, locate_format, reason_format, revoke_format, payload_format, version_parts_format, known_format, asked_format, item_format}
 use Rattle.kmip_messages.proofs.AttributeLaws.{attrs_with-part}
-use Rattle.kmip_messages.proofs.Readers.{id_part, identifier_part, plain_part, count_part}
+use Rattle.kmip_messages.proofs.Readers.{id_part, identifier_part, plain_part}
 
 -- ---- attributes
 
@@ -145,19 +145,11 @@ payload_is_own operation payload a known says =
     (last_holds (operation == OPERATION_CREATE) (operation == OPERATION_LOCATE) (operation == OPERATION_GET_ATTRIBUTES) (operation == OPERATION_ACTIVATE)
     (operation == OPERATION_REVOKE) (operation == OPERATION_DESTROY) known not_create not_locate not_attributes not_activate not_revoke))))))
 
--- ---- the message
+-- ---- the version, and the Batch Item
 
 pub version_parts-part : IsPart version_parts_format
 unfolding version_parts_format
 version_parts-part = fixed-part _ _ _ _ refl refl (both-part _ _ refl (required-part integers _ integer_kind) (required-part integers _ integer_kind))
-
-header_parts-part : IsPart header_parts_format
-unfolding header_parts_format
-header_parts-part = right-part _ _ refl (structure-part _ _ version_parts-part.good) count_part
-
-header-part : IsPart header_format
-unfolding header_format
-header-part = structure-part _ _ header_parts-part.good
 
 pub known-part : IsPart known_format
 unfolding known_format id_format
@@ -179,10 +171,6 @@ pub item-good : IsGood item_format
 unfolding item_format known_format id_format
 item-good = as_record-good _ _ _ (λ ns p says. ap (λ o. ((o, p.0.1), p.1)) (asked_is_own p.0.0 ns p.1 says.1)) (λ r. refl)
     (followed-part _ _ _ refl (λ known. asked_tags known.0) known-part (λ known. asked-part known.0)).good
-
-pub message-good : IsGood message_format
-unfolding message_format header_format
-message-good = (right-part _ _ refl header-part (sole-part _ _ item-good)).good
 
 -- ---- a request in its ranges is one that the formats can say
 
@@ -226,7 +214,3 @@ item_fits r fits =
     let parts = and_parts (option_map_or is_batch_id r.id true) (ask_fits r.ask) fits in
     both (option_map_or is_batch_id r.id true) (is_operation (operation_of r.ask) && (payload_format (operation_of r.ask)).fits r.ask) parts.0
     (both (is_operation (operation_of r.ask)) ((payload_format (operation_of r.ask)).fits r.ask) (asked_is_operation r.ask) (payload_fits r.ask parts.1))
-
-pub message_fits : (r : Request) → request_fits r ≡ true → message_format.fits r ≡ true
-unfolding message_format header_format header_parts_format version_parts_format
-message_fits r fits = item_fits r fits

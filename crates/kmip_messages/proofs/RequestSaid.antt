@@ -1,29 +1,22 @@
--- What the formats of requests say is what specs/Requests says by hand, in both directions; so a request is read just where an
--- item is it, and its written form is it.
-use Rattle.std.proofs.Common.{◌≡◌, ℤ, pos, true, List, None, IsTrue, refl, sym, subst}
+-- What the formats of requests say is what specs/Requests says by hand, in both directions.
+use Rattle.std.proofs.Common.{◌≡◌, ℤ, true, List, refl, subst}
 use Rattle.std.proofs.lemmas.Bool.{eqb-true, and_parts}
 use Rattle.std.proofs.lemmas.Bool.Decides.{Decides-int_eq}
 use Rattle.std.specs.Ordering.{int_eq}
-use Rattle.kmip_ttlv.specs.Node.{Node, node, integer, enumeration}
-use Rattle.kmip_ttlv.proofs.ReadSteps.{Reads, reads-bind, reads-as}
-use Rattle.kmip_fields.specs.Formats.{inside, structure_of}
+use Rattle.kmip_ttlv.specs.Node.{Node, integer, enumeration}
+use Rattle.kmip_fields.specs.Formats.{structure_of}
 use Rattle.kmip_fields.specs.Standing.{Once}
-use Rattle.kmip_fields.proofs.FormatParts.{reads}
 use Rattle.kmip_objects.specs.declared.attributes.KeyAttrs.{KeyAttrs}
 use Rattle.kmip_objects.specs.declared.standard.TheConstants.{OBJECT_TYPE_SYMMETRIC_KEY}
 use Rattle.kmip_messages.specs.declared.request.Ask.{Ask}
 use Rattle.kmip_messages.specs.declared.request.Ask.TheVariants.{Create, Locate, GetAttributes, Activate, Revoke, Destroy}
-use Rattle.kmip_messages.specs.declared.request.Request.{Request}
-use Rattle.kmip_messages.specs.declared.standard.TheConstants.{TAG_REQUEST_MESSAGE, TAG_OPERATION, TAG_PROTOCOL_VERSION, TAG_PROTOCOL_VERSION_MAJOR, TAG_PROTOCOL_VERSION_MINOR, TAG_OBJECT_TYPE, VERSION_MAJOR, VERSION_MINOR}
+use Rattle.kmip_messages.specs.declared.standard.TheConstants.{TAG_OPERATION, TAG_PROTOCOL_VERSION, TAG_PROTOCOL_VERSION_MAJOR, TAG_PROTOCOL_VERSION_MINOR, TAG_OBJECT_TYPE, VERSION_MAJOR, VERSION_MINOR}
 use Rattle.kmip_messages.specs.Operations.{operation_of}
-use Rattle.kmip_messages.specs.RequestFits.{request_fits}
-use Rattle.kmip_messages.specs.RequestFormats.{key_attrs_format, create_format, locate_format, reason_format, revoke_format, payload_format, version_parts_format, header_parts_format, header_format, known_format, asked_format, item_format, known_in_format, message_format}
-use Rattle.kmip_messages.specs.RequestReading.{request_at}
-use Rattle.kmip_messages.specs.Requests.{IsVersion, IsHeader, IsKeyAttrs, IsCreate, IsPayload, IsAsk, IsRequest}
-use Rattle.kmip_messages.specs.Written.{request_item}
-use Rattle.kmip_messages.proofs.Readers.{reads-refused, reads-carrying, reads-message, id_is, is_id, identifier_is, is_identifier_said, one_is}
+use Rattle.kmip_messages.specs.RequestFormats.{key_attrs_format, create_format, locate_format, reason_format, revoke_format, payload_format, version_parts_format, asked_format}
+use Rattle.kmip_messages.specs.Requests.{IsVersion, IsKeyAttrs, IsCreate, IsPayload, IsAsk}
+use Rattle.kmip_messages.proofs.Readers.{identifier_is, is_identifier_said}
 use Rattle.kmip_messages.proofs.AttributeLaws.{name_is, is_name_said, filter_is, is_filter}
-use Rattle.kmip_messages.proofs.RequestLaws.{message-good, message_fits, asked_is_operation}
+use Rattle.kmip_messages.proofs.RequestLaws.{asked_is_operation}
 
 -- two numbers that were tested
 same_number : (x y : ℤ) → int_eq x y ≡ true → x ≡ y
@@ -85,7 +78,7 @@ is_payload payload (Activate uid) p = (uid, is_identifier_said payload uid p, re
 is_payload payload (Revoke uid code) p = ((uid, code), (is_identifier_said payload uid p.identifier, (p.reason, p.stands, (p.says, p.in_range))), refl)
 is_payload payload (Destroy uid) p = (uid, is_identifier_said payload uid p, refl)
 
--- ---- the message
+-- ---- the version, and the Batch Item
 
 pub version_is : (header : List Node) → (structure_of TAG_PROTOCOL_VERSION version_parts_format).Says header tt → IsVersion header
 unfolding version_parts_format
@@ -102,15 +95,6 @@ pub is_version : (header : List Node) → IsVersion header → (structure_of TAG
 unfolding version_parts_format
 is_version header p = (p.parts, p.stands, ((VERSION_MAJOR, VERSION_MINOR), (p.major, p.minor), refl))
 
-header_is : (message : List Node) → header_format.Says message tt → IsHeader message
-unfolding header_format header_parts_format
-header_is message (header, stands, (version, one)) =
-    record { parts = header; stands = stands; version = version_is header version; count = one_is header one }
-
-is_header : (message : List Node) → IsHeader message → header_format.Says message tt
-unfolding header_format header_parts_format
-is_header message p = (p.parts, p.stands, (is_version p.parts p.version, (pos 1, p.count, refl)))
-
 pub ask_is : (batch : List Node) (a : Ask) → (asked_format (operation_of a)).Says batch a
     → Once TAG_OPERATION (enumeration (operation_of a)) batch → IsAsk batch a
 unfolding asked_format
@@ -119,34 +103,3 @@ ask_is batch a (_, (payload, stands, says)) operation = record { operation = ope
 pub is_ask : (batch : List Node) (a : Ask) → IsAsk batch a → (asked_format (operation_of a)).Says batch a
 unfolding asked_format
 is_ask batch a p = (asked_is_operation a, (p.payload, p.stands, is_payload p.payload a p.says))
-
--- What the items of a Request Message say is the request that the message is.
-pub message_is : (r : Request) (message : List Node) → message_format.Says message r → IsRequest r (node TAG_REQUEST_MESSAGE (inside message))
-unfolding message_format item_format known_format
-message_is r message (header, (batch, stands, ((operation, id), ask))) = record {
-  batch = batch;
-  is_batch = record { parts = message; is_message = refl; header = header_is message header; stands = stands };
-  mark = id_is batch r.id id;
-  asks = ask_is batch r.ask ask operation;
-}
-
--- And a message that is a request has items that say it.
-pub is_message : (r : Request) (n : Node) → IsRequest r n
-    → (message : List Node) × (n ≡ node TAG_REQUEST_MESSAGE (inside message)) × message_format.Says message r
-unfolding message_format item_format known_format
-is_message r n p =
-    let batch = p.is_batch in
-    (batch.parts, batch.is_message, (is_header batch.parts batch.header, (p.batch, batch.stands, ((p.asks.operation, is_id p.batch r.id p.mark), is_ask p.batch r.ask p.asks))))
-
--- What is read of an item is the request that it is, and an item that is a request is read as it.
-pub request-law : (n : Node) → Reads (request_at n) (λ r. IsRequest r n)
-unfolding request_at
-request-law n = reads-as (request_at n) _ (λ r. IsRequest r n)
-    (λ r p. subst (IsRequest r) (sym p.1) (message_is r p.0 p.2))
-    (λ r p. is_message r n p)
-    (reads-bind _ _ _ _ (reads-refused None None _ _ (reads-message TAG_REQUEST_MESSAGE n)) (λ message.
-    reads-carrying (known_in_format.read message) _ _ (reads message_format message-good message)))
-
--- The written form of a request is that request.
-pub written_is : (r : Request) → IsTrue (request_fits r) → IsRequest r (request_item r)
-written_is r fits = message_is r (message_format.write r) (message-good.written r (message_fits r fits))

@@ -1,32 +1,23 @@
--- Written messages: how deep and how long at most. That they are so deep and so long at all is a law of their formats.
-use Rattle.std.proofs.Common.{◌≡◌, ℕ, ◌+◌, ◌*◌, ◌≤◌, ℤ, pos, true, false, List, [], ◌∷◌, length, Option, Some, None, IsTrue, nat_le, sym, subst, ap, ◌∙◌, inl, inr, arith}
+-- What is written of requests and replies: how deep and how long at most. That it is so deep and so long at all is a law of its format.
+use Rattle.std.proofs.Common.{◌≡◌, ℕ, ◌+◌, ◌*◌, ◌≤◌, true, false, List, [], ◌∷◌, length, Option, Some, None, arith}
 use Rattle.std.proofs.lemmas.Bool.{and_parts, leb-true}
-use Rattle.std.proofs.lemmas.Bool.Decides.{leb_tells}
 use Rattle.std.specs.List.{list_all}
 use Rattle.std.specs.Option.{option_map_or}
-use Rattle.kmip_ttlv.specs.Node.{Node}
-use Rattle.kmip_ttlv.specs.Sizes.{size, IsWritable}
-use Rattle.kmip_ttlv.proofs.ForCallers.{writable_of}
 use Rattle.kmip_fields.specs.Formats.{Extent, extent_if_any}
 use Rattle.kmip_objects.specs.Ranges.{is_name, is_identifier}
 use Rattle.kmip_objects.proofs.ForCallers.{name_length, uid_length}
 use Rattle.kmip_messages.specs.declared.request.Ask.{Ask}
 use Rattle.kmip_messages.specs.declared.request.Ask.TheVariants.{Create, Locate, GetAttributes, Activate, Revoke, Destroy}
-use Rattle.kmip_messages.specs.declared.request.Request.{Request}
 use Rattle.kmip_messages.specs.declared.reply.Outcome.{Outcome}
 use Rattle.kmip_messages.specs.declared.reply.Outcome.TheVariants.{Created, Located, Attributes, Activated, Revoked, Destroyed, Failed}
-use Rattle.kmip_messages.specs.declared.reply.Reply.{Reply}
-use Rattle.kmip_messages.specs.Fits.{outcome_fits, reply_fits}
-use Rattle.kmip_messages.specs.MessageSizes.{IsBrief, IsCapped, number_size, text_size}
+use Rattle.kmip_messages.specs.Fits.{outcome_fits}
+use Rattle.kmip_messages.specs.MessageSizes.{IsBrief, number_size, text_size}
 use Rattle.kmip_messages.specs.Operations.{operation_of}
 use Rattle.kmip_messages.specs.Parts.{id_format, identifier_format}
 use Rattle.kmip_messages.specs.Ranges.{is_batch_id}
-use Rattle.kmip_messages.specs.ReplyFormats.{any_name_parts_format, attrs_format, created_format, identifiers_format, object_format, answer_format, located_format, success_of_format, success_format, failed_format, outcome_format, any_version_parts_format, reply_header_parts_format, reply_header_format, answered_format, reply_format}
-use Rattle.kmip_messages.specs.RequestFits.{ask_fits, request_fits}
-use Rattle.kmip_messages.specs.RequestFormats.{name_parts_format, name_format, key_attrs_format, filter_format, create_format, locate_format, reason_format, revoke_format, payload_format, version_parts_format, header_parts_format, header_format, known_format, asked_format, item_format, message_format}
-use Rattle.kmip_messages.specs.Written.{reply_item, request_item}
-use Rattle.kmip_messages.proofs.ReplyLaws.{reply-good}
-use Rattle.kmip_messages.proofs.RequestLaws.{message-good}
+use Rattle.kmip_messages.specs.ReplyFormats.{any_name_parts_format, attrs_format, created_format, identifiers_format, object_format, answer_format, located_format, success_of_format, success_format, failed_format, outcome_format}
+use Rattle.kmip_messages.specs.RequestFits.{ask_fits}
+use Rattle.kmip_messages.specs.RequestFormats.{name_parts_format, name_format, key_attrs_format, filter_format, create_format, locate_format, reason_format, revoke_format, payload_format}
 
 -- so many bytes and levels at most
 abbrev pub IsWithin : ℕ → ℕ → Extent → Type 0
@@ -66,21 +57,6 @@ ask_within (Activate uid) h = omega (arith, uid_bound uid h)
 ask_within (Revoke uid code) h = omega (arith, uid_bound uid (and_parts _ _ h).0)
 ask_within (Destroy uid) h = omega (arith, uid_bound uid h)
 
-request_within : (r : Request) → request_fits r ≡ true → IsWithin 8000 15 (message_format.extent r)
-unfolding message_format header_format header_parts_format version_parts_format item_format known_format asked_format id_format
-request_within r fits =
-    let parts = and_parts (option_map_or is_batch_id r.id true) (ask_fits r.ask) fits in
-    omega (arith, id_bound r.id parts.0, ask_within r.ask parts.1)
-
-pub request_writable : (r : Request) → IsTrue (request_fits r) → IsWritable (request_item r)
-request_writable r fits =
-    let spans = message-good.spans r in
-    let within = request_within r fits in
-    writable_of (request_item r) spans.groups (omega (arith, spans.deep, within.1)) (omega (arith, spans.long, within.0))
-
-pub request_fits_writable : (r : Request) (item : Node) → IsTrue (request_fits r) → item ≡ request_item r → IsWritable item
-request_fits_writable r item fits is = subst IsWritable (sym is) (request_writable r fits)
-
 -- ---- replies
 
 pub outcome_depth : (asked : Option ℕ) (o : Outcome) → ((outcome_format asked).extent o).depth ≤ 4
@@ -105,42 +81,3 @@ brief_bound asked (Activated uid) fits brief = omega (arith, uid_bound uid (and_
 brief_bound asked (Revoked uid) fits brief = omega (arith, uid_bound uid (and_parts _ _ fits).1)
 brief_bound asked (Destroyed uid) fits brief = omega (arith, uid_bound uid (and_parts _ _ fits).1)
 brief_bound asked (Failed reason) fits brief = omega (arith, number_bound reason)
-
-reply_depth : (r : Reply) (now : ℤ) → ((reply_format now).extent r).depth ≤ 15
-unfolding reply_format reply_header_format reply_header_parts_format any_version_parts_format answered_format id_format
-reply_depth r now = omega (arith, outcome_depth r.operation r.outcome)
-
--- the size of a written reply
-pub reply_size : (r : Reply) (now : ℤ)
-    → size (reply_item r now) ≡ 96 + (number_size r.operation + (id_format.extent r.id).size + ((outcome_format r.operation).extent r.outcome).size)
-unfolding reply_format reply_header_format reply_header_parts_format any_version_parts_format answered_format
-reply_size r now = omega (arith, ((reply-good now).spans r).long)
-
--- capped or not, it is too long or it is not
-pub capped_test : (n m : ℕ) → IsCapped n m → nat_le n 8192 ≡ nat_le m 8192
-capped_test n m h = elim (leb_tells m 8192) [
-  | inl short ↦ ap (λ k. nat_le k 8192) (h.0 short.1)
-  | inr long ↦ elim (leb_tells n 8192) [
-    | inl other ↦ let over = h.1 long.1 in absurd (omega (arith, other.1, over))
-    | inr other ↦ other.0 ∙ sym long.0
-  ]
-]
-
--- the test of the sizes of the parts is that of the whole
-pub is_short_test : (r : Reply) (operation id outcome : ℕ) → operation ≡ number_size r.operation → IsCapped id (id_format.extent r.id).size
-    → IsCapped outcome ((outcome_format r.operation).extent r.outcome).size
-    → nat_le (96 + operation + id + outcome) 8192 ≡ nat_le (size (reply_item r (pos 0))) 8192
-is_short_test r operation id outcome is_operation is_id is_outcome =
-    let whole = reply_size r (pos 0) in
-    capped_test (96 + operation + id + outcome) (size (reply_item r (pos 0)))
-    (λ short. grind (arith, whole, is_operation, is_id, is_outcome, short), λ long. grind (arith, whole, is_operation, is_id, is_outcome, long))
-
--- a reply that fits can be written, at any time
-pub reply_fits_writable : (r : Reply) (now : ℤ) → IsTrue (reply_fits r) → IsWritable (reply_item r now)
-reply_fits_writable r now fits =
-    let spans = (reply-good now).spans r in
-    writable_of (reply_item r now) spans.groups (omega (arith, spans.deep, reply_depth r now))
-    (omega (arith, reply_size r now, reply_size r (pos 0), leb-true (size (reply_item r (pos 0))) 8192 (and_parts _ _ fits).1))
-
-pub fits_writable : (r : Reply) (now : ℤ) (item : Node) → IsTrue (reply_fits r) → item ≡ reply_item r now → IsWritable item
-fits_writable r now item fits is = subst IsWritable (sym is) (reply_fits_writable r now fits)

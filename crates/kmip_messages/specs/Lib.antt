@@ -5,15 +5,10 @@ pub mod Marks
 pub mod Attributes
 pub mod Parts
 pub mod RequestFormats
-pub mod RequestReading
 pub mod ReplyFormats
-pub mod ReplyReading
-pub mod Written
 pub mod Requests
 pub mod Replies
 pub mod Fits
 pub mod BatchItems
 pub mod MessageSizes
 pub mod Whole
-pub mod Items
-pub mod ItemLaws

@@ -1,14 +1,12 @@
--- What both kinds of message have: their items, the Unique Batch Item ID, the Batch Count, Unique Identifiers and the type of a
--- Name.
+-- What both kinds of message have: their items, the Unique Batch Item ID, Unique Identifiers and the type of a Name.
 -- Source: KMIP 2.1, Message Structure and Object Attributes.
-use Rattle.std.specs.Prelude.{ℕ, pos, ◌==◌, true, List, Option, Some, None, Result, Ok, Err, if◌then◌else◌}
+use Rattle.std.specs.Prelude.{ℕ, ◌==◌, true, List, Option, Some, None, Result, Ok, Err, if◌then◌else◌}
 use Rattle.std.specs.Option.{option_map_or}
-use Rattle.std.specs.Ordering.{int_eq}
 use Rattle.kmip_ttlv.specs.Node.{Node, tag_of, content_of, as_structure}
 use Rattle.kmip_fields.specs.declared.fault.MessageFault.{MessageFault}
-use Rattle.kmip_fields.specs.declared.fault.MessageFault.TheVariants.{NotMessage, BatchCount, OutOfRange}
-use Rattle.kmip_fields.specs.Formats.{Format, integers, enumerations, texts, bytes, required, optional, ranged, fixed}
-use Rattle.kmip_messages.specs.declared.standard.TheConstants.{TAG_UNIQUE_BATCH_ITEM_ID, TAG_UNIQUE_IDENTIFIER, TAG_BATCH_COUNT, TAG_NAME_TYPE, NAME_TYPE_UNINTERPRETED_TEXT_STRING}
+use Rattle.kmip_fields.specs.declared.fault.MessageFault.TheVariants.{NotMessage, OutOfRange}
+use Rattle.kmip_fields.specs.Formats.{Format, enumerations, texts, bytes, required, optional, ranged, fixed}
+use Rattle.kmip_messages.specs.declared.standard.TheConstants.{TAG_UNIQUE_BATCH_ITEM_ID, TAG_UNIQUE_IDENTIFIER, TAG_NAME_TYPE, NAME_TYPE_UNINTERPRETED_TEXT_STRING}
 use Rattle.kmip_objects.specs.Ranges.{is_identifier}
 use Rattle.kmip_messages.specs.Ranges.{is_batch_id}
 
@@ -27,10 +25,6 @@ id_format = ranged TAG_UNIQUE_BATCH_ITEM_ID (λ o. option_map_or is_batch_id o t
 -- a Unique Identifier
 unfoldable pub identifier_format : Format (List ℕ)
 identifier_format = ranged TAG_UNIQUE_IDENTIFIER is_identifier (required texts TAG_UNIQUE_IDENTIFIER)
-
--- the Batch Count, which is one
-abbrev pub count_format : Format (Unit {0})
-count_format = fixed BatchCount (λ z. int_eq z (pos 1)) (pos 1) (required integers TAG_BATCH_COUNT)
 
 -- the Name Type of an uninterpreted text
 abbrev pub plain_format : Format (Unit {0})

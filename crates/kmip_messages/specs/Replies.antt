@@ -1,40 +1,19 @@
--- What it is for an item to be a reply: each item that is used stands once among its siblings, in any order, and other
--- items are skipped.
+-- What a reply says: each item that is used stands once among its siblings, in any order, and other items are skipped.
 -- Source: KMIP 2.1, Message Structure, Operations and Object Attributes.
-use Rattle.std.specs.Prelude.{◌≡◌, ℕ, ℤ, pos, List, [], map, Option, Some, None, IsTrue}
+use Rattle.std.specs.Prelude.{◌≡◌, ℕ, List, [], map, Option, Some, None, IsTrue}
 use Rattle.std.specs.List.{list_all}
 use Rattle.std.specs.Option.{option_map}
-use Rattle.kmip_ttlv.specs.Node.{Node, node, integer, enumeration, text_string}
-use Rattle.kmip_ttlv.specs.Spelling.{Spells}
+use Rattle.kmip_ttlv.specs.Node.{Node, enumeration, text_string}
 use Rattle.kmip_objects.specs.declared.attributes.Attrs.{Attrs}
 use Rattle.kmip_messages.specs.declared.reply.Outcome.{Outcome}
 use Rattle.kmip_messages.specs.declared.reply.Outcome.TheVariants.{Created, Located, Attributes, Activated, Revoked, Destroyed, Failed}
-use Rattle.kmip_messages.specs.declared.reply.Reply.{Reply}
-use Rattle.kmip_messages.specs.declared.standard.TheConstants.{TAG_RESPONSE_MESSAGE, TAG_RESPONSE_HEADER, TAG_PROTOCOL_VERSION, TAG_PROTOCOL_VERSION_MAJOR, TAG_PROTOCOL_VERSION_MINOR, TAG_BATCH_COUNT, TAG_BATCH_ITEM, TAG_OPERATION, TAG_RESULT_STATUS, TAG_RESULT_REASON, TAG_RESPONSE_PAYLOAD, TAG_ATTRIBUTES, TAG_UNIQUE_IDENTIFIER, VERSION_MAJOR, STATUS_SUCCESS, STATUS_OPERATION_FAILED, OPERATION_CREATE, OPERATION_LOCATE, OPERATION_GET_ATTRIBUTES, OPERATION_ACTIVATE, OPERATION_REVOKE, OPERATION_DESTROY}
+use Rattle.kmip_messages.specs.declared.standard.TheConstants.{TAG_RESULT_STATUS, TAG_RESULT_REASON, TAG_RESPONSE_PAYLOAD, TAG_ATTRIBUTES, TAG_UNIQUE_IDENTIFIER, STATUS_SUCCESS, STATUS_OPERATION_FAILED, OPERATION_CREATE, OPERATION_LOCATE, OPERATION_GET_ATTRIBUTES, OPERATION_ACTIVATE, OPERATION_REVOKE, OPERATION_DESTROY}
 use Rattle.kmip_objects.specs.Ranges.{is_identifier}
 use Rattle.kmip_fields.specs.Siblings.{contents}
 use Rattle.kmip_fields.specs.Standing.{Once, AtMostOnce}
 use Rattle.kmip_messages.specs.Attributes.{AreAttrs}
-use Rattle.kmip_messages.specs.Marks.{IsMarked, IsIdentifier}
+use Rattle.kmip_messages.specs.Marks.{IsIdentifier}
 use Rattle.kmip_fields.specs.Formats.{inside}
-
--- Protocol Version 2 with any minor number, and one Batch Item
-pub record IsReplyHeader (header : List Node) : Type 0 where
-  pub version : List Node
-  pub minor : ℤ
-  pub has_version : Once TAG_PROTOCOL_VERSION (inside version) header
-  pub has_major : Once TAG_PROTOCOL_VERSION_MAJOR (integer VERSION_MAJOR) version
-  pub has_minor : Once TAG_PROTOCOL_VERSION_MINOR (integer minor) version
-  pub has_count : Once TAG_BATCH_COUNT (integer (pos 1)) header
-
--- the item is a Response Message, and these are the items of its one Batch Item
-pub record IsReplyBatch (item : Node) (batch : List Node) : Type 0 where
-  pub message : List Node
-  pub header : List Node
-  pub is_message : item ≡ node TAG_RESPONSE_MESSAGE (inside message)
-  pub has_header : Once TAG_RESPONSE_HEADER (inside header) message
-  pub is_header : IsReplyHeader header
-  pub has_batch : Once TAG_BATCH_ITEM (inside batch) message
 
 -- all the Unique Identifiers, in their order
 pub record AreIdentifiers (payload : List Node) (uids : List (List ℕ)) : Type 0 where
@@ -82,15 +61,3 @@ IsOutcome batch asked (Activated uid) = IsSuccess batch asked OPERATION_ACTIVATE
 IsOutcome batch asked (Revoked uid) = IsSuccess batch asked OPERATION_REVOKE (λ payload. IsIdentifier payload uid)
 IsOutcome batch asked (Destroyed uid) = IsSuccess batch asked OPERATION_DESTROY (λ payload. IsIdentifier payload uid)
 IsOutcome batch asked (Failed reason) = IsFailed batch reason
-
--- the item is this reply
-pub record IsReply (reply : Reply) (item : Node) : Type 0 where
-  pub batch : List Node
-  pub is_batch : IsReplyBatch item batch
-  pub operation : AtMostOnce TAG_OPERATION (option_map enumeration reply.operation) batch
-  pub id : IsMarked batch reply.id
-  pub outcome : IsOutcome batch reply.operation reply.outcome
-
--- the bytes spell an item that is the reply
-abbrev pub SpellReply : List ℕ → Reply → Type 0
-SpellReply bytes reply = (n : Node) × Spells n bytes × IsReply reply n

@@ -1,21 +1,21 @@
 -- Each part of a reply, described once: how it is written, how it is read, in which order of checks, and what it says.
 -- Source: KMIP 2.1, Message Structure (Response Message), Operations (Create, Locate, Get Attributes, Activate, Revoke,
 -- Destroy), Object Attributes and Message Data, Result Status; the order of optional items and the order of the checks are own.
-use Rattle.std.specs.Prelude.{ℕ, ℤ, Bool, ◌==◌, ◌||◌, List, [], ◌∷◌, Option, Some, None}
+use Rattle.std.specs.Prelude.{ℕ, Bool, ◌==◌, ◌||◌, List, [], ◌∷◌, Option, Some, None}
 use Rattle.std.specs.Option.{option_map_or}
 use Rattle.std.specs.Ordering.{int_eq}
-use Rattle.kmip_ttlv.specs.Node.{date_time, enumeration}
+use Rattle.kmip_ttlv.specs.Node.{enumeration}
 use Rattle.kmip_fields.specs.declared.fault.MessageFault.TheVariants.{Version, Missing, UnknownOperation}
-use Rattle.kmip_fields.specs.Formats.{Format, integers, enumerations, texts, required, optional, unread, repeated, structure_of, optional_structure, sole_structure_of, ranged, fixed, as_record, as_case, ◌⊗◌, ◌⊗ʳ◌, ◌◁◌, ◌▷◌, followed, told_by, refusing, choose}
+use Rattle.kmip_fields.specs.Formats.{Format, integers, enumerations, texts, required, optional, unread, repeated, structure_of, optional_structure, ranged, fixed, as_record, as_case, ◌⊗◌, ◌⊗ʳ◌, ◌◁◌, ◌▷◌, followed, told_by, refusing, choose}
 use Rattle.kmip_objects.specs.declared.attributes.Attrs.{Attrs}
 use Rattle.kmip_objects.specs.declared.standard.TheConstants.{OBJECT_TYPE_SYMMETRIC_KEY}
 use Rattle.kmip_objects.specs.Ranges.{is_identifier}
 use Rattle.kmip_messages.specs.declared.reply.Outcome.{Outcome}
 use Rattle.kmip_messages.specs.declared.reply.Outcome.TheVariants.{Created, Located, Attributes, Activated, Revoked, Destroyed, Failed}
 use Rattle.kmip_messages.specs.declared.reply.Reply.{Reply}
-use Rattle.kmip_messages.specs.declared.standard.TheConstants.{TAG_RESPONSE_HEADER, TAG_PROTOCOL_VERSION, TAG_PROTOCOL_VERSION_MAJOR, TAG_PROTOCOL_VERSION_MINOR, TAG_TIME_STAMP, TAG_BATCH_ITEM, TAG_OPERATION, TAG_RESULT_STATUS, TAG_RESULT_REASON, TAG_RESPONSE_PAYLOAD, TAG_OBJECT_TYPE, TAG_ATTRIBUTES, TAG_NAME, TAG_NAME_VALUE, TAG_UNIQUE_IDENTIFIER, VERSION_MAJOR, VERSION_MINOR, STATUS_SUCCESS, STATUS_OPERATION_FAILED, OPERATION_CREATE, OPERATION_LOCATE, OPERATION_GET_ATTRIBUTES, OPERATION_ACTIVATE, OPERATION_REVOKE, OPERATION_DESTROY}
+use Rattle.kmip_messages.specs.declared.standard.TheConstants.{TAG_PROTOCOL_VERSION_MAJOR, TAG_PROTOCOL_VERSION_MINOR, TAG_OPERATION, TAG_RESULT_STATUS, TAG_RESULT_REASON, TAG_RESPONSE_PAYLOAD, TAG_OBJECT_TYPE, TAG_ATTRIBUTES, TAG_NAME, TAG_NAME_VALUE, TAG_UNIQUE_IDENTIFIER, VERSION_MAJOR, VERSION_MINOR, STATUS_SUCCESS, STATUS_OPERATION_FAILED, OPERATION_CREATE, OPERATION_LOCATE, OPERATION_GET_ATTRIBUTES, OPERATION_ACTIVATE, OPERATION_REVOKE, OPERATION_DESTROY}
 use Rattle.kmip_messages.specs.Attributes.{attrs_with}
-use Rattle.kmip_messages.specs.Parts.{id_format, identifier_format, count_format, plain_format}
+use Rattle.kmip_messages.specs.Parts.{id_format, identifier_format, plain_format}
 use Rattle.kmip_messages.specs.Ranges.{is_operation}
 
 -- ---- attributes
@@ -127,27 +127,15 @@ outcome_format asked = as_record (λ p. p.1) (λ o. (status_of o, o))
     (ranged TAG_RESULT_STATUS is_status (required enumerations TAG_RESULT_STATUS))
     (λ status. choose (status == STATUS_SUCCESS) (success_format asked) failed_format))
 
--- ---- the message
+-- ---- the version, and the Batch Item
 
 -- the Protocol Version 2 with any minor number; 2.1 is written
 unfoldable pub any_version_parts_format : Format (Unit {0})
 any_version_parts_format = fixed Version (λ p. int_eq p.0 VERSION_MAJOR) (VERSION_MAJOR, VERSION_MINOR)
     (required integers TAG_PROTOCOL_VERSION_MAJOR ⊗ required integers TAG_PROTOCOL_VERSION_MINOR)
 
--- the Response Header, written at a time in seconds: the version, the time, and that there is one Batch Item
-unfoldable pub reply_header_parts_format : ℤ → Format (Unit {0})
-reply_header_parts_format now =
-    structure_of TAG_PROTOCOL_VERSION any_version_parts_format ▷ unread TAG_TIME_STAMP (date_time now) ▷ count_format
-
-unfoldable pub reply_header_format : ℤ → Format (Unit {0})
-reply_header_format now = structure_of TAG_RESPONSE_HEADER (reply_header_parts_format now)
-
 -- the Batch Item
 unfoldable pub answered_format : Format Reply
 answered_format = as_record (λ p. record { operation = p.0.0; id = p.0.1; outcome = p.1 }) (λ r. ((r.operation, r.id), r.outcome))
     (followed (TAG_RESULT_STATUS ∷ TAG_RESPONSE_PAYLOAD ∷ TAG_RESPONSE_PAYLOAD ∷ TAG_RESULT_REASON ∷ [])
     (optional enumerations TAG_OPERATION ⊗ʳ id_format) (λ known. outcome_format known.0))
-
--- the items of a Response Message, written at a time in seconds
-unfoldable pub reply_format : ℤ → Format Reply
-reply_format now = reply_header_format now ▷ sole_structure_of TAG_BATCH_ITEM answered_format

@@ -4,7 +4,7 @@
 use Rattle.std.specs.Prelude.{ℕ, ℤ, ◌==◌, ◌&&◌, List, [], ◌∷◌, Option, Some, None}
 use Rattle.std.specs.Ordering.{int_eq}
 use Rattle.kmip_fields.specs.declared.fault.MessageFault.TheVariants.{Version, OutOfRange, UnknownOperation}
-use Rattle.kmip_fields.specs.Formats.{Format, integers, enumerations, texts, required, optional, structure_of, sole_structure_of, ranged, fixed, present, as_record, as_case, ◌⊗◌, ◌⊗ʳ◌, ◌◁◌, ◌▷◌, followed, closed, refusing, choose}
+use Rattle.kmip_fields.specs.Formats.{Format, integers, enumerations, texts, required, optional, structure_of, ranged, fixed, present, as_record, as_case, ◌⊗◌, ◌⊗ʳ◌, ◌◁◌, ◌▷◌, followed, closed, refusing, choose}
 use Rattle.kmip_objects.specs.declared.attributes.KeyAttrs.{KeyAttrs}
 use Rattle.kmip_objects.specs.declared.attributes.Attrs.{Attrs}
 use Rattle.kmip_objects.specs.declared.standard.TheConstants.{OBJECT_TYPE_SYMMETRIC_KEY}
@@ -12,10 +12,10 @@ use Rattle.kmip_objects.specs.Ranges.{is_name, is_algorithm, is_length, is_usage
 use Rattle.kmip_messages.specs.declared.request.Ask.{Ask}
 use Rattle.kmip_messages.specs.declared.request.Ask.TheVariants.{Create, Locate, GetAttributes, Activate, Revoke, Destroy}
 use Rattle.kmip_messages.specs.declared.request.Request.{Request}
-use Rattle.kmip_messages.specs.declared.standard.TheConstants.{TAG_REQUEST_HEADER, TAG_PROTOCOL_VERSION, TAG_PROTOCOL_VERSION_MAJOR, TAG_PROTOCOL_VERSION_MINOR, TAG_BATCH_ITEM, TAG_OPERATION, TAG_REQUEST_PAYLOAD, TAG_OBJECT_TYPE, TAG_ATTRIBUTES, TAG_NAME, TAG_NAME_VALUE, TAG_CRYPTOGRAPHIC_ALGORITHM, TAG_CRYPTOGRAPHIC_LENGTH, TAG_CRYPTOGRAPHIC_USAGE_MASK, TAG_STORAGE_STATUS_MASK, TAG_REVOCATION_REASON, TAG_REVOCATION_REASON_CODE, VERSION_MAJOR, VERSION_MINOR, OPERATION_CREATE, OPERATION_LOCATE, OPERATION_GET_ATTRIBUTES, OPERATION_ACTIVATE, OPERATION_REVOKE}
+use Rattle.kmip_messages.specs.declared.standard.TheConstants.{TAG_PROTOCOL_VERSION_MAJOR, TAG_PROTOCOL_VERSION_MINOR, TAG_OPERATION, TAG_REQUEST_PAYLOAD, TAG_OBJECT_TYPE, TAG_ATTRIBUTES, TAG_NAME, TAG_NAME_VALUE, TAG_CRYPTOGRAPHIC_ALGORITHM, TAG_CRYPTOGRAPHIC_LENGTH, TAG_CRYPTOGRAPHIC_USAGE_MASK, TAG_STORAGE_STATUS_MASK, TAG_REVOCATION_REASON, TAG_REVOCATION_REASON_CODE, VERSION_MAJOR, VERSION_MINOR, OPERATION_CREATE, OPERATION_LOCATE, OPERATION_GET_ATTRIBUTES, OPERATION_ACTIVATE, OPERATION_REVOKE}
 use Rattle.kmip_messages.specs.Operations.{operation_of}
 use Rattle.kmip_messages.specs.Attributes.{attrs_with}
-use Rattle.kmip_messages.specs.Parts.{id_format, identifier_format, count_format, plain_format}
+use Rattle.kmip_messages.specs.Parts.{id_format, identifier_format, plain_format}
 use Rattle.kmip_messages.specs.Ranges.{is_operation}
 
 -- ---- attributes
@@ -99,21 +99,12 @@ payload_format operation =
     (choose (operation == OPERATION_REVOKE) revoke_format
     (as_case Destroy in_destroy identifier_format)))))
 
--- ---- the message
+-- ---- the version, and the Batch Item
 
 -- the Protocol Version 2.1
 unfoldable pub version_parts_format : Format (Unit {0})
 version_parts_format = fixed Version (λ p. int_eq p.0 VERSION_MAJOR && int_eq p.1 VERSION_MINOR) (VERSION_MAJOR, VERSION_MINOR)
     (required integers TAG_PROTOCOL_VERSION_MAJOR ⊗ required integers TAG_PROTOCOL_VERSION_MINOR)
-
--- the Request Header: the version, and that there is one Batch Item
-unfoldable pub header_parts_format : Format (Unit {0})
-header_parts_format =
-    structure_of TAG_PROTOCOL_VERSION version_parts_format
-    ▷ count_format
-
-unfoldable pub header_format : Format (Unit {0})
-header_format = structure_of TAG_REQUEST_HEADER header_parts_format
 
 -- the Operation and the Unique Batch Item ID, which the answer to a refused request carries
 unfoldable pub known_format : Format (ℕ × Option (List ℕ))
@@ -127,11 +118,3 @@ asked_format operation = refusing UnknownOperation (is_operation operation) (str
 unfoldable pub item_format : Format Request
 item_format = as_record (λ p. record { id = p.0.1; ask = p.1 }) (λ r. ((operation_of r.ask, r.id), r.ask))
     (followed (TAG_REQUEST_PAYLOAD ∷ []) known_format (λ known. asked_format known.0))
-
--- the items of a Request Message
-unfoldable pub message_format : Format Request
-message_format = header_format ▷ sole_structure_of TAG_BATCH_ITEM item_format
-
--- what is known of a message before its question is read
-unfoldable pub known_in_format : Format (ℕ × Option (List ℕ))
-known_in_format = header_format ▷ sole_structure_of TAG_BATCH_ITEM known_format

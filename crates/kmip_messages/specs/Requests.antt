@@ -1,22 +1,17 @@
 -- What a request says, whatever the order of its items: no faults, and no reading.
 -- Source: KMIP 2.1, Message Structure (Request Message), Operations (Create, Locate, Get Attributes, Activate, Revoke,
 -- Destroy) and Object Attributes; the ranges of names, identifiers and key attributes are own.
-use Rattle.std.specs.Prelude.{◌≡◌, ℕ, ℤ, pos, List, [], ◌∷◌, Option, IsTrue}
+use Rattle.std.specs.Prelude.{ℕ, ℤ, List, [], ◌∷◌, Option, IsTrue}
 use Rattle.std.specs.Option.{option_map}
-use Rattle.kmip_ttlv.specs.Node.{Node, node, integer, enumeration}
+use Rattle.kmip_ttlv.specs.Node.{Node, integer, enumeration}
 use Rattle.kmip_objects.specs.declared.attributes.KeyAttrs.{KeyAttrs}
 use Rattle.kmip_objects.specs.declared.attributes.Attrs.{Attrs}
 use Rattle.kmip_messages.specs.declared.request.Ask.{Ask}
 use Rattle.kmip_messages.specs.declared.request.Ask.TheVariants.{Create, Locate, GetAttributes, Activate, Revoke, Destroy}
-use Rattle.kmip_messages.specs.declared.request.Request.{Request}
 use Rattle.kmip_messages.specs.declared.standard.TheConstants.{
-  TAG_REQUEST_MESSAGE,
-  TAG_REQUEST_HEADER,
   TAG_PROTOCOL_VERSION,
   TAG_PROTOCOL_VERSION_MAJOR,
   TAG_PROTOCOL_VERSION_MINOR,
-  TAG_BATCH_COUNT,
-  TAG_BATCH_ITEM,
   TAG_OPERATION,
   TAG_REQUEST_PAYLOAD,
   TAG_OBJECT_TYPE,
@@ -36,7 +31,7 @@ use Rattle.kmip_objects.specs.Ranges.{is_algorithm, is_length, is_usage, is_revo
 use Rattle.kmip_messages.specs.Operations.{operation_of}
 use Rattle.kmip_fields.specs.Standing.{Once, AtMostOnce, HaveTags}
 use Rattle.kmip_messages.specs.Attributes.{IsName, IsFilter}
-use Rattle.kmip_messages.specs.Marks.{IsMarked, IsIdentifier}
+use Rattle.kmip_messages.specs.Marks.{IsIdentifier}
 use Rattle.kmip_fields.specs.Formats.{inside}
 
 -- the Protocol Version 2.1
@@ -45,20 +40,6 @@ pub record IsVersion (header : List Node) : Type 0 where
   pub stands : Once TAG_PROTOCOL_VERSION (inside parts) header
   pub major : Once TAG_PROTOCOL_VERSION_MAJOR (integer VERSION_MAJOR) parts
   pub minor : Once TAG_PROTOCOL_VERSION_MINOR (integer VERSION_MINOR) parts
-
--- the Request Header, which counts one Batch Item
-pub record IsHeader (message : List Node) : Type 0 where
-  pub parts : List Node
-  pub stands : Once TAG_REQUEST_HEADER (inside parts) message
-  pub version : IsVersion parts
-  pub count : Once TAG_BATCH_COUNT (integer (pos 1)) parts
-
--- the items of the one Batch Item of a Request Message
-pub record IsBatch (item : Node) (batch : List Node) : Type 0 where
-  pub parts : List Node
-  pub is_message : item ≡ node TAG_REQUEST_MESSAGE (inside parts)
-  pub header : IsHeader parts
-  pub stands : Once TAG_BATCH_ITEM (inside batch) parts
 
 -- the attributes of a new key
 abbrev pub key_tags : List ℕ
@@ -112,10 +93,3 @@ pub record IsAsk (batch : List Node) (ask : Ask) : Type 0 where
   pub payload : List Node
   pub stands : Once TAG_REQUEST_PAYLOAD (inside payload) batch
   pub says : IsPayload payload ask
-
--- The item is a message of this request.
-pub record IsRequest (request : Request) (item : Node) : Type 0 where
-  pub batch : List Node
-  pub is_batch : IsBatch item batch
-  pub mark : IsMarked batch request.id
-  pub asks : IsAsk batch request.ask

@@ -1,19 +1,13 @@
--- Messages in bytes: all of the bytes spell one item, and the item is the message.
+-- The item of a message in bytes: all of the bytes spell it.
 -- Source: KMIP 2.1, Message Structure; the order of the checks is own.
 use Rattle.kmip_ttlv.specs.Limits.{most_levels}
-use Rattle.std.specs.Prelude.{ℕ, ◌==◌, List, length, None, Result, Ok, Err, if◌then◌else◌}
+use Rattle.std.specs.Prelude.{ℕ, ◌==◌, List, length, Result, Ok, Err, if◌then◌else◌}
 use Rattle.kmip_ttlv.specs.declared.fault.TtlvFault.{TtlvFault}
 use Rattle.kmip_ttlv.specs.Node.{Node}
 use Rattle.kmip_ttlv.specs.Reading.{item_at}
 use Rattle.kmip_fields.specs.declared.fault.MessageFault.{MessageFault}
 use Rattle.kmip_fields.specs.declared.fault.MessageFault.TheVariants.{NotMessage}
-use Rattle.kmip_messages.specs.declared.refusal.Refusal.{Refusal}
-use Rattle.kmip_messages.specs.declared.request.Request.{Request}
-use Rattle.kmip_messages.specs.declared.reply.Reply.{Reply}
 use Rattle.kmip_fields.specs.Faults.{message_fault_of}
-use Rattle.kmip_ttlv.specs.Binding.{◌>>=◌}
-use Rattle.kmip_messages.specs.RequestReading.{refused, request_at}
-use Rattle.kmip_messages.specs.ReplyReading.{reply_at}
 
 -- an item of this size among bytes of this length is all of them, or the bytes are no message
 abbrev pub whole : ℕ → Result (Node × ℕ) TtlvFault → Result Node MessageFault
@@ -22,15 +16,3 @@ whole len (Err fault) = Err (message_fault_of fault)
 
 unfoldable pub item_in : List ℕ → Result Node MessageFault
 item_in bytes = whole (length bytes) (item_at most_levels 0 bytes)
-
--- the request in the bytes, or its first fault
-unfoldable pub request_read : List ℕ → Result Request Refusal
-request_read bytes = do
-  n ← refused None None (item_in bytes)
-  request_at n
-
--- the reply in the bytes, or its first fault
-unfoldable pub reply_read : List ℕ → Result Reply MessageFault
-reply_read bytes = do
-  n ← item_in bytes
-  reply_at n

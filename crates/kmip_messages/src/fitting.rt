@@ -1,14 +1,13 @@
-//! Which requests and replies have a written form. Nothing here takes memory.
-ghost use Rattle.std.specs.Prelude.{◌≡◌, ℕ, ◌+◌, ◌≤◌, ◌<◌, ◌==◌, pos, true, false, nat_le, length, Option};
+//! Which requests and replies have their values in range, and how long a reply is. Nothing here takes
+//! memory.
+ghost use Rattle.std.specs.Prelude.{◌≡◌, ℕ, ◌+◌, ◌≤◌, ◌<◌, ◌==◌, true, false, Option};
 ghost use Rattle.std.specs.List.{list_all};
 ghost use Rattle.std.specs.Option.{option_map_or};
-ghost use Rattle.kmip_ttlv.specs.Limits.{most_bytes};
 ghost use Rattle.kmip_ttlv.specs.Sizes.{size, padded};
 ghost use Rattle.kmip_objects.specs.Ranges.{is_name, is_identifier};
 ghost use Rattle.kmip_messages.specs.Ranges.{is_batch_id};
 ghost use Rattle.kmip_messages.specs.RequestFits.{ask_fits, request_fits};
-ghost use Rattle.kmip_messages.specs.Written.{reply_item};
-ghost use Rattle.kmip_messages.specs.Fits.{is_own, outcome_fits, reply_fits};
+ghost use Rattle.kmip_messages.specs.Fits.{is_own, outcome_fits};
 ghost use Rattle.kmip_messages.specs.BatchItems.{answer_fits, answer_item};
 ghost use Rattle.kmip_messages.specs.MessageSizes.{number_size, text_size, IsCapped};
 ghost use Rattle.kmip_messages.specs.Parts.{id_format};
@@ -25,7 +24,7 @@ use crate::standard::{
 use kmip_objects::{attrs_fit, is_identifier, is_name, is_revocation_code};
 use kmip_ttlv::{Bytes, MAX_SIZE, Text};
 
-/// Whether the request has a written form: its values are in their ranges. Takes no memory.
+/// Whether the values of a request are in their ranges. Takes no memory.
 pub fn request_fits(request: &Request) -> bool
     ensures { result ≡ request_fits request.now }
 {
@@ -54,14 +53,6 @@ fn is_named(name: &Option<Text>) -> bool
         Some(name) => is_name(name.as_str()),
         None => false,
     }
-}
-
-/// Whether the reply has a written form: its values are in their ranges, a success stands under its
-/// own operation, and the message has at most 8,192 bytes. Takes no memory.
-pub fn reply_fits(reply: &Reply) -> bool
-    ensures { result ≡ reply_fits reply.now }
-{
-    answer_fits(reply) && is_short(reply)
 }
 
 /// Whether the values of a reply are in their ranges, and a success stands under its own operation.
@@ -125,16 +116,6 @@ fn are_identifiers(uids: &[Text]) -> bool
     ensures { result ≡ list_all is_identifier uids.now }
 {
     uids.iter().all(|uid| is_identifier(uid.as_str()))
-}
-
-/// Whether the written reply has at most 8,192 bytes.
-fn is_short(reply: &Reply) -> bool
-    ensures { result ≡ nat_le (size (reply_item reply.now (pos 0))) most_bytes }
-{
-    let operation = number_size(&reply.operation);
-    let id = id_size(&reply.id);
-    let outcome = outcome_size(&reply.outcome);
-    96 + operation + id + outcome <= MAX_SIZE
 }
 
 /// How many bytes an outcome takes in its Batch Item, or more than a message may have.

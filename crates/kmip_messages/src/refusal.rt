@@ -1,5 +1,4 @@
-//! Why bytes are no request, with what the answer is to carry.
-ghost use Rattle.std.specs.Prelude.{◌≡◌, None};
+//! Why a question is refused, with what its answer is to carry.
 
 use kmip_fields::MessageFault;
 use kmip_ttlv::Bytes;
@@ -12,16 +11,4 @@ pub struct Refusal {
     pub operation: Option<u32>,
     /// The request's Unique Batch Item ID, where it had one and both were lawful.
     pub id: Option<Bytes>,
-}
-
-impl From<MessageFault> for Refusal {
-    ghost from_gives = { λ fault e. e ≡ record { fault = fault; operation = None; id = None } };
-
-    fn from(fault: MessageFault) -> Refusal {
-        Refusal {
-            fault,
-            operation: None,
-            id: None,
-        }
-    }
 }

@@ -1,20 +1,10 @@
 //! Replies from bytes.
-ghost use Rattle.std.specs.Prelude.{◌≡◌, ℤ, pos, [], ◌∷◌, false, Ok, IsTrue, IfOk, IfErr};
-ghost use Rattle.kmip_ttlv.specs.Fitting.{IsInRange};
-ghost use Rattle.kmip_ttlv.specs.Node.{Node, content_of};
-ghost use Rattle.kmip_ttlv.specs.Spelling.{canon, Spells};
+ghost use Rattle.std.specs.Prelude.{◌≡◌};
+ghost use Rattle.kmip_ttlv.specs.Node.{content_of};
 ghost use Rattle.kmip_ttlv.specs.View.{view, views};
 ghost use Rattle.kmip_objects.specs.Ranges.{is_identifier};
-ghost use Rattle.kmip_messages.specs.declared.reply.Reply.{Reply};
-ghost use Rattle.kmip_fields.specs.Faults.{is_no_memory};
-ghost use Rattle.kmip_messages.specs.Fits.{HasValuesInRange, reply_fits};
-ghost use Rattle.kmip_messages.specs.Items.{replies_in};
-ghost use Rattle.kmip_messages.specs.Replies.{IsReply};
 ghost use Rattle.kmip_fields.specs.Formats.{texts, value_in, optional_structure};
 ghost use Rattle.kmip_fields.specs.Reading.{Gives};
-ghost use Rattle.kmip_messages.specs.Whole.{reply_read};
-ghost use Rattle.kmip_messages.specs.Written.{reply_item};
-ghost use Rattle.kmip_messages.specs.ReplyReading.{reply_at};
 ghost use Rattle.kmip_messages.specs.ReplyFormats.{
   any_name_parts_format,
   identifiers_format,
@@ -26,91 +16,26 @@ ghost use Rattle.kmip_messages.specs.ReplyFormats.{
   failed_format,
   is_status,
   outcome_format,
-  reply_header_format,
   answered_format,
 };
 
 use crate::attributes::attrs_of;
-use crate::parts::{id_of, identifier_of, message_of, whole_item};
+use crate::parts::{id_of, identifier_of};
 use crate::ranges::is_operation;
 use crate::reply::{Outcome, Reply};
 use crate::standard::{
     NAME_TYPE_UNINTERPRETED_TEXT_STRING, OPERATION_ACTIVATE, OPERATION_CREATE,
     OPERATION_GET_ATTRIBUTES, OPERATION_LOCATE, OPERATION_REVOKE, STATUS_OPERATION_FAILED,
-    STATUS_SUCCESS, TAG_ATTRIBUTES, TAG_BATCH_COUNT, TAG_BATCH_ITEM, TAG_NAME, TAG_NAME_TYPE,
-    TAG_NAME_VALUE, TAG_OPERATION, TAG_PROTOCOL_VERSION, TAG_PROTOCOL_VERSION_MAJOR,
-    TAG_PROTOCOL_VERSION_MINOR, TAG_RESPONSE_HEADER, TAG_RESPONSE_MESSAGE, TAG_RESPONSE_PAYLOAD,
-    TAG_RESULT_REASON, TAG_RESULT_STATUS, TAG_UNIQUE_IDENTIFIER, VERSION_MAJOR,
+    STATUS_SUCCESS, TAG_ATTRIBUTES, TAG_NAME, TAG_NAME_TYPE, TAG_NAME_VALUE, TAG_OPERATION,
+    TAG_RESPONSE_PAYLOAD, TAG_RESULT_REASON, TAG_RESULT_STATUS, TAG_UNIQUE_IDENTIFIER,
 };
 use kmip_fields::{
-    MessageFault, check, enumeration_if_any, sole_structure, structure_if_any, the_enumeration,
-    the_integer, the_structure, the_text, within,
+    MessageFault, check, enumeration_if_any, structure_if_any, the_enumeration, the_structure,
+    the_text, within,
 };
 use kmip_objects::{Attrs, Texts, is_identifier};
 use kmip_ttlv::{Item, Tag, Text};
 use std::alloc::Global;
-
-/// The reply that all the bytes are.
-///
-/// # Errors
-/// The first fault in the order of the checks; want of memory otherwise.
-pub fn read_reply(alloc: Global, bytes: &[u8]) -> Result<Reply, MessageFault>
-    // What is read is a reply that the bytes spell.
-    ensures found { IfOk result (λ r. (n : Node) × Spells n bytes.now × IsReply r n) }
-    // Such a reply is read, unless memory runs out.
-    ensures only { (r : Reply) (n : Node) → Spells n bytes.now → IsReply r n
-        → Gives (λ x. x) result (Ok r) }
-    // What was written is read again.
-    ensures back { (r : Reply) (now : ℤ) → IsTrue (reply_fits r)
-        → IsInRange (reply_item r now)
-        → bytes.now ≡ canon (reply_item r now) → Gives (λ x. x) result (Ok r) }
-    // Which fault it is.
-    ensures exact { Gives (λ r. r) result (reply_read bytes.now) }
-    ensures fits { IfOk result HasValuesInRange }
-    // What the bytes say, as a list.
-    ensures says { IfOk result (λ r. replies_in bytes.now ≡ r ∷ []) }
-    ensures refused { IfErr result (λ e. is_no_memory e ≡ false → replies_in bytes.now
-        ≡ []) }
-{
-    whole_reply(alloc, bytes)
-}
-
-/// The reply that all the bytes are, as reading gives it.
-#[tactic(auto, unfolding(crate::specs::Whole::reply_read))]
-fn whole_reply(alloc: Global, bytes: &[u8]) -> Result<Reply, MessageFault>
-    ensures { Gives (λ r. r) result (reply_read bytes.now) }
-{
-    let item = whole_item(alloc, bytes)?;
-    let reply = reply_of(alloc, &item)?;
-    Ok(reply)
-}
-
-/// The reply that an item is.
-#[tactic(auto, unfolding(crate::specs::ReplyReading::reply_at, crate::specs::ReplyFormats::reply_format))]
-fn reply_of(alloc: Global, item: &Item) -> Result<Reply, MessageFault>
-    ensures { Gives (λ r. r) result (reply_at (view item.now)) }
-{
-    let message = message_of(item, TAG_RESPONSE_MESSAGE)?;
-    header_of(message)?;
-    let batch = sole_structure(message, TAG_BATCH_ITEM)?;
-    let reply = read_answer(alloc, batch)?;
-    Ok(reply)
-}
-
-/// The header of a reply has the version 2, with any minor number, and counts one Batch Item.
-#[tactic(auto, unfolding(crate::specs::ReplyFormats::reply_header_format, crate::specs::ReplyFormats::reply_header_parts_format, crate::specs::ReplyFormats::any_version_parts_format))]
-fn header_of(message: &[Item]) -> Result<(), MessageFault>
-    ensures { Gives (λ u. u) result ((reply_header_format (pos 0)).read (views message.now)) }
-{
-    let header = the_structure(message, TAG_RESPONSE_HEADER)?;
-    let version = the_structure(header, TAG_PROTOCOL_VERSION)?;
-    let major = the_integer(version, TAG_PROTOCOL_VERSION_MAJOR)?;
-    the_integer(version, TAG_PROTOCOL_VERSION_MINOR)?;
-    check(major == VERSION_MAJOR, MessageFault::Version)?;
-    let count = the_integer(header, TAG_BATCH_COUNT)?;
-    check(count == 1, MessageFault::BatchCount)?;
-    Ok(())
-}
 
 /// The reply that the items of a Batch Item are.
 ///

@@ -1,75 +1,29 @@
 //! Replies to bytes.
-ghost use Rattle.std.specs.Prelude.{◌≡◌, ◌++◌, ◌∷◌, [], None, IsTrue, IfOk, OnOk};
+ghost use Rattle.std.specs.Prelude.{◌≡◌, ◌++◌, ◌∷◌, [], None, IfOk, OnOk};
 ghost use Rattle.kmip_fields.specs.Formats.{inside};
 ghost use Rattle.kmip_messages.specs.Parts.{identifier_format};
-ghost use Rattle.kmip_ttlv.specs.Spelling.{canon};
-ghost use Rattle.kmip_messages.specs.Fits.{reply_fits};
 ghost use Rattle.kmip_messages.specs.BatchItems.{answer_item};
-ghost use Rattle.kmip_messages.specs.Items.{replies_in};
 ghost use Rattle.kmip_ttlv.specs.Node.{node, enumeration};
 ghost use Rattle.kmip_ttlv.specs.View.{view, views};
-ghost use Rattle.kmip_messages.specs.Written.{reply_item};
 ghost use Rattle.kmip_messages.specs.ReplyFormats.{
   created_format,
   identifiers_format,
   object_format,
   outcome_format,
-  reply_header_parts_format,
   answered_format,
 };
 
 use crate::attributes::attrs_item;
-use crate::building::{push, push_enumeration, push_id, uid_item, version_item};
+use crate::building::{push, push_enumeration, push_id, uid_item};
 use crate::reply::{Outcome, Reply};
 use crate::standard::{
-    STATUS_OPERATION_FAILED, STATUS_SUCCESS, TAG_BATCH_COUNT, TAG_BATCH_ITEM, TAG_OBJECT_TYPE,
-    TAG_OPERATION, TAG_RESPONSE_HEADER, TAG_RESPONSE_MESSAGE, TAG_RESPONSE_PAYLOAD,
-    TAG_RESULT_REASON, TAG_RESULT_STATUS, TAG_TIME_STAMP,
+    STATUS_OPERATION_FAILED, STATUS_SUCCESS, TAG_BATCH_ITEM, TAG_OBJECT_TYPE, TAG_OPERATION,
+    TAG_RESPONSE_PAYLOAD, TAG_RESULT_REASON, TAG_RESULT_STATUS,
 };
 use kmip_objects::Attrs;
 use kmip_objects::standard::OBJECT_TYPE_SYMMETRIC_KEY;
-use kmip_ttlv::{Item, NoMemory, Tag, Text, write};
+use kmip_ttlv::{Item, NoMemory, Tag, Text};
 use std::alloc::Global;
-
-/// The bytes of a reply that `reply_fits`, written at `now`, in seconds since the start of 1970.
-///
-/// # Errors
-/// Where there is no memory for them.
-pub fn write_reply(alloc: Global, reply: &Reply, now: i64) -> Result<Vec<u8>, NoMemory>
-    requires { IsTrue (reply_fits reply.now) }
-    ensures bytes { IfOk result (λ v. v.items ≡ canon (reply_item reply.now now)) }
-    // What the bytes say, as a list.
-    ensures says { IfOk result (λ v. replies_in v.items ≡ reply.now ∷ []) }
-{
-    let item = message_item(alloc, reply, now)?;
-    let mut out = Vec::new(alloc);
-    write(&item, &mut out)?;
-    Ok(out)
-}
-
-/// The Response Message of the reply.
-#[tactic(auto, unfolding(crate::specs::ReplyFormats::reply_format, crate::specs::ReplyFormats::reply_header_format))]
-fn message_item(alloc: Global, reply: &Reply, now: i64) -> Result<Item, NoMemory>
-    ensures { IfOk result (λ i. view i ≡ reply_item reply.now now) }
-{
-    let header = header_item(alloc, now)?;
-    let batch = write_answer(alloc, reply)?;
-    let items = vec![in alloc; header, batch]?;
-    Ok(Item::structure(Tag::new(TAG_RESPONSE_MESSAGE), items))
-}
-
-/// The Response Header: version 2.1, the time, and one Batch Item.
-#[tactic(auto, unfolding(crate::specs::ReplyFormats::reply_header_parts_format))]
-fn header_item(alloc: Global, now: i64) -> Result<Item, NoMemory>
-    ensures { IfOk result (λ i. view i
-        ≡ node TAG_RESPONSE_HEADER (inside ((reply_header_parts_format now).write tt))) }
-{
-    let version = version_item(alloc)?;
-    let time = Item::date_time(Tag::new(TAG_TIME_STAMP), now);
-    let count = Item::integer(Tag::new(TAG_BATCH_COUNT), 1);
-    let items = vec![in alloc; version, time, count]?;
-    Ok(Item::structure(Tag::new(TAG_RESPONSE_HEADER), items))
-}
 
 /// The Batch Item of a reply.
 ///

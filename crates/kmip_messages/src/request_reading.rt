@@ -1,22 +1,13 @@
 //! Requests from bytes.
-ghost use Rattle.std.specs.Prelude.{◌≡◌, ◌<◌, ◌^◌, ◌&&◌, true, false, IsTrue, IfOk, IfErr};
+ghost use Rattle.std.specs.Prelude.{◌≡◌, ◌<◌, ◌&&◌, true, IsTrue, IfOk, IfErr};
 ghost use Rattle.std.specs.Option.{option_map_or};
 ghost use Rattle.std.specs.Ordering.{int_eq};
-ghost use Rattle.kmip_ttlv.specs.Node.{Node};
-ghost use Rattle.kmip_ttlv.specs.View.{view, views};
-ghost use Rattle.kmip_ttlv.specs.Fitting.{IsInRange};
-ghost use Rattle.kmip_ttlv.specs.Spelling.{canon, Spells};
-ghost use Rattle.kmip_fields.specs.Faults.{is_no_memory};
+ghost use Rattle.kmip_ttlv.specs.View.{views};
 ghost use Rattle.kmip_messages.specs.BatchItems.{question_at};
-ghost use Rattle.kmip_messages.specs.Items.{AsksAlone, AsksNothing};
 ghost use Rattle.kmip_objects.specs.Ranges.{is_name, attrs_fit};
 ghost use Rattle.kmip_messages.specs.Ranges.{is_batch_id};
 ghost use Rattle.kmip_messages.specs.RequestFits.{ask_fits, request_fits};
 ghost use Rattle.kmip_fields.specs.Reading.{Gives};
-ghost use Rattle.kmip_messages.specs.Whole.{request_read};
-ghost use Rattle.kmip_messages.specs.Requests.{IsRequest};
-ghost use Rattle.kmip_messages.specs.Written.{request_item};
-ghost use Rattle.kmip_messages.specs.RequestReading.{request_at, GivesRequest};
 ghost use Rattle.kmip_messages.specs.RequestFormats.{
   name_format,
   key_attrs_format,
@@ -24,88 +15,30 @@ ghost use Rattle.kmip_messages.specs.RequestFormats.{
   locate_format,
   revoke_format,
   payload_format,
-  header_format,
   asked_format,
 };
 
 use crate::attributes::filter_of;
-use crate::parts::{id_of, identifier_of, message_of, whole_item};
+use crate::parts::{id_of, identifier_of};
 use crate::ranges::is_operation;
 use crate::refusal::Refusal;
 use crate::request::{Ask, Request};
 use crate::standard::{
     NAME_TYPE_UNINTERPRETED_TEXT_STRING, OPERATION_ACTIVATE, OPERATION_CREATE,
-    OPERATION_GET_ATTRIBUTES, OPERATION_LOCATE, OPERATION_REVOKE, TAG_ATTRIBUTES, TAG_BATCH_COUNT,
-    TAG_BATCH_ITEM, TAG_CRYPTOGRAPHIC_ALGORITHM, TAG_CRYPTOGRAPHIC_LENGTH,
-    TAG_CRYPTOGRAPHIC_USAGE_MASK, TAG_NAME, TAG_NAME_TYPE, TAG_NAME_VALUE, TAG_OBJECT_TYPE,
-    TAG_OPERATION, TAG_PROTOCOL_VERSION, TAG_PROTOCOL_VERSION_MAJOR, TAG_PROTOCOL_VERSION_MINOR,
-    TAG_REQUEST_HEADER, TAG_REQUEST_MESSAGE, TAG_REQUEST_PAYLOAD, TAG_REVOCATION_REASON,
-    TAG_REVOCATION_REASON_CODE, TAG_STORAGE_STATUS_MASK, VERSION_MAJOR, VERSION_MINOR,
+    OPERATION_GET_ATTRIBUTES, OPERATION_LOCATE, OPERATION_REVOKE, TAG_ATTRIBUTES,
+    TAG_CRYPTOGRAPHIC_ALGORITHM, TAG_CRYPTOGRAPHIC_LENGTH, TAG_CRYPTOGRAPHIC_USAGE_MASK, TAG_NAME,
+    TAG_NAME_TYPE, TAG_NAME_VALUE, TAG_OBJECT_TYPE, TAG_OPERATION, TAG_REQUEST_PAYLOAD,
+    TAG_REVOCATION_REASON, TAG_REVOCATION_REASON_CODE, TAG_STORAGE_STATUS_MASK, VERSION_MAJOR,
+    VERSION_MINOR,
 };
 use kmip_fields::{
-    MessageFault, check, integer_if_any, only, sole_structure, the_enumeration, the_integer,
-    the_structure, the_text, within,
+    MessageFault, check, integer_if_any, only, the_enumeration, the_integer, the_structure,
+    the_text, within,
 };
 use kmip_objects::standard::OBJECT_TYPE_SYMMETRIC_KEY;
 use kmip_objects::{KeyAttrs, is_algorithm, is_length, is_name, is_revocation_code, is_usage};
 use kmip_ttlv::{Item, Text};
 use std::alloc::Global;
-
-/// The request that all the bytes are.
-///
-/// # Errors
-/// The first fault in the order of the checks, with the Operation and the Unique Batch Item ID
-/// where both are lawful; want of memory otherwise.
-pub fn read_request(alloc: Global, bytes: &[u8]) -> Result<Request, Refusal>
-    ensures found { IfOk result (λ r. (n : Node) × Spells n bytes.now × IsRequest r n) }
-    ensures only { (r : Request) (n : Node) → Spells n bytes.now → IsRequest r n
-        → GivesRequest result (Ok r) }
-    ensures back { (r : Request) → IsTrue (request_fits r) → IsInRange (request_item r)
-        → bytes.now ≡ canon (request_item r) → GivesRequest result (Ok r) }
-    ensures exact { GivesRequest result (request_read bytes.now) }
-    ensures fits { IfOk result (λ r. IsTrue (request_fits r)) }
-    ensures carries { IfErr result (λ e. IsTrue (option_map_or is_batch_id e.id true)) }
-    // What the bytes ask, as lists.
-    ensures asks { IfOk result (AsksAlone bytes.now) }
-    ensures refused { IfErr result (λ e. is_no_memory e.fault ≡ false
-        → AsksNothing bytes.now e) }
-{
-    whole_request(alloc, bytes)
-}
-
-/// The same, by the order of the checks.
-#[tactic(auto, unfolding(crate::specs::Whole::request_read))]
-fn whole_request(alloc: Global, bytes: &[u8]) -> Result<Request, Refusal>
-    ensures exact { GivesRequest result (request_read bytes.now) }
-    ensures fits { IfOk result (λ r. IsTrue (request_fits r)) }
-    ensures carries { IfErr result (λ e. IsTrue (option_map_or is_batch_id e.id true)) }
-{
-    let item = whole_item(alloc, bytes)?;
-    let request = request_of(alloc, &item)?;
-    Ok(request)
-}
-
-/// The request that an item is.
-#[tactic(auto, unfolding(crate::specs::RequestReading::request_at, crate::specs::RequestFormats::message_format, crate::specs::RequestFormats::known_in_format, crate::specs::RequestFormats::item_format, crate::specs::RequestFormats::known_format))]
-fn request_of(alloc: Global, item: &Item) -> Result<Request, Refusal>
-    ensures exact { GivesRequest result (request_at (view item.now)) }
-    ensures fits { IfOk result (λ r. IsTrue (request_fits r)) }
-    ensures carries { IfErr result (λ e. IsTrue (option_map_or is_batch_id e.id true)) }
-{
-    let message = message_of(item, TAG_REQUEST_MESSAGE)?;
-    header_of(message)?;
-    let batch = sole_structure(message, TAG_BATCH_ITEM)?;
-    let id = id_of(alloc, batch)?;
-    let operation = the_enumeration(batch, TAG_OPERATION)?;
-    match ask_of(alloc, operation, batch) {
-        Ok(ask) => Ok(Request { id, ask }),
-        Err(fault) => Err(Refusal {
-            fault,
-            operation: Some(operation),
-            id,
-        }),
-    }
-}
 
 /// The question that the items of a Batch Item are: a request, or why it is refused.
 ///
@@ -133,21 +66,6 @@ pub fn read_question(
             id,
         })),
     }
-}
-
-/// The header of a request has the version 2.1 and counts one Batch Item.
-#[tactic(auto, unfolding(crate::specs::RequestFormats::header_format, crate::specs::RequestFormats::header_parts_format, crate::specs::RequestFormats::version_parts_format))]
-fn header_of(message: &[Item]) -> Result<(), MessageFault>
-    ensures { Gives (λ u. u) result (header_format.read (views message.now)) }
-{
-    let header = the_structure(message, TAG_REQUEST_HEADER)?;
-    let version = the_structure(header, TAG_PROTOCOL_VERSION)?;
-    let major = the_integer(version, TAG_PROTOCOL_VERSION_MAJOR)?;
-    let minor = the_integer(version, TAG_PROTOCOL_VERSION_MINOR)?;
-    check(is_version(major, minor), MessageFault::Version)?;
-    let count = the_integer(header, TAG_BATCH_COUNT)?;
-    check(count == 1, MessageFault::BatchCount)?;
-    Ok(())
 }
 
 /// Whether this is the Protocol Version of a request, 2.1.

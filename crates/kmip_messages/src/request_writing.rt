@@ -1,11 +1,8 @@
 //! Requests to bytes.
-ghost use Rattle.std.specs.Prelude.{◌≡◌, ◌∷◌, [], Ok, IsTrue, IfOk};
+ghost use Rattle.std.specs.Prelude.{◌≡◌, IfOk};
 ghost use Rattle.kmip_ttlv.specs.Node.{node};
 ghost use Rattle.kmip_ttlv.specs.View.{view, views};
-ghost use Rattle.kmip_ttlv.specs.Spelling.{canon};
 ghost use Rattle.kmip_messages.specs.BatchItems.{question_item};
-ghost use Rattle.kmip_messages.specs.Items.{parts_in, requests_in};
-ghost use Rattle.kmip_messages.specs.RequestFits.{request_fits};
 ghost use Rattle.kmip_fields.specs.Formats.{inside};
 ghost use Rattle.kmip_messages.specs.Operations.{operation_of};
 ghost use Rattle.kmip_messages.specs.RequestFormats.{
@@ -15,67 +12,22 @@ ghost use Rattle.kmip_messages.specs.RequestFormats.{
   locate_format,
   revoke_format,
   payload_format,
-  header_parts_format,
   item_format,
 };
 ghost use Rattle.kmip_messages.specs.declared.request.Ask.TheVariants.{Locate, Revoke};
-ghost use Rattle.kmip_messages.specs.Written.{request_item};
 
 use crate::attributes::attrs_item;
-use crate::building::{
-    name_item, push, push_enumeration, push_id, push_integer, uid_item, version_item,
-};
+use crate::building::{name_item, push, push_enumeration, push_id, push_integer, uid_item};
 use crate::request::{Ask, Request};
 use crate::standard::{
-    TAG_ATTRIBUTES, TAG_BATCH_COUNT, TAG_BATCH_ITEM, TAG_CRYPTOGRAPHIC_ALGORITHM,
-    TAG_CRYPTOGRAPHIC_LENGTH, TAG_CRYPTOGRAPHIC_USAGE_MASK, TAG_OBJECT_TYPE, TAG_OPERATION,
-    TAG_REQUEST_HEADER, TAG_REQUEST_MESSAGE, TAG_REQUEST_PAYLOAD, TAG_REVOCATION_REASON,
-    TAG_REVOCATION_REASON_CODE, TAG_STORAGE_STATUS_MASK,
+    TAG_ATTRIBUTES, TAG_BATCH_ITEM, TAG_CRYPTOGRAPHIC_ALGORITHM, TAG_CRYPTOGRAPHIC_LENGTH,
+    TAG_CRYPTOGRAPHIC_USAGE_MASK, TAG_OBJECT_TYPE, TAG_OPERATION, TAG_REQUEST_PAYLOAD,
+    TAG_REVOCATION_REASON, TAG_REVOCATION_REASON_CODE, TAG_STORAGE_STATUS_MASK,
 };
 use kmip_objects::standard::OBJECT_TYPE_SYMMETRIC_KEY;
 use kmip_objects::{Attrs, KeyAttrs};
-use kmip_ttlv::{Item, NoMemory, Tag, Text, write};
+use kmip_ttlv::{Item, NoMemory, Tag, Text};
 use std::alloc::Global;
-
-/// The bytes of a request that `request_fits`.
-///
-/// # Errors
-/// Where there is no memory for them.
-pub fn write_request(alloc: Global, request: &Request) -> Result<Vec<u8>, NoMemory>
-    requires { IsTrue (request_fits request.now) }
-    ensures bytes { IfOk result (λ v. v.items ≡ canon (request_item request.now)) }
-    // What the bytes ask, as lists.
-    ensures asks { IfOk result (λ v. requests_in v.items ≡ request.now ∷ []) }
-    ensures parts { IfOk result (λ v. parts_in v.items ≡ Ok request.now ∷ []) }
-{
-    let item = message_item(alloc, request)?;
-    let mut out = Vec::new(alloc);
-    write(&item, &mut out)?;
-    Ok(out)
-}
-
-/// The Request Message of the request.
-#[tactic(auto, unfolding(crate::specs::RequestFormats::message_format, crate::specs::RequestFormats::header_format))]
-fn message_item(alloc: Global, request: &Request) -> Result<Item, NoMemory>
-    ensures { IfOk result (λ i. view i ≡ request_item request.now) }
-{
-    let header = header_item(alloc)?;
-    let batch = write_question(alloc, request)?;
-    let items = vec![in alloc; header, batch]?;
-    Ok(Item::structure(Tag::new(TAG_REQUEST_MESSAGE), items))
-}
-
-/// The Request Header: version 2.1, and one Batch Item.
-#[tactic(auto, unfolding(crate::specs::RequestFormats::header_parts_format, crate::specs::RequestFormats::version_parts_format, crate::specs::ReplyFormats::any_version_parts_format))]
-fn header_item(alloc: Global) -> Result<Item, NoMemory>
-    ensures { IfOk result (λ i. view i
-        ≡ node TAG_REQUEST_HEADER (inside (header_parts_format.write tt))) }
-{
-    let version = version_item(alloc)?;
-    let count = Item::integer(Tag::new(TAG_BATCH_COUNT), 1);
-    let items = vec![in alloc; version, count]?;
-    Ok(Item::structure(Tag::new(TAG_REQUEST_HEADER), items))
-}
 
 /// The Batch Item of a request.
 ///
