@@ -6,12 +6,12 @@ use Rattle.std.specs.Option.{option_map, option_map_or}
 use Rattle.kmip_ttlv.specs.Node.{Node, node, Content}
 use Rattle.kmip_ttlv.proofs.ReadSteps.{Reads, not_ok, reads-ok, reads-bind, reads-as}
 use Rattle.kmip_fields.specs.declared.fault.MessageFault.{MessageFault}
-use Rattle.kmip_fields.specs.Formats.{Format, Kind, inside, if_given, given, structures, required, optional, unread, repeated, structure_of, read_if_any, SaysIfAny, optional_structure, sole_structure_of, tested, ranged, fixed, present, as_record, as_case, ◌⊗◌, ◌⊗ʳ◌, ◌◁◌, ◌▷◌, followed, read_told, told_by, closed, refusing, choose}
+use Rattle.kmip_fields.specs.Formats.{Format, Kind, inside, if_given, given, structures, required, optional, unread, repeated, structure_of, read_if_any, SaysIfAny, optional_structure, tested, ranged, fixed, present, as_record, as_case, ◌⊗◌, ◌⊗ʳ◌, ◌◁◌, ◌▷◌, followed, read_told, told_by, closed, refusing, choose}
 use Rattle.kmip_fields.specs.FormatLaws.{IsFlat, IsFlatKind, Spans, IsGood, Agree, avoid, apart, IsPart}
 use Rattle.kmip_fields.specs.Siblings.{contents}
 use Rattle.kmip_fields.specs.Standing.{AtMostOnce, HaveTags}
 use Rattle.kmip_fields.proofs.ExtentLemmas.{spans_one, spans_around, spans_if_any, spans_if_flat, spans_each, spans_both}
-use Rattle.kmip_fields.proofs.ItemReads.{same_some, not_some, reads-guard, reads-the, reads-maybe, reads-values, reads-sole, reads-only, structure_kind}
+use Rattle.kmip_fields.proofs.ItemReads.{same_some, not_some, reads-guard, reads-the, reads-maybe, reads-values, reads-only, structure_kind}
 use Rattle.kmip_fields.proofs.TagLemmas.{contents_first, alone, alone_if_any, own_tag, given_has, first_has, second_has, both_have, agree_first, agree_second, agree_behind, agree_before}
 
 -- what a good format reads
@@ -124,15 +124,6 @@ optional_structure-part tag f good = record {
       (λ o. given_has tag (λ a. inside (f.write a)) o)
       (λ o. spans_if_any _ (λ a. node tag (inside (f.write a)) ∷ []) (λ a. spans_around tag (f.extent a) (f.write a) (good.spans a)) o);
   looks = λ ns ms o agree says. any_looks tag f ns ms o agree says;
-}
-
-pub sole-part : {A : Type 0} (tag : ℕ) (f : Format A) → IsGood f → IsPart (sole_structure_of tag f)
-sole-part tag f good = record {
-  good = good_by (sole_structure_of tag f)
-      (λ ns. reads-bind _ _ _ _ (reads-sole tag (contents tag ns)) (λ parts. reads f good parts))
-      (λ a fits. (f.write a, alone tag (inside (f.write a)), good.written a fits))
-      (λ a. (own_tag tag, tt)) (λ a. spans_around tag (f.extent a) (f.write a) (good.spans a));
-  looks = λ ns ms a agree says. (says.0, sym agree.0 ∙ says.1, says.2);
 }
 
 -- ---- the values

@@ -8,10 +8,10 @@ use Rattle.kmip_ttlv.specs.Node.{Node, Content, structure, integer, enumeration,
 use Rattle.kmip_ttlv.proofs.ForCallers.{nodes_of-list_of, list_of-nodes_of}
 use Rattle.kmip_ttlv.proofs.ReadSteps.{Reads, same_ok, not_ok, reads-ok, reads-bind, reads-as}
 use Rattle.kmip_fields.specs.declared.fault.MessageFault.{MessageFault}
-use Rattle.kmip_fields.specs.declared.fault.MessageFault.TheVariants.{Missing, Twice, WrongType, OutOfRange, BatchCount}
+use Rattle.kmip_fields.specs.declared.fault.MessageFault.TheVariants.{Missing, Twice, WrongType, OutOfRange}
 use Rattle.kmip_fields.specs.Formats.{Kind, inside, structures, integers, enumerations, texts, bytes, value_in, values_in}
 use Rattle.kmip_fields.specs.FormatLaws.{IsKind, IsFlatKind}
-use Rattle.kmip_fields.specs.Siblings.{contents, at_most_one_of, one_of, typed, typed_if_any, guard, within, sole, the, maybe, only}
+use Rattle.kmip_fields.specs.Siblings.{contents, at_most_one_of, one_of, typed, typed_if_any, guard, within, the, maybe, only}
 use Rattle.kmip_fields.specs.Standing.{Once, if_any, AtMostOnce, HaveTags}
 
 -- a choice
@@ -203,15 +203,6 @@ reads-values k is tag test (c ∷ cs) = reads-as _ _ (Are k test (c ∷ cs))
     (λ a p. subst (Are k test (c ∷ cs)) p.2.2 (are_first k test c cs p.0 p.2.0 p.1 p.2.1))
     (λ a q. are_split k test c cs a q)
     (reads-bind _ _ _ _ (reads-value k is tag test c) (λ a. reads-bind _ _ _ _ (reads-values k is tag test cs) (λ rest. reads-ok (a ∷ rest))))
-
--- the one Batch Item
-pub reads-sole : (tag : ℕ) (cs : List Content) → Reads (sole tag cs) (λ items. cs ≡ inside items ∷ [])
-reads-sole tag [] = record { sound = λ a is. not_ok BatchCount a is; complete = λ a is. absurd cc }
-reads-sole tag (c ∷ []) = reads-as _ _ (λ items. (c ∷ []) ≡ inside items ∷ [])
-    (λ a p. ap (λ x. x ∷ []) p)
-    (λ a p. cc)
-    (reads-typed structures structure_kind tag c)
-reads-sole tag (c ∷ d ∷ cs) = record { sound = λ a is. not_ok BatchCount a is; complete = λ a is. absurd cc }
 
 -- no other tags
 only_as : (tags : List ℕ) (n : Node) (ns : List Node) (b : Bool) → list_any (λ t. t == tag_of n) tags ≡ b → Reads (only tags ns) (λ u. HaveTags tags ns)

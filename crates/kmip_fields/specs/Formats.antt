@@ -9,7 +9,7 @@ use Rattle.kmip_ttlv.specs.Node.{Node, node, Content, structure, integer, enumer
 use Rattle.kmip_ttlv.specs.Sizes.{content_size}
 use Rattle.kmip_fields.specs.declared.fault.MessageFault.{MessageFault}
 use Rattle.kmip_fields.specs.declared.fault.MessageFault.TheVariants.{OutOfRange}
-use Rattle.kmip_fields.specs.Siblings.{contents, guard, typed, within, sole, the, maybe, only}
+use Rattle.kmip_fields.specs.Siblings.{contents, guard, typed, within, the, maybe, only}
 use Rattle.kmip_fields.specs.Standing.{Once, AtMostOnce, HaveTags}
 
 -- how many bytes some items take together, and how many levels they have at most
@@ -170,17 +170,6 @@ optional_structure tag f = record {
   extent = λ o. extent_if_any (λ a. around (f.extent a)) o;
   read = λ ns. maybe as_structure tag ns >>= λ parts. read_if_any f.read parts;
   Says = λ ns o. SaysIfAny tag f.Says ns o;
-}
-
--- just one Structure, the Batch Item of a message, where any other number is a fault of its own
-abbrev pub sole_structure_of : {A : Type 0} → ℕ → Format A → Format A
-sole_structure_of tag f = record {
-  tags = tag ∷ [];
-  fits = f.fits;
-  write = λ a. node tag (inside (f.write a)) ∷ [];
-  extent = λ a. around (f.extent a);
-  read = λ ns. sole tag (contents tag ns) >>= λ parts. f.read parts;
-  Says = λ ns a. (parts : List Node) × Once tag (inside parts) ns × f.Says parts a;
 }
 
 -- ---- the values

@@ -3,9 +3,9 @@
 use Rattle.std.specs.Prelude.{ℕ, Bool, true, List, [], ◌∷◌, Option, Some, None, Result, Ok, Err, ◌==◌, if◌then◌else◌}
 use Rattle.std.specs.List.{list_any}
 use Rattle.kmip_ttlv.specs.Binding.{◌>>=◌}
-use Rattle.kmip_ttlv.specs.Node.{Node, Content, tag_of, content_of, as_structure}
+use Rattle.kmip_ttlv.specs.Node.{Node, Content, tag_of, content_of}
 use Rattle.kmip_fields.specs.declared.fault.MessageFault.{MessageFault}
-use Rattle.kmip_fields.specs.declared.fault.MessageFault.TheVariants.{Missing, Twice, WrongType, OutOfRange, BatchCount}
+use Rattle.kmip_fields.specs.declared.fault.MessageFault.TheVariants.{Missing, Twice, WrongType, OutOfRange}
 
 -- what the items with a tag contain, in their order
 abbrev pub contents : ℕ → List Node → List Content
@@ -40,11 +40,6 @@ guard fault _ = Err fault
 
 abbrev pub within : ℕ → Bool → Result (Unit {0}) MessageFault
 within tag test = guard (OutOfRange tag) test
-
--- the one item with a tag in a batch of one
-abbrev pub sole : ℕ → List Content → Result (List Node) MessageFault
-sole tag (c ∷ []) = typed tag (as_structure c)
-sole tag _ = Err BatchCount
 
 -- the one item with a tag, of a type
 unfoldable pub the : {A : Type 0} → (Content → Option A) → ℕ → List Node → Result A MessageFault

@@ -10,7 +10,7 @@ ghost use Rattle.kmip_ttlv.specs.Node.{
   as_byte_string,
 };
 ghost use Rattle.kmip_ttlv.specs.View.{view, views};
-ghost use Rattle.kmip_fields.specs.Siblings.{contents, at_most_one_of, one_of, guard, sole, the, maybe, within, only};
+ghost use Rattle.kmip_fields.specs.Siblings.{contents, at_most_one_of, one_of, guard, the, maybe, within, only};
 ghost use Rattle.kmip_fields.specs.Reading.{Gives};
 
 use crate::fault::MessageFault;
@@ -155,23 +155,6 @@ pub fn bytes_if_any(items: &[Item], tag: u32) -> Result<Option<&[u8]>, MessageFa
             Some(bytes) => Ok(Some(bytes)),
             None => Err(MessageFault::WrongType(Tag::new(tag))),
         },
-    }
-}
-
-/// The items of the one Structure with this tag in a batch of one item.
-pub fn sole_structure(items: &[Item], tag: u32) -> Result<&[Item], MessageFault>
-    requires { tag < 2 ^ 24 }
-    ensures { Gives (λ s. views s.now) result (sole tag (contents tag (views items.now))) }
-{
-    let Ok(found) = at_most_one(items, tag) else {
-        return Err(MessageFault::BatchCount);
-    };
-    let Some(item) = found else {
-        return Err(MessageFault::BatchCount);
-    };
-    match item.as_structure() {
-        Some(items) => Ok(items),
-        None => Err(MessageFault::WrongType(Tag::new(tag))),
     }
 }
 

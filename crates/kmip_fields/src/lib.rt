@@ -9,6 +9,6 @@ mod fields;
 
 pub use fault::MessageFault;
 pub use fields::{
-    bytes_if_any, check, enumeration_if_any, integer_if_any, one, only, sole_structure,
-    structure_if_any, the_enumeration, the_integer, the_structure, the_text, within,
+    bytes_if_any, check, enumeration_if_any, integer_if_any, one, only, structure_if_any,
+    the_enumeration, the_integer, the_structure, the_text, within,
 };
