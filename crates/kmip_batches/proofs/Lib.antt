@@ -4,4 +4,5 @@ mod BatchLaws
 mod ReplyLaws
 mod SizeLemmas
 mod ByteLemmas
+mod LawLemmas
 pub mod ForCallers

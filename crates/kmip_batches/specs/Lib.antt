@@ -4,3 +4,4 @@ pub mod Batches
 pub mod Written
 pub mod Items
 pub mod Ranges
+pub mod Laws
