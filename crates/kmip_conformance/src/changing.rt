@@ -4,7 +4,8 @@ ghost use Rattle.std.specs.Prelude.{◌<◌, length};
 use crate::asserting::assert_number;
 use crate::lifecycle::STREAM;
 use crate::serving::{CREATE_K2, is_k1_alone, reply_to, server_of};
-use kmip_messages::{Outcome, read_reply};
+use kmip_batches::read_reply;
+use kmip_messages::Outcome;
 use kmip_objects::KeyState;
 use kmip_server::Server;
 use kmip_store::{ListStore, Records, Row};
@@ -129,7 +130,10 @@ fn server_with_both(alloc: Global) -> Result<Server<ListStore>, Fail> {
 
 /// What the reply says; it is one in any case.
 fn saying_of(alloc: Global, reply: &[u8]) -> Result<Saying, Fail> {
-    let reply = read_reply(alloc, reply)?;
+    let replies = read_reply(alloc, reply)?;
+    let [reply] = replies.as_slice() else {
+        return Err(Fail::from("not one reply"));
+    };
     Ok(match &reply.outcome {
         Outcome::Failed(_) => Saying::Refused,
         Outcome::Located(_) | Outcome::Attributes(_, _) => Saying::Told,

@@ -1,9 +1,8 @@
 //! A link to a server that keeps all rules of the profile but one.
 
-use kmip_messages::{
-    Ask, Attrs, Outcome, Reply, Request, Step, Texts, read_reply, read_request, reply_fits,
-    request_fits, write_reply, write_request,
-};
+use crate::alone::{reply_bytes, reply_in, request_in};
+use kmip_batches::{request_fits, write_request};
+use kmip_messages::{Ask, Attrs, Outcome, Reply, Request, Step, Texts};
 use kmip_objects::KeyAttrs;
 use kmip_objects::standard::REVOCATION_UNSPECIFIED;
 use kmip_schedule::{Link, LinkFault};
@@ -62,7 +61,7 @@ impl Breaking {
 
     /// The bytes of the reply to those of a request; none where they are no request.
     fn reply_to(&mut self, alloc: Global, message: &[u8]) -> Result<Option<Vec<u8>>, NoMemory> {
-        let Ok(request) = read_request(alloc, message) else {
+        let Some(request) = request_in(alloc, message) else {
             return Ok(None);
         };
         let Some(reply) = self.done(alloc, &request)? else {
@@ -72,20 +71,18 @@ impl Breaking {
         if matches!(reply.outcome, Outcome::Destroyed(_)) {
             self.has_destroyed = true;
         }
-        if !reply_fits(&reply) {
-            return Ok(None);
-        }
-        Ok(Some(write_reply(alloc, &reply, 0)?))
+        reply_bytes(alloc, &reply)
     }
 
     /// The reply of the server that keeps all rules.
     fn served(&mut self, alloc: Global, request: &Request) -> Result<Option<Reply>, NoMemory> {
-        if !request_fits(request) {
+        let requests = std::slice::from_ref(request);
+        if !request_fits(requests) {
             return Ok(None);
         }
-        let message = write_request(alloc, request)?;
+        let message = write_request(alloc, requests)?;
         let reply = self.server.handle(alloc, message.as_slice(), 0)?;
-        Ok(read_reply(alloc, reply.as_slice()).ok())
+        Ok(reply_in(alloc, reply.as_slice()))
     }
 
     /// Its reply, or that to what is done where it refuses.

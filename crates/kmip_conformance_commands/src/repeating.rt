@@ -1,10 +1,11 @@
 //! Probes of a peer that answers each question by a Locate's reply, whatever was asked.
 
+use crate::alone::{reply_bytes, request_in};
 use crate::asserting::{assert_status, assert_written};
 use crate::report::report_of;
 use kmip_commands::ExitStatus;
 use kmip_messages::standard::OPERATION_LOCATE;
-use kmip_messages::{Outcome, Reply, Request, Texts, read_request, reply_fits, write_reply};
+use kmip_messages::{Outcome, Reply, Request, Texts};
 use kmip_probe::run_probe;
 use kmip_schedule::{Link, LinkFault};
 use kmip_ttlv::{Bytes, NoMemory, Text};
@@ -33,7 +34,7 @@ struct Repeating {
 impl Repeating {
     /// The reply to the bytes of a request; none where they are no request.
     fn reply_to(&mut self, alloc: Global, message: &[u8]) -> Result<Option<Vec<u8>>, NoMemory> {
-        let Ok(request) = read_request(alloc, message) else {
+        let Some(request) = request_in(alloc, message) else {
             return Ok(None);
         };
         let Request { id, .. } = request;
@@ -47,10 +48,7 @@ impl Repeating {
             id: marked(alloc, mark, id)?,
             outcome: Outcome::Located(found_after(alloc, asked)?),
         };
-        if !reply_fits(&reply) {
-            return Ok(None);
-        }
-        Ok(Some(write_reply(alloc, &reply, 0)?))
+        reply_bytes(alloc, &reply)
     }
 }
 

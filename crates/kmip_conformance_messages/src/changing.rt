@@ -1,8 +1,8 @@
 //! Messages with one byte changed: which changes the readers take, by the layout of the messages.
 
-use kmip_messages::{
-    MessageFault, read_reply, read_request, reply_fits, request_fits, write_reply, write_request,
-};
+use crate::alone::{question_in, reply_in};
+use kmip_batches::{reply_fits, request_fits, write_reply, write_request};
+use kmip_messages::MessageFault;
 use kmip_vectors::{CREATE_K1, CREATE_K1_REPLY, LOCATE_K1, LOCATE_K1_FOUND, changed};
 use std::alloc::Global;
 use std::process::Abort;
@@ -192,14 +192,16 @@ fn is_inside(fault: MessageFault, bytes: &[u8]) -> bool {
 /// Whether the bytes are read as a request. It is then written in as many bytes or fewer, and those are
 /// read as what they were.
 fn is_request(rt: &impl Abort, alloc: Global, bytes: &[u8]) -> Result<bool, Fail> {
-    match read_request(alloc, bytes) {
+    match question_in(alloc, bytes) {
         Ok(request) => {
-            assert!(rt; request_fits(&request), "{bytes:?}");
-            let written = write_request(alloc, &request)?;
+            let asked = std::slice::from_ref(&request);
+            assert!(rt; request_fits(asked), "{bytes:?}");
+            let written = write_request(alloc, asked)?;
             assert!(rt; written.len() <= bytes.len(), "{bytes:?}");
-            let request = read_request(alloc, written.as_slice())?;
-            assert!(rt; request_fits(&request), "{bytes:?}");
-            let again = write_request(alloc, &request)?;
+            let request = question_in(alloc, written.as_slice())?;
+            let asked = std::slice::from_ref(&request);
+            assert!(rt; request_fits(asked), "{bytes:?}");
+            let again = write_request(alloc, asked)?;
             assert_eq!(rt; again.as_slice(), written.as_slice());
             Ok(true)
         }
@@ -213,17 +215,19 @@ fn is_request(rt: &impl Abort, alloc: Global, bytes: &[u8]) -> Result<bool, Fail
 /// Whether the bytes are read as a reply. It is then written in at most sixteen bytes more, for the
 /// object type that need not be there, and those are read as what they were.
 fn is_reply(rt: &impl Abort, alloc: Global, bytes: &[u8]) -> Result<bool, Fail> {
-    match read_reply(alloc, bytes) {
+    match reply_in(alloc, bytes) {
         Ok(reply) => {
-            assert!(rt; reply_fits(&reply), "{bytes:?}");
-            let written = write_reply(alloc, &reply, 0)?;
+            let said = std::slice::from_ref(&reply);
+            assert!(rt; reply_fits(said), "{bytes:?}");
+            let written = write_reply(alloc, said, 0)?;
             assert!(rt;
                 written.len().saturating_sub(16) <= bytes.len(),
                 "{bytes:?}"
             );
-            let reply = read_reply(alloc, written.as_slice())?;
-            assert!(rt; reply_fits(&reply), "{bytes:?}");
-            let again = write_reply(alloc, &reply, 0)?;
+            let reply = reply_in(alloc, written.as_slice())?;
+            let said = std::slice::from_ref(&reply);
+            assert!(rt; reply_fits(said), "{bytes:?}");
+            let again = write_reply(alloc, said, 0)?;
             assert_eq!(rt; again.as_slice(), written.as_slice());
             Ok(true)
         }

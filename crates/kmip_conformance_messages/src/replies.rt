@@ -1,11 +1,13 @@
 //! Replies read, and written back.
 
+use crate::alone::reply_in;
 use crate::layouts::{Change, Content, bytes_of, changed, reply};
 use crate::reply_rows::{REPLY_TABLES, ReplyTable};
 use crate::request_rows::Verdict;
 use crate::requests::verdict_of;
 use crate::tags::OPERATION;
-use kmip_messages::{MessageFault, Outcome, Reply, read_reply, reply_fits, write_reply};
+use kmip_batches::{reply_fits, write_reply};
+use kmip_messages::{MessageFault, Outcome, Reply};
 use kmip_vectors::{
     ACTIVATE_1_REPLY, CREATE_K1_LOOSE_REPLY, CREATE_K1_REPLY, INVALID_MESSAGE_REPLY, LOCATE_K1,
     LOCATE_K1_FOUND, LOCATE_K1_NONE, NAME_USED_REPLY, WRONG_STATE_REPLY,
@@ -119,8 +121,9 @@ fn is_as_wanted(reply: &Reply, row: &Row) -> bool {
 
 /// The reply in hexadecimal, written at the time 0.
 fn written(rt: &impl Abort, alloc: Global, reply: &Reply) -> Result<String, Fail> {
-    assert!(rt; reply_fits(reply));
-    let bytes = write_reply(alloc, reply, 0)?;
+    let said = std::slice::from_ref(reply);
+    assert!(rt; reply_fits(said));
+    let bytes = write_reply(alloc, said, 0)?;
     let text = hex::encode(alloc, bytes.as_slice())?;
     Ok(text)
 }
@@ -129,7 +132,7 @@ fn written(rt: &impl Abort, alloc: Global, reply: &Reply) -> Result<String, Fail
 fn reads_and_writes_back(rt: HostRuntime) -> Result<(), Fail> {
     for row in &ROWS {
         let bytes = hex::decode(rt.alloc(), row.text)?;
-        let reply = read_reply(rt.alloc(), bytes.as_slice())?;
+        let reply = reply_in(rt.alloc(), bytes.as_slice())?;
         assert!(rt; is_as_wanted(&reply, row), "{}", row.text);
         let again = written(&rt, rt.alloc(), &reply)?;
         assert_eq!(rt; again.as_str(), row.again);
@@ -140,14 +143,14 @@ fn reads_and_writes_back(rt: HostRuntime) -> Result<(), Fail> {
 #[test]
 fn refuses_a_request(rt: HostRuntime) -> Result<(), Fail> {
     let bytes = hex::decode(rt.alloc(), LOCATE_K1)?;
-    let fault = read_reply(rt.alloc(), bytes.as_slice()).err();
+    let fault = reply_in(rt.alloc(), bytes.as_slice()).err();
     assert_eq!(rt; fault, Some(MessageFault::NotMessage));
     Ok(())
 }
 
 /// What comes of the bytes.
 fn outcome_of(alloc: Global, bytes: &[u8]) -> Verdict {
-    match read_reply(alloc, bytes).err() {
+    match reply_in(alloc, bytes).err() {
         None => Verdict::Read,
         Some(fault) => verdict_of(fault),
     }

@@ -1,9 +1,11 @@
 //! Requests read: the first fault in the order of the checks, and what is no fault.
 
+use crate::alone::question_in;
 use crate::layouts::{ACTIVATE, CREATE, Change, Content, LOCATE, Line, bytes_of, changed, request};
 use crate::request_rows::{TABLES, Table, Verdict};
 use crate::tags::{ID, OPERATION};
-use kmip_messages::{Ask, MessageFault, Refusal, read_request, request_fits, write_request};
+use kmip_batches::{request_fits, write_request};
+use kmip_messages::{Ask, MessageFault, Refusal};
 use kmip_objects::Attrs;
 use kmip_vectors::{ACTIVATE_1, CREATE_K1, DESTROY_1, LOCATE_K1};
 use std::alloc::Global;
@@ -61,7 +63,7 @@ fn try_rows(rt: &impl Abort, alloc: Global, table: &Table) -> Result<(), Fail> {
 
 /// What comes of the bytes, and whether the request or the refusal has the table's operation.
 fn outcome_of(alloc: Global, bytes: &[u8], table: &Table) -> (Verdict, bool) {
-    match read_request(alloc, bytes) {
+    match question_in(alloc, bytes) {
         Ok(request) => (Verdict::Read, request.ask.operation() == table.operation),
         Err(refusal) => (verdict_of(refusal.fault), is_carrying(&refusal, table)),
     }
@@ -126,11 +128,12 @@ fn reads_what_is_asked_and_writes_it_back(rt: HostRuntime) -> Result<(), Fail> {
         (DESTROY_1, 0x14),
     ] {
         let bytes = hex::decode(rt.alloc(), text)?;
-        let request = read_request(rt.alloc(), bytes.as_slice())?;
+        let request = question_in(rt.alloc(), bytes.as_slice())?;
         assert_eq!(rt; request.ask.operation(), operation);
         assert!(rt; is_known(&request.ask), "operation {operation}");
-        assert!(rt; request_fits(&request));
-        let again = write_request(rt.alloc(), &request)?;
+        let asked = std::slice::from_ref(&request);
+        assert!(rt; request_fits(asked));
+        let again = write_request(rt.alloc(), asked)?;
         assert_eq!(rt; again.as_slice(), bytes.as_slice());
     }
     Ok(())
