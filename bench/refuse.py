@@ -69,6 +69,8 @@ STANDING = {
     "ask-create": "0 done of - Working",
     "hear-created": "0 done of - Working",
     "ask-activate": "1 done of 1 Working",
+    "ask-both": "each key as before or after",
+    "hear-both": "each key as before or after",
 }
 
 

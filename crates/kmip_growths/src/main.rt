@@ -7,6 +7,7 @@
 //! memory for that, the program prints `no memory` and ends with exit status 1.
 #![tactic(auto)]
 
+mod batching;
 mod campaigning;
 mod creating;
 mod plans;
@@ -14,6 +15,7 @@ mod serving;
 mod setback;
 mod talking;
 
+use batching::{PairCall, try_pair};
 use campaigning::{ONE_RUN, SAVED_RUNS, try_campaign};
 use creating::try_create;
 use kmip_store::{IndexedStore, ListStore, MOST_ROOM, SEED};
@@ -25,7 +27,7 @@ use std::process::ExitCode;
 use talking::try_call;
 
 /// The names of the cases.
-const CASES: [&str; 11] = [
+const CASES: [&str; 13] = [
     "campaign",
     "campaign-saved",
     "handle-indexed",
@@ -37,6 +39,8 @@ const CASES: [&str; 11] = [
     "ask-create",
     "hear-created",
     "ask-activate",
+    "ask-both",
+    "hear-both",
 ];
 
 fn main(rt: HostRuntime) -> ExitCode {
@@ -76,6 +80,8 @@ fn try_case(rt: &HostRuntime, case: &str) -> Result<(), Setback> {
         "ask-create" => try_call(rt, case, 2),
         "hear-created" => try_call(rt, case, 3),
         "ask-activate" => try_call(rt, case, 4),
+        "ask-both" => try_pair(rt, case, PairCall::Ask),
+        "hear-both" => try_pair(rt, case, PairCall::Hear),
         _ => Err(Setback::Other),
     }
 }

@@ -61,13 +61,13 @@ pub(crate) fn try_call(rt: &HostRuntime, case: &str, place: usize) -> Result<(),
     print!(rt; "{case}: ")?;
     if said.is_err() {
         print!(rt; "no memory, ")?;
-        print_known(rt, &client)?;
+        print_known(rt, &client, 0)?;
         print!(rt; "; again: ")?;
         said = make(alloc, &mut client, call, message.as_slice());
     }
     let Said { operation, word } = said?;
     print!(rt; "operation {operation}, {word}, ")?;
-    print_known(rt, &client)?;
+    print_known(rt, &client, 0)?;
     println!(rt; "")?;
     Ok(())
 }
@@ -153,14 +153,18 @@ fn news_word(news: News) -> &'static str {
     }
 }
 
-/// Prints what is known of the first key.
-fn print_known(rt: &HostRuntime, client: &Client<'_>) -> io::Result<()> {
-    if client.plan().count() == 0 {
+/// Prints what is known of the key at this place.
+pub(crate) fn print_known(rt: &HostRuntime, client: &Client<'_>, key: usize) -> io::Result<()> {
+    if key >= client.plan().count() {
         return Ok(());
     }
-    let uid = match client.identifier(0) {
+    let uid = match client.identifier(key) {
         Some(uid) => uid.as_str(),
         None => "-",
     };
-    print!(rt; "{} done of {uid} {:?}", client.done(0), client.verdict(0))
+    print!(rt;
+        "{} done of {uid} {:?}",
+        client.done(key),
+        client.verdict(key)
+    )
 }

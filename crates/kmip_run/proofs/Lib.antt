@@ -1,1 +1,2 @@
+pub mod FewLemmas
 pub mod LineLemmas
