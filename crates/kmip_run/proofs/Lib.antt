@@ -1,2 +1,1 @@
-pub mod FewLemmas
 pub mod LineLemmas
