@@ -166,8 +166,11 @@ fn wants_memory(rt: &impl Abort, alloc: Global, plan: &Plan, loss: &Loss) -> Res
     let (stop, made) = drive(alloc, &mut client, &mut link, 10);
     assert_eq!(rt; stop, Stop::NoMemory);
     assert_eq!(rt; made + 1, loss.at);
-    let question = client.ask(alloc)?.ok_or("no question")?;
-    assert_eq!(rt; question.operation, loss.next, "at {}", loss.at);
+    let question = client.ask(alloc)?.ok_or("no message")?;
+    let [part] = question.parts.as_slice() else {
+        return Err("not one question".into());
+    };
+    assert_eq!(rt; part.operation, loss.next, "at {}", loss.at);
     let (stop, rest) = drive(alloc, &mut client, &mut link, 10);
     assert_eq!(rt; stop, Stop::AllFinished);
     assert_eq!(rt; loss.at + rest, loss.total, "at {}", loss.at);
@@ -191,11 +194,13 @@ const RUNS: [Run; 2] = [
     Run {
         start: Start::Fresh,
         limit: 2,
+        batch: 1,
         save: true,
     },
     Run {
         start: Start::Same,
         limit: 10,
+        batch: 1,
         save: true,
     },
 ];

@@ -2,6 +2,8 @@
 ghost use Rattle.std.specs.Prelude.{◌≡◌, ◌≤◌, ◌<◌, IfErr};
 ghost use Rattle.kmip_schedule.specs.Faults.{most_failures};
 
+use kmip_batches::{read_reply, reply_fits, write_reply};
+use kmip_messages::Reply;
 use kmip_scripted::Scripted;
 use kmip_server::Records;
 use kmip_session::{Link, LinkFault};
@@ -22,6 +24,14 @@ pub enum Fault {
     Rubbish,
     /// The reply of this number comes, from 1, among those ever given.
     Reply(usize),
+    /// Of both members of the reply to a delivered request the one at this place, 0 or 1, comes alone.
+    Alone(usize),
+    /// That member comes twice, and the other one not at all.
+    Twice(usize),
+    /// Both come, and then that member once more.
+    Repeated(usize),
+    /// Both come, the second one first.
+    Swapped,
 }
 
 /// A failure of one exchange.
@@ -106,9 +116,11 @@ impl<S: Records> Faulty<S> {
         ensures io { IfErr result (λ fault. fault ≡ LinkFault.Io
             → self.old.failures < self.new.failures) }
     {
-        if failure.is_delivered {
-            let _reply = self.hand_on(alloc, request)?;
-        }
+        let reply = if failure.is_delivered {
+            self.hand_on(alloc, request)?
+        } else {
+            None
+        };
         match failure.fault {
             Fault::Io => {
                 self.failures += 1;
@@ -122,6 +134,10 @@ impl<S: Records> Faulty<S> {
                 Some(reply) => copied(alloc, reply),
                 None => Ok(None),
             },
+            Fault::Alone(place) => members_of(alloc, &reply, &[place]),
+            Fault::Twice(place) => members_of(alloc, &reply, &[place, place]),
+            Fault::Repeated(place) => members_of(alloc, &reply, &[0, 1, place]),
+            Fault::Swapped => members_of(alloc, &reply, &[1, 0]),
         }
     }
 }
@@ -135,6 +151,49 @@ fn copied(alloc: Global, bytes: &[u8]) -> Result<Option<Vec<u8>>, LinkFault>
 {
     match Vec::from_slice(alloc, bytes) {
         Ok(copy) => Ok(Some(copy)),
+        Err(_) => Err(LinkFault::NoMemory),
+    }
+}
+
+/// The message of the members of a reply at these places, in this order; nothing where one is
+/// missing.
+fn members_of(
+    alloc: Global,
+    reply: &Option<Vec<u8>>,
+    places: &[usize],
+) -> Result<Option<Vec<u8>>, LinkFault>
+    ensures { IfErr result (λ fault. fault ≡ LinkFault.NoMemory) }
+{
+    let Some(reply) = reply else {
+        return Ok(None);
+    };
+    let mut members = Vec::new(alloc);
+    for place in places {
+        let Some(member) = member_of(alloc, reply.as_slice(), *place) else {
+            return Ok(None);
+        };
+        if members.push(member).is_err() {
+            return Err(LinkFault::NoMemory);
+        }
+    }
+    written(alloc, members.as_slice())
+}
+
+/// The member of a reply at a place.
+fn member_of(alloc: Global, reply: &[u8], place: usize) -> Option<Reply> {
+    let members = read_reply(alloc, reply).ok()?;
+    members.into_iter().nth(place)
+}
+
+/// The message of these members; nothing where they fit in none.
+fn written(alloc: Global, members: &[Reply]) -> Result<Option<Vec<u8>>, LinkFault>
+    ensures { IfErr result (λ fault. fault ≡ LinkFault.NoMemory) }
+{
+    if !reply_fits(members) {
+        return Ok(None);
+    }
+    match write_reply(alloc, members, 0) {
+        Ok(message) => Ok(Some(message)),
         Err(_) => Err(LinkFault::NoMemory),
     }
 }
@@ -162,7 +221,7 @@ impl<S: Records> Link for Faulty<S> {
 
     ghost ended = { λ link. [] };
 
-    ghost disturbances = { λ link. record { disturbed = 0; strange = 0 } };
+    ghost disturbances = { λ link. record { disturbed = 0; requests = 0; strange = 0 } };
 
     fn exchange(&mut self, alloc: Global, request: &[u8]) -> Result<Option<Vec<u8>>, LinkFault> {
         if self.failures == u64::MAX {

@@ -5,11 +5,17 @@
 #![tactic(auto)]
 
 #[cfg(test)]
+mod batches;
+#[cfg(test)]
+mod cuts;
+#[cfg(test)]
 mod failures;
 #[cfg(test)]
 mod faulty;
 #[cfg(test)]
 mod lists;
+#[cfg(test)]
+mod members;
 #[cfg(test)]
 mod rows;
 #[cfg(test)]

@@ -1,13 +1,15 @@
 //! Scripts, each with what a campaign over its link tells.
 
 use crate::telling::{plan_of, runs_of, server_of, told, told_of_drive};
-use kmip_messages::{Ask, Outcome, Request, read_reply, request_fits, write_request};
+use kmip_batches::{read_reply, request_fits, write_request};
+use kmip_messages::{Ask, Outcome, Request};
 use kmip_objects::KeyAttrs;
 use kmip_scripted::{Scripted, read_script};
 use kmip_server::{IndexedStore, ListStore, Records, Server};
 use kmip_ttlv::Text;
 use std::alloc::Global;
 use std::process::Abort;
+use std::slice::from_ref;
 use std::test::Fail;
 
 /// The keys of a plan and their target, a script, and what is told.
@@ -269,7 +271,10 @@ fn tells_the_same_over_the_indexed_store(rt: HostRuntime) -> Result<(), Fail> {
 fn refuses_a_create_that_comes_again(rt: HostRuntime) -> Result<(), Fail> {
     let link = link_after(&rt, rt.alloc(), server_of(rt.alloc()), &CREATED_AGAIN)?;
     let bytes = link.reply(4).ok_or("no fourth reply")?;
-    let reply = read_reply(rt.alloc(), bytes)?;
+    let replies = read_reply(rt.alloc(), bytes)?;
+    let [reply] = replies.as_slice() else {
+        return Err("not one reply".into());
+    };
     assert!(rt; matches!(reply.outcome, Outcome::Failed(Some(0x35))));
     assert!(rt; link.reply(5).is_none());
     assert!(rt; link.reply(0).is_none());
@@ -345,8 +350,9 @@ fn server_with_short_a(rt: &impl Abort, alloc: Global) -> Result<Server<ListStor
         id: None,
         ask: Ask::Create(attrs),
     };
-    assert!(rt; request_fits(&request));
-    let message = write_request(alloc, &request)?;
+    let requests = from_ref(&request);
+    assert!(rt; request_fits(requests));
+    let message = write_request(alloc, requests)?;
     let mut server = server_of(alloc);
     server.handle(alloc, message.as_slice(), 0)?;
     Ok(server)

@@ -1,8 +1,12 @@
 //! Runs over a link in memory, told as a text: how they ended, what was asked, and the records of
 //! the server.
+ghost use Rattle.std.specs.Prelude.{◌≡◌, true};
+ghost use Rattle.kmip_session.specs.Campaign.{MayBatch};
 
+use kmip_batches::read_request;
 use kmip_client::Client;
-use kmip_messages::{Ask, read_request};
+use kmip_messages::{Ask, Request};
+use kmip_objects::KeyAttrs;
 use kmip_plan::{Plan, bound, read_plan};
 use kmip_scripted::{Scripted, Word};
 use kmip_server::{ListStore, Records, Server};
@@ -43,6 +47,7 @@ fn run_from(start: Start) -> Run {
     Run {
         start,
         limit: 0,
+        batch: 1,
         save: false,
     }
 }
@@ -88,6 +93,13 @@ pub fn runs_of(alloc: Global, plan: &Plan, words: &[Word]) -> Result<Vec<Run>, A
     Ok(runs)
 }
 
+/// Whether each of the runs asks about one to eight keys in a message, as a campaign may.
+fn may_batch(runs: &[Run]) -> bool
+    ensures { result ≡ true → MayBatch runs.now }
+{
+    runs.iter().all(|run| 1 <= run.batch && run.batch <= 8)
+}
+
 /// What a campaign of these runs over the link tells.
 pub fn told<S: Records>(
     rt: &impl Abort,
@@ -96,11 +108,28 @@ pub fn told<S: Records>(
     link: &mut Scripted<S>,
     runs: &[Run],
 ) -> Result<String, Fail> {
+    assert!(rt; may_batch(runs));
     let end = campaign(alloc, plan, link, runs);
     assert_eq!(rt; end.fault, None);
     let mut text = told_runs(alloc, end.runs.as_slice())?;
     push_asks(rt, alloc, &mut text, link)?;
     push_records(&mut text, link.server().records())?;
+    Ok(text)
+}
+
+/// The same in short: without the reports, and with the records in one line.
+pub fn told_in_short<S: Records>(
+    rt: &impl Abort,
+    alloc: Global,
+    plan: &Plan,
+    link: &mut Scripted<S>,
+    runs: &[Run],
+) -> Result<String, Fail> {
+    assert!(rt; may_batch(runs));
+    let end = campaign(alloc, plan, link, runs);
+    assert_eq!(rt; end.fault, None);
+    let mut text = told_ends(alloc, end.runs.as_slice())?;
+    push_past(rt, alloc, &mut text, link)?;
     Ok(text)
 }
 
@@ -132,7 +161,42 @@ fn told_runs(alloc: Global, runs: &[RunEnd]) -> Result<String, AllocError> {
     Ok(text)
 }
 
-/// Writes what was asked over the link at the end of a text, a line a request.
+/// How each run ended, without its report.
+fn told_ends(alloc: Global, runs: &[RunEnd]) -> Result<String, AllocError> {
+    let mut text = String::new(alloc);
+    for (place, run) in runs.iter().enumerate() {
+        let number = place + 1;
+        writeln!(text, "run {number} {} {}", run.stop.name(), run.exchanges)?;
+    }
+    Ok(text)
+}
+
+/// Writes what was asked over the link at the end of a text, and then the records of its server in one
+/// line: the name and the state of each object, in the order in which they were made.
+pub fn push_past<S: Records>(
+    rt: &impl Abort,
+    alloc: Global,
+    text: &mut String,
+    link: &Scripted<S>,
+) -> Result<(), Fail> {
+    push_asks(rt, alloc, text, link)?;
+    text.push_str("records")?;
+    push_states(text, link.server().records())?;
+    text.push('\n')?;
+    Ok(())
+}
+
+/// Writes the name and the state of each object at the end of a text.
+fn push_states<S: Records>(text: &mut String, records: &S) -> Result<(), AllocError> {
+    for place in 0..records.count() {
+        if let Some(row) = records.at(place) {
+            write!(text, " {} {:?}", row.attrs.name.as_str(), row.state)?;
+        }
+    }
+    Ok(())
+}
+
+/// Writes what was asked over the link at the end of a text, a line a message.
 fn push_asks<S: Records>(
     rt: &impl Abort,
     alloc: Global,
@@ -143,22 +207,37 @@ fn push_asks<S: Records>(
         let Some(bytes) = link.request(number) else {
             return Ok(());
         };
-        let told = told_request(rt, alloc, bytes)?;
+        let told = told_message(rt, alloc, bytes)?;
         writeln!(text, "ask {number} {}", told.as_str())?;
     }
     Ok(())
 }
 
-/// The operation of a request, and the name of the key that it is about, which is its id behind the
-/// byte of the operation.
-fn told_request(rt: &impl Abort, alloc: Global, bytes: &[u8]) -> Result<String, Fail> {
-    let request = read_request(alloc, bytes)?;
+/// What each question of a message asks, with commas between.
+fn told_message(rt: &impl Abort, alloc: Global, bytes: &[u8]) -> Result<String, Fail> {
+    let batch = read_request(alloc, bytes)?;
+    let mut text = String::new(alloc);
+    for question in batch.items.as_slice() {
+        let Ok(request) = question else {
+            return Err("a question that is refused".into());
+        };
+        push_request(rt, &mut text, request)?;
+    }
+    Ok(text)
+}
+
+/// Writes what a request asks behind those before it: its operation, and the name of the key that it
+/// is about, which is its id behind the byte of the operation.
+fn push_request(rt: &impl Abort, text: &mut String, request: &Request) -> Result<(), Fail> {
+    if !text.is_empty() {
+        text.push_str(", ")?;
+    }
     let id = request.id.as_ref().ok_or("a request without an id")?;
     let (operation, name) = id.as_slice().split_first().ok_or("an empty id")?;
     assert_eq!(rt; u32::from(*operation), request.ask.operation());
     let name = from_utf8(name)?;
-    let text = format!(in alloc; "{} {name}", operation_name(&request.ask))?;
-    Ok(text)
+    write!(text, "{} {name}", operation_name(&request.ask))?;
+    Ok(())
 }
 
 fn operation_name(ask: &Ask) -> &'static str {
@@ -181,4 +260,24 @@ fn push_records<S: Records>(text: &mut String, records: &S) -> Result<(), AllocE
         }
     }
     Ok(())
+}
+
+/// Whether each object of a server has the attributes that `plan_of` gives its keys: AES is 3, to encrypt
+/// is 4 and to decrypt 8.
+///
+/// Source: KMIP 2.1, Cryptographic Algorithm and Cryptographic Usage Mask.
+pub fn are_as_planned<S: Records>(records: &S) -> bool {
+    for place in 0..records.count() {
+        let Some(row) = records.at(place) else {
+            return false;
+        };
+        if !is_as_planned(&row.attrs) {
+            return false;
+        }
+    }
+    true
+}
+
+fn is_as_planned(attrs: &KeyAttrs) -> bool {
+    attrs.algorithm == 3 && attrs.length == 256 && attrs.usage == 4 + 8
 }
