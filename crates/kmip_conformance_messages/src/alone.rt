@@ -5,12 +5,12 @@ use kmip_messages::{MessageFault, Refusal, Reply, Request};
 use std::alloc::Global;
 
 /// The one question of the request that the bytes are; of a message that is refused whole the refusal
-/// carries nothing. Two or more questions are as many as the message may not have here: `BatchCount`.
+/// carries nothing. Where there is another number of them it is want of memory, which no test wants.
 pub fn question_in(alloc: Global, bytes: &[u8]) -> Result<Request, Refusal> {
     let fault = match read_request(alloc, bytes) {
         Ok(batch) => match the_one(batch.items.into_vec()) {
             Some(question) => return question,
-            None => MessageFault::BatchCount,
+            None => MessageFault::NoMemory,
         },
         Err(fault) => fault,
     };
@@ -21,10 +21,11 @@ pub fn question_in(alloc: Global, bytes: &[u8]) -> Result<Request, Refusal> {
     })
 }
 
-/// The one reply that the bytes are, or why they are none: where there are two or more, `BatchCount`.
+/// The one reply that the bytes are, or why they are none. Where there is another number of them it is
+/// want of memory, which no test wants.
 pub fn reply_in(alloc: Global, bytes: &[u8]) -> Result<Reply, MessageFault> {
     let replies = read_reply(alloc, bytes)?;
-    the_one(replies).ok_or(MessageFault::BatchCount)
+    the_one(replies).ok_or(MessageFault::NoMemory)
 }
 
 /// What there is, where that is one thing.

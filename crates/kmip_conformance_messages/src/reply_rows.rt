@@ -18,7 +18,7 @@ const LONG_UID: &str = "01234567890123456789012345678901234567890123456789012345
 const TOO_LONG_UID: &str = "01234567890123456789012345678901234567890123456789012345678901234";
 
 /// Changes of the message and its header.
-const HEADER_ROWS: [Row; 31] = [
+const HEADER_ROWS: [Row; 30] = [
     (&[Doubled(RESPONSE)], NotMessage),
     (&[Retagged(RESPONSE, REQUEST)], NotMessage),
     (&[Holding(RESPONSE, Integer(1))], NotMessage),
@@ -55,10 +55,6 @@ const HEADER_ROWS: [Row; 31] = [
     ),
     (&[Holding(BATCH_COUNT, Integer(0))], BatchCount),
     (&[Holding(BATCH_COUNT, Integer(2))], BatchCount),
-    (
-        &[Holding(BATCH_COUNT, Integer(2)), Doubled(BATCH_ITEM)],
-        BatchCount,
-    ),
     (&[Doubled(BATCH_ITEM)], BatchCount),
     (&[Without(BATCH_ITEM)], BatchCount),
     (&[Holding(BATCH_ITEM, Integer(1))], WrongType(BATCH_ITEM)),

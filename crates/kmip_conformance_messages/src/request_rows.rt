@@ -40,7 +40,7 @@ const LONG_NAME: &str = "0123456789012345678901234567890123456789012345678901234
 const TOO_LONG_NAME: &str = "01234567890123456789012345678901234567890123456789012345678901234";
 
 /// Changes of the message and its header.
-const HEADER_ROWS: [Row; 37] = [
+const HEADER_ROWS: [Row; 36] = [
     (&[Without(REQUEST)], Ttlv(TtlvFault::Short(0))),
     (&[Doubled(REQUEST)], NotMessage),
     (&[Retagged(REQUEST, RESPONSE)], NotMessage),
@@ -75,10 +75,6 @@ const HEADER_ROWS: [Row; 37] = [
     ),
     (&[Holding(BATCH_COUNT, Integer(0))], BatchCount),
     (&[Holding(BATCH_COUNT, Integer(2))], BatchCount),
-    (
-        &[Holding(BATCH_COUNT, Integer(2)), Doubled(BATCH_ITEM)],
-        BatchCount,
-    ),
     (&[Doubled(BATCH_ITEM)], BatchCount),
     (&[Without(BATCH_ITEM)], BatchCount),
     (

@@ -7,6 +7,8 @@
 #![tactic(auto)]
 
 #[cfg(test)]
+mod batching;
+#[cfg(test)]
 mod failing;
 #[cfg(test)]
 mod files;

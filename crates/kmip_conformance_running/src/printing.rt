@@ -13,28 +13,31 @@ use std::str::from_utf8;
 use std::test::Fail;
 
 /// A run: the texts of its plan and of its progress, the words that its link follows, how many texts
-/// have room, and how many exchanges it may make; what it prints, how it ends, and all that it saves.
+/// have room, how many exchanges it may make, and how many keys a message asks about at most; what it
+/// prints, how it ends, and all that it saves.
 #[derive(Clone, Copy)]
-struct Row {
-    name: &'static str,
-    plan: &'static str,
-    saved: Option<&'static str>,
-    words: &'static [Word],
-    room: usize,
-    limit: usize,
-    printed: &'static str,
-    status: ExitStatus,
-    told: &'static str,
+pub struct Row {
+    pub name: &'static str,
+    pub plan: &'static str,
+    pub saved: Option<&'static str>,
+    pub words: &'static [Word],
+    pub room: usize,
+    pub limit: usize,
+    pub batch: usize,
+    pub printed: &'static str,
+    pub status: ExitStatus,
+    pub told: &'static str,
 }
 
-/// From nothing, over a link that loses nothing.
-const FIRST: Row = Row {
+/// From nothing, over a link that loses nothing, in messages about one key.
+pub const FIRST: Row = Row {
     name: "from nothing",
     plan: PLAN,
     saved: None,
     words: &[],
     room: 10,
     limit: 10_000,
+    batch: 1,
     printed: "k1 active 2/2 finished\nfinished 1 of 1\nstop AllFinished 3\n",
     status: ExitStatus::Done,
     told: "kmip-progress 2\nk1 active - 0 -\nend 1\n\
@@ -114,17 +117,19 @@ const ROWS: [Row; 9] = [
 ];
 
 /// What a run of the row does over this link.
-fn runs(
+pub fn runs(
     rt: &impl Abort,
     alloc: Global,
     row: &Row,
     link: &mut Scripted<ListStore>,
 ) -> Result<(), Fail> {
     let name = row.name;
+    assert!(rt; 1 <= row.batch && row.batch <= 8);
     let input = RunInput {
         plan: row.plan,
         path: "over there",
         limit: row.limit,
+        batch: row.batch,
     };
     let mut shelf = Shelf::new(alloc, row.room);
     let mut writer = Vec::new(alloc);
@@ -191,6 +196,7 @@ fn ends_where_the_writer_fails(rt: HostRuntime) -> Result<(), Fail> {
         plan: PLAN,
         path: "over there",
         limit: 10,
+        batch: 1,
     };
     let mut link = link_of(alloc, &[])?;
     let mut shelf = Shelf::new(alloc, 10);

@@ -25,15 +25,15 @@ usage = ["encrypt", "decrypt"]
 target = "discarded"
 "#;
 
-/// What is simulated for the plan `CREATED`: how it is told, a further plan, and a script; how it ends,
-/// and what is written.
+/// What is simulated for a plan: how it is told, a further plan, and a script; how it ends, and what is
+/// written.
 #[derive(Clone, Copy)]
-struct Row<'a> {
-    detail: Detail,
-    further: Option<&'a str>,
-    script: &'a str,
-    status: ExitStatus,
-    text: &'a str,
+pub struct Row<'a> {
+    pub detail: Detail,
+    pub further: Option<&'a str>,
+    pub script: &'a str,
+    pub status: ExitStatus,
+    pub text: &'a str,
 }
 
 /// Nothing is lost.
@@ -46,6 +46,7 @@ ask 2 Create k1
 record 1 k1 PreActive
 ";
 
+/// The plan is `CREATED`, whose one key is asked about alone, however many a message may ask about.
 const ROWS: [Row<'static>; 6] = [
     Row {
         detail: Detail::Runs,
@@ -151,23 +152,37 @@ fn check_end(rt: &impl Abort, row: &Row<'_>, status: ExitStatus, written: &[u8])
 }
 
 /// Simulates the row by each function.
-fn check_row(rt: &impl Abort, alloc: Global, row: &Row<'_>) -> Result<(), Fail> {
+fn check_row(
+    rt: &impl Abort,
+    alloc: Global,
+    batch: usize,
+    plan: &str,
+    row: &Row<'_>,
+) -> Result<(), Fail> {
+    assert!(rt; 1 <= batch && batch <= 8);
     let (detail, further, script) = (row.detail, row.further, row.script);
     let mut written = Vec::new(alloc);
-    let is_refused = sim_bytes(alloc, detail, CREATED, further, script, &mut written)?;
+    let is_refused = sim_bytes(alloc, detail, batch, plan, further, script, &mut written)?;
     check_end(rt, row, status_of(is_refused), written.as_slice());
     let mut written = Vec::new(alloc);
-    let is_refused = sim(alloc, detail, CREATED, further, script, &mut written)?;
+    let is_refused = sim(alloc, detail, batch, plan, further, script, &mut written)?;
     check_end(rt, row, status_of(is_refused), written.as_slice());
     let mut written = Vec::new(alloc);
-    let status = run_sim(alloc, detail, CREATED, further, script, &mut written);
+    let status = run_sim(alloc, detail, batch, plan, further, script, &mut written);
     check_end(rt, row, status, written.as_slice());
     Ok(())
 }
 
-fn check_rows(rt: &impl Abort, alloc: Global, rows: &[Row<'_>]) -> Result<(), Fail> {
+/// Simulates each row for this plan, in messages about so many keys at most.
+pub fn check_rows(
+    rt: &impl Abort,
+    alloc: Global,
+    batch: usize,
+    plan: &str,
+    rows: &[Row<'_>],
+) -> Result<(), Fail> {
     for row in rows {
-        check_row(rt, alloc, row)?;
+        check_row(rt, alloc, batch, plan, row)?;
     }
     Ok(())
 }
@@ -189,6 +204,7 @@ fn check_late_word(
     let ended = run_sim(
         alloc,
         Detail::Runs,
+        1,
         CREATED,
         None,
         script.as_str(),
@@ -201,7 +217,12 @@ fn check_late_word(
 
 #[test]
 fn simulates_by_each_function(rt: HostRuntime) -> Result<(), Fail> {
-    check_rows(&rt, rt.alloc(), ROWS.as_slice())
+    check_rows(&rt, rt.alloc(), 1, CREATED, ROWS.as_slice())
+}
+
+#[test]
+fn asks_about_the_only_key_alone(rt: HostRuntime) -> Result<(), Fail> {
+    check_rows(&rt, rt.alloc(), 8, CREATED, ROWS.as_slice())
 }
 
 #[test]
@@ -216,7 +237,7 @@ fn reads_ten_thousand_lines(rt: HostRuntime) -> Result<(), Fail> {
 fn ends_where_the_writer_fails(rt: HostRuntime) -> Result<(), Fail> {
     let mut room = [0; 10];
     let mut writer = room.as_mut_slice();
-    let status = run_sim(rt.alloc(), Detail::Runs, CREATED, None, "", &mut writer);
+    let status = run_sim(rt.alloc(), Detail::Runs, 1, CREATED, None, "", &mut writer);
     assert_eq!(rt; status, ExitStatus::Failed(CommandFault::Output));
     Ok(())
 }

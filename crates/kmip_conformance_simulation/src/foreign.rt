@@ -2,7 +2,8 @@
 
 use crate::making::plan_of;
 use crate::telling::{check_told, link_to, new_server, saved_run};
-use kmip_messages::{Ask, Request, request_fits, write_request};
+use kmip_batches::{request_fits, write_request};
+use kmip_messages::{Ask, Request};
 use kmip_objects::KeyAttrs;
 use kmip_plan::prolongs;
 use kmip_server::{IndexedStore, Server};
@@ -10,6 +11,7 @@ use kmip_session::{Start, campaigns};
 use kmip_ttlv::Text;
 use std::alloc::Global;
 use std::process::Abort;
+use std::slice::from_ref;
 use std::test::Fail;
 
 /// The reply to the first Locate, which found nothing, comes once more in the place of the first
@@ -60,8 +62,8 @@ fn check_two(
     assert!(rt; prolongs(&second, &first));
     let plans = [first, second];
     let runs = [
-        saved_run(alloc, Start::Fresh, 2)?,
-        saved_run(alloc, Start::Saved(1), 20)?,
+        saved_run(alloc, Start::Fresh, 2, 1)?,
+        saved_run(alloc, Start::Saved(1), 20, 1)?,
     ];
     let mut link = link_to(alloc, server, script)?;
     let end = campaigns(alloc, &plans, &mut link, &runs);
@@ -95,8 +97,9 @@ fn server_with_short_b(rt: &impl Abort, alloc: Global) -> Result<Server<IndexedS
         id: None,
         ask: Ask::Create(attrs),
     };
-    assert!(rt; request_fits(&request));
-    let message = write_request(alloc, &request)?;
+    let requests = from_ref(&request);
+    assert!(rt; request_fits(requests));
+    let message = write_request(alloc, requests)?;
     let mut server = new_server(alloc);
     server.handle(alloc, message.as_slice(), 0)?;
     Ok(server)

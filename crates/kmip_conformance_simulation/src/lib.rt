@@ -1,11 +1,14 @@
 //! Tests of kmip_simulation: random scripts, long ones, those of two plans, and second campaigns,
 //! after each of which every key is to be at its target, with one object; and of campaigns on plans
-//! of which each prolongs the one before, against runs that were worked out by hand. And tests of
-//! kmip_sim, the command `sim` by each of its functions, and of kmip_wording.
+//! of which each prolongs the one before, against runs that were worked out by hand; in messages about
+//! one key, and about up to eight. And tests of kmip_sim, the command `sim` by each of its functions,
+//! and of kmip_wording.
 #![tactic(auto)]
 
 #[cfg(test)]
 mod again;
+#[cfg(test)]
+mod batching;
 #[cfg(test)]
 mod commanding;
 #[cfg(test)]

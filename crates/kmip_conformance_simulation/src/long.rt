@@ -5,6 +5,8 @@ use kmip_scripted::{Script, Word};
 use kmip_simulation::simulate;
 use rand_chacha::ChaCha20Rng;
 use rand_core::SeedableRng;
+use std::alloc::{AllocError, Global};
+use std::process::Abort;
 use std::test::Fail;
 
 #[test]
@@ -18,32 +20,47 @@ fn a_thousand_keys_and_ten_thousand_words(rt: HostRuntime) -> Result<(), Fail> {
     }
     let script = Script::new(words);
     assert_eq!(rt; script.prolongings(), 0);
-    let simulation = simulate(alloc, &plan, script)?;
+    let simulation = simulate(alloc, &plan, script, 1)?;
     assert_eq!(rt; simulation.end.runs.len(), 1);
     assert!(rt; simulation.is_finished());
     check_at_targets(&rt, &plan, simulation.link.server().records())
 }
 
-#[test]
-fn fifty_runs_from_nothing_from_before_and_from_saves(rt: HostRuntime) -> Result<(), Fail> {
-    let alloc = rt.alloc();
-    let plan = plan_of_many(alloc, 10)?;
-    let mut rng = ChaCha20Rng::from_seed([20; 32]);
+/// A script of fifty runs: each but the last has a lost reply and a random word.
+fn script_of_fifty(alloc: Global, rng: &mut ChaCha20Rng) -> Result<Script, AllocError> {
     let mut words = Vec::new(alloc);
     for number in 0..49 {
         words.push(Word::LoseReply)?;
-        words.push(random_message_word(&mut rng))?;
+        words.push(random_message_word(rng))?;
         match number % 3 {
             0 => words.push(Word::Save)?,
             1 => words.push(Word::Restart(None))?,
             _ => words.push(Word::Restart(Some(number / 3)))?,
         }
     }
-    let script = Script::new(words);
+    Ok(Script::new(words))
+}
+
+/// Carries out such a script for ten keys, in messages about so many at most.
+fn check_fifty(rt: &impl Abort, alloc: Global, seed: u8, batch: usize) -> Result<(), Fail> {
+    assert!(rt; 1 <= batch && batch <= 8);
+    let plan = plan_of_many(alloc, 10)?;
+    let mut rng = ChaCha20Rng::from_seed([seed; 32]);
+    let script = script_of_fifty(alloc, &mut rng)?;
     assert_eq!(rt; script.prolongings(), 0);
-    let simulation = simulate(alloc, &plan, script)?;
+    let simulation = simulate(alloc, &plan, script, batch)?;
     assert_eq!(rt; simulation.end.runs.len(), 50);
     assert_eq!(rt; simulation.end.saved.len(), 17);
     assert!(rt; simulation.is_finished());
-    check_at_targets(&rt, &plan, simulation.link.server().records())
+    check_at_targets(rt, &plan, simulation.link.server().records())
+}
+
+#[test]
+fn fifty_runs_from_nothing_from_before_and_from_saves(rt: HostRuntime) -> Result<(), Fail> {
+    check_fifty(&rt, rt.alloc(), 20, 1)
+}
+
+#[test]
+fn fifty_runs_in_messages_about_three_keys(rt: HostRuntime) -> Result<(), Fail> {
+    check_fifty(&rt, rt.alloc(), 26, 3)
 }

@@ -26,12 +26,18 @@ fn push_key(text: &mut String, name: &str, target: &str) -> Result<(), AllocErro
     )
 }
 
-/// The plan of keys with these names and targets.
-pub fn plan_of(alloc: Global, keys: &[(&str, &str)]) -> Result<Plan, Fail> {
+/// The text of the plan of keys with these names and targets.
+pub fn plan_text(alloc: Global, keys: &[(&str, &str)]) -> Result<String, AllocError> {
     let mut text = String::new(alloc);
     for (name, target) in keys {
         push_key(&mut text, name, target)?;
     }
+    Ok(text)
+}
+
+/// The plan of keys with these names and targets.
+pub fn plan_of(alloc: Global, keys: &[(&str, &str)]) -> Result<Plan, Fail> {
+    let text = plan_text(alloc, keys)?;
     let plan = read_plan(alloc, text.as_str())?;
     Ok(plan)
 }
@@ -41,15 +47,26 @@ pub fn plan_of_two(alloc: Global, first: &str, second: &str) -> Result<Plan, Fai
     plan_of(alloc, &[("k0", first), ("k1", second)])
 }
 
-/// A plan of so many keys, whose targets come in turn.
-pub fn plan_of_many(alloc: Global, keys: usize) -> Result<Plan, Fail> {
+/// The text of a plan of so many keys, whose targets come in turn.
+pub fn text_of_many(alloc: Global, keys: usize) -> Result<String, AllocError> {
     let mut text = String::new(alloc);
     for number in 0..keys {
         let name = format!(in alloc; "k{number}")?;
         push_key(&mut text, name.as_str(), TARGETS[number % TARGETS.len()])?;
     }
+    Ok(text)
+}
+
+/// A plan of so many keys, whose targets come in turn.
+pub fn plan_of_many(alloc: Global, keys: usize) -> Result<Plan, Fail> {
+    let text = text_of_many(alloc, keys)?;
     let plan = read_plan(alloc, text.as_str())?;
     Ok(plan)
+}
+
+/// How many keys a message asks about at most: a random number from 1 to 8.
+pub fn random_batch(rng: &mut ChaCha20Rng) -> usize {
+    1 + rng.next_u32() as usize % 8
 }
 
 /// A random word of an exchange, or one that repeats a request.

@@ -104,9 +104,9 @@ fn check_three(
     assert!(rt; prolongs(&third, &second));
     let plans = [first, second, third];
     let runs = [
-        saved_run(alloc, Start::Fresh, 2)?,
-        saved_run(alloc, starts.0, 4)?,
-        saved_run(alloc, starts.1, 6)?,
+        saved_run(alloc, Start::Fresh, 2, 1)?,
+        saved_run(alloc, starts.0, 4, 1)?,
+        saved_run(alloc, starts.1, 6, 1)?,
     ];
     let mut link = link_to(alloc, new_server(alloc), script)?;
     let end = campaigns(alloc, &plans, &mut link, &runs);
@@ -132,6 +132,46 @@ fn the_first_run_on_a_plan_knows_nothing_of_the_run_before(rt: HostRuntime) -> R
     check_three(&rt, rt.alloc(), starts, "", FROM_NOTHING)
 }
 
+/// The runs on a plan and on a further one, in messages about eight keys and about two.
+const AFTER_FEWER: &str = "\
+    run 1 AllFinished 2\n\
+    a created 1/1 finished\n\
+    b created 1/1 finished\n\
+    c created 1/1 finished\n\
+    finished 3 of 3\n\
+    run 2 AllFinished 3\n\
+    a active 2/2 finished\n\
+    b active 2/2 finished\n\
+    c active 2/2 finished\n\
+    finished 3 of 3\n\
+    ask 1 Locate a, Locate b, Locate c\n\
+    ask 2 Create a, Create b, Create c\n\
+    ask 3 GetAttributes a, GetAttributes b\n\
+    ask 4 GetAttributes c, Activate a\n\
+    ask 5 Activate b, Activate c\n\
+    record 1 a Active\n\
+    record 2 b Active\n\
+    record 3 c Active\n";
+
+#[test]
+fn a_further_plan_is_asked_about_by_two(rt: HostRuntime) -> Result<(), Fail> {
+    let alloc = rt.alloc();
+    let first = plan_of(
+        alloc,
+        &[("a", "created"), ("b", "created"), ("c", "created")],
+    )?;
+    let second = plan_of(alloc, &[("a", "active"), ("b", "active"), ("c", "active")])?;
+    assert!(rt; prolongs(&second, &first));
+    let plans = [first, second];
+    let runs = [
+        saved_run(alloc, Start::Fresh, 20, 8)?,
+        saved_run(alloc, Start::Saved(1), 20, 2)?,
+    ];
+    let mut link = link_to(alloc, new_server(alloc), "")?;
+    let end = campaigns(alloc, &plans, &mut link, &runs);
+    check_told(&rt, alloc, &end, &link, AFTER_FEWER)
+}
+
 /// Each way that goes further than another: the targets, and the state in which the key is at last.
 const FURTHER: [(&str, &str, &str); 7] = [
     ("created", "active", "record 1 k1 Active\n"),
@@ -155,8 +195,8 @@ fn check_further(
     assert!(rt; prolongs(&second, &first));
     let plans = [first, second];
     let runs = [
-        saved_run(alloc, Start::Fresh, 7)?,
-        saved_run(alloc, Start::Saved(1), 7)?,
+        saved_run(alloc, Start::Fresh, 7, 1)?,
+        saved_run(alloc, Start::Saved(1), 7, 1)?,
     ];
     let script = "lose-reply\nrestart none\nlose-reply\n";
     let mut link = link_to(alloc, new_server(alloc), script)?;

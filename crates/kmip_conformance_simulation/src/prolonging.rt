@@ -19,22 +19,24 @@ fn prolonged_script(alloc: Global, rng: &mut ChaCha20Rng) -> Result<Script, Allo
     Ok(Script::new(words))
 }
 
-/// Carries out a random script over two plans where the second prolongs the first, and says whether it
-/// does.
+/// Carries out a random script over two plans where the second prolongs the first, in messages about so
+/// many keys at most, and says whether it does.
 fn try_pair(
     rt: &impl Abort,
     alloc: Global,
+    batch: usize,
     plan: Plan,
     further: Plan,
     rng: &mut ChaCha20Rng,
 ) -> Result<bool, Fail> {
+    assert!(rt; 1 <= batch && batch <= 8);
     if !prolongs(&further, &plan) {
         return Ok(false);
     }
     let script = prolonged_script(alloc, rng)?;
     assert_eq!(rt; script.prolongings(), 1);
     let plans = [plan, further];
-    let simulation = simulate_plans(alloc, plans.as_slice(), script)?;
+    let simulation = simulate_plans(alloc, plans.as_slice(), script, batch)?;
     assert_eq!(rt; simulation.end.fault, None);
     assert!(rt; simulation.is_finished());
     check_at_targets(rt, &plans[1], simulation.link.server().records())?;
@@ -46,6 +48,7 @@ fn try_pair(
 fn try_plan(
     rt: &impl Abort,
     alloc: Global,
+    batch: usize,
     first: &str,
     second: &str,
     rng: &mut ChaCha20Rng,
@@ -55,7 +58,7 @@ fn try_plan(
         for fourth in TARGETS {
             let plan = plan_of_two(alloc, first, second)?;
             let further = plan_of_two(alloc, third, fourth)?;
-            if try_pair(rt, alloc, plan, further, rng)? {
+            if try_pair(rt, alloc, batch, plan, further, rng)? {
                 tried = tried.saturating_add(1);
             }
         }
@@ -65,16 +68,31 @@ fn try_plan(
 
 /// Each of the two keys has 12 ways to go on: 5 from created, 3 from active, 2 from revoked, and 1 from
 /// destroyed and from discarded.
-#[test]
-fn prolonged_plans_end_at_the_further_targets(rt: HostRuntime) -> Result<(), Fail> {
-    let mut rng = ChaCha20Rng::from_seed([21; 32]);
+fn try_all(
+    rt: &impl Abort,
+    alloc: Global,
+    batch: usize,
+    rng: &mut ChaCha20Rng,
+) -> Result<(), Fail> {
     let mut tried = 0usize;
     for first in TARGETS {
         for second in TARGETS {
-            let more = try_plan(&rt, rt.alloc(), first, second, &mut rng)?;
+            let more = try_plan(rt, alloc, batch, first, second, rng)?;
             tried = tried.saturating_add(more);
         }
     }
     assert_eq!(rt; tried, 144);
     Ok(())
+}
+
+#[test]
+fn prolonged_plans_end_at_the_further_targets(rt: HostRuntime) -> Result<(), Fail> {
+    let mut rng = ChaCha20Rng::from_seed([21; 32]);
+    try_all(&rt, rt.alloc(), 1, &mut rng)
+}
+
+#[test]
+fn so_they_do_in_messages_about_both_keys(rt: HostRuntime) -> Result<(), Fail> {
+    let mut rng = ChaCha20Rng::from_seed([25; 32]);
+    try_all(&rt, rt.alloc(), 8, &mut rng)
 }

@@ -1,6 +1,8 @@
 //! Random scripts over random plans.
 
-use crate::making::{TARGETS, check_at_targets, plan_of_two, push_random_words};
+use crate::making::{
+    TARGETS, check_at_targets, plan_of_many, plan_of_two, push_random_words, random_batch,
+};
 use kmip_plan::Plan;
 use kmip_scripted::Script;
 use kmip_simulation::simulate;
@@ -31,18 +33,30 @@ fn random_script(alloc: Global, rng: &mut ChaCha20Rng) -> Result<Script, AllocEr
     Ok(Script::new(words))
 }
 
+/// Carries out a random script over the plan, in messages about a random number of keys.
+fn try_script(
+    rt: &impl Abort,
+    alloc: Global,
+    plan: &Plan,
+    rng: &mut ChaCha20Rng,
+) -> Result<(), Fail> {
+    let script = random_script(alloc, rng)?;
+    let batch = random_batch(rng);
+    assert_eq!(rt; script.prolongings(), 0);
+    assert!(rt; 1 <= batch && batch <= 8);
+    let simulation = simulate(alloc, plan, script, batch)?;
+    assert_eq!(rt; simulation.end.fault, None);
+    assert!(rt; simulation.is_finished());
+    check_at_targets(rt, plan, simulation.link.server().records())
+}
+
 /// Carries out 500 random scripts, each over the next of the plans.
 fn try_scripts(rt: &impl Abort, alloc: Global, seed: u8) -> Result<(), Fail> {
     let plans = all_plans(alloc)?;
     let mut rng = ChaCha20Rng::from_seed([seed; 32]);
     for number in 0..500 {
         let plan = plans.get(number % PLANS).ok_or("no such plan")?;
-        let script = random_script(alloc, &mut rng)?;
-        assert_eq!(rt; script.prolongings(), 0);
-        let simulation = simulate(alloc, plan, script)?;
-        assert_eq!(rt; simulation.end.fault, None);
-        assert!(rt; simulation.is_finished());
-        check_at_targets(rt, plan, simulation.link.server().records())?;
+        try_script(rt, alloc, plan, &mut rng)?;
     }
     Ok(())
 }
@@ -65,4 +79,15 @@ fn the_third_scripts_end_at_the_targets(rt: HostRuntime) -> Result<(), Fail> {
 #[test]
 fn the_last_scripts_end_at_the_targets(rt: HostRuntime) -> Result<(), Fail> {
     try_scripts(&rt, rt.alloc(), 4)
+}
+
+/// Plans of one to ten keys, of which a message has room for all, or not.
+#[test]
+fn the_scripts_of_longer_plans_end_at_the_targets(rt: HostRuntime) -> Result<(), Fail> {
+    let mut rng = ChaCha20Rng::from_seed([23; 32]);
+    for number in 0..200 {
+        let plan = plan_of_many(rt.alloc(), 1 + number % 10)?;
+        try_script(&rt, rt.alloc(), &plan, &mut rng)?;
+    }
+    Ok(())
 }

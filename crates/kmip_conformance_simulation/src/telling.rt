@@ -1,4 +1,6 @@
 //! Runs, a link in memory, and what a campaign over it tells.
+ghost use Rattle.std.specs.Prelude.{◌≤◌, IfOk};
+ghost use Rattle.kmip_session.specs.Campaign.{MayBatch};
 
 use kmip_scripted::{Scripted, read_script};
 use kmip_server::{IndexedStore, Server};
@@ -9,12 +11,17 @@ use std::process::Abort;
 use std::str::from_utf8;
 use std::test::Fail;
 
-/// One run, which is saved.
-pub fn saved_run(alloc: Global, start: Start, limit: usize) -> Result<Vec<Run>, Fail> {
+/// One run in messages about so many keys at most, which is saved.
+pub fn saved_run(alloc: Global, start: Start, limit: usize, batch: usize) -> Result<Vec<Run>, Fail>
+    requires least { 1 ≤ batch }
+    requires most { batch ≤ 8 }
+    ensures { IfOk result (λ runs. MayBatch runs.items) }
+{
     let mut runs = Vec::new(alloc);
     runs.push(Run {
         start,
         limit,
+        batch,
         save: true,
     })?;
     Ok(runs)
