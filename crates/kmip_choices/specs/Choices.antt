@@ -1,7 +1,7 @@
 -- What the options of the command line and their values ask for.
 -- Source: own.
 use Rattle.std.specs.Prelude.{◌≡◌, ℕ, List, Option, Some, None, option_map, string_bytes}
-use Rattle.kmip_sim.specs.declared.detail.Detail.{Detail}
+use Rattle.kmip_choices.specs.declared.detail.Detail.{Detail}
 use Rattle.kmip_choices.specs.declared.choice.Choice.{Choice}
 use Rattle.kmip_choices.specs.declared.choice.Choice.TheVariants.{Check, CheckAfter, Simulate}
 

@@ -3,11 +3,11 @@ ghost use Rattle.std.specs.Prelude.{◌≡◌, IfOk, option_map, string_bytes, i
 ghost use Rattle.kmip_commands.specs.declared.showing.Form.TheVariants.{Text, Canonical};
 ghost use Rattle.kmip_choices.specs.Choices.{IsCheckOf, IsSimulationOf};
 ghost use Rattle.kmip_choices.specs.declared.choice.Choice.TheVariants.{Answer, AnswerStream};
-ghost use Rattle.kmip_sim.specs.declared.detail.Detail.TheVariants.{Runs, Exchanges};
+ghost use Rattle.kmip_choices.specs.declared.detail.Detail.TheVariants.{Runs, Exchanges};
 
+use crate::detail::Detail;
+use crate::options::{ProbeOptions, RunOptions, ServeOptions};
 use kmip_commands::Form;
-use kmip_network::{ProbeOptions, RunOptions, ServeOptions};
-use kmip_sim::Detail;
 use std::alloc::{AllocError, Global};
 
 /// What the command line asks for.

@@ -1,10 +1,11 @@
-//! What a command line may ask for, and the doing of it over standard input, files, sockets and
-//! standard output. It knows no words of a command line.
+//! What a command line may ask for, by its options and their values. It knows no words of a command line,
+//! and does nothing of what is asked for.
 #![tactic(auto)]
 
 mod choice;
-mod doing;
+mod detail;
+mod options;
 
 pub use choice::{Choice, answer_of, check_of, detail_of, form_of, simulation_of};
-pub use doing::carry_out;
-pub use kmip_network::{Peer, ProbeOptions, RunOptions, ServeOptions};
+pub use detail::Detail;
+pub use options::{Peer, ProbeOptions, RunOptions, ServeOptions};

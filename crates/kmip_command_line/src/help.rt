@@ -257,7 +257,7 @@ pub(crate) const LOOPBACK: &str = "Have a new server in this process, over a por
 
 pub(crate) const LIMIT: &str = "How many exchanges are made at most";
 
-pub(crate) const BATCH: &str = "How many keys a message asks about at most";
+pub(crate) const BATCH: &str = "How many keys a message asks about at most, 1 to 8";
 
 pub(crate) const TIMEOUT: &str = "The longest that an exchange takes, with connecting";
 

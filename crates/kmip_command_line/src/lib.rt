@@ -1,4 +1,4 @@
-//! The words of the command line of `kmipctl`, what they ask for, and the program that does it.
+//! The words of the command line of `kmipctl`, and what they ask for.
 #![tactic(auto)]
 
 ghost use Rattle.std.specs.Prelude.{◌≡◌};
@@ -7,7 +7,6 @@ ghost use Rattle.kmip_command_line.specs.Statuses.{status_of};
 
 mod help;
 mod network;
-mod running;
 
 use clap::error::ErrorKind;
 use clap::{Arg, Command, Error};
@@ -21,7 +20,6 @@ use network::{
     WrongValue, batch, flag, probe_command, probe_options, run_command, run_options, serve_command,
     serve_options,
 };
-pub use running::{run, run_words};
 use std::alloc::{AllocError, Global};
 
 /// The number of this version.

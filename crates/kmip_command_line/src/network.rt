@@ -8,8 +8,8 @@ use crate::help::{
 use crate::path;
 use clap::builder::ValueParser;
 use clap::{Arg, ArgAction, ArgGroup, ArgMatches, Command};
+use kmip_choices::{Peer, ProbeOptions, RunOptions, ServeOptions};
 use kmip_messages::standard::MOST_QUESTIONS;
-use kmip_network::{Peer, ProbeOptions, RunOptions, ServeOptions};
 use kmip_premises::is_prefix;
 use std::alloc::{AllocError, Global};
 use std::net::SocketAddrV4;

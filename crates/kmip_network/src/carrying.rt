@@ -3,10 +3,10 @@ ghost use Rattle.std.specs.Prelude.{IsTrue};
 ghost use Rattle.kmip_batches.specs.Members.{may_have};
 
 use crate::linking::{loopback, refused, tcp_link, unix_link};
-use crate::options::{Peer, RunOptions};
 use crate::reading::{refusal_of, text_or_why_not};
 use crate::showing::Standing;
 use crate::telling::Teller;
+use kmip_choices::{Peer, RunOptions};
 use kmip_commands::ExitStatus;
 use kmip_progress_file::{LockFault, ProgressFile, ProgressLock};
 use kmip_run::{RunInput, batch_of, run_run};

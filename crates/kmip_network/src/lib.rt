@@ -4,7 +4,6 @@
 
 mod carrying;
 mod linking;
-mod options;
 mod probing;
 mod reading;
 mod serving;
@@ -13,7 +12,6 @@ mod telling;
 
 pub use carrying::run_plan;
 pub use kmip_run::batch_of;
-pub use options::{Peer, ProbeOptions, RunOptions, ServeOptions};
 pub use probing::probe_server;
 pub use reading::{refusal_of, text_or_why_not};
 pub use serving::serve;

@@ -1,7 +1,7 @@
 //! The program `probe`, over sockets.
 
 use crate::linking::{loopback, tcp_link, unix_link};
-use crate::options::{Peer, ProbeOptions};
+use kmip_choices::{Peer, ProbeOptions};
 use kmip_commands::ExitStatus;
 use kmip_probe::run_probe;
 use kmip_schedule::Link;

@@ -1,6 +1,6 @@
 //! The program `serve`, over sockets.
 
-use crate::options::ServeOptions;
+use kmip_choices::ServeOptions;
 use kmip_commands::{CommandFault, ExitStatus};
 use kmip_server::{IndexedStore, Server};
 use kmip_store::{MOST_ROOM, SEED};

@@ -141,7 +141,8 @@ impl Part {
 
     /// The run, where no further word is taken.
     fn run(self, save: bool) -> Run
-        ensures { result ≡ record { start = self.start; limit = self.limit; batch = 1; save = save } }
+        ensures { result ≡
+            record { start = self.start; limit = self.limit; batch = 1; save = save } }
     {
         Run {
             start: self.start,

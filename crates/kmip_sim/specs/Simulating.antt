@@ -13,8 +13,8 @@ use Rattle.kmip_scripted.specs.declared.script.Word.{Word}
 use Rattle.kmip_simulation.specs.Simulating.{AreSimulated, IsSimulated}
 use Rattle.kmip_simulation.specs.SimText.{is_last_finished, sim_text}
 use Rattle.kmip_simulation.specs.Tracing.{trace_text}
-use Rattle.kmip_sim.specs.declared.detail.Detail.{Detail}
-use Rattle.kmip_sim.specs.declared.detail.Detail.TheVariants.{Exchanges}
+use Rattle.kmip_choices.specs.declared.detail.Detail.{Detail}
+use Rattle.kmip_choices.specs.declared.detail.Detail.TheVariants.{Exchanges}
 use Rattle.kmip_ttlv.specs.declared.fault.NoMemory.{NoMemory}
 use Rattle.kmip_check.specs.Checking.{plan_refusal_text}
 

@@ -4,8 +4,7 @@
 //! program ends. `sim_bytes` does the same work in memory, where nothing but memory can fail.
 #![tactic(auto)]
 
-mod detail;
 mod simulating;
 
-pub use detail::Detail;
+pub use kmip_choices::Detail;
 pub use simulating::{run_sim, sim, sim_bytes};

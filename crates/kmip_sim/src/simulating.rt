@@ -22,8 +22,8 @@ ghost use Rattle.kmip_sim.specs.Simulating.{
   simulation_text,
 };
 
-use crate::detail::Detail;
 use kmip_check::push_refusal;
+use kmip_choices::Detail;
 use kmip_commands::{CommandFault, ExitStatus, finished, push_text, send};
 use kmip_plan::{Plan, PlanFault, prolongs, read_plan};
 use kmip_scripted::{Script, ScriptFault, read_script};
@@ -202,7 +202,8 @@ fn told_of_script(
     script: &str,
 ) -> Result<Told, NoMemory>
     requires batch { IsTrue (may_have batch) }
-    ensures { IfOk result (λ told. TellsSim detail batch (Ok plan.now) None told.ended told.text.items) }
+    ensures { IfOk result (λ told.
+        TellsSim detail batch (Ok plan.now) None told.ended told.text.items) }
 {
     match script_in(alloc, script, 0) {
         Ok(script) => told_of_simulation(alloc, detail, batch, plan, script),
@@ -285,7 +286,8 @@ fn told_of_simulation(
 ) -> Result<Told, NoMemory>
     requires batch { IsTrue (may_have batch) }
     requires none { prolongings script ≡ 0 }
-    ensures { IfOk result (λ told. TellsSimulation detail batch plan.now told.ended told.text.items) }
+    ensures { IfOk result (λ told.
+        TellsSimulation detail batch plan.now told.ended told.text.items) }
 {
     let simulation = simulate(alloc, plan, script, batch)?;
     let told = told_of_end(alloc, detail, &simulation)?;

@@ -5,5 +5,5 @@
 use std::process::ExitCode;
 
 fn main(rt: HostRuntime) -> ExitCode {
-    kmip_command_line::run(&rt)
+    kmip_program::run(&rt)
 }

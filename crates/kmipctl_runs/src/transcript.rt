@@ -1,7 +1,8 @@
 //! A text of commands and of the files that they name, line by line.
 
-use kmip_command_line::{chosen, run_words};
+use kmip_command_line::chosen;
 use kmip_commands::{ExitStatus, Form, run_answer, run_answer_stream, run_show};
+use kmip_program::run_words;
 use std::fs;
 use std::io::{self, BufWriter};
 

@@ -1,10 +1,10 @@
 //! The commands, over standard input, files and standard output.
 
-use crate::Choice;
 use kmip_check::{check_after_bytes, run_check, run_check_after};
+use kmip_choices::{Choice, Detail};
 use kmip_commands::{ExitStatus, Form, run_answer, run_answer_stream, run_show};
 use kmip_network::{batch_of, probe_server, refusal_of, run_plan, serve, text_or_why_not};
-use kmip_sim::{Detail, run_sim};
+use kmip_sim::run_sim;
 use std::io;
 use std::io::{BufReader, BufWriter, Error, ErrorKind};
 
@@ -12,7 +12,7 @@ use std::io::{BufReader, BufWriter, Error, ErrorKind};
 ///
 /// # Errors
 /// Want of memory, or that standard output failed, where neither is the command's own.
-pub fn carry_out(rt: &HostRuntime, choice: Choice) -> io::Result<ExitStatus> {
+pub(crate) fn carry_out(rt: &HostRuntime, choice: Choice) -> io::Result<ExitStatus> {
     match choice {
         Choice::Answer => answer_input(rt),
         Choice::AnswerStream => answer_stream_input(rt),

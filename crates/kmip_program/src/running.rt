@@ -1,7 +1,7 @@
 //! The program: what its command line asks for, done.
 
-use crate::{chosen, status_of};
-use kmip_choices::carry_out;
+use crate::doing::carry_out;
+use kmip_command_line::{chosen, status_of};
 use kmip_commands::{CommandFault, ExitStatus};
 use std::io::{Error, ErrorKind};
 use std::process::ExitCode;

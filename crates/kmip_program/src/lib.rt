@@ -1,0 +1,8 @@
+//! The program `kmipctl` as a function: what the words of its command line ask for, done over standard
+//! input, files, sockets and standard output.
+#![tactic(auto)]
+
+mod doing;
+mod running;
+
+pub use running::{run, run_words};
