@@ -2,7 +2,6 @@
 ghost use Rattle.std.specs.Prelude.{◌<◌, length};
 
 use crate::asserting::assert_number;
-use crate::lifecycle::STREAM;
 use crate::serving::{CREATE_K2, is_k1_alone, reply_to, server_of};
 use kmip_batches::read_reply;
 use kmip_messages::Outcome;
@@ -24,6 +23,13 @@ const MISSING_REPLY: &str = "\
     000000020000000042006b020000000400000001000000004200920900000008\
     000000000000000042000d0200000004000000010000000042000f0100000020\
     42007f0500000004000000010000000042007e05000000040000000600000000";
+
+/// The first 96 bytes of the stream of ChaCha20 under a key of zeros (RFC 8439, appendix A.1).
+const STREAM: [&str; 3] = [
+    "76b8e0ada0f13d90405d6ae55386bd28bdd219b8a08ded1aa836efcc8b770dc7",
+    "da41597c5157488d7724e03fb8d84a376a43b8f41518a11cc387b669b2ee6586",
+    "9f07e7be5551387a98ba977c732d080dcb0f29a048e3656912c6533e32ee7aed",
+];
 
 /// A row of the server: its identifier, its name, and its state. It has the other attributes of
 /// `CREATE_K1` and, until it is destroyed, the next 32 bytes of the stream.

@@ -5,10 +5,7 @@ use crate::asserting::{assert_bytes, assert_number, assert_text};
 use kmip_objects::KeyState;
 use kmip_server::Server;
 use kmip_store::{ListStore, Records};
-use kmip_vectors::{
-    ALL, CREATE_K1, CREATE_K1_REPLY, INVALID_MESSAGE_REPLY, LOCATE_K1, LOCATE_K1_FOUND,
-    LOCATE_K1_NONE, NAME_USED_REPLY,
-};
+use kmip_vectors::{ALL, CREATE_K1, CREATE_K1_REPLY, INVALID_MESSAGE_REPLY, NAME_USED_REPLY};
 use std::alloc::Global;
 use std::process::Abort;
 use std::test::Fail;
@@ -25,7 +22,7 @@ pub const CREATE_K2: &str = "\
     0000000c00000000";
 
 /// The reply to `CREATE_K2` where the room is used up.
-pub const FULL_REPLY: &str = "\
+const FULL_REPLY: &str = "\
     42007b010000009842007a0100000048420069010000002042006a0200000004\
     000000020000000042006b020000000400000001000000004200920900000008\
     000000000000000042000d0200000004000000010000000042000f0100000040\
@@ -40,94 +37,6 @@ pub fn reply_to(alloc: Global, server: &mut Server<ListStore>, text: &str) -> Re
     Ok(text)
 }
 
-/// A request with digits put in place of others, and how it is answered.
-struct Row {
-    name: &'static str,
-    from: &'static str,
-    to: &'static str,
-    answer: &'static str,
-}
-
-/// Changes of `CREATE_K1`, each with the reason of its refusal.
-const REFUSED: [Row; 6] = [
-    Row {
-        name: "a name that is used",
-        from: "6b31",
-        to: "6b31",
-        answer: "00000035",
-    },
-    Row {
-        name: "a space in the name",
-        from: "6b31000000000000",
-        to: "6b20000000000000",
-        answer: "00000007",
-    },
-    Row {
-        name: "another algorithm",
-        from: "42002805000000040000000300000000",
-        to: "42002805000000040000000400000000",
-        answer: "00000007",
-    },
-    Row {
-        name: "another attribute in place of the usage",
-        from: "42002c0200000004",
-        to: "5400010200000004",
-        answer: "00000007",
-    },
-    Row {
-        name: "another item in place of the object type",
-        from: "4200570500000004",
-        to: "5400010500000004",
-        answer: "00000006",
-    },
-    Row {
-        name: "another length under the same algorithm",
-        from: "42002a02000000040000010000000000",
-        to: "42002a02000000040000020000000000",
-        answer: "00000007",
-    },
-];
-
-/// Changes of `LOCATE_K1`, each with the reply, where `k1` is not destroyed.
-const LOCATED: [Row; 6] = [
-    Row {
-        name: "no change",
-        from: "6b31",
-        to: "6b31",
-        answer: LOCATE_K1_FOUND,
-    },
-    Row {
-        name: "another name",
-        from: "6b31000000000000",
-        to: "6b32000000000000",
-        answer: LOCATE_K1_NONE,
-    },
-    Row {
-        name: "a longer name",
-        from: "42005507000000026b31000000000000",
-        to: "42005507000000036b31310000000000",
-        answer: LOCATE_K1_NONE,
-    },
-    Row {
-        name: "only what is on-line",
-        from: "42008e02000000040000000500000000",
-        to: "42008e02000000040000000100000000",
-        answer: LOCATE_K1_FOUND,
-    },
-    Row {
-        name: "only what is destroyed",
-        from: "42008e02000000040000000500000000",
-        to: "42008e02000000040000000400000000",
-        answer: LOCATE_K1_NONE,
-    },
-    Row {
-        name: "no mask",
-        from: "42008e0200000004",
-        to: "5400010200000004",
-        answer: LOCATE_K1_FOUND,
-    },
-];
-
 /// A server with room for this many objects, and without any.
 pub fn server_of(alloc: Global, room: usize) -> Server<ListStore>
     requires { room ≤ 10000 }
@@ -136,7 +45,7 @@ pub fn server_of(alloc: Global, room: usize) -> Server<ListStore>
 }
 
 /// The server answers a message with this reply, both in hexadecimal.
-pub fn assert_reply(
+fn assert_reply(
     rt: &impl Abort,
     alloc: Global,
     server: &mut Server<ListStore>,
@@ -146,32 +55,6 @@ pub fn assert_reply(
 ) -> Result<(), Fail> {
     let reply = reply_to(alloc, server, message)?;
     assert_text(rt, reply.as_str(), wanted, case);
-    Ok(())
-}
-
-/// Asks the server a request with the row's digits, and compares the reply.
-fn ask(
-    rt: &impl Abort,
-    alloc: Global,
-    server: &mut Server<ListStore>,
-    request: &str,
-    row: &Row,
-    wanted: &str,
-) -> Result<(), Fail> {
-    let message = request.replace(alloc, row.from, row.to)?;
-    assert_reply(rt, alloc, server, message.as_str(), wanted, row.name)
-}
-
-/// Asks the server a Create with the row's digits, which it refuses for the row's reason.
-fn refuse(
-    rt: &impl Abort,
-    alloc: Global,
-    server: &mut Server<ListStore>,
-    row: &Row,
-) -> Result<(), Fail> {
-    let wanted = NAME_USED_REPLY.replace(alloc, "00000035", row.answer)?;
-    ask(rt, alloc, server, CREATE_K1, row, wanted.as_str())?;
-    assert_k1_alone(rt, server.records(), row.name);
     Ok(())
 }
 
@@ -236,21 +119,6 @@ fn answers_what_is_no_request(rt: HostRuntime) -> Result<(), Fail> {
         answer_fronts(&rt, rt.alloc(), &mut server, text, wanted.as_slice(), name)?;
     }
     assert_number(&rt, server.records().count(), 0, "the rows");
-    Ok(())
-}
-
-#[test]
-fn refuses_and_changes_nothing(rt: HostRuntime) -> Result<(), Fail> {
-    let mut server = server_of(rt.alloc(), 10_000);
-    let made = CREATE_K1_REPLY;
-    assert_reply(&rt, rt.alloc(), &mut server, CREATE_K1, made, "made")?;
-    for row in &REFUSED {
-        refuse(&rt, rt.alloc(), &mut server, row)?;
-    }
-    for row in &LOCATED {
-        ask(&rt, rt.alloc(), &mut server, LOCATE_K1, row, row.answer)?;
-    }
-    assert_k1_alone(&rt, server.records(), "looked for");
     Ok(())
 }
 

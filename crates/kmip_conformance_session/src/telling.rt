@@ -7,10 +7,10 @@ use kmip_batches::read_request;
 use kmip_client::Client;
 use kmip_messages::{Ask, Request};
 use kmip_objects::KeyAttrs;
-use kmip_plan::{Plan, bound, read_plan};
-use kmip_scripted::{Scripted, Word};
+use kmip_plan::{Plan, read_plan};
+use kmip_scripted::Scripted;
 use kmip_server::{ListStore, Records, Server};
-use kmip_session::{Run, RunEnd, Start, campaign, drive, report};
+use kmip_session::{Run, RunEnd, campaign, drive, report};
 use std::alloc::{AllocError, Global};
 use std::process::Abort;
 use std::str::from_utf8;
@@ -42,57 +42,6 @@ pub fn server_of(alloc: Global) -> Server<ListStore> {
     Server::new(ListStore::new(alloc, [0; 32], 10_000))
 }
 
-/// The run that begins with this, and has no exchange yet.
-fn run_from(start: Start) -> Run {
-    Run {
-        start,
-        limit: 0,
-        batch: 1,
-        save: false,
-    }
-}
-
-/// What the first run after a `restart` begins with.
-fn start_of(number: Option<usize>) -> Start {
-    match number {
-        Some(number) => Start::Saved(number),
-        None => Start::Fresh,
-    }
-}
-
-/// The runs of a script, as one list. A run may make as many exchanges as it has words of one, and the last run
-/// as many more as its plan takes at most. What has no word before its `restart` is no run.
-pub fn runs_of(alloc: Global, plan: &Plan, words: &[Word]) -> Result<Vec<Run>, AllocError> {
-    let mut runs = Vec::new(alloc);
-    let mut run = run_from(Start::Fresh);
-    let mut is_begun = false;
-    for word in words {
-        match *word {
-            Word::Save | Word::Prolong => {
-                run.save = true;
-                runs.push(run)?;
-                run = run_from(Start::Same);
-                is_begun = false;
-            }
-            Word::Restart(number) => {
-                if is_begun {
-                    runs.push(run)?;
-                }
-                run = run_from(start_of(number));
-                is_begun = false;
-            }
-            Word::Again(_) => is_begun = true,
-            Word::Pass | Word::LoseRequest | Word::LoseReply | Word::Cut(_) | Word::Stale(_) => {
-                run.limit = run.limit.saturating_add(1);
-                is_begun = true;
-            }
-        }
-    }
-    run.limit = run.limit.saturating_add(bound(plan));
-    runs.push(run)?;
-    Ok(runs)
-}
-
 /// Whether each of the runs asks about one to eight keys in a message, as a campaign may.
 fn may_batch(runs: &[Run]) -> bool
     ensures { result ≡ true → MayBatch runs.now }
@@ -100,24 +49,8 @@ fn may_batch(runs: &[Run]) -> bool
     runs.iter().all(|run| 1 <= run.batch && run.batch <= 8)
 }
 
-/// What a campaign of these runs over the link tells.
-pub fn told<S: Records>(
-    rt: &impl Abort,
-    alloc: Global,
-    plan: &Plan,
-    link: &mut Scripted<S>,
-    runs: &[Run],
-) -> Result<String, Fail> {
-    assert!(rt; may_batch(runs));
-    let end = campaign(alloc, plan, link, runs);
-    assert_eq!(rt; end.fault, None);
-    let mut text = told_runs(alloc, end.runs.as_slice())?;
-    push_asks(rt, alloc, &mut text, link)?;
-    push_records(&mut text, link.server().records())?;
-    Ok(text)
-}
-
-/// The same in short: without the reports, and with the records in one line.
+/// What a campaign of these runs over the link tells, without the reports of its runs, and with the records
+/// in one line.
 pub fn told_in_short<S: Records>(
     rt: &impl Abort,
     alloc: Global,
@@ -150,18 +83,7 @@ pub fn told_of_drive<S: Records>(
     Ok(text)
 }
 
-/// How each run ended, and its report.
-fn told_runs(alloc: Global, runs: &[RunEnd]) -> Result<String, AllocError> {
-    let mut text = String::new(alloc);
-    for (place, run) in runs.iter().enumerate() {
-        let number = place + 1;
-        writeln!(text, "run {number} {} {}", run.stop.name(), run.exchanges)?;
-        text.push_str(run.report.as_str())?;
-    }
-    Ok(text)
-}
-
-/// How each run ended, without its report.
+/// How each run ended.
 fn told_ends(alloc: Global, runs: &[RunEnd]) -> Result<String, AllocError> {
     let mut text = String::new(alloc);
     for (place, run) in runs.iter().enumerate() {

@@ -50,24 +50,22 @@ fn try_again(
     Ok(())
 }
 
-#[test]
-fn a_second_campaign_finds_all_done(rt: HostRuntime) -> Result<(), Fail> {
+/// Carries out a random script for each plan of two keys, in messages about so many at most.
+fn try_plans(rt: &impl Abort, alloc: Global, batches: (usize, usize)) -> Result<(), Fail> {
     let mut rng = ChaCha20Rng::from_seed([22; 32]);
     for first in TARGETS {
         for second in TARGETS {
-            try_again(&rt, rt.alloc(), (1, 1), first, second, &mut rng)?;
+            try_again(rt, alloc, batches, first, second, &mut rng)?;
         }
     }
     Ok(())
 }
 
+/// In messages about one key, and in fewer than before.
 #[test]
-fn a_second_campaign_asks_about_fewer_at_once(rt: HostRuntime) -> Result<(), Fail> {
-    let mut rng = ChaCha20Rng::from_seed([24; 32]);
-    for first in TARGETS {
-        for second in TARGETS {
-            try_again(&rt, rt.alloc(), (8, 1), first, second, &mut rng)?;
-        }
+fn a_second_campaign_finds_all_done(rt: HostRuntime) -> Result<(), Fail> {
+    for batches in [(1, 1), (8, 1)] {
+        try_plans(&rt, rt.alloc(), batches)?;
     }
     Ok(())
 }

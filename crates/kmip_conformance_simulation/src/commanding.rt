@@ -25,15 +25,14 @@ usage = ["encrypt", "decrypt"]
 target = "discarded"
 "#;
 
-/// What is simulated for a plan: how it is told, a further plan, and a script; how it ends, and what is
+/// What is simulated for `CREATED`: how it is told, a further plan, and a script; how it ends, and what is
 /// written.
-#[derive(Clone, Copy)]
-pub struct Row<'a> {
-    pub detail: Detail,
-    pub further: Option<&'a str>,
-    pub script: &'a str,
-    pub status: ExitStatus,
-    pub text: &'a str,
+struct Row {
+    detail: Detail,
+    further: Option<&'static str>,
+    script: &'static str,
+    status: ExitStatus,
+    text: &'static str,
 }
 
 /// Nothing is lost.
@@ -46,8 +45,7 @@ ask 2 Create k1
 record 1 k1 PreActive
 ";
 
-/// The plan is `CREATED`, whose one key is asked about alone, however many a message may ask about.
-const ROWS: [Row<'static>; 6] = [
+const ROWS: [Row; 6] = [
     Row {
         detail: Detail::Runs,
         further: None,
@@ -146,44 +144,23 @@ fn check_text(rt: &impl Abort, written: &[u8], text: &str) {
 }
 
 /// Whether it ended and wrote as the row says.
-fn check_end(rt: &impl Abort, row: &Row<'_>, status: ExitStatus, written: &[u8]) {
+fn check_end(rt: &impl Abort, row: &Row, status: ExitStatus, written: &[u8]) {
     assert_eq!(rt; status, row.status);
     check_text(rt, written, row.text);
 }
 
 /// Simulates the row by each function.
-fn check_row(
-    rt: &impl Abort,
-    alloc: Global,
-    batch: usize,
-    plan: &str,
-    row: &Row<'_>,
-) -> Result<(), Fail> {
-    assert!(rt; 1 <= batch && batch <= 8);
+fn check_row(rt: &impl Abort, alloc: Global, row: &Row) -> Result<(), Fail> {
     let (detail, further, script) = (row.detail, row.further, row.script);
     let mut written = Vec::new(alloc);
-    let is_refused = sim_bytes(alloc, detail, batch, plan, further, script, &mut written)?;
+    let is_refused = sim_bytes(alloc, detail, 1, CREATED, further, script, &mut written)?;
     check_end(rt, row, status_of(is_refused), written.as_slice());
     let mut written = Vec::new(alloc);
-    let is_refused = sim(alloc, detail, batch, plan, further, script, &mut written)?;
+    let is_refused = sim(alloc, detail, 1, CREATED, further, script, &mut written)?;
     check_end(rt, row, status_of(is_refused), written.as_slice());
     let mut written = Vec::new(alloc);
-    let status = run_sim(alloc, detail, batch, plan, further, script, &mut written);
+    let status = run_sim(alloc, detail, 1, CREATED, further, script, &mut written);
     check_end(rt, row, status, written.as_slice());
-    Ok(())
-}
-
-/// Simulates each row for this plan, in messages about so many keys at most.
-pub fn check_rows(
-    rt: &impl Abort,
-    alloc: Global,
-    batch: usize,
-    plan: &str,
-    rows: &[Row<'_>],
-) -> Result<(), Fail> {
-    for row in rows {
-        check_row(rt, alloc, batch, plan, row)?;
-    }
     Ok(())
 }
 
@@ -217,12 +194,10 @@ fn check_late_word(
 
 #[test]
 fn simulates_by_each_function(rt: HostRuntime) -> Result<(), Fail> {
-    check_rows(&rt, rt.alloc(), 1, CREATED, ROWS.as_slice())
-}
-
-#[test]
-fn asks_about_the_only_key_alone(rt: HostRuntime) -> Result<(), Fail> {
-    check_rows(&rt, rt.alloc(), 8, CREATED, ROWS.as_slice())
+    for row in &ROWS {
+        check_row(&rt, rt.alloc(), row)?;
+    }
+    Ok(())
 }
 
 #[test]

@@ -8,8 +8,6 @@
 #[cfg(test)]
 mod again;
 #[cfg(test)]
-mod batching;
-#[cfg(test)]
 mod commanding;
 #[cfg(test)]
 mod foreign;

@@ -55,12 +55,11 @@ fn check_fifty(rt: &impl Abort, alloc: Global, seed: u8, batch: usize) -> Result
     check_at_targets(rt, &plan, simulation.link.server().records())
 }
 
+/// In messages about one key, and about three.
 #[test]
 fn fifty_runs_from_nothing_from_before_and_from_saves(rt: HostRuntime) -> Result<(), Fail> {
-    check_fifty(&rt, rt.alloc(), 20, 1)
-}
-
-#[test]
-fn fifty_runs_in_messages_about_three_keys(rt: HostRuntime) -> Result<(), Fail> {
-    check_fifty(&rt, rt.alloc(), 26, 3)
+    for batch in [1, 3] {
+        check_fifty(&rt, rt.alloc(), 20, batch)?;
+    }
+    Ok(())
 }

@@ -4,7 +4,8 @@
 //! for each reply about another key.
 
 use crate::making::{
-    TARGETS, plan_of, plan_of_many, plan_of_two, random_batch, random_message_word,
+    TARGETS, check_at_targets, plan_of, plan_of_many, plan_of_two, random_batch,
+    random_message_word,
 };
 use kmip_plan::{Plan, bound};
 use kmip_scripted::{Script, Word, read_script};
@@ -18,6 +19,7 @@ use std::test::Fail;
 
 /// The names of a plan's keys and their targets, a script of one run, how many exchanges it takes, and how many of
 /// them are disturbed, and strange.
+#[derive(Clone, Copy)]
 struct Row {
     keys: &'static [(&'static str, &'static str)],
     script: &'static str,
@@ -224,7 +226,7 @@ fn check_row(
     assert_eq!(rt; simulation.link.disturbed(), row.disturbed);
     assert_eq!(rt; simulation.link.disturbed_requests(), requests);
     assert_eq!(rt; simulation.link.strange(), row.strange);
-    Ok(())
+    check_at_targets(rt, &plan, simulation.link.server().records())
 }
 
 #[test]
@@ -244,9 +246,42 @@ fn takes_as_many_in_messages_about_several_keys(rt: HostRuntime) -> Result<(), F
     Ok(())
 }
 
-/// What disturbed exchanges may cost: three each, and one more each that was strange.
-fn cost(disturbed: usize, strange: usize) -> usize {
-    let twice = disturbed.saturating_add(disturbed);
+/// Nine keys, whose targets come in turn. They need 31 questions: 2, 3, 4, 5 and 3 for the first five, and
+/// 2, 3, 4 and 5 for the others.
+const NINE: &[(&str, &str)] = &[
+    ("k0", "created"),
+    ("k1", "active"),
+    ("k2", "revoked"),
+    ("k3", "destroyed"),
+    ("k4", "discarded"),
+    ("k5", "created"),
+    ("k6", "active"),
+    ("k7", "revoked"),
+    ("k8", "destroyed"),
+];
+
+/// How many exchanges they take where nothing is lost, in messages about one to eight of them.
+const EXCHANGES_OF_NINE: [usize; 8] = [31, 16, 11, 9, 7, 7, 6, 6];
+
+#[test]
+fn takes_fewer_exchanges_the_more_it_asks_at_once(rt: HostRuntime) -> Result<(), Fail> {
+    for (place, exchanges) in EXCHANGES_OF_NINE.iter().enumerate() {
+        let row = Row {
+            keys: NINE,
+            script: "",
+            exchanges: *exchanges,
+            disturbed: 0,
+            strange: 0,
+        };
+        check_row(&rt, rt.alloc(), &row, place + 1, 0)?;
+    }
+    Ok(())
+}
+
+/// What disturbed exchanges may cost that sent so many requests: one each, two for each request, and one
+/// for each reply about another key.
+fn cost(disturbed: usize, requests: usize, strange: usize) -> usize {
+    let twice = requests.saturating_add(requests);
     twice.saturating_add(disturbed).saturating_add(strange)
 }
 
@@ -259,84 +294,54 @@ fn random_run(alloc: Global, rng: &mut ChaCha20Rng) -> Result<Script, AllocError
     Ok(Script::new(words))
 }
 
-/// Carries out 2,000 random runs, and says how many of their exchanges were disturbed, and how many
-/// exchanges fewer than they might they took at the least.
-#[test]
-fn random_runs_take_no_more_than_the_bound_and_their_losses(rt: HostRuntime) -> Result<(), Fail> {
-    let mut rng = ChaCha20Rng::from_seed([5; 32]);
-    let (mut disturbed, mut strange, mut spared) = (0usize, 0usize, usize::MAX);
-    for number in 0..2_000 {
-        let first = TARGETS[number % 5];
-        let second = TARGETS[number / 5 % 5];
-        let plan = plan_of_two(rt.alloc(), first, second)?;
-        let script = random_run(rt.alloc(), &mut rng)?;
-        assert_eq!(rt; script.prolongings(), 0);
-        let simulation = simulate(rt.alloc(), &plan, script, 1)?;
-        let end = simulation.end.runs.first().ok_or("no run")?;
-        assert_eq!(rt; end.stop, Stop::AllFinished);
-        assert_eq!(rt;
-            simulation.link.disturbed_requests(),
-            simulation.link.disturbed()
-        );
-        let (lost, other) = (simulation.link.disturbed(), simulation.link.strange());
-        let most = bound(&plan).saturating_add(cost(lost, other));
-        assert!(rt; end.exchanges <= most);
-        disturbed = disturbed.saturating_add(lost);
-        strange = strange.saturating_add(other);
-        spared = spared.min(most - end.exchanges);
-    }
-    rt.println(format_args!(
-        "2,000 runs: {disturbed} exchanges disturbed, {strange} of them strange; the nearest run took \
-         {spared} fewer than the bound"
-    ))?;
-    Ok(())
-}
-
-/// What disturbed exchanges may cost that sent so many requests: one each, two for each request, and one
-/// for each reply about another key.
-fn cost_of_messages(disturbed: usize, requests: usize, strange: usize) -> usize {
-    let twice = requests.saturating_add(requests);
-    twice.saturating_add(disturbed).saturating_add(strange)
-}
-
-/// Carries out a random run for the plan, in messages about a random number of keys, and says how many
-/// requests its disturbed exchanges sent, and how many exchanges fewer than it might it took.
-fn try_batched(
+/// Carries out a random run for the plan, in messages about so many keys at most, and says how many
+/// exchanges fewer than it might it took.
+fn try_run(
     rt: &impl Abort,
     alloc: Global,
     plan: &Plan,
+    batch: usize,
     rng: &mut ChaCha20Rng,
-) -> Result<(usize, usize), Fail> {
-    let script = random_run(alloc, rng)?;
-    let batch = random_batch(rng);
-    assert_eq!(rt; script.prolongings(), 0);
+) -> Result<usize, Fail> {
     assert!(rt; 1 <= batch && batch <= 8);
+    let script = random_run(alloc, rng)?;
+    assert_eq!(rt; script.prolongings(), 0);
     let simulation = simulate(alloc, plan, script, batch)?;
     let end = simulation.end.runs.first().ok_or("no run")?;
     assert_eq!(rt; end.stop, Stop::AllFinished);
     let link = &simulation.link;
-    let requests = link.disturbed_requests();
-    let losses = cost_of_messages(link.disturbed(), requests, link.strange());
+    let (disturbed, requests) = (link.disturbed(), link.disturbed_requests());
+    assert!(rt; batch > 1 || requests == disturbed);
+    let losses = cost(disturbed, requests, link.strange());
     let most = bound(plan).saturating_add(losses);
     assert!(rt; end.exchanges <= most);
-    Ok((requests, most - end.exchanges))
+    Ok(most - end.exchanges)
 }
 
-/// Carries out 300 such runs, for one to nine keys, and says how many requests their disturbed exchanges
-/// sent, and how many exchanges fewer than they might they took at the least.
+/// Carries out 2,000 random runs about two keys, one in a message, and says how many exchanges fewer
+/// than they might they took at the least.
+#[test]
+fn random_runs_take_no_more_than_the_bound_and_their_losses(rt: HostRuntime) -> Result<(), Fail> {
+    let mut rng = ChaCha20Rng::from_seed([5; 32]);
+    let mut spared = usize::MAX;
+    for number in 0..2_000 {
+        let plan = plan_of_two(rt.alloc(), TARGETS[number % 5], TARGETS[number / 5 % 5])?;
+        spared = spared.min(try_run(&rt, rt.alloc(), &plan, 1, &mut rng)?);
+    }
+    rt.println(format_args!("the nearest run took {spared} fewer than it might"))?;
+    Ok(())
+}
+
+/// The same of 300 runs about one to nine keys, a random number of them in a message.
 #[test]
 fn random_runs_about_several_keys_take_no_more_than_that(rt: HostRuntime) -> Result<(), Fail> {
     let mut rng = ChaCha20Rng::from_seed([6; 32]);
-    let (mut requests, mut spared) = (0usize, usize::MAX);
+    let mut spared = usize::MAX;
     for number in 0..300 {
         let plan = plan_of_many(rt.alloc(), 1 + number % 9)?;
-        let (sent, fewer) = try_batched(&rt, rt.alloc(), &plan, &mut rng)?;
-        requests = requests.saturating_add(sent);
-        spared = spared.min(fewer);
+        let batch = random_batch(&mut rng);
+        spared = spared.min(try_run(&rt, rt.alloc(), &plan, batch, &mut rng)?);
     }
-    rt.println(format_args!(
-        "300 runs about several keys: {requests} requests of disturbed exchanges; the nearest run took \
-         {spared} fewer than the bound"
-    ))?;
+    rt.println(format_args!("the nearest run took {spared} fewer than it might"))?;
     Ok(())
 }

@@ -26,20 +26,13 @@ fn push_key(text: &mut String, name: &str, target: &str) -> Result<(), AllocErro
     )
 }
 
-/// The text of the plan of keys with these names and targets.
-pub fn plan_text(alloc: Global, keys: &[(&str, &str)]) -> Result<String, AllocError> {
+/// The plan of keys with these names and targets.
+pub fn plan_of(alloc: Global, keys: &[(&str, &str)]) -> Result<Plan, Fail> {
     let mut text = String::new(alloc);
     for (name, target) in keys {
         push_key(&mut text, name, target)?;
     }
-    Ok(text)
-}
-
-/// The plan of keys with these names and targets.
-pub fn plan_of(alloc: Global, keys: &[(&str, &str)]) -> Result<Plan, Fail> {
-    let text = plan_text(alloc, keys)?;
-    let plan = read_plan(alloc, text.as_str())?;
-    Ok(plan)
+    Ok(read_plan(alloc, text.as_str())?)
 }
 
 /// A plan of two keys with these targets.
@@ -47,21 +40,14 @@ pub fn plan_of_two(alloc: Global, first: &str, second: &str) -> Result<Plan, Fai
     plan_of(alloc, &[("k0", first), ("k1", second)])
 }
 
-/// The text of a plan of so many keys, whose targets come in turn.
-pub fn text_of_many(alloc: Global, keys: usize) -> Result<String, AllocError> {
+/// A plan of so many keys, whose targets come in turn.
+pub fn plan_of_many(alloc: Global, keys: usize) -> Result<Plan, Fail> {
     let mut text = String::new(alloc);
     for number in 0..keys {
         let name = format!(in alloc; "k{number}")?;
         push_key(&mut text, name.as_str(), TARGETS[number % TARGETS.len()])?;
     }
-    Ok(text)
-}
-
-/// A plan of so many keys, whose targets come in turn.
-pub fn plan_of_many(alloc: Global, keys: usize) -> Result<Plan, Fail> {
-    let text = text_of_many(alloc, keys)?;
-    let plan = read_plan(alloc, text.as_str())?;
-    Ok(plan)
+    Ok(read_plan(alloc, text.as_str())?)
 }
 
 /// How many keys a message asks about at most: a random number from 1 to 8.

@@ -85,14 +85,12 @@ fn try_all(
     Ok(())
 }
 
+/// In messages about one key, and about both.
 #[test]
 fn prolonged_plans_end_at_the_further_targets(rt: HostRuntime) -> Result<(), Fail> {
     let mut rng = ChaCha20Rng::from_seed([21; 32]);
-    try_all(&rt, rt.alloc(), 1, &mut rng)
-}
-
-#[test]
-fn so_they_do_in_messages_about_both_keys(rt: HostRuntime) -> Result<(), Fail> {
-    let mut rng = ChaCha20Rng::from_seed([25; 32]);
-    try_all(&rt, rt.alloc(), 8, &mut rng)
+    for batch in [1, 8] {
+        try_all(&rt, rt.alloc(), batch, &mut rng)?;
+    }
+    Ok(())
 }

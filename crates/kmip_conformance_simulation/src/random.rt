@@ -62,23 +62,11 @@ fn try_scripts(rt: &impl Abort, alloc: Global, seed: u8) -> Result<(), Fail> {
 }
 
 #[test]
-fn the_first_scripts_end_at_the_targets(rt: HostRuntime) -> Result<(), Fail> {
-    try_scripts(&rt, rt.alloc(), 1)
-}
-
-#[test]
-fn the_second_scripts_end_at_the_targets(rt: HostRuntime) -> Result<(), Fail> {
-    try_scripts(&rt, rt.alloc(), 2)
-}
-
-#[test]
-fn the_third_scripts_end_at_the_targets(rt: HostRuntime) -> Result<(), Fail> {
-    try_scripts(&rt, rt.alloc(), 3)
-}
-
-#[test]
-fn the_last_scripts_end_at_the_targets(rt: HostRuntime) -> Result<(), Fail> {
-    try_scripts(&rt, rt.alloc(), 4)
+fn the_scripts_end_at_the_targets(rt: HostRuntime) -> Result<(), Fail> {
+    for seed in 1..=4 {
+        try_scripts(&rt, rt.alloc(), seed)?;
+    }
+    Ok(())
 }
 
 /// Plans of one to ten keys, of which a message has room for all, or not.
