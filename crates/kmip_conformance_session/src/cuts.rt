@@ -4,6 +4,7 @@
 use crate::telling::{are_as_planned, plan_of, server_of, told_in_short};
 use kmip_plan::Plan;
 use kmip_scripted::{Scripted, read_script};
+use kmip_server::ListStore;
 use kmip_session::{Run, Start};
 use std::alloc::Global;
 use std::process::Abort;
@@ -40,6 +41,19 @@ const ARRIVED: &str = "\
     ask 4 GetAttributes a, GetAttributes b\n\
     records a PreActive b PreActive\n";
 
+/// The run tells this where so many bytes arrive.
+fn assert_told(rt: &impl Abort, text: &str, told: &str, arriving: usize) {
+    assert_eq!(rt; text, told, "{arriving} bytes");
+}
+
+/// The second message is that long, and each object is as the plan has it.
+fn check_past(rt: &impl Abort, link: &Scripted<ListStore>) -> Result<(), Fail> {
+    let message = link.request(2).ok_or("no second message")?;
+    assert_eq!(rt; message.len(), SIZE);
+    assert!(rt; are_as_planned(link.server().records()));
+    Ok(())
+}
+
 /// A run where so many bytes of the second message arrive.
 fn finishes(
     rt: &impl Abort,
@@ -52,11 +66,8 @@ fn finishes(
     let script = read_script(alloc, words.as_str())?;
     let mut link = Scripted::new(alloc, server_of(alloc), script);
     let text = told_in_short(rt, alloc, plan, &mut link, &[RUN])?;
-    assert_eq!(rt; text.as_str(), told, "{arriving} bytes");
-    let message = link.request(2).ok_or("no second message")?;
-    assert_eq!(rt; message.len(), SIZE);
-    assert!(rt; are_as_planned(link.server().records()));
-    Ok(())
+    assert_told(rt, text.as_str(), told, arriving);
+    check_past(rt, &link)
 }
 
 #[test]

@@ -157,23 +157,53 @@ fn finishes_after_each_loss(rt: HostRuntime) -> Result<(), Fail> {
     Ok(())
 }
 
-/// Want of memory stops the run, and its exchange does not count; a second run goes on with what is
-/// known.
+/// The operation of the one question of the next message.
+fn next_operation(alloc: Global, client: &mut Client<'_>) -> Result<u32, Fail> {
+    let question = client.ask(alloc)?.ok_or("no message")?;
+    match question.parts.as_slice() {
+        [part] => Ok(part.operation),
+        _ => Err("not one question".into()),
+    }
+}
+
+/// Want of memory stops the run, and its exchange does not count; what is asked next is what the loss
+/// makes of it.
+fn stops(
+    rt: &impl Abort,
+    alloc: Global,
+    client: &mut Client<'_>,
+    link: &mut Faulty<ListStore>,
+    loss: &Loss,
+) -> Result<(), Fail> {
+    let (stop, made) = drive(alloc, client, link, 10);
+    assert_eq!(rt; stop, Stop::NoMemory);
+    assert_eq!(rt; made + 1, loss.at);
+    let operation = next_operation(alloc, client)?;
+    assert_eq!(rt; operation, loss.next, "at {}", loss.at);
+    Ok(())
+}
+
+/// A second run goes on with what is known.
+fn goes_on(
+    rt: &impl Abort,
+    alloc: Global,
+    client: &mut Client<'_>,
+    link: &mut Faulty<ListStore>,
+    loss: &Loss,
+) {
+    let (stop, rest) = drive(alloc, client, link, 10);
+    assert_eq!(rt; stop, Stop::AllFinished);
+    let total = loss.at.saturating_add(rest);
+    assert_eq!(rt; total, loss.total, "at {}", loss.at);
+}
+
+/// Both, over a link that wants memory once.
 fn wants_memory(rt: &impl Abort, alloc: Global, plan: &Plan, loss: &Loss) -> Result<(), Fail> {
     let mut link = calm_link(alloc);
     link.fail(failure_of(loss, Fault::NoMemory));
     let mut client = Client::fresh(alloc, plan)?;
-    let (stop, made) = drive(alloc, &mut client, &mut link, 10);
-    assert_eq!(rt; stop, Stop::NoMemory);
-    assert_eq!(rt; made + 1, loss.at);
-    let question = client.ask(alloc)?.ok_or("no message")?;
-    let [part] = question.parts.as_slice() else {
-        return Err("not one question".into());
-    };
-    assert_eq!(rt; part.operation, loss.next, "at {}", loss.at);
-    let (stop, rest) = drive(alloc, &mut client, &mut link, 10);
-    assert_eq!(rt; stop, Stop::AllFinished);
-    assert_eq!(rt; loss.at + rest, loss.total, "at {}", loss.at);
+    stops(rt, alloc, &mut client, &mut link, loss)?;
+    goes_on(rt, alloc, &mut client, &mut link, loss);
     let records = told_records(alloc, &link)?;
     assert_eq!(rt; records.as_str(), "k1 Active\n");
     Ok(())
