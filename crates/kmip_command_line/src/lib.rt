@@ -6,18 +6,17 @@ ghost use Rattle.clap.specs.Words.{kind_of};
 ghost use Rattle.kmip_command_line.specs.Statuses.{status_of};
 
 mod help;
+mod local;
 mod network;
 
 use clap::error::ErrorKind;
 use clap::{Arg, Command, Error};
-use help::{
-    ABOUT, AFTER, AFTER_HELP, ANSWER, ANSWER_LONG, CANON, CHECK, CHECK_LONG, PLAN, SCRIPT, SHOW,
-    SHOW_LONG, SIM, SIM_LONG, STREAM, THEN, TRACE,
-};
-use kmip_choices::{Choice, answer_of, check_of, detail_of, form_of, simulation_of};
+use help::{ABOUT, AFTER_HELP};
+use kmip_choices::{Choice, answer_of, form_of};
 use kmip_commands::{CommandFault, ExitStatus};
+use local::{answer_command, check_choice, check_command, show_command, sim_choice, sim_command};
 use network::{
-    WrongValue, batch, flag, probe_command, probe_options, run_command, run_options, serve_command,
+    WrongValue, probe_command, probe_options, run_command, run_options, serve_command,
     serve_options,
 };
 use std::alloc::{AllocError, Global};
@@ -35,18 +34,8 @@ pub fn chosen(alloc: Global, words: &[String]) -> Result<Choice, Error> {
     match matches.subcommand() {
         Some(("answer", options)) => Ok(answer_of(options.get_flag("stream"))),
         Some(("show", options)) => Ok(Choice::Show(form_of(options.get_flag("canon")))),
-        Some(("check", options)) => {
-            let plan = options.get_str("plan").unwrap_or("");
-            Ok(check_of(alloc, plan, options.get_str("after"))?)
-        }
-        Some(("sim", options)) => {
-            let plan = options.get_str("plan").unwrap_or("");
-            let script = options.get_str("script").unwrap_or("");
-            let detail = detail_of(options.get_flag("trace"));
-            let further = options.get_str("then");
-            let batch = options.get_one::<u64>("batch").unwrap_or(1);
-            Ok(simulation_of(alloc, plan, further, script, detail, batch)?)
-        }
+        Some(("check", options)) => Ok(check_choice(alloc, options)?),
+        Some(("sim", options)) => Ok(sim_choice(alloc, options)?),
         Some(("run", options)) => match run_options(alloc, options)? {
             Ok(options) => Ok(Choice::Run(options)),
             Err(fault) => Err(wrong_value(run_command(alloc)?, "kmipctl run", fault)?),
@@ -80,43 +69,14 @@ pub fn status_of(error: &Error) -> ExitStatus
 
 /// The commands, their options and their help.
 fn command<'a>(alloc: Global) -> Result<Command<'a>, AllocError> {
-    let answer = Command::new(alloc, "answer")
-        .about(ANSWER)
-        .long_about(ANSWER_LONG)
-        .arg(flag(alloc, "stream", STREAM))?;
-    let show = Command::new(alloc, "show")
-        .about(SHOW)
-        .long_about(SHOW_LONG)
-        .arg(flag(alloc, "canon", CANON))?;
-    let after = Arg::new(alloc, "after")
-        .long("after")
-        .value_name("PATH")
-        .help(AFTER);
-    let check = Command::new(alloc, "check")
-        .about(CHECK)
-        .long_about(CHECK_LONG)
-        .arg(path(alloc, "plan", PLAN))?
-        .arg(after)?;
-    let then = Arg::new(alloc, "then")
-        .long("then")
-        .value_name("PATH")
-        .help(THEN);
-    let sim = Command::new(alloc, "sim")
-        .about(SIM)
-        .long_about(SIM_LONG)
-        .arg(path(alloc, "plan", PLAN))?
-        .arg(then)?
-        .arg(path(alloc, "script", SCRIPT))?
-        .arg(batch(alloc))?
-        .arg(flag(alloc, "trace", TRACE))?;
     Command::new(alloc, "kmipctl")
         .version(VERSION)
         .about(ABOUT)
         .after_help(AFTER_HELP)
-        .subcommand(answer)?
-        .subcommand(show)?
-        .subcommand(check)?
-        .subcommand(sim)?
+        .subcommand(answer_command(alloc)?)?
+        .subcommand(show_command(alloc)?)?
+        .subcommand(check_command(alloc)?)?
+        .subcommand(sim_command(alloc)?)?
         .subcommand(run_command(alloc)?)?
         .subcommand(probe_command(alloc)?)?
         .subcommand(serve_command(alloc)?)

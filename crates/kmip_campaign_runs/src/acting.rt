@@ -1,0 +1,191 @@
+//! What is done over a link.
+ghost use Rattle.std.specs.Prelude.{◌≡◌, true};
+ghost use Rattle.kmip_session.specs.Campaign.{MayBatch};
+
+use crate::cases::{Case, plan_of};
+use crate::faulty::{Failure, Fault, Faulty};
+use crate::scripts::{link_of, script_of};
+use crate::telling::{
+    asked_told, ends_told, push_disturbed, ranges_told, records_told, targets_told,
+};
+use kmip_client::Client;
+use kmip_plan::Plan;
+use kmip_server::ListStore;
+use kmip_session::{Link, Run, Start, campaign, drive};
+use kmip_simulation::simulate;
+use std::alloc::Global;
+use std::test::Fail;
+
+const TOO_MANY: &str = "a message asks about one to eight keys";
+
+/// An exchange of the link is to fail: its number, and ` delivered` where its request is delivered first.
+pub fn fail(
+    alloc: Global,
+    link: &mut Faulty<ListStore>,
+    words: &str,
+    fault: &str,
+) -> Result<String, Fail> {
+    let (at, delivered) = words.split_once(' ').unwrap_or((words, ""));
+    link.fail(Failure {
+        at: at.parse()?,
+        fault: fault_of(fault)?,
+        is_delivered: delivered == "delivered",
+    });
+    Ok(String::new(alloc))
+}
+
+/// The fault of these words.
+fn fault_of(words: &str) -> Result<Fault, Fail> {
+    match words {
+        "the network fails" => Ok(Fault::Io),
+        "no message" => Ok(Fault::Frame),
+        "nothing" => Ok(Fault::Lost),
+        "no memory" => Ok(Fault::NoMemory),
+        "rubbish" => Ok(Fault::Rubbish),
+        "swapped" => Ok(Fault::Swapped),
+        _ => numbered_fault_of(words),
+    }
+}
+
+/// The fault of a word and a number.
+fn numbered_fault_of(words: &str) -> Result<Fault, Fail> {
+    let (word, number) = words.split_once(' ').ok_or("a fault")?;
+    let number: usize = number.parse()?;
+    match word {
+        "reply" => Ok(Fault::Reply(number)),
+        "alone" => Ok(Fault::Alone(number)),
+        "twice" => Ok(Fault::Twice(number)),
+        "repeated" => Ok(Fault::Repeated(number)),
+        _ => Err(Fail::new("no fault")),
+    }
+}
+
+/// A run of another client, which knows nothing, about other keys.
+pub fn earlier(
+    alloc: Global,
+    link: &mut Faulty<ListStore>,
+    limit: &str,
+    keys: &str,
+) -> Result<String, Fail> {
+    let plan = plan_of(alloc, keys)?;
+    let mut client = Client::fresh(alloc, &plan)?;
+    let (stop, made) = drive(alloc, &mut client, link, limit.parse()?);
+    Ok(format!(in alloc; "{} {made}", stop.name())?)
+}
+
+/// A run of the client.
+pub fn drive_on(alloc: Global, case: &mut Case<'_>, words: &str) -> Result<String, Fail> {
+    let (limit, most) = words.split_once(" by ").unwrap_or((words, ""));
+    if !most.is_empty() {
+        let most: usize = most.parse()?;
+        if !(1..=8).contains(&most) {
+            return Err(Fail::new(TOO_MANY));
+        }
+        case.client.set_batch(most);
+    }
+    let (stop, made) = drive(alloc, &mut case.client, &mut case.link, limit.parse()?);
+    Ok(format!(in alloc; "{} {made}", stop.name())?)
+}
+
+/// A campaign of the runs of these words.
+pub fn go_through(alloc: Global, case: &mut Case<'_>, words: &str) -> Result<String, Fail> {
+    let runs = runs_of(alloc, words)?;
+    if !may_batch(runs.as_slice()) {
+        return Err(Fail::new(TOO_MANY));
+    }
+    let end = campaign(alloc, case.plan, &mut case.link, runs.as_slice());
+    ends_told(alloc, &end)
+}
+
+/// The run ends over the link: what its script does then is done.
+pub fn finish(alloc: Global, link: &mut Faulty<ListStore>) -> Result<String, Fail> {
+    link.end_run(alloc)?;
+    Ok(String::new(alloc))
+}
+
+/// Whether each of the runs asks about one to eight keys in a message, as a campaign may.
+fn may_batch(runs: &[Run]) -> bool
+    ensures { result ≡ true → MayBatch runs.now }
+{
+    runs.iter().all(|run| 1 <= run.batch && run.batch <= 8)
+}
+
+fn runs_of(alloc: Global, words: &str) -> Result<Vec<Run>, Fail> {
+    let mut runs = Vec::new(alloc);
+    for words in words.split(", ") {
+        runs.push(run_of(words)?)?;
+    }
+    Ok(runs)
+}
+
+/// The run of these words, as `saved-1 2 by 3 saved`.
+fn run_of(words: &str) -> Result<Run, Fail> {
+    let (start, words) = words.split_once(' ').ok_or("a start")?;
+    let (limit, words) = words.split_once(" by ").ok_or("a limit")?;
+    let (batch, save) = words.split_once(' ').unwrap_or((words, ""));
+    Ok(Run {
+        start: start_of(start)?,
+        limit: limit.parse()?,
+        batch: batch.parse()?,
+        save: save == "saved",
+    })
+}
+
+fn start_of(word: &str) -> Result<Start, Fail> {
+    match word.split_once('-') {
+        Some((_, number)) => Ok(Start::Saved(number.parse()?)),
+        None if word == "same" => Ok(Start::Same),
+        None => Ok(Start::Fresh),
+    }
+}
+
+/// What campaigns of one run tell, which asks about eight keys in a message, where so many bytes of their
+/// second message arrive: from none to the number of these words, in ranges.
+pub fn cuts(alloc: Global, plan: &Plan, last: &str) -> Result<String, Fail> {
+    let last: usize = last.parse()?;
+    let mut tolds = Vec::new(alloc);
+    for arriving in 0..=last {
+        tolds.push(cut_told(alloc, plan, arriving)?)?;
+    }
+    ranges_told(alloc, tolds.as_slice())
+}
+
+/// What such a campaign tells.
+fn cut_told(alloc: Global, plan: &Plan, arriving: usize) -> Result<String, Fail> {
+    let script = format!(in alloc; "pass/cut {arriving}/")?;
+    let mut link = link_of(alloc, script.as_str())?;
+    let run = Run {
+        start: Start::Fresh,
+        limit: 10,
+        batch: 8,
+        save: false,
+    };
+    let end = campaign(alloc, plan, &mut link, &[run]);
+    let ends = ends_told(alloc, &end)?;
+    let asked = asked_told(alloc, link.link())?;
+    let records = records_told(alloc, link.link())?;
+    Ok(format!(in alloc;
+        "{}; {}; {}",
+        ends.as_str(),
+        asked.as_str(),
+        records.as_str()
+    )?)
+}
+
+/// The simulation of a script, with at most so many keys in a message.
+pub fn simulated(alloc: Global, plan: &Plan, most: &str, text: &str) -> Result<String, Fail> {
+    let most: usize = most.parse()?;
+    if !(1..=8).contains(&most) {
+        return Err(Fail::new(TOO_MANY));
+    }
+    let script = script_of(alloc, text)?;
+    if script.prolongings() != 0 {
+        return Err(Fail::new("a script of one plan has no `prolong`"));
+    }
+    let simulation = simulate(alloc, plan, script, most)?;
+    let mut text = ends_told(alloc, &simulation.end)?;
+    text.push_str("; ")?;
+    push_disturbed(&mut text, &simulation.link)?;
+    text.push_str(targets_told(plan, simulation.link.server().records()))?;
+    Ok(text)
+}

@@ -1,0 +1,121 @@
+//! A case, line by line.
+
+use crate::acting::{cuts, drive_on, earlier, fail, finish, go_through, simulated};
+use crate::faulty::Faulty;
+use crate::scripts::{link_of, lists_told, server_with, words_told};
+use crate::telling::{
+    asked_told, bytes_told, counts_told, known_told, next_told, records_told, report_told,
+};
+use kmip_client::Client;
+use kmip_plan::{Plan, read_plan};
+use kmip_scripted::{Script, Scripted};
+use kmip_server::ListStore;
+use std::alloc::Global;
+use std::test::Fail;
+
+/// A plan, a client of it, and a link to a server.
+#[derive(Drop)]
+pub struct Case<'p> {
+    pub plan: &'p Plan,
+    pub client: Client<'p>,
+    pub link: Faulty<ListStore>,
+}
+
+/// Does what the lines of a case say, whose plan has the keys that its first line names.
+pub fn hold_case(rt: &HostRuntime, head: &str, lines: &str) -> Result<(), Fail> {
+    rt.println(head)?;
+    let (_, keys) = head.split_once(": ").unwrap_or((head, ""));
+    let plan = plan_of(rt.alloc(), keys)?;
+    take_lines(rt, &plan, lines)?;
+    rt.println("end")?;
+    Ok(())
+}
+
+/// The plan of keys, each a name and a target.
+pub fn plan_of(alloc: Global, keys: &str) -> Result<Plan, Fail> {
+    let mut text = String::new(alloc);
+    for key in keys.split(", ") {
+        let (name, target) = key.split_once(' ').unwrap_or((key, ""));
+        write!(text, "[[key]]\nname = \"{name}\"\ntarget = \"{target}\"\n")?;
+        text.push_str("algorithm = \"AES\"\nlength = 256\nusage = [\"encrypt\", \"decrypt\"]\n")?;
+    }
+    Ok(read_plan(alloc, text.as_str())?)
+}
+
+/// Takes the lines of a case.
+fn take_lines(rt: &HostRuntime, plan: &Plan, lines: &str) -> Result<(), Fail> {
+    let client = Client::fresh(rt.alloc(), plan)?;
+    let link = link_of(rt.alloc(), "")?;
+    let mut case = Case { plan, client, link };
+    for line in lines.lines() {
+        if line.starts_with('#') {
+            rt.println(line)?;
+        } else {
+            take_line(rt, &mut case, line)?;
+        }
+    }
+    Ok(())
+}
+
+/// Prints a line with what is told of it, if anything.
+fn take_line(rt: &HostRuntime, case: &mut Case<'_>, line: &str) -> Result<(), Fail> {
+    let (head, given) = line.split_once(": ").unwrap_or((line, ""));
+    let (word, words) = head.split_once(' ').unwrap_or((head, ""));
+    let told = turn(rt.alloc(), case, word, words, given)?;
+    let between = if told.is_empty() { "" } else { " => " };
+    rt.println(format_args!("{line}{between}{told}"))?;
+    Ok(())
+}
+
+/// What is told of a line, once that is done which it says.
+fn turn(
+    alloc: Global,
+    case: &mut Case<'_>,
+    word: &str,
+    words: &str,
+    given: &str,
+) -> Result<String, Fail> {
+    match word {
+        "script" => {
+            case.link = link_of(alloc, given)?;
+            Ok(String::new(alloc))
+        }
+        "object" => {
+            let server = server_with(alloc, words)?;
+            let script = Script::new(Vec::new(alloc));
+            case.link = Faulty::new(Scripted::new(alloc, server, script));
+            Ok(String::new(alloc))
+        }
+        "fail" => fail(alloc, &mut case.link, words, given),
+        "earlier" => earlier(alloc, &mut case.link, words, given),
+        "drive" => drive_on(alloc, case, words),
+        "campaign" => go_through(alloc, case, given),
+        "finish" => finish(alloc, &mut case.link),
+        "next" => next_told(alloc, &mut case.client),
+        _ => look(alloc, case, word, words, given),
+    }
+}
+
+/// What is told of a line that changes nothing.
+fn look(
+    alloc: Global,
+    case: &Case<'_>,
+    word: &str,
+    words: &str,
+    given: &str,
+) -> Result<String, Fail> {
+    match word {
+        "known" => known_told(alloc, &case.client),
+        "report" => report_told(alloc, &case.client),
+        "asked" => asked_told(alloc, case.link.link()),
+        "request" => bytes_told(alloc, case.link.link().request(words.parse()?)),
+        "reply" => bytes_told(alloc, case.link.link().reply(words.parse()?)),
+        "records" => records_told(alloc, case.link.link()),
+        "counts" => counts_told(alloc, &case.link),
+        "words" => words_told(alloc, given),
+        "lists" => lists_told(alloc, case.plan, given),
+        "cuts" => cuts(alloc, case.plan, words),
+        "simulate" => simulated(alloc, case.plan, words, given),
+        _ => Err(Fail::new("no line of a case")),
+    }
+}

@@ -1,0 +1,103 @@
+//! Scripts, links that follow them, and the servers behind these.
+
+use crate::faulty::Faulty;
+use kmip_batches::{request_fits, write_request};
+use kmip_messages::{Ask, Request};
+use kmip_objects::KeyAttrs;
+use kmip_plan::Plan;
+use kmip_scripted::{Script, Scripted, read_script};
+use kmip_server::{ListStore, Server};
+use kmip_session::{Run, Start};
+use kmip_ttlv::Text;
+use std::alloc::{AllocError, Global};
+use std::slice::from_ref;
+use std::test::Fail;
+
+/// The script of a text in which `/` stands for a line feed.
+pub fn script_of(alloc: Global, text: &str) -> Result<Script, Fail> {
+    let text = text.replace(alloc, "/", "\n")?;
+    Ok(read_script(alloc, text.as_str())?)
+}
+
+/// A link to an empty server that follows such a script.
+pub fn link_of(alloc: Global, text: &str) -> Result<Faulty<ListStore>, Fail> {
+    let script = script_of(alloc, text)?;
+    Ok(Faulty::new(Scripted::new(alloc, server_of(alloc), script)))
+}
+
+/// A server with room for 10,000 objects, and without any.
+fn server_of(alloc: Global) -> Server<ListStore> {
+    Server::new(ListStore::new(alloc, [0; 32], 10_000))
+}
+
+/// A server with an object of this name and length, AES to encrypt and decrypt.
+///
+/// Source: KMIP 2.1, Cryptographic Algorithm (AES is 3), Cryptographic Usage Mask (encrypt is 4, decrypt 8).
+pub fn server_with(alloc: Global, words: &str) -> Result<Server<ListStore>, Fail> {
+    let (name, length) = words.split_once(' ').ok_or("a name and a length")?;
+    let attrs = KeyAttrs {
+        name: Text::copied(alloc, name)?,
+        algorithm: 3,
+        length: length.parse()?,
+        usage: 12,
+    };
+    let request = Request {
+        id: None,
+        ask: Ask::Create(attrs),
+    };
+    let requests = from_ref(&request);
+    if !request_fits(requests) {
+        return Err(Fail::new("the object does not fit"));
+    }
+    let message = write_request(alloc, requests)?;
+    let mut server = server_of(alloc);
+    server.handle(alloc, message.as_slice(), 0)?;
+    Ok(server)
+}
+
+/// The words of a script, and how often a plan is prolonged in it.
+pub fn words_told(alloc: Global, text: &str) -> Result<String, Fail> {
+    let script = script_of(alloc, text)?;
+    let prolongings = script.prolongings();
+    Ok(format!(in alloc; "{:?}, {prolongings} prolongings", script.words())?)
+}
+
+/// The runs that a script makes, list by list.
+pub fn lists_told(alloc: Global, plan: &Plan, text: &str) -> Result<String, Fail> {
+    let script = script_of(alloc, text)?;
+    let mut text = String::new(alloc);
+    if script.prolongings() == 0 {
+        let runs = script.runs(alloc, plan)?;
+        push_list(&mut text, runs.as_slice())?;
+        return Ok(text);
+    }
+    let lists = script.lists(alloc, plan)?;
+    let mut between = "";
+    for list in lists.as_slice() {
+        text.push_str(between)?;
+        push_list(&mut text, list.as_slice())?;
+        between = " | ";
+    }
+    Ok(text)
+}
+
+/// Writes runs: what each begins with, its limit, and whether it is saved.
+fn push_list(text: &mut String, runs: &[Run]) -> Result<(), AllocError> {
+    let mut between = "";
+    for run in runs {
+        text.push_str(between)?;
+        push_run(text, run)?;
+        between = ", ";
+    }
+    Ok(())
+}
+
+fn push_run(text: &mut String, run: &Run) -> Result<(), AllocError> {
+    match run.start {
+        Start::Fresh => text.push_str("fresh")?,
+        Start::Same => text.push_str("same")?,
+        Start::Saved(number) => write!(text, "saved-{number}")?,
+    }
+    write!(text, " {}", run.limit)?;
+    text.push_str(if run.save { " saved" } else { "" })
+}
