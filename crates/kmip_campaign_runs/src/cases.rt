@@ -10,6 +10,7 @@ use kmip_client::Client;
 use kmip_plan::{Plan, read_plan};
 use kmip_scripted::{Script, Scripted};
 use kmip_server::ListStore;
+use kmip_transcript::Transcript;
 use std::alloc::Global;
 use std::test::Fail;
 
@@ -21,8 +22,26 @@ pub struct Case<'p> {
     pub link: Faulty<ListStore>,
 }
 
+/// Cases, and remarks between them.
+pub struct Cases;
+
+impl Transcript for Cases {
+    fn begins(line: &str) -> bool {
+        line.starts_with("case: ")
+    }
+
+    fn take_line(rt: &HostRuntime, line: &str) -> Result<(), Fail> {
+        rt.println(line)?;
+        Ok(())
+    }
+
+    fn take_block(rt: &HostRuntime, head: &str, lines: &str) -> Result<(), Fail> {
+        hold_case(rt, head, lines)
+    }
+}
+
 /// Does what the lines of a case say, whose plan has the keys that its first line names.
-pub fn hold_case(rt: &HostRuntime, head: &str, lines: &str) -> Result<(), Fail> {
+fn hold_case(rt: &HostRuntime, head: &str, lines: &str) -> Result<(), Fail> {
     rt.println(head)?;
     let (_, keys) = head.split_once(": ").unwrap_or((head, ""));
     let plan = plan_of(rt.alloc(), keys)?;

@@ -42,14 +42,11 @@ mod cases;
 mod faulty;
 mod scripts;
 mod telling;
-mod transcript;
 
-use crate::transcript::carry_out;
-use std::io::{self, BufReader};
+use crate::cases::Cases;
+use kmip_transcript::carry_out;
 use std::test::Fail;
 
 fn main(rt: HostRuntime) -> Result<(), Fail> {
-    let reader = BufReader::new(rt.alloc(), rt.reader())?;
-    let text = io::read_to_string(rt.alloc(), reader)?;
-    carry_out(&rt, text.as_str())
+    carry_out::<Cases>(&rt)
 }

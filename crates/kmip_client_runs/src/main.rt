@@ -35,18 +35,15 @@
 
 mod changes;
 mod messages;
+mod rows;
 mod talks;
 mod telling;
-mod transcript;
 mod trying;
 
-use crate::transcript::carry_out;
-use std::io::{self, BufReader};
-use std::process::ExitCode;
+use crate::rows::Rows;
+use kmip_transcript::carry_out;
 use std::test::Fail;
 
 fn main(rt: HostRuntime) -> Result<(), Fail> {
-    let reader = BufReader::new(rt.alloc(), rt.reader())?;
-    let text = io::read_to_string(rt.alloc(), reader)?;
-    carry_out(&rt, text.as_str())
+    carry_out::<Rows>(&rt)
 }

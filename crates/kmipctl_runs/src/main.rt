@@ -13,19 +13,10 @@
 
 mod transcript;
 
-use crate::transcript::carry_out;
-use std::io::{self, BufReader};
-use std::process::ExitCode;
+use crate::transcript::Commands;
+use kmip_transcript::carry_out;
+use std::test::Fail;
 
-fn main(rt: HostRuntime) -> ExitCode {
-    match run(&rt) {
-        Ok(()) => ExitCode::SUCCESS,
-        Err(_) => ExitCode::FAILURE,
-    }
-}
-
-fn run(rt: &HostRuntime) -> io::Result<()> {
-    let reader = BufReader::new(rt.alloc(), rt.reader())?;
-    let text = io::read_to_string(rt.alloc(), reader)?;
-    carry_out(rt, text.as_str())
+fn main(rt: HostRuntime) -> Result<(), Fail> {
+    carry_out::<Commands>(&rt)
 }

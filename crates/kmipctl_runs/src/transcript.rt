@@ -1,41 +1,34 @@
-//! A text of commands and of the files that they name, line by line.
+//! Commands and the files that they name.
 
 use kmip_command_line::chosen;
 use kmip_commands::{ExitStatus, Form, run_answer, run_answer_stream, run_show};
 use kmip_program::run_words;
+use kmip_transcript::Transcript;
 use std::fs;
 use std::io::{self, BufWriter};
+use std::test::Fail;
 
-/// A file, or a command with its input, whose lines are still to come.
-#[derive(Drop)]
-struct Block<'a> {
-    /// Its first line.
-    head: &'a str,
-    /// The lines behind that, each with its line feed.
-    text: String,
+/// Commands, files and remarks.
+pub(crate) struct Commands;
+
+impl Transcript for Commands {
+    fn begins(line: &str) -> bool {
+        line.starts_with("file ") || line.starts_with("< ")
+    }
+
+    fn take_line(rt: &HostRuntime, line: &str) -> Result<(), Fail> {
+        take_command(rt, line)?;
+        Ok(())
+    }
+
+    fn take_block(rt: &HostRuntime, head: &str, lines: &str) -> Result<(), Fail> {
+        take_text(rt, head, lines)?;
+        Ok(())
+    }
 }
 
-/// Does what each line says.
-///
-/// # Errors
-/// Where a file or standard output can't be written, or there is no memory.
-pub(crate) fn carry_out(rt: &HostRuntime, text: &str) -> io::Result<()> {
-    let mut open: Option<Block<'_>> = None;
-    for line in text.lines() {
-        open = match open {
-            Some(block) => go_on(rt, block, line)?,
-            None => begin(rt, line)?,
-        };
-    }
-    Ok(())
-}
-
-/// A line outside a block: a command is carried out or told, a remark printed, and a block begun.
-fn begin<'a>(rt: &HostRuntime, line: &'a str) -> io::Result<Option<Block<'a>>> {
-    if line.starts_with("file ") {
-        let text = String::new(rt.alloc());
-        return Ok(Some(Block { head: line, text }));
-    }
+/// A line is printed, and a command in it carried out or told.
+fn take_command(rt: &HostRuntime, line: &str) -> io::Result<()> {
     rt.println(line)?;
     if let Some(words) = line.strip_prefix("$ ") {
         let words = words_of(rt, words)?;
@@ -46,30 +39,16 @@ fn begin<'a>(rt: &HostRuntime, line: &'a str) -> io::Result<Option<Block<'a>>> {
         let words = words_of(rt, words)?;
         print_choice(rt, words.as_slice())?;
     }
-    if line.starts_with("< ") {
-        let text = String::new(rt.alloc());
-        return Ok(Some(Block { head: line, text }));
-    }
-    Ok(None)
+    Ok(())
 }
 
-/// A line of a block: it joins the block, or ends it.
-fn go_on<'a>(rt: &HostRuntime, mut block: Block<'a>, line: &str) -> io::Result<Option<Block<'a>>> {
-    if line == "end" {
-        finish(rt, &block)?;
-        return Ok(None);
+/// A file is written, or a command carried out whose input these lines are.
+fn take_text(rt: &HostRuntime, head: &str, lines: &str) -> io::Result<()> {
+    if let Some(name) = head.strip_prefix("file ") {
+        return fs::write(rt, name, lines);
     }
-    block.text.push_str(line)?;
-    block.text.push('\n')?;
-    Ok(Some(block))
-}
-
-/// A block that has all its lines: the file is written, or the command carried out.
-fn finish(rt: &HostRuntime, block: &Block<'_>) -> io::Result<()> {
-    if let Some(name) = block.head.strip_prefix("file ") {
-        return fs::write(rt, name, block.text.as_str());
-    }
-    let status = run_with_input(rt, block.head, block.text.as_bytes())?;
+    rt.println(head)?;
+    let status = run_with_input(rt, head, lines.as_bytes())?;
     print_status(rt, status)
 }
 
