@@ -71,6 +71,9 @@ pub fn lists_told(alloc: Global, plan: &Plan, text: &str) -> Result<String, Fail
         push_list(&mut text, runs.as_slice())?;
         return Ok(text);
     }
+    if script.prolongings() != 1 {
+        return Err(Fail::new("a script of two plans has one `prolong`"));
+    }
     let lists = script.lists(alloc, plan)?;
     let mut between = "";
     for list in lists.as_slice() {

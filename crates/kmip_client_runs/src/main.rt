@@ -21,8 +21,8 @@
 //!     lost KEY                 the question about the key at this place has no answer
 //!     known KEY                what is known of the key at this place
 //!     known each               what is known of each, where it is the same
-//!     new NAME: HEX            a new client hears these bytes; what is then known of the first key, and
-//!                              what is asked
+//!     new NAME: HEX            a new client hears these bytes: what it says to them, what is then known of
+//!                              the first key, and what is asked
 //!     fronts NAME: HEX         a new client hears each proper front of these bytes
 //!     learnt NAME: HEX         new clients hear these bytes with each byte changed to each other one
 //!     kept NAME: HEX           one client hears what another refuses of these, and stands as it stood
@@ -30,7 +30,7 @@
 //!     hear each NAME: HEX      it hears these bytes with each key's name in the place of `NAME`, from
 //!                              the last key to the first
 //!     saved                    the text of the progress, with `/` in the place of a line feed
-//!     resume TEXT              a client that goes on from such a text
+//!     resume: TEXT             a client that goes on from such a text
 #![tactic(auto)]
 
 mod changes;

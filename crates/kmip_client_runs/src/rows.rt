@@ -43,7 +43,8 @@ fn take_row(rt: &HostRuntime, line: &str) -> Result<(), Fail> {
             rt.println(format_args!("{head}:"))?;
             print_taken(rt, bytes.as_mut_slice())?;
         }
-        _ => rt.println(line)?,
+        "" | "#" => rt.println(line)?,
+        _ => return Err(Fail::new("no row")),
     }
     Ok(())
 }
