@@ -1,1 +1,2 @@
+pub mod CourseLemmas
 pub mod LineLemmas

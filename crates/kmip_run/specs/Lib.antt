@@ -1,2 +1,3 @@
+pub mod Course
 pub mod RunText
 pub mod StandingText

@@ -4,7 +4,8 @@ ghost use Rattle.kmip_objects.specs.Objects.{Object};
 ghost use Rattle.kmip_client.specs.Clients.{ClientState};
 ghost use Rattle.kmip_client.specs.Held.{Held};
 ghost use Rattle.kmip_progress.specs.Reading.{GivesProgress};
-ghost use Rattle.kmip_run.specs.RunText.{IsTrueText, begin_knowns};
+ghost use Rattle.kmip_run.specs.Course.{IsTrueText};
+ghost use Rattle.kmip_run.specs.RunText.{begin_knowns};
 
 use kmip_client::Client;
 use kmip_plan::Plan;

@@ -1,5 +1,5 @@
 //! The command `run`: a plan is carried out over a link, and what is known is kept after each exchange.
-ghost use Rattle.std.specs.Prelude.{◌≡◌, ◌≢◌, ◌⊎◌, List, [], Ok, IfErr, IfOk, IsTrue, option_map};
+ghost use Rattle.std.specs.Prelude.{◌≡◌, ◌≢◌, List, [], Ok, IfErr, IfOk, IsTrue, option_map};
 ghost use Rattle.std.specs.Io.KnownBytes.{Appends};
 ghost use Rattle.kmip_batches.specs.Members.{may_have};
 ghost use Rattle.kmip_plan.specs.Reading.{plan_read};
@@ -8,17 +8,8 @@ ghost use Rattle.kmip_commands.specs.Printing.{IfFailed, IfWhole, UnlessOutput, 
 ghost use Rattle.kmip_schedule.specs.Past.{is_planned};
 ghost use Rattle.kmip_session.specs.Campaign.{GoodLink};
 ghost use Rattle.kmip_session.specs.Driving.{IsGood};
-ghost use Rattle.kmip_run.specs.RunText.{
-  AsksFew,
-  IsTrueText,
-  KeepsSafe,
-  TellsExchanges,
-  TellsRun,
-  TellsRunFrom,
-  TellsUnwritten,
-  WritesRun,
-  begin_knowns,
-};
+ghost use Rattle.kmip_run.specs.Course.{AreUntouched, AsksFew, Came, IsGoodStart, IsTrueText, KeepsSafe};
+ghost use Rattle.kmip_run.specs.RunText.{TellsEither, TellsRun, TellsRunFrom, WritesRun, begin_knowns};
 
 use crate::beginning::begin;
 use crate::telling::{progress_refusal_text, run_text, unwritten_text};
@@ -65,9 +56,14 @@ pub fn run_run<L: Link, K: Keeper, W: Write>(
     writer: &mut W,
 ) -> ExitStatus
     requires { IsTrue (may_have input.now.batch) }
-    ensures text { IfWhole result (λ r. WritesRun (plan_read input.now.plan.now)
-        (option_map (λ text. text.now) saved.entry) input.now.path.now input.now.limit r
-        (W.contents writer.old) (W.contents writer.new)) }
+    ensures text { IfWhole result (λ r. WritesRun
+        (AreUntouched link.old link.new keeper.old keeper.new)
+        (Came L.past L.honest L.calm L.disturbances K.keeps K.saved
+        input.now.limit input.now.batch
+        (IsGoodStart L.past L.honest (option_map (λ text. text.now) saved.entry) link.old)
+        link.old link.new keeper.old keeper.new)
+        (plan_read input.now.plan.now) (option_map (λ text. text.now) saved.entry)
+        input.now.path.now input.now.limit r (W.contents writer.old) (W.contents writer.new)) }
     ensures broken { IfFailed result (λ fault. UnlessOutput fault
         (Appends (W.contents writer.old) (W.contents writer.new) (fault_line fault))) }
     ensures safe { (keys : List Key) → plan_read input.now.plan.now ≡ Ok keys
@@ -90,6 +86,10 @@ pub fn run_run<L: Link, K: Keeper, W: Write>(
 /// something was refused, not kept, or left unfinished. Nothing is written before the run has ended.
 /// Each message asks about at most as many keys as the input says.
 ///
+/// What is reported has come of the exchanges that were made: over an honest link it is what was known
+/// at first and what they handed over, and where the keeper keeps what it is given, the text after each
+/// exchange was kept. Where the plan or the progress is refused nothing is asked and nothing kept.
+///
 /// # Errors
 ///
 /// `Output` where the writer fails, and `NoMemory`: nothing is written then. What the keeper was
@@ -103,9 +103,14 @@ pub fn run<L: Link, K: Keeper, W: Write>(
     writer: &mut W,
 ) -> Result<bool, CommandFault>
     requires { IsTrue (may_have input.now.batch) }
-    ensures text { IfOk result (λ r. WritesRun (plan_read input.now.plan.now)
-        (option_map (λ text. text.now) saved.entry) input.now.path.now input.now.limit r
-        (W.contents writer.old) (W.contents writer.new)) }
+    ensures text { IfOk result (λ r. WritesRun
+        (AreUntouched link.old link.new keeper.old keeper.new)
+        (Came L.past L.honest L.calm L.disturbances K.keeps K.saved
+        input.now.limit input.now.batch
+        (IsGoodStart L.past L.honest (option_map (λ text. text.now) saved.entry) link.old)
+        link.old link.new keeper.old keeper.new)
+        (plan_read input.now.plan.now) (option_map (λ text. text.now) saved.entry)
+        input.now.path.now input.now.limit r (W.contents writer.old) (W.contents writer.new)) }
     ensures broken { IfErr result (λ fault. UnlessOutput fault
         (Appends (W.contents writer.old) (W.contents writer.new) [])) }
     ensures no_input { IfErr result (λ fault. fault ≢ CommandFault.Input) }
@@ -135,9 +140,14 @@ fn told_of<L: Link, K: Keeper>(
     keeper: &mut K,
 ) -> Result<Told, NoMemory>
     requires { IsTrue (may_have input.now.batch) }
-    ensures text { IfOk result (λ told. TellsRun (plan_read input.now.plan.now)
-        (option_map (λ text. text.now) saved.entry) input.now.path.now input.now.limit
-        told.refused told.text.items) }
+    ensures text { IfOk result (λ told. TellsRun
+        (AreUntouched link.old link.new keeper.old keeper.new)
+        (Came L.past L.honest L.calm L.disturbances K.keeps K.saved
+        input.now.limit input.now.batch
+        (IsGoodStart L.past L.honest (option_map (λ text. text.now) saved.entry) link.old)
+        link.old link.new keeper.old keeper.new)
+        (plan_read input.now.plan.now) (option_map (λ text. text.now) saved.entry)
+        input.now.path.now input.now.limit told.refused told.text.items) }
     ensures safe { (keys : List Key) → plan_read input.now.plan.now ≡ Ok keys
         → GoodLink L.past L.honest keys link.old
         → IsTrueText (L.past link.old).objects keys
@@ -174,7 +184,13 @@ fn told_of_plan<L: Link, K: Keeper>(
     keeper: &mut K,
 ) -> Result<Told, NoMemory>
     requires { IsTrue (may_have input.now.batch) }
-    ensures text { IfOk result (λ told. TellsRunFrom plan.now input.now.path.now input.now.limit
+    ensures text { IfOk result (λ told. TellsRunFrom
+        (AreUntouched link.old link.new keeper.old keeper.new)
+        (Came L.past L.honest L.calm L.disturbances K.keeps K.saved
+        input.now.limit input.now.batch
+        (IsGoodStart L.past L.honest (option_map (λ text. text.now) saved.entry) link.old)
+        link.old link.new keeper.old keeper.new plan.now)
+        plan.now input.now.path.now input.now.limit
         (begin_knowns plan.now (option_map (λ text. text.now) saved.entry))
         told.refused told.text.items) }
     ensures safe { GoodLink L.past L.honest plan.now link.old
@@ -189,7 +205,8 @@ fn told_of_plan<L: Link, K: Keeper>(
         Ok(client) => {
             let mut client = client;
             client.set_batch(input.batch);
-            told_of_exchanges(alloc, &mut client, input, link, keeper)
+            let told = told_of_exchanges(alloc, &mut client, input, link, keeper)?;
+            Ok(told)
         }
         Err(ProgressFault::NoMemory) => Err(NoMemory),
         Err(fault) => {
@@ -213,9 +230,12 @@ fn told_of_exchanges<L: Link, K: Keeper>(
     link: &mut L,
     keeper: &mut K,
 ) -> Result<Told, NoMemory>
-    ensures text { IfOk result (λ told. TellsExchanges client.old.keys input.now.limit
-        told.refused told.text.items
-        ⊎ TellsUnwritten input.now.path.now told.refused told.text.items) }
+    ensures text { IfOk result (λ told. TellsEither
+        (Came L.past L.honest L.calm L.disturbances K.keeps K.saved
+        input.now.limit client.old.batch
+        (λ keys. IsGood L.past L.honest client.old link.old)
+        link.old link.new keeper.old keeper.new client.old.keys client.old.knowns)
+        client.old.keys input.now.path.now input.now.limit told.refused told.text.items) }
     ensures safe { IsGood L.past L.honest client.old link.old
         → KeepsSafe L.past L.honest client.old.keys link.old link.new }
     ensures few { L.honest link.old (is_planned client.old.keys) → IfOk result (λ r. AsksFew
