@@ -1,5 +1,6 @@
 //! Links over TCP and a Unix socket, with the peer in the same process.
 
+use crate::asserting::{assert_link, assert_number, assert_received};
 use crate::serving::new_server;
 use kmip_server::Records;
 use kmip_transport::{Link, LinkFault, Loopback, Tcp, TcpLink, Unix, UnixLink};
@@ -24,13 +25,11 @@ fn carries_requests_to_its_own_server(rt: HostRuntime) -> Result<(), Fail> {
     for (request, reply) in [(LOCATE_K1, LOCATE_K1_NONE), (CREATE_K1, CREATE_K1_REPLY)] {
         let bytes = hex::decode(rt.alloc(), request)?;
         let wanted = hex::decode(rt.alloc(), reply)?;
-        match link.exchange(rt.alloc(), bytes.as_slice())? {
-            Some(answer) => assert_eq!(rt; answer.as_slice(), wanted.as_slice()),
-            None => assert!(rt; false),
-        }
+        let received = link.exchange(rt.alloc(), bytes.as_slice());
+        assert_received(&rt, &received, Ok(Some(wanted.as_slice())), "an exchange");
         link.end_run(rt.alloc())?;
     }
-    assert_eq!(rt; link.server().records().count(), 1);
+    assert_number(&rt, link.server().records().count(), 1, "objects");
     Ok(())
 }
 
@@ -39,12 +38,9 @@ fn fails_where_nobody_listens(rt: HostRuntime) -> Result<(), Fail> {
     let address = rt.bind(any_port())?.local_addr()?;
     let mut link = TcpLink::new(Tcp::new(rt.clone()?, address), Duration::from_secs(10));
     for failures in 1..=2 {
-        match link.exchange(rt.alloc(), b"request") {
-            Ok(_) => assert!(rt; false),
-            Err(fault) => assert_eq!(rt; fault, LinkFault::Io),
-        }
-        assert_eq!(rt; link.failures(), failures);
-        assert!(rt; !link.is_connected());
+        let received = link.exchange(rt.alloc(), b"request");
+        assert_received(&rt, &received, Err(LinkFault::Io), "an exchange");
+        assert_link(&rt, &link, false, failures, "an exchange");
     }
     Ok(())
 }
@@ -62,25 +58,59 @@ fn connects_anew_behind_a_lost_reply(rt: HostRuntime) -> Result<(), Fail> {
     stream.read_exact(&mut [0; 5])?;
     stream.write_all(front)?;
     drop(stream);
-    assert!(rt; link.receive(rt.alloc())?.is_none());
-    assert!(rt; !link.is_connected());
-    assert_eq!(rt; link.failures(), 0);
+    let received = link.receive(rt.alloc());
+    assert_received(&rt, &received, Ok(None), "first");
+    assert_link(&rt, &link, false, 0, "first");
 
     link.send(b"second")?;
     let (mut stream, _) = listener.accept()?;
     stream.write_all(reply.as_slice())?;
-    match link.receive(rt.alloc())? {
-        Some(answer) => assert_eq!(rt; answer.as_slice(), reply.as_slice()),
-        None => assert!(rt; false),
-    }
-    assert!(rt; link.is_connected());
+    let received = link.receive(rt.alloc());
+    assert_received(&rt, &received, Ok(Some(reply.as_slice())), "second");
+    assert_link(&rt, &link, true, 0, "second");
     stream.write_all(&[0; 8])?;
     link.send(b"third")?;
-    match link.receive(rt.alloc()) {
-        Ok(_) => assert!(rt; false),
-        Err(fault) => assert_eq!(rt; fault, LinkFault::Frame),
+    let received = link.receive(rt.alloc());
+    assert_received(&rt, &received, Err(LinkFault::Frame), "third");
+    assert_link(&rt, &link, false, 0, "third");
+    Ok(())
+}
+
+/// Sends a request over a new stream. The peer reads it, answers these bytes and closes the stream.
+fn answer_and_close(
+    listener: &<HostRuntime as Net>::Listener,
+    link: &mut TcpLink<HostRuntime>,
+    answer: &[u8],
+) -> Result<(), Fail> {
+    link.send(b"request")?;
+    let (mut stream, _) = listener.accept()?;
+    stream.read_exact(&mut [0; 7])?;
+    stream.write_all(answer)?;
+    Ok(())
+}
+
+#[test]
+fn holds_no_stream_once_a_held_one_was_closed(rt: HostRuntime) -> Result<(), Fail> {
+    let listener = rt.bind(any_port())?;
+    let address = listener.local_addr()?;
+    let mut link = TcpLink::new(Tcp::new(rt.clone()?, address), Duration::from_secs(10));
+    let reply = hex::decode(rt.alloc(), LOCATE_K1_NONE)?;
+    answer_and_close(&listener, &mut link, reply.as_slice())?;
+    let received = link.receive(rt.alloc());
+    assert_received(&rt, &received, Ok(Some(reply.as_slice())), "first");
+    assert_link(&rt, &link, true, 0, "first");
+
+    link.send(b"request")?;
+    let received = link.receive(rt.alloc());
+    assert_received(&rt, &received, Ok(None), "second");
+    assert_link(&rt, &link, false, 0, "second");
+
+    for case in ["third", "fourth", "fifth"] {
+        answer_and_close(&listener, &mut link, reply.as_slice())?;
+        let received = link.receive(rt.alloc());
+        assert_received(&rt, &received, Ok(Some(reply.as_slice())), case);
+        assert_link(&rt, &link, false, 0, case);
     }
-    assert!(rt; !link.is_connected());
     Ok(())
 }
 
@@ -96,17 +126,13 @@ fn goes_through_a_unix_socket(rt: HostRuntime) -> Result<(), Fail> {
     let (mut stream, _) = listener.accept()?;
     fs::remove_file(&rt, path.as_str())?;
     stream.write_all(reply.as_slice())?;
-    match link.receive(rt.alloc())? {
-        Some(answer) => assert_eq!(rt; answer.as_slice(), reply.as_slice()),
-        None => assert!(rt; false),
-    }
-    assert!(rt; link.is_connected());
+    let received = link.receive(rt.alloc());
+    assert_received(&rt, &received, Ok(Some(reply.as_slice())), "a reply");
+    assert_link(&rt, &link, true, 0, "a reply");
     drop(stream);
-    match link.exchange(rt.alloc(), b"request") {
-        Ok(_) => assert!(rt; false),
-        Err(fault) => assert_eq!(rt; fault, LinkFault::Io),
-    }
-    assert!(rt; !link.is_connected());
+    let received = link.exchange(rt.alloc(), b"request");
+    assert_received(&rt, &received, Err(LinkFault::Io), "a closed stream");
+    assert_link(&rt, &link, false, 1, "a closed stream");
     Ok(())
 }
 
@@ -115,10 +141,8 @@ fn waits_no_longer_than_its_limit(rt: HostRuntime) -> Result<(), Fail> {
     let listener = rt.bind(any_port())?;
     let address = listener.local_addr()?;
     let mut link = TcpLink::new(Tcp::new(rt.clone()?, address), Duration::from_millis(50));
-    match link.exchange(rt.alloc(), b"request") {
-        Ok(_) => assert!(rt; false),
-        Err(fault) => assert_eq!(rt; fault, LinkFault::Io),
-    }
-    assert_eq!(rt; link.failures(), 1);
+    let received = link.exchange(rt.alloc(), b"request");
+    assert_received(&rt, &received, Err(LinkFault::Io), "a silent peer");
+    assert_link(&rt, &link, false, 1, "a silent peer");
     Ok(())
 }
