@@ -132,22 +132,40 @@ fn connects_anew_behind_a_lost_reply(rt: HostRuntime) -> Result<(), Fail> {
     answer_and_break(&rt, &listener, &mut link, reply.as_slice())
 }
 
+/// Exchanges with a peer that closes the stream behind each reply.
+fn close_behind_replies(
+    rt: &(impl Abort + AllocGlobal),
+    listener: &<HostRuntime as Net>::Listener,
+    link: &mut TcpLink<HostRuntime>,
+    reply: &[u8],
+) -> Result<(), Fail> {
+    answer_and_close(listener, link, reply)?;
+    assert_receives(rt, link, Ok(Some(reply)), true, 0, "first");
+    link.send(b"request")?;
+    assert_receives(rt, link, Ok(None), false, 0, "second");
+    for case in ["third", "fourth", "fifth"] {
+        answer_and_close(listener, link, reply)?;
+        assert_receives(rt, link, Ok(Some(reply)), false, 0, case);
+    }
+    Ok(())
+}
+
 #[test]
 fn holds_no_stream_once_a_held_one_was_closed(rt: HostRuntime) -> Result<(), Fail> {
     let (listener, mut link) = listening(&rt)?;
     let reply = hex::decode(rt.alloc(), LOCATE_K1_NONE)?;
-    let wanted = Ok(Some(reply.as_slice()));
-    answer_and_close(&listener, &mut link, reply.as_slice())?;
-    assert_receives(&rt, &mut link, wanted, true, 0, "first");
+    close_behind_replies(&rt, &listener, &mut link, reply.as_slice())
+}
 
-    link.send(b"request")?;
-    assert_receives(&rt, &mut link, Ok(None), false, 0, "second");
-
-    for case in ["third", "fourth", "fifth"] {
-        answer_and_close(&listener, &mut link, reply.as_slice())?;
-        assert_receives(&rt, &mut link, wanted, false, 0, case);
-    }
-    Ok(())
+/// A listener on the Unix socket at this path, and a link to it that waits as long.
+fn listening_at(
+    rt: &HostRuntime,
+    path: &str,
+) -> Result<(UnixListener, UnixLink<HostRuntime>), Fail> {
+    let listener = UnixListener::bind(rt, path)?;
+    let address = net::SocketAddr::from_pathname(path)?;
+    let link = UnixLink::new(Unix::new(rt.clone()?, address), Duration::from_secs(10));
+    Ok((listener, link))
 }
 
 /// Sends a request, to which a reply comes through the socket. Then the peer closes the stream.
@@ -168,9 +186,7 @@ fn answer_once(
 fn goes_through_a_unix_socket(rt: HostRuntime) -> Result<(), Fail> {
     let id = process::id(rt.process());
     let path = format!(in rt.alloc(); "/tmp/kmip_conformance_transport_{id}.socket")?;
-    let listener = UnixListener::bind(&rt, path.as_str())?;
-    let address = net::SocketAddr::from_pathname(path.as_str())?;
-    let mut link = UnixLink::new(Unix::new(rt.clone()?, address), Duration::from_secs(10));
+    let (listener, mut link) = listening_at(&rt, path.as_str())?;
     answer_once(&rt, &listener, &mut link)?;
     fs::remove_file(&rt, path.as_str())?;
     assert_fails(&rt, &mut link, 1, "a closed stream");
