@@ -16,6 +16,7 @@ import sys
 import threading
 import time
 
+EXAMPLE = os.path.join(os.path.dirname(os.path.realpath(__file__)), '..', 'examples', 'plan.toml')
 PLAN = '''[[key]]
 name = "k1"
 algorithm = "AES"
@@ -64,6 +65,22 @@ def answering_another_question(peer):
         peer.send(OF_ANOTHER)
 
 
+def message(stream):
+    """The next message: the last four bytes of its head say how long the rest is."""
+    head = stream.recv(8, socket.MSG_WAITALL)
+    return head + stream.recv(int.from_bytes(head[4:], 'big'), socket.MSG_WAITALL)
+
+
+def closing_behind_the_reply(port):
+    """What a peer does that hands one request on to the server at this port, and closes behind the reply."""
+    def behaviour(peer):
+        with peer, socket.create_connection(('127.0.0.1', port)) as server:
+            server.sendall(message(peer))
+            peer.sendall(message(server))
+
+    return behaviour
+
+
 def listening(behaviour):
     """A port whose connections each behave so."""
     listener = socket.socket()
@@ -91,14 +108,14 @@ class Peers:
         self.progress = os.path.join(folder, 'progress')
         self.plan = os.path.join(folder, 'plan.toml')
 
-    def words(self, where, *more):
-        return [self.program, 'run', '--plan', self.plan, '--progress', self.progress, *where,
+    def words(self, where, *more, plan=None):
+        return [self.program, 'run', '--plan', plan or self.plan, '--progress', self.progress, *where,
                 '--wait', '0', *more]
 
-    def run(self, where, *more):
+    def run(self, where, *more, plan=None):
         """The exit status, what is printed, and the seconds that it takes."""
         start = time.monotonic()
-        done = subprocess.run(self.words(where, *more), capture_output=True, text=True)
+        done = subprocess.run(self.words(where, *more, plan=plan), capture_output=True, text=True)
         return done.returncode, done.stdout, time.monotonic() - start
 
     def forget(self):
@@ -133,6 +150,22 @@ class Peers:
         status, printed, _ = self.run(('--connect', f'127.0.0.1:{port}'))
         self.look('a server behind them', (status == 0, status), (printed == FINISHED.format(3), printed),
                   (self.known() == ALL_KNOWN, self.known()), (server.wait() == 0, server.returncode))
+
+    def closing_peer(self):
+        """A peer that closes behind each reply costs the second exchange. That is the Create of a plan of one
+        key, which is looked for and made anew, and the Locate of the second key of the examples' plan."""
+        server, port = self.serve('--connections', '1000000')
+        where = ('--connect', f'127.0.0.1:{listening(closing_behind_the_reply(port))}')
+        self.forget()
+        status, printed, _ = self.run(where, '--limit', '20')
+        self.look('a peer that is closing behind each reply', (status == 0, status),
+                  (printed == FINISHED.format(5), printed), (self.known() == ALL_KNOWN, self.known()))
+        self.forget()
+        status, printed, _ = self.run(where, '--limit', '50', plan=EXAMPLE)
+        self.look('a longer plan over it', (status == 0, status),
+                  (printed.endswith('finished 7 of 7\nstop AllFinished 24\n'), printed))
+        server.kill()
+        server.wait()
 
     def no_peer(self):
         self.forget()
@@ -220,6 +253,7 @@ def main():
     with open(peers.plan, 'w') as plan:
         plan.write(PLAN)
     peers.bad_peers()
+    peers.closing_peer()
     peers.no_peer()
     peers.probes()
     peers.files()

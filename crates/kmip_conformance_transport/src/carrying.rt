@@ -1,5 +1,6 @@
 //! One message from a stream, and one onto it.
 
+use crate::asserting::{assert_bytes, assert_number, assert_sent, assert_true};
 use crate::streams::{ByteReader, ShortWriter};
 use kmip_frames::Framer;
 use kmip_transport::{LinkFault, receive_message, send_message};
@@ -7,8 +8,33 @@ use kmip_vectors::{LOCATE_K1, LOCATE_K1_NONE};
 use std::process::Abort;
 use std::test::Fail;
 
+/// How many bytes the framer holds, and how many were not read.
+fn assert_left(
+    rt: &impl Abort,
+    framer: &Framer,
+    reader: &ByteReader<'_>,
+    held: usize,
+    left: usize,
+    case: &str,
+) {
+    assert_number(rt, framer.pending(), held, case);
+    assert_number(rt, reader.left(), left, case);
+}
+
+/// Whether a message was received, or why none was.
+fn assert_answered(
+    rt: &impl Abort,
+    answer: &Result<Option<Vec<u8>>, LinkFault>,
+    wanted: Result<bool, LinkFault>,
+) {
+    match answer {
+        Ok(answer) => assert_eq!(rt; Ok(answer.is_some()), wanted),
+        Err(fault) => assert_eq!(rt; Err(*fault), wanted),
+    }
+}
+
 /// What is received of these bytes, as a word, and how many stay in the framer and in the reader.
-fn assert_received(
+fn assert_taken(
     rt: &(impl Abort + AllocGlobal),
     mut reader: ByteReader<'_>,
     wanted: Result<bool, LinkFault>,
@@ -16,30 +42,26 @@ fn assert_received(
     left: usize,
 ) -> Result<(), Fail> {
     let mut framer = Framer::new(rt.alloc())?;
-    match receive_message(rt.alloc(), &mut reader, &mut framer) {
-        Ok(answer) => assert_eq!(rt; Ok(answer.is_some()), wanted),
-        Err(fault) => assert_eq!(rt; Err(fault), wanted),
-    }
-    assert_eq!(rt; framer.pending(), held);
-    assert_eq!(rt; reader.left(), left);
+    let answer = receive_message(rt.alloc(), &mut reader, &mut framer);
+    assert_answered(rt, &answer, wanted);
+    assert_left(rt, &framer, &reader, held, left, "behind it");
     Ok(())
 }
 
 #[test]
 fn gives_a_message_and_no_more(rt: HostRuntime) -> Result<(), Fail> {
     let reply = hex::decode(rt.alloc(), LOCATE_K1_NONE)?;
-    assert_eq!(rt; reply.len(), 152);
+    assert_number(&rt, reply.len(), 152, "the reply");
     let mut bytes = Vec::from_slice(rt.alloc(), reply.as_slice())?;
     bytes.extend_from_slice(reply.as_slice())?;
     let mut reader = ByteReader::failing(bytes.as_slice());
     let mut framer = Framer::new(rt.alloc())?;
     for left in [152, 0] {
         match receive_message(rt.alloc(), &mut reader, &mut framer)? {
-            Some(message) => assert_eq!(rt; message.as_slice(), reply.as_slice()),
-            None => assert!(rt; false),
+            Some(message) => assert_bytes(&rt, message.as_slice(), reply.as_slice(), "a message"),
+            None => assert_true(&rt, false, "no message"),
         }
-        assert_eq!(rt; reader.left(), left);
-        assert_eq!(rt; framer.pending(), 0);
+        assert_left(&rt, &framer, &reader, 0, left, "behind a message");
     }
     Ok(())
 }
@@ -50,7 +72,7 @@ fn fails_where_a_read_fails(rt: HostRuntime) -> Result<(), Fail> {
     for count in 0..152 {
         let (front, _) = reply.split_at(reply.len().min(count));
         let reader = ByteReader::failing(front);
-        assert_received(&rt, reader, Err(LinkFault::Io), count, 0)?;
+        assert_taken(&rt, reader, Err(LinkFault::Io), count, 0)?;
     }
     Ok(())
 }
@@ -61,7 +83,7 @@ fn has_none_where_the_stream_ends(rt: HostRuntime) -> Result<(), Fail> {
     for count in 0..152 {
         let (front, _) = reply.split_at(reply.len().min(count));
         let reader = ByteReader::ending(front);
-        assert_received(&rt, reader, Ok(false), count, 0)?;
+        assert_taken(&rt, reader, Ok(false), count, 0)?;
     }
     Ok(())
 }
@@ -70,7 +92,7 @@ fn has_none_where_the_stream_ends(rt: HostRuntime) -> Result<(), Fail> {
 fn refuses_another_head(rt: HostRuntime) -> Result<(), Fail> {
     let bytes = hex::decode(rt.alloc(), "000000000000000042")?;
     let reader = ByteReader::ending(bytes.as_slice());
-    assert_received(&rt, reader, Err(LinkFault::Frame), 8, 1)
+    assert_taken(&rt, reader, Err(LinkFault::Frame), 8, 1)
 }
 
 #[test]
@@ -78,13 +100,12 @@ fn fails_where_a_write_fails(rt: HostRuntime) -> Result<(), Fail> {
     let request = hex::decode(rt.alloc(), LOCATE_K1)?;
     for room in 0..184 {
         let mut writer = ShortWriter { room };
-        assert_eq!(rt;
-            send_message(&mut writer, request.as_slice()),
-            Err(LinkFault::Io)
-        );
+        let sent = send_message(&mut writer, request.as_slice());
+        assert_sent(&rt, sent, Err(LinkFault::Io), "little room");
     }
     let mut writer = ShortWriter { room: 184 };
-    assert_eq!(rt; send_message(&mut writer, request.as_slice()), Ok(()));
-    assert_eq!(rt; writer.room, 0);
+    let sent = send_message(&mut writer, request.as_slice());
+    assert_sent(&rt, sent, Ok(()), "room for it");
+    assert_number(&rt, writer.room, 0, "room for it");
     Ok(())
 }

@@ -1,5 +1,6 @@
 //! The client's end of a socket, where a message is cut.
 
+use crate::asserting::{assert_link, assert_received};
 use crate::linking::any_port;
 use kmip_transport::{LinkFault, Tcp, TcpLink};
 use kmip_vectors::{ALL, LOCATE_K1};
@@ -34,8 +35,8 @@ fn answer_with(
     Ok(())
 }
 
-/// What the link has received: the bytes of a reply, or none.
-fn assert_received(
+/// What the link receives: the bytes of a reply, or none.
+fn assert_receives(
     rt: &impl Abort,
     alloc: Global,
     link: &mut TcpLink<HostRuntime>,
@@ -44,19 +45,10 @@ fn assert_received(
 ) {
     let failures = link.failures();
     let received = link.receive(alloc);
-    match (&received, wanted) {
-        (Ok(Some(reply)), Ok(Some(wanted))) => assert_eq!(rt; reply.as_slice(), wanted, "{name}"),
-        (Ok(None), Ok(None)) => {}
-        (Err(fault), Err(wanted)) => assert_eq!(rt; *fault, wanted, "{name}"),
-        _ => assert!(rt; false, "{name}"),
-    }
-    assert_eq!(rt;
-        link.is_connected(),
-        matches!(received, Ok(Some(_))),
-        "{name}"
-    );
-    let failed = u64::from(received.is_err());
-    assert_eq!(rt; link.failures(), failures.saturating_add(failed), "{name}");
+    assert_received(rt, &received, wanted, name);
+    let is_reply = matches!(wanted, Ok(Some(_)));
+    let failed = u64::from(wanted.is_err());
+    assert_link(rt, link, is_reply, failures.saturating_add(failed), name);
 }
 
 #[test]
@@ -74,7 +66,7 @@ fn hands_over_no_front(rt: HostRuntime) -> Result<(), Fail> {
             for size in 0..message.len() {
                 let front = &message[..size];
                 answer_with(&listener, &mut link, request.as_slice(), front, ending)?;
-                assert_received(&rt, rt.alloc(), &mut link, lost, name);
+                assert_receives(&rt, rt.alloc(), &mut link, lost, name);
             }
             answer_with(
                 &listener,
@@ -83,7 +75,7 @@ fn hands_over_no_front(rt: HostRuntime) -> Result<(), Fail> {
                 message.as_slice(),
                 Ending::Shut,
             )?;
-            assert_received(
+            assert_receives(
                 &rt,
                 rt.alloc(),
                 &mut link,

@@ -1,5 +1,6 @@
 //! The server's end of a socket, where a message is cut.
 
+use crate::asserting::{assert_kept, assert_served};
 use crate::linking::any_port;
 use crate::serving::new_server;
 use kmip_objects::KeyState;
@@ -68,16 +69,9 @@ fn answers_no_front(rt: HostRuntime) -> Result<(), Fail> {
                 let mut input = Vec::from_slice(rt.alloc(), before.as_slice())?;
                 input.extend_from_slice(&message[..size])?;
                 let (end, output) = served(&rt, &listener, &mut server, input.as_slice())?;
-                assert_eq!(rt; end, StreamEnd::Ended(size), "{size} bytes of {name}");
-                assert_eq!(rt;
-                    output.as_slice(),
-                    answer.as_slice(),
-                    "{size} bytes of {name}"
-                );
-                assert!(rt;
-                    is_k1_alone(server.records(), material.as_slice()),
-                    "{size} bytes of {name}"
-                );
+                assert_served(&rt, end, size, output.as_slice(), answer.as_slice(), name);
+                let is_kept = is_k1_alone(server.records(), material.as_slice());
+                assert_kept(&rt, is_kept, size, name);
             }
         }
     }

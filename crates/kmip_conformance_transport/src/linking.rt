@@ -1,13 +1,15 @@
 //! Links over TCP and a Unix socket, with the peer in the same process.
 
+use crate::asserting::{assert_link, assert_number, assert_received};
 use crate::serving::new_server;
-use kmip_server::Records;
-use kmip_transport::{Link, LinkFault, Loopback, Tcp, TcpLink, Unix, UnixLink};
+use kmip_server::{ListStore, Records};
+use kmip_transport::{Dial, Link, LinkFault, Loopback, StreamLink, Tcp, TcpLink, Unix, UnixLink};
 use kmip_vectors::{CREATE_K1, CREATE_K1_REPLY, LOCATE_K1, LOCATE_K1_NONE};
 use std::io::{Read, Write};
 use std::net::{Ipv4Addr, Net, OpenListener, SocketAddr, SocketAddrV4};
 use std::os::unix::net;
 use std::os::unix::net::UnixListener;
+use std::process::Abort;
 use std::test::Fail;
 use std::time::Duration;
 use std::{fs, process};
@@ -17,20 +19,65 @@ pub fn any_port() -> SocketAddr {
     SocketAddr::V4(SocketAddrV4::new(Ipv4Addr::LOCALHOST, 0))
 }
 
+/// A listener, and a link to it that waits no longer than ten seconds.
+fn listening(
+    rt: &HostRuntime,
+) -> Result<(<HostRuntime as Net>::Listener, TcpLink<HostRuntime>), Fail> {
+    let listener = rt.bind(any_port())?;
+    let address = listener.local_addr()?;
+    let link = TcpLink::new(Tcp::new(rt.clone()?, address), Duration::from_secs(10));
+    Ok((listener, link))
+}
+
+/// The link receives this. Then it is connected or not, and its network has failed this often.
+fn assert_receives<D: Dial + Drop>(
+    rt: &(impl Abort + AllocGlobal),
+    link: &mut StreamLink<D>,
+    wanted: Result<Option<&[u8]>, LinkFault>,
+    is_connected: bool,
+    failures: u64,
+    case: &str,
+) {
+    let received = link.receive(rt.alloc());
+    assert_received(rt, &received, wanted, case);
+    assert_link(rt, link, is_connected, failures, case);
+}
+
+/// An exchange fails by the network, which has failed this often then; and no stream is open.
+fn assert_fails<D: Dial + Drop>(
+    rt: &(impl Abort + AllocGlobal),
+    link: &mut StreamLink<D>,
+    failures: u64,
+    case: &str,
+) {
+    let received = link.exchange(rt.alloc(), b"request");
+    assert_received(rt, &received, Err(LinkFault::Io), case);
+    assert_link(rt, link, false, failures, case);
+}
+
+/// The server's reply to this request is this, over a stream of its own.
+fn assert_exchanges(
+    rt: &(impl Abort + AllocGlobal),
+    link: &mut Loopback<HostRuntime, ListStore>,
+    request: &str,
+    reply: &str,
+) -> Result<(), Fail> {
+    let request = hex::decode(rt.alloc(), request)?;
+    let reply = hex::decode(rt.alloc(), reply)?;
+    let received = link.exchange(rt.alloc(), request.as_slice());
+    assert_received(rt, &received, Ok(Some(reply.as_slice())), "an exchange");
+    link.end_run(rt.alloc())?;
+    Ok(())
+}
+
 #[test]
 fn carries_requests_to_its_own_server(rt: HostRuntime) -> Result<(), Fail> {
     let server = new_server(rt.alloc());
     let mut link = Loopback::new(rt.clone()?, server, Duration::from_secs(10))?;
     for (request, reply) in [(LOCATE_K1, LOCATE_K1_NONE), (CREATE_K1, CREATE_K1_REPLY)] {
-        let bytes = hex::decode(rt.alloc(), request)?;
-        let wanted = hex::decode(rt.alloc(), reply)?;
-        match link.exchange(rt.alloc(), bytes.as_slice())? {
-            Some(answer) => assert_eq!(rt; answer.as_slice(), wanted.as_slice()),
-            None => assert!(rt; false),
-        }
-        link.end_run(rt.alloc())?;
+        assert_exchanges(&rt, &mut link, request, reply)?;
     }
-    assert_eq!(rt; link.server().records().count(), 1);
+    assert_number(&rt, link.server().records().count(), 1, "objects");
     Ok(())
 }
 
@@ -39,48 +86,99 @@ fn fails_where_nobody_listens(rt: HostRuntime) -> Result<(), Fail> {
     let address = rt.bind(any_port())?.local_addr()?;
     let mut link = TcpLink::new(Tcp::new(rt.clone()?, address), Duration::from_secs(10));
     for failures in 1..=2 {
-        match link.exchange(rt.alloc(), b"request") {
-            Ok(_) => assert!(rt; false),
-            Err(fault) => assert_eq!(rt; fault, LinkFault::Io),
-        }
-        assert_eq!(rt; link.failures(), failures);
-        assert!(rt; !link.is_connected());
+        assert_fails(&rt, &mut link, failures, "nobody listens");
     }
+    Ok(())
+}
+
+/// Sends a request over a new stream. The peer reads it, answers these bytes and closes the stream.
+fn answer_and_close(
+    listener: &<HostRuntime as Net>::Listener,
+    link: &mut TcpLink<HostRuntime>,
+    answer: &[u8],
+) -> Result<(), Fail> {
+    link.send(b"request")?;
+    let (mut stream, _) = listener.accept()?;
+    stream.read_exact(&mut [0; 7])?;
+    stream.write_all(answer)?;
+    Ok(())
+}
+
+/// Sends a request over a new stream, over which this reply comes; and then another, to which what
+/// comes is no message.
+fn answer_and_break(
+    rt: &(impl Abort + AllocGlobal),
+    listener: &<HostRuntime as Net>::Listener,
+    link: &mut TcpLink<HostRuntime>,
+    reply: &[u8],
+) -> Result<(), Fail> {
+    link.send(b"second")?;
+    let (mut stream, _) = listener.accept()?;
+    stream.write_all(reply)?;
+    assert_receives(rt, link, Ok(Some(reply)), true, 0, "second");
+    stream.write_all(&[0; 8])?;
+    link.send(b"third")?;
+    assert_receives(rt, link, Err(LinkFault::Frame), false, 0, "third");
     Ok(())
 }
 
 #[test]
 fn connects_anew_behind_a_lost_reply(rt: HostRuntime) -> Result<(), Fail> {
-    let listener = rt.bind(any_port())?;
-    let address = listener.local_addr()?;
-    let mut link = TcpLink::new(Tcp::new(rt.clone()?, address), Duration::from_secs(10));
+    let (listener, mut link) = listening(&rt)?;
     let reply = hex::decode(rt.alloc(), LOCATE_K1_NONE)?;
-
-    link.send(b"first")?;
-    let (mut stream, _) = listener.accept()?;
     let (front, _) = reply.split_at(reply.len().min(100));
-    stream.read_exact(&mut [0; 5])?;
-    stream.write_all(front)?;
-    drop(stream);
-    assert!(rt; link.receive(rt.alloc())?.is_none());
-    assert!(rt; !link.is_connected());
-    assert_eq!(rt; link.failures(), 0);
+    answer_and_close(&listener, &mut link, front)?;
+    assert_receives(&rt, &mut link, Ok(None), false, 0, "first");
+    answer_and_break(&rt, &listener, &mut link, reply.as_slice())
+}
 
-    link.send(b"second")?;
+/// Exchanges with a peer that closes the stream behind each reply.
+fn close_behind_replies(
+    rt: &(impl Abort + AllocGlobal),
+    listener: &<HostRuntime as Net>::Listener,
+    link: &mut TcpLink<HostRuntime>,
+    reply: &[u8],
+) -> Result<(), Fail> {
+    answer_and_close(listener, link, reply)?;
+    assert_receives(rt, link, Ok(Some(reply)), true, 0, "first");
+    link.send(b"request")?;
+    assert_receives(rt, link, Ok(None), false, 0, "second");
+    for case in ["third", "fourth", "fifth"] {
+        answer_and_close(listener, link, reply)?;
+        assert_receives(rt, link, Ok(Some(reply)), false, 0, case);
+    }
+    Ok(())
+}
+
+#[test]
+fn holds_no_stream_once_a_held_one_was_closed(rt: HostRuntime) -> Result<(), Fail> {
+    let (listener, mut link) = listening(&rt)?;
+    let reply = hex::decode(rt.alloc(), LOCATE_K1_NONE)?;
+    close_behind_replies(&rt, &listener, &mut link, reply.as_slice())
+}
+
+/// A listener on the Unix socket at this path, and a link to it that waits as long.
+fn listening_at(
+    rt: &HostRuntime,
+    path: &str,
+) -> Result<(UnixListener, UnixLink<HostRuntime>), Fail> {
+    let listener = UnixListener::bind(rt, path)?;
+    let address = net::SocketAddr::from_pathname(path)?;
+    let link = UnixLink::new(Unix::new(rt.clone()?, address), Duration::from_secs(10));
+    Ok((listener, link))
+}
+
+/// Sends a request, to which a reply comes through the socket. Then the peer closes the stream.
+fn answer_once(
+    rt: &(impl Abort + AllocGlobal),
+    listener: &UnixListener,
+    link: &mut UnixLink<HostRuntime>,
+) -> Result<(), Fail> {
+    let reply = hex::decode(rt.alloc(), LOCATE_K1_NONE)?;
+    link.send(b"request")?;
     let (mut stream, _) = listener.accept()?;
     stream.write_all(reply.as_slice())?;
-    match link.receive(rt.alloc())? {
-        Some(answer) => assert_eq!(rt; answer.as_slice(), reply.as_slice()),
-        None => assert!(rt; false),
-    }
-    assert!(rt; link.is_connected());
-    stream.write_all(&[0; 8])?;
-    link.send(b"third")?;
-    match link.receive(rt.alloc()) {
-        Ok(_) => assert!(rt; false),
-        Err(fault) => assert_eq!(rt; fault, LinkFault::Frame),
-    }
-    assert!(rt; !link.is_connected());
+    assert_receives(rt, link, Ok(Some(reply.as_slice())), true, 0, "a reply");
     Ok(())
 }
 
@@ -88,25 +186,10 @@ fn connects_anew_behind_a_lost_reply(rt: HostRuntime) -> Result<(), Fail> {
 fn goes_through_a_unix_socket(rt: HostRuntime) -> Result<(), Fail> {
     let id = process::id(rt.process());
     let path = format!(in rt.alloc(); "/tmp/kmip_conformance_transport_{id}.socket")?;
-    let listener = UnixListener::bind(&rt, path.as_str())?;
-    let address = net::SocketAddr::from_pathname(path.as_str())?;
-    let mut link = UnixLink::new(Unix::new(rt.clone()?, address), Duration::from_secs(10));
-    let reply = hex::decode(rt.alloc(), LOCATE_K1_NONE)?;
-    link.send(b"request")?;
-    let (mut stream, _) = listener.accept()?;
+    let (listener, mut link) = listening_at(&rt, path.as_str())?;
+    answer_once(&rt, &listener, &mut link)?;
     fs::remove_file(&rt, path.as_str())?;
-    stream.write_all(reply.as_slice())?;
-    match link.receive(rt.alloc())? {
-        Some(answer) => assert_eq!(rt; answer.as_slice(), reply.as_slice()),
-        None => assert!(rt; false),
-    }
-    assert!(rt; link.is_connected());
-    drop(stream);
-    match link.exchange(rt.alloc(), b"request") {
-        Ok(_) => assert!(rt; false),
-        Err(fault) => assert_eq!(rt; fault, LinkFault::Io),
-    }
-    assert!(rt; !link.is_connected());
+    assert_fails(&rt, &mut link, 1, "a closed stream");
     Ok(())
 }
 
@@ -115,10 +198,6 @@ fn waits_no_longer_than_its_limit(rt: HostRuntime) -> Result<(), Fail> {
     let listener = rt.bind(any_port())?;
     let address = listener.local_addr()?;
     let mut link = TcpLink::new(Tcp::new(rt.clone()?, address), Duration::from_millis(50));
-    match link.exchange(rt.alloc(), b"request") {
-        Ok(_) => assert!(rt; false),
-        Err(fault) => assert_eq!(rt; fault, LinkFault::Io),
-    }
-    assert_eq!(rt; link.failures(), 1);
+    assert_fails(&rt, &mut link, 1, "a silent peer");
     Ok(())
 }

@@ -1,6 +1,7 @@
 //! Streams of messages, answered by a server.
 ghost use Rattle.std.specs.Prelude.{◌≤◌};
 
+use crate::asserting::{assert_bytes, assert_end, assert_number};
 use crate::streams::{ByteReader, ShortWriter};
 use kmip_frames::FrameFault;
 use kmip_server::Server;
@@ -33,9 +34,8 @@ fn answers_all_and_says_what_is_left(rt: HostRuntime) -> Result<(), Fail> {
     let mut reader = ByteReader::ending(input.as_slice());
     let mut output = Vec::new(rt.alloc());
     let end = serve_stream(&mut server, rt.alloc(), 0, &mut reader, &mut output);
-    assert_eq!(rt; end, StreamEnd::Ended(5));
-    assert_eq!(rt; (end.number(), end.name()), (1, "Ended"));
-    assert_eq!(rt; output.as_slice(), wanted.as_slice());
+    assert_end(&rt, end, StreamEnd::Ended(5), 1, "Ended");
+    assert_bytes(&rt, output.as_slice(), wanted.as_slice(), "both replies");
     Ok(())
 }
 
@@ -46,9 +46,8 @@ fn stops_at_another_head(rt: HostRuntime) -> Result<(), Fail> {
     let mut reader = ByteReader::ending(input.as_slice());
     let mut output = Vec::new(rt.alloc());
     let end = serve_stream(&mut server, rt.alloc(), 0, &mut reader, &mut output);
-    assert_eq!(rt; end, StreamEnd::Frame(FrameFault::BadHead));
-    assert_eq!(rt; (end.number(), end.name()), (2, "Frame"));
-    assert_eq!(rt; output.len(), 0);
+    assert_end(&rt, end, StreamEnd::Frame(FrameFault::BadHead), 2, "Frame");
+    assert_number(&rt, output.len(), 0, "no reply");
     Ok(())
 }
 
@@ -59,15 +58,13 @@ fn stops_where_a_stream_fails(rt: HostRuntime) -> Result<(), Fail> {
     let mut reader = ByteReader::failing(input.as_slice());
     let mut output = Vec::new(rt.alloc());
     let end = serve_stream(&mut server, rt.alloc(), 0, &mut reader, &mut output);
-    assert_eq!(rt; end, StreamEnd::Io);
-    assert_eq!(rt; (end.number(), end.name()), (3, "Io"));
-    assert_eq!(rt; output.len(), 152);
+    assert_end(&rt, end, StreamEnd::Io, 3, "Io");
+    assert_number(&rt, output.len(), 152, "a reply");
 
     let mut reader = ByteReader::ending(input.as_slice());
     let mut writer = ShortWriter { room: 151 };
     let end = serve_stream(&mut server, rt.alloc(), 0, &mut reader, &mut writer);
-    assert_eq!(rt; end, StreamEnd::Io);
-    assert_eq!(rt; StreamEnd::NoMemory.number(), 4);
-    assert_eq!(rt; StreamEnd::NoMemory.name(), "NoMemory");
+    assert_end(&rt, end, StreamEnd::Io, 3, "Io");
+    assert_end(&rt, StreamEnd::NoMemory, StreamEnd::NoMemory, 4, "NoMemory");
     Ok(())
 }

@@ -1,32 +1,45 @@
 -- What a contract sees of a link over streams, and what happens to it.
 -- Source: own. Nothing is known of what goes over a network: no clause speaks of its bytes.
-use Rattle.std.specs.Prelude.{ℕ, ◌+◌, Bool, true, false, [], Option, Some, None, Result, Ok, Err}
+use Rattle.std.specs.Prelude.{ℕ, ◌+◌, Bool, true, false, ◌&&◌, not, [], Option, Some, None, Result, Ok, Err}
 use Rattle.kmip_schedule.specs.Clean.{Disturbances}
 use Rattle.kmip_schedule.specs.Past.{Past}
 use Rattle.kmip_schedule.specs.declared.link.LinkFault.{LinkFault}
 use Rattle.kmip_schedule.specs.declared.link.LinkFault.TheVariants.{Io, Frame, NoMemory}
 
--- how often the network has failed, and whether a stream is held
+-- how often the network has failed; whether a stream is open; whether that one was held behind the
+-- reply to an earlier request; and whether streams are held behind replies, or closed there
 pub record LinkState : Type 0 where
   pub failures : ℕ
   pub is_connected : Bool
+  pub is_held : Bool
+  pub holds : Bool
 
+-- a stream is open: the one that was held, or a new one
 abbrev pub opened : LinkState → LinkState
-opened link = record { failures = link.failures; is_connected = true }
+opened link = record link { is_connected = true }
 
 abbrev pub closed : LinkState → LinkState
-closed link = record { failures = link.failures; is_connected = false }
+closed link = record link { is_connected = false; is_held = false }
 
--- the network failed once more
+-- behind a reply its stream is held for the next exchange, or closed
+abbrev pub answered : LinkState → LinkState
+answered link = record link { is_connected = link.holds; is_held = link.holds }
+
+-- there was no reply: where the stream had been held, none is held behind a reply from now on
+abbrev pub lost : LinkState → LinkState
+lost link = record (closed link) { holds = link.holds && not link.is_held }
+
+-- the network failed once more, and there was no reply
 abbrev pub failed : LinkState → LinkState
-failed link = record { failures = link.failures + 1; is_connected = false }
+failed link = record (lost link) { failures = link.failures + 1 }
 
--- the link after a call that hands over a message, or none: a stream is held only behind a message
+-- the link after a call that hands over a message, or none: a stream stays open only behind a
+-- message, and want of memory says nothing of the stream
 abbrev pub link_after : {M : Type 0} → Result (Option M) LinkFault → LinkState → LinkState
-link_after (Ok (Some message)) link = opened link
-link_after (Ok None) link = closed link
+link_after (Ok (Some message)) link = answered link
+link_after (Ok None) link = lost link
 link_after (Err Io) link = failed link
-link_after (Err Frame) link = closed link
+link_after (Err Frame) link = lost link
 link_after (Err NoMemory) link = closed link
 
 -- Private: nothing is claimed of what has happened over a network

@@ -1,7 +1,8 @@
-//! A link over streams: one is held from exchange to exchange, as long as each has a reply.
-ghost use Rattle.std.specs.Prelude.{◌≡◌, ◌<◌, ◌≤◌, false, Ok, None, OnOk, IfErr};
+//! A link over streams: one is held from exchange to exchange, as long as each has a reply. Where a
+//! stream that was held brings none, each exchange has a stream of its own from then on.
+ghost use Rattle.std.specs.Prelude.{◌≡◌, ◌<◌, ◌≤◌, true, false, Ok, None, OnOk, IfErr};
 ghost use Rattle.kmip_schedule.specs.Faults.{most_failures};
-ghost use Rattle.kmip_transport.specs.Links.{opened, closed, failed, link_after};
+ghost use Rattle.kmip_transport.specs.Links.{answered, closed, failed, link_after, lost, opened};
 
 use crate::dial::{Dial, Tcp, Unix};
 use crate::receiving::receive_message;
@@ -21,8 +22,13 @@ pub type UnixLink<R> = StreamLink<Unix<R>>;
 
 /// A link to a server over streams that are opened as they are needed. It connects at the next
 /// exchange, and closes the stream behind each exchange without a reply, so that no later one gets
-/// the reply to an earlier request. An exchange takes no longer than the limit, from connecting to the
-/// last byte of the reply; a peer that is later has failed.
+/// the reply to an earlier request. An exchange takes no longer than the limit, from connecting to
+/// the last byte of the reply; a peer that is later has failed.
+///
+/// Behind a reply the stream is held for the next exchange. Once an exchange over a stream that was
+/// held so ends without a reply, for another cause than want of memory, no stream is held any more:
+/// from then on each is closed behind its reply, and each exchange has a new one. So a peer that
+/// closes the stream behind each reply costs one exchange, and no more.
 #[derive(Drop)]
 pub struct StreamLink<D: Dial + Drop> {
     dial: D,
@@ -30,6 +36,8 @@ pub struct StreamLink<D: Dial + Drop> {
     stream: Option<D::Stream>,
     end: Option<Instant>,
     failures: u64,
+    is_held: bool,
+    holds: bool,
 }
 
 impl<D: Dial + Drop> Model for StreamLink<D> {
@@ -38,13 +46,24 @@ impl<D: Dial + Drop> Model for StreamLink<D> {
 
     ghost Value = { LinkState };
 
-    ghost view = { λ l. record { failures = l.failures; is_connected = is_some l.stream } };
+    ghost view = { λ l. record {
+      failures = l.failures;
+      is_connected = is_some l.stream;
+      is_held = l.is_held;
+      holds = l.holds;
+    } };
 }
 
 impl<D: Dial + Drop> StreamLink<D> {
-    /// A link that is not connected yet. An exchange takes no longer than `limit`.
+    /// A link that is not connected yet, and holds its stream behind a reply. An exchange takes no
+    /// longer than `limit`.
     pub fn new(dial: D, limit: Duration) -> Self
-        ensures { result ≡ record { failures = 0; is_connected = false } }
+        ensures { result ≡ record {
+          failures = 0;
+          is_connected = false;
+          is_held = false;
+          holds = true;
+        } }
     {
         StreamLink {
             dial,
@@ -52,10 +71,12 @@ impl<D: Dial + Drop> StreamLink<D> {
             stream: None,
             end: None,
             failures: 0,
+            is_held: false,
+            holds: true,
         }
     }
 
-    /// Whether a stream is held.
+    /// Whether a stream is open.
     pub fn is_connected(&self) -> bool
         ensures { result ≡ self.now.is_connected }
     {
@@ -69,23 +90,25 @@ impl<D: Dial + Drop> StreamLink<D> {
         self.failures
     }
 
-    /// The stream, if one is held.
+    /// The stream, if one is open.
     pub(crate) fn stream(&self) -> Option<&D::Stream> {
         self.stream.as_ref()
     }
 
-    /// Closes the stream, if one is held.
+    /// Closes the stream, if one is open. Whether later ones are held behind their replies stays.
     pub fn close(&mut self)
         ensures { self.new ≡ closed self.old }
     {
         self.stream = None;
+        self.is_held = false;
     }
 
-    /// Sends the bytes of a request, over the stream that is held, else over a new one. After 2^64 - 1
-    /// failures it sends nothing, and holds no stream.
+    /// Sends the bytes of a request, over the stream that is open, else over a new one. After
+    /// 2^64 - 1 failures it sends nothing, and no stream is open.
     ///
     /// # Errors
-    /// `Io` where the network failed: no stream is held then.
+    /// `Io` where the network failed: no stream is open then, and where one had been held behind a
+    /// reply, none is held any more.
     pub fn send(&mut self, request: &[u8]) -> Result<(), LinkFault>
         ensures sent { OnOk result (self.old.failures < most_failures
             → self.new ≡ opened self.old) }
@@ -108,8 +131,10 @@ impl<D: Dial + Drop> StreamLink<D> {
         }
     }
 
-    /// Receives the bytes of a reply over the stream that is held, in what is left of the exchange's
-    /// time. `None` where no stream is held, or it ends before a whole message came.
+    /// Receives the bytes of a reply over the stream that is open, in what is left of the time of
+    /// the exchange. `None` where no stream is open, or it ends before a whole message came. Behind a
+    /// reply the stream is held, or closed where none is held any more. Without one it is closed; and
+    /// where it had been held, and memory was not lacking, none is held any more.
     ///
     /// # Errors
     /// `Io` where the network failed, `Frame` where what came is no message, and `NoMemory`.
@@ -122,30 +147,39 @@ impl<D: Dial + Drop> StreamLink<D> {
         ensures spent { self.old.failures ≡ most_failures → result ≡ Ok None }
     {
         let Some(mut stream) = self.stream.take() else {
+            self.lose();
             return Ok(None);
         };
         if self.failures == u64::MAX {
+            self.lose();
             return Ok(None);
         }
         match self.received_from(alloc, &mut stream) {
             Ok(Some(reply)) => {
-                self.stream = Some(stream);
+                self.keep(stream);
                 Ok(Some(reply))
             }
             Err(LinkFault::Io) => Err(self.fail()),
-            lost => lost,
+            Err(LinkFault::NoMemory) => {
+                self.close();
+                Err(LinkFault::NoMemory)
+            }
+            lost => {
+                self.lose();
+                lost
+            }
         }
     }
 
-    /// The stream that is held or a new one, over which the request was sent; none where the network
-    /// failed. The time of the exchange begins here.
+    /// The stream that is open or a new one, over which the request was sent; none where the
+    /// network failed. The time of the exchange begins here.
     fn stream_with(&mut self, request: &[u8]) -> Option<D::Stream>
-        ensures { self.new ≡ closed self.old }
+        ensures { self.new ≡ record self.old { is_connected = false } }
     {
-        let held = self.stream.take();
+        let open = self.stream.take();
         let end = self.dial.now().ok()?.checked_add(self.limit)?;
         self.end = Some(end);
-        let mut stream = match held {
+        let mut stream = match open {
             Some(stream) => stream,
             None => self.dial.dial(self.limit).ok()?,
         };
@@ -169,13 +203,31 @@ impl<D: Dial + Drop> StreamLink<D> {
         receive_message(alloc, &mut Timed::new(&self.dial, stream, end), &mut framer)
     }
 
-    /// The network failed: no stream is held, and one more failure is counted.
+    /// A reply came over the stream: it is held for the next exchange, or closed where none is held
+    /// any more.
+    fn keep(&mut self, stream: D::Stream)
+        ensures { self.new ≡ answered self.old }
+    {
+        self.stream = if self.holds { Some(stream) } else { None };
+        self.is_held = self.holds;
+    }
+
+    /// An exchange ends without a reply: no stream is open, and where it had been held behind an
+    /// earlier reply, none is held any more.
+    fn lose(&mut self)
+        ensures { self.new ≡ lost self.old }
+    {
+        self.holds = self.holds && !self.is_held;
+        self.close();
+    }
+
+    /// The network failed: the exchange is lost, and one more failure is counted.
     fn fail(&mut self) -> LinkFault
         requires { self.old.failures < most_failures }
         ensures after { self.new ≡ failed self.old }
         ensures fault { result ≡ LinkFault.Io }
     {
-        self.close();
+        self.lose();
         self.failures += 1;
         LinkFault::Io
     }

@@ -1,0 +1,81 @@
+//! Assertions on what is borrowed: written out in a function that holds owned values they are dear to
+//! check.
+
+use kmip_transport::{Dial, LinkFault, StreamEnd, StreamLink};
+use std::process::Abort;
+
+/// The bytes are the wanted ones.
+pub fn assert_bytes(rt: &impl Abort, bytes: &[u8], wanted: &[u8], case: &str) {
+    assert_eq!(rt; bytes, wanted, "{case}");
+}
+
+/// The number is the wanted one.
+pub fn assert_number(rt: &impl Abort, number: usize, wanted: usize, case: &str) {
+    assert_eq!(rt; number, wanted, "{case}");
+}
+
+/// The condition holds.
+pub fn assert_true(rt: &impl Abort, condition: bool, case: &str) {
+    assert!(rt; condition, "{case}");
+}
+
+/// What was received is this: the bytes of a reply, none, or why there is none.
+pub fn assert_received(
+    rt: &impl Abort,
+    received: &Result<Option<Vec<u8>>, LinkFault>,
+    wanted: Result<Option<&[u8]>, LinkFault>,
+    case: &str,
+) {
+    match (received, wanted) {
+        (Ok(Some(reply)), Ok(Some(wanted))) => assert_bytes(rt, reply.as_slice(), wanted, case),
+        (Ok(None), Ok(None)) => {}
+        (Err(fault), Err(wanted)) => assert_eq!(rt; *fault, wanted, "{case}"),
+        _ => assert_true(rt, false, case),
+    }
+}
+
+/// A message was sent, or was not for this fault.
+pub fn assert_sent(
+    rt: &impl Abort,
+    sent: Result<(), LinkFault>,
+    wanted: Result<(), LinkFault>,
+    case: &str,
+) {
+    assert_eq!(rt; sent, wanted, "{case}");
+}
+
+/// Whether the link is connected, and how often its network has failed.
+pub fn assert_link<D: Dial + Drop>(
+    rt: &impl Abort,
+    link: &StreamLink<D>,
+    is_connected: bool,
+    failures: u64,
+    case: &str,
+) {
+    assert_eq!(rt; link.is_connected(), is_connected, "{case}");
+    assert_eq!(rt; link.failures(), failures, "{case}");
+}
+
+/// A stream came to this end, which has this number and this name.
+pub fn assert_end(rt: &impl Abort, end: StreamEnd, wanted: StreamEnd, number: u32, name: &str) {
+    assert_eq!(rt; end, wanted);
+    assert_eq!(rt; (end.number(), end.name()), (number, name));
+}
+
+/// A stream was served to an end that left so many bytes, and this was answered.
+pub fn assert_served(
+    rt: &impl Abort,
+    end: StreamEnd,
+    left: usize,
+    output: &[u8],
+    answer: &[u8],
+    name: &str,
+) {
+    assert_eq!(rt; end, StreamEnd::Ended(left), "{left} bytes of {name}");
+    assert_eq!(rt; output, answer, "{left} bytes of {name}");
+}
+
+/// The records are still what they were, behind so many bytes of a message.
+pub fn assert_kept(rt: &impl Abort, is_kept: bool, left: usize, name: &str) {
+    assert!(rt; is_kept, "{left} bytes of {name}");
+}
