@@ -178,10 +178,10 @@ message at a time, until every key stands where the plan wants it, in conflict w
 many exchanges were made as it may make. Where a reply is lost it looks at the key before it asks for
 anything again, so that no key is made twice and no step is taken twice.
 
-After each exchange it writes what is known to the progress file. That is absent or whole whenever the
-program is stopped, and after a stop of the machine as far as its disk keeps what it was made to write.
-Where the file is there, it goes on from it; where it is lost or older, nothing is lost: it looks first.
-Two runs on one progress file do not meet: the second prints `progress in use: PATH`.
+After each exchange it writes what is known to the progress file. That is absent or whole whenever
+the program is stopped, and after a stop of the machine as far as its disk keeps what it was made to
+write. Where the file is there, it goes on from it; where it is lost or older, nothing is lost: it
+looks first. Two runs on one progress file do not meet: the second prints `progress in use: PATH`.
 
 At the end it prints the report, a line for each key and one that counts the finished ones, and why it
 stopped after how many exchanges:
@@ -214,12 +214,12 @@ keeps the rules by which `run` makes no key twice and destroys none too early. R
 against a new kind of server, and after its software was changed.
 
 It looks for both names first: where one is there already, or that cannot be told, it says so and makes
-nothing; `refused, reason 12` at the head of that line is the server's refusal to look. Else it makes
-the keys, takes each step twice, searches for them before and after they are destroyed, and asks for
-their names once more. Two destroyed objects stay on the server. Where replies were lost or a Destroy
-was refused, keys of these names may stay that are not destroyed. Where a line says that a second
-object was made, that object stays and is not destroyed: destroy it by hand (its identifier stands in
-the line). They protect nothing: take another PREFIX next time.
+nothing; `refused, reason 12` at the head of that line is the server's refusal to look. Else it
+makes the keys, takes each step twice, searches for them before and after they are destroyed, and
+asks for their names once more. Two destroyed objects stay on the server. Where replies were lost or
+a Destroy was refused, keys of these names may stay that are not destroyed. Where a line says that a
+second object was made, that object stays and is not destroyed: destroy it by hand (its identifier
+stands in the line). They protect nothing: take another PREFIX next time.
 
 A line a rule, then the reasons of the server's refusals in decimal (they decide nothing), then what may go
 wrong where a rule is not kept, and the sum:
