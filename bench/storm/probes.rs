@@ -40,16 +40,21 @@ fn rules(text: &str) -> impl Iterator<Item = (&str, &str)> {
     text.lines().take(8).filter_map(|line| line.split_once(": "))
 }
 
+/// Whether a look at a name was lost or refused, so that nothing was made.
+fn is_unbegun(text: &str) -> bool {
+    text.contains(" is free could not be told; nothing was made")
+}
+
 /// Counts what is said.
 fn count(tally: &mut Tally, text: &str) {
-    if text.starts_with("no reply") {
+    if is_unbegun(text) {
         tally.unbegun += 1;
         return;
     }
     for (_, said) in rules(text) {
         match said {
             "yes" => tally.yes += 1,
-            "no reply" => tally.untold += 1,
+            "could not be told" => tally.untold += 1,
             _ => tally.no += 1,
         }
     }
@@ -63,7 +68,7 @@ pub fn probe_all(shared: &Shared, program: &Path, port: u16, plans: u64) -> io::
     for number in 0..plans {
         let text = probe(shared, program, port, &format!("keeps{number}"), None)?;
         count(&mut tally, &text);
-        if !(text.starts_with("names are unique") || text.starts_with("no reply"))
+        if !(text.starts_with("names are unique") || is_unbegun(&text))
             || rules(&text).any(|(_, said)| said.starts_with("no ("))
         {
             println!("wrong: a server that keeps all rules:\n{text}");
@@ -89,7 +94,7 @@ pub fn probe_all(shared: &Shared, program: &Path, port: u16, plans: u64) -> io::
 
 fn say(of: &str, probes: u64, tally: &Tally) {
     println!(
-        "{probes} probes {of}, {} not begun: {} lines say yes, {} no, {} no reply",
+        "{probes} probes {of}, {} not begun: {} lines say yes, {} no, {} could not be told",
         tally.unbegun, tally.yes, tally.no, tally.untold
     );
 }

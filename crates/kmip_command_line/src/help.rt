@@ -102,7 +102,8 @@ each object of the server:
   ask 3 Activate k1
   record 1 k1 Active
 
-A script has a word a line, at most 10,000 lines; an empty line is skipped. For one exchange each:
+A script has a word a line, at most 10,000 lines. A line ends in a line feed alone (no carriage
+return), and an empty one is skipped. For one exchange each:
   pass          the request is delivered, and its reply handed over
   lose-request  the request is lost
   lose-reply    the request is delivered, and its reply lost
@@ -177,9 +178,10 @@ message at a time, until every key stands where the plan wants it, in conflict w
 many exchanges were made as it may make. Where a reply is lost it looks at the key before it asks for
 anything again, so that no key is made twice and no step is taken twice.
 
-After each exchange it writes what is known to the progress file, which is at any instant absent or whole.
-Where that file is there, it goes on from it; where it is lost or older, nothing is lost: it looks first.
-Two runs on one progress file do not meet: the second prints `progress in use: PATH`.
+After each exchange it writes what is known to the progress file. That is absent or whole whenever
+the program is stopped, and after a stop of the machine as far as its disk keeps what it was made to
+write. Where the file is there, it goes on from it; where it is lost or older, nothing is lost: it
+looks first. Two runs on one progress file do not meet: the second prints `progress in use: PATH`.
 
 At the end it prints the report, a line for each key and one that counts the finished ones, and why it
 stopped after how many exchanges:
@@ -212,10 +214,12 @@ keeps the rules by which `run` makes no key twice and destroys none too early. R
 against a new kind of server, and after its software was changed.
 
 It looks for both names first: where one is there already, or that cannot be told, it says so and makes
-nothing. Else it makes the keys, takes each step twice, searches for them before and after they are
-destroyed, and asks for their names once more. Two destroyed objects stay on the server; where replies were
-lost, a key of these names may stay that is not destroyed. They protect nothing: take another PREFIX next
-time.
+nothing; `refused, reason 12` at the head of that line is the server's refusal to look. Else it
+makes the keys, takes each step twice, searches for them before and after they are destroyed, and
+asks for their names once more. Two destroyed objects stay on the server. Where replies were lost or
+a Destroy was refused, keys of these names may stay that are not destroyed. Where a line says that a
+second object was made, that object stays and is not destroyed: destroy it by hand (its identifier
+stands in the line). They protect nothing: take another PREFIX next time.
 
 A line a rule, then the reasons of the server's refusals in decimal (they decide nothing), then what may go
 wrong where a rule is not kept, and the sum:
@@ -230,7 +234,8 @@ wrong where a rule is not kept, and the sum:
   reasons seen: 53, 67
   a destroyed key may be made again by a Create that arrives late
   the promise does not hold here
-A rule whose replies did not come has `no reply`. The exit status is 0 only where every line says yes.
+A rule has `could not be told` where the replies that would tell did not come, cannot be read, or
+refuse what was asked; the reasons may say why. The exit status is 0 only where every line says yes.
 
 With `--loopback` the server is one in this process, which keeps them all.";
 
@@ -259,7 +264,8 @@ pub(crate) const LIMIT: &str = "How many exchanges are made at most";
 
 pub(crate) const BATCH: &str = "How many keys a message asks about at most, 1 to 8";
 
-pub(crate) const TIMEOUT: &str = "The longest that an exchange takes, with connecting";
+pub(crate) const TIMEOUT: &str = "\
+The longest that an exchange takes, with connecting (connecting to a Unix socket is not limited)";
 
 pub(crate) const WAIT: &str =
     "The wait after an exchange without a reply, twice as long each time up to 10 seconds; 0 for none";

@@ -121,7 +121,7 @@ const ROWS: [Row; 12] = [
     Row {
         breach: Breach::NoId,
         place: 7,
-        said: "no (a reply has none)",
+        said: "no (a reply has none, or another)",
         reasons: "53, 67",
         risk: "no reply can be believed, and no key is finished\n",
         sum: UNFINISHED,

@@ -6,7 +6,7 @@
 //! 20 to 23 its Locates; 24 and 25 Revoke and Destroy of the second.
 
 use crate::asserting::{assert_number, assert_status, assert_written};
-use crate::report::{ALL, KEPT, Told, report_of};
+use crate::report::{ALL, KEPT, Told, UNTOLD, report_of};
 use kmip_commands::ExitStatus;
 use kmip_probe::run_probe;
 use kmip_scripted::{Scripted, read_script};
@@ -23,7 +23,7 @@ struct Row {
     sum: &'static str,
 }
 
-const UNSURE: &str = "not all could be told: probe again, with another prefix";
+const UNSURE: &str = "not all could be told: see the reasons, or probe again with another prefix";
 
 /// A reason is 53 for a used name, and 67 for a state that has no such step.
 const ROWS: [Row; 10] = [
@@ -36,21 +36,21 @@ const ROWS: [Row; 10] = [
     // The first Create is made, and the reply is lost: a Locate tells the identifier.
     Row {
         script: "pass\npass\nlose-reply\n",
-        told: ["no reply", "yes", "yes", "yes", "yes", "yes", "yes", "yes"],
+        told: [UNTOLD, "yes", "yes", "yes", "yes", "yes", "yes", "yes"],
         reasons: "53, 67",
         sum: UNSURE,
     },
     // The refusal of the second Create is lost.
     Row {
         script: "pass\npass\npass\nlose-reply\n",
-        told: ["no reply", "yes", "yes", "yes", "yes", "yes", "yes", "yes"],
+        told: [UNTOLD, "yes", "yes", "yes", "yes", "yes", "yes", "yes"],
         reasons: "67, 53",
         sum: UNSURE,
     },
     // In its place the reply to the first comes once more, which has another id.
     Row {
         script: "pass\npass\npass\nstale 3\n",
-        told: ["no reply", "yes", "yes", "yes", "yes", "yes", "yes", "yes"],
+        told: [UNTOLD, "yes", "yes", "yes", "yes", "yes", "yes", "yes"],
         reasons: "67, 53",
         sum: UNSURE,
     },
@@ -64,30 +64,28 @@ const ROWS: [Row; 10] = [
     // The attributes are lost.
     Row {
         script: "pass\npass\npass\npass\npass\npass\npass\npass\nlose-request\n",
-        told: ["yes", "yes", "yes", "yes", "yes", "yes", "no reply", "yes"],
+        told: ["yes", "yes", "yes", "yes", "yes", "yes", UNTOLD, "yes"],
         reasons: "53, 67",
         sum: UNSURE,
     },
     // The first Activate is not served: the second takes the step.
     Row {
         script: "pass\npass\npass\npass\npass\npass\npass\npass\npass\nlose-request\n",
-        told: ["yes", "yes", "no reply", "yes", "yes", "yes", "yes", "yes"],
+        told: ["yes", "yes", UNTOLD, "yes", "yes", "yes", "yes", "yes"],
         reasons: "53, 67",
         sum: UNSURE,
     },
     // The second Create is lost both ways: nothing is asked about an identifier that is not known.
     Row {
         script: "pass\npass\npass\npass\npass\npass\npass\npass\npass\npass\npass\npass\npass\nlose-reply\n",
-        told: ["yes", "yes", "yes", "no reply", "yes", "yes", "yes", "yes"],
+        told: ["yes", "yes", "yes", UNTOLD, "yes", "yes", "yes", "yes"],
         reasons: "53, 67",
         sum: UNSURE,
     },
     // No identifier is told before the name is asked for again: its object was never destroyed.
     Row {
         script: "pass\npass\nlose-request\nlose-reply\nlose-reply\nlose-reply\nlose-reply\nlose-reply\n",
-        told: [
-            "no reply", "no reply", "no reply", "yes", "no reply", "no reply", "no reply", "yes",
-        ],
+        told: [UNTOLD, UNTOLD, UNTOLD, "yes", UNTOLD, UNTOLD, UNTOLD, "yes"],
         reasons: "67, 53",
         sum: UNSURE,
     },
@@ -95,9 +93,7 @@ const ROWS: [Row; 10] = [
     Row {
         script: "pass\npass\npass\npass\npass\npass\npass\npass\npass\npass\npass\npass\npass\npass\n\
             pass\npass\npass\npass\npass\npass\npass\npass\nlose-reply\n",
-        told: [
-            "yes", "no reply", "yes", "yes", "yes", "no reply", "yes", "yes",
-        ],
+        told: ["yes", UNTOLD, "yes", "yes", "yes", UNTOLD, "yes", "yes"],
         reasons: "53, 67",
         sum: UNSURE,
     },

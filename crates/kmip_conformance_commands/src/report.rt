@@ -9,6 +9,9 @@ pub(crate) type Told = [&'static str; 8];
 
 pub(crate) const ALL: Told = ["yes"; 8];
 
+/// What is told of a rule of which no reply says whether it is kept.
+pub(crate) const UNTOLD: &str = "could not be told";
+
 /// The sum where every rule is kept.
 pub(crate) const KEPT: &str =
     "the promise holds here: each key is made once, and its steps are made once and in order";

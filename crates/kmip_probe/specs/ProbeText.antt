@@ -1,9 +1,10 @@
 -- What `probe` writes for the answers of its questions.
 -- Source: own: what the program prints.
 use Rattle.std.specs.Prelude.{◌≡◌, ℕ, Bool, true, not, List, [], ◌∷◌, ◌++◌, codes, Option, Some, None, if◌then◌else◌}
+use Rattle.std.specs.Fmt.{decimal}
 use Rattle.std.specs.Io.KnownBytes.{Appends}
 use Rattle.kmip_messages.specs.declared.reply.Outcome.{Outcome}
-use Rattle.kmip_messages.specs.declared.reply.Outcome.TheVariants.{Located}
+use Rattle.kmip_messages.specs.declared.reply.Outcome.TheVariants.{Located, Failed}
 use Rattle.kmip_messages.specs.declared.standard.TheConstants.{REASON_NON_UNIQUE_NAME, REASON_WRONG_STATE}
 use Rattle.kmip_schedule.specs.Past.{Names, Past}
 use Rattle.kmip_ttlv.specs.Showing.{plain_text}
@@ -25,12 +26,19 @@ unfit_text = codes "prefix refused: it is not 1 to 62 printable ASCII characters
 unfoldable pub used_text : List ℕ → List ℕ → List ℕ
 used_text name uid = name ++ codes " is used already, and nothing was made; its object is " ++ plain_text uid ++ codes "\n"
 
-unfoldable pub unsure_text : List ℕ → List ℕ
-unsure_text name = codes "no reply: whether " ++ name ++ codes " is free could not be told; nothing was made\n"
+unfoldable pub unsure_text : List ℕ → List ℕ → List ℕ
+unsure_text why name = why ++ codes ": whether " ++ name ++ codes " is free could not be told; nothing was made\n"
 
+-- why it could not be told: the look was refused, with the number of the Result Reason where there is one; else no reply tells it
+abbrev pub why_text : Option Outcome → List ℕ
+why_text (Some (Failed (Some reason))) = codes "refused, reason " ++ decimal reason
+why_text (Some (Failed None)) = codes "refused"
+why_text outcome = codes "no reply"
+
+-- what is told by the outcome of the look at a name
 abbrev pub look_text : List ℕ → Option Outcome → List ℕ
 look_text name (Some (Located (uid ∷ uids))) = used_text name uid
-look_text name outcome = unsure_text name
+look_text name outcome = unsure_text (why_text outcome) name
 
 -- what is told where a name is not seen to be free; none where both are
 abbrev pub unbegun_text : List ℕ → List Answer → Option (List ℕ)

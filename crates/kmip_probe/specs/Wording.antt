@@ -24,13 +24,13 @@ flaw_text NotFound = codes "mask 5 does not find it"
 flaw_text (Missing attribute) = attribute_text attribute ++ codes " is missing"
 flaw_text (Different attribute) = attribute_text attribute ++ codes " is another"
 flaw_text Refused = codes "it is refused"
-flaw_text NoId = codes "a reply has none"
+flaw_text NoId = codes "a reply has none, or another"
 
 -- what is found of a premise
 abbrev pub finding_text : Finding → List ℕ
 finding_text Kept = codes "yes"
 finding_text (Broken flaw) = codes "no (" ++ flaw_text flaw ++ codes ")"
-finding_text Untold = codes "no reply"
+finding_text Untold = codes "could not be told"
 
 -- a premise in words
 abbrev pub premise_text : Premise → List ℕ
@@ -108,7 +108,7 @@ sum_text findings =
     else (if list_any (is_unsafe findings) PREMISES then codes "the promise does not hold here\n"
     else (if list_any (λ p. is_broken (finding_of findings p)) PREMISES
     then codes "no key is made twice or destroyed too early here, but keys may stay unfinished\n"
-    else codes "not all could be told: probe again, with another prefix\n"))
+    else codes "not all could be told: see the reasons, or probe again with another prefix\n"))
 
 -- all that is printed
 abbrev pub report_text : Findings → List ℕ

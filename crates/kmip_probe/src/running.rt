@@ -14,6 +14,7 @@ ghost use Rattle.kmip_probe.specs.ProbeText.{
   unfit_text,
   unsure_text,
   used_text,
+  why_text,
 };
 
 use crate::wording::{are_all_kept, report};
@@ -171,7 +172,8 @@ fn look_text(
             return used_text(alloc, name.as_str(), uid.as_str());
         }
     }
-    unsure_text(alloc, name.as_str())
+    let why = why_text(alloc, outcome)?;
+    unsure_text(alloc, why.as_str(), name.as_str())
 }
 
 /// An object has the name.
@@ -191,16 +193,33 @@ fn used_text(alloc: Global, name: &str, uid: &str) -> Result<String, NoMemory>
     Ok(text)
 }
 
-/// Whether an object has the name could not be told.
+/// Why it could not be told whether an object has the name: the look was refused, with the number
+/// of the Result Reason where there is one, or no reply tells it.
+///
+/// # Errors
+/// Where there is no memory.
+fn why_text(alloc: Global, outcome: Option<&Outcome>) -> Result<String, NoMemory>
+    ensures { IfOk result (λ text. string_bytes text
+        ≡ why_text (option_map (λ o. o.now) outcome.entry)) }
+{
+    let text = match outcome {
+        Some(Outcome::Failed(Some(reason))) => format!(in alloc; "refused, reason {reason}")?,
+        Some(Outcome::Failed(None)) => format!(in alloc; "refused")?,
+        _ => format!(in alloc; "no reply")?,
+    };
+    Ok(text)
+}
+
+/// Whether an object has the name could not be told, and why.
 ///
 /// # Errors
 /// Where there is no memory.
 #[tactic(auto, unfolding(crate::specs::ProbeText::unsure_text))]
-fn unsure_text(alloc: Global, name: &str) -> Result<String, NoMemory>
-    ensures { IfOk result (λ text. string_bytes text ≡ unsure_text name.now) }
+fn unsure_text(alloc: Global, why: &str, name: &str) -> Result<String, NoMemory>
+    ensures { IfOk result (λ text. string_bytes text ≡ unsure_text why.now name.now) }
 {
-    let text = format!(in alloc;
-        "no reply: whether {name} is free could not be told; nothing was made\n"
-    )?;
+    let mut text = format!(in alloc; "{why}: whether ")?;
+    text.push_str(name)?;
+    text.push_str(" is free could not be told; nothing was made\n")?;
     Ok(text)
 }

@@ -40,7 +40,7 @@ fn flaw_text(alloc: Global, flaw: &Flaw) -> Result<String, NoMemory>
         Flaw::Missing(attribute) => format!(in alloc; "{} is missing", attribute.name())?,
         Flaw::Different(attribute) => format!(in alloc; "{} is another", attribute.name())?,
         Flaw::Refused => format!(in alloc; "it is refused")?,
-        Flaw::NoId => format!(in alloc; "a reply has none")?,
+        Flaw::NoId => format!(in alloc; "a reply has none, or another")?,
     };
     Ok(text)
 }
@@ -58,7 +58,7 @@ fn finding_text(alloc: Global, finding: &Finding) -> Result<String, NoMemory>
             let flaw = flaw_text(alloc, flaw)?;
             format!(in alloc; "no ({flaw})")?
         }
-        Finding::Untold => format!(in alloc; "no reply")?,
+        Finding::Untold => format!(in alloc; "could not be told")?,
     };
     Ok(text)
 }
@@ -135,7 +135,7 @@ fn sum_text(findings: &Findings) -> &'static str
     if has_broken(findings) {
         return "no key is made twice or destroyed too early here, but keys may stay unfinished\n";
     }
-    "not all could be told: probe again, with another prefix\n"
+    "not all could be told: see the reasons, or probe again with another prefix\n"
 }
 
 /// What may go wrong by a premise: a line where it is broken.
