@@ -157,7 +157,7 @@ fn holds_no_stream_once_a_held_one_was_closed(rt: HostRuntime) -> Result<(), Fai
     close_behind_replies(&rt, &listener, &mut link, reply.as_slice())
 }
 
-/// A listener on the Unix socket at this path, and a link to it that waits as long.
+/// A listener on the Unix socket at this path, and a link to it that waits ten seconds too.
 fn listening_at(
     rt: &HostRuntime,
     path: &str,

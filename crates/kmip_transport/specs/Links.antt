@@ -14,7 +14,7 @@ pub record LinkState : Type 0 where
   pub is_held : Bool
   pub holds : Bool
 
--- a stream is open: the one that was held, or a new one
+-- a stream is open: the one that was, or a new one, which was held behind no reply
 abbrev pub opened : LinkState → LinkState
 opened link = record link { is_connected = true }
 
