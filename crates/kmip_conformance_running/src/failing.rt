@@ -94,6 +94,10 @@ impl<'a> Files for FailingDisk<'a> {
     fn canonicalize<B: Allocator>(&self, alloc: B, path: &str) -> io::Result<PathBuf<B>> {
         self.rt.canonicalize(alloc, path)
     }
+
+    fn read_link<B: Allocator>(&self, alloc: B, path: &str) -> io::Result<PathBuf<B>> {
+        self.rt.read_link(alloc, path)
+    }
 }
 
 impl<'a> Read for FailingFile<'a> {

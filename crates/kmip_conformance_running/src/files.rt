@@ -90,6 +90,59 @@ fn a_link_stays_and_its_file_gets_the_text(rt: HostRuntime) -> Result<(), Fail> 
 }
 
 #[test]
+fn links_to_a_file_that_is_not_there_yet_stay(rt: HostRuntime) -> Result<(), Fail> {
+    let folder = folder(&rt, "links")?;
+    let path = format!(in rt.alloc(); "{folder}/progress")?;
+    let inner = format!(in rt.alloc(); "{folder}/inner")?;
+    let second = format!(in rt.alloc(); "{inner}/second")?;
+    let first = format!(in rt.alloc(); "{folder}/first")?;
+    fs::create_dir(&rt, inner.as_str())?;
+    rt.symlink("../progress", second.as_str())?;
+    rt.symlink("inner/second", first.as_str())?;
+    let file = ProgressFile::at(&rt, first.as_str())?;
+    assert_eq!(rt; file.read()?, None);
+    let lock = file.lock();
+    assert!(rt; lock.is_ok());
+    file.write(AFTER.as_bytes())?;
+    let same = ProgressFile::at(&rt, path.as_str())?;
+    assert!(rt; matches!(same.lock(), Err(LockFault::InUse)));
+    drop(lock);
+    assert!(rt; rt.symlink_metadata(first.as_str())?.is_symlink());
+    assert!(rt; rt.symlink_metadata(second.as_str())?.is_symlink());
+    assert!(rt; !rt.symlink_metadata(path.as_str())?.is_symlink());
+    let text = text_in(&rt, path.as_str())?.unwrap_or(String::new(rt.alloc()));
+    assert_eq!(rt; text.as_str(), AFTER);
+    Ok(())
+}
+
+#[test]
+fn a_link_to_a_whole_path_is_followed(rt: HostRuntime) -> Result<(), Fail> {
+    let folder = folder(&rt, "whole_path")?;
+    let path = format!(in rt.alloc(); "{folder}/progress")?;
+    let link = format!(in rt.alloc(); "{folder}/link")?;
+    rt.symlink(path.as_str(), link.as_str())?;
+    ProgressFile::at(&rt, link.as_str())?.write(AFTER.as_bytes())?;
+    assert!(rt; rt.symlink_metadata(link.as_str())?.is_symlink());
+    let text = text_in(&rt, path.as_str())?.unwrap_or(String::new(rt.alloc()));
+    assert_eq!(rt; text.as_str(), AFTER);
+    Ok(())
+}
+
+#[test]
+fn links_in_a_circle_are_no_file(rt: HostRuntime) -> Result<(), Fail> {
+    let folder = folder(&rt, "circle")?;
+    let one = format!(in rt.alloc(); "{folder}/one")?;
+    let other = format!(in rt.alloc(); "{folder}/other")?;
+    rt.symlink("other", one.as_str())?;
+    rt.symlink("one", other.as_str())?;
+    match ProgressFile::at(&rt, one.as_str()) {
+        Ok(_) => assert!(rt; false, "there is a file"),
+        Err(error) => assert!(rt; error.kind() == ErrorKind::FilesystemLoop),
+    }
+    Ok(())
+}
+
+#[test]
 fn is_of_one_run_at_a_time(rt: HostRuntime) -> Result<(), Fail> {
     let folder = folder(&rt, "lock")?;
     let path = format!(in rt.alloc(); "{folder}/progress")?;

@@ -1,11 +1,11 @@
 //! The file of a progress.
 
+use crate::links::{file_behind, folder_of};
 use crate::lock::{LockFault, ProgressLock};
 use std::alloc::{AllocError, Global};
 use std::fs::{self, File, Files, OpenFile, OpenOptions};
 use std::io::{self, Error, ErrorKind, Read, Write};
 use std::os::unix::fs::OpenOptionsExt;
-use std::path::Path;
 
 /// The file's owner may read and write it, and nobody else.
 pub(crate) const OWNER_ALONE: u32 = 0o600;
@@ -25,19 +25,14 @@ pub struct ProgressFile<'a, R> {
 }
 
 impl<'a, R: Files + AllocGlobal> ProgressFile<'a, R> {
-    /// The file at this path; where a symbolic link stands there, the file that it leads to.
+    /// The file at this path; where a symbolic link stands there, the file that it leads to, also
+    /// where that is not there yet.
     ///
     /// # Errors
     ///
-    /// Where there is no memory, or the link leads in a circle.
+    /// Where there is no memory, a link cannot be read, or the links lead in a circle.
     pub fn at(rt: &'a R, path: &str) -> io::Result<Self> {
-        let path = match fs::canonicalize(rt, path) {
-            Ok(path) => String::from_str(rt.alloc(), path.as_str())?,
-            Err(error) if error.kind() == ErrorKind::NotFound => {
-                String::from_str(rt.alloc(), path)?
-            }
-            Err(error) => return Err(error),
-        };
+        let path = file_behind(rt, path)?;
         Ok(ProgressFile { rt, path })
     }
 
@@ -97,13 +92,5 @@ impl<'a, R: Files<File = File> + AllocGlobal> ProgressFile<'a, R> {
             Ok(path) => ProgressLock::take(self.rt, path.as_str()),
             Err(AllocError) => Err(LockFault::Io(Error::from(ErrorKind::OutOfMemory))),
         }
-    }
-}
-
-/// The folder that the file at this path stands in.
-fn folder_of(path: &str) -> Path<'_> {
-    match Path::new(path).parent() {
-        Some(folder) if !folder.as_os_str().is_empty() => folder,
-        _ => Path::new("."),
     }
 }

@@ -2,6 +2,7 @@
 #![tactic(auto)]
 
 mod file;
+mod links;
 mod lock;
 
 pub use file::{MOST_FILE_BYTES, ProgressFile};
