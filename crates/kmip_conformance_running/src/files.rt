@@ -25,10 +25,21 @@ fn folder(rt: &HostRuntime, name: &str) -> io::Result<String> {
     Ok(path)
 }
 
-/// Writes a text while the disk fails after so many steps; whether it could be written.
-fn writes(rt: &HostRuntime, path: &str, steps: usize, text: &str) -> io::Result<bool> {
+/// Writes a text to a disk that fails after so many steps, which may be such that `removes` files at
+/// any time; whether it could be written.
+fn writes(
+    rt: &HostRuntime,
+    path: &str,
+    steps: usize,
+    removes: bool,
+    text: &str,
+) -> io::Result<bool> {
     let left = Cell::new(steps);
-    let disk = FailingDisk { rt, left: &left };
+    let disk = FailingDisk {
+        rt,
+        left: &left,
+        removes,
+    };
     let file = ProgressFile::at(&disk, path)?;
     Ok(file.write(text.as_bytes()).is_ok())
 }
@@ -38,13 +49,22 @@ fn text_in(rt: &HostRuntime, path: &str) -> io::Result<Option<String>> {
     ProgressFile::at(rt, path)?.read()
 }
 
+/// Whether nothing stands at this path.
+fn is_free(rt: &HostRuntime, path: &str) -> io::Result<bool> {
+    match rt.symlink_metadata(path) {
+        Ok(_) => Ok(false),
+        Err(error) if error.kind() == ErrorKind::NotFound => Ok(true),
+        Err(error) => Err(error),
+    }
+}
+
 #[test]
 fn is_whole_wherever_the_disk_fails(rt: HostRuntime) -> Result<(), Fail> {
     let folder = folder(&rt, "whole")?;
     let path = format!(in rt.alloc(); "{folder}/progress")?;
     for steps in 0..20 {
         ProgressFile::at(&rt, path.as_str())?.write(BEFORE.as_bytes())?;
-        let is_written = writes(&rt, path.as_str(), steps, AFTER)?;
+        let is_written = writes(&rt, path.as_str(), steps, false, AFTER)?;
         let text = text_in(&rt, path.as_str())?.unwrap_or(String::new(rt.alloc()));
         if is_written {
             assert_eq!(rt; text.as_str(), AFTER, "after {steps} steps");
@@ -66,11 +86,28 @@ fn is_absent_or_whole_at_first(rt: HostRuntime) -> Result<(), Fail> {
     for steps in 0..10 {
         let path = format!(in rt.alloc(); "{folder}/progress{steps}")?;
         assert_eq!(rt; text_in(&rt, path.as_str())?, None);
-        let is_written = writes(&rt, path.as_str(), steps, AFTER)?;
+        let is_written = writes(&rt, path.as_str(), steps, false, AFTER)?;
         match text_in(&rt, path.as_str())? {
             Some(text) => assert_eq!(rt; text.as_str(), AFTER, "after {steps} steps"),
             None => assert!(rt; !is_written, "after {steps} steps"),
         }
+    }
+    Ok(())
+}
+
+#[test]
+fn leaves_nothing_beside_it_where_the_disk_is_full(rt: HostRuntime) -> Result<(), Fail> {
+    let folder = folder(&rt, "full")?;
+    let path = format!(in rt.alloc(); "{folder}/progress")?;
+    let beside = format!(in rt.alloc(); "{path}.new")?;
+    for steps in 0..10 {
+        ProgressFile::at(&rt, path.as_str())?.write(BEFORE.as_bytes())?;
+        let is_written = writes(&rt, path.as_str(), steps, true, AFTER)?;
+        assert_eq!(rt; is_written, steps > 5, "after {steps} steps");
+        let text = text_in(&rt, path.as_str())?.unwrap_or(String::new(rt.alloc()));
+        let wanted = if steps > 3 { AFTER } else { BEFORE };
+        assert_eq!(rt; text.as_str(), wanted, "after {steps} steps");
+        assert!(rt; is_free(&rt, beside.as_str())?, "after {steps} steps");
     }
     Ok(())
 }

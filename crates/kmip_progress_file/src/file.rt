@@ -59,12 +59,20 @@ impl<'a, R: Files + AllocGlobal> ProgressFile<'a, R> {
     /// # Errors
     ///
     /// Where it cannot be written: the file is as it was before, or, where only the folder could not
-    /// be brought to the disk, has the new text.
+    /// be brought to the disk, has the new text. Nothing stays beside it, if that can be removed.
     pub fn write(&self, text: &[u8]) -> io::Result<()> {
         let beside = format!(in self.rt.alloc(); "{}.new", self.path)?;
-        self.write_beside(beside.as_str(), text)?;
-        fs::rename(self.rt, beside.as_str(), self.path.as_str())?;
+        if let Err(error) = self.replace_by(beside.as_str(), text) {
+            let _ = fs::remove_file(self.rt, beside.as_str());
+            return Err(error);
+        }
         fs::open(self.rt, folder_of(self.path.as_str()))?.sync_all()
+    }
+
+    /// Writes the text to a new file at this path, which then takes the place of the file.
+    fn replace_by(&self, path: &str, text: &[u8]) -> io::Result<()> {
+        self.write_beside(path, text)?;
+        fs::rename(self.rt, path, self.path.as_str())
     }
 
     /// Writes the text to a new file at this path, and brings it to the disk.
