@@ -1,7 +1,7 @@
 //! What stands in the file.
 
 use crate::failing::FailingDisk;
-use kmip_progress_file::{LockFault, ProgressFile};
+use kmip_progress_file::{LockFault, ProgressFile, text_of};
 use std::cell::Cell;
 use std::env;
 use std::fs::{self, Files};
@@ -205,5 +205,29 @@ fn is_no_text(rt: HostRuntime) -> Result<(), Fail> {
     let file = ProgressFile::at(&rt, path.as_str())?;
     file.write(&[0xff, 0xfe])?;
     assert!(rt; file.read().is_err());
+    Ok(())
+}
+
+/// What kind of failure it is to read the text of a file that may have so many bytes; none where it is
+/// read.
+fn failure(rt: &HostRuntime, path: &str, most_bytes: u64) -> Option<ErrorKind> {
+    match text_of(rt, path, most_bytes) {
+        Ok(_) => None,
+        Err(error) => Some(error.kind()),
+    }
+}
+
+#[test]
+fn is_too_long_before_it_is_no_text(rt: HostRuntime) -> Result<(), Fail> {
+    let folder = folder(&rt, "too_long")?;
+    let path = format!(in rt.alloc(); "{folder}/text")?;
+    let file = ProgressFile::at(&rt, path.as_str())?;
+    file.write(b"a\xc3\xa9")?;
+    assert!(rt; failure(&rt, path.as_str(), 3).is_none());
+    assert!(rt; failure(&rt, path.as_str(), 2) == Some(ErrorKind::FileTooLarge));
+    assert!(rt; failure(&rt, path.as_str(), 1) == Some(ErrorKind::FileTooLarge));
+    file.write(b"a\xc3")?;
+    assert!(rt; failure(&rt, path.as_str(), 2) == Some(ErrorKind::InvalidData));
+    assert!(rt; failure(&rt, path.as_str(), 1) == Some(ErrorKind::FileTooLarge));
     Ok(())
 }

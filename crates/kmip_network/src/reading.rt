@@ -1,11 +1,12 @@
 //! The texts of files, and of plans among them.
 
+use crate::linking::refused;
 use kmip_check::{check_bytes, run_check};
 use kmip_commands::ExitStatus;
-use kmip_progress_file::MOST_FILE_BYTES;
+use kmip_progress_file::{MOST_FILE_BYTES, text_of};
 use kmip_ttlv::NoMemory;
-use std::io::{BufWriter, Error, ErrorKind, Read};
-use std::{fs, io};
+use std::io;
+use std::io::{BufWriter, Error, ErrorKind};
 
 /// How the program ends where a text is no plan, which is printed; none where it is one.
 pub fn refusal_of(rt: &HostRuntime, plan: &str) -> io::Result<Option<ExitStatus>> {
@@ -27,28 +28,15 @@ fn is_refused(rt: &HostRuntime, plan: &str) -> io::Result<bool> {
 
 /// The text of a file; where it has none, or one that is too long, that is printed.
 pub fn text_or_why_not(rt: &HostRuntime, path: &str) -> io::Result<Option<String>> {
-    match text_of(rt, path) {
-        Ok(Some(text)) => Ok(Some(text)),
-        Ok(None) => {
+    match text_of(rt, path, MOST_FILE_BYTES) {
+        Ok(text) => Ok(Some(text)),
+        Err(error) if error.kind() == ErrorKind::FileTooLarge => {
             rt.println(format_args!("longer than {MOST_FILE_BYTES} bytes: {path}"))?;
             Ok(None)
         }
         Err(error) => {
-            if error.kind() == ErrorKind::OutOfMemory {
-                return Err(error);
-            }
-            rt.println(format_args!("cannot read {path}"))?;
+            refused(rt, error, "cannot read", path)?;
             Ok(None)
         }
     }
-}
-
-/// The text of a file, unless it is longer than is read.
-fn text_of(rt: &HostRuntime, path: &str) -> io::Result<Option<String>> {
-    let file = fs::open(rt, path)?;
-    let text = io::read_to_string(rt.alloc(), file.take(MOST_FILE_BYTES + 1))?;
-    if text.len() as u64 > MOST_FILE_BYTES {
-        return Ok(None);
-    }
-    Ok(Some(text))
 }

@@ -2,9 +2,10 @@
 
 use crate::links::{file_behind, folder_of};
 use crate::lock::{LockFault, ProgressLock};
+use crate::reading::text_of;
 use std::alloc::{AllocError, Global};
 use std::fs::{self, File, Files, OpenFile, OpenOptions};
-use std::io::{self, Error, ErrorKind, Read, Write};
+use std::io::{self, Error, ErrorKind, Write};
 use std::os::unix::fs::OpenOptionsExt;
 
 /// The file's owner may read and write it, and nobody else.
@@ -40,18 +41,14 @@ impl<'a, R: Files + AllocGlobal> ProgressFile<'a, R> {
     ///
     /// # Errors
     ///
-    /// Where it cannot be read, is longer than `MOST_FILE_BYTES`, or is no UTF-8.
+    /// Where it cannot be read or is no UTF-8, and `FileTooLarge` where it is longer than
+    /// `MOST_FILE_BYTES`.
     pub fn read(&self) -> io::Result<Option<String>> {
-        let file = match fs::open(self.rt, self.path.as_str()) {
-            Ok(file) => file,
-            Err(error) if error.kind() == ErrorKind::NotFound => return Ok(None),
-            Err(error) => return Err(error),
-        };
-        let text = io::read_to_string(self.rt.alloc(), file.take(MOST_FILE_BYTES + 1))?;
-        if text.len() as u64 > MOST_FILE_BYTES {
-            return Err(Error::from(ErrorKind::InvalidData));
+        match text_of(self.rt, self.path.as_str(), MOST_FILE_BYTES) {
+            Ok(text) => Ok(Some(text)),
+            Err(error) if error.kind() == ErrorKind::NotFound => Ok(None),
+            Err(error) => Err(error),
         }
-        Ok(Some(text))
     }
 
     /// Gives the file this text, and returns once it is on the disk.
