@@ -1,7 +1,7 @@
 //! What stands in the file.
 
 use crate::failing::FailingDisk;
-use kmip_progress_file::{LockFault, ProgressFile, text_of};
+use kmip_progress_file::{LockFault, MOST_PROGRESS_BYTES, ProgressFile, text_of};
 use std::cell::Cell;
 use std::env;
 use std::fs::{self, Files};
@@ -215,6 +215,25 @@ fn failure(rt: &HostRuntime, path: &str, most_bytes: u64) -> Option<ErrorKind> {
         Ok(_) => None,
         Err(error) => Some(error.kind()),
     }
+}
+
+#[test]
+fn is_read_up_to_its_limit(rt: HostRuntime) -> Result<(), Fail> {
+    let folder = folder(&rt, "limit")?;
+    let path = format!(in rt.alloc(); "{folder}/progress")?;
+    let file = ProgressFile::at(&rt, path.as_str())?;
+    let mut text = Vec::new(rt.alloc());
+    text.resize(MOST_PROGRESS_BYTES as usize, b'x')?;
+    file.write(text.as_slice())?;
+    let longest = file.read()?.unwrap_or(String::new(rt.alloc()));
+    assert_eq!(rt; longest.len() as u64, MOST_PROGRESS_BYTES);
+    text.push(b'x')?;
+    file.write(text.as_slice())?;
+    match file.read() {
+        Ok(_) => assert!(rt; false, "it is read"),
+        Err(error) => assert!(rt; error.kind() == ErrorKind::FileTooLarge),
+    }
+    Ok(())
 }
 
 #[test]

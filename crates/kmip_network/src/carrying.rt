@@ -3,12 +3,12 @@ ghost use Rattle.std.specs.Prelude.{IsTrue};
 ghost use Rattle.kmip_batches.specs.Members.{may_have};
 
 use crate::linking::{loopback, refused, tcp_link, unix_link};
-use crate::reading::{refusal_of, text_or_why_not};
+use crate::reading::{refusal_of, text_or_why_not, unread};
 use crate::showing::Standing;
 use crate::telling::Teller;
 use kmip_choices::{Peer, RunOptions};
 use kmip_commands::ExitStatus;
-use kmip_progress_file::{LockFault, ProgressFile, ProgressLock};
+use kmip_progress_file::{LockFault, MOST_PROGRESS_BYTES, ProgressFile, ProgressLock};
 use kmip_run::{RunInput, batch_of, run_run};
 use kmip_running::{Keeper, Observed, Paced, SaveFault};
 use kmip_schedule::Link;
@@ -57,7 +57,7 @@ pub fn run_plan(rt: &HostRuntime, options: &RunOptions) -> io::Result<ExitStatus
     };
     let saved = match file.read() {
         Ok(saved) => saved,
-        Err(error) => return refused(rt, error, "cannot read", path),
+        Err(error) => return unread(rt, error, path, MOST_PROGRESS_BYTES),
     };
     let input = RunInput {
         plan: plan.as_str(),

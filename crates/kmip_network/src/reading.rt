@@ -30,13 +30,24 @@ fn is_refused(rt: &HostRuntime, plan: &str) -> io::Result<bool> {
 pub fn text_or_why_not(rt: &HostRuntime, path: &str) -> io::Result<Option<String>> {
     match text_of(rt, path, MOST_FILE_BYTES) {
         Ok(text) => Ok(Some(text)),
-        Err(error) if error.kind() == ErrorKind::FileTooLarge => {
-            rt.println(format_args!("longer than {MOST_FILE_BYTES} bytes: {path}"))?;
-            Ok(None)
-        }
         Err(error) => {
-            refused(rt, error, "cannot read", path)?;
+            unread(rt, error, path, MOST_FILE_BYTES)?;
             Ok(None)
         }
     }
+}
+
+/// Prints why a file is not read that may have so many bytes, unless there is no memory: it is longer, or
+/// else it cannot be read.
+pub(crate) fn unread(
+    rt: &HostRuntime,
+    error: Error,
+    path: &str,
+    most_bytes: u64,
+) -> io::Result<ExitStatus> {
+    if error.kind() == ErrorKind::FileTooLarge {
+        rt.println(format_args!("longer than {most_bytes} bytes: {path}"))?;
+        return Ok(ExitStatus::Refused);
+    }
+    refused(rt, error, "cannot read", path)
 }

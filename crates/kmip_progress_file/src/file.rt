@@ -11,9 +11,13 @@ use std::os::unix::fs::OpenOptionsExt;
 /// The file's owner may read and write it, and nobody else.
 pub(crate) const OWNER_ALONE: u32 = 0o600;
 
-/// The most bytes that are read of a file (own): a plan of 1,000 keys or a script of 10,000 lines takes
-/// less than a tenth, and a progress of 1,000 keys less than a hundredth.
+/// The most bytes that are read of a plan's or a script's file (own): a plan of 1,000 keys or a script of
+/// 10,000 lines takes less than a tenth.
 pub const MOST_FILE_BYTES: u64 = 16_777_216;
+
+/// The most bytes that are read of a progress (own): the longest one of 1,000 keys has 208,025, which is
+/// less than a fifth.
+pub const MOST_PROGRESS_BYTES: u64 = 1_048_576;
 
 /// The file that a run keeps its progress in.
 ///
@@ -42,9 +46,9 @@ impl<'a, R: Files + AllocGlobal> ProgressFile<'a, R> {
     /// # Errors
     ///
     /// Where it cannot be read or is no UTF-8, and `FileTooLarge` where it is longer than
-    /// `MOST_FILE_BYTES`.
+    /// `MOST_PROGRESS_BYTES`.
     pub fn read(&self) -> io::Result<Option<String>> {
-        match text_of(self.rt, self.path.as_str(), MOST_FILE_BYTES) {
+        match text_of(self.rt, self.path.as_str(), MOST_PROGRESS_BYTES) {
             Ok(text) => Ok(Some(text)),
             Err(error) if error.kind() == ErrorKind::NotFound => Ok(None),
             Err(error) => Err(error),

@@ -7,6 +7,6 @@ mod links;
 mod lock;
 mod reading;
 
-pub use file::{MOST_FILE_BYTES, ProgressFile};
+pub use file::{MOST_FILE_BYTES, MOST_PROGRESS_BYTES, ProgressFile};
 pub use lock::{LockFault, ProgressLock};
 pub use reading::text_of;
