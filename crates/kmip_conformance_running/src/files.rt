@@ -195,6 +195,8 @@ fn is_of_one_run_at_a_time(rt: HostRuntime) -> Result<(), Fail> {
     let missing = format!(in rt.alloc(); "{folder}/missing/progress")?;
     let missing = ProgressFile::at(&rt, missing.as_str())?;
     assert!(rt; matches!(missing.lock(), Err(LockFault::Io(_))));
+    let wanted = format!(in rt.alloc(); "{folder}/missing/progress.lock")?;
+    assert_eq!(rt; missing.lock_path()?.as_str(), wanted.as_str());
     Ok(())
 }
 

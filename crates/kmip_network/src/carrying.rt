@@ -98,7 +98,8 @@ fn locked<'a>(
             Ok(None)
         }
         Err(LockFault::Io(error)) => {
-            refused(rt, error, "cannot write", path)?;
+            let beside = file.lock_path()?;
+            refused(rt, error, "cannot write", beside.as_str())?;
             Ok(None)
         }
     }

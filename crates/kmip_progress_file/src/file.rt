@@ -3,9 +3,9 @@
 use crate::links::{file_behind, folder_of};
 use crate::lock::{LockFault, ProgressLock};
 use crate::reading::text_of;
-use std::alloc::{AllocError, Global};
+use std::alloc::Global;
 use std::fs::{self, File, Files, OpenFile, OpenOptions};
-use std::io::{self, Error, ErrorKind, Write};
+use std::io::{self, ErrorKind, Write};
 use std::os::unix::fs::OpenOptionsExt;
 
 /// The file's owner may read and write it, and nobody else.
@@ -70,6 +70,16 @@ impl<'a, R: Files + AllocGlobal> ProgressFile<'a, R> {
         fs::open(self.rt, folder_of(self.path.as_str()))?.sync_all()
     }
 
+    /// The path of the file that is locked, which lies beside this one.
+    ///
+    /// # Errors
+    ///
+    /// Where there is no memory.
+    pub fn lock_path(&self) -> io::Result<String> {
+        let path = format!(in self.rt.alloc(); "{}.lock", self.path)?;
+        Ok(path)
+    }
+
     /// Writes the text to a new file at this path, which then takes the place of the file.
     fn replace_by(&self, path: &str, text: &[u8]) -> io::Result<()> {
         self.write_beside(path, text)?;
@@ -97,9 +107,9 @@ impl<'a, R: Files<File = File> + AllocGlobal> ProgressFile<'a, R> {
     ///
     /// As of `ProgressLock::take`.
     pub fn lock(&self) -> Result<ProgressLock, LockFault> {
-        match format!(in self.rt.alloc(); "{}.lock", self.path) {
+        match self.lock_path() {
             Ok(path) => ProgressLock::take(self.rt, path.as_str()),
-            Err(AllocError) => Err(LockFault::Io(Error::from(ErrorKind::OutOfMemory))),
+            Err(error) => Err(LockFault::Io(error)),
         }
     }
 }
