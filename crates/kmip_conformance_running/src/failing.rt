@@ -1,5 +1,5 @@
-//! A disk that fails at one step, and at each step from then on, as for a program that is killed there;
-//! or at each but to remove a file, as a disk that is full.
+//! A disk that fails at one step, and at each step from then on, as for a program that is killed
+//! there; or at each but to remove a file, as a disk that is full.
 
 use std::alloc::{Alloc, Allocator, Global};
 use std::cell::Cell;

@@ -25,8 +25,8 @@ fn folder(rt: &HostRuntime, name: &str) -> io::Result<String> {
     Ok(path)
 }
 
-/// Writes a text to a disk that fails after so many steps, which may be such that `removes` files at
-/// any time; whether it could be written.
+/// Writes a text to a disk that fails after so many steps, which may be such that `removes` files
+/// at any time; whether it could be written.
 fn writes(
     rt: &HostRuntime,
     path: &str,
@@ -210,8 +210,8 @@ fn is_no_text(rt: HostRuntime) -> Result<(), Fail> {
     Ok(())
 }
 
-/// What kind of failure it is to read the text of a file that may have so many bytes; none where it is
-/// read.
+/// What kind of failure it is to read the text of a file that may have so many bytes; none where it
+/// is read.
 fn failure(rt: &HostRuntime, path: &str, most_bytes: u64) -> Option<ErrorKind> {
     match text_of(rt, path, most_bytes) {
         Ok(_) => None,

@@ -11,12 +11,12 @@ use std::os::unix::fs::OpenOptionsExt;
 /// The file's owner may read and write it, and nobody else.
 pub(crate) const OWNER_ALONE: u32 = 0o600;
 
-/// The most bytes that are read of a plan's or a script's file (own): a plan of 1,000 keys or a script of
-/// 10,000 lines takes less than a tenth.
+/// The most bytes that are read of a plan's or a script's file (own): a plan of 1,000 keys or a
+/// script of 10,000 lines takes less than a tenth.
 pub const MOST_FILE_BYTES: u64 = 16_777_216;
 
-/// The most bytes that are read of a progress (own): the longest one of 1,000 keys has 208,025, which is
-/// less than a fifth.
+/// The most bytes that are read of a progress (own): the longest one of 1,000 keys has 208,025, less
+/// than a fifth.
 pub const MOST_PROGRESS_BYTES: u64 = 1_048_576;
 
 /// The file that a run keeps its progress in.

@@ -4,7 +4,7 @@ use std::alloc::Global;
 use std::fs::{self, Files};
 use std::io::{self, Error, ErrorKind, Read};
 
-/// The text of the file at this path, which has at most so many bytes. How long it is, is judged before
+/// The text of the file at this path, which has at most so many bytes. Its length is judged before
 /// whether it is UTF-8.
 ///
 /// # Errors
