@@ -45,10 +45,11 @@ impl<'a> Keeper for FileKeeper<'a> {
 /// The command `run`: the plan is read first, then the lock is taken, the progress read, and then the
 /// server asked.
 pub fn run_plan(rt: &HostRuntime, options: &RunOptions) -> io::Result<ExitStatus> {
-    let Some(plan) = text_or_why_not(rt, options.plan.as_str())? else {
+    let plan_path = options.plan.as_str();
+    let Some(plan) = text_or_why_not(rt, plan_path)? else {
         return Ok(ExitStatus::Refused);
     };
-    if let Some(status) = refusal_of(rt, plan.as_str())? {
+    if let Some(status) = refusal_of(rt, plan_path, plan.as_str())? {
         return Ok(status);
     }
     let path = options.progress.as_str();

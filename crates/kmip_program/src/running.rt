@@ -9,7 +9,8 @@ use std::{env, io};
 
 /// Runs the program: reads its command line, does what that asks for over standard streams, files
 /// and sockets, and answers the code to end with. Results, faults, help and usage faults are printed
-/// on standard output; on standard error stands only what `run` shows while it works.
+/// on standard output; on standard error stands only what `run` shows while it works, and where a plan
+/// is no TOML.
 pub fn run(rt: &HostRuntime) -> ExitCode {
     let status = match own_words(rt) {
         Ok(words) => run_words(rt, words.as_slice()),

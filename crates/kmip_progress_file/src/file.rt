@@ -15,8 +15,8 @@ pub(crate) const OWNER_ALONE: u32 = 0o600;
 /// script of 10,000 lines takes less than a tenth.
 pub const MOST_FILE_BYTES: u64 = 16_777_216;
 
-/// The most bytes that are read of a progress (own): the longest one of 1,000 keys has 208,025, less
-/// than a fifth.
+/// The most bytes that are read of a progress (own): the longest one of 1,000 keys has 208,025,
+/// which is less than a fifth.
 pub const MOST_PROGRESS_BYTES: u64 = 1_048_576;
 
 /// The file that a run keeps its progress in.
