@@ -1,4 +1,5 @@
-//! A disk that fails at one step, and at each step from then on, as for a program that is killed there.
+//! A disk that fails at one step, and at each step from then on, as for a program that is killed
+//! there; or at each but to remove a file, as a disk that is full.
 
 use std::alloc::{Alloc, Allocator, Global};
 use std::cell::Cell;
@@ -11,6 +12,8 @@ use std::path::PathBuf;
 pub(crate) struct FailingDisk<'a> {
     pub(crate) rt: &'a HostRuntime,
     pub(crate) left: &'a Cell<usize>,
+    /// Whether a file may be removed at any time; that is no step then.
+    pub(crate) removes: bool,
 }
 
 /// A file of it.
@@ -75,7 +78,9 @@ impl<'a> Files for FailingDisk<'a> {
     }
 
     fn remove_file(&self, path: &str) -> io::Result<()> {
-        step(self.left)?;
+        if !self.removes {
+            step(self.left)?;
+        }
         self.rt.remove_file(path)
     }
 
@@ -93,6 +98,10 @@ impl<'a> Files for FailingDisk<'a> {
 
     fn canonicalize<B: Allocator>(&self, alloc: B, path: &str) -> io::Result<PathBuf<B>> {
         self.rt.canonicalize(alloc, path)
+    }
+
+    fn read_link<B: Allocator>(&self, alloc: B, path: &str) -> io::Result<PathBuf<B>> {
+        self.rt.read_link(alloc, path)
     }
 }
 

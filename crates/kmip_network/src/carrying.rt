@@ -3,12 +3,12 @@ ghost use Rattle.std.specs.Prelude.{IsTrue};
 ghost use Rattle.kmip_batches.specs.Members.{may_have};
 
 use crate::linking::{loopback, refused, tcp_link, unix_link};
-use crate::reading::{refusal_of, text_or_why_not};
+use crate::reading::{refusal_of, text_or_why_not, unread};
 use crate::showing::Standing;
 use crate::telling::Teller;
 use kmip_choices::{Peer, RunOptions};
 use kmip_commands::ExitStatus;
-use kmip_progress_file::{LockFault, ProgressFile, ProgressLock};
+use kmip_progress_file::{LockFault, MOST_PROGRESS_BYTES, ProgressFile, ProgressLock};
 use kmip_run::{RunInput, batch_of, run_run};
 use kmip_running::{Keeper, Observed, Paced, SaveFault};
 use kmip_schedule::Link;
@@ -45,10 +45,11 @@ impl<'a> Keeper for FileKeeper<'a> {
 /// The command `run`: the plan is read first, then the lock is taken, the progress read, and then the
 /// server asked.
 pub fn run_plan(rt: &HostRuntime, options: &RunOptions) -> io::Result<ExitStatus> {
-    let Some(plan) = text_or_why_not(rt, options.plan.as_str())? else {
+    let plan_path = options.plan.as_str();
+    let Some(plan) = text_or_why_not(rt, plan_path)? else {
         return Ok(ExitStatus::Refused);
     };
-    if let Some(status) = refusal_of(rt, plan.as_str())? {
+    if let Some(status) = refusal_of(rt, plan_path, plan.as_str())? {
         return Ok(status);
     }
     let path = options.progress.as_str();
@@ -57,7 +58,7 @@ pub fn run_plan(rt: &HostRuntime, options: &RunOptions) -> io::Result<ExitStatus
     };
     let saved = match file.read() {
         Ok(saved) => saved,
-        Err(error) => return refused(rt, error, "cannot read", path),
+        Err(error) => return unread(rt, error, path, MOST_PROGRESS_BYTES),
     };
     let input = RunInput {
         plan: plan.as_str(),
@@ -98,7 +99,8 @@ fn locked<'a>(
             Ok(None)
         }
         Err(LockFault::Io(error)) => {
-            refused(rt, error, "cannot write", path)?;
+            let beside = file.lock_path()?;
+            refused(rt, error, "cannot write", beside.as_str())?;
             Ok(None)
         }
     }

@@ -13,5 +13,5 @@ mod telling;
 pub use carrying::run_plan;
 pub use kmip_run::batch_of;
 pub use probing::probe_server;
-pub use reading::{refusal_of, text_or_why_not};
+pub use reading::{refusal_of, tell_place, text_or_why_not};
 pub use serving::serve;

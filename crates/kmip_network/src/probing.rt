@@ -9,14 +9,24 @@ use std::io;
 use std::io::BufWriter;
 use std::time::Duration;
 
-/// The command `probe`: the server is asked, and what its answers tell is printed.
+/// The command `probe`: the server is asked, and what its answers tell is printed. As nothing is asked
+/// twice, each question goes over a stream of its own: so a server that closes the stream behind each
+/// reply answers all.
 pub fn probe_server(rt: &HostRuntime, options: &ProbeOptions) -> io::Result<ExitStatus> {
     let limit = Duration::from_secs(options.timeout);
     let prefix = options.prefix.as_str();
     match &options.peer {
-        Peer::Tcp(address) => probe_over(rt, prefix, tcp_link(rt, *address, limit)),
+        Peer::Tcp(address) => {
+            let mut link = tcp_link(rt, *address, limit);
+            link.hold_none();
+            probe_over(rt, prefix, link)
+        }
         Peer::Unix(path) => match unix_link(rt, path.as_str(), limit)? {
-            Some(link) => probe_over(rt, prefix, link),
+            Some(link) => {
+                let mut link = link;
+                link.hold_none();
+                probe_over(rt, prefix, link)
+            }
             None => Ok(ExitStatus::Refused),
         },
         Peer::Loopback => match loopback(rt, limit)? {

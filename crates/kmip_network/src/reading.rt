@@ -1,19 +1,55 @@
 //! The texts of files, and of plans among them.
 
+use crate::linking::refused;
 use kmip_check::{check_bytes, run_check};
 use kmip_commands::ExitStatus;
-use kmip_progress_file::MOST_FILE_BYTES;
+use kmip_progress_file::{MOST_FILE_BYTES, text_of};
 use kmip_ttlv::NoMemory;
-use std::io::{BufWriter, Error, ErrorKind, Read};
-use std::{fs, io};
+use std::io;
+use std::io::{BufWriter, Error, ErrorKind};
 
-/// How the program ends where a text is no plan, which is printed; none where it is one.
-pub fn refusal_of(rt: &HostRuntime, plan: &str) -> io::Result<Option<ExitStatus>> {
+/// What the reader of TOML says before `line L, column C`.
+const BEFORE_A_PLACE: &str = "TOML parse error at ";
+
+/// How the program ends where the text of the file at this path is no plan, which is printed; none
+/// where it is one.
+pub fn refusal_of(rt: &HostRuntime, path: &str, plan: &str) -> io::Result<Option<ExitStatus>> {
     if !is_refused(rt, plan)? {
         return Ok(None);
     }
     let mut writer = BufWriter::new(rt.alloc(), io::writer(rt))?;
-    Ok(Some(run_check(rt.alloc(), plan, &mut writer)))
+    let status = run_check(rt.alloc(), plan, &mut writer);
+    tell_place(rt, path, plan);
+    Ok(Some(status))
+}
+
+/// Tells on standard error where the text of the file at this path is no TOML, and why, in one
+/// line: `plan refused: 1 Toml` on standard output has no place. Tells nothing where it is TOML, or
+/// where there is no memory.
+pub fn tell_place(rt: &HostRuntime, path: &str, plan: &str) {
+    let Err(fault) = toml::table_from_str(rt.alloc(), plan) else {
+        return;
+    };
+    if fault.is_memory() {
+        return;
+    }
+    if let Ok(told) = format!(in rt.alloc(); "{fault}") {
+        let place = place_in(told.as_str());
+        let why = fault.message();
+        let _ = rt.eprintln(format_args!("{path}: {place}: {why}"));
+    }
+}
+
+/// The place in what the reader of TOML tells of a fault, as `line 3, column 8`.
+fn place_in(told: &str) -> &str {
+    let line = match told.split_once('\n') {
+        Some((line, _)) => line,
+        None => told,
+    };
+    match line.strip_prefix(BEFORE_A_PLACE) {
+        Some(place) => place,
+        None => line,
+    }
 }
 
 /// Whether a text is no plan.
@@ -27,28 +63,26 @@ fn is_refused(rt: &HostRuntime, plan: &str) -> io::Result<bool> {
 
 /// The text of a file; where it has none, or one that is too long, that is printed.
 pub fn text_or_why_not(rt: &HostRuntime, path: &str) -> io::Result<Option<String>> {
-    match text_of(rt, path) {
-        Ok(Some(text)) => Ok(Some(text)),
-        Ok(None) => {
-            rt.println(format_args!("longer than {MOST_FILE_BYTES} bytes: {path}"))?;
-            Ok(None)
-        }
+    match text_of(rt, path, MOST_FILE_BYTES) {
+        Ok(text) => Ok(Some(text)),
         Err(error) => {
-            if error.kind() == ErrorKind::OutOfMemory {
-                return Err(error);
-            }
-            rt.println(format_args!("cannot read {path}"))?;
+            unread(rt, error, path, MOST_FILE_BYTES)?;
             Ok(None)
         }
     }
 }
 
-/// The text of a file, unless it is longer than is read.
-fn text_of(rt: &HostRuntime, path: &str) -> io::Result<Option<String>> {
-    let file = fs::open(rt, path)?;
-    let text = io::read_to_string(rt.alloc(), file.take(MOST_FILE_BYTES + 1))?;
-    if text.len() as u64 > MOST_FILE_BYTES {
-        return Ok(None);
+/// Prints why a file is not read that may have so many bytes, unless there is no memory: it is
+/// longer, or else it cannot be read.
+pub(crate) fn unread(
+    rt: &HostRuntime,
+    error: Error,
+    path: &str,
+    most_bytes: u64,
+) -> io::Result<ExitStatus> {
+    if error.kind() == ErrorKind::FileTooLarge {
+        rt.println(format_args!("longer than {most_bytes} bytes: {path}"))?;
+        return Ok(ExitStatus::Refused);
     }
-    Ok(Some(text))
+    refused(rt, error, "cannot read", path)
 }

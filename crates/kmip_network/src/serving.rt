@@ -9,12 +9,16 @@ use std::io;
 use std::net::{Ipv4Addr, Net, OpenListener, OpenStream, SocketAddr, SocketAddrV4};
 use std::time::Duration;
 
+/// The most failures in turn to accept a connection (own).
+const MOST_FAILURES: u32 = 100;
+
 /// A server with no object.
 pub(crate) fn new_server(rt: &HostRuntime) -> Server<IndexedStore> {
     Server::new(IndexedStore::new(rt.alloc(), SEED, MOST_ROOM))
 }
 
-/// The command `serve`: connections one after the other.
+/// The command `serve`: connections one after the other, as many as are asked for. One that could
+/// not be accepted does not count.
 pub fn serve(rt: &HostRuntime, options: &ServeOptions) -> io::Result<ExitStatus> {
     let address = SocketAddr::V4(SocketAddrV4::new(Ipv4Addr::LOCALHOST, options.port));
     let Some((listener, port)) = listening(rt, address) else {
@@ -24,8 +28,11 @@ pub fn serve(rt: &HostRuntime, options: &ServeOptions) -> io::Result<ExitStatus>
     rt.println(format_args!("listening {port}"))?;
     let mut server = new_server(rt);
     for _ in 0..options.connections {
-        let Ok((stream, _)) = listener.accept() else {
-            continue;
+        let Some(stream) = next_stream(&listener) else {
+            rt.println(format_args!(
+                "cannot accept a connection on port {port}: {MOST_FAILURES} failures in turn"
+            ))?;
+            return Ok(ExitStatus::Refused);
         };
         if serve_connection(rt, options, &mut server, stream) == StreamEnd::NoMemory {
             rt.println(CommandFault::NoMemory.text())?;
@@ -43,6 +50,17 @@ fn listening(
     let listener = rt.bind(address).ok()?;
     let port = listener.local_addr().ok()?.port();
     Some((listener, port))
+}
+
+/// The stream of the next connection; none where none could be accepted, `MOST_FAILURES` times in
+/// turn.
+fn next_stream(listener: &<HostRuntime as Net>::Listener) -> Option<<HostRuntime as Net>::Stream> {
+    for _ in 0..MOST_FAILURES {
+        if let Ok((stream, _)) = listener.accept() {
+            return Some(stream);
+        }
+    }
+    None
 }
 
 /// Serves one connection until it ends.

@@ -3,7 +3,9 @@
 use kmip_check::{check_after_bytes, run_check, run_check_after};
 use kmip_choices::{Choice, Detail};
 use kmip_commands::{ExitStatus, Form, run_answer, run_answer_stream, run_show};
-use kmip_network::{batch_of, probe_server, refusal_of, run_plan, serve, text_or_why_not};
+use kmip_network::{
+    batch_of, probe_server, refusal_of, run_plan, serve, tell_place, text_or_why_not,
+};
 use kmip_sim::run_sim;
 use std::io;
 use std::io::{BufReader, BufWriter, Error, ErrorKind};
@@ -61,7 +63,11 @@ fn check_plan(rt: &HostRuntime, path: &str) -> io::Result<ExitStatus> {
         return Ok(ExitStatus::Refused);
     };
     let mut writer = BufWriter::new(rt.alloc(), io::writer(rt))?;
-    Ok(run_check(rt.alloc(), plan.as_str(), &mut writer))
+    let status = run_check(rt.alloc(), plan.as_str(), &mut writer);
+    if status == ExitStatus::Refused {
+        tell_place(rt, path, plan.as_str());
+    }
+    Ok(status)
 }
 
 /// The command `check --after` from two files to standard output.
@@ -71,7 +77,11 @@ fn check_plan_after(rt: &HostRuntime, path: &str, earlier_path: &str) -> io::Res
         Err(status) => return Ok(status),
     };
     let mut writer = BufWriter::new(rt.alloc(), io::writer(rt))?;
-    Ok(run_check_after(rt.alloc(), plan.as_str(), earlier.as_str(), &mut writer))
+    let status = run_check_after(rt.alloc(), plan.as_str(), earlier.as_str(), &mut writer);
+    if status == ExitStatus::Refused {
+        tell_place(rt, earlier_path, earlier.as_str());
+    }
+    Ok(status)
 }
 
 /// The command `sim`, from the files of one plan or of two.
@@ -121,7 +131,9 @@ fn simulate_plans(
         Err(status) => return Ok(status),
     };
     if is_refused_after(rt, further.as_str(), plan.as_str())? {
-        return simulate(rt, detail, batch, plan.as_str(), Some(further.as_str()), "");
+        let status = simulate(rt, detail, batch, plan.as_str(), Some(further.as_str()), "")?;
+        tell_place(rt, further_path, further.as_str());
+        return Ok(status);
     }
     let Some(script) = text_or_why_not(rt, script_path)? else {
         return Ok(ExitStatus::Refused);
@@ -177,7 +189,7 @@ fn plan_and_other(
     let Some(plan) = text_or_why_not(rt, path)? else {
         return Ok(Err(ExitStatus::Refused));
     };
-    if let Some(status) = refusal_of(rt, plan.as_str())? {
+    if let Some(status) = refusal_of(rt, path, plan.as_str())? {
         return Ok(Err(status));
     }
     let Some(other) = text_or_why_not(rt, other_path)? else {

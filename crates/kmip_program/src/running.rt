@@ -9,10 +9,12 @@ use std::{env, io};
 
 /// Runs the program: reads its command line, does what that asks for over standard streams, files
 /// and sockets, and answers the code to end with. Results, faults, help and usage faults are printed
-/// on standard output; on standard error stands only what `run` shows while it works.
+/// on standard output; on standard error stands only what `run` shows while it works, where a plan
+/// is no TOML, and that the command line is no text.
 pub fn run(rt: &HostRuntime) -> ExitCode {
     let status = match own_words(rt) {
         Ok(words) => run_words(rt, words.as_slice()),
+        Err(error) if error.kind() == ErrorKind::InvalidData => without_words(rt),
         Err(error) => failed(rt, &error),
     };
     ExitCode::from(status.code())
@@ -24,6 +26,12 @@ pub fn run_words(rt: &HostRuntime, words: &[String]) -> ExitStatus {
         Ok(status) => status,
         Err(error) => failed(rt, &error),
     }
+}
+
+/// Says that the command line is no text, so that it asks for nothing.
+fn without_words(rt: &HostRuntime) -> ExitStatus {
+    let _ = rt.eprintln("the command line is not UTF-8");
+    ExitStatus::Usage
 }
 
 /// Says an error outside the commands, where it is want of memory.
@@ -44,7 +52,7 @@ fn fault_of(error: &Error) -> CommandFault {
     }
 }
 
-/// The words of the program's command line.
+/// The words of the program's command line; `InvalidData` where one of them is no UTF-8.
 fn own_words(rt: &HostRuntime) -> io::Result<Vec<String>> {
     let mut words = Vec::new(rt.alloc());
     for word in env::args(rt)? {

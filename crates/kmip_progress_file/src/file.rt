@@ -1,18 +1,23 @@
 //! The file of a progress.
 
+use crate::links::{file_behind, folder_of};
 use crate::lock::{LockFault, ProgressLock};
-use std::alloc::{AllocError, Global};
+use crate::reading::text_of;
+use std::alloc::Global;
 use std::fs::{self, File, Files, OpenFile, OpenOptions};
-use std::io::{self, Error, ErrorKind, Read, Write};
+use std::io::{self, ErrorKind, Write};
 use std::os::unix::fs::OpenOptionsExt;
-use std::path::Path;
 
 /// The file's owner may read and write it, and nobody else.
 pub(crate) const OWNER_ALONE: u32 = 0o600;
 
-/// The most bytes that are read of a file (own): a plan of 1,000 keys or a script of 10,000 lines takes
-/// less than a tenth, and a progress of 1,000 keys less than a hundredth.
+/// The most bytes that are read of a plan's or a script's file (own): a plan of 1,000 keys or a
+/// script of 10,000 lines takes less than a tenth.
 pub const MOST_FILE_BYTES: u64 = 16_777_216;
+
+/// The most bytes that are read of a progress (own): the longest one of 1,000 keys has 208,025,
+/// which is less than a fifth.
+pub const MOST_PROGRESS_BYTES: u64 = 1_048_576;
 
 /// The file that a run keeps its progress in.
 ///
@@ -25,19 +30,14 @@ pub struct ProgressFile<'a, R> {
 }
 
 impl<'a, R: Files + AllocGlobal> ProgressFile<'a, R> {
-    /// The file at this path; where a symbolic link stands there, the file that it leads to.
+    /// The file at this path; where a symbolic link stands there, the file that it leads to, also
+    /// where that is not there yet.
     ///
     /// # Errors
     ///
-    /// Where there is no memory, or the link leads in a circle.
+    /// Where there is no memory, a link cannot be read, or the links lead in a circle.
     pub fn at(rt: &'a R, path: &str) -> io::Result<Self> {
-        let path = match fs::canonicalize(rt, path) {
-            Ok(path) => String::from_str(rt.alloc(), path.as_str())?,
-            Err(error) if error.kind() == ErrorKind::NotFound => {
-                String::from_str(rt.alloc(), path)?
-            }
-            Err(error) => return Err(error),
-        };
+        let path = file_behind(rt, path)?;
         Ok(ProgressFile { rt, path })
     }
 
@@ -45,18 +45,14 @@ impl<'a, R: Files + AllocGlobal> ProgressFile<'a, R> {
     ///
     /// # Errors
     ///
-    /// Where it cannot be read, is longer than `MOST_FILE_BYTES`, or is no UTF-8.
+    /// Where it cannot be read or is no UTF-8, and `FileTooLarge` where it is longer than
+    /// `MOST_PROGRESS_BYTES`.
     pub fn read(&self) -> io::Result<Option<String>> {
-        let file = match fs::open(self.rt, self.path.as_str()) {
-            Ok(file) => file,
-            Err(error) if error.kind() == ErrorKind::NotFound => return Ok(None),
-            Err(error) => return Err(error),
-        };
-        let text = io::read_to_string(self.rt.alloc(), file.take(MOST_FILE_BYTES + 1))?;
-        if text.len() as u64 > MOST_FILE_BYTES {
-            return Err(Error::from(ErrorKind::InvalidData));
+        match text_of(self.rt, self.path.as_str(), MOST_PROGRESS_BYTES) {
+            Ok(text) => Ok(Some(text)),
+            Err(error) if error.kind() == ErrorKind::NotFound => Ok(None),
+            Err(error) => Err(error),
         }
-        Ok(Some(text))
     }
 
     /// Gives the file this text, and returns once it is on the disk.
@@ -64,12 +60,30 @@ impl<'a, R: Files + AllocGlobal> ProgressFile<'a, R> {
     /// # Errors
     ///
     /// Where it cannot be written: the file is as it was before, or, where only the folder could not
-    /// be brought to the disk, has the new text.
+    /// be brought to the disk, has the new text. Nothing stays beside it, if that can be removed.
     pub fn write(&self, text: &[u8]) -> io::Result<()> {
         let beside = format!(in self.rt.alloc(); "{}.new", self.path)?;
-        self.write_beside(beside.as_str(), text)?;
-        fs::rename(self.rt, beside.as_str(), self.path.as_str())?;
+        if let Err(error) = self.replace_by(beside.as_str(), text) {
+            let _ = fs::remove_file(self.rt, beside.as_str());
+            return Err(error);
+        }
         fs::open(self.rt, folder_of(self.path.as_str()))?.sync_all()
+    }
+
+    /// The path of the file that is locked, which lies beside this one.
+    ///
+    /// # Errors
+    ///
+    /// Where there is no memory.
+    pub fn lock_path(&self) -> io::Result<String> {
+        let path = format!(in self.rt.alloc(); "{}.lock", self.path)?;
+        Ok(path)
+    }
+
+    /// Writes the text to a new file at this path, which then takes the place of the file.
+    fn replace_by(&self, path: &str, text: &[u8]) -> io::Result<()> {
+        self.write_beside(path, text)?;
+        fs::rename(self.rt, path, self.path.as_str())
     }
 
     /// Writes the text to a new file at this path, and brings it to the disk.
@@ -93,17 +107,9 @@ impl<'a, R: Files<File = File> + AllocGlobal> ProgressFile<'a, R> {
     ///
     /// As of `ProgressLock::take`.
     pub fn lock(&self) -> Result<ProgressLock, LockFault> {
-        match format!(in self.rt.alloc(); "{}.lock", self.path) {
+        match self.lock_path() {
             Ok(path) => ProgressLock::take(self.rt, path.as_str()),
-            Err(AllocError) => Err(LockFault::Io(Error::from(ErrorKind::OutOfMemory))),
+            Err(error) => Err(LockFault::Io(error)),
         }
-    }
-}
-
-/// The folder that the file at this path stands in.
-fn folder_of(path: &str) -> Path<'_> {
-    match Path::new(path).parent() {
-        Some(folder) if !folder.as_os_str().is_empty() => folder,
-        _ => Path::new("."),
     }
 }

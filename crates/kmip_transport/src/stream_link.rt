@@ -103,6 +103,13 @@ impl<D: Dial + Drop> StreamLink<D> {
         self.is_held = false;
     }
 
+    /// From now on no stream is held behind a reply: each exchange has one of its own.
+    pub fn hold_none(&mut self)
+        ensures { self.new ≡ record self.old { holds = false } }
+    {
+        self.holds = false;
+    }
+
     /// Sends the bytes of a request, over the stream that is open, else over a new one. After
     /// 2^64 - 1 failures it sends nothing, and no stream is open.
     ///
