@@ -1,6 +1,5 @@
 //! Tests of kmip_running, and of the command `run` of kmip_run, against runs that were worked out by
-//! hand; and of kmip_progress_file, with a disk that fails at each step in turn, links, and two runs
-//! at once.
+//! hand.
 //!
 //! The expected values come from the rules of a run and of a progress text, and never from what the
 //! crates wrote.
@@ -8,10 +7,6 @@
 
 #[cfg(test)]
 mod batching;
-#[cfg(test)]
-mod failing;
-#[cfg(test)]
-mod files;
 #[cfg(test)]
 mod printing;
 #[cfg(test)]

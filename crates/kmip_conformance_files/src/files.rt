@@ -16,7 +16,7 @@ const AFTER: &str = "kmip-progress 1\nk1 active 2 31\nend 1\n";
 fn folder(rt: &HostRuntime, name: &str) -> io::Result<String> {
     let beside = env::temp_dir(rt)?;
     let beside = beside.as_str();
-    let path = format!(in rt.alloc(); "{beside}/kmip_conformance_running_{name}")?;
+    let path = format!(in rt.alloc(); "{beside}/kmip_conformance_files_{name}")?;
     match fs::remove_dir_all(rt, path.as_str()) {
         Err(error) if error.kind() != ErrorKind::NotFound => return Err(error),
         _ => {}
