@@ -1,22 +1,13 @@
 //! Tests of kmip_commands and kmip_check, against messages and values that are known from outside: at
 //! readers and writers that fail, at their limits, and of each function that can be called; what the
-//! commands print for other lines and plans stands in the stored runs of kmipctl_runs. And tests of
-//! kmip_probe, against what a server of the profile answers and what is lost on the way, and against
-//! servers that break one rule each, and a peer that answers no question.
+//! commands print for other lines and plans stands in the stored runs of kmipctl_runs.
 //!
 //! The expected values come from the Key Management Interoperability Protocol Specification Version
-//! 2.1 and from this project's profile of it, from the questions of a probe and the rules of what their
-//! answers say, and never from what the crates wrote.
+//! 2.1 and from this project's profile of it, and never from what the crates wrote.
 #![tactic(auto)]
 
 #[cfg(test)]
-mod alone;
-#[cfg(test)]
 mod asserting;
-#[cfg(test)]
-mod breaches;
-#[cfg(test)]
-mod breaking;
 #[cfg(test)]
 mod commands;
 #[cfg(test)]
@@ -28,15 +19,9 @@ mod flushing;
 #[cfg(test)]
 mod limits;
 #[cfg(test)]
-mod losses;
-#[cfg(test)]
 mod many;
 #[cfg(test)]
 mod readers;
-#[cfg(test)]
-mod repeating;
-#[cfg(test)]
-mod report;
 #[cfg(test)]
 mod streaming;
 #[cfg(test)]
