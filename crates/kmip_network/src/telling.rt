@@ -5,9 +5,9 @@ use kmip_batches::read_reply;
 use kmip_fields::MessageFault;
 use kmip_running::Observer;
 use kmip_schedule::LinkFault;
-use kmip_ttlv::{NoMemory, Tag};
+use kmip_ttlv::{NoMemory, Tag, TtlvFault};
 use kmip_wording::{push_answer, push_question};
-use std::alloc::Global;
+use std::alloc::{AllocError, Global};
 use std::str::from_utf8;
 
 /// Counts each exchange, and tells it on standard error, if it is to: what was asked, and what came
@@ -39,54 +39,78 @@ impl<'a> Teller<'a> {
         push_question(alloc, request, &mut line)?;
         line.extend_from_slice(b": ")?;
         push_answer(alloc, request, answered.unwrap_or(None), &mut line)?;
-        let why = why_not(alloc, answered)?;
-        line.extend_from_slice(why.as_str().as_bytes())?;
+        push_why(alloc, answered, &mut line)?;
         Ok(line)
     }
 }
 
-/// Why nothing came, or why what came is no reply, in brackets; empty where a reply came, and where
-/// the connection ended first.
-fn why_not(alloc: Global, answered: Result<Option<&[u8]>, LinkFault>) -> Result<String, NoMemory> {
+/// Appends why nothing came, or why what came is no reply, in brackets; nothing where a reply came, and
+/// where the connection ended first.
+fn push_why(
+    alloc: Global,
+    answered: Result<Option<&[u8]>, LinkFault>,
+    line: &mut Vec<u8>,
+) -> Result<(), NoMemory> {
     match answered {
-        Ok(Some(reply)) => match read_reply(alloc, reply) {
-            Ok(_) => Ok(String::new(alloc)),
-            Err(fault) => unreadable_text(alloc, fault),
-        },
-        Ok(None) => Ok(String::new(alloc)),
+        Ok(None) => Ok(()),
+        Ok(Some(reply)) => push_unreadable(alloc, reply, line),
         Err(fault) => {
-            let text = format!(in alloc; " ({fault})")?;
-            Ok(text)
+            let why = format!(in alloc; " ({fault})")?;
+            line.extend_from_slice(why.as_bytes())?;
+            Ok(())
         }
     }
 }
 
-/// What is wrong with a reply, in brackets: the name of its first fault, and what that is about.
+/// Appends what is wrong with bytes that are no reply, in brackets.
+fn push_unreadable(alloc: Global, reply: &[u8], line: &mut Vec<u8>) -> Result<(), NoMemory> {
+    match read_reply(alloc, reply) {
+        Ok(_) => Ok(()),
+        Err(fault) => push_fault(alloc, &fault, line),
+    }
+}
+
+/// Appends a fault in brackets: its name, and what it is about.
 ///
 /// # Errors
 /// Where memory ran out, also where the fault is that.
-fn unreadable_text(alloc: Global, fault: MessageFault) -> Result<String, NoMemory> {
+fn push_fault(alloc: Global, fault: &MessageFault, line: &mut Vec<u8>) -> Result<(), NoMemory> {
     if fault.is_no_memory() {
         return Err(NoMemory);
     }
-    let name = fault.name();
-    let text = match fault {
-        MessageFault::Ttlv(fault) => format!(in alloc; " ({name}: {fault})")?,
-        _ => match tag_of(fault) {
-            Some(tag) => format!(in alloc; " ({name} {:06x})", tag.number())?,
-            None => format!(in alloc; " ({name})")?,
-        },
-    };
+    let text = fault_text(alloc, fault)?;
+    line.extend_from_slice(text.as_str().as_bytes())?;
+    Ok(())
+}
+
+fn fault_text(alloc: Global, fault: &MessageFault) -> Result<String, AllocError> {
+    let mut text = String::from_str(alloc, " (")?;
+    text.push_str(fault.name())?;
+    if let Some(tag) = tag_of(fault) {
+        write!(text, " {:06x}", tag.number())?;
+    }
+    if let Some(fault) = items_fault(fault) {
+        write!(text, ": {fault}")?;
+    }
+    text.push_str(")")?;
     Ok(text)
 }
 
 /// The tag of the item that a fault is about, where it is about one.
-fn tag_of(fault: MessageFault) -> Option<Tag> {
+fn tag_of(fault: &MessageFault) -> Option<Tag> {
     match fault {
         MessageFault::Missing(tag)
         | MessageFault::Twice(tag)
         | MessageFault::WrongType(tag)
-        | MessageFault::OutOfRange(tag) => Some(tag),
+        | MessageFault::OutOfRange(tag) => Some(*tag),
+        _ => None,
+    }
+}
+
+/// What is wrong with the items, where it is that.
+fn items_fault(fault: &MessageFault) -> Option<TtlvFault> {
+    match fault {
+        MessageFault::Ttlv(fault) => Some(*fault),
         _ => None,
     }
 }
