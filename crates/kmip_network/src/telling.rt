@@ -64,9 +64,9 @@ fn push_why(
 
 /// Appends what is wrong with bytes that are no reply, in brackets.
 fn push_unreadable(alloc: Global, reply: &[u8], line: &mut Vec<u8>) -> Result<(), NoMemory> {
-    match read_reply(alloc, reply) {
-        Ok(_) => Ok(()),
-        Err(fault) => push_fault(alloc, &fault, line),
+    match read_reply(alloc, reply).err() {
+        Some(fault) => push_fault(alloc, &fault, line),
+        None => Ok(()),
     }
 }
 
