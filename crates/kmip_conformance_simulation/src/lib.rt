@@ -1,14 +1,11 @@
 //! Tests of kmip_simulation: random scripts, long ones, those of two plans, and second campaigns,
 //! after each of which every key is to be at its target, with one object; and of campaigns on plans
 //! of which each prolongs the one before, against runs that were worked out by hand; in messages about
-//! one key, and about up to eight. And tests of kmip_sim, the command `sim` by each of its functions,
-//! and of kmip_wording.
+//! one key, and about up to eight.
 #![tactic(auto)]
 
 #[cfg(test)]
 mod again;
-#[cfg(test)]
-mod commanding;
 #[cfg(test)]
 mod foreign;
 #[cfg(test)]
@@ -25,5 +22,3 @@ mod prolonging;
 mod random;
 #[cfg(test)]
 mod telling;
-#[cfg(test)]
-mod wording;
