@@ -164,6 +164,9 @@ class Peers:
         status, printed, _ = self.run(where, '--limit', '50', plan=EXAMPLE)
         self.look('a longer plan over it', (status == 0, status),
                   (printed.endswith('finished 7 of 7\nstop AllFinished 24\n'), printed))
+        done = subprocess.run([self.program, 'probe', '--name-prefix', 'p', *where], capture_output=True, text=True)
+        self.look('a probe over it', (done.returncode == 0, done.returncode),
+                  (done.stdout.count(': yes\n') == 8, done.stdout))
         server.kill()
         server.wait()
 
