@@ -71,6 +71,9 @@ pub fn form_of(is_canonical: bool) -> Form
 }
 
 /// What to check: the plan at a path, after the earlier one where there is a path of one.
+///
+/// # Errors
+/// Where there is no memory.
 pub fn check_of(alloc: Global, plan: &str, earlier: Option<&str>) -> Result<Choice, AllocError>
     ensures { IfOk result
         (IsCheckOf plan.now (option_map (λ path. path.now) earlier.entry)) }
@@ -98,6 +101,9 @@ pub fn detail_of(is_traced: bool) -> Detail
 
 /// What to simulate: the plan at a path, and then the further one where there is a path of one, over
 /// the script at another; how much to tell of it; and about how many keys a message asks at most.
+///
+/// # Errors
+/// Where there is no memory.
 pub fn simulation_of(
     alloc: Global,
     plan: &str,

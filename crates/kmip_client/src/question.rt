@@ -19,7 +19,8 @@ use kmip_ttlv::{Bytes, NoMemory, Text};
 use std::alloc::Global;
 use std::marker::Model;
 
-/// The Storage Status Mask of a Locate that finds an object whatever has become of it.
+/// The Storage Status Mask of a Locate that finds objects that are on-line and that are destroyed,
+/// which are all that a server of the profile has.
 const EVERY_STATE: i32 = (STORAGE_ON_LINE + STORAGE_DESTROYED) as i32;
 
 /// One question of a message.

@@ -4,7 +4,7 @@ use kmip_batches::{
     Batch, read_reply, read_request, reply_fits, request_fits, write_reply, write_request,
 };
 use kmip_messages::{MessageFault, Outcome, Refusal, Reply, Request};
-use kmip_ttlv::{Bytes, Tag, Text, TtlvFault};
+use kmip_ttlv::{Bytes, Text};
 use std::alloc::{AllocError, Global};
 use std::test::Fail;
 
@@ -35,32 +35,13 @@ fn fault_told(alloc: Global, fault: &MessageFault) -> Result<String, AllocError>
 /// Writes the same.
 pub fn push_fault(text: &mut String, fault: &MessageFault) -> Result<(), AllocError> {
     text.push_str(fault.name())?;
-    if let Some(tag) = tag_of(fault) {
+    if let Some(tag) = fault.tag() {
         write!(text, " {:06x}", tag.number())?;
     }
-    if let Some(fault) = items_fault(fault) {
+    if let Some(fault) = fault.items() {
         write!(text, " {fault}")?;
     }
     Ok(())
-}
-
-/// The tag that a fault names, where it names one.
-fn tag_of(fault: &MessageFault) -> Option<Tag> {
-    match fault {
-        MessageFault::Missing(tag)
-        | MessageFault::Twice(tag)
-        | MessageFault::WrongType(tag)
-        | MessageFault::OutOfRange(tag) => Some(*tag),
-        _ => None,
-    }
-}
-
-/// What is wrong with the items, where it is that.
-fn items_fault(fault: &MessageFault) -> Option<TtlvFault> {
-    match fault {
-        MessageFault::Ttlv(fault) => Some(*fault),
-        _ => None,
-    }
 }
 
 fn batch_told(alloc: Global, batch: &Batch) -> Result<String, AllocError> {

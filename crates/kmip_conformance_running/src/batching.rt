@@ -1,6 +1,7 @@
 //! Runs whose messages ask about several keys: what they print, and that what they keep is all that a
 //! run in messages about one key needs.
 
+use crate::asserting::assert_true;
 use crate::printing::{FIRST, Row, runs};
 use crate::shelf::link_of;
 use kmip_commands::ExitStatus;
@@ -89,7 +90,7 @@ fn prints_what_it_did(rt: HostRuntime) -> Result<(), Fail> {
 #[test]
 fn leaves_nothing_to_ask(rt: HostRuntime) -> Result<(), Fail> {
     let alloc = rt.alloc();
-    assert!(rt; BOTH.told.ends_with(FINISHED));
+    assert_true(&rt, BOTH.told.ends_with(FINISHED), "all is done");
     let mut link = link_of(alloc, &[])?;
     runs(&rt, alloc, &BOTH, &mut link)?;
     let row = Row {
@@ -102,7 +103,7 @@ fn leaves_nothing_to_ask(rt: HostRuntime) -> Result<(), Fail> {
         ..BOTH
     };
     runs(&rt, alloc, &row, &mut link)?;
-    assert!(rt; link.request(3).is_some());
-    assert!(rt; link.request(4).is_none());
+    assert_true(&rt, link.request(3).is_some(), "three messages were sent");
+    assert_true(&rt, link.request(4).is_none(), "and no fourth");
     Ok(())
 }

@@ -1,5 +1,6 @@
 //! What `run` prints, and what it keeps.
 
+use crate::asserting::{assert_status, assert_written};
 use crate::shelf::{PLAN, Shelf, link_of, plan_of};
 use kmip_client::Client;
 use kmip_commands::{CommandFault, ExitStatus};
@@ -9,7 +10,6 @@ use kmip_scripted::{Scripted, Word};
 use kmip_server::ListStore;
 use std::alloc::Global;
 use std::process::Abort;
-use std::str::from_utf8;
 use std::test::Fail;
 
 /// A run: the texts of its plan and of its progress, the words that its link follows, how many texts
@@ -134,10 +134,10 @@ pub fn runs(
     let mut shelf = Shelf::new(alloc, row.room);
     let mut writer = Vec::new(alloc);
     let status = run_run(alloc, &input, row.saved, link, &mut shelf, &mut writer);
-    assert_eq!(rt; from_utf8(writer.as_slice()), Ok(row.printed), "{name}");
-    assert_eq!(rt; status, row.status, "{name}");
+    assert_written(rt, writer.as_slice(), row.printed, name);
+    assert_status(rt, status, row.status, name);
     let told = shelf.told(alloc)?;
-    assert_eq!(rt; from_utf8(told.as_slice()), Ok(row.told), "{name}");
+    assert_written(rt, told.as_slice(), row.told, name);
     Ok(())
 }
 
@@ -203,8 +203,9 @@ fn ends_where_the_writer_fails(rt: HostRuntime) -> Result<(), Fail> {
     let mut room = [0u8; 8];
     let mut writer = &mut room[..];
     let status = run_run(alloc, &input, None, &mut link, &mut shelf, &mut writer);
-    assert_eq!(rt; status, ExitStatus::Failed(CommandFault::Output));
+    let wanted = ExitStatus::Failed(CommandFault::Output);
+    assert_status(&rt, status, wanted, "a writer without room");
     let told = shelf.told(alloc)?;
-    assert_eq!(rt; from_utf8(told.as_slice()), Ok(FIRST.told));
+    assert_written(&rt, told.as_slice(), FIRST.told, "what was kept");
     Ok(())
 }

@@ -2,6 +2,7 @@
 //!
 //! Where nothing is lost the key is looked for (Locate), made (Create, as 1) and activated.
 
+use crate::asserting::{Answer, assert_answer, assert_written};
 use crate::shelf::{Shelf, link_of, plan_of};
 use kmip_client::Client;
 use kmip_plan::Plan;
@@ -24,7 +25,7 @@ struct Row {
     words: &'static [Word],
     room: usize,
     limit: usize,
-    answer: (Result<Stop, SaveFault>, usize),
+    answer: Answer,
     told: &'static str,
 }
 
@@ -89,9 +90,9 @@ fn runs(rt: &impl Abort, alloc: Global, plan: &Plan, row: &Row) -> Result<(), Fa
     let mut shelf = Shelf::new(alloc, row.room);
     let mut client = Client::fresh(alloc, plan)?;
     let answer = carry_out(alloc, &mut client, &mut link, &mut shelf, row.limit);
-    assert_eq!(rt; answer, row.answer);
+    assert_answer(rt, &answer, &row.answer, row.told);
     let told = shelf.told(alloc)?;
-    assert_eq!(rt; told.as_slice(), row.told.as_bytes());
+    assert_written(rt, told.as_slice(), row.told, "what is saved");
     Ok(())
 }
 
@@ -114,13 +115,13 @@ fn goes_on_where_it_broke_off(rt: HostRuntime) -> Result<(), Fail> {
     let mut client = Client::fresh(alloc, &plan)?;
     let mut full = Shelf::new(alloc, 1);
     let broken = carry_out(alloc, &mut client, &mut link, &mut full, 10);
-    assert_eq!(rt; broken, (Err(SaveFault::Output), 2));
+    assert_answer(&rt, &broken, &(Err(SaveFault::Output), 2), "no room");
     let mut shelf = Shelf::new(alloc, 10);
     let rest = carry_out(alloc, &mut client, &mut link, &mut shelf, 10);
-    assert_eq!(rt; rest, (Ok(Stop::AllFinished), 1));
+    assert_answer(&rt, &rest, &(Ok(Stop::AllFinished), 1), "the rest");
     let done = carry_out(alloc, &mut client, &mut link, &mut shelf, 10);
-    assert_eq!(rt; done, (Ok(Stop::AllFinished), 0));
+    assert_answer(&rt, &done, &(Ok(Stop::AllFinished), 0), "all is done");
     let told = shelf.told(alloc)?;
-    assert_eq!(rt; told.as_slice(), FINISHED.as_bytes());
+    assert_written(&rt, told.as_slice(), FINISHED, "what is saved");
     Ok(())
 }

@@ -3,6 +3,7 @@
 use kmip_plan::read_plan;
 use kmip_progress::ProgressFault;
 use kmip_run::standing_line;
+use std::process::Abort;
 use std::test::Fail;
 
 /// Three keys: two are to become active, after two steps, and one is to be created, after one.
@@ -82,10 +83,12 @@ fn says_how_far_it_is(rt: HostRuntime) -> Result<(), Fail> {
     let plan = read_plan(rt.alloc(), PLAN)?;
     for row in &ROWS {
         let line = standing_line(rt.alloc(), &plan, row.saved, row.exchanges, row.silent);
-        assert_eq!(rt;
-            line.as_ref().map(|line| line.as_str()),
-            row.line.as_ref().copied()
-        );
+        assert_line(&rt, line.as_ref().map(|line| line.as_str()), row);
     }
     Ok(())
+}
+
+/// The line, or the fault, is the row's.
+fn assert_line(rt: &impl Abort, line: Result<&str, &ProgressFault>, row: &Row) {
+    assert_eq!(rt; line, row.line.as_ref().copied(), "{}", row.saved);
 }

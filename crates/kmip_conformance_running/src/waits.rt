@@ -1,5 +1,6 @@
 //! Waits between exchanges without a reply, and who is told of exchanges.
 
+use crate::asserting::{assert_answer, assert_true};
 use crate::shelf::{Shelf, link_of, plan_of};
 use kmip_client::Client;
 use kmip_running::{Observed, Observer, Paced, carry_out, next_wait};
@@ -94,13 +95,11 @@ fn waits_and_tells(rt: HostRuntime) -> Result<(), Fail> {
     let mut shelf = Shelf::new(alloc, 10);
     let mut client = Client::fresh(alloc, &plan)?;
     let answer = carry_out(alloc, &mut client, &mut link, &mut shelf, 10);
-    assert_eq!(rt; answer, (Ok(Stop::AllFinished), 5));
-    assert_eq!(rt; clock.slept.get(), 300);
-    assert_eq!(rt; link.link().wait(), 0);
+    assert_answer(&rt, &answer, &(Ok(Stop::AllFinished), 5), "two are lost");
+    assert_true(&rt, clock.slept.get() == 300, "it sleeps twice");
+    assert_true(&rt, link.link().wait() == 0, "nothing more to wait for");
     let count = link.observer();
-    assert_eq!(rt;
-        (count.replies, count.losses, count.faults, count.ends),
-        (3, 2, 0, 1)
-    );
+    let is_told = (count.replies, count.losses, count.faults, count.ends) == (3, 2, 0, 1);
+    assert_true(&rt, is_told, "all five are told, and the end");
     Ok(())
 }

@@ -1,9 +1,9 @@
 //! A second campaign over the link of a first one, for the same plan.
 
-use crate::making::{TARGETS, check_at_targets, plan_of, plan_of_two, push_random_words};
+use crate::making::{TARGETS, check_finished, plan_of, plan_of_two, push_random_words};
 use crate::telling::check_told;
 use kmip_scripted::{Script, read_script};
-use kmip_session::{Run, Start, Stop};
+use kmip_session::{CampaignEnd, Run, Start, Stop};
 use kmip_simulation::simulate_again;
 use rand_chacha::ChaCha20Rng;
 use rand_core::SeedableRng;
@@ -37,17 +37,20 @@ fn try_again(
         save: true,
     }];
     let (simulation, end) = simulate_again(alloc, &plan, script, batch, runs.as_slice())?;
-    assert!(rt; simulation.is_finished());
+    check_one_run(rt, &end);
+    check_finished(rt, &plan, &simulation)
+}
+
+/// Whether memory was ample, and there was one run, which finished all and was saved.
+fn check_one_run(rt: &impl Abort, end: &CampaignEnd) {
     assert_eq!(rt; end.fault, None);
     assert_eq!(rt; (end.runs.len(), end.saved.len()), (1, 1));
-    assert!(rt;
-        end.runs
-            .as_slice()
-            .iter()
-            .all(|run| run.stop == Stop::AllFinished)
-    );
-    check_at_targets(rt, &plan, simulation.link.server().records())?;
-    Ok(())
+    let is_finished = end
+        .runs
+        .as_slice()
+        .iter()
+        .all(|run| run.stop == Stop::AllFinished);
+    assert!(rt; is_finished);
 }
 
 /// Carries out a random script for each plan of two keys, in messages about so many at most.

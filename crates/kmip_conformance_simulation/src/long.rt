@@ -1,7 +1,8 @@
 //! Long scripts: many keys, many words, and many runs.
 
-use crate::making::{check_at_targets, plan_of_many, random_message_word};
+use crate::making::{check_finished, plan_of_many, random_message_word};
 use kmip_scripted::{Script, Word};
+use kmip_session::CampaignEnd;
 use kmip_simulation::simulate;
 use rand_chacha::ChaCha20Rng;
 use rand_core::SeedableRng;
@@ -21,9 +22,8 @@ fn a_thousand_keys_and_ten_thousand_words(rt: HostRuntime) -> Result<(), Fail> {
     let script = Script::new(words);
     assert_eq!(rt; script.prolongings(), 0);
     let simulation = simulate(alloc, &plan, script, 1)?;
-    assert_eq!(rt; simulation.end.runs.len(), 1);
-    assert!(rt; simulation.is_finished());
-    check_at_targets(&rt, &plan, simulation.link.server().records())
+    check_counts(&rt, &simulation.end, 1, 0);
+    check_finished(&rt, &plan, &simulation)
 }
 
 /// A script of fifty runs: each but the last has a lost reply and a random word.
@@ -49,10 +49,13 @@ fn check_fifty(rt: &impl Abort, alloc: Global, seed: u8, batch: usize) -> Result
     let script = script_of_fifty(alloc, &mut rng)?;
     assert_eq!(rt; script.prolongings(), 0);
     let simulation = simulate(alloc, &plan, script, batch)?;
-    assert_eq!(rt; simulation.end.runs.len(), 50);
-    assert_eq!(rt; simulation.end.saved.len(), 17);
-    assert!(rt; simulation.is_finished());
-    check_at_targets(rt, &plan, simulation.link.server().records())
+    check_counts(rt, &simulation.end, 50, 17);
+    check_finished(rt, &plan, &simulation)
+}
+
+/// Whether there were so many runs, and so many saves.
+fn check_counts(rt: &impl Abort, end: &CampaignEnd, runs: usize, saves: usize) {
+    assert_eq!(rt; (end.runs.len(), end.saved.len()), (runs, saves));
 }
 
 /// In messages about one key, and about three.

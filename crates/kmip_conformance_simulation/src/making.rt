@@ -5,6 +5,7 @@ use kmip_objects::KeyState;
 use kmip_plan::{Plan, read_plan};
 use kmip_scripted::Word;
 use kmip_server::Records;
+use kmip_simulation::Simulation;
 use rand_chacha::ChaCha20Rng;
 use rand_core::Rng;
 use std::alloc::{AllocError, Global};
@@ -87,8 +88,15 @@ fn random_word(rng: &mut ChaCha20Rng) -> Word {
     }
 }
 
+/// Whether memory was ample, and all is finished: each key of the plan is at its target.
+pub fn check_finished(rt: &impl Abort, plan: &Plan, simulation: &Simulation) -> Result<(), Fail> {
+    assert_eq!(rt; simulation.end.fault, None);
+    assert!(rt; simulation.is_finished());
+    check_at_targets(rt, plan, simulation.link.server().records())
+}
+
 /// Whether each key of the plan has exactly one object, at the key's target, and nothing else has one.
-pub fn check_at_targets<R: Records>(rt: &impl Abort, plan: &Plan, records: &R) -> Result<(), Fail> {
+fn check_at_targets<R: Records>(rt: &impl Abort, plan: &Plan, records: &R) -> Result<(), Fail> {
     assert_eq!(rt; records.count(), plan.count());
     for key in plan.keys() {
         let state = state_named(records, key.attrs.name.as_str());

@@ -1,13 +1,12 @@
 //! Plans that go further, over links that repeat and mix up what was said before.
 
 use crate::making::plan_of;
-use crate::telling::{check_told, link_to, new_server, saved_run};
+use crate::telling::{assert_text, check_told, link_to, new_server, saved_run};
 use kmip_plan::prolongs;
-use kmip_session::{Start, campaigns};
+use kmip_session::{CampaignEnd, Start, campaigns};
 use kmip_simulation::push_records;
 use std::alloc::Global;
 use std::process::Abort;
-use std::str::from_utf8;
 use std::test::Fail;
 
 /// A key is made, goes on to be active, and at last to be destroyed, a plan after the other. In each
@@ -110,8 +109,9 @@ fn check_three(
     ];
     let mut link = link_to(alloc, new_server(alloc), script)?;
     let end = campaigns(alloc, &plans, &mut link, &runs);
+    check_told(rt, alloc, &end, &link, told)?;
     assert_eq!(rt; end.saved.len(), 3);
-    check_told(rt, alloc, &end, &link, told)
+    Ok(())
 }
 
 #[test]
@@ -201,17 +201,22 @@ fn check_further(
     let script = "lose-reply\nrestart none\nlose-reply\n";
     let mut link = link_to(alloc, new_server(alloc), script)?;
     let end = campaigns(alloc, &plans, &mut link, &runs);
-    assert_eq!(rt; end.runs.len(), 2);
-    assert!(rt;
-        end.runs
-            .as_slice()
-            .iter()
-            .all(|run| run.stop.is_all_finished())
-    );
+    check_two_finished(rt, &end);
     let mut text = Vec::new(alloc);
     push_records(alloc, &link, &mut text)?;
-    assert_eq!(rt; from_utf8(text.as_slice())?, record);
+    assert_text(rt, text.as_slice(), record);
     Ok(())
+}
+
+/// Whether there were two runs, each of which finished all.
+fn check_two_finished(rt: &impl Abort, end: &CampaignEnd) {
+    assert_eq!(rt; end.runs.len(), 2);
+    let are_finished = end
+        .runs
+        .as_slice()
+        .iter()
+        .all(|run| run.stop.is_all_finished());
+    assert!(rt; are_finished);
 }
 
 #[test]

@@ -1,6 +1,6 @@
 //! Random scripts with one `prolong`, over all pairs of plans of which the second prolongs the first.
 
-use crate::making::{TARGETS, check_at_targets, plan_of_two, push_random_words};
+use crate::making::{TARGETS, check_finished, plan_of_two, push_random_words};
 use kmip_plan::{Plan, prolongs};
 use kmip_scripted::{Script, Word};
 use kmip_simulation::simulate_plans;
@@ -37,9 +37,7 @@ fn try_pair(
     assert_eq!(rt; script.prolongings(), 1);
     let plans = [plan, further];
     let simulation = simulate_plans(alloc, plans.as_slice(), script, batch)?;
-    assert_eq!(rt; simulation.end.fault, None);
-    assert!(rt; simulation.is_finished());
-    check_at_targets(rt, &plans[1], simulation.link.server().records())?;
+    check_finished(rt, &plans[1], &simulation)?;
     Ok(true)
 }
 

@@ -1,7 +1,7 @@
 //! Random scripts over random plans.
 
 use crate::making::{
-    TARGETS, check_at_targets, plan_of_many, plan_of_two, push_random_words, random_batch,
+    TARGETS, check_finished, plan_of_many, plan_of_two, push_random_words, random_batch,
 };
 use kmip_plan::Plan;
 use kmip_scripted::Script;
@@ -45,9 +45,7 @@ fn try_script(
     assert_eq!(rt; script.prolongings(), 0);
     assert!(rt; 1 <= batch && batch <= 8);
     let simulation = simulate(alloc, plan, script, batch)?;
-    assert_eq!(rt; simulation.end.fault, None);
-    assert!(rt; simulation.is_finished());
-    check_at_targets(rt, plan, simulation.link.server().records())
+    check_finished(rt, plan, &simulation)
 }
 
 /// Carries out 500 random scripts, each over the next of the plans.

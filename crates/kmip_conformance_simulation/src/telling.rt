@@ -55,6 +55,11 @@ pub fn check_told(
     push_runs(alloc, end.runs.as_slice(), &mut text)?;
     push_asks(alloc, link, &mut text)?;
     push_records(alloc, link, &mut text)?;
-    assert_eq!(rt; from_utf8(text.as_slice())?, told);
+    assert_text(rt, text.as_slice(), told);
     Ok(())
+}
+
+/// The bytes are the wanted text.
+pub fn assert_text(rt: &impl Abort, bytes: &[u8], wanted: &str) {
+    assert_eq!(rt; from_utf8(bytes), Ok(wanted));
 }

@@ -1,6 +1,6 @@
--- The number and the name of each fault, and the fault of a message that is no item.
+-- The number and the name of each fault, what it is about, and the fault of a message that is no item.
 -- Source: own: the standard does not number the faults of a reader.
-use Rattle.std.specs.Prelude.{ℕ, Bool, true, false, List, codes}
+use Rattle.std.specs.Prelude.{ℕ, Bool, true, false, List, codes, Option, Some, None}
 use Rattle.kmip_ttlv.specs.declared.fault.TtlvFault.{TtlvFault}
 use Rattle.kmip_ttlv.specs.declared.fault.TtlvFault.TheVariants as ttlv
 use Rattle.kmip_fields.specs.declared.fault.MessageFault.{MessageFault}
@@ -53,3 +53,16 @@ message_fault_name (OutOfRange tag) = codes "OutOfRange"
 message_fault_name UnknownOperation = codes "UnknownOperation"
 message_fault_name NoMemory = codes "NoMemory"
 message_fault_name Undo = codes "Undo"
+
+-- the tag of the item that a fault is about
+abbrev pub message_fault_tag : MessageFault → Option ℕ
+message_fault_tag (Missing tag) = Some tag
+message_fault_tag (Twice tag) = Some tag
+message_fault_tag (WrongType tag) = Some tag
+message_fault_tag (OutOfRange tag) = Some tag
+message_fault_tag fault = None
+
+-- what is wrong with the encoding of the items
+abbrev pub message_fault_items : MessageFault → Option TtlvFault
+message_fault_items (Ttlv fault) = Some fault
+message_fault_items fault = None

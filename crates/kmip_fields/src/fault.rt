@@ -1,6 +1,13 @@
 //! Why bytes are no message.
 ghost use Rattle.std.specs.Prelude.{◌≡◌};
-ghost use Rattle.kmip_fields.specs.Faults.{is_no_memory, message_fault_of, message_fault_number, message_fault_name};
+ghost use Rattle.kmip_fields.specs.Faults.{
+  is_no_memory,
+  message_fault_of,
+  message_fault_number,
+  message_fault_name,
+  message_fault_tag,
+  message_fault_items,
+};
 ghost use Rattle.kmip_fields.specs.declared.fault.MessageFault.TheVariants as faults;
 
 use kmip_ttlv::{NoMemory, Tag, TtlvFault};
@@ -19,8 +26,8 @@ pub enum MessageFault {
     /// The Protocol Version is not 2.1, or for a reply not 2.
     #[error("another version")]
     Version,
-    /// The Batch Count is not 1, or not the number of Batch Items.
-    #[error("not one batch item")]
+    /// The Batch Count is not from 1 to 8, or not the number of Batch Items.
+    #[error("another number of batch items")]
     BatchCount,
     /// A required item of this tag is not there.
     #[error("missing {0:?}")]
@@ -50,6 +57,29 @@ impl MessageFault {
         ensures { result ≡ is_no_memory self }
     {
         matches!(self, MessageFault::NoMemory)
+    }
+
+    /// The tag of the item that the fault is about, where it is about one.
+    pub fn tag(self) -> Option<Tag>
+        ensures { result ≡ message_fault_tag self }
+    {
+        match self {
+            MessageFault::Missing(tag)
+            | MessageFault::Twice(tag)
+            | MessageFault::WrongType(tag)
+            | MessageFault::OutOfRange(tag) => Some(tag),
+            _ => None,
+        }
+    }
+
+    /// What is wrong with the encoding of the items, where it is that.
+    pub fn items(self) -> Option<TtlvFault>
+        ensures { result ≡ message_fault_items self }
+    {
+        match self {
+            MessageFault::Ttlv(fault) => Some(fault),
+            _ => None,
+        }
     }
 
     /// The fault's number, 1 to 11.

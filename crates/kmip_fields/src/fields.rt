@@ -36,7 +36,10 @@ fn at_most_one(items: &[Item], tag: u32) -> Result<Option<&Item>, MessageFault>
     Ok(found)
 }
 
-/// The item with this tag; none, and two or more, are a fault.
+/// The item with this tag, which stands once.
+///
+/// # Errors
+/// `Missing` where it stands nowhere, `Twice` where it stands twice or more often.
 pub fn one(items: &[Item], tag: u32) -> Result<&Item, MessageFault>
     requires { tag < 2 ^ 24 }
     ensures { Gives (λ i. content_of (view i.now)) result
@@ -49,6 +52,9 @@ pub fn one(items: &[Item], tag: u32) -> Result<&Item, MessageFault>
 }
 
 /// The items of the one Structure with this tag.
+///
+/// # Errors
+/// `Missing` or `Twice` where it does not stand once, `WrongType` where it has another type.
 #[tactic(auto, unfolding(crate::specs::Siblings::the))]
 pub fn the_structure(items: &[Item], tag: u32) -> Result<&[Item], MessageFault>
     requires { tag < 2 ^ 24 }
@@ -61,6 +67,9 @@ pub fn the_structure(items: &[Item], tag: u32) -> Result<&[Item], MessageFault>
 }
 
 /// The number of the one Integer with this tag.
+///
+/// # Errors
+/// `Missing` or `Twice` where it does not stand once, `WrongType` where it has another type.
 #[tactic(auto, unfolding(crate::specs::Siblings::the))]
 pub fn the_integer(items: &[Item], tag: u32) -> Result<i32, MessageFault>
     requires { tag < 2 ^ 24 }
@@ -73,6 +82,9 @@ pub fn the_integer(items: &[Item], tag: u32) -> Result<i32, MessageFault>
 }
 
 /// The number of the one Enumeration with this tag.
+///
+/// # Errors
+/// `Missing` or `Twice` where it does not stand once, `WrongType` where it has another type.
 #[tactic(auto, unfolding(crate::specs::Siblings::the))]
 pub fn the_enumeration(items: &[Item], tag: u32) -> Result<u32, MessageFault>
     requires { tag < 2 ^ 24 }
@@ -85,6 +97,9 @@ pub fn the_enumeration(items: &[Item], tag: u32) -> Result<u32, MessageFault>
 }
 
 /// The text of the one Text String with this tag.
+///
+/// # Errors
+/// `Missing` or `Twice` where it does not stand once, `WrongType` where it has another type.
 #[tactic(auto, unfolding(crate::specs::Siblings::the))]
 pub fn the_text(items: &[Item], tag: u32) -> Result<&str, MessageFault>
     requires { tag < 2 ^ 24 }
@@ -97,6 +112,9 @@ pub fn the_text(items: &[Item], tag: u32) -> Result<&str, MessageFault>
 }
 
 /// The number of the Integer with this tag, where there is one.
+///
+/// # Errors
+/// `Twice` where it stands twice or more often, `WrongType` where it has another type.
 #[tactic(auto, unfolding(crate::specs::Siblings::maybe))]
 pub fn integer_if_any(items: &[Item], tag: u32) -> Result<Option<i32>, MessageFault>
     requires { tag < 2 ^ 24 }
@@ -112,6 +130,9 @@ pub fn integer_if_any(items: &[Item], tag: u32) -> Result<Option<i32>, MessageFa
 }
 
 /// The number of the Enumeration with this tag, where there is one.
+///
+/// # Errors
+/// `Twice` where it stands twice or more often, `WrongType` where it has another type.
 #[tactic(auto, unfolding(crate::specs::Siblings::maybe))]
 pub fn enumeration_if_any(items: &[Item], tag: u32) -> Result<Option<u32>, MessageFault>
     requires { tag < 2 ^ 24 }
@@ -127,6 +148,9 @@ pub fn enumeration_if_any(items: &[Item], tag: u32) -> Result<Option<u32>, Messa
 }
 
 /// The items of the Structure with this tag, where there is one.
+///
+/// # Errors
+/// `Twice` where it stands twice or more often, `WrongType` where it has another type.
 #[tactic(auto, unfolding(crate::specs::Siblings::maybe))]
 pub fn structure_if_any(items: &[Item], tag: u32) -> Result<Option<&[Item]>, MessageFault>
     requires { tag < 2 ^ 24 }
@@ -143,6 +167,9 @@ pub fn structure_if_any(items: &[Item], tag: u32) -> Result<Option<&[Item]>, Mes
 }
 
 /// The bytes of the Byte String with this tag, where there is one.
+///
+/// # Errors
+/// `Twice` where it stands twice or more often, `WrongType` where it has another type.
 #[tactic(auto, unfolding(crate::specs::Siblings::maybe))]
 pub fn bytes_if_any(items: &[Item], tag: u32) -> Result<Option<&[u8]>, MessageFault>
     requires { tag < 2 ^ 24 }
@@ -158,7 +185,10 @@ pub fn bytes_if_any(items: &[Item], tag: u32) -> Result<Option<&[u8]>, MessageFa
     }
 }
 
-/// The test holds, or it is this fault.
+/// The test holds.
+///
+/// # Errors
+/// This fault, where the test fails.
 pub fn check(test: bool, fault: MessageFault) -> Result<(), MessageFault>
     ensures { result ≡ guard fault test }
 {
@@ -166,6 +196,9 @@ pub fn check(test: bool, fault: MessageFault) -> Result<(), MessageFault>
 }
 
 /// A value of the item with this tag is in its range.
+///
+/// # Errors
+/// `OutOfRange` of this tag, where the test fails.
 pub fn within(tag: u32, test: bool) -> Result<(), MessageFault>
     requires { tag < 2 ^ 24 }
     ensures { result ≡ within tag test }
@@ -177,7 +210,10 @@ pub fn within(tag: u32, test: bool) -> Result<(), MessageFault>
     }
 }
 
-/// Every item has one of these tags; the first that has not is out of range.
+/// Every item has one of these tags.
+///
+/// # Errors
+/// `OutOfRange` of the first tag that is none of these.
 pub fn only(tags: &[u32], items: &[Item]) -> Result<(), MessageFault>
     ensures { result ≡ only tags.now (views items.now) }
 {

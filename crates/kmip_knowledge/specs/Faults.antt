@@ -1,6 +1,6 @@
 -- The number and the name of each fault and of each clash.
 -- Source: own.
-use Rattle.std.specs.Prelude.{ℕ, List, ◌++◌, codes}
+use Rattle.std.specs.Prelude.{ℕ, List, codes}
 use Rattle.kmip_knowledge.specs.declared.clash.Clash.{Clash}
 use Rattle.kmip_knowledge.specs.declared.clash.Clash.TheVariants as clashes
 use Rattle.kmip_knowledge.specs.declared.fault.HearFault.{HearFault}
@@ -38,13 +38,3 @@ abbrev pub clash_name : Clash → List ℕ
 clash_name clashes.Attributes = codes "Attributes"
 clash_name clashes.State = codes "State"
 clash_name clashes.TwoObjects = codes "TwoObjects"
-
--- what a clash is, in an operator's words
-abbrev pub clash_words : Clash → List ℕ
-clash_words clashes.Attributes = codes "another object has this name (attributes differ)"
-clash_words clashes.State = codes "its object is in a state that the plan does not lead through"
-clash_words clashes.TwoObjects = codes "more than one object has this name"
-
--- the same with the name of the key
-abbrev pub clash_told : List ℕ → Clash → List ℕ
-clash_told name clash = codes "key " ++ name ++ codes ": " ++ clash_words clash

@@ -1,5 +1,5 @@
 -- The attributes of the profile: the law of their format, and that what it says is what specs/Attributes says by hand, in both
--- directions. What names each of them stands here.
+-- directions.
 use Rattle.std.proofs.Common.{◌≡◌, ℕ, List, [], ◌∷◌, ◌++◌, Option, Some, None, refl, ap}
 use Rattle.kmip_ttlv.specs.Node.{Node}
 use Rattle.kmip_fields.specs.Formats.{Format, integers, enumerations, SaysIfAny}
@@ -7,8 +7,7 @@ use Rattle.kmip_fields.specs.FormatLaws.{apart, IsPart}
 use Rattle.kmip_fields.proofs.ItemReads.{integer_kind, enumeration_kind}
 use Rattle.kmip_fields.proofs.FormatParts.{optional-part, as_record-part, both-part}
 use Rattle.kmip_objects.specs.declared.attributes.Attrs.{Attrs}
-use Rattle.kmip_messages.specs.declared.attributes.TheConstants.{TAG_STATE}
-use Rattle.kmip_messages.specs.declared.standard.TheConstants.{TAG_OBJECT_TYPE, TAG_NAME, TAG_CRYPTOGRAPHIC_ALGORITHM, TAG_CRYPTOGRAPHIC_LENGTH, TAG_CRYPTOGRAPHIC_USAGE_MASK, NAME_TYPE_UNINTERPRETED_TEXT_STRING}
+use Rattle.kmip_messages.specs.declared.standard.TheConstants.{TAG_OBJECT_TYPE, TAG_NAME, TAG_CRYPTOGRAPHIC_ALGORITHM, TAG_CRYPTOGRAPHIC_LENGTH, TAG_CRYPTOGRAPHIC_USAGE_MASK, TAG_STATE, NAME_TYPE_UNINTERPRETED_TEXT_STRING}
 use Rattle.kmip_messages.specs.Attributes.{IsName, IsNameIfAny, IsFilter, AreAttrs, attrs_with}
 use Rattle.kmip_messages.specs.RequestFormats.{name_parts_format, name_format, filter_format}
 use Rattle.kmip_messages.specs.ReplyFormats.{any_name_parts_format, attrs_format}

@@ -1,5 +1,4 @@
--- The attributes of the profile in a message: what it is for them to stand there, and how they are written and read. What
--- names each of them stands here, and nothing else does.
+-- The attributes of the profile in a message: what it is for them to stand there, and how they are written and read.
 -- Source: KMIP 2.1, Object Attributes, and Operations, Locate and Get Attributes; the range of a name in a request and the
 -- order of optional attributes are own.
 use Rattle.std.specs.Prelude.{◌≡◌, ℕ, List, [], ◌∷◌, Option, Some, None, IsTrue}
@@ -9,7 +8,6 @@ use Rattle.kmip_fields.specs.Formats.{Format, inside, integers, enumerations, op
 use Rattle.kmip_fields.specs.Standing.{Once, AtMostOnce, HaveTags}
 use Rattle.kmip_objects.specs.Ranges.{is_name}
 use Rattle.kmip_objects.specs.declared.attributes.Attrs.{Attrs}
-use Rattle.kmip_messages.specs.declared.attributes.TheConstants.{TAG_STATE}
 use Rattle.kmip_messages.specs.declared.standard.TheConstants.{
   TAG_OBJECT_TYPE,
   TAG_NAME,
@@ -18,6 +16,7 @@ use Rattle.kmip_messages.specs.declared.standard.TheConstants.{
   TAG_CRYPTOGRAPHIC_ALGORITHM,
   TAG_CRYPTOGRAPHIC_LENGTH,
   TAG_CRYPTOGRAPHIC_USAGE_MASK,
+  TAG_STATE,
   NAME_TYPE_UNINTERPRETED_TEXT_STRING,
 }
 

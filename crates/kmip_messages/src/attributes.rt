@@ -1,5 +1,5 @@
 //! The attributes of the profile in a message: how they are written, how many bytes they take, and
-//! how they are read. What names each of them stands here, and nothing else of the code does.
+//! how they are read.
 //!
 //! Source: KMIP 2.1, Object Attributes, and Operations, Locate and Get Attributes.
 ghost use Rattle.std.specs.Prelude.{◌≡◌, ◌+◌, ◌≤◌, false, IsTrue, IfOk};
@@ -19,16 +19,12 @@ use crate::reply_reading::any_name_of;
 use crate::request_reading::name_of;
 use crate::standard::{
     TAG_ATTRIBUTES, TAG_CRYPTOGRAPHIC_ALGORITHM, TAG_CRYPTOGRAPHIC_LENGTH,
-    TAG_CRYPTOGRAPHIC_USAGE_MASK, TAG_NAME, TAG_OBJECT_TYPE,
+    TAG_CRYPTOGRAPHIC_USAGE_MASK, TAG_NAME, TAG_OBJECT_TYPE, TAG_STATE,
 };
 use kmip_fields::{MessageFault, enumeration_if_any, integer_if_any, only};
 use kmip_objects::Attrs;
 use kmip_ttlv::{Item, NoMemory, Tag};
 use std::alloc::Global;
-
-// The tags that stand among attributes alone.
-
-pub const TAG_STATE: u32 = 0x42008D;
 
 /// The Attributes that are given, in the written order.
 #[tactic(auto, unfolding(crate::specs::ReplyFormats::attrs_format))]

@@ -2,7 +2,7 @@
 //!
 //! Source: KMIP 2.1, Tags and Enumerations. What is marked "own" is this project's profile.
 
-// Tags. Those that stand among attributes alone are in attributes.rt.
+// Tags.
 
 pub const TAG_BATCH_COUNT: u32 = 0x42000D;
 
@@ -51,6 +51,8 @@ pub const TAG_RESULT_STATUS: u32 = 0x42007F;
 pub const TAG_REVOCATION_REASON: u32 = 0x420081;
 
 pub const TAG_REVOCATION_REASON_CODE: u32 = 0x420082;
+
+pub const TAG_STATE: u32 = 0x42008D;
 
 pub const TAG_STORAGE_STATUS_MASK: u32 = 0x42008E;
 
@@ -103,6 +105,7 @@ pub const REASON_FEATURE_NOT_SUPPORTED: u32 = 0x8;
 pub const REASON_NON_UNIQUE_NAME: u32 = 0x35;
 
 pub const REASON_WRONG_STATE: u32 = 0x43;
+
 /// All the room of the server is used up (own).
 pub const REASON_SERVER_FULL: u32 = 0x100;
 

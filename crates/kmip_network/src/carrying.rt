@@ -44,6 +44,9 @@ impl<'a> Keeper for FileKeeper<'a> {
 
 /// The command `run`: the plan is read first, then the lock is taken, the progress read, and then the
 /// server asked.
+///
+/// # Errors
+/// Where there is no memory, or standard output takes nothing; all else is printed.
 pub fn run_plan(rt: &HostRuntime, options: &RunOptions) -> io::Result<ExitStatus> {
     let plan_path = options.plan.as_str();
     let Some(plan) = text_or_why_not(rt, plan_path)? else {

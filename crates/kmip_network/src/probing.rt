@@ -12,6 +12,9 @@ use std::time::Duration;
 /// The command `probe`: the server is asked, and what its answers tell is printed. As nothing is asked
 /// twice, each question goes over a stream of its own: so a server that closes the stream behind each
 /// reply answers all.
+///
+/// # Errors
+/// Where there is no memory, or standard output takes nothing; all else is printed.
 pub fn probe_server(rt: &HostRuntime, options: &ProbeOptions) -> io::Result<ExitStatus> {
     let limit = Duration::from_secs(options.timeout);
     let prefix = options.prefix.as_str();

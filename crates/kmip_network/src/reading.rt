@@ -13,6 +13,9 @@ const BEFORE_A_PLACE: &str = "TOML parse error at ";
 
 /// How the program ends where the text of the file at this path is no plan, which is printed; none
 /// where it is one.
+///
+/// # Errors
+/// Where there is no memory, or standard output takes nothing; all else is printed.
 pub fn refusal_of(rt: &HostRuntime, path: &str, plan: &str) -> io::Result<Option<ExitStatus>> {
     if !is_refused(rt, plan)? {
         return Ok(None);
@@ -62,6 +65,9 @@ fn is_refused(rt: &HostRuntime, plan: &str) -> io::Result<bool> {
 }
 
 /// The text of a file; where it has none, or one that is too long, that is printed.
+///
+/// # Errors
+/// Where there is no memory, or standard output takes nothing; all else is printed.
 pub fn text_or_why_not(rt: &HostRuntime, path: &str) -> io::Result<Option<String>> {
     match text_of(rt, path, MOST_FILE_BYTES) {
         Ok(text) => Ok(Some(text)),

@@ -19,6 +19,9 @@ pub(crate) fn new_server(rt: &HostRuntime) -> Server<IndexedStore> {
 
 /// The command `serve`: connections one after the other, as many as are asked for. One that could
 /// not be accepted does not count.
+///
+/// # Errors
+/// Where there is no memory, or standard output takes nothing; all else is printed.
 pub fn serve(rt: &HostRuntime, options: &ServeOptions) -> io::Result<ExitStatus> {
     let address = SocketAddr::V4(SocketAddrV4::new(Ipv4Addr::LOCALHOST, options.port));
     let Some((listener, port)) = listening(rt, address) else {

@@ -5,7 +5,7 @@ use kmip_batches::read_reply;
 use kmip_fields::MessageFault;
 use kmip_running::Observer;
 use kmip_schedule::LinkFault;
-use kmip_ttlv::{NoMemory, Tag, TtlvFault};
+use kmip_ttlv::NoMemory;
 use kmip_wording::{push_answer, push_question};
 use std::alloc::{AllocError, Global};
 use std::str::from_utf8;
@@ -86,33 +86,14 @@ fn push_fault(alloc: Global, fault: &MessageFault, line: &mut Vec<u8>) -> Result
 fn fault_text(alloc: Global, fault: &MessageFault) -> Result<String, AllocError> {
     let mut text = String::from_str(alloc, " (")?;
     text.push_str(fault.name())?;
-    if let Some(tag) = tag_of(fault) {
+    if let Some(tag) = fault.tag() {
         write!(text, " {:06x}", tag.number())?;
     }
-    if let Some(fault) = items_fault(fault) {
+    if let Some(fault) = fault.items() {
         write!(text, ": {fault}")?;
     }
     text.push_str(")")?;
     Ok(text)
-}
-
-/// The tag of the item that a fault is about, where it is about one.
-fn tag_of(fault: &MessageFault) -> Option<Tag> {
-    match fault {
-        MessageFault::Missing(tag)
-        | MessageFault::Twice(tag)
-        | MessageFault::WrongType(tag)
-        | MessageFault::OutOfRange(tag) => Some(*tag),
-        _ => None,
-    }
-}
-
-/// What is wrong with the items, where it is that.
-fn items_fault(fault: &MessageFault) -> Option<TtlvFault> {
-    match fault {
-        MessageFault::Ttlv(fault) => Some(*fault),
-        _ => None,
-    }
 }
 
 impl<'a> Observer for Teller<'a> {

@@ -18,6 +18,12 @@ pub const REVOCATION_KEY_COMPROMISE: u32 = 0x2;
 
 pub const REVOCATION_CA_COMPROMISE: u32 = 0x3;
 
+pub const REVOCATION_AFFILIATION_CHANGED: u32 = 0x4;
+
+pub const REVOCATION_SUPERSEDED: u32 = 0x5;
+
+pub const REVOCATION_CESSATION_OF_OPERATION: u32 = 0x6;
+
 pub const REVOCATION_PRIVILEGE_WITHDRAWN: u32 = 0x7;
 
 // Bits of the Storage Status Mask.

@@ -1,7 +1,15 @@
 -- The words of a plan, and the numbers that they stand for.
 -- Source: KMIP 2.1, Cryptographic Algorithm, Cryptographic Usage Mask and Revocation Reason Code; the words are own.
 use Rattle.std.specs.Prelude.{ℕ, ◌+◌, ◌==◌, Bool, ◌||◌, List, codes, Option, Some, None, if◌then◌else◌}
-use Rattle.kmip_objects.specs.declared.standard.TheConstants.{ALGORITHM_AES, ALGORITHM_HMAC_SHA256}
+use Rattle.kmip_objects.specs.declared.standard.TheConstants.{
+  ALGORITHM_AES,
+  ALGORITHM_HMAC_SHA256,
+  REVOCATION_UNSPECIFIED,
+  REVOCATION_AFFILIATION_CHANGED,
+  REVOCATION_SUPERSEDED,
+  REVOCATION_CESSATION_OF_OPERATION,
+  REVOCATION_PRIVILEGE_WITHDRAWN,
+}
 use Rattle.kmip_chains.specs.Words.{is_text}
 
 abbrev pub algorithm_word : ℕ → Option (List ℕ)
@@ -19,11 +27,11 @@ algorithm_of_word word =
 -- the reasons of a Revoke; a compromise has no word
 abbrev pub reason_of_word : List ℕ → Option ℕ
 reason_of_word word =
-    if is_text word (codes "unspecified") then Some 1
-    else if is_text word (codes "affiliation-changed") then Some 4
-    else if is_text word (codes "superseded") then Some 5
-    else if is_text word (codes "cessation-of-operation") then Some 6
-    else if is_text word (codes "privilege-withdrawn") then Some 7
+    if is_text word (codes "unspecified") then Some REVOCATION_UNSPECIFIED
+    else if is_text word (codes "affiliation-changed") then Some REVOCATION_AFFILIATION_CHANGED
+    else if is_text word (codes "superseded") then Some REVOCATION_SUPERSEDED
+    else if is_text word (codes "cessation-of-operation") then Some REVOCATION_CESSATION_OF_OPERATION
+    else if is_text word (codes "privilege-withdrawn") then Some REVOCATION_PRIVILEGE_WITHDRAWN
     else None
 
 -- one of the eight words for a usage

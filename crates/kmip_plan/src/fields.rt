@@ -10,8 +10,8 @@ use crate::counts::{are_once, are_usages, mask_of};
 use crate::tables::{array_at, integer_at, text_at, value_at};
 use crate::words::{algorithm_of_word, reason_of_word};
 use kmip_chains::Target;
-use kmip_objects::is_name;
-use kmip_objects::standard::{ALGORITHM_AES, ALGORITHM_HMAC_SHA256, REVOCATION_UNSPECIFIED};
+use kmip_objects::standard::REVOCATION_UNSPECIFIED;
+use kmip_objects::{is_length, is_name};
 use toml::value::Array;
 use toml::{Table, Value};
 
@@ -49,14 +49,10 @@ pub(crate) fn length_of(algorithm: u32, table: &Table) -> Option<i32>
 fn bits_of(algorithm: u32, bits: i64) -> Option<i32>
     ensures { result ≡ if_so (is_length algorithm) bits }
 {
-    let length = match bits {
-        128 => 128,
-        192 => 192,
-        256 => 256,
-        _ => return None,
-    };
-    let fits = algorithm == ALGORITHM_AES || algorithm == ALGORITHM_HMAC_SHA256 && length == 256;
-    if fits { Some(length) } else { None }
+    match i32::try_from(bits) {
+        Ok(length) if is_length(algorithm, length) => Some(length),
+        _ => None,
+    }
 }
 
 /// The Cryptographic Usage Mask.

@@ -3,7 +3,9 @@ ghost use Rattle.std.specs.Prelude.{◌≡◌, option_map};
 ghost use Rattle.kmip_plan.specs.Words.{algorithm_word, algorithm_of_word, reason_of_word, is_usage_word};
 
 use kmip_objects::standard::{
-    ALGORITHM_AES, ALGORITHM_HMAC_SHA256, REVOCATION_PRIVILEGE_WITHDRAWN, REVOCATION_UNSPECIFIED,
+    ALGORITHM_AES, ALGORITHM_HMAC_SHA256, REVOCATION_AFFILIATION_CHANGED,
+    REVOCATION_CESSATION_OF_OPERATION, REVOCATION_PRIVILEGE_WITHDRAWN, REVOCATION_SUPERSEDED,
+    REVOCATION_UNSPECIFIED,
 };
 
 /// The word for a Cryptographic Algorithm of a plan. Takes no memory.
@@ -34,9 +36,9 @@ pub(crate) fn reason_of_word(word: &str) -> Option<u32>
 {
     match word {
         "unspecified" => Some(REVOCATION_UNSPECIFIED),
-        "affiliation-changed" => Some(4),
-        "superseded" => Some(5),
-        "cessation-of-operation" => Some(6),
+        "affiliation-changed" => Some(REVOCATION_AFFILIATION_CHANGED),
+        "superseded" => Some(REVOCATION_SUPERSEDED),
+        "cessation-of-operation" => Some(REVOCATION_CESSATION_OF_OPERATION),
         "privilege-withdrawn" => Some(REVOCATION_PRIVILEGE_WITHDRAWN),
         _ => None,
     }

@@ -12,7 +12,7 @@ pub enum Finding {
     Kept,
     /// It does not.
     Broken(Flaw),
-    /// The replies that would tell have not come.
+    /// It could not be told: a reply that would tell has not come, or it refused what was asked.
     Untold,
 }
 

@@ -3,12 +3,11 @@ ghost use Rattle.std.specs.Prelude.{◌≡◌, IfErr, IfOk, Some, string_bytes};
 ghost use Rattle.kmip_progress.specs.Reading.{FailsProgress};
 ghost use Rattle.kmip_run.specs.RunText.{begin_knowns};
 ghost use Rattle.kmip_run.specs.StandingText.{IsStandingText, finished_text, made_text};
-ghost use Rattle.kmip_session.specs.Reporting.{finished_count, is_finished};
 
 use crate::beginning::begin;
-use kmip_client::Verdict;
 use kmip_plan::Plan;
 use kmip_progress::ProgressFault;
+use kmip_session::finished_count;
 use std::alloc::{AllocError, Global};
 
 /// The line that says how far a run of the plan is, by the text that was kept last: how many keys are
@@ -66,23 +65,4 @@ fn made_text(alloc: Global, exchanges: usize, silent: usize) -> Result<String, A
         " if nothing more is lost; {exchanges} made, {silent} without a reply"
     )?;
     Ok(text)
-}
-
-/// How many of the verdicts are that a key is finished.
-fn finished_count(verdicts: &[Verdict]) -> usize
-    ensures { result ≡ finished_count verdicts.now }
-{
-    verdicts
-        .iter()
-        .filter(|verdict| is_finished(**verdict))
-        .count()
-}
-
-fn is_finished(verdict: Verdict) -> bool
-    ensures { result ≡ is_finished verdict }
-{
-    match verdict {
-        Verdict::Finished => true,
-        Verdict::Working | Verdict::Conflict(_) => false,
-    }
 }

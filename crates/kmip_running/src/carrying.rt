@@ -5,7 +5,6 @@ ghost use Rattle.kmip_client.specs.Saving.{progress};
 ghost use Rattle.kmip_chains.specs.Chains.{bound};
 ghost use Rattle.kmip_progress.specs.Texts.{progress_text};
 ghost use Rattle.kmip_schedule.specs.Ending.{EndedAt};
-ghost use Rattle.kmip_schedule.specs.Moves.{Delivered};
 ghost use Rattle.kmip_schedule.specs.Past.{Names, is_planned};
 ghost use Rattle.kmip_session.specs.Driving.{AsksOne, IsGood, IsSettling, Nearer, need, WentOn, Learnt, Grown, Keeps, Stands};
 ghost use Rattle.kmip_session.specs.Losing.{ArePaid, IsEnough, left_for};
@@ -20,8 +19,8 @@ use kmip_client::laws::{
 use kmip_schedule::laws::{
     deliveries_keep_sound, deliveries_keep_the_requests, objects_go_onward, the_image_is_kept,
 };
-use kmip_schedule::{Link, LinkFault};
-use kmip_session::{Stop, drive};
+use kmip_schedule::Link;
+use kmip_session::{Stop, close_run, drive};
 use kmip_settling::laws::{needs_are_bounded, who_needs_nothing_is_finished};
 use kmip_settling::losing_laws::{late_arrivals_add_nothing, left_is_bounded};
 use kmip_ttlv::NoMemory;
@@ -142,7 +141,7 @@ fn exchange_to_the_end<L: Link, K: Keeper>(
     laws_below();
     let _plan = client.plan();
     let (carried, made) = exchange_in_turn(alloc, client, link, keeper, limit);
-    let closed = close(alloc, link);
+    let closed = close_run(alloc, link);
     (after_close(carried, closed), made)
 }
 
@@ -209,7 +208,7 @@ fn exchange_once<L: Link, K: Keeper>(
 {
     laws_below();
     let (stop, exchanges) = drive(alloc, client, link, 1);
-    if is_no_memory(stop) {
+    if stop.is_no_memory() {
         return (Ok(Stop::NoMemory), 0);
     }
     if exchanges == 0 {
@@ -240,15 +239,6 @@ fn save_progress<K: Keeper>(
     keeper.save(alloc, text.as_str().as_bytes())
 }
 
-fn is_no_memory(stop: Stop) -> bool
-    ensures { result ≡ false → stop ≢ Stop.NoMemory }
-{
-    match stop {
-        Stop::NoMemory => true,
-        Stop::AllFinished | Stop::Limit | Stop::Conflict => false,
-    }
-}
-
 /// Whether as many exchanges were made as were allowed, and all is saved.
 fn is_at_limit(carried: &Result<Stop, SaveFault>) -> bool
     ensures at { IsTrue result → carried.now ≡ Ok Stop.Limit }
@@ -257,29 +247,6 @@ fn is_at_limit(carried: &Result<Stop, SaveFault>) -> bool
     match carried {
         Ok(Stop::Limit) => true,
         _ => false,
-    }
-}
-
-/// Ends a run over the link; a failure of the network is passed over.
-///
-/// # Errors
-/// Where there is no memory.
-fn close<L: Link>(alloc: Global, link: &mut L) -> Result<(), NoMemory>
-    ensures honest { (names : Names) → L.honest link.old names → L.honest link.new names
-        × Delivered names (L.past link.old) (L.past link.new) }
-    ensures calm { (names : Names) → L.calm link.old names → L.calm link.new names
-        × OnOk result (L.past link.new ≡ L.past link.old) }
-    ensures undisturbed { (names : Names) → L.honest link.old names
-        → L.disturbances link.new ≡ L.disturbances link.old }
-    ensures ended { (names : Names) → L.honest link.old names → OnOk result (
-        EndedAt (length (L.past link.old).sent) (L.ended link.old) (L.ended link.new)) }
-    ensures once { (names : Names) → L.honest link.old names
-        → EndedAt (length (L.past link.old).sent) (L.ended link.old) (L.ended link.new)
-        ⊎ (L.ended link.new ≡ L.ended link.old) }
-{
-    match link.end_run(alloc) {
-        Ok(()) | Err(LinkFault::Io) | Err(LinkFault::Frame) => Ok(()),
-        Err(LinkFault::NoMemory) => Err(NoMemory),
     }
 }
 

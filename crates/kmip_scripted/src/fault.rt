@@ -11,7 +11,7 @@ use thiserror::Error;
 pub enum ScriptFault {
     /// The first line, from 1, that is no word of a script, or that comes after 10,000 lines; or 0,
     /// where each line is a word, and `prolong` stands among them more or less often than it may.
-    #[error("line {0} is no word of a script")]
+    #[error("line {0} is no word of a script (line 0: another count of `prolong`)")]
     Line(usize),
     #[error("no memory")]
     NoMemory,

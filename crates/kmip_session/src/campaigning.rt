@@ -287,7 +287,7 @@ fn one_run<'p, L: Link>(
     begin(alloc, plan, client, carried, end.saved.as_slice(), run)?;
     let driven = drive(alloc, client, link, run.limit);
     finish(alloc, client, run, driven, end)?;
-    close(alloc, link)
+    close_run(alloc, link)
 }
 
 /// Gives the client what its run begins with, and how many keys it is to ask about at once.
@@ -438,7 +438,7 @@ fn end_of(alloc: Global, client: &Client<'_>, driven: (Stop, usize)) -> Result<R
     ensures { IfOk result (IsEndOf client.now.keys client.now.knowns driven.0 driven.1) }
 {
     let (stop, exchanges) = driven;
-    if is_no_memory(stop) {
+    if stop.is_no_memory() {
         return Err(NoMemory);
     }
     let counts = client.counts(alloc)?;
@@ -454,20 +454,11 @@ fn end_of(alloc: Global, client: &Client<'_>, driven: (Stop, usize)) -> Result<R
     })
 }
 
-fn is_no_memory(stop: Stop) -> bool
-    ensures { result ≡ false → stop ≢ Stop.NoMemory }
-{
-    match stop {
-        Stop::NoMemory => true,
-        Stop::AllFinished | Stop::Limit | Stop::Conflict => false,
-    }
-}
-
 /// Ends a run over the link; a failure of the network is passed over.
 ///
 /// # Errors
 /// Where there is no memory.
-fn close<L: Link>(alloc: Global, link: &mut L) -> Result<(), NoMemory>
+pub fn close_run<L: Link>(alloc: Global, link: &mut L) -> Result<(), NoMemory>
     ensures honest { (names : Names) → L.honest link.old names → L.honest link.new names
         × Delivered names (L.past link.old) (L.past link.new) }
     ensures calm { (names : Names) → L.calm link.old names → L.calm link.new names

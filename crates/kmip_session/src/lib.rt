@@ -7,9 +7,9 @@ mod prolonging;
 mod reporting;
 mod stop;
 
-pub use campaigning::{CampaignEnd, Run, RunEnd, Start, campaign};
+pub use campaigning::{CampaignEnd, Run, RunEnd, Start, campaign, close_run};
 pub use driving::drive;
 pub use kmip_schedule::{Link, LinkFault};
 pub use prolonging::campaigns;
-pub use reporting::report;
+pub use reporting::{finished_count, report};
 pub use stop::Stop;

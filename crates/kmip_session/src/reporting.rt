@@ -116,8 +116,8 @@ fn sum_line(alloc: Global, keys: &[Key], verdicts: &[Verdict]) -> Result<String,
     Ok(line)
 }
 
-/// How many of the verdicts are that a key is finished.
-fn finished_count(verdicts: &[Verdict]) -> usize
+/// How many of the verdicts are that a key is finished. Takes no memory.
+pub fn finished_count(verdicts: &[Verdict]) -> usize
     ensures { result ≡ finished_count verdicts.now }
 {
     verdicts

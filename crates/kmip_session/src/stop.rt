@@ -1,5 +1,5 @@
 //! Why a run stops.
-ghost use Rattle.std.specs.Prelude.{◌≡◌};
+ghost use Rattle.std.specs.Prelude.{◌≡◌, ◌≢◌, IsTrue, false};
 ghost use Rattle.kmip_session.specs.Stops.{is_all_finished, stop_number, stop_name};
 
 /// Why a run stops.
@@ -47,6 +47,16 @@ impl Stop {
         match self {
             Stop::AllFinished => true,
             Stop::Limit | Stop::Conflict | Stop::NoMemory => false,
+        }
+    }
+    /// Whether memory ran out, so that the run has no end to tell of.
+    pub fn is_no_memory(self) -> bool
+        ensures at { IsTrue result → self ≡ Stop.NoMemory }
+        ensures not { result ≡ false → self ≢ Stop.NoMemory }
+    {
+        match self {
+            Stop::NoMemory => true,
+            Stop::AllFinished | Stop::Limit | Stop::Conflict => false,
         }
     }
 }

@@ -3,9 +3,9 @@
 //!
 //! Source: KMIP 2.1, Operations, Get Attributes, in the layout of this project's profile.
 
+use crate::asserting::assert_written;
 use kmip_wording::{push_answer, push_question};
 use std::alloc::Global;
-use std::str::from_utf8;
 use std::test::Fail;
 
 /// The question for the attributes of object `1`, about `k1`.
@@ -87,7 +87,7 @@ fn tells_another_name(rt: HostRuntime) -> Result<(), Fail> {
             Some(reply.as_slice()),
             &mut text,
         )?;
-        assert_eq!(rt; from_utf8(text.as_slice()), Ok(*wanted));
+        assert_written(&rt, text.as_slice(), wanted, "a reply");
     }
     Ok(())
 }

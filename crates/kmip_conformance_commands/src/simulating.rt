@@ -2,11 +2,11 @@
 //! the program calls it. What it prints for other plans and scripts stands in the stored runs of
 //! kmipctl_runs. The lines were worked out by hand from the words of a script and the rules of a run.
 
+use crate::asserting::{assert_status, assert_written};
 use kmip_commands::{CommandFault, ExitStatus};
 use kmip_sim::{Detail, run_sim, sim, sim_bytes};
 use std::alloc::Global;
 use std::process::Abort;
-use std::str::from_utf8;
 use std::test::Fail;
 
 const CREATED: &str = r#"[[key]]
@@ -138,15 +138,10 @@ fn status_of(is_refused: bool) -> ExitStatus {
     }
 }
 
-/// Whether it wrote this text.
-fn check_text(rt: &impl Abort, written: &[u8], text: &str) {
-    assert_eq!(rt; from_utf8(written), Ok(text));
-}
-
-/// Whether it ended and wrote as the row says.
-fn check_end(rt: &impl Abort, row: &Row, status: ExitStatus, written: &[u8]) {
-    assert_eq!(rt; status, row.status);
-    check_text(rt, written, row.text);
+/// It ended and wrote as the row says.
+fn assert_end(rt: &impl Abort, row: &Row, status: ExitStatus, written: &[u8]) {
+    assert_status(rt, status, row.status, row.script);
+    assert_written(rt, written, row.text, row.script);
 }
 
 /// Simulates the row by each function.
@@ -154,13 +149,13 @@ fn check_row(rt: &impl Abort, alloc: Global, row: &Row) -> Result<(), Fail> {
     let (detail, further, script) = (row.detail, row.further, row.script);
     let mut written = Vec::new(alloc);
     let is_refused = sim_bytes(alloc, detail, 1, CREATED, further, script, &mut written)?;
-    check_end(rt, row, status_of(is_refused), written.as_slice());
+    assert_end(rt, row, status_of(is_refused), written.as_slice());
     let mut written = Vec::new(alloc);
     let is_refused = sim(alloc, detail, 1, CREATED, further, script, &mut written)?;
-    check_end(rt, row, status_of(is_refused), written.as_slice());
+    assert_end(rt, row, status_of(is_refused), written.as_slice());
     let mut written = Vec::new(alloc);
     let status = run_sim(alloc, detail, 1, CREATED, further, script, &mut written);
-    check_end(rt, row, status, written.as_slice());
+    assert_end(rt, row, status, written.as_slice());
     Ok(())
 }
 
@@ -187,8 +182,8 @@ fn check_late_word(
         script.as_str(),
         &mut written,
     );
-    assert_eq!(rt; ended, status);
-    check_text(rt, written.as_slice(), text);
+    assert_status(rt, ended, status, text);
+    assert_written(rt, written.as_slice(), text, "a late word");
     Ok(())
 }
 
@@ -213,6 +208,7 @@ fn ends_where_the_writer_fails(rt: HostRuntime) -> Result<(), Fail> {
     let mut room = [0; 10];
     let mut writer = room.as_mut_slice();
     let status = run_sim(rt.alloc(), Detail::Runs, 1, CREATED, None, "", &mut writer);
-    assert_eq!(rt; status, ExitStatus::Failed(CommandFault::Output));
+    let wanted = ExitStatus::Failed(CommandFault::Output);
+    assert_status(&rt, status, wanted, "a writer with room for ten bytes");
     Ok(())
 }
