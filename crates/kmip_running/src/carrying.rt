@@ -16,10 +16,10 @@ use kmip_client::Client;
 use kmip_client::laws::{
     onward_is_an_order, truth_is_for_good, what_is_known_was_heard, what_is_true_is_no_conflict,
 };
+use kmip_schedule::Link;
 use kmip_schedule::laws::{
     deliveries_keep_sound, deliveries_keep_the_requests, objects_go_onward, the_image_is_kept,
 };
-use kmip_schedule::Link;
 use kmip_session::{Stop, close_run, drive};
 use kmip_settling::laws::{needs_are_bounded, who_needs_nothing_is_finished};
 use kmip_settling::losing_laws::{late_arrivals_add_nothing, left_is_bounded};

@@ -34,7 +34,7 @@ returns-in-Ok-clause-carried g c =
     let e = c.drive-stop.ensures in
     let one : c.drive-stop.result.1 ≡ 1 = omega (arith, e.within, c.if-exchanges-eq0.false) in
     carried_one past honest calm g.K.Keeper.keeps g.K.Keeper.saved c.args.client.now c.drive-stop.new.client c.args.link.now c.drive-stop.new.link
-    c.args.keeper.now c.save_progress.new.keeper c.drive-stop.result one (c.if-is_no_memory.ensures refl)
+    c.args.keeper.now c.save_progress.new.keeper c.drive-stop.result one (c.if-is_no_memory.ensures.not refl)
     (λ keeping. let so = c.in-Ok.ensures keeping in (so.0, so.1))
     (drove past honest calm c.args.client.now c.drive-stop.new.client c.args.link.now c.drive-stop.new.link c.drive-stop.result e.good e.goes e.known e.grown e.kept
     e.calm)
@@ -47,7 +47,7 @@ returns-in-Err-clause-carried g c =
     let e = c.drive-stop.ensures in
     let one : c.drive-stop.result.1 ≡ 1 = omega (arith, e.within, c.if-exchanges-eq0.false) in
     carried_not past honest calm g.K.Keeper.keeps g.K.Keeper.saved c.args.client.now c.drive-stop.new.client c.args.link.now c.drive-stop.new.link
-    c.args.keeper.now c.save_progress.new.keeper c.drive-stop.result c.in-Err.fault one (c.if-is_no_memory.ensures refl)
+    c.args.keeper.now c.save_progress.new.keeper c.drive-stop.result c.in-Err.fault one (c.if-is_no_memory.ensures.not refl)
     (λ keeping. let so = c.in-Err.ensures keeping in (so.0, so.2))
     (drove past honest calm c.args.client.now c.drive-stop.new.client c.args.link.now c.drive-stop.new.link c.drive-stop.result e.good e.goes e.known e.grown e.kept
     e.calm)
@@ -72,5 +72,5 @@ pub returns-in-Err-clause-losing : goal.returns-in-Err-clause-losing
 returns-in-Err-clause-losing g c = λ good memory.
     let e = c.drive-stop.ensures in
     let one : c.drive-stop.result.1 ≡ 1 = omega (arith, e.within, c.if-exchanges-eq0.false) in
-    let paid = e.losing good (c.if-is_no_memory.ensures refl) in
+    let paid = e.losing good (c.if-is_no_memory.ensures.not refl) in
     omega (arith, one, paid)
