@@ -113,9 +113,10 @@ class Peers:
                 '--wait', '0', *more]
 
     def run(self, where, *more, plan=None):
-        """The exit status, what is printed, and the seconds that it takes."""
+        """The exit status, what is printed, and the seconds that it takes; what is told meanwhile is kept."""
         start = time.monotonic()
         done = subprocess.run(self.words(where, *more, plan=plan), capture_output=True, text=True)
+        self.told = done.stderr
         return done.returncode, done.stdout, time.monotonic() - start
 
     def forget(self):
@@ -177,7 +178,8 @@ class Peers:
             port = closed.getsockname()[1]
             status, printed, _ = self.run(('--connect', f'127.0.0.1:{port}'), '--limit', '3')
         self.look('a port where nobody listens', (status == 1, status), (printed == WORKING, printed),
-                  (self.known() == NOTHING_KNOWN, self.known()))
+                  (self.known() == NOTHING_KNOWN, self.known()),
+                  (self.told == 'cannot connect: Connection refused (os error 111)\n', self.told))
 
     def probes(self):
         for behaviour in (silent, dripping, talking_rubbish, closing_in_the_middle):

@@ -198,6 +198,8 @@ The plan is read and judged first (its first fault is printed as by `check`), th
 While it works, it shows on standard error how far it is, in one line that is written again after each
 exchange, where that is a terminal and `--verbose` does not tell each exchange there:
   1 of 3 keys finished, at most 9 more exchanges if nothing more is lost; 8 made, 2 without a reply
+Why the server can't be reached stands there too, once for each time:
+  cannot connect: Connection refused (os error 111)
 
 With `--batch B` a message asks about up to B keys, each once, and the server answers them in turn: a plan
 of many keys takes about B times fewer exchanges. What is promised is the same; where a reply is lost, B

@@ -2,7 +2,7 @@
 //! run in messages about one key needs.
 
 use crate::asserting::assert_true;
-use crate::printing::{FIRST, Row, runs};
+use crate::printing::{FIRST, Row, run_each, runs};
 use crate::shelf::link_of;
 use kmip_commands::ExitStatus;
 use kmip_scripted::Word;
@@ -78,11 +78,7 @@ const ROWS: [Row; 4] = [
 
 #[test]
 fn prints_what_it_did(rt: HostRuntime) -> Result<(), Fail> {
-    for row in &ROWS {
-        let mut link = link_of(rt.alloc(), row.words)?;
-        runs(&rt, rt.alloc(), row, &mut link)?;
-    }
-    Ok(())
+    run_each(&rt, rt.alloc(), &ROWS)
 }
 
 /// A run in messages about one key begins with what one in messages about eight saved last: it asks

@@ -141,13 +141,18 @@ pub fn runs(
     Ok(())
 }
 
-#[test]
-fn prints_what_it_did(rt: HostRuntime) -> Result<(), Fail> {
-    for row in &ROWS {
-        let mut link = link_of(rt.alloc(), row.words)?;
-        runs(&rt, rt.alloc(), row, &mut link)?;
+/// What a run of each row does over a link of its own.
+pub fn run_each(rt: &impl Abort, alloc: Global, rows: &[Row]) -> Result<(), Fail> {
+    for row in rows {
+        let mut link = link_of(alloc, row.words)?;
+        runs(rt, alloc, row, &mut link)?;
     }
     Ok(())
+}
+
+#[test]
+fn prints_what_it_did(rt: HostRuntime) -> Result<(), Fail> {
+    run_each(&rt, rt.alloc(), &ROWS)
 }
 
 /// What was asked before a text could not be kept is found by the next run.

@@ -122,10 +122,10 @@ fn run_with(
     let limit = Duration::from_secs(options.timeout);
     match &options.peer {
         Peer::Tcp(address) => {
-            let link = tcp_link(rt, *address, limit);
+            let link = tcp_link(rt, *address, limit, Some(keeper.standing));
             run_over(rt, options, input, saved, keeper, link)
         }
-        Peer::Unix(path) => match unix_link(rt, path.as_str(), limit)? {
+        Peer::Unix(path) => match unix_link(rt, path.as_str(), limit, Some(keeper.standing))? {
             Some(link) => run_over(rt, options, input, saved, keeper, link),
             None => Ok(ExitStatus::Refused),
         },

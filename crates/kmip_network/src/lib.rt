@@ -3,6 +3,7 @@
 #![tactic(auto)]
 
 mod carrying;
+mod dialing;
 mod linking;
 mod probing;
 mod reading;

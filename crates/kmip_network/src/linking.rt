@@ -1,9 +1,11 @@
 //! Links to the server that was named, and why there is none.
 
+use crate::dialing::Telling;
 use crate::serving::new_server;
+use crate::showing::Standing;
 use kmip_commands::ExitStatus;
 use kmip_server::IndexedStore;
-use kmip_transport::{Loopback, Tcp, TcpLink, Unix, UnixLink};
+use kmip_transport::{Loopback, StreamLink, Tcp, Unix};
 use std::io;
 use std::io::{Error, ErrorKind};
 use std::net::{SocketAddr, SocketAddrV4};
@@ -15,8 +17,10 @@ pub(crate) fn tcp_link<'a>(
     rt: &'a HostRuntime,
     address: SocketAddrV4,
     limit: Duration,
-) -> TcpLink<&'a HostRuntime> {
-    TcpLink::new(Tcp::new(rt, SocketAddr::V4(address)), limit)
+    standing: Option<&'a Standing<'a>>,
+) -> StreamLink<Telling<'a, Tcp<&'a HostRuntime>>> {
+    let dial = Tcp::new(rt, SocketAddr::V4(address));
+    StreamLink::new(Telling::new(rt, dial, standing), limit)
 }
 
 /// A link to the server behind the Unix socket at a path; where it can be none, that is printed.
@@ -24,9 +28,13 @@ pub(crate) fn unix_link<'a>(
     rt: &'a HostRuntime,
     path: &str,
     limit: Duration,
-) -> io::Result<Option<UnixLink<&'a HostRuntime>>> {
+    standing: Option<&'a Standing<'a>>,
+) -> io::Result<Option<StreamLink<Telling<'a, Unix<&'a HostRuntime>>>>> {
     match net::SocketAddr::from_pathname(path) {
-        Ok(address) => Ok(Some(UnixLink::new(Unix::new(rt, address), limit))),
+        Ok(address) => {
+            let dial = Telling::new(rt, Unix::new(rt, address), standing);
+            Ok(Some(StreamLink::new(dial, limit)))
+        }
         Err(error) => {
             refused(rt, error, "cannot connect", path)?;
             Ok(None)

@@ -20,11 +20,11 @@ pub fn probe_server(rt: &HostRuntime, options: &ProbeOptions) -> io::Result<Exit
     let prefix = options.prefix.as_str();
     match &options.peer {
         Peer::Tcp(address) => {
-            let mut link = tcp_link(rt, *address, limit);
+            let mut link = tcp_link(rt, *address, limit, None);
             link.hold_none();
             probe_over(rt, prefix, link)
         }
-        Peer::Unix(path) => match unix_link(rt, path.as_str(), limit)? {
+        Peer::Unix(path) => match unix_link(rt, path.as_str(), limit, None)? {
             Some(link) => {
                 let mut link = link;
                 link.hold_none();
