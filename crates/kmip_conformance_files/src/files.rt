@@ -95,12 +95,14 @@ fn is_free(rt: &HostRuntime, path: &str) -> bool {
     }
 }
 
+/// The kind of the failure, where it is one.
+fn kind_of<T: Drop>(outcome: io::Result<T>) -> Option<ErrorKind> {
+    outcome.err().map(|error| error.kind())
+}
+
 /// Why a file that may have so many bytes is not read; none where it is.
 fn failure(rt: &HostRuntime, path: &str, most_bytes: u64) -> Option<ErrorKind> {
-    match text_of(rt, path, most_bytes) {
-        Ok(_) => None,
-        Err(error) => Some(error.kind()),
-    }
+    kind_of(text_of(rt, path, most_bytes))
 }
 
 #[test]
@@ -231,10 +233,7 @@ fn links_in_a_circle_are_no_file(rt: HostRuntime) -> Result<(), Fail> {
     let folder = folder(&rt, "circle")?;
     let one = link_in(&rt, folder.as_str(), "one", "other")?;
     let _other = link_in(&rt, folder.as_str(), "other", "one")?;
-    let failure = match ProgressFile::at(&rt, one.as_str()) {
-        Ok(_) => None,
-        Err(error) => Some(error.kind()),
-    };
+    let failure = kind_of(ProgressFile::at(&rt, one.as_str()));
     assert_true(
         &rt,
         failure == Some(ErrorKind::FilesystemLoop),
@@ -295,10 +294,7 @@ fn is_read_up_to_its_limit(rt: HostRuntime) -> Result<(), Fail> {
     assert_true(&rt, length == MOST_PROGRESS_BYTES, "it is read whole");
     text.push(b'x')?;
     put(&rt, path, text.as_slice())?;
-    let failure = match text_in(&rt, path) {
-        Ok(_) => None,
-        Err(error) => Some(error.kind()),
-    };
+    let failure = kind_of(text_in(&rt, path));
     assert_true(
         &rt,
         failure == Some(ErrorKind::FileTooLarge),
