@@ -54,11 +54,14 @@ type_name DateTime = codes "DateTime"
 type_name Interval = codes "Interval"
 type_name DateTimeExtended = codes "DateTimeExtended"
 
--- A byte of a text: itself from 20 to 7E (hexadecimal), but for the quotation mark and the backslash,
--- and else a backslash and its two digits.
+-- Whether a byte of a text stands for itself: from 20 to 7E (hexadecimal), but for the quotation mark and
+-- the backslash.
+abbrev pub is_plain : ℕ → Bool
+is_plain b = nat_le 32 b && nat_lt b 127 && not (b == 34) && not (b == 92)
+
+-- A byte of a text: itself where it is plain, else a backslash and its two digits.
 unfoldable pub shown_byte : ℕ → List ℕ
-shown_byte b =
-    if nat_le 32 b && nat_lt b 127 && not (b == 34) && not (b == 92) then b ∷ [] else 92 ∷ encode_upper (b ∷ [])
+shown_byte b = if is_plain b then b ∷ [] else 92 ∷ encode_upper (b ∷ [])
 
 -- a text in plain characters
 abbrev pub plain_text : List ℕ → List ℕ

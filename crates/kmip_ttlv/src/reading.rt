@@ -1,6 +1,6 @@
 //! Bytes to items.
-ghost use Rattle.kmip_ttlv.specs.Limits.{head_size, most_levels};
-ghost use Rattle.std.specs.Prelude.{◌≡◌, ℕ, ◌+◌, ◌<◌, ◌≤◌, ◌^◌, ◌⊎◌, List, ◌++◌, length, take, IfOk, IfErr, IsTrue};
+ghost use Rattle.kmip_ttlv.specs.Limits.{head_size, most_bytes, most_levels};
+ghost use Rattle.std.specs.Prelude.{◌≡◌, ℕ, ◌+◌, ◌<◌, ◌≤◌, ◌^◌, ◌⊎◌, ◌&&◌, nat_lt, Some, List, ◌++◌, length, take, drop, IfOk, IfErr, IsTrue};
 ghost use Rattle.kmip_ttlv.specs.declared.fault.TtlvFault.{TtlvFault};
 ghost use Rattle.kmip_ttlv.specs.declared.fault.TtlvFault.TheVariants as faults;
 ghost use Rattle.byteorder.specs.Endian.{big_number};
@@ -9,7 +9,7 @@ ghost use Rattle.kmip_ttlv.specs.View.{view, views, content};
 ghost use Rattle.kmip_ttlv.specs.Types.{is_allowed};
 ghost use Rattle.kmip_ttlv.specs.Spelling.{padding, canon, Spells};
 ghost use Rattle.kmip_ttlv.specs.Sizes.{Fits, IsWritable};
-ghost use Rattle.kmip_ttlv.specs.Heads.{overrun, head_at};
+ghost use Rattle.kmip_ttlv.specs.Heads.{overrun, head_at, typed_head_at};
 ghost use Rattle.kmip_ttlv.specs.Reading.{GivesContent, ReadsAs, IsRead, IsRefused, boolean_value_at, text_value_at, value_at, all_at, item_at};
 ghost use Rattle.kmip_ttlv.specs.Breaks.{Breaks};
 
@@ -148,22 +148,46 @@ fn head_of(outermost: bool, at: usize, bytes: &[u8]) -> Result<(u32, ItemType, u
     if bytes.len() < HEAD_SIZE {
         return Err(overrun_of(outermost, at));
     }
-    let tag = BigEndian::read_u24(bytes);
-    let Some(item_type) = ItemType::from_byte(bytes[3]) else {
-        return Err(TtlvFault::UnknownType(at));
-    };
+    match ItemType::from_byte(bytes[3]) {
+        Some(item_type) => typed_head_of(outermost, at, bytes, item_type),
+        None => Err(TtlvFault::UnknownType(at)),
+    }
+}
+
+/// The same where the bytes have a head, whose type this is.
+#[tactic(auto, unfolding(crate::specs::Heads::typed_head_at))]
+fn typed_head_of(
+    outermost: bool,
+    at: usize,
+    bytes: &[u8],
+    item_type: ItemType,
+) -> Result<(u32, ItemType, usize), TtlvFault>
+    requires { head_size ≤ length bytes.now }
+    ensures exact { result ≡ typed_head_at outermost at bytes.now (Some item_type)
+        (big_number 4 (drop 4 bytes.now)) }
+    ensures tag { IfOk result (λ h. h.0 < 2 ^ 24) }
+    ensures allowed { IfOk result (λ h. IsTrue (is_allowed h.1 h.2)) }
+    ensures within { IfOk result (λ h. head_size + h.2 + padding h.2 ≤ length bytes.now) }
+{
     let len = BigEndian::read_u32(&bytes[4..]) as usize;
     if !item_type.allows(len) {
         return Err(TtlvFault::BadLength(at));
     }
     let size = HEAD_SIZE + len + padding_of(len);
-    if outermost && size > MAX_SIZE {
+    if is_too_long(outermost, size) {
         return Err(TtlvFault::TooLong(at));
     }
     if size > bytes.len() {
         return Err(overrun_of(outermost, at));
     }
-    Ok((tag, item_type, len))
+    Ok((BigEndian::read_u24(bytes), item_type, len))
+}
+
+/// Whether an item of this size is too long: the outermost one alone may be.
+fn is_too_long(outermost: bool, size: usize) -> bool
+    ensures { result ≡ (outermost && nat_lt most_bytes size) }
+{
+    outermost && size > MAX_SIZE
 }
 
 /// The fault of an item that passes the end: the outermost is short, a child passes its parent's end.

@@ -1,9 +1,12 @@
 //! Items as text, to be read by people.
 ghost use Rattle.std.specs.Prelude.{◌≡◌, ◌++◌, ◌∷◌, OnOk, IfOk, string_bytes};
+ghost use Rattle.std.specs.Fmt.{decimal, signed_decimal};
+ghost use Rattle.byteorder.specs.Endian.{big_bytes};
 ghost use Rattle.hex.specs.Hex.{encode_upper};
 ghost use Rattle.kmip_ttlv.specs.Node.{nodes_of};
 ghost use Rattle.kmip_ttlv.specs.View.{view, views, content};
 ghost use Rattle.kmip_ttlv.specs.Showing.{
+  is_plain,
   shown_byte,
   quoted,
   plain_text,
@@ -94,22 +97,45 @@ fn push_value(alloc: Global, value: &Value, out: &mut String) -> Result<(), NoMe
         ++ shown_value (content value.now)) }
 {
     match value {
-        Value::Structure(_) => {}
-        Value::Integer(number) => push_word(&number.to_string(alloc)?, out)?,
-        Value::LongInteger(number) => push_word(&number.to_string(alloc)?, out)?,
-        Value::BigInteger(digits) => push_bytes(alloc, digits.as_slice(), out)?,
-        Value::Enumeration(number) => {
-            out.push_str(" ")?;
-            push_hex(alloc, &number.to_be_bytes(), out)?;
-        }
-        Value::Boolean(truth) => push_word(if *truth { "true" } else { "false" }, out)?,
-        Value::TextString(text) => push_quoted(alloc, text.as_str(), out)?,
-        Value::ByteString(bytes) => push_bytes(alloc, bytes.as_slice(), out)?,
-        Value::DateTime(seconds) => push_word(&seconds.to_string(alloc)?, out)?,
-        Value::Interval(seconds) => push_word(&seconds.to_string(alloc)?, out)?,
-        Value::DateTimeExtended(microseconds) => push_word(&microseconds.to_string(alloc)?, out)?,
+        Value::Structure(_) => Ok(()),
+        Value::Integer(number) => push_signed(alloc, i64::from(*number), out),
+        Value::LongInteger(number) => push_signed(alloc, *number, out),
+        Value::BigInteger(digits) => push_bytes(alloc, digits.as_slice(), out),
+        Value::Enumeration(number) => push_enumeration(alloc, *number, out),
+        Value::Boolean(truth) => push_word(if *truth { "true" } else { "false" }, out),
+        Value::TextString(text) => push_quoted(alloc, text.as_str(), out),
+        Value::ByteString(bytes) => push_bytes(alloc, bytes.as_slice(), out),
+        Value::DateTime(seconds) => push_signed(alloc, *seconds, out),
+        Value::Interval(seconds) => push_unsigned(alloc, *seconds, out),
+        Value::DateTimeExtended(microseconds) => push_signed(alloc, *microseconds, out),
     }
-    Ok(())
+}
+
+/// Appends a space and a signed number in decimal digits.
+fn push_signed(alloc: Global, number: i64, out: &mut String) -> Result<(), NoMemory>
+    ensures { OnOk result (string_bytes out.new ≡ string_bytes out.old
+        ++ 32 ∷ signed_decimal number) }
+{
+    let digits = number.to_string(alloc)?;
+    push_word(&digits, out)
+}
+
+/// Appends a space and a number in decimal digits.
+fn push_unsigned(alloc: Global, number: u32, out: &mut String) -> Result<(), NoMemory>
+    ensures { OnOk result (string_bytes out.new ≡ string_bytes out.old
+        ++ 32 ∷ decimal number) }
+{
+    let digits = number.to_string(alloc)?;
+    push_word(&digits, out)
+}
+
+/// Appends a space and the number of an Enumeration, in hexadecimal.
+fn push_enumeration(alloc: Global, number: u32, out: &mut String) -> Result<(), NoMemory>
+    ensures { OnOk result (string_bytes out.new ≡ string_bytes out.old
+        ++ 32 ∷ encode_upper (big_bytes 4 number)) }
+{
+    out.push_str(" ")?;
+    push_hex(alloc, &number.to_be_bytes(), out)
 }
 
 /// Appends a space and a word.
@@ -156,12 +182,20 @@ fn push_plain(alloc: Global, text: &str, out: &mut String) -> Result<(), NoMemor
     Ok(())
 }
 
+/// Whether a byte of a text stands for itself: from 20 to 7E (hexadecimal), but for the quotation mark
+/// and the backslash.
+fn is_plain(byte: u8) -> bool
+    ensures { result ≡ is_plain byte }
+{
+    b' ' <= byte && byte < 127 && byte != b'"' && byte != b'\\'
+}
+
 /// Appends a byte of a text: itself where it is plain, else a backslash and its two digits.
 #[tactic(auto, unfolding(crate::specs::Showing::shown_byte))]
 fn push_byte(alloc: Global, byte: u8, out: &mut String) -> Result<(), NoMemory>
     ensures { OnOk result (string_bytes out.new ≡ string_bytes out.old ++ shown_byte byte) }
 {
-    if b' ' <= byte && byte < 127 && byte != b'"' && byte != b'\\' {
+    if is_plain(byte) {
         out.push(char::from(byte))?;
     } else {
         out.push_str("\\")?;
