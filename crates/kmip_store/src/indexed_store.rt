@@ -3,7 +3,7 @@ ghost use Rattle.std.specs.Prelude.{◌≡◌, ◌≤◌};
 ghost use Rattle.kmip_store.specs.Stock.{empty_stock, most_room};
 
 use crate::fault::StoreFault;
-use crate::making::new_row;
+use crate::making::{NewObject, new_object};
 use crate::matching::{row_by_index, wanted_by_index};
 use crate::material::draw;
 use crate::places::{has_text, note};
@@ -69,12 +69,10 @@ impl Records for IndexedStore {
             return Err(StoreFault::Full);
         }
         // All memory is taken before anything changes.
-        let row = new_row(alloc, self.rows.len(), attrs)?;
-        let uid = Text::copied(alloc, row.uid.as_str())?;
-        let name_key = String::from_str(alloc, attrs.name.as_str())?;
         self.rows.reserve(1)?;
         self.names.reserve(1)?;
-        note(&mut self.names, name_key);
+        let NewObject { row, uid, name } = new_object(alloc, self.rows.len(), attrs)?;
+        note(&mut self.names, name);
         let row = draw(&mut self.stream, row);
         self.rows.push_reserved(row);
         Ok(uid)

@@ -60,9 +60,9 @@ impl Records for ListStore {
             return Err(StoreFault::Full);
         }
         // All memory is taken before the stream moves on.
+        self.rows.reserve(1)?;
         let row = new_row(alloc, self.rows.len(), attrs)?;
         let uid = Text::copied(alloc, row.uid.as_str())?;
-        self.rows.reserve(1)?;
         let row = draw(&mut self.stream, row);
         self.rows.push_reserved(row);
         Ok(uid)

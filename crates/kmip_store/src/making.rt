@@ -1,11 +1,12 @@
 //! The row of a new object.
-ghost use Rattle.std.specs.Prelude.{◌≡◌, ◌<◌, length, IfOk};
+ghost use Rattle.std.specs.Prelude.{◌≡◌, ◌<◌, length, IfOk, string_bytes};
 ghost use Rattle.kmip_store.specs.Stock.{new_row, material_size, most_room};
 
 use crate::identifying::identifier_at;
 use crate::material::zeroed;
 use crate::row::Row;
 use kmip_objects::{KeyAttrs, KeyState};
+use kmip_ttlv::Text;
 use std::alloc::{AllocError, Global};
 
 /// The row of a new object at a place from 0, with zeros in the place of its material.
@@ -23,4 +24,33 @@ pub(crate) fn new_row(alloc: Global, place: usize, attrs: &KeyAttrs) -> Result<R
         state: KeyState::PreActive,
         material,
     })
+}
+
+/// A new object: its row, and what stands beside it.
+#[derive(Drop)]
+pub(crate) struct NewObject {
+    pub(crate) row: Row,
+    /// The row's identifier, for the answer.
+    pub(crate) uid: Text,
+    /// The row's name, for the map of names.
+    pub(crate) name: String,
+}
+
+/// A new object at a place from 0, with zeros in the place of its material.
+pub(crate) fn new_object(
+    alloc: Global,
+    place: usize,
+    attrs: &KeyAttrs,
+) -> Result<NewObject, AllocError>
+    requires { place < most_room }
+    ensures row { IfOk result (λ made. made.row ≡ new_row place attrs.now made.row.material) }
+    ensures size { IfOk result (λ made. length made.row.material
+        ≡ material_size attrs.now.length) }
+    ensures uid { IfOk result (λ made. made.uid ≡ made.row.uid) }
+    ensures name { IfOk result (λ made. string_bytes made.name ≡ attrs.now.name) }
+{
+    let name = String::from_str(alloc, attrs.name.as_str())?;
+    let row = new_row(alloc, place, attrs)?;
+    let uid = Text::copied(alloc, row.uid.as_str())?;
+    Ok(NewObject { row, uid, name })
 }

@@ -17,9 +17,9 @@ invariant_of-self-2 c =
     let unused : has_row_named c.args.attrs.now.name rows ≡ false = search (rules, has_named) in
     let new : row ≡ new_row (length rows) c.args.attrs.now row.material = search rules in
     let kept = kept_more rows room c.args.attrs.now row row.material c.self.invariant.0 free unused c.requires new in
-    let name_is : string_bytes c.in_ok-name_key.name_key ≡ row.attrs.name = search rules in
+    let name_is : string_bytes c.in_ok-row.name ≡ row.attrs.name = search rules in
     let rows_are : c.push_reserved.new.self.items ≡ rows ++ row ∷ [] = search rules in
-    let names_are : texts c.note.new.places ≡ names ++ string_bytes c.in_ok-name_key.name_key ∷ [] = search rules in
-    let more : names ++ string_bytes c.in_ok-name_key.name_key ∷ [] ≡ names_of (rows ++ row ∷ []) =
+    let names_are : texts c.note.new.places ≡ names ++ string_bytes c.in_ok-row.name ∷ [] = search rules in
+    let more : names ++ string_bytes c.in_ok-row.name ∷ [] ≡ names_of (rows ++ row ∷ []) =
     rw (c.self.invariant.1, name_is, map-append (λ r. r.attrs.name) rows (row ∷ [])) refl in
     rw (rows_are, names_are) (kept, more)
