@@ -1,5 +1,5 @@
 //! Stored runs of runs and campaigns over links in memory, also over links that fail. Standard input has
-//! one case after the other, and what is printed is what came of each of its lines.
+//! one case after the other, and lines of random scripts; what is printed is what came of each line.
 //!
 //! A line of standard input is one of
 //!
@@ -8,18 +8,19 @@
 //!                                 plans, each behind ` | `; an empty server, a link to it that loses nothing,
 //!                                 and a client of the first plan that knows nothing. What is done with them
 //!                                 is on the lines behind, up to `end`
-//!     random SEED TIMES KEYS MOST: WORDS    a random script for each of so many plans, which come in turn, of
-//!                                 so many keys, with at most so many in a message: how many scripts, runs
-//!                                 and saved runs these were. Each key is to be at its target, with one
-//!                                 object; and a script of one run is to take no more exchanges than the
-//!                                 bound of its plan and three for each one disturbed, or four where it
-//!                                 handed over a reply about another key. Numbers may be random (`1-8`).
-//!                                 In the script `0-15 calls` stands for so many random words of exchanges,
-//!                                 `again` among them, and `0-15 any` for words of all kinds but `prolong`
-//!     random SEED TIMES KEYS MOST again: WORDS    the same, and then a second campaign of one run, which
-//!                                 knows nothing and is to find all finished
-//!     random SEED TIMES KEYS|KEYS MOST: WORDS     random scripts with one `prolong`, for each of so many pairs
-//!                                 of plans, where the second prolongs the first
+//!     random SEED TIMES KEYS MOST: TEXT    a random script for each of so many plans of so many keys, with at
+//!                                 most so many in a message: how many scripts, runs and saves these were, and
+//!                                 whether all is as it has to be: at the end each key is at its target, with
+//!                                 one object, and a single run takes no more exchanges than the bound of its
+//!                                 plan, one for each that the link disturbed, two for each request that these
+//!                                 sent, and one for each reply about another key. For `1-8` stand numbers in
+//!                                 turn, or random ones; in the script `0-15 calls` stands for so many random
+//!                                 words of exchanges, `again` among them, and `0-15 any` for all but `prolong`
+//!     random SEED TIMES KEYS MOST again: TEXT    the same, where a second campaign of one run comes behind the
+//!                                 script, which knows nothing, and has to find all finished
+//!     random SEED TIMES KEYS|KEYS MOST: TEXT    the same of scripts with one `prolong`, each for two plans:
+//!                                 the first ones of so many pairs, of which those are taken where the second
+//!                                 plan prolongs the first
 //!
 //! A line of a case is one of
 //!
