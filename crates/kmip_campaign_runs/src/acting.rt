@@ -1,18 +1,23 @@
 //! What is done over a link.
-ghost use Rattle.std.specs.Prelude.{◌≡◌, true};
+ghost use Rattle.std.specs.Prelude.{◌≡◌, true, IfOk, IsTrue};
+ghost use Rattle.std.specs.List.{All};
+ghost use Rattle.kmip_batches.specs.Members.{may_have};
+ghost use Rattle.kmip_scripted.specs.Words.{prolongings};
 ghost use Rattle.kmip_session.specs.Campaign.{MayBatch};
 
-use crate::cases::{Case, plan_of};
+use crate::cases::{Case, are_prolonged, plan_of};
 use crate::faulty::{Failure, Fault, Faulty};
 use crate::scripts::{link_of, script_of};
 use crate::telling::{
-    asked_told, ends_told, push_disturbed, ranges_told, records_told, targets_told,
+    again_told, are_at_targets, asked_told, ends_told, push_disturbed, ranges_told, records_told,
+    runs_told,
 };
 use kmip_client::Client;
 use kmip_plan::Plan;
+use kmip_scripted::Script;
 use kmip_server::ListStore;
-use kmip_session::{Link, Run, Start, campaign, drive};
-use kmip_simulation::simulate;
+use kmip_session::{Link, Run, Start, campaign, campaigns, drive};
+use kmip_simulation::{simulate, simulate_again};
 use std::alloc::Global;
 use std::test::Fail;
 
@@ -77,14 +82,20 @@ pub fn earlier(
 pub fn drive_on(alloc: Global, case: &mut Case<'_>, words: &str) -> Result<String, Fail> {
     let (limit, most) = words.split_once(" by ").unwrap_or((words, ""));
     if !most.is_empty() {
-        let most: usize = most.parse()?;
-        if !(1..=8).contains(&most) {
-            return Err(Fail::new(TOO_MANY));
-        }
-        case.client.set_batch(most);
+        case.client.set_batch(batch_of(most.parse()?)?);
     }
     let (stop, made) = drive(alloc, &mut case.client, &mut case.link, limit.parse()?);
     Ok(format!(in alloc; "{} {made}", stop.name())?)
+}
+
+/// About how many keys a message asks at most, where it may ask about so many.
+pub fn batch_of(most: usize) -> Result<usize, Fail>
+    ensures { IfOk result (λ most. IsTrue (may_have most)) }
+{
+    if !(1..=8).contains(&most) {
+        return Err(Fail::new(TOO_MANY));
+    }
+    Ok(most)
 }
 
 /// A campaign of the runs of these words.
@@ -95,6 +106,17 @@ pub fn go_through(alloc: Global, case: &mut Case<'_>, words: &str) -> Result<Str
     }
     let end = campaign(alloc, case.plan, &mut case.link, runs.as_slice());
     ends_told(alloc, &end)
+}
+
+/// A campaign on the plans of the case, of the runs of these words.
+pub fn go_through_plans(alloc: Global, case: &mut Case<'_>, words: &str) -> Result<String, Fail> {
+    let lists = lists_of(alloc, words)?;
+    let (plans, runs) = (case.plans, lists.as_slice());
+    if runs.len() != plans.len() || !may_all_batch(runs) || !are_prolonged(plans) {
+        return Err(Fail::new("each plan has runs, and prolongs the one before it"));
+    }
+    let end = campaigns(alloc, plans, &mut case.link, runs);
+    runs_told(alloc, &end)
 }
 
 /// The run ends over the link: what its script does then is done.
@@ -108,6 +130,22 @@ fn may_batch(runs: &[Run]) -> bool
     ensures { result ≡ true → MayBatch runs.now }
 {
     runs.iter().all(|run| 1 <= run.batch && run.batch <= 8)
+}
+
+/// Whether each run of some lists does.
+fn may_all_batch(lists: &[Vec<Run>]) -> bool
+    ensures { result ≡ true → All (λ list. MayBatch list.items) lists.now }
+{
+    lists.iter().all(|runs| may_batch(runs.as_slice()))
+}
+
+/// The runs of each plan.
+fn lists_of(alloc: Global, words: &str) -> Result<Vec<Vec<Run>>, Fail> {
+    let mut lists = Vec::new(alloc);
+    for words in words.split(" | ") {
+        lists.push(runs_of(alloc, words)?)?;
+    }
+    Ok(lists)
 }
 
 fn runs_of(alloc: Global, words: &str) -> Result<Vec<Run>, Fail> {
@@ -174,18 +212,46 @@ fn cut_told(alloc: Global, plan: &Plan, arriving: usize) -> Result<String, Fail>
 
 /// The simulation of a script, with at most so many keys in a message.
 pub fn simulated(alloc: Global, plan: &Plan, most: &str, text: &str) -> Result<String, Fail> {
-    let most: usize = most.parse()?;
-    if !(1..=8).contains(&most) {
-        return Err(Fail::new(TOO_MANY));
-    }
-    let script = script_of(alloc, text)?;
-    if script.prolongings() != 0 {
-        return Err(Fail::new("a script of one plan has no `prolong`"));
-    }
+    let most = batch_of(most.parse()?)?;
+    let script = single_script(alloc, text)?;
     let simulation = simulate(alloc, plan, script, most)?;
     let mut text = ends_told(alloc, &simulation.end)?;
     text.push_str("; ")?;
     push_disturbed(&mut text, &simulation.link)?;
-    text.push_str(targets_told(plan, simulation.link.server().records()))?;
+    let is_there = are_at_targets(plan, simulation.link.server().records());
+    text.push_str(if is_there {
+        ", at their targets"
+    } else {
+        ", elsewhere"
+    })?;
     Ok(text)
+}
+
+/// The same, and then a further campaign of the runs of these words over its link.
+pub fn simulated_again(
+    alloc: Global,
+    plan: &Plan,
+    words: &str,
+    text: &str,
+) -> Result<String, Fail> {
+    let (most, words) = words.split_once(" then ").ok_or("further runs")?;
+    let most = batch_of(most.parse()?)?;
+    let runs = runs_of(alloc, words)?;
+    if !may_batch(runs.as_slice()) {
+        return Err(Fail::new(TOO_MANY));
+    }
+    let script = single_script(alloc, text)?;
+    let (simulation, end) = simulate_again(alloc, plan, script, most, runs.as_slice())?;
+    again_told(alloc, &simulation, &end)
+}
+
+/// A script of one plan.
+fn single_script(alloc: Global, text: &str) -> Result<Script, Fail>
+    ensures { IfOk result (λ script. prolongings script ≡ 0) }
+{
+    let script = script_of(alloc, text)?;
+    if script.prolongings() != 0 {
+        return Err(Fail::new("a script of one plan has no `prolong`"));
+    }
+    Ok(script)
 }

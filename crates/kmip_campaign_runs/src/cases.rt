@@ -1,28 +1,34 @@
 //! A case, line by line.
+ghost use Rattle.std.specs.Prelude.{◌≡◌, ◌≤◌, length, true};
+ghost use Rattle.kmip_session.specs.Campaigns.{AreProlonged};
 
-use crate::acting::{cuts, drive_on, earlier, fail, finish, go_through, simulated};
+use crate::acting::{
+    cuts, drive_on, earlier, fail, finish, go_through, go_through_plans, simulated, simulated_again,
+};
 use crate::faulty::Faulty;
+use crate::random::random_told;
 use crate::scripts::{link_of, lists_told, server_with, words_told};
 use crate::telling::{
     asked_told, bytes_told, counts_told, known_told, next_told, records_told, report_told,
 };
 use kmip_client::Client;
-use kmip_plan::{Plan, read_plan};
+use kmip_plan::{Plan, prolongs, read_plan};
 use kmip_scripted::{Script, Scripted};
 use kmip_server::ListStore;
 use kmip_transcript::Transcript;
 use std::alloc::Global;
 use std::test::Fail;
 
-/// A plan, a client of it, and a link to a server.
+/// Plans, a client of the first of them, and a link to a server.
 #[derive(Drop)]
 pub struct Case<'p> {
+    pub plans: &'p [Plan],
     pub plan: &'p Plan,
     pub client: Client<'p>,
     pub link: Faulty<ListStore>,
 }
 
-/// Cases, and remarks between them.
+/// Cases, and between them random scripts and remarks.
 pub struct Cases;
 
 impl Transcript for Cases {
@@ -31,7 +37,12 @@ impl Transcript for Cases {
     }
 
     fn take_line(rt: &HostRuntime, line: &str) -> Result<(), Fail> {
-        rt.println(line)?;
+        let Some(words) = line.strip_prefix("random ") else {
+            rt.println(line)?;
+            return Ok(());
+        };
+        let told = random_told(rt.alloc(), words)?;
+        rt.println(format_args!("{line} => {told}"))?;
         Ok(())
     }
 
@@ -40,14 +51,36 @@ impl Transcript for Cases {
     }
 }
 
-/// Does what the lines of a case say, whose plan has the keys that its first line names.
+/// Does what the lines of a case say, whose plans have the keys that its first line names.
 fn hold_case(rt: &HostRuntime, head: &str, lines: &str) -> Result<(), Fail> {
     rt.println(head)?;
-    let (_, keys) = head.split_once(": ").unwrap_or((head, ""));
-    let plan = plan_of(rt.alloc(), keys)?;
-    take_lines(rt, &plan, lines)?;
+    let (_, words) = head.split_once(": ").unwrap_or((head, ""));
+    let plans = plans_of(rt.alloc(), words)?;
+    take_lines(rt, plans.as_slice(), lines)?;
     rt.println("end")?;
     Ok(())
+}
+
+/// Plans, the keys of each behind those of the one before it.
+pub fn plans_of(alloc: Global, words: &str) -> Result<Vec<Plan>, Fail> {
+    let mut plans = Vec::new(alloc);
+    for keys in words.split(" | ") {
+        plans.push(plan_of(alloc, keys)?)?;
+    }
+    Ok(plans)
+}
+
+/// Whether each of one to three plans prolongs the one before it.
+pub fn are_prolonged(plans: &[Plan]) -> bool
+    ensures some { result ≡ true → 1 ≤ length plans.now }
+    ensures prolong { result ≡ true → AreProlonged plans.now }
+{
+    match plans {
+        [_] => true,
+        [first, second] => prolongs(second, first),
+        [first, second, third] => prolongs(second, first) && prolongs(third, second),
+        _ => false,
+    }
 }
 
 /// The plan of keys, each a name and a target.
@@ -62,10 +95,16 @@ pub fn plan_of(alloc: Global, keys: &str) -> Result<Plan, Fail> {
 }
 
 /// Takes the lines of a case.
-fn take_lines(rt: &HostRuntime, plan: &Plan, lines: &str) -> Result<(), Fail> {
+fn take_lines(rt: &HostRuntime, plans: &[Plan], lines: &str) -> Result<(), Fail> {
+    let plan = plans.first().ok_or("a plan")?;
     let client = Client::fresh(rt.alloc(), plan)?;
     let link = link_of(rt.alloc(), "")?;
-    let mut case = Case { plan, client, link };
+    let mut case = Case {
+        plans,
+        plan,
+        client,
+        link,
+    };
     for line in lines.lines() {
         if line.starts_with('#') {
             rt.println(line)?;
@@ -109,6 +148,7 @@ fn turn(
         "earlier" => earlier(alloc, &mut case.link, words, given),
         "drive" => drive_on(alloc, case, words),
         "campaign" => go_through(alloc, case, given),
+        "campaigns" => go_through_plans(alloc, case, given),
         "finish" => finish(alloc, &mut case.link),
         "next" => next_told(alloc, &mut case.client),
         _ => look(alloc, case, word, words, given),
@@ -135,6 +175,7 @@ fn look(
         "lists" => lists_told(alloc, case.plan, given),
         "cuts" => cuts(alloc, case.plan, words),
         "simulate" => simulated(alloc, case.plan, words, given),
+        "again" => simulated_again(alloc, case.plan, words, given),
         _ => Err(Fail::new("no line of a case")),
     }
 }

@@ -10,7 +10,7 @@ use kmip_session::{Link, LinkFault};
 use std::alloc::Global;
 
 /// What the link does in the place of handing a reply over.
-#[derive(Clone, Copy, Debug, PartialEq, Eq)]
+#[derive(Clone, Copy)]
 pub enum Fault {
     /// The network fails.
     Io,
@@ -35,7 +35,7 @@ pub enum Fault {
 }
 
 /// A failure of one exchange.
-#[derive(Clone, Copy, Debug)]
+#[derive(Clone, Copy)]
 pub struct Failure {
     /// The number of the exchange, from 1.
     pub at: usize,

@@ -1,15 +1,15 @@
 //! What came of runs, as the transcript tells of it.
 
 use crate::faulty::Faulty;
-use kmip_batches::read_request;
 use kmip_chains::Target;
 use kmip_client::Client;
-use kmip_messages::{Ask, Request};
 use kmip_objects::{KeyAttrs, KeyState};
 use kmip_plan::Plan;
 use kmip_scripted::Scripted;
 use kmip_server::{ListStore, Records};
 use kmip_session::{CampaignEnd, report};
+use kmip_simulation::{Simulation, push_asks, push_records, push_runs};
+use kmip_wording::push_question;
 use std::alloc::{AllocError, Global};
 use std::str::from_utf8;
 use std::test::Fail;
@@ -29,6 +29,37 @@ pub fn ends_told(alloc: Global, end: &CampaignEnd) -> Result<String, Fail> {
         text.push_str(", no memory")?;
     }
     Ok(text)
+}
+
+/// How many runs of a campaign are saved, whether memory ran out, and on the lines behind how each run
+/// ended, with its report.
+pub fn runs_told(alloc: Global, end: &CampaignEnd) -> Result<String, Fail> {
+    let mut runs = Vec::new(alloc);
+    push_runs(alloc, end.runs.as_slice(), &mut runs)?;
+    let runs = from_utf8(runs.as_slice())?.trim_end();
+    let saved = end.saved.len();
+    let fault = if end.fault.is_some() {
+        ", no memory"
+    } else {
+        ""
+    };
+    Ok(format!(in alloc; "{saved} saved{fault}\n{runs}")?)
+}
+
+/// How the runs of a script ended, and on the lines behind how those of a further campaign over its link
+/// did, all that was asked, and the objects of the server.
+pub fn again_told(
+    alloc: Global,
+    simulation: &Simulation,
+    end: &CampaignEnd,
+) -> Result<String, Fail> {
+    let before = ends_told(alloc, &simulation.end)?;
+    let runs = runs_told(alloc, end)?;
+    let mut lines = Vec::new(alloc);
+    push_asks(alloc, &simulation.link, &mut lines)?;
+    push_records(alloc, &simulation.link, &mut lines)?;
+    let lines = from_utf8(lines.as_slice())?.trim_end();
+    Ok(format!(in alloc; "{before}; {runs}\n{lines}")?)
 }
 
 /// What the client asks next: the key and the operation of each question.
@@ -78,45 +109,10 @@ pub fn asked_told(alloc: Global, link: &Scripted<ListStore>) -> Result<String, F
 
 /// Writes what each question of a message asks.
 fn push_message(alloc: Global, text: &mut String, bytes: &[u8]) -> Result<(), Fail> {
-    let batch = read_request(alloc, bytes)?;
-    let mut between = "";
-    for question in batch.items.as_slice() {
-        let Ok(request) = question else {
-            return Err(Fail::new("a question that is refused"));
-        };
-        text.push_str(between)?;
-        push_request(text, request)?;
-        between = ", ";
-    }
+    let mut asked = Vec::new(alloc);
+    push_question(alloc, bytes, &mut asked)?;
+    text.push_str(from_utf8(asked.as_slice())?)?;
     Ok(())
-}
-
-/// Writes the operation of a request, and the name of the key that it is about, which is its id behind
-/// the byte of the operation.
-fn push_request(text: &mut String, request: &Request) -> Result<(), Fail> {
-    let id = request.id.as_ref().ok_or("a request without an id")?;
-    let (operation, name) = id.as_slice().split_first().ok_or("an empty id")?;
-    if u32::from(*operation) != request.ask.operation() {
-        return Err(Fail::new("an id of another operation"));
-    }
-    write!(
-        text,
-        "{} {}",
-        operation_name(&request.ask),
-        from_utf8(name)?
-    )?;
-    Ok(())
-}
-
-fn operation_name(ask: &Ask) -> &'static str {
-    match ask {
-        Ask::Create(_) => "Create",
-        Ask::Locate { .. } => "Locate",
-        Ask::GetAttributes(_) => "GetAttributes",
-        Ask::Activate(_) => "Activate",
-        Ask::Revoke(..) => "Revoke",
-        Ask::Destroy(_) => "Destroy",
-    }
 }
 
 /// The bytes of a message, in hexadecimal.
@@ -178,16 +174,11 @@ pub fn push_disturbed<S: Records>(text: &mut String, link: &Scripted<S>) -> Resu
 }
 
 /// Whether each key of a plan has exactly one object, at the key's target, and nothing else has one.
-pub fn targets_told<S: Records>(plan: &Plan, records: &S) -> &'static str {
-    let is_there = records.count() == plan.count()
+pub fn are_at_targets<S: Records>(plan: &Plan, records: &S) -> bool {
+    records.count() == plan.count()
         && plan.keys().iter().all(|key| {
             state_named(records, key.attrs.name.as_str()) == Some(state_at(key.target))
-        });
-    if is_there {
-        ", at their targets"
-    } else {
-        ", elsewhere"
-    }
+        })
 }
 
 /// The state of the object with the name, the first where there are several.
