@@ -76,7 +76,10 @@ pub(crate) fn command_of(rt: &HostRuntime, words: &[String], input: &str) -> Res
             batch,
         } => Ok(Command::Simulate(Simulated {
             plan: file_text(rt, plan.as_str(), input)?,
-            further: further_text(rt, further, input)?,
+            further: match further {
+                Some(path) => Some(file_text(rt, path.as_str(), input)?),
+                None => None,
+            },
             script: file_text(rt, script.as_str(), input)?,
             detail: *detail,
             batch: *batch,
@@ -91,18 +94,6 @@ fn file_text(rt: &HostRuntime, path: &str, input: &str) -> Result<String, Fail> 
         return Ok(String::from_str(rt.alloc(), input)?);
     }
     Ok(fs::read_to_string(rt, path)?)
-}
-
-/// The same of a file that may be named.
-fn further_text(
-    rt: &HostRuntime,
-    path: &Option<String>,
-    input: &str,
-) -> Result<Option<String>, Fail> {
-    match path {
-        Some(path) => Ok(Some(file_text(rt, path.as_str(), input)?)),
-        None => Ok(None),
-    }
 }
 
 impl Command {

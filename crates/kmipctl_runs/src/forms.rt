@@ -10,8 +10,15 @@ use std::alloc::Global;
 use std::str::from_utf8;
 use std::test::Fail;
 
-/// Carries out the command of these words over the lines of its block. What it tells as the program calls it
-/// is printed, and what it tells in another form only where that is something else.
+/// A command, its input, and the way in which it is carried out.
+#[derive(Drop)]
+struct Case<'a> {
+    command: &'a Command,
+    input: &'a str,
+    way: &'a Way<'a>,
+}
+
+/// Carries out the command of these words over the lines of its block, in this way.
 pub(crate) fn take_input(
     rt: &HostRuntime,
     words: &[String],
@@ -19,39 +26,60 @@ pub(crate) fn take_input(
     lines: &str,
 ) -> Result<(), Fail> {
     let way = Way::of(way)?;
+    let (lines, given) = lines.split_once("gives\n").unwrap_or((lines, ""));
+    let given = text_of(rt.alloc(), given)?;
     let text = text_of(rt.alloc(), lines)?;
-    let text = text.as_str();
-    let (input, given) = text.split_once("gives\n").unwrap_or((text, ""));
-    let input = match input.strip_suffix("\n") {
+    let input = match text.as_str().strip_suffix("\n") {
         Some(input) if way.lacks_line_feed => input,
-        _ => input,
+        _ => text.as_str(),
     };
     let command = command_of(rt, words, input)?;
-    let (piece_len, _) = way.pieces.split_once(" and ").unwrap_or((way.pieces, ""));
-    let told = told(rt.alloc(), &command, Call::Program, input, piece_len, &way)?;
-    print_told(rt, told.as_str(), given)?;
-    if way.tells_outcome {
-        tell_outcome(rt, input)?;
-    }
-    if way.is_cut {
-        return compare_cuts(rt, &command, input, &way, told.as_str());
-    }
-    compare(rt, &command, input, &way, told.as_str())
+    let case = Case {
+        command: &command,
+        input,
+        way: &way,
+    };
+    tell_forms(rt, &case, given.as_str())
 }
 
-/// What a command tells by this call: what was written, where there was room for all, and how it ended.
-fn told(
-    alloc: Global,
-    command: &Command,
-    call: Call,
-    input: &str,
-    piece_len: &str,
-    way: &Way<'_>,
-) -> Result<String, Fail> {
-    let mut reader = PieceReader::new(input.as_bytes(), piece_len.parse()?, way);
-    let mut writer = NotingWriter::new(alloc, way.room.unwrap_or(usize::MAX));
-    let status = command.end(call, alloc, &mut reader, &mut writer);
-    end_told(alloc, status, &writer, way)
+/// Prints what the command tells as the program calls it, and what it tells in another form only where that is
+/// something else.
+fn tell_forms(rt: &HostRuntime, case: &Case<'_>, given: &str) -> Result<(), Fail> {
+    let way = case.way;
+    if way.is_in_memory {
+        let told = told(rt.alloc(), case, Call::Memory, "0")?;
+        return print_told(rt, told.as_str(), given);
+    }
+    let (piece_len, others) = way.pieces.split_once(" and ").unwrap_or((way.pieces, ""));
+    let told = told(rt.alloc(), case, Call::Program, piece_len)?;
+    print_told(rt, told.as_str(), given)?;
+    if way.tells_outcome {
+        tell_outcome(rt, case.input)?;
+    }
+    if way.is_cut {
+        return compare_cuts(rt, case, told.as_str());
+    }
+    if !others.is_empty() {
+        compare(rt, case, Call::Program, others, told.as_str())?;
+    }
+    compare_forms(rt, case, told.as_str())
+}
+
+/// What the command tells by this call: what was written, where there was room for all, and how it ended.
+fn told(alloc: Global, case: &Case<'_>, call: Call, piece_len: &str) -> Result<String, Fail> {
+    let mut reader = PieceReader {
+        rest: case.input.as_bytes(),
+        piece_len: piece_len.parse()?,
+        way: case.way,
+        is_interrupted: false,
+    };
+    let mut writer = NotingWriter {
+        written: Vec::new(alloc),
+        room: case.way.room.unwrap_or(usize::MAX),
+        sent: Vec::new(alloc),
+    };
+    let status = case.command.end(call, alloc, &mut reader, &mut writer);
+    end_told(alloc, status, &writer, case.way)
 }
 
 /// The text of what was written and of how it ended.
@@ -75,7 +103,7 @@ fn end_told(
     Ok(text)
 }
 
-/// Prints what was told; where it was given what is to be written, no more of that than whether it was.
+/// Prints what was told; of what it is given that this begins with, no more than whether it does.
 fn print_told(rt: &HostRuntime, told: &str, given: &str) -> Result<(), Fail> {
     let Some(rest) = told.strip_prefix(given) else {
         return print_difference(rt, told, given);
@@ -95,80 +123,65 @@ fn print_difference(rt: &HostRuntime, told: &str, given: &str) -> Result<(), Fai
             return Ok(());
         }
     }
-    rt.println("more lines or less")?;
+    rt.println("fewer lines than that")?;
     Ok(())
 }
 
-/// Prints what becomes of the stream that these lines are pieces of.
-fn tell_outcome(rt: &HostRuntime, input: &str) -> Result<(), Fail> {
-    let mut reader = input.as_bytes();
+/// Prints what becomes of the stream that the lines are pieces of.
+fn tell_outcome(rt: &HostRuntime, lines: &str) -> Result<(), Fail> {
+    let mut reader = lines.as_bytes();
     let mut written = Vec::new(rt.alloc());
     let outcome = answer_stream(rt.alloc(), &mut reader, &mut written)?;
     rt.println(format_args!("{outcome:?}"))?;
-    let in_memory = answer_stream_bytes(rt.alloc(), input.as_bytes(), &mut written)?;
+    let in_memory = answer_stream_bytes(rt.alloc(), lines.as_bytes(), &mut written)?;
     if in_memory != outcome {
         rt.println(format_args!("but in memory {in_memory:?}"))?;
     }
     Ok(())
 }
 
-/// The same with the line of the input cut into two, behind each byte that its digits spell.
-fn compare_cuts(
-    rt: &HostRuntime,
-    command: &Command,
-    input: &str,
-    way: &Way<'_>,
-    wanted: &str,
-) -> Result<(), Fail> {
-    let digits = input.strip_suffix("\n").unwrap_or(input);
+/// Carries the command out with its line cut into two, behind each of the bytes that its digits spell, and
+/// before the first.
+fn compare_cuts(rt: &HostRuntime, case: &Case<'_>, wanted: &str) -> Result<(), Fail> {
+    let digits = case.input.strip_suffix("\n").unwrap_or(case.input);
     for place in 0..=digits.len() / 2 {
         let (first, second) = digits.split_at_checked(2 * place).unwrap_or(("", ""));
-        let cut = format!(in rt.alloc(); "{first}\n{second}\n")?;
-        compare(rt, command, cut.as_str(), way, wanted)?;
+        let lines = format!(in rt.alloc(); "{first}\n{second}\n")?;
+        let cut = Case {
+            command: case.command,
+            input: lines.as_str(),
+            way: case.way,
+        };
+        compare_forms(rt, &cut, wanted)?;
     }
     Ok(())
 }
 
-/// Carries the command out by each call, with pieces of each length.
+/// Carries the command out over a reader and a writer, and in memory where that may tell the same.
+fn compare_forms(rt: &HostRuntime, case: &Case<'_>, wanted: &str) -> Result<(), Fail> {
+    compare(rt, case, Call::ReaderAndWriter, case.way.pieces, wanted)?;
+    if case.way.is_whole() {
+        compare(rt, case, Call::Memory, "0", wanted)?;
+    }
+    Ok(())
+}
+
+/// Carries the command out by this call with pieces of each length, and prints what it tells where that is
+/// something else.
 fn compare(
     rt: &HostRuntime,
-    command: &Command,
-    input: &str,
-    way: &Way<'_>,
-    wanted: &str,
-) -> Result<(), Fail> {
-    for piece_len in way.pieces.split(" and ") {
-        compare_call(rt, command, Call::Program, input, piece_len, way, wanted)?;
-        compare_call(
-            rt,
-            command,
-            Call::ReaderAndWriter,
-            input,
-            piece_len,
-            way,
-            wanted,
-        )?;
-    }
-    if way.is_whole() {
-        compare_call(rt, command, Call::Memory, input, "0", way, wanted)?;
-    }
-    Ok(())
-}
-
-/// Carries the command out by this call, and prints what it tells then where that is something else.
-fn compare_call(
-    rt: &HostRuntime,
-    command: &Command,
+    case: &Case<'_>,
     call: Call,
-    input: &str,
-    piece_len: &str,
-    way: &Way<'_>,
+    piece_lens: &str,
     wanted: &str,
 ) -> Result<(), Fail> {
-    let told = told(rt.alloc(), command, call, input, piece_len, way)?;
-    if told.as_str() != wanted {
-        rt.println(format_args!("but by {call:?}, in pieces of {piece_len}, of {input:?}"))?;
-        rt.print(told.as_str())?;
+    for piece_len in piece_lens.split(" and ") {
+        let told = told(rt.alloc(), case, call, piece_len)?;
+        if told.as_str() != wanted {
+            let input = case.input;
+            rt.println(format_args!("but {call:?} {piece_len}, of {input:?}"))?;
+            rt.print(told.as_str())?;
+        }
     }
     Ok(())
 }

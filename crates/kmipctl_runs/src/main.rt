@@ -22,17 +22,18 @@
 //!     then failing                  the reader fails behind its bytes
 //!     without the last line feed    the last line of the input lacks it
 //!     room for 10                   the writer has room for so many bytes; what it has is not printed
+//!     in memory alone               it is not carried out in the other forms
 //!     cut at each byte              once more with the line of the input cut into two, at each byte in turn
 //!     telling its outcome           what became of the stream is printed too
 //!     telling when it is sent on    how much was written at each flush is printed too
 //!
 //! A line of the input of a command stands for itself, in which `%0D` is a carriage return, or is one of
 //!
-//!     times COUNT: TEXT        so many times this text, in which `/` is a line feed; none stands behind it
-//!     times FROM..TO: TEXT     the same for each of these numbers. `#` is the number, as from 0 on in the
-//!                              form above it, and `@` the number as the value of a Text String
-//!     gives                    the lines behind it are no input: they are what is to be written first, of
-//!                              which is printed whether it is
+//!     times COUNT: TEXT           so many times this text, in which `/` is a line feed; none stands behind it
+//!     numbers FROM..TO: TEXT      the same for each of these numbers, which stands in the place of `#`, or in
+//!                                 that of `@` as the value of a Text String
+//!     gives                       the lines behind it are no input: they are what is to be written first, of
+//!                                 which is printed whether it is
 #![tactic(auto)]
 
 mod commands;

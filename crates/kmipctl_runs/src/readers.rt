@@ -5,22 +5,11 @@ use std::io::{self, BufRead, Error, ErrorKind, Read};
 
 #[derive(Drop)]
 pub(crate) struct PieceReader<'a> {
+    /// The bytes that it has still to give.
     pub(crate) rest: &'a [u8],
-    piece_len: usize,
-    way: Way<'a>,
-    is_interrupted: bool,
-}
-
-impl<'a> PieceReader<'a> {
-    /// A reader of these bytes that behaves so.
-    pub(crate) fn new(rest: &'a [u8], piece_len: usize, way: &Way<'a>) -> PieceReader<'a> {
-        PieceReader {
-            rest,
-            piece_len,
-            way: *way,
-            is_interrupted: false,
-        }
-    }
+    pub(crate) piece_len: usize,
+    pub(crate) way: &'a Way<'a>,
+    pub(crate) is_interrupted: bool,
 }
 
 impl Read for PieceReader<'_> {

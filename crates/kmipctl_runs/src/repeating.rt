@@ -3,61 +3,63 @@
 use std::alloc::Global;
 use std::test::Fail;
 
-/// The text of these lines: `%0D` is a carriage return, and `times NUMBERS: TEXT` the text for each of the
-/// numbers, with no line feed behind it.
+/// The text of these lines: `%0D` is a carriage return, `times COUNT: TEXT` the text so often, and
+/// `numbers FROM..TO: TEXT` the text with each of the numbers.
 pub(crate) fn text_of(alloc: Global, lines: &str) -> Result<String, Fail> {
     let mut text = String::new(alloc);
     for line in lines.lines() {
-        match line.strip_prefix("times ") {
-            Some(words) => push_repeated(alloc, &mut text, words)?,
-            None => push_line(&mut text, line)?,
+        if let Some(words) = line.strip_prefix("times ") {
+            push_repeated(alloc, &mut text, words)?;
+        } else if let Some(words) = line.strip_prefix("numbers ") {
+            push_numbered(alloc, &mut text, words)?;
+        } else {
+            text.push_str(line.replace(alloc, "%0D", "\r")?.as_str())?;
+            text.push('\n')?;
         }
     }
-    Ok(text.as_str().replace(alloc, "%0D", "\r")?)
+    Ok(text)
 }
 
-/// Appends a line, with its line feed.
-fn push_line(text: &mut String, line: &str) -> Result<(), Fail> {
-    text.push_str(line)?;
-    text.push('\n')?;
+/// Appends a text so often as stands before it; `/` in it is a line feed.
+fn push_repeated(alloc: Global, text: &mut String, words: &str) -> Result<(), Fail> {
+    let (count, unit) = words.split_once(": ").ok_or("a count")?;
+    let unit = unit.replace(alloc, "/", "\n")?;
+    let repeated = unit.as_str().repeat(alloc, count.parse()?)?;
+    text.push_str(repeated.as_str())?;
     Ok(())
 }
 
-/// Appends a text for each of some numbers: `COUNT: TEXT` or `FROM..TO: TEXT`, in which `/` is a line feed.
-fn push_repeated(alloc: Global, text: &mut String, words: &str) -> Result<(), Fail> {
-    let (numbers, repeated) = words.split_once(": ").ok_or("numbers")?;
-    let (from, to) = numbers.split_once("..").unwrap_or(("0", numbers));
+/// Appends a text for each of the numbers before it; `/` in it is a line feed, and the number stands in the
+/// place of `#`, or as the value of a Text String in that of `@`.
+fn push_numbered(alloc: Global, text: &mut String, words: &str) -> Result<(), Fail> {
+    let (numbers, unit) = words.split_once(": ").ok_or("numbers")?;
+    let (from, to) = numbers.split_once("..").ok_or("two numbers")?;
     let (from, to): (u32, u32) = (from.parse()?, to.parse()?);
-    let repeated = repeated.replace(alloc, "/", "\n")?;
+    let unit = unit.replace(alloc, "/", "\n")?;
+    let mark = if unit.contains('#') { "#" } else { "@" };
+    let (front, back) = unit.as_str().split_once(mark).ok_or("a place of a number")?;
     for number in from..to {
         let decimal = number.to_string(alloc)?;
-        push_numbered(alloc, text, repeated.as_str(), decimal.as_str())?;
+        text.push_str(front)?;
+        push_number(text, mark, decimal.as_str())?;
+        text.push_str(back)?;
     }
     Ok(())
 }
 
-/// Appends a text in which `#` is this number, and `@` the same as the value of a Text String.
-fn push_numbered(
-    alloc: Global,
-    text: &mut String,
-    repeated: &str,
-    decimal: &str,
-) -> Result<(), Fail> {
-    let value = value_of(alloc, decimal)?;
-    let numbered = repeated.replace(alloc, "#", decimal)?;
-    let numbered = numbered.as_str().replace(alloc, "@", value.as_str())?;
-    text.push_str(numbered.as_str())?;
-    Ok(())
-}
-
-/// One to eight decimal digits as the value of a Text String, in hexadecimal: their number, and eight bytes,
-/// zeros behind the digits.
-fn value_of(alloc: Global, decimal: &str) -> Result<String, Fail> {
-    let len = decimal.len();
-    let mut value = format!(in alloc; "0000000{len}")?;
+/// Appends one to eight decimal digits: in the place of `@` in hexadecimal, their count before them and zeros
+/// behind them up to eight bytes.
+fn push_number(text: &mut String, mark: &str, decimal: &str) -> Result<(), Fail> {
+    if mark == "#" {
+        text.push_str(decimal)?;
+        return Ok(());
+    }
+    write!(text, "0000000{}", decimal.len())?;
     for digit in decimal.chars() {
-        value.push('3')?;
-        value.push(digit)?;
+        write!(text, "3{digit}")?;
     }
-    Ok(format!(in alloc; "{value:0<24}")?)
+    for _ in decimal.len()..8 {
+        text.push_str("00")?;
+    }
+    Ok(())
 }

@@ -6,7 +6,7 @@ use std::test::Fail;
 const ALL: &str = "1000000000";
 
 /// How the reader and the writer of a command behave, and what is told beside what is written.
-#[derive(Clone, Copy)]
+#[derive(Drop)]
 pub(crate) struct Way<'a> {
     /// The lengths of the pieces that the reader gives, joined by ` and `: the command is carried out with
     /// each of them.
@@ -19,6 +19,8 @@ pub(crate) struct Way<'a> {
     pub(crate) lacks_line_feed: bool,
     /// How many bytes the writer has room for, where it has not for all.
     pub(crate) room: Option<usize>,
+    /// Whether the command is carried out in memory alone.
+    pub(crate) is_in_memory: bool,
     /// Whether the one line of the input is cut into two, behind each of its bytes in turn.
     pub(crate) is_cut: bool,
     /// Whether it is told what became of a stream.
@@ -36,6 +38,7 @@ impl<'a> Way<'a> {
             does_fail: false,
             lacks_line_feed: false,
             room: None,
+            is_in_memory: false,
             is_cut: false,
             tells_outcome: false,
             tells_sent: false,
@@ -53,26 +56,19 @@ impl<'a> Way<'a> {
             "interrupted" => self.is_interrupted = true,
             "then failing" => self.does_fail = true,
             "without the last line feed" => self.lacks_line_feed = true,
+            "in memory alone" => self.is_in_memory = true,
             "cut at each byte" => self.is_cut = true,
             "telling its outcome" => self.tells_outcome = true,
             "telling when it is sent on" => self.tells_sent = true,
-            _ => return self.take_number(word),
+            _ => match word.strip_prefix("in pieces of ") {
+                Some(pieces) => self.pieces = pieces,
+                None => self.room = Some(word.strip_prefix("room for ").ok_or("a word")?.parse()?),
+            },
         }
         Ok(())
     }
 
-    /// The same of a word with a number.
-    fn take_number(&mut self, word: &'a str) -> Result<(), Fail> {
-        if let Some(pieces) = word.strip_prefix("in pieces of ") {
-            self.pieces = pieces;
-            return Ok(());
-        }
-        let room = word.strip_prefix("room for ").ok_or("a word")?;
-        self.room = Some(room.parse()?);
-        Ok(())
-    }
-
-    /// Whether all of the input is read and all that is written is told, and no more: so it is in memory too.
+    /// Whether all of the input is read, and what is told is what is written: so it is in memory too.
     pub(crate) fn is_whole(&self) -> bool {
         !self.does_fail && self.room.is_none() && !self.tells_sent
     }

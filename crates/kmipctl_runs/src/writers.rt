@@ -1,25 +1,14 @@
 //! A writer that keeps what it is given, as far as it has room, and notes when that is sent on.
 
-use std::alloc::Global;
 use std::io::{self, Error, ErrorKind, Write};
 
 #[derive(Drop)]
 pub(crate) struct NotingWriter {
     pub(crate) written: Vec<u8>,
-    room: usize,
+    /// For how many bytes more it has room.
+    pub(crate) room: usize,
     /// How many bytes it had at each flush, once for each number.
     pub(crate) sent: Vec<usize>,
-}
-
-impl NotingWriter {
-    /// A writer with room for so many bytes.
-    pub(crate) fn new(alloc: Global, room: usize) -> NotingWriter {
-        NotingWriter {
-            written: Vec::new(alloc),
-            room,
-            sent: Vec::new(alloc),
-        }
-    }
 }
 
 impl Write for NotingWriter {
