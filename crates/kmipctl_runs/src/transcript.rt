@@ -1,19 +1,20 @@
 //! Commands and the files that they name.
 
+use crate::forms::take_input;
+use crate::wording::tell_exchanges;
 use kmip_command_line::chosen;
-use kmip_commands::{ExitStatus, Form, run_answer, run_answer_stream, run_show};
+use kmip_commands::ExitStatus;
 use kmip_program::run_words;
 use kmip_transcript::Transcript;
-use std::fs;
-use std::io::{self, BufWriter};
 use std::test::Fail;
+use std::{fs, io};
 
 /// Commands, files and remarks.
 pub(crate) struct Commands;
 
 impl Transcript for Commands {
     fn begins(line: &str) -> bool {
-        line.starts_with("file ") || line.starts_with("< ")
+        line.starts_with("file ") || line.starts_with("< ") || line == "exchanges"
     }
 
     fn take_line(rt: &HostRuntime, line: &str) -> Result<(), Fail> {
@@ -22,8 +23,7 @@ impl Transcript for Commands {
     }
 
     fn take_block(rt: &HostRuntime, head: &str, lines: &str) -> Result<(), Fail> {
-        take_text(rt, head, lines)?;
-        Ok(())
+        take_text(rt, head, lines)
     }
 }
 
@@ -43,28 +43,18 @@ fn take_command(rt: &HostRuntime, line: &str) -> io::Result<()> {
 }
 
 /// A file is written, or a command carried out whose input these lines are.
-fn take_text(rt: &HostRuntime, head: &str, lines: &str) -> io::Result<()> {
+fn take_text(rt: &HostRuntime, head: &str, lines: &str) -> Result<(), Fail> {
     if let Some(name) = head.strip_prefix("file ") {
-        return fs::write(rt, name, lines);
+        fs::write(rt, name, lines)?;
+        return Ok(());
     }
     rt.println(head)?;
-    let status = run_with_input(rt, head, lines.as_bytes())?;
-    print_status(rt, status)
-}
-
-/// The commands that read standard input, over these bytes.
-fn run_with_input(rt: &HostRuntime, head: &str, input: &[u8]) -> io::Result<ExitStatus> {
-    let mut reader = input;
-    let mut writer = BufWriter::new(rt.alloc(), io::writer(rt))?;
-    let status = match head {
-        "< kmipctl answer" => run_answer(rt.alloc(), &mut reader, &mut writer),
-        "< kmipctl answer --stream" => run_answer_stream(rt.alloc(), &mut reader, &mut writer),
-        "< kmipctl show --canon" => {
-            run_show(rt.alloc(), Form::Canonical, &mut reader, &mut writer)
-        }
-        _ => run_show(rt.alloc(), Form::Text, &mut reader, &mut writer),
+    let Some(words) = head.strip_prefix("< ") else {
+        return tell_exchanges(rt, lines);
     };
-    Ok(status)
+    let (words, way) = words.split_once(" | ").unwrap_or((words, ""));
+    let words = words_of(rt, words)?;
+    take_input(rt, words.as_slice(), way, lines)
 }
 
 fn print_status(rt: &HostRuntime, status: ExitStatus) -> io::Result<()> {
