@@ -1,5 +1,6 @@
 //! Commands and the files that they name.
 
+use crate::probing::take_probe;
 use kmip_command_line::chosen;
 use kmip_commands::{ExitStatus, Form, run_answer, run_answer_stream, run_show};
 use kmip_program::run_words;
@@ -18,7 +19,7 @@ impl Transcript for Commands {
 
     fn take_line(rt: &HostRuntime, line: &str) -> Result<(), Fail> {
         take_command(rt, line)?;
-        Ok(())
+        take_probe(rt, line)
     }
 
     fn take_block(rt: &HostRuntime, head: &str, lines: &str) -> Result<(), Fail> {
