@@ -24,7 +24,7 @@ mod alone;
 mod breaking;
 mod peer;
 mod probing;
-mod repeating;
+mod repeating_peer;
 mod transcript;
 
 use crate::transcript::Commands;

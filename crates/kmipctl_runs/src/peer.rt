@@ -2,7 +2,7 @@
 
 use crate::alone::{reply_bytes, request_in};
 use crate::breaking::Breaking;
-use crate::repeating::Repeating;
+use crate::repeating_peer::Repeating;
 use kmip_schedule::{Link, LinkFault};
 use std::alloc::Global;
 

@@ -2,7 +2,7 @@
 
 use crate::breaking::Breaking;
 use crate::peer::Peer;
-use crate::repeating::Repeating;
+use crate::repeating_peer::Repeating;
 use kmip_probe::run_probe;
 use kmip_schedule::Link;
 use kmip_scripted::{Scripted, read_script};
