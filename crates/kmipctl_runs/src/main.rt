@@ -14,6 +14,15 @@
 //!     < kmipctl WORDS | WAY, ..    the same, carried out in this way
 //!     exchanges            the lines behind it, up to a line `end`, are a question and replies to it in
 //!                          hexadecimal: what is told of each exchange
+//!     probe once SCRIPT    a probe of an empty server, over a link that follows this script, in which `/`
+//!                          stands for a line feed; and how many objects the server has then
+//!     probe twice SCRIPT   the same, of two probes over this link
+//!     probe breach BREACH  a probe of a server that keeps all rules but one (`breaking.rt` says which)
+//!     probe repeats ID     a probe of a peer that answers each question by a Locate's reply: no object
+//!                          until two questions were asked, and then one and the same. Its id is that of
+//!                          the question (`echoed`), none (`missing`), or one of no question (`foreign`)
+//!     probe repeats ID refusing REASON after NUMBER    the same, which answers so many questions so, and
+//!                          refuses all others for this Result Reason, or `none`
 //!
 //! The way in which a command is carried out is told by
 //!
@@ -36,10 +45,15 @@
 //!                                 which is printed whether it is
 #![tactic(auto)]
 
+mod alone;
+mod breaking;
 mod commands;
 mod forms;
+mod peer;
+mod probing;
 mod readers;
 mod repeating;
+mod repeating_peer;
 mod transcript;
 mod ways;
 mod wording;

@@ -1,6 +1,7 @@
 //! Commands and the files that they name.
 
 use crate::forms::take_input;
+use crate::probing::take_probe;
 use crate::wording::tell_exchanges;
 use kmip_command_line::chosen;
 use kmip_commands::ExitStatus;
@@ -19,7 +20,7 @@ impl Transcript for Commands {
 
     fn take_line(rt: &HostRuntime, line: &str) -> Result<(), Fail> {
         take_command(rt, line)?;
-        Ok(())
+        take_probe(rt, line)
     }
 
     fn take_block(rt: &HostRuntime, head: &str, lines: &str) -> Result<(), Fail> {

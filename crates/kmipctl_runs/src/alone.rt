@@ -1,9 +1,11 @@
 //! Messages of one question, and of one reply.
 
-use kmip_batches::{read_reply, read_request, reply_fits, write_reply};
+use kmip_batches::{
+    read_reply, read_request, reply_fits, request_fits, write_reply, write_request,
+};
 use kmip_messages::{Reply, Request};
-use kmip_ttlv::NoMemory;
 use std::alloc::Global;
+use std::slice::from_ref;
 
 /// The one request of a message; none where it asks another number, or is refused.
 pub(crate) fn request_in(alloc: Global, message: &[u8]) -> Option<Request> {
@@ -18,14 +20,22 @@ pub(crate) fn reply_in(alloc: Global, message: &[u8]) -> Option<Reply> {
     the_one(replies)
 }
 
-/// The bytes of one reply; none where it has no written form.
-pub(crate) fn reply_bytes(alloc: Global, reply: &Reply) -> Result<Option<Vec<u8>>, NoMemory> {
-    let replies = std::slice::from_ref(reply);
-    if !reply_fits(replies) {
-        return Ok(None);
+/// The message of one request; none where it can't be written.
+pub(crate) fn request_bytes(alloc: Global, request: &Request) -> Option<Vec<u8>> {
+    let requests = from_ref(request);
+    if !request_fits(requests) {
+        return None;
     }
-    let bytes = write_reply(alloc, replies, 0)?;
-    Ok(Some(bytes))
+    write_request(alloc, requests).ok()
+}
+
+/// The message of one reply; none where it can't be written.
+pub(crate) fn reply_bytes(alloc: Global, reply: &Reply) -> Option<Vec<u8>> {
+    let replies = from_ref(reply);
+    if !reply_fits(replies) {
+        return None;
+    }
+    write_reply(alloc, replies, 0).ok()
 }
 
 /// What there is, where that is one thing.
