@@ -1,5 +1,6 @@
 //! Commands and the files that they name.
 
+use crate::keeping::hold_runs;
 use kmip_command_line::chosen;
 use kmip_commands::{ExitStatus, Form, run_answer, run_answer_stream, run_show};
 use kmip_program::run_words;
@@ -13,7 +14,7 @@ pub(crate) struct Commands;
 
 impl Transcript for Commands {
     fn begins(line: &str) -> bool {
-        line.starts_with("file ") || line.starts_with("< ")
+        line.starts_with("file ") || line.starts_with("< ") || line.starts_with("runs of ")
     }
 
     fn take_line(rt: &HostRuntime, line: &str) -> Result<(), Fail> {
@@ -22,6 +23,9 @@ impl Transcript for Commands {
     }
 
     fn take_block(rt: &HostRuntime, head: &str, lines: &str) -> Result<(), Fail> {
+        if head.starts_with("runs of ") {
+            return hold_runs(rt, head, lines);
+        }
         take_text(rt, head, lines)?;
         Ok(())
     }
