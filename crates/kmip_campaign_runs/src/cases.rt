@@ -76,7 +76,7 @@ pub fn are_prolonged(plans: &[Plan]) -> bool
     ensures prolong { result ≡ true → AreProlonged plans.now }
 {
     match plans {
-        [_] => true,
+        [_plan] => true,
         [first, second] => prolongs(second, first),
         [first, second, third] => prolongs(second, first) && prolongs(third, second),
         _ => false,

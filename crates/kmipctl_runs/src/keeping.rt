@@ -1,0 +1,259 @@
+//! Runs of a plan over a link in memory, line by line, and the texts that they keep.
+
+use crate::settings::Settings;
+use crate::shelf::Shelf;
+use crate::watching::{Count, Stopped};
+use kmip_client::Client;
+use kmip_commands::ExitStatus;
+use kmip_plan::{Plan, read_plan};
+use kmip_run::{RunInput, run_run, standing_line};
+use kmip_running::{Observed, Paced, SaveFault, carry_out, next_wait};
+use kmip_scripted::{Scripted, read_script};
+use kmip_server::{ListStore, Server};
+use kmip_session::Stop;
+use std::alloc::Global;
+use std::cell::Cell;
+use std::fs;
+use std::io::{self, BufWriter};
+use std::test::Fail;
+
+/// A link to a server in memory that follows a script, waits by a clock that stands still, and tells
+/// who counts.
+type Watched<'c> = Observed<Paced<Scripted<ListStore>, &'c Stopped>, Count>;
+
+/// What the first line of a block names.
+#[derive(Clone, Copy)]
+struct Heading<'h> {
+    /// The file of the plan.
+    plan: &'h str,
+    /// The words of the script, with `/` between them.
+    words: &'h str,
+    /// How long the link waits first behind an exchange without a reply, in milliseconds.
+    wait: u64,
+}
+
+/// A client of a plan, and its link.
+#[derive(Drop)]
+struct Case<'c> {
+    /// The file of the plan.
+    file: &'c str,
+    client: Client<'c>,
+    clock: &'c Stopped,
+    link: Watched<'c>,
+}
+
+/// Does what the lines of a block say, whose first line names a plan, and what its link does.
+pub(crate) fn hold_runs(rt: &HostRuntime, head: &str, lines: &str) -> Result<(), Fail> {
+    rt.println(head)?;
+    let heading = heading_of(head)?;
+    let text = fs::read_to_string(rt, heading.plan)?;
+    let plan = read_plan(rt.alloc(), text.as_str())?;
+    take_lines(rt, &heading, &plan, lines)?;
+    rt.println("end")?;
+    Ok(())
+}
+
+fn heading_of(head: &str) -> Result<Heading<'_>, Fail> {
+    let head = head.strip_prefix("runs of ").unwrap_or(head);
+    let (head, wait) = head.split_once(" waiting ").unwrap_or((head, "0"));
+    let (plan, words) = head.split_once(" over ").unwrap_or((head, ""));
+    let wait = wait.parse()?;
+    Ok(Heading { plan, words, wait })
+}
+
+/// A client that knows nothing of the plan, and a link, for these lines.
+fn take_lines(
+    rt: &HostRuntime,
+    heading: &Heading<'_>,
+    plan: &Plan,
+    lines: &str,
+) -> Result<(), Fail> {
+    let clock = Stopped {
+        slept: Cell::new(0),
+    };
+    let client = Client::fresh(rt.alloc(), plan)?;
+    let link = link_of(rt.alloc(), heading, &clock)?;
+    let mut case = Case {
+        file: heading.plan,
+        client,
+        clock: &clock,
+        link,
+    };
+    for line in lines.lines() {
+        take_turn(rt, &mut case, line)?;
+    }
+    Ok(())
+}
+
+/// A link to an empty server.
+fn link_of<'c>(
+    alloc: Global,
+    heading: &Heading<'_>,
+    clock: &'c Stopped,
+) -> Result<Watched<'c>, Fail> {
+    let words = heading.words.replace(alloc, "/", "\n")?;
+    let script = read_script(alloc, words.as_str())?;
+    let server = Server::new(ListStore::new(alloc, [0; 32], 10_000));
+    let link = Paced::new(Scripted::new(alloc, server, script), clock, heading.wait);
+    let count = Count {
+        replies: 0,
+        losses: 0,
+        faults: 0,
+        ends: 0,
+    };
+    Ok(Observed::new(link, count))
+}
+
+/// Prints a line, and does what it says; `/` stands for a line feed in it.
+fn take_turn(rt: &HostRuntime, case: &mut Case<'_>, line: &str) -> Result<(), Fail> {
+    rt.println(line)?;
+    let line = line.replace(rt.alloc(), "/", "\n")?;
+    turn(rt, case, line.as_str())
+}
+
+/// Does what a line says, whose text is as it is now.
+fn turn(rt: &HostRuntime, case: &mut Case<'_>, line: &str) -> Result<(), Fail> {
+    let (head, text) = parts_of(line);
+    let (word, words) = head.split_once(' ').unwrap_or((head, ""));
+    match word {
+        "#" => Ok(()),
+        "run" => run(rt, case, words, text),
+        "carry" => carry(rt, case, words),
+        "standing" => standing(rt, case, words, text),
+        "waits" => print_waits(rt, words.parse()?),
+        "told" => print_told(rt, case),
+        _ => Err(Fail::new("no line of runs")),
+    }
+}
+
+/// What stands before the text of a line, and this text, if it has one.
+fn parts_of(line: &str) -> (&str, Option<&str>) {
+    match line.split_once(" from \"") {
+        Some((head, text)) => (head, Some(text.strip_suffix("\"").unwrap_or(text))),
+        None => (line, None),
+    }
+}
+
+/// The command `run` over the link, from the text of a saved progress or from nothing.
+fn run(
+    rt: &HostRuntime,
+    case: &mut Case<'_>,
+    words: &str,
+    saved: Option<&str>,
+) -> Result<(), Fail> {
+    let settings = Settings::of(words)?;
+    let plan = fs::read_to_string(rt, settings.plan.unwrap_or(case.file))?;
+    let mut shelf = Shelf::new(rt.alloc(), settings.room);
+    let input = RunInput {
+        plan: plan.as_str(),
+        path: "over there",
+        limit: settings.limit,
+        batch: settings.batch,
+    };
+    let status = run_over(
+        rt,
+        &input,
+        saved,
+        &mut case.link,
+        &mut shelf,
+        settings.writer,
+    )?;
+    rt.println(format_args!("exit status {}, {status:?}", status.code()))?;
+    shelf.print(rt)
+}
+
+/// Runs `run`, and prints what it writes where its writer is not one with room for so many bytes.
+fn run_over(
+    rt: &HostRuntime,
+    input: &RunInput<'_>,
+    saved: Option<&str>,
+    link: &mut Watched<'_>,
+    shelf: &mut Shelf,
+    writer: Option<usize>,
+) -> Result<ExitStatus, Fail> {
+    if !(1..=8).contains(&input.batch) {
+        return Err(Fail::new("a message asks about one to eight keys"));
+    }
+    let alloc = rt.alloc();
+    if let Some(size) = writer {
+        let mut room = vec![in alloc; 0u8; size]?;
+        let mut writer = room.as_mut_slice();
+        return Ok(run_run(alloc, input, saved, link, shelf, &mut writer));
+    }
+    let mut writer = BufWriter::new(alloc, io::writer(rt))?;
+    Ok(run_run(alloc, input, saved, link, shelf, &mut writer))
+}
+
+/// The client goes on over the link.
+fn carry(rt: &HostRuntime, case: &mut Case<'_>, words: &str) -> Result<(), Fail> {
+    let settings = Settings::of(words)?;
+    let mut shelf = Shelf::new(rt.alloc(), settings.room);
+    let (carried, made) = carry_out(
+        rt.alloc(),
+        &mut case.client,
+        &mut case.link,
+        &mut shelf,
+        settings.limit,
+    );
+    print_carried(rt, carried, made)?;
+    shelf.print(rt)
+}
+
+fn print_carried(
+    rt: &HostRuntime,
+    carried: Result<Stop, SaveFault>,
+    made: usize,
+) -> io::Result<()> {
+    match carried {
+        Ok(stop) => rt.println(format_args!("stop {} {made}", stop.name())),
+        Err(fault) => rt.println(format_args!("not kept {fault:?} {made}")),
+    }
+}
+
+/// The line that says how far a run is, by the text that was kept last.
+fn standing(
+    rt: &HostRuntime,
+    case: &Case<'_>,
+    words: &str,
+    saved: Option<&str>,
+) -> Result<(), Fail> {
+    let (made, silent) = words.split_once(' ').ok_or("two numbers")?;
+    let saved = saved.ok_or("a text")?;
+    let plan = case.client.plan();
+    match standing_line(rt.alloc(), plan, saved, made.parse()?, silent.parse()?) {
+        Ok(line) => rt.println(&line)?,
+        Err(fault) => rt.println(format_args!("refused {} {}", fault.number(), fault.name()))?,
+    }
+    Ok(())
+}
+
+/// The waits behind nine exchanges without a reply, and the one behind a reply, from this first wait.
+fn print_waits(rt: &HostRuntime, first: u64) -> Result<(), Fail> {
+    let mut wait = 0;
+    for _ in 0..9 {
+        wait = next_wait(wait, first, false);
+        rt.print(format_args!("{wait} "))?;
+    }
+    let wait = next_wait(wait, first, true);
+    rt.println(format_args!("and then {wait}"))?;
+    Ok(())
+}
+
+/// How many messages were sent, what was told of them, and for how long the link slept.
+fn print_told(rt: &HostRuntime, case: &Case<'_>) -> Result<(), Fail> {
+    let paced = case.link.link();
+    let sent = (1..usize::MAX)
+        .take_while(|number| paced.link().request(*number).is_some())
+        .count();
+    let count = case.link.observer();
+    rt.println(format_args!(
+        "messages {sent}, replies {}, losses {}, faults {}, ends {}; slept {} ms, to wait {} ms",
+        count.replies,
+        count.losses,
+        count.faults,
+        count.ends,
+        case.clock.slept.get(),
+        paced.wait()
+    ))?;
+    Ok(())
+}

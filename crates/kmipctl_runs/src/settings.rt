@@ -1,0 +1,49 @@
+//! What a run is given, as the words of a line say it.
+
+use std::test::Fail;
+
+/// What a run is given beside its link and what it begins with.
+#[derive(Clone, Copy)]
+pub(crate) struct Settings<'w> {
+    /// The file of its plan, where that is another one than the block's.
+    pub(crate) plan: Option<&'w str>,
+    /// How many exchanges it may make.
+    pub(crate) limit: usize,
+    /// How many keys a message asks about at most.
+    pub(crate) batch: usize,
+    /// How many texts have room with its keeper.
+    pub(crate) room: usize,
+    /// How many bytes have room with its writer, if it is not standard output.
+    pub(crate) writer: Option<usize>,
+}
+
+impl<'w> Settings<'w> {
+    /// The settings of these words; one that they leave out is as in the first run of all.
+    pub(crate) fn of(words: &'w str) -> Result<Self, Fail> {
+        let mut settings = Settings {
+            plan: None,
+            limit: 10_000,
+            batch: 1,
+            room: 10,
+            writer: None,
+        };
+        for setting in words.split(", ") {
+            let (word, given) = setting.split_once(' ').unwrap_or((setting, ""));
+            settings.set(word, given)?;
+        }
+        Ok(settings)
+    }
+
+    fn set(&mut self, word: &str, given: &'w str) -> Result<(), Fail> {
+        match word {
+            "" => {}
+            "of" => self.plan = Some(given),
+            "limit" => self.limit = given.parse()?,
+            "about" => self.batch = given.parse()?,
+            "room" => self.room = given.parse()?,
+            "writer" => self.writer = Some(given.parse()?),
+            _ => return Err(Fail::new("no setting of a run")),
+        }
+        Ok(())
+    }
+}

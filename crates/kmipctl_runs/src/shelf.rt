@@ -1,0 +1,56 @@
+//! A keeper in memory, with room for so many texts.
+ghost use Rattle.std.specs.Prelude.{◌≡◌};
+
+use kmip_running::{Keeper, SaveFault};
+use kmip_ttlv::Bytes;
+use std::alloc::Global;
+use std::str::from_utf8;
+use std::test::Fail;
+
+/// Keeps each text that it is given, as many as it has room for.
+#[derive(Drop)]
+pub(crate) struct Shelf {
+    texts: Vec<Bytes>,
+    room: usize,
+}
+
+impl Shelf {
+    /// A shelf with room for so many texts.
+    pub(crate) fn new(alloc: Global, room: usize) -> Shelf {
+        Shelf {
+            texts: Vec::new(alloc),
+            room,
+        }
+    }
+
+    /// Prints each text that was kept, with `/` in the place of a line feed.
+    pub(crate) fn print(&self, rt: &HostRuntime) -> Result<(), Fail> {
+        for text in &self.texts {
+            let text = from_utf8(text.as_slice())?.replace(rt.alloc(), "\n", "/")?;
+            rt.println(format_args!("kept {text}"))?;
+        }
+        Ok(())
+    }
+}
+
+impl Keeper for Shelf {
+    ghost use Rattle.std.specs.Prelude.{⊤};
+
+    ghost saved = { λ shelf. shelf.texts.items };
+
+    ghost keeps = { λ shelf. ⊤ };
+
+    fn save(&mut self, alloc: Global, text: &[u8]) -> Result<(), SaveFault> {
+        if self.texts.len() >= self.room {
+            return Err(SaveFault::Output);
+        }
+        let Ok(copy) = Bytes::copied(alloc, text) else {
+            return Err(SaveFault::NoMemory);
+        };
+        let Ok(()) = self.texts.reserve(1) else {
+            return Err(SaveFault::NoMemory);
+        };
+        self.texts.push_reserved(copy);
+        Ok(())
+    }
+}
