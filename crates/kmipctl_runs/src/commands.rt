@@ -59,7 +59,12 @@ pub(crate) fn command_of(rt: &HostRuntime, words: &[String], input: &str) -> Res
     let Ok(choice) = chosen(rt.alloc(), words) else {
         return Err(Fail::new("a command"));
     };
-    match &choice {
+    command_for(rt, &choice, input)
+}
+
+/// The command that is asked for, with the texts of its files.
+fn command_for(rt: &HostRuntime, choice: &Choice, input: &str) -> Result<Command, Fail> {
+    match choice {
         Choice::Answer => Ok(Command::Answer),
         Choice::AnswerStream => Ok(Command::AnswerStream),
         Choice::Show(form) => Ok(Command::Show(*form)),

@@ -29,10 +29,7 @@ pub(crate) fn take_input(
     let (lines, given) = lines.split_once("gives\n").unwrap_or((lines, ""));
     let given = text_of(rt.alloc(), given)?;
     let text = text_of(rt.alloc(), lines)?;
-    let input = match text.as_str().strip_suffix("\n") {
-        Some(input) if way.lacks_line_feed => input,
-        _ => text.as_str(),
-    };
+    let input = way.input_of(text.as_str());
     let command = command_of(rt, words, input)?;
     let case = Case {
         command: &command,

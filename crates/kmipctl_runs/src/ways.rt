@@ -68,6 +68,14 @@ impl<'a> Way<'a> {
         Ok(())
     }
 
+    /// The input, of this text.
+    pub(crate) fn input_of<'t>(&self, text: &'t str) -> &'t str {
+        match text.strip_suffix("\n") {
+            Some(input) if self.lacks_line_feed => input,
+            _ => text,
+        }
+    }
+
     /// Whether all of the input is read, and what is told is what is written: so it is in memory too.
     pub(crate) fn is_whole(&self) -> bool {
         !self.does_fail && self.room.is_none() && !self.tells_sent
