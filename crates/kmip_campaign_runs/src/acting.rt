@@ -14,10 +14,10 @@ use crate::telling::{
 };
 use kmip_client::Client;
 use kmip_plan::Plan;
-use kmip_scripted::Script;
+use kmip_scripted::{Script, Scripted};
 use kmip_server::ListStore;
-use kmip_session::{Link, Run, Start, campaign, campaigns, drive};
-use kmip_simulation::{simulate, simulate_again};
+use kmip_session::{CampaignEnd, Link, Run, Start, campaign, campaigns, drive};
+use kmip_simulation::{Simulation, simulate, simulate_again};
 use std::alloc::Global;
 use std::test::Fail;
 
@@ -190,8 +190,7 @@ pub fn cuts(alloc: Global, plan: &Plan, last: &str) -> Result<String, Fail> {
 
 /// What such a campaign tells.
 fn cut_told(alloc: Global, plan: &Plan, arriving: usize) -> Result<String, Fail> {
-    let script = format!(in alloc; "pass/cut {arriving}/")?;
-    let mut link = link_of(alloc, script.as_str())?;
+    let mut link = link_that_cuts(alloc, arriving)?;
     let run = Run {
         start: Start::Fresh,
         limit: 10,
@@ -199,15 +198,27 @@ fn cut_told(alloc: Global, plan: &Plan, arriving: usize) -> Result<String, Fail>
         save: false,
     };
     let end = campaign(alloc, plan, &mut link, &[run]);
-    let ends = ends_told(alloc, &end)?;
-    let asked = asked_told(alloc, link.link())?;
-    let records = records_told(alloc, link.link())?;
-    Ok(format!(in alloc;
-        "{}; {}; {}",
-        ends.as_str(),
-        asked.as_str(),
-        records.as_str()
-    )?)
+    course_told(alloc, &end, link.link())
+}
+
+/// A link on which so many bytes of the second message arrive.
+fn link_that_cuts(alloc: Global, arriving: usize) -> Result<Faulty<ListStore>, Fail> {
+    let script = format!(in alloc; "pass/cut {arriving}/")?;
+    link_of(alloc, script.as_str())
+}
+
+/// How the runs of a campaign ended, what was asked, and the objects.
+fn course_told(
+    alloc: Global,
+    end: &CampaignEnd,
+    link: &Scripted<ListStore>,
+) -> Result<String, Fail> {
+    let mut text = ends_told(alloc, end)?;
+    text.push_str("; ")?;
+    text.push_str(asked_told(alloc, link)?.as_str())?;
+    text.push_str("; ")?;
+    text.push_str(records_told(alloc, link)?.as_str())?;
+    Ok(text)
 }
 
 /// The simulation of a script, with at most so many keys in a message.
@@ -215,6 +226,11 @@ pub fn simulated(alloc: Global, plan: &Plan, most: &str, text: &str) -> Result<S
     let most = batch_of(most.parse()?)?;
     let script = single_script(alloc, text)?;
     let simulation = simulate(alloc, plan, script, most)?;
+    simulation_told(alloc, plan, &simulation)
+}
+
+/// How the runs of a simulation ended, what its link disturbed, and whether all is at its target.
+fn simulation_told(alloc: Global, plan: &Plan, simulation: &Simulation) -> Result<String, Fail> {
     let mut text = ends_told(alloc, &simulation.end)?;
     text.push_str("; ")?;
     push_disturbed(&mut text, &simulation.link)?;

@@ -31,28 +31,34 @@ fn server_of(alloc: Global) -> Server<ListStore> {
 }
 
 /// A server with an object of this name and length, AES to encrypt and decrypt.
+pub fn server_with(alloc: Global, words: &str) -> Result<Server<ListStore>, Fail> {
+    let message = create_of(alloc, words)?;
+    let mut server = server_of(alloc);
+    server.handle(alloc, message.as_slice(), 0)?;
+    Ok(server)
+}
+
+/// The message that asks for such an object.
 ///
 /// Source: KMIP 2.1, Cryptographic Algorithm (AES is 3), Cryptographic Usage Mask (encrypt is 4, decrypt 8).
-pub fn server_with(alloc: Global, words: &str) -> Result<Server<ListStore>, Fail> {
+fn create_of(alloc: Global, words: &str) -> Result<Vec<u8>, Fail> {
     let (name, length) = words.split_once(' ').ok_or("a name and a length")?;
-    let attrs = KeyAttrs {
-        name: Text::copied(alloc, name)?,
-        algorithm: 3,
-        length: length.parse()?,
-        usage: 12,
-    };
+    let length = length.parse()?;
     let request = Request {
         id: None,
-        ask: Ask::Create(attrs),
+        ask: Ask::Create(KeyAttrs {
+            name: Text::copied(alloc, name)?,
+            algorithm: 3,
+            length,
+            usage: 12,
+        }),
     };
     let requests = from_ref(&request);
     if !request_fits(requests) {
         return Err(Fail::new("the object does not fit"));
     }
     let message = write_request(alloc, requests)?;
-    let mut server = server_of(alloc);
-    server.handle(alloc, message.as_slice(), 0)?;
-    Ok(server)
+    Ok(message)
 }
 
 /// The words of a script, and how often a plan is prolonged in it.
