@@ -100,27 +100,17 @@ fn end_told(
     Ok(text)
 }
 
-/// Prints what was told; of what it is given that this begins with, no more than whether it does.
+/// Prints what was told; of what it is given that this begins with, no more than that it does.
 fn print_told(rt: &HostRuntime, told: &str, given: &str) -> Result<(), Fail> {
     let Some(rest) = told.strip_prefix(given) else {
-        return print_difference(rt, told, given);
+        rt.println("something else")?;
+        rt.print(told)?;
+        return Ok(());
     };
     if !given.is_empty() {
         rt.println("all of that, and then")?;
     }
     rt.print(rest)?;
-    Ok(())
-}
-
-/// Prints the first line that is another than the one that was given.
-fn print_difference(rt: &HostRuntime, told: &str, given: &str) -> Result<(), Fail> {
-    for (line, wanted) in told.lines().zip(given.lines()) {
-        if line != wanted {
-            rt.println(format_args!("{line}\nin the place of\n{wanted}"))?;
-            return Ok(());
-        }
-    }
-    rt.println("fewer lines than that")?;
     Ok(())
 }
 
