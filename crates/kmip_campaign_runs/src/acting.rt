@@ -16,7 +16,7 @@ use kmip_client::Client;
 use kmip_plan::Plan;
 use kmip_scripted::{Script, Scripted};
 use kmip_server::ListStore;
-use kmip_session::{CampaignEnd, Link, Run, Start, campaign, campaigns, drive};
+use kmip_session::{CampaignEnd, Run, Start, campaign, campaigns, drive};
 use kmip_simulation::{Simulation, simulate, simulate_again};
 use std::alloc::Global;
 use std::test::Fail;
@@ -39,28 +39,20 @@ pub fn fail(
     Ok(String::new(alloc))
 }
 
-/// The fault of these words.
+/// The fault of these words, which may end in a number.
 fn fault_of(words: &str) -> Result<Fault, Fail> {
-    match words {
-        "the network fails" => Ok(Fault::Io),
-        "no message" => Ok(Fault::Frame),
+    let (word, number) = words.split_once(' ').unwrap_or((words, ""));
+    match word {
+        "the" if number == "network fails" => Ok(Fault::Io),
+        "no" if number == "message" => Ok(Fault::Frame),
+        "no" if number == "memory" => Ok(Fault::NoMemory),
         "nothing" => Ok(Fault::Lost),
-        "no memory" => Ok(Fault::NoMemory),
         "rubbish" => Ok(Fault::Rubbish),
         "swapped" => Ok(Fault::Swapped),
-        _ => numbered_fault_of(words),
-    }
-}
-
-/// The fault of a word and a number.
-fn numbered_fault_of(words: &str) -> Result<Fault, Fail> {
-    let (word, number) = words.split_once(' ').ok_or("a fault")?;
-    let number: usize = number.parse()?;
-    match word {
-        "reply" => Ok(Fault::Reply(number)),
-        "alone" => Ok(Fault::Alone(number)),
-        "twice" => Ok(Fault::Twice(number)),
-        "repeated" => Ok(Fault::Repeated(number)),
+        "reply" => Ok(Fault::Reply(number.parse()?)),
+        "alone" => Ok(Fault::Alone(number.parse()?)),
+        "twice" => Ok(Fault::Twice(number.parse()?)),
+        "repeated" => Ok(Fault::Repeated(number.parse()?)),
         _ => Err(Fail::new("no fault")),
     }
 }
@@ -117,12 +109,6 @@ pub fn go_through_plans(alloc: Global, case: &mut Case<'_>, words: &str) -> Resu
     }
     let end = campaigns(alloc, plans, &mut case.link, runs);
     runs_told(alloc, &end)
-}
-
-/// The run ends over the link: what its script does then is done.
-pub fn finish(alloc: Global, link: &mut Faulty<ListStore>) -> Result<String, Fail> {
-    link.end_run(alloc)?;
-    Ok(String::new(alloc))
 }
 
 /// Whether each of the runs asks about one to eight keys in a message, as a campaign may.
@@ -190,7 +176,7 @@ pub fn cuts(alloc: Global, plan: &Plan, last: &str) -> Result<String, Fail> {
 
 /// What such a campaign tells.
 fn cut_told(alloc: Global, plan: &Plan, arriving: usize) -> Result<String, Fail> {
-    let mut link = link_that_cuts(alloc, arriving)?;
+    let mut link = link_of(alloc, format!(in alloc; "pass/cut {arriving}/")?.as_str())?;
     let run = Run {
         start: Start::Fresh,
         limit: 10,
@@ -199,12 +185,6 @@ fn cut_told(alloc: Global, plan: &Plan, arriving: usize) -> Result<String, Fail>
     };
     let end = campaign(alloc, plan, &mut link, &[run]);
     course_told(alloc, &end, link.link())
-}
-
-/// A link on which so many bytes of the second message arrive.
-fn link_that_cuts(alloc: Global, arriving: usize) -> Result<Faulty<ListStore>, Fail> {
-    let script = format!(in alloc; "pass/cut {arriving}/")?;
-    link_of(alloc, script.as_str())
 }
 
 /// How the runs of a campaign ended, what was asked, and the objects.

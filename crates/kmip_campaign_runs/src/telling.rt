@@ -175,10 +175,12 @@ pub fn push_disturbed<S: Records>(text: &mut String, link: &Scripted<S>) -> Resu
 
 /// Whether each key of a plan has exactly one object, at the key's target, and nothing else has one.
 pub fn are_at_targets<S: Records>(plan: &Plan, records: &S) -> bool {
+    for key in plan.keys() {
+        if state_named(records, key.attrs.name.as_str()) != Some(state_at(key.target)) {
+            return false;
+        }
+    }
     records.count() == plan.count()
-        && plan.keys().iter().all(|key| {
-            state_named(records, key.attrs.name.as_str()) == Some(state_at(key.target))
-        })
 }
 
 /// The state of the object with the name, the first where there are several.
@@ -209,9 +211,10 @@ pub fn ranges_told(alloc: Global, tolds: &[String]) -> Result<String, Fail> {
     let mut first: usize = 0;
     for (number, told) in tolds.iter().enumerate() {
         let told = told.as_str();
-        let next = tolds.get(number.wrapping_add(1));
-        if next.is_some_and(|next| next.as_str() == told) {
-            continue;
+        if let Some(next) = tolds.get(number.wrapping_add(1)) {
+            if next.as_str() == told {
+                continue;
+            }
         }
         let between = if text.is_empty() { "" } else { " | " };
         write!(text, "{between}{first} to {number}: {told}")?;

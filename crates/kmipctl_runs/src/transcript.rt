@@ -1,8 +1,6 @@
 //! Commands and the files that they name.
 
 use crate::forms::take_input;
-use crate::keeping::hold_runs;
-use crate::probing::take_probe;
 use crate::wording::tell_exchanges;
 use kmip_command_line::chosen;
 use kmip_commands::ExitStatus;
@@ -16,21 +14,15 @@ pub(crate) struct Commands;
 
 impl Transcript for Commands {
     fn begins(line: &str) -> bool {
-        line == "exchanges"
-            || line.starts_with("file ")
-            || line.starts_with("< ")
-            || line.starts_with("runs of ")
+        line.starts_with("file ") || line.starts_with("< ") || line == "exchanges"
     }
 
     fn take_line(rt: &HostRuntime, line: &str) -> Result<(), Fail> {
         take_command(rt, line)?;
-        take_probe(rt, line)
+        Ok(())
     }
 
     fn take_block(rt: &HostRuntime, head: &str, lines: &str) -> Result<(), Fail> {
-        if head.starts_with("runs of ") {
-            return hold_runs(rt, head, lines);
-        }
         take_text(rt, head, lines)
     }
 }
