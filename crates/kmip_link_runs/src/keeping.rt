@@ -42,8 +42,11 @@ struct Case<'c> {
     link: Watched<'c>,
 }
 
-/// Does what the lines of a block say, whose first line names a plan, and what its link does.
-pub(crate) fn hold_runs(rt: &HostRuntime, head: &str, lines: &str) -> Result<(), Fail> {
+/// Does what the lines of a block `runs of` say, whose first line names a plan, and what its link does.
+///
+/// # Errors
+/// Where a line can't be read, a file of its plans is none, there is no memory, or printing fails.
+pub fn hold_runs(rt: &HostRuntime, head: &str, lines: &str) -> Result<(), Fail> {
     rt.println(head)?;
     let heading = heading_of(head)?;
     let text = fs::read_to_string(rt, heading.plan)?;

@@ -12,7 +12,10 @@ use std::io;
 use std::test::Fail;
 
 /// Carries out the probe of a line, if that is one.
-pub(crate) fn take_probe(rt: &HostRuntime, line: &str) -> Result<(), Fail> {
+///
+/// # Errors
+/// Where the line begins as a probe and is none, there is no memory, or printing fails.
+pub fn take_probe(rt: &HostRuntime, line: &str) -> Result<(), Fail> {
     let Some(words) = line.strip_prefix("probe ") else {
         return Ok(());
     };

@@ -1,5 +1,6 @@
 //! `kmipctl` once more, for its stored runs: standard input has one command after the other, and what
 //! is printed are these commands, what each writes, and its exit status; or what a command asks for.
+//! Commands over links in memory are lines too, of which `kmip_link_runs` tells.
 //!
 //! A line of standard input is one of
 //!
@@ -14,6 +15,8 @@
 //!     < kmipctl WORDS | WAY, ..    the same, carried out in this way
 //!     exchanges            the lines behind it, up to a line `end`, are a question and replies to it in
 //!                          hexadecimal: what is told of each exchange
+//!     probe WORDS          a probe over a link in memory
+//!     runs of PLAN         runs over such a link: the lines behind it, up to a line `end`, say which
 //!
 //! The way in which a command is carried out is told by
 //!

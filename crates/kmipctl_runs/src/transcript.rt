@@ -4,6 +4,7 @@ use crate::forms::take_input;
 use crate::wording::tell_exchanges;
 use kmip_command_line::chosen;
 use kmip_commands::ExitStatus;
+use kmip_link_runs::{hold_runs, take_probe};
 use kmip_program::run_words;
 use kmip_transcript::Transcript;
 use std::test::Fail;
@@ -14,15 +15,21 @@ pub(crate) struct Commands;
 
 impl Transcript for Commands {
     fn begins(line: &str) -> bool {
-        line.starts_with("file ") || line.starts_with("< ") || line == "exchanges"
+        line == "exchanges"
+            || line.starts_with("file ")
+            || line.starts_with("< ")
+            || line.starts_with("runs of ")
     }
 
     fn take_line(rt: &HostRuntime, line: &str) -> Result<(), Fail> {
         take_command(rt, line)?;
-        Ok(())
+        take_probe(rt, line)
     }
 
     fn take_block(rt: &HostRuntime, head: &str, lines: &str) -> Result<(), Fail> {
+        if head.starts_with("runs of ") {
+            return hold_runs(rt, head, lines);
+        }
         take_text(rt, head, lines)
     }
 }

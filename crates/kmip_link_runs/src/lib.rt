@@ -1,11 +1,9 @@
-//! Stored runs of the commands `run` and `probe` over links in memory: to a server that loses nothing or
-//! follows a script, to servers that break a rule, and to peers that are none. Standard input has one case
-//! after the other, and what is printed is what came of each.
+//! What the stored runs of `kmipctl_runs` do with the commands `run` and `probe` over links in memory: to a
+//! server that loses nothing or follows a script, to servers that break a rule, and to peers that are none.
+//! What comes of each is printed.
 //!
-//! A line of standard input is one of
+//! A line of a transcript is a remark, which is passed over, or one of
 //!
-//!     # WORDS              a remark
-//!     file NAME            the lines behind it, up to a line `end`, are the file
 //!     probe once SCRIPT    a probe of an empty server, over a link that follows this script, in which `/`
 //!                          stands for a line feed; and how many objects the server has then
 //!     probe twice SCRIPT   the same, of two probes over this link
@@ -49,13 +47,7 @@ mod probing;
 mod repeating_peer;
 mod settings;
 mod shelf;
-mod transcript;
 mod watching;
 
-use crate::transcript::Cases;
-use kmip_transcript::carry_out;
-use std::test::Fail;
-
-fn main(rt: HostRuntime) -> Result<(), Fail> {
-    carry_out::<Cases>(&rt)
-}
+pub use keeping::hold_runs;
+pub use probing::take_probe;
