@@ -1,38 +1,25 @@
-//! The words of `run`, `probe` and `serve`.
+//! What the words of `run`, `probe` and `serve` ask for.
 
-use crate::help::{
-    BATCH, CONNECT, CONNECTIONS, LIMIT, LOOPBACK, NAME_PREFIX, NOW, PLAN, PORT, PROBE, PROBE_LONG,
-    PROGRESS, RUN, RUN_LONG, SERVE, SERVE_LONG, SERVE_TIMEOUT, SOCKET, TIMEOUT, VERBOSE, WAIT,
-    WRONG_ADDRESS, WRONG_PREFIX,
-};
-use crate::path;
-use clap::builder::ValueParser;
-use clap::{Arg, ArgAction, ArgGroup, ArgMatches, Command};
-use kmip_choices::{Peer, ProbeOptions, RunOptions, ServeOptions};
-use kmip_messages::standard::MOST_QUESTIONS;
+use crate::command::{PROBE_COMMAND, RUN_COMMAND, Subcommand, command_of};
+use crate::help::{WRONG_ADDRESS, WRONG_PREFIX};
+use crate::option::{MOST_COUNT, MOST_SECONDS};
+use clap::error::ErrorKind;
+use clap::{ArgMatches, Error};
+use kmip_choices::{Choice, Peer, ProbeOptions, RunOptions, ServeOptions};
 use kmip_premises::is_prefix;
 use std::alloc::{AllocError, Global};
 use std::net::SocketAddrV4;
 
-/// The largest number of exchanges and of connections.
-const MOST_COUNT: u64 = 4_294_967_295;
-
-/// The longest time that an exchange may be given, in seconds.
-const MOST_SECONDS: u64 = 3_600;
-
-/// The longest first wait, in milliseconds.
-const MOST_WAIT: u64 = 60_000;
-
 /// A value of an option that is none.
 #[derive(Clone, Copy)]
-pub(crate) enum WrongValue {
+enum WrongValue {
     Address,
     Prefix,
 }
 
 impl WrongValue {
     /// What is wrong with it.
-    pub(crate) fn text(self) -> &'static str {
+    fn text(self) -> &'static str {
         match self {
             WrongValue::Address => WRONG_ADDRESS,
             WrongValue::Prefix => WRONG_PREFIX,
@@ -40,8 +27,35 @@ impl WrongValue {
     }
 }
 
-/// What `run` is to do, by its words, or which of them is wrong.
-pub(crate) fn run_options(
+/// What `run` is to do, by its words.
+pub(crate) fn run_choice(alloc: Global, options: &ArgMatches<'_>) -> Result<Choice, Error> {
+    match run_options(alloc, options)? {
+        Ok(options) => Ok(Choice::Run(options)),
+        Err(fault) => Err(wrong_value(alloc, &RUN_COMMAND, "kmipctl run", fault)?),
+    }
+}
+
+/// What `probe` is to do, by its words.
+pub(crate) fn probe_choice(alloc: Global, options: &ArgMatches<'_>) -> Result<Choice, Error> {
+    match probe_options(alloc, options)? {
+        Ok(options) => Ok(Choice::Probe(options)),
+        Err(fault) => Err(wrong_value(alloc, &PROBE_COMMAND, "kmipctl probe", fault)?),
+    }
+}
+
+/// The usage fault of a command of which a value is wrong, under the words that the command is called by.
+fn wrong_value(
+    alloc: Global,
+    command: &Subcommand,
+    called: &str,
+    fault: WrongValue,
+) -> Result<Error, AllocError> {
+    let mut command = command_of(alloc, command)?.bin_name(called)?;
+    command.error(ErrorKind::ValueValidation, fault.text())
+}
+
+/// What `run` is to do, or which of its words is wrong.
+fn run_options(
     alloc: Global,
     options: &ArgMatches<'_>,
 ) -> Result<Result<RunOptions, WrongValue>, AllocError> {
@@ -76,8 +90,8 @@ fn peer_of(alloc: Global, options: &ArgMatches<'_>) -> Result<Option<Peer>, Allo
     Ok(address.ok().map(Peer::Tcp))
 }
 
-/// What `probe` is to do, by its words, or which of them is wrong.
-pub(crate) fn probe_options(
+/// What `probe` is to do, or which of its words is wrong.
+fn probe_options(
     alloc: Global,
     options: &ArgMatches<'_>,
 ) -> Result<Result<ProbeOptions, WrongValue>, AllocError> {
@@ -103,102 +117,4 @@ pub(crate) fn serve_options(options: &ArgMatches<'_>) -> ServeOptions {
         now: options.get_one::<i64>("now").unwrap_or(0),
         timeout: options.get_one::<u64>("timeout").unwrap_or(MOST_SECONDS),
     }
-}
-
-/// The command `run`.
-pub(crate) fn run_command<'a>(alloc: Global) -> Result<Command<'a>, AllocError> {
-    let command = Command::new(alloc, "run")
-        .about(RUN)
-        .long_about(RUN_LONG)
-        .arg(path(alloc, "plan", PLAN))?
-        .arg(path(alloc, "progress", PROGRESS))?;
-    with_server(alloc, command)?
-        .arg(number(alloc, "limit", "N", LIMIT, 0, MOST_COUNT).default_value("10000"))?
-        .arg(batch(alloc))?
-        .arg(timeout(alloc))?
-        .arg(number(alloc, "wait", "MILLISECONDS", WAIT, 0, MOST_WAIT).default_value("100"))?
-        .arg(flag(alloc, "verbose", VERBOSE))
-}
-
-/// The command `probe`.
-pub(crate) fn probe_command<'a>(alloc: Global) -> Result<Command<'a>, AllocError> {
-    let prefix = Arg::new(alloc, "name-prefix")
-        .long("name-prefix")
-        .value_name("PREFIX")
-        .help(NAME_PREFIX)
-        .required(true);
-    let command = Command::new(alloc, "probe")
-        .about(PROBE)
-        .long_about(PROBE_LONG)
-        .arg(prefix)?;
-    with_server(alloc, command)?.arg(timeout(alloc))
-}
-
-/// The command with the options of which one says where the server is.
-fn with_server<'a>(alloc: Global, command: Command<'a>) -> Result<Command<'a>, AllocError> {
-    let peers = ArgGroup::new(alloc, "server")
-        .arg("connect")?
-        .arg("socket")?
-        .arg("loopback")?
-        .required(true);
-    let connect = Arg::new(alloc, "connect")
-        .long("connect")
-        .value_name("ADDRESS")
-        .help(CONNECT);
-    let socket = Arg::new(alloc, "socket")
-        .long("socket")
-        .value_name("PATH")
-        .help(SOCKET);
-    command
-        .arg(connect)?
-        .arg(socket)?
-        .arg(flag(alloc, "loopback", LOOPBACK))?
-        .group(peers)
-}
-
-/// The option for how many keys a message may ask about.
-pub(crate) fn batch<'a>(alloc: Global) -> Arg<'a> {
-    number(alloc, "batch", "B", BATCH, 1, MOST_QUESTIONS as u64).default_value("1")
-}
-
-/// The option for how long an exchange may take.
-fn timeout<'a>(alloc: Global) -> Arg<'a> {
-    number(alloc, "timeout", "SECONDS", TIMEOUT, 1, MOST_SECONDS).default_value("30")
-}
-
-/// The command `serve`.
-pub(crate) fn serve_command<'a>(alloc: Global) -> Result<Command<'a>, AllocError> {
-    Command::new(alloc, "serve")
-        .about(SERVE)
-        .long_about(SERVE_LONG)
-        .arg(number(alloc, "port", "PORT", PORT, 0, 65_535).required(true))?
-        .arg(number(alloc, "connections", "N", CONNECTIONS, 0, MOST_COUNT).required(true))?
-        .arg(number(alloc, "now", "SECONDS", NOW, 0, 9_223_372_036_854_775_807).default_value("0"))?
-        .arg(number(alloc, "timeout", "SECONDS", SERVE_TIMEOUT, 1, MOST_SECONDS).default_value(
-            "60",
-        ))
-}
-
-/// An option for a number in this range.
-fn number<'a>(
-    alloc: Global,
-    name: &'static str,
-    value_name: &'static str,
-    help: &'static str,
-    least: u64,
-    most: u64,
-) -> Arg<'a> {
-    Arg::new(alloc, name)
-        .long(name)
-        .value_name(value_name)
-        .help(help)
-        .value_parser(ValueParser::unsigned(least, most))
-}
-
-/// An option that is there or not.
-pub(crate) fn flag<'a>(alloc: Global, name: &'static str, help: &'static str) -> Arg<'a> {
-    Arg::new(alloc, name)
-        .long(name)
-        .help(help)
-        .action(ArgAction::SetTrue)
 }
