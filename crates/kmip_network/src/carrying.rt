@@ -74,11 +74,11 @@ pub fn run_plan(rt: &HostRuntime, options: &RunOptions) -> io::Result<ExitStatus
         None => None,
     };
     let standing = Standing::new(rt, plan.as_str(), options.is_verbose);
-    let keeper = FileKeeper {
+    let mut keeper = FileKeeper {
         file,
         standing: &standing,
     };
-    let status = run_with(rt, options, &input, saved, keeper);
+    let status = run_with(rt, options, &input, saved, &mut keeper);
     drop(lock);
     status
 }
@@ -115,7 +115,7 @@ fn run_with(
     options: &RunOptions,
     input: &RunInput<'_>,
     saved: Option<&str>,
-    keeper: FileKeeper<'_>,
+    keeper: &mut FileKeeper<'_>,
 ) -> io::Result<ExitStatus>
     requires { IsTrue (may_have input.now.batch) }
 {
@@ -142,21 +142,13 @@ fn run_over<L: Link + Drop>(
     options: &RunOptions,
     input: &RunInput<'_>,
     saved: Option<&str>,
-    keeper: FileKeeper<'_>,
+    keeper: &mut FileKeeper<'_>,
     link: L,
 ) -> io::Result<ExitStatus>
     requires { IsTrue (may_have input.now.batch) }
 {
     let told = Observed::new(link, Teller::new(rt, keeper.standing, options.is_verbose));
     let mut link = Paced::new(told, rt, options.wait);
-    let mut keeper = keeper;
     let mut writer = BufWriter::new(rt.alloc(), io::writer(rt))?;
-    Ok(run_run(
-        rt.alloc(),
-        input,
-        saved,
-        &mut link,
-        &mut keeper,
-        &mut writer,
-    ))
+    Ok(run_run(rt.alloc(), input, saved, &mut link, keeper, &mut writer))
 }

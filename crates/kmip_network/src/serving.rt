@@ -28,14 +28,21 @@ pub fn serve(rt: &HostRuntime, options: &ServeOptions) -> io::Result<ExitStatus>
         rt.println("cannot listen")?;
         return Ok(ExitStatus::Refused);
     };
+    serve_connections(rt, options, &listener, port)
+}
+
+/// Serves the connections of what listens at this port.
+fn serve_connections(
+    rt: &HostRuntime,
+    options: &ServeOptions,
+    listener: &<HostRuntime as Net>::Listener,
+    port: u16,
+) -> io::Result<ExitStatus> {
     rt.println(format_args!("listening {port}"))?;
     let mut server = new_server(rt);
     for _ in 0..options.connections {
-        let Some(stream) = next_stream(&listener) else {
-            rt.println(format_args!(
-                "cannot accept a connection on port {port}: {MOST_FAILURES} failures in turn"
-            ))?;
-            return Ok(ExitStatus::Refused);
+        let Some(stream) = next_stream(listener) else {
+            return told_failures(rt, port);
         };
         if serve_connection(rt, options, &mut server, stream) == StreamEnd::NoMemory {
             rt.println(CommandFault::NoMemory.text())?;
@@ -43,6 +50,14 @@ pub fn serve(rt: &HostRuntime, options: &ServeOptions) -> io::Result<ExitStatus>
         }
     }
     Ok(ExitStatus::Done)
+}
+
+/// Tells that no connection could be accepted.
+fn told_failures(rt: &HostRuntime, port: u16) -> io::Result<ExitStatus> {
+    rt.println(format_args!(
+        "cannot accept a connection on port {port}: {MOST_FAILURES} failures in turn"
+    ))?;
+    Ok(ExitStatus::Refused)
 }
 
 /// What listens at this address, and the port that it has; none where the system gives none.
