@@ -81,13 +81,18 @@ impl Breaking {
 
     /// Its reply to a request; none where it can't be served.
     pub(crate) fn answer(&mut self, alloc: Global, request: &mut Request) -> Option<Reply> {
-        let mut reply = self.served(alloc, request)?;
-        if is_refusal(&reply) && self.gets_round(alloc, request)? {
-            reply = self.served(alloc, request)?;
-        }
+        let mut reply = self.reply_to(alloc, request)?;
         self.falsify(alloc, &request.ask, &mut reply).ok()?;
-        if matches!(reply.outcome, Outcome::Destroyed(_)) {
-            self.has_destroyed = true;
+        self.has_destroyed = self.has_destroyed || matches!(reply.outcome, Outcome::Destroyed(_));
+        Some(reply)
+    }
+
+    /// The reply of the server that keeps all rules, once what it refuses and this one does not was got
+    /// round.
+    fn reply_to(&mut self, alloc: Global, request: &mut Request) -> Option<Reply> {
+        let reply = self.served(alloc, request)?;
+        if is_refusal(&reply) && self.gets_round(alloc, request)? {
+            return self.served(alloc, request);
         }
         Some(reply)
     }
@@ -101,23 +106,34 @@ impl Breaking {
 
     /// Whether a request that was refused succeeds here: what is in its way is changed then.
     fn gets_round(&mut self, alloc: Global, request: &mut Request) -> Option<bool> {
-        match (self.breach, &mut request.ask) {
-            (Breach::SecondObject, Ask::Create(attrs)) if !self.has_destroyed => {
+        match &mut request.ask {
+            Ask::Create(attrs) if self.makes_another() => {
                 rename(alloc, attrs).ok()?;
                 Some(true)
             }
-            (Breach::FreedName, Ask::Create(attrs)) if self.has_destroyed => {
-                rename(alloc, attrs).ok()?;
-                Some(true)
-            }
-            (Breach::ActiveDestroyed, Ask::Destroy(uid)) => {
-                let uid = Text::copied(alloc, uid.as_str()).ok()?;
-                let ask = Ask::Revoke(uid, REVOCATION_UNSPECIFIED);
-                let _revoked = self.served(alloc, &Request { id: None, ask })?;
+            Ask::Destroy(uid) if matches!(self.breach, Breach::ActiveDestroyed) => {
+                self.revoke(alloc, uid.as_str())?;
                 Some(true)
             }
             _ => Some(false),
         }
+    }
+
+    /// Whether a Create of a name that is used makes another object now.
+    fn makes_another(&self) -> bool {
+        match self.breach {
+            Breach::SecondObject => !self.has_destroyed,
+            Breach::FreedName => self.has_destroyed,
+            _ => false,
+        }
+    }
+
+    /// Revokes an object; none where that can't be served.
+    fn revoke(&mut self, alloc: Global, uid: &str) -> Option<()> {
+        let uid = Text::copied(alloc, uid).ok()?;
+        let ask = Ask::Revoke(uid, REVOCATION_UNSPECIFIED);
+        let _revoked = self.served(alloc, &Request { id: None, ask })?;
+        Some(())
     }
 
     /// Changes the reply to what this server tells.

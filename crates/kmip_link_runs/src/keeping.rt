@@ -1,4 +1,6 @@
 //! Runs of a plan over a link in memory, line by line, and the texts that they keep.
+ghost use Rattle.std.specs.Prelude.{IsTrue};
+ghost use Rattle.kmip_batches.specs.Members.{may_have};
 
 use crate::settings::Settings;
 use crate::shelf::Shelf;
@@ -49,11 +51,16 @@ struct Case<'c> {
 pub fn hold_runs(rt: &HostRuntime, head: &str, lines: &str) -> Result<(), Fail> {
     rt.println(head)?;
     let heading = heading_of(head)?;
-    let text = fs::read_to_string(rt, heading.plan)?;
-    let plan = read_plan(rt.alloc(), text.as_str())?;
+    let plan = plan_in(rt, heading.plan)?;
     take_lines(rt, &heading, &plan, lines)?;
     rt.println("end")?;
     Ok(())
+}
+
+/// The plan in a file.
+fn plan_in(rt: &HostRuntime, path: &str) -> Result<Plan, Fail> {
+    let text = fs::read_to_string(rt, path)?;
+    Ok(read_plan(rt.alloc(), text.as_str())?)
 }
 
 fn heading_of(head: &str) -> Result<Heading<'_>, Fail> {
@@ -74,16 +81,21 @@ fn take_lines(
     let clock = Stopped {
         slept: Cell::new(0),
     };
-    let client = Client::fresh(rt.alloc(), plan)?;
     let link = link_of(rt.alloc(), heading, &clock)?;
+    let client = Client::fresh(rt.alloc(), plan)?;
     let mut case = Case {
         file: heading.plan,
         client,
         clock: &clock,
         link,
     };
+    take_turns(rt, &mut case, lines)
+}
+
+/// Does what each of the lines says.
+fn take_turns(rt: &HostRuntime, case: &mut Case<'_>, lines: &str) -> Result<(), Fail> {
     for line in lines.lines() {
-        take_turn(rt, &mut case, line)?;
+        take_turn(rt, case, line)?;
     }
     Ok(())
 }
@@ -177,13 +189,26 @@ fn run_over(
     if !(1..=8).contains(&input.batch) {
         return Err(Fail::new("a message asks about one to eight keys"));
     }
-    let alloc = rt.alloc();
     if let Some(size) = writer {
-        let mut room = vec![in alloc; 0u8; size]?;
-        let mut writer = room.as_mut_slice();
-        return Ok(run_run(alloc, input, saved, link, shelf, &mut writer));
+        return run_in_room(rt.alloc(), input, saved, link, shelf, size);
     }
-    let mut writer = BufWriter::new(alloc, io::writer(rt))?;
+    let mut writer = BufWriter::new(rt.alloc(), io::writer(rt))?;
+    Ok(run_run(rt.alloc(), input, saved, link, shelf, &mut writer))
+}
+
+/// Runs `run` with a writer that has room for so many bytes.
+fn run_in_room(
+    alloc: Global,
+    input: &RunInput<'_>,
+    saved: Option<&str>,
+    link: &mut Watched<'_>,
+    shelf: &mut Shelf,
+    size: usize,
+) -> Result<ExitStatus, Fail>
+    requires { IsTrue (may_have input.now.batch) }
+{
+    let mut room = vec![in alloc; 0u8; size]?;
+    let mut writer = room.as_mut_slice();
     Ok(run_run(alloc, input, saved, link, shelf, &mut writer))
 }
 
@@ -220,14 +245,20 @@ fn standing(
     words: &str,
     saved: Option<&str>,
 ) -> Result<(), Fail> {
-    let (made, silent) = words.split_once(' ').ok_or("two numbers")?;
+    let (made, silent) = numbers_of(words)?;
     let saved = saved.ok_or("a text")?;
     let plan = case.client.plan();
-    match standing_line(rt.alloc(), plan, saved, made.parse()?, silent.parse()?) {
+    match standing_line(rt.alloc(), plan, saved, made, silent) {
         Ok(line) => rt.println(&line)?,
         Err(fault) => rt.println(format_args!("refused {} {}", fault.number(), fault.name()))?,
     }
     Ok(())
+}
+
+/// The two numbers that these words are.
+fn numbers_of(words: &str) -> Result<(usize, usize), Fail> {
+    let (first, second) = words.split_once(' ').ok_or("two numbers")?;
+    Ok((first.parse()?, second.parse()?))
 }
 
 /// The waits behind nine exchanges without a reply, and the one behind a reply, from this first wait.
@@ -245,18 +276,27 @@ fn print_waits(rt: &HostRuntime, first: u64) -> Result<(), Fail> {
 /// How many messages were sent, what was told of them, and for how long the link slept.
 fn print_told(rt: &HostRuntime, case: &Case<'_>) -> Result<(), Fail> {
     let paced = case.link.link();
-    let sent = (1..usize::MAX)
-        .take_while(|number| paced.link().request(*number).is_some())
-        .count();
-    let count = case.link.observer();
+    print_count(rt, sent_over(paced.link()), case.link.observer())?;
     rt.println(format_args!(
-        "messages {sent}, replies {}, losses {}, faults {}, ends {}; slept {} ms, to wait {} ms",
-        count.replies,
-        count.losses,
-        count.faults,
-        count.ends,
+        "slept {} ms, to wait {} ms",
         case.clock.slept.get(),
         paced.wait()
     ))?;
     Ok(())
+}
+
+/// How many messages were sent.
+fn sent_over(link: &Scripted<ListStore>) -> usize {
+    (1..usize::MAX)
+        .take_while(|number| link.request(*number).is_some())
+        .count()
+}
+
+/// Prints how many messages were sent, and what was told of them.
+fn print_count(rt: &HostRuntime, sent: usize, count: &Count) -> io::Result<()> {
+    rt.print(format_args!("messages {sent}, replies {}, ", count.replies))?;
+    rt.print(format_args!(
+        "losses {}, faults {}, ends {}; ",
+        count.losses, count.faults, count.ends
+    ))
 }

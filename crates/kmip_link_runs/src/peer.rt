@@ -3,6 +3,7 @@
 use crate::alone::{reply_bytes, request_in};
 use crate::breaking::Breaking;
 use crate::repeating_peer::Repeating;
+use kmip_messages::{Reply, Request};
 use kmip_schedule::{Link, LinkFault};
 use std::alloc::Global;
 
@@ -17,11 +18,16 @@ impl Peer {
     /// The message of the reply to that of a request; none where it can't be answered.
     fn reply_to(&mut self, alloc: Global, message: &[u8]) -> Option<Vec<u8>> {
         let mut request = request_in(alloc, message)?;
-        let reply = match self {
-            Peer::Breaking(server) => server.answer(alloc, &mut request)?,
-            Peer::Repeating(peer) => peer.answer(alloc, request.id).ok()?,
-        };
+        let reply = self.answer(alloc, &mut request)?;
         reply_bytes(alloc, &reply)
+    }
+
+    /// The reply to a request, which may be changed for it; none where it can't be answered.
+    fn answer(&mut self, alloc: Global, request: &mut Request) -> Option<Reply> {
+        match self {
+            Peer::Breaking(server) => server.answer(alloc, request),
+            Peer::Repeating(peer) => peer.answer(alloc, request.id.take()).ok(),
+        }
     }
 }
 

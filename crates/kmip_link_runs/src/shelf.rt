@@ -26,11 +26,16 @@ impl Shelf {
     /// Prints each text that was kept, with `/` in the place of a line feed.
     pub(crate) fn print(&self, rt: &HostRuntime) -> Result<(), Fail> {
         for text in &self.texts {
-            let text = from_utf8(text.as_slice())?.replace(rt.alloc(), "\n", "/")?;
-            rt.println(format_args!("kept {text}"))?;
+            let line = line_of(rt.alloc(), text)?;
+            rt.println(format_args!("kept {line}"))?;
         }
         Ok(())
     }
+}
+
+/// The text, with `/` in the place of a line feed.
+fn line_of(alloc: Global, text: &Bytes) -> Result<String, Fail> {
+    Ok(from_utf8(text.as_slice())?.replace(alloc, "\n", "/")?)
 }
 
 impl Keeper for Shelf {
