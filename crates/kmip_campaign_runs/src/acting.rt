@@ -5,12 +5,12 @@ ghost use Rattle.kmip_batches.specs.Members.{may_have};
 ghost use Rattle.kmip_scripted.specs.Words.{prolongings};
 ghost use Rattle.kmip_session.specs.Campaign.{MayBatch};
 
-use crate::cases::{Case, are_prolonged, plan_of};
+use crate::cases::{Case, are_prolonged, both_halves, halves, plan_of};
 use crate::faulty::{Failure, Fault, Faulty};
 use crate::scripts::{link_of, script_of};
 use crate::telling::{
-    again_told, are_at_targets, asked_told, ends_told, push_disturbed, ranges_told, records_told,
-    runs_told,
+    are_at_targets, push_again, push_asked, push_disturbed, push_ends, push_objects, push_ranges,
+    push_reports,
 };
 use kmip_client::Client;
 use kmip_plan::Plan;
@@ -18,30 +18,24 @@ use kmip_scripted::{Script, Scripted};
 use kmip_server::ListStore;
 use kmip_session::{CampaignEnd, Run, Start, campaign, campaigns, drive};
 use kmip_simulation::{Simulation, simulate, simulate_again};
-use std::alloc::Global;
+use std::alloc::{AllocError, Global};
 use std::test::Fail;
 
 const TOO_MANY: &str = "a message asks about one to eight keys";
 
-/// An exchange of the link is to fail: its number, and ` delivered` where its request is delivered first.
-pub fn fail(
-    alloc: Global,
-    link: &mut Faulty<ListStore>,
-    words: &str,
-    fault: &str,
-) -> Result<String, Fail> {
-    let (at, delivered) = words.split_once(' ').unwrap_or((words, ""));
-    link.fail(Failure {
+/// The failure of an exchange: its number, and ` delivered` where its request is delivered first.
+pub fn failure_of(words: &str, fault: &str) -> Result<Failure, Fail> {
+    let (at, delivered) = halves(words, " ");
+    Ok(Failure {
         at: at.parse()?,
         fault: fault_of(fault)?,
         is_delivered: delivered == "delivered",
-    });
-    Ok(String::new(alloc))
+    })
 }
 
 /// The fault of these words, which may end in a number.
 fn fault_of(words: &str) -> Result<Fault, Fail> {
-    let (word, number) = words.split_once(' ').unwrap_or((words, ""));
+    let (word, number) = halves(words, " ");
     match word {
         "the" if number == "network fails" => Ok(Fault::Io),
         "no" if number == "message" => Ok(Fault::Frame),
@@ -49,35 +43,58 @@ fn fault_of(words: &str) -> Result<Fault, Fail> {
         "nothing" => Ok(Fault::Lost),
         "rubbish" => Ok(Fault::Rubbish),
         "swapped" => Ok(Fault::Swapped),
-        "reply" => Ok(Fault::Reply(number.parse()?)),
-        "alone" => Ok(Fault::Alone(number.parse()?)),
-        "twice" => Ok(Fault::Twice(number.parse()?)),
-        "repeated" => Ok(Fault::Repeated(number.parse()?)),
+        "reply" | "alone" | "twice" | "repeated" => Ok(numbered_fault(word, number.parse()?)),
         _ => Err(Fail::new("no fault")),
+    }
+}
+
+fn numbered_fault(word: &str, number: usize) -> Fault {
+    match word {
+        "reply" => Fault::Reply(number),
+        "alone" => Fault::Alone(number),
+        "twice" => Fault::Twice(number),
+        _ => Fault::Repeated(number),
     }
 }
 
 /// A run of another client, which knows nothing, about other keys.
 pub fn earlier(
     alloc: Global,
+    text: &mut String,
     link: &mut Faulty<ListStore>,
     limit: &str,
     keys: &str,
-) -> Result<String, Fail> {
+) -> Result<(), Fail> {
     let plan = plan_of(alloc, keys)?;
     let mut client = Client::fresh(alloc, &plan)?;
-    let (stop, made) = drive(alloc, &mut client, link, limit.parse()?);
-    Ok(format!(in alloc; "{} {made}", stop.name())?)
+    push_drive(alloc, text, &mut client, link, limit)
 }
 
 /// A run of the client.
-pub fn drive_on(alloc: Global, case: &mut Case<'_>, words: &str) -> Result<String, Fail> {
-    let (limit, most) = words.split_once(" by ").unwrap_or((words, ""));
+pub fn drive_on(
+    alloc: Global,
+    text: &mut String,
+    case: &mut Case<'_>,
+    words: &str,
+) -> Result<(), Fail> {
+    let (limit, most) = halves(words, " by ");
     if !most.is_empty() {
         case.client.set_batch(batch_of(most.parse()?)?);
     }
-    let (stop, made) = drive(alloc, &mut case.client, &mut case.link, limit.parse()?);
-    Ok(format!(in alloc; "{} {made}", stop.name())?)
+    push_drive(alloc, text, &mut case.client, &mut case.link, limit)
+}
+
+/// Writes how a run of a client ended, and its exchanges.
+fn push_drive(
+    alloc: Global,
+    text: &mut String,
+    client: &mut Client<'_>,
+    link: &mut Faulty<ListStore>,
+    limit: &str,
+) -> Result<(), Fail> {
+    let (stop, made) = drive(alloc, client, link, limit.parse()?);
+    write!(text, "{} {made}", stop.name())?;
+    Ok(())
 }
 
 /// About how many keys a message asks at most, where it may ask about so many.
@@ -91,24 +108,35 @@ pub fn batch_of(most: usize) -> Result<usize, Fail>
 }
 
 /// A campaign of the runs of these words.
-pub fn go_through(alloc: Global, case: &mut Case<'_>, words: &str) -> Result<String, Fail> {
+pub fn go_through(
+    alloc: Global,
+    text: &mut String,
+    case: &mut Case<'_>,
+    words: &str,
+) -> Result<(), Fail> {
     let runs = runs_of(alloc, words)?;
     if !may_batch(runs.as_slice()) {
         return Err(Fail::new(TOO_MANY));
     }
     let end = campaign(alloc, case.plan, &mut case.link, runs.as_slice());
-    ends_told(alloc, &end)
+    push_ends(text, &end)?;
+    Ok(())
 }
 
 /// A campaign on the plans of the case, of the runs of these words.
-pub fn go_through_plans(alloc: Global, case: &mut Case<'_>, words: &str) -> Result<String, Fail> {
+pub fn go_through_plans(
+    alloc: Global,
+    text: &mut String,
+    case: &mut Case<'_>,
+    words: &str,
+) -> Result<(), Fail> {
     let lists = lists_of(alloc, words)?;
     let (plans, runs) = (case.plans, lists.as_slice());
     if runs.len() != plans.len() || !may_all_batch(runs) || !are_prolonged(plans) {
         return Err(Fail::new("each plan has runs, and prolongs the one before it"));
     }
     let end = campaigns(alloc, plans, &mut case.link, runs);
-    runs_told(alloc, &end)
+    push_reports(alloc, text, &end)
 }
 
 /// Whether each of the runs asks about one to eight keys in a message, as a campaign may.
@@ -144,9 +172,9 @@ fn runs_of(alloc: Global, words: &str) -> Result<Vec<Run>, Fail> {
 
 /// The run of these words, as `saved-1 2 by 3 saved`.
 fn run_of(words: &str) -> Result<Run, Fail> {
-    let (start, words) = words.split_once(' ').ok_or("a start")?;
-    let (limit, words) = words.split_once(" by ").ok_or("a limit")?;
-    let (batch, save) = words.split_once(' ').unwrap_or((words, ""));
+    let (start, words) = both_halves(words, " ", "a start")?;
+    let (limit, words) = both_halves(words, " by ", "a limit")?;
+    let (batch, save) = halves(words, " ");
     Ok(Run {
         start: start_of(start)?,
         limit: limit.parse()?,
@@ -163,15 +191,16 @@ fn start_of(word: &str) -> Result<Start, Fail> {
     }
 }
 
-/// What campaigns of one run tell, which asks about eight keys in a message, where so many bytes of their
-/// second message arrive: from none to the number of these words, in ranges.
-pub fn cuts(alloc: Global, plan: &Plan, last: &str) -> Result<String, Fail> {
+/// Writes what campaigns of one run tell, which asks about eight keys in a message, where so many bytes of
+/// their second message arrive: from none to the number of these words, in ranges.
+pub fn push_cuts(alloc: Global, text: &mut String, plan: &Plan, last: &str) -> Result<(), Fail> {
     let last: usize = last.parse()?;
     let mut tolds = Vec::new(alloc);
     for arriving in 0..=last {
         tolds.push(cut_told(alloc, plan, arriving)?)?;
     }
-    ranges_told(alloc, tolds.as_slice())
+    push_ranges(text, tolds.as_slice())?;
+    Ok(())
 }
 
 /// What such a campaign tells.
@@ -184,61 +213,88 @@ fn cut_told(alloc: Global, plan: &Plan, arriving: usize) -> Result<String, Fail>
         save: false,
     };
     let end = campaign(alloc, plan, &mut link, &[run]);
-    course_told(alloc, &end, link.link())
-}
-
-/// How the runs of a campaign ended, what was asked, and the objects.
-fn course_told(
-    alloc: Global,
-    end: &CampaignEnd,
-    link: &Scripted<ListStore>,
-) -> Result<String, Fail> {
-    let mut text = ends_told(alloc, end)?;
-    text.push_str("; ")?;
-    text.push_str(asked_told(alloc, link)?.as_str())?;
-    text.push_str("; ")?;
-    text.push_str(records_told(alloc, link)?.as_str())?;
+    let mut text = String::new(alloc);
+    push_course(alloc, &mut text, &end, &link.link)?;
     Ok(text)
 }
 
-/// The simulation of a script, with at most so many keys in a message.
-pub fn simulated(alloc: Global, plan: &Plan, most: &str, text: &str) -> Result<String, Fail> {
-    let most = batch_of(most.parse()?)?;
-    let script = single_script(alloc, text)?;
-    let simulation = simulate(alloc, plan, script, most)?;
-    simulation_told(alloc, plan, &simulation)
+/// Writes how the runs of a campaign ended, what was asked, and the objects.
+fn push_course(
+    alloc: Global,
+    text: &mut String,
+    end: &CampaignEnd,
+    link: &Scripted<ListStore>,
+) -> Result<(), Fail> {
+    push_ends(text, end)?;
+    text.push_str("; ")?;
+    push_asked(alloc, text, link)?;
+    text.push_str("; ")?;
+    push_objects(text, link)
 }
 
-/// How the runs of a simulation ended, what its link disturbed, and whether all is at its target.
-fn simulation_told(alloc: Global, plan: &Plan, simulation: &Simulation) -> Result<String, Fail> {
-    let mut text = ends_told(alloc, &simulation.end)?;
+/// Writes what comes of the simulation of a script, with at most so many keys in a message.
+pub fn push_simulated(
+    alloc: Global,
+    text: &mut String,
+    plan: &Plan,
+    most: &str,
+    words: &str,
+) -> Result<(), Fail> {
+    let most = batch_of(most.parse()?)?;
+    let simulation = simulate(alloc, plan, single_script(alloc, words)?, most)?;
+    push_simulation(text, plan, &simulation)?;
+    Ok(())
+}
+
+/// Writes how the runs of a simulation ended, what its link disturbed, and whether all is at its target.
+fn push_simulation(
+    text: &mut String,
+    plan: &Plan,
+    simulation: &Simulation,
+) -> Result<(), AllocError> {
+    push_ends(text, &simulation.end)?;
     text.push_str("; ")?;
-    push_disturbed(&mut text, &simulation.link)?;
+    push_disturbed(text, &simulation.link)?;
     let is_there = are_at_targets(plan, simulation.link.server().records());
     text.push_str(if is_there {
         ", at their targets"
     } else {
         ", elsewhere"
-    })?;
-    Ok(text)
+    })
 }
 
 /// The same, and then a further campaign of the runs of these words over its link.
-pub fn simulated_again(
+pub fn push_simulated_again(
     alloc: Global,
+    text: &mut String,
     plan: &Plan,
+    further: &str,
     words: &str,
-    text: &str,
-) -> Result<String, Fail> {
-    let (most, words) = words.split_once(" then ").ok_or("further runs")?;
+) -> Result<(), Fail> {
+    let (most, further) = both_halves(further, " then ", "further runs")?;
     let most = batch_of(most.parse()?)?;
-    let runs = runs_of(alloc, words)?;
+    let runs = runs_of(alloc, further)?;
     if !may_batch(runs.as_slice()) {
         return Err(Fail::new(TOO_MANY));
     }
-    let script = single_script(alloc, text)?;
-    let (simulation, end) = simulate_again(alloc, plan, script, most, runs.as_slice())?;
-    again_told(alloc, &simulation, &end)
+    push_further(alloc, text, plan, most, runs.as_slice(), words)
+}
+
+/// The same of these runs.
+fn push_further(
+    alloc: Global,
+    text: &mut String,
+    plan: &Plan,
+    most: usize,
+    runs: &[Run],
+    words: &str,
+) -> Result<(), Fail>
+    requires batch { IsTrue (may_have most) }
+    requires batches { MayBatch runs.now }
+{
+    let script = single_script(alloc, words)?;
+    let (simulation, end) = simulate_again(alloc, plan, script, most, runs)?;
+    push_again(alloc, text, &simulation, &end)
 }
 
 /// A script of one plan.

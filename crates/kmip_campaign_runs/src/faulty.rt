@@ -47,12 +47,13 @@ pub struct Failure {
 /// A link that fails at one exchange, and hands on all others.
 #[derive(Drop)]
 pub struct Faulty<S: Records> {
-    link: Scripted<S>,
+    /// The link that is handed on to.
+    pub link: Scripted<S>,
     failure: Option<Failure>,
     /// How many exchanges were made since the failure was set.
     made: usize,
     /// How often the network failed.
-    failures: u64,
+    pub failures: u64,
 }
 
 impl<S: Records> Faulty<S> {
@@ -70,16 +71,6 @@ impl<S: Records> Faulty<S> {
     pub fn fail(&mut self, failure: Failure) {
         self.failure = Some(failure);
         self.made = 0;
-    }
-
-    /// The link that is handed on to.
-    pub fn link(&self) -> &Scripted<S> {
-        &self.link
-    }
-
-    /// How often its network failed.
-    pub fn failures(&self) -> u64 {
-        self.failures
     }
 }
 
@@ -121,7 +112,22 @@ impl<S: Records> Faulty<S> {
         } else {
             None
         };
-        match failure.fault {
+        self.answer(alloc, failure.fault, &reply)
+    }
+
+    /// What comes of the exchange in the place of this reply.
+    fn answer(
+        &mut self,
+        alloc: Global,
+        fault: Fault,
+        reply: &Option<Vec<u8>>,
+    ) -> Result<Option<Vec<u8>>, LinkFault>
+        requires { self.old.failures < most_failures }
+        ensures counted { self.old.failures ≤ self.new.failures }
+        ensures io { IfErr result (λ fault. fault ≡ LinkFault.Io
+            → self.old.failures < self.new.failures) }
+    {
+        match fault {
             Fault::Io => {
                 self.failures += 1;
                 Err(LinkFault::Io)
@@ -129,15 +135,12 @@ impl<S: Records> Faulty<S> {
             Fault::Frame => Err(LinkFault::Frame),
             Fault::Lost => Ok(None),
             Fault::NoMemory => Err(LinkFault::NoMemory),
-            Fault::Rubbish => copied(alloc, RUBBISH),
-            Fault::Reply(number) => match self.link.reply(number) {
-                Some(reply) => copied(alloc, reply),
-                None => Ok(None),
-            },
-            Fault::Alone(place) => members_of(alloc, &reply, &[place]),
-            Fault::Twice(place) => members_of(alloc, &reply, &[place, place]),
-            Fault::Repeated(place) => members_of(alloc, &reply, &[0, 1, place]),
-            Fault::Swapped => members_of(alloc, &reply, &[1, 0]),
+            Fault::Rubbish => copied(alloc, Some(RUBBISH)),
+            Fault::Reply(number) => copied(alloc, self.link.reply(number)),
+            Fault::Alone(place) => members_of(alloc, reply, &[place]),
+            Fault::Twice(place) => members_of(alloc, reply, &[place, place]),
+            Fault::Repeated(place) => members_of(alloc, reply, &[0, 1, place]),
+            Fault::Swapped => members_of(alloc, reply, &[1, 0]),
         }
     }
 }
@@ -145,10 +148,13 @@ impl<S: Records> Faulty<S> {
 /// The head of a reply, of which all else is missing.
 const RUBBISH: &[u8] = b"\x42\x00\x7b\x01\x00\x00\x00\x90";
 
-/// A copy of some bytes.
-fn copied(alloc: Global, bytes: &[u8]) -> Result<Option<Vec<u8>>, LinkFault>
+/// A copy of some bytes, if there are any.
+fn copied(alloc: Global, bytes: Option<&[u8]>) -> Result<Option<Vec<u8>>, LinkFault>
     ensures { IfErr result (λ fault. fault ≡ LinkFault.NoMemory) }
 {
+    let Some(bytes) = bytes else {
+        return Ok(None);
+    };
     match Vec::from_slice(alloc, bytes) {
         Ok(copy) => Ok(Some(copy)),
         Err(_) => Err(LinkFault::NoMemory),

@@ -5,7 +5,7 @@ ghost use Rattle.kmip_scripted.specs.Words.{prolongings};
 ghost use Rattle.kmip_session.specs.Campaigns.{AreProlonged};
 
 use crate::acting::batch_of;
-use crate::cases::{are_prolonged, plans_of};
+use crate::cases::{are_prolonged, both_halves, halves, plans_of};
 use crate::scripts::script_of;
 use crate::telling::are_at_targets;
 use kmip_plan::{Plan, bound};
@@ -41,14 +41,20 @@ struct Series<'l> {
     saved: usize,
 }
 
-/// What came of random scripts.
-pub fn random_told(alloc: Global, words: &str) -> Result<String, Fail> {
-    let (head, words) = words.split_once(": ").ok_or("the words of a script")?;
-    let (seed, head) = head.split_once(' ').ok_or("a seed")?;
-    let (times, head) = head.split_once(' ').ok_or("how many plans")?;
-    let (keys, most) = head.split_once(' ').ok_or("how many keys")?;
-    let (most, kind) = most.split_once(' ').unwrap_or((most, ""));
-    let mut series = Series {
+/// Writes what came of random scripts.
+pub fn push_random_told(alloc: Global, text: &mut String, words: &str) -> Result<(), Fail> {
+    let (head, words) = both_halves(words, ": ", "the words of a script")?;
+    let (seed, head) = both_halves(head, " ", "a seed")?;
+    let (times, head) = both_halves(head, " ", "how many plans")?;
+    let mut series = series_of(seed, head, words)?;
+    push_series(alloc, text, &mut series, times.parse()?)
+}
+
+/// The series that begins with this seed, of how many keys and with what else the head says.
+fn series_of<'l>(seed: &str, head: &'l str, words: &'l str) -> Result<Series<'l>, Fail> {
+    let (keys, most) = both_halves(head, " ", "how many keys")?;
+    let (most, kind) = halves(most, " ");
+    Ok(Series {
         keys,
         most,
         is_again: kind == "again",
@@ -57,14 +63,28 @@ pub fn random_told(alloc: Global, words: &str) -> Result<String, Fail> {
         scripts: 0,
         runs: 0,
         saved: 0,
-    };
-    for number in 0..times.parse()? {
-        if !is_number_good(alloc, &mut series, number)? {
-            return Ok(format!(in alloc; "plan {number}: not as it has to be")?);
+    })
+}
+
+/// Carries out a script for each of so many plans, and writes what came of them.
+fn push_series(
+    alloc: Global,
+    text: &mut String,
+    series: &mut Series<'_>,
+    times: usize,
+) -> Result<(), Fail> {
+    for number in 0..times {
+        if !is_number_good(alloc, series, number)? {
+            write!(text, "plan {number}: not as it has to be")?;
+            return Ok(());
         }
     }
     let (scripts, runs, saved) = (series.scripts, series.runs, series.saved);
-    Ok(format!(in alloc; "scripts {scripts}, runs {runs}, saved {saved}, all as it has to be")?)
+    write!(
+        text,
+        "scripts {scripts}, runs {runs}, saved {saved}, all as it has to be"
+    )?;
+    Ok(())
 }
 
 /// Whether all is as it has to be after a random script for the plan of this number, or for both plans
@@ -133,7 +153,7 @@ fn random_script(alloc: Global, rng: &mut ChaCha20Rng, words: &str) -> Result<Sc
 
 /// Writes a word, or the random ones that it stands for.
 fn push_words(text: &mut String, rng: &mut ChaCha20Rng, word: &str) -> Result<(), Fail> {
-    let (count, kind) = word.split_once(' ').unwrap_or((word, ""));
+    let (count, kind) = halves(word, " ");
     let kinds = match kind {
         "calls" => 8,
         "any" => 11,

@@ -1,5 +1,8 @@
 //! Scripts, links that follow them, and the servers behind these.
+ghost use Rattle.std.specs.Prelude.{◌≡◌};
+ghost use Rattle.kmip_scripted.specs.Words.{prolongings};
 
+use crate::cases::both_halves;
 use crate::faulty::Faulty;
 use kmip_batches::{request_fits, write_request};
 use kmip_messages::{Ask, Request};
@@ -30,21 +33,32 @@ fn server_of(alloc: Global) -> Server<ListStore> {
     Server::new(ListStore::new(alloc, [0; 32], 10_000))
 }
 
-/// A server with an object of this name and length, AES to encrypt and decrypt.
-pub fn server_with(alloc: Global, words: &str) -> Result<Server<ListStore>, Fail> {
+/// A link that loses nothing to a server with an object of this name and length, AES to encrypt and decrypt.
+pub fn link_with(alloc: Global, words: &str) -> Result<Faulty<ListStore>, Fail> {
     let message = create_of(alloc, words)?;
     let mut server = server_of(alloc);
     server.handle(alloc, message.as_slice(), 0)?;
-    Ok(server)
+    let script = Script::new(Vec::new(alloc));
+    Ok(Faulty::new(Scripted::new(alloc, server, script)))
 }
 
 /// The message that asks for such an object.
+fn create_of(alloc: Global, words: &str) -> Result<Vec<u8>, Fail> {
+    let request = request_of(alloc, words)?;
+    let requests = from_ref(&request);
+    if !request_fits(requests) {
+        return Err(Fail::new("the object does not fit"));
+    }
+    Ok(write_request(alloc, requests)?)
+}
+
+/// The question of this message.
 ///
 /// Source: KMIP 2.1, Cryptographic Algorithm (AES is 3), Cryptographic Usage Mask (encrypt is 4, decrypt 8).
-fn create_of(alloc: Global, words: &str) -> Result<Vec<u8>, Fail> {
-    let (name, length) = words.split_once(' ').ok_or("a name and a length")?;
+fn request_of(alloc: Global, words: &str) -> Result<Request, Fail> {
+    let (name, length) = both_halves(words, " ", "a name and a length")?;
     let length = length.parse()?;
-    let request = Request {
+    Ok(Request {
         id: None,
         ask: Ask::Create(KeyAttrs {
             name: Text::copied(alloc, name)?,
@@ -52,42 +66,47 @@ fn create_of(alloc: Global, words: &str) -> Result<Vec<u8>, Fail> {
             length,
             usage: 12,
         }),
-    };
-    let requests = from_ref(&request);
-    if !request_fits(requests) {
-        return Err(Fail::new("the object does not fit"));
-    }
-    let message = write_request(alloc, requests)?;
-    Ok(message)
+    })
 }
 
-/// The words of a script, and how often a plan is prolonged in it.
-pub fn words_told(alloc: Global, text: &str) -> Result<String, Fail> {
-    let script = script_of(alloc, text)?;
+/// Writes the words of a script, and how often a plan is prolonged in it.
+pub fn push_words(alloc: Global, text: &mut String, words: &str) -> Result<(), Fail> {
+    let script = script_of(alloc, words)?;
     let prolongings = script.prolongings();
-    Ok(format!(in alloc; "{:?}, {prolongings} prolongings", script.words())?)
+    write!(text, "{:?}, {prolongings} prolongings", script.words())?;
+    Ok(())
 }
 
-/// The runs that a script makes, list by list.
-pub fn lists_told(alloc: Global, plan: &Plan, text: &str) -> Result<String, Fail> {
-    let script = script_of(alloc, text)?;
-    let mut text = String::new(alloc);
+/// Writes the runs that a script makes, list by list.
+pub fn push_lists(alloc: Global, text: &mut String, plan: &Plan, words: &str) -> Result<(), Fail> {
+    let script = script_of(alloc, words)?;
     if script.prolongings() == 0 {
         let runs = script.runs(alloc, plan)?;
-        push_list(&mut text, runs.as_slice())?;
-        return Ok(text);
+        return Ok(push_list(text, runs.as_slice())?);
     }
     if script.prolongings() != 1 {
         return Err(Fail::new("a script of two plans has one `prolong`"));
     }
+    push_both_lists(alloc, text, plan, &script)
+}
+
+/// The same of a script of two plans.
+fn push_both_lists(
+    alloc: Global,
+    text: &mut String,
+    plan: &Plan,
+    script: &Script,
+) -> Result<(), Fail>
+    requires { prolongings script.now ≡ 1 }
+{
     let lists = script.lists(alloc, plan)?;
     let mut between = "";
     for list in lists.as_slice() {
         text.push_str(between)?;
-        push_list(&mut text, list.as_slice())?;
+        push_list(text, list.as_slice())?;
         between = " | ";
     }
-    Ok(text)
+    Ok(())
 }
 
 /// Writes runs: what each begins with, its limit, and whether it is saved.
@@ -107,6 +126,6 @@ fn push_run(text: &mut String, run: &Run) -> Result<(), AllocError> {
         Start::Same => text.push_str("same")?,
         Start::Saved(number) => write!(text, "saved-{number}")?,
     }
-    write!(text, " {}", run.limit)?;
-    text.push_str(if run.save { " saved" } else { "" })
+    let save = if run.save { " saved" } else { "" };
+    write!(text, " {}{save}", run.limit)
 }

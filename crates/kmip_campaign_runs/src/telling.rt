@@ -14,26 +14,27 @@ use std::alloc::{AllocError, Global};
 use std::str::from_utf8;
 use std::test::Fail;
 
-/// How each run of a campaign ended, how many are saved, and whether memory ran out.
-pub fn ends_told(alloc: Global, end: &CampaignEnd) -> Result<String, Fail> {
-    let mut text = String::new(alloc);
+/// Writes how each run of a campaign ended, how many are saved, and whether memory ran out.
+pub fn push_ends(text: &mut String, end: &CampaignEnd) -> Result<(), AllocError> {
+    let mut between = "";
     for run in end.runs.as_slice() {
-        let between = if text.is_empty() { "" } else { ", " };
         write!(text, "{between}{} {}", run.stop.name(), run.exchanges)?;
+        between = ", ";
     }
     let saved = end.saved.len();
     if saved > 0 {
         write!(text, ", {saved} saved")?;
     }
-    if end.fault.is_some() {
-        text.push_str(", no memory")?;
-    }
-    Ok(text)
+    text.push_str(if end.fault.is_some() {
+        ", no memory"
+    } else {
+        ""
+    })
 }
 
-/// How many runs of a campaign are saved, whether memory ran out, and on the lines behind how each run
+/// Writes how many runs of a campaign are saved, whether memory ran out, and on the lines behind how each run
 /// ended, with its report.
-pub fn runs_told(alloc: Global, end: &CampaignEnd) -> Result<String, Fail> {
+pub fn push_reports(alloc: Global, text: &mut String, end: &CampaignEnd) -> Result<(), Fail> {
     let mut runs = Vec::new(alloc);
     push_runs(alloc, end.runs.as_slice(), &mut runs)?;
     let runs = from_utf8(runs.as_slice())?.trim_end();
@@ -43,68 +44,76 @@ pub fn runs_told(alloc: Global, end: &CampaignEnd) -> Result<String, Fail> {
     } else {
         ""
     };
-    Ok(format!(in alloc; "{saved} saved{fault}\n{runs}")?)
+    write!(text, "{saved} saved{fault}\n{runs}")?;
+    Ok(())
 }
 
-/// How the runs of a script ended, and on the lines behind how those of a further campaign over its link
-/// did, all that was asked, and the objects of the server.
-pub fn again_told(
+/// Writes how the runs of a script ended, and on the lines behind how those of a further campaign over its
+/// link did, all that was asked, and the objects of the server.
+pub fn push_again(
     alloc: Global,
+    text: &mut String,
     simulation: &Simulation,
     end: &CampaignEnd,
-) -> Result<String, Fail> {
-    let before = ends_told(alloc, &simulation.end)?;
-    let runs = runs_told(alloc, end)?;
+) -> Result<(), Fail> {
+    push_ends(text, &simulation.end)?;
+    text.push_str("; ")?;
+    push_reports(alloc, text, end)?;
     let mut lines = Vec::new(alloc);
     push_asks(alloc, &simulation.link, &mut lines)?;
     push_records(alloc, &simulation.link, &mut lines)?;
-    let lines = from_utf8(lines.as_slice())?.trim_end();
-    Ok(format!(in alloc; "{before}; {runs}\n{lines}")?)
+    write!(text, "\n{}", from_utf8(lines.as_slice())?.trim_end())?;
+    Ok(())
 }
 
-/// What the client asks next: the key and the operation of each question.
-pub fn next_told(alloc: Global, client: &mut Client<'_>) -> Result<String, Fail> {
-    let mut text = String::new(alloc);
+/// Writes what the client asks next: the key and the operation of each question.
+pub fn push_next(alloc: Global, text: &mut String, client: &mut Client<'_>) -> Result<(), Fail> {
     if let Some(question) = client.ask(alloc)? {
+        let mut between = "";
         for part in question.parts.as_slice() {
-            let between = if text.is_empty() { "" } else { ", " };
             write!(text, "{between}{} {:x}", part.key, part.operation)?;
+            between = ", ";
         }
     }
-    Ok(text)
+    Ok(())
 }
 
-/// The name of each key, and the identifier that a client knows of it.
-pub fn known_told(alloc: Global, client: &Client<'_>) -> Result<String, Fail> {
-    let mut text = String::new(alloc);
+/// Writes the name of each key, and the identifier that a client knows of it.
+pub fn push_known(text: &mut String, client: &Client<'_>) -> Result<(), Fail> {
+    let mut between = "";
     for (place, key) in client.plan().keys().iter().enumerate() {
-        let between = if text.is_empty() { "" } else { ", " };
         let uid = client.identifier(place).ok_or("no identifier")?;
         let name = key.attrs.name.as_str();
         write!(text, "{between}{name} {}", uid.as_str())?;
+        between = ", ";
     }
-    Ok(text)
+    Ok(())
 }
 
-/// The report of a client.
-pub fn report_told(alloc: Global, client: &Client<'_>) -> Result<String, Fail> {
-    let text = report(alloc, client)?;
-    Ok(text.as_str().replace(alloc, "\n", "/")?)
+/// Writes the report of a client.
+pub fn push_report(alloc: Global, text: &mut String, client: &Client<'_>) -> Result<(), Fail> {
+    let lines = report(alloc, client)?;
+    let line = lines.as_str().replace(alloc, "\n", "/")?;
+    text.push_str(line.as_str())?;
+    Ok(())
 }
 
-/// What was asked over a link, message by message.
-pub fn asked_told(alloc: Global, link: &Scripted<ListStore>) -> Result<String, Fail> {
-    let mut text = String::new(alloc);
+/// Writes what was asked over a link, message by message.
+pub fn push_asked(
+    alloc: Global,
+    text: &mut String,
+    link: &Scripted<ListStore>,
+) -> Result<(), Fail> {
+    let mut between = "";
     for number in 1..usize::MAX {
         let Some(bytes) = link.request(number) else {
-            return Ok(text);
+            return Ok(());
         };
-        if !text.is_empty() {
-            text.push_str("; ")?;
-        }
-        push_message(alloc, &mut text, bytes)?;
+        text.push_str(between)?;
+        push_message(alloc, text, bytes)?;
+        between = "; ";
     }
-    Ok(text)
+    Ok(())
 }
 
 /// Writes what each question of a message asks.
@@ -115,24 +124,24 @@ fn push_message(alloc: Global, text: &mut String, bytes: &[u8]) -> Result<(), Fa
     Ok(())
 }
 
-/// The bytes of a message, in hexadecimal.
-pub fn bytes_told(alloc: Global, message: Option<&[u8]>) -> Result<String, Fail> {
+/// Writes the bytes of a message, in hexadecimal.
+pub fn push_bytes(alloc: Global, text: &mut String, message: Option<&[u8]>) -> Result<(), Fail> {
     match message {
-        Some(bytes) => Ok(hex::encode(alloc, bytes)?),
-        None => Ok(String::from_str(alloc, "none")?),
+        Some(bytes) => text.push_str(hex::encode(alloc, bytes)?.as_str())?,
+        None => text.push_str("none")?,
     }
+    Ok(())
 }
 
-/// The name and the state of each object of the server, in the order in which they were made, and whether
-/// all are as the plan says.
-pub fn records_told(alloc: Global, link: &Scripted<ListStore>) -> Result<String, Fail> {
+/// Writes the name and the state of each object of the server, in the order in which they were made, and
+/// whether all are as the plan says.
+pub fn push_objects(text: &mut String, link: &Scripted<ListStore>) -> Result<(), Fail> {
     let records = link.server().records();
-    let mut text = String::new(alloc);
     let mut are_planned = true;
     for place in 0..records.count() {
         if let Some(row) = records.at(place) {
             write!(text, "{} {:?}, ", row.attrs.name.as_str(), row.state)?;
-            are_planned = are_planned && is_as_planned(&row.attrs);
+            are_planned &= is_as_planned(&row.attrs);
         }
     }
     text.push_str(if are_planned {
@@ -140,7 +149,7 @@ pub fn records_told(alloc: Global, link: &Scripted<ListStore>) -> Result<String,
     } else {
         "otherwise"
     })?;
-    Ok(text)
+    Ok(())
 }
 
 /// Whether an object has the attributes of the keys of all plans here.
@@ -150,17 +159,12 @@ fn is_as_planned(attrs: &KeyAttrs) -> bool {
     attrs.algorithm == 3 && attrs.length == 256 && attrs.usage == 4 + 8
 }
 
-/// What a link disturbed, how often its network failed, and behind which exchanges a run ended.
-pub fn counts_told(alloc: Global, link: &Faulty<ListStore>) -> Result<String, Fail> {
-    let mut text = String::new(alloc);
-    push_disturbed(&mut text, link.link())?;
-    write!(
-        text,
-        ", {} failures, ended {:?}",
-        link.failures(),
-        link.link().ended()
-    )?;
-    Ok(text)
+/// Writes what a link disturbed, how often its network failed, and behind which exchanges a run ended.
+pub fn push_counts(text: &mut String, link: &Faulty<ListStore>) -> Result<(), Fail> {
+    push_disturbed(text, &link.link)?;
+    let (failures, ended) = (link.failures, link.link.ended());
+    write!(text, ", {failures} failures, ended {ended:?}")?;
+    Ok(())
 }
 
 /// Writes what a link disturbed.
@@ -205,20 +209,17 @@ fn state_at(target: Target) -> KeyState {
     }
 }
 
-/// What is told of the numbers from 0 on, one range of them after the other.
-pub fn ranges_told(alloc: Global, tolds: &[String]) -> Result<String, Fail> {
-    let mut text = String::new(alloc);
+/// Writes what is told of the numbers from 0 on, one range of them after the other.
+pub fn push_ranges(text: &mut String, tolds: &[String]) -> Result<(), AllocError> {
     let mut first: usize = 0;
+    let mut between = "";
     for (number, told) in tolds.iter().enumerate() {
-        let told = told.as_str();
-        if let Some(next) = tolds.get(number.wrapping_add(1)) {
-            if next.as_str() == told {
-                continue;
-            }
+        let after = number.wrapping_add(1);
+        if tolds.get(after) != Some(told) {
+            write!(text, "{between}{first} to {number}: {told}")?;
+            first = after;
+            between = " | ";
         }
-        let between = if text.is_empty() { "" } else { " | " };
-        write!(text, "{between}{first} to {number}: {told}")?;
-        first = number.wrapping_add(1);
     }
-    Ok(text)
+    Ok(())
 }

@@ -43,29 +43,34 @@ fn kind_of(alloc: Global, bytes: &[u8]) -> &'static str {
 
 fn is_request(alloc: Global, bytes: &[u8]) -> bool {
     match read_request(alloc, bytes) {
-        Ok(batch) => batch
-            .items
-            .as_slice()
-            .iter()
-            .all(|question| question.is_ok()),
+        Ok(batch) => batch.items.as_slice().iter().all(Result::is_ok),
         Err(_) => false,
     }
 }
 
-/// Prints what is told where a byte at a place has which values, one range of them after the other; where
-/// nothing is told nothing is printed.
+/// Prints what is told where a byte at a place has which values, one range of them after the other.
 pub fn print_ranges(rt: &HostRuntime, place: usize, tolds: &[String]) -> Result<(), Fail> {
     let mut first: usize = 0;
     for (value, told) in tolds.iter().enumerate() {
-        let told = told.as_str();
-        let next = tolds.get(value.wrapping_add(1));
-        if next.is_some_and(|next| next.as_str() == told) {
-            continue;
+        let after = value.wrapping_add(1);
+        if tolds.get(after) != Some(told) {
+            print_range(rt, place, first, value, told.as_str())?;
+            first = after;
         }
-        if !told.is_empty() {
-            rt.println(format_args!("    {place}: {first:02x} to {value:02x}: {told}"))?;
-        }
-        first = value.wrapping_add(1);
+    }
+    Ok(())
+}
+
+/// Prints what is told where a byte at a place has one of a range of values; nothing where nothing is told.
+fn print_range(
+    rt: &HostRuntime,
+    place: usize,
+    first: usize,
+    last: usize,
+    told: &str,
+) -> Result<(), Fail> {
+    if !told.is_empty() {
+        rt.println(format_args!("    {place}: {first:02x} to {last:02x}: {told}"))?;
     }
     Ok(())
 }

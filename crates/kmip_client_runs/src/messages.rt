@@ -8,31 +8,25 @@ use kmip_ttlv::{Bytes, Text};
 use std::alloc::{AllocError, Global};
 use std::test::Fail;
 
-/// What is read of these bytes as a request or a reply, as the word says.
-pub fn read_told(alloc: Global, word: &str, bytes: &[u8]) -> Result<String, AllocError> {
-    if word == "request" {
-        request_told(alloc, bytes)
-    } else {
-        reply_told(alloc, bytes)
+/// Writes what a row tells of its bytes: what is read of them, or what they are when they are written again.
+pub fn push_row(alloc: Global, text: &mut String, word: &str, bytes: &[u8]) -> Result<(), Fail> {
+    match word {
+        "request" => push_request(alloc, text, bytes)?,
+        "reply" => push_reply(alloc, text, bytes)?,
+        _ => push_written(alloc, text, bytes)?,
     }
+    Ok(())
 }
 
-/// Whether a server goes on behind a failure, and each question of a request; or why it is none.
-fn request_told(alloc: Global, bytes: &[u8]) -> Result<String, AllocError> {
+/// Writes whether a server goes on behind a failure, and each question of a request; or why it is none.
+fn push_request(alloc: Global, text: &mut String, bytes: &[u8]) -> Result<(), AllocError> {
     match read_request(alloc, bytes) {
-        Ok(batch) => batch_told(alloc, &batch),
-        Err(fault) => fault_told(alloc, &fault),
+        Ok(batch) => push_batch(alloc, text, &batch),
+        Err(fault) => push_fault(text, &fault),
     }
 }
 
-/// The name of a fault, with the tag that it names, or what is wrong with the items.
-fn fault_told(alloc: Global, fault: &MessageFault) -> Result<String, AllocError> {
-    let mut text = String::new(alloc);
-    push_fault(&mut text, fault)?;
-    Ok(text)
-}
-
-/// Writes the same.
+/// Writes the name of a fault, with the tag that it names, or what is wrong with the items.
 pub fn push_fault(text: &mut String, fault: &MessageFault) -> Result<(), AllocError> {
     text.push_str(fault.name())?;
     if let Some(tag) = fault.tag() {
@@ -44,13 +38,12 @@ pub fn push_fault(text: &mut String, fault: &MessageFault) -> Result<(), AllocEr
     Ok(())
 }
 
-fn batch_told(alloc: Global, batch: &Batch) -> Result<String, AllocError> {
-    let ending = if batch.stops() { "stops" } else { "goes on" };
-    let mut text = String::from_str(alloc, ending)?;
+fn push_batch(alloc: Global, text: &mut String, batch: &Batch) -> Result<(), AllocError> {
+    text.push_str(if batch.stops() { "stops" } else { "goes on" })?;
     for question in batch.items.as_slice() {
-        push_question(alloc, &mut text, question)?;
+        push_question(alloc, text, question)?;
     }
-    Ok(text)
+    Ok(())
 }
 
 /// Writes the operation that is asked, or why the question is refused; and the question's id.
@@ -89,25 +82,24 @@ pub fn push_digits(alloc: Global, text: &mut String, bytes: &[u8]) -> Result<(),
     text.push_str(digits.as_str())
 }
 
-/// What each reply of a message says; or why it is none.
-fn reply_told(alloc: Global, bytes: &[u8]) -> Result<String, AllocError> {
+/// Writes what each reply of a message says; or why it is none.
+fn push_reply(alloc: Global, text: &mut String, bytes: &[u8]) -> Result<(), AllocError> {
     match read_reply(alloc, bytes) {
-        Ok(replies) => replies_told(alloc, replies.as_slice()),
-        Err(fault) => fault_told(alloc, &fault),
+        Ok(replies) => push_replies(alloc, text, replies.as_slice()),
+        Err(fault) => push_fault(text, &fault),
     }
 }
 
-fn replies_told(alloc: Global, replies: &[Reply]) -> Result<String, AllocError> {
-    let mut text = String::new(alloc);
+fn push_replies(alloc: Global, text: &mut String, replies: &[Reply]) -> Result<(), AllocError> {
     let mut between = "";
     for reply in replies {
         let operation = reply.operation.unwrap_or(0);
         write!(text, "{between}{operation} ")?;
-        push_outcome(alloc, &mut text, &reply.outcome)?;
-        push_id(alloc, &mut text, reply.id.as_ref())?;
+        push_outcome(alloc, text, &reply.outcome)?;
+        push_id(alloc, text, reply.id.as_ref())?;
         between = "; ";
     }
-    Ok(text)
+    Ok(())
 }
 
 /// Writes how an operation went, with the identifiers in hexadecimal.
@@ -137,16 +129,23 @@ fn push_uid(alloc: Global, text: &mut String, word: &str, uid: &Text) -> Result<
     push_digits(alloc, text, uid.as_str().as_bytes())
 }
 
-/// The bytes of a message are read and written again: whether they are as they were, or what they are.
-pub fn written_told(alloc: Global, bytes: &[u8]) -> Result<String, Fail> {
-    let again = match read_reply(alloc, bytes) {
-        Ok(replies) => written_replies(alloc, replies.as_slice())?,
-        Err(_) => written_request(alloc, bytes)?,
-    };
+/// Writes whether the bytes of a message, read and written again, are as they were, or what they are.
+fn push_written(alloc: Global, text: &mut String, bytes: &[u8]) -> Result<(), Fail> {
+    let again = written_again(alloc, bytes)?;
     if again.as_slice() == bytes {
-        return Ok(String::from_str(alloc, "as it was")?);
+        text.push_str("as it was")?;
+    } else {
+        push_digits(alloc, text, again.as_slice())?;
     }
-    Ok(hex::encode(alloc, again.as_slice())?)
+    Ok(())
+}
+
+/// The bytes of a message, read and written again.
+fn written_again(alloc: Global, bytes: &[u8]) -> Result<Vec<u8>, Fail> {
+    match read_reply(alloc, bytes) {
+        Ok(replies) => written_replies(alloc, replies.as_slice()),
+        Err(_) => written_request(alloc, bytes),
+    }
 }
 
 fn written_replies(alloc: Global, replies: &[Reply]) -> Result<Vec<u8>, Fail> {

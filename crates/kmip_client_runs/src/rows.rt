@@ -1,7 +1,7 @@
 //! The rows outside talks, and the talks.
 
 use crate::changes::print_taken;
-use crate::messages::{read_told, written_told};
+use crate::messages::push_row;
 use crate::talks::hold_talk;
 use kmip_transcript::Transcript;
 use std::test::Fail;
@@ -25,26 +25,34 @@ impl Transcript for Rows {
 
 /// A row is printed with what came of its bytes, which are not.
 fn take_row(rt: &HostRuntime, line: &str) -> Result<(), Fail> {
-    let (head, digits) = line.split_once(": ").unwrap_or((line, ""));
-    let (word, _) = head.split_once(' ').unwrap_or((head, ""));
+    let (head, digits) = halves(line, ": ");
+    let (word, _) = halves(head, " ");
     match word {
-        "request" | "reply" => {
-            let bytes = hex::decode(rt.alloc(), digits)?;
-            let told = read_told(rt.alloc(), word, bytes.as_slice())?;
-            rt.println(format_args!("{head}: {told}"))?;
+        "request" | "reply" | "again" => print_row(rt, head, word, digits),
+        "taken" => print_changes(rt, head, digits),
+        "" | "#" => {
+            rt.println(line)?;
+            Ok(())
         }
-        "again" => {
-            let bytes = hex::decode(rt.alloc(), digits)?;
-            let told = written_told(rt.alloc(), bytes.as_slice())?;
-            rt.println(format_args!("{head}: {told}"))?;
-        }
-        "taken" => {
-            let mut bytes = hex::decode(rt.alloc(), digits)?;
-            rt.println(format_args!("{head}:"))?;
-            print_taken(rt, bytes.as_mut_slice())?;
-        }
-        "" | "#" => rt.println(line)?,
-        _ => return Err(Fail::new("no row")),
+        _ => Err(Fail::new("no row")),
     }
+}
+
+/// What stands before the first place with these words, and what behind it; or all, and nothing.
+pub fn halves<'l>(line: &'l str, between: &str) -> (&'l str, &'l str) {
+    line.split_once(between).unwrap_or((line, ""))
+}
+
+fn print_row(rt: &HostRuntime, head: &str, word: &str, digits: &str) -> Result<(), Fail> {
+    let bytes = hex::decode(rt.alloc(), digits)?;
+    let mut told = String::new(rt.alloc());
+    push_row(rt.alloc(), &mut told, word, bytes.as_slice())?;
+    rt.println(format_args!("{head}: {told}"))?;
     Ok(())
+}
+
+fn print_changes(rt: &HostRuntime, head: &str, digits: &str) -> Result<(), Fail> {
+    let mut bytes = hex::decode(rt.alloc(), digits)?;
+    rt.println(format_args!("{head}:"))?;
+    print_taken(rt, bytes.as_mut_slice())
 }

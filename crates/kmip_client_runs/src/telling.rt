@@ -3,26 +3,38 @@
 use crate::messages::{push_digits, push_fault};
 use kmip_client::{Client, HearFault, Heard, Part, Question, Verdict};
 use kmip_messages::MessageFault;
+use kmip_ttlv::Text;
 use std::alloc::{AllocError, Global};
 use std::test::Fail;
 
-/// The key and the operation of each question of the next message; and its bytes, where others are wanted.
-pub fn asked(alloc: Global, client: &mut Client<'_>, wanted: &[u8]) -> Result<String, Fail> {
+/// Writes the key and the operation of each question of the next message; and its bytes, where others are
+/// wanted.
+pub fn push_asked(
+    alloc: Global,
+    text: &mut String,
+    client: &mut Client<'_>,
+    wanted: &[u8],
+) -> Result<(), Fail> {
     match client.ask(alloc)? {
-        Some(question) => Ok(question_told(alloc, &question, wanted)?),
-        None => Ok(String::from_str(alloc, "none")?),
+        Some(question) => push_question(alloc, text, &question, wanted)?,
+        None => text.push_str("none")?,
     }
+    Ok(())
 }
 
-fn question_told(alloc: Global, question: &Question, wanted: &[u8]) -> Result<String, AllocError> {
-    let mut text = String::new(alloc);
-    push_parts(&mut text, question.parts.as_slice())?;
+fn push_question(
+    alloc: Global,
+    text: &mut String,
+    question: &Question,
+    wanted: &[u8],
+) -> Result<(), AllocError> {
+    push_parts(text, question.parts.as_slice())?;
     let bytes = question.bytes.as_slice();
     if !wanted.is_empty() && bytes != wanted {
         text.push_str(" by ")?;
-        push_digits(alloc, &mut text, bytes)?;
+        push_digits(alloc, text, bytes)?;
     }
-    Ok(text)
+    Ok(())
 }
 
 fn push_parts(text: &mut String, parts: &[Part]) -> Result<(), AllocError> {
@@ -34,25 +46,29 @@ fn push_parts(text: &mut String, parts: &[Part]) -> Result<(), AllocError> {
     Ok(())
 }
 
-/// The key, the operation and the news of each reply of a message, or its fault; or why the bytes are none.
-pub fn heard(alloc: Global, client: &mut Client<'_>, bytes: &[u8]) -> Result<String, AllocError> {
-    let mut text = String::new(alloc);
+/// Writes the key, the operation and the news of each reply of a message, or its fault; or why the bytes are
+/// none.
+pub fn push_heard(
+    alloc: Global,
+    text: &mut String,
+    client: &mut Client<'_>,
+    bytes: &[u8],
+) -> Result<(), AllocError> {
     match client.hear(alloc, bytes) {
-        Ok(all) => push_all(&mut text, all.as_slice())?,
-        Err(fault) => push_refusal(&mut text, &fault)?,
+        Ok(all) => push_all(text, all.as_slice()),
+        Err(fault) => push_refusal(text, &fault),
     }
-    Ok(text)
 }
 
 fn push_all(text: &mut String, all: &[Result<Heard, HearFault>]) -> Result<(), AllocError> {
+    let mut between = "";
     for reply in all {
-        if !text.is_empty() {
-            text.push_str("; ")?;
-        }
+        text.push_str(between)?;
         match reply {
             Ok(heard) => write!(text, "{} {:x} {:?}", heard.key, heard.operation, heard.news)?,
             Err(fault) => push_refusal(text, fault)?,
         }
+        between = "; ";
     }
     Ok(())
 }
@@ -75,19 +91,29 @@ fn message_fault(fault: &HearFault) -> Option<MessageFault> {
     }
 }
 
-/// The steps done, the identifier in hexadecimal, and the verdict of the key at a place.
-pub fn known(alloc: Global, client: &Client<'_>, key: usize) -> Result<String, Fail> {
+/// Writes the steps done, the identifier in hexadecimal, and the verdict of the key at a place.
+pub fn push_known(
+    alloc: Global,
+    text: &mut String,
+    client: &Client<'_>,
+    key: usize,
+) -> Result<(), Fail> {
     if client.plan().count() <= key {
         return Err(Fail::new("no key is at this place"));
     }
-    let mut text = format!(in alloc; "{} ", client.done(key))?;
-    match client.identifier(key) {
-        Some(uid) => push_digits(alloc, &mut text, uid.as_str().as_bytes())?,
+    write!(text, "{} ", client.done(key))?;
+    push_identifier(alloc, text, client.identifier(key))?;
+    text.push_str(verdict_word(client.verdict(key)))?;
+    Ok(())
+}
+
+/// Writes an identifier, if there is one, and a space.
+fn push_identifier(alloc: Global, text: &mut String, uid: Option<&Text>) -> Result<(), AllocError> {
+    match uid {
+        Some(uid) => push_digits(alloc, text, uid.as_str().as_bytes())?,
         None => text.push('-')?,
     }
-    text.push(' ')?;
-    text.push_str(verdict_word(client.verdict(key)))?;
-    Ok(text)
+    text.push(' ')
 }
 
 fn verdict_word(verdict: Verdict) -> &'static str {
@@ -98,11 +124,14 @@ fn verdict_word(verdict: Verdict) -> &'static str {
     }
 }
 
-/// What is known of the first key, and what is asked next.
-pub fn standing(alloc: Global, client: &mut Client<'_>, wanted: &[u8]) -> Result<String, Fail> {
-    let mut text = known(alloc, client, 0)?;
-    let question = asked(alloc, client, wanted)?;
+/// Writes what is known of the first key, and what is asked next.
+pub fn push_standing(
+    alloc: Global,
+    text: &mut String,
+    client: &mut Client<'_>,
+    wanted: &[u8],
+) -> Result<(), Fail> {
+    push_known(alloc, text, client, 0)?;
     text.push_str("; ")?;
-    text.push_str(question.as_str())?;
-    Ok(text)
+    push_asked(alloc, text, client, wanted)
 }

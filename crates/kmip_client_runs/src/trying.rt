@@ -3,7 +3,7 @@ ghost use Rattle.std.specs.Prelude.{◌≡◌, ◌<◌, length};
 
 use crate::changes::print_ranges;
 use crate::talks::Talk;
-use crate::telling::{heard, standing};
+use crate::telling::{push_heard, push_standing};
 use kmip_client::Client;
 use std::alloc::Global;
 use std::test::Fail;
@@ -12,59 +12,83 @@ use std::test::Fail;
 pub fn new_client<'p>(alloc: Global, talk: &Talk<'p>) -> Result<Client<'p>, Fail> {
     let mut client = Client::fresh(alloc, talk.plan)?;
     for digits in talk.first.lines() {
-        let bytes = hex::decode(alloc, digits)?;
-        heard(alloc, &mut client, bytes.as_slice())?;
+        hear_digits(alloc, &mut client, digits)?;
     }
     Ok(client)
 }
 
+/// The client hears the bytes of these digits.
+fn hear_digits(alloc: Global, client: &mut Client<'_>, digits: &str) -> Result<(), Fail> {
+    let bytes = hex::decode(alloc, digits)?;
+    is_taken(alloc, client, bytes.as_slice());
+    Ok(())
+}
+
 /// Each new client hears one more message first; the client is made anew.
-pub fn begin(alloc: Global, talk: &mut Talk<'_>, digits: &str) -> Result<String, Fail> {
+pub fn begin(alloc: Global, talk: &mut Talk<'_>, digits: &str) -> Result<(), Fail> {
     talk.first.push_str(digits)?;
     talk.first.push('\n')?;
     talk.client = new_client(alloc, talk)?;
-    Ok(String::new(alloc))
+    Ok(())
 }
 
-/// What a new client says to a message, what it then knows of the first key, and what it asks.
-pub fn told_by_new(alloc: Global, talk: &Talk<'_>, bytes: &[u8]) -> Result<String, Fail> {
+/// Writes what a new client says to a message, what it then knows of the first key, and what it asks.
+pub fn push_told_by_new(
+    alloc: Global,
+    text: &mut String,
+    talk: &Talk<'_>,
+    bytes: &[u8],
+) -> Result<(), Fail> {
     let mut client = new_client(alloc, talk)?;
-    let mut text = heard(alloc, &mut client, bytes)?;
-    let after = standing(alloc, &mut client, &[])?;
+    push_heard(alloc, text, &mut client, bytes)?;
     text.push_str("; ")?;
-    text.push_str(after.as_str())?;
-    Ok(text)
+    push_standing(alloc, text, &mut client, &[])
 }
 
-/// What a new client says to each proper front of a message, where it says the same to all, and how it
-/// then stands.
-pub fn fronts(alloc: Global, talk: &Talk<'_>, bytes: &[u8]) -> Result<String, Fail> {
+/// Writes what a new client says to each proper front of a message, where it says the same to all, and how
+/// it then stands.
+pub fn push_fronts(
+    alloc: Global,
+    text: &mut String,
+    talk: &Talk<'_>,
+    bytes: &[u8],
+) -> Result<(), Fail> {
     let mut client = new_client(alloc, talk)?;
-    let mut text = heard(alloc, &mut client, &[])?;
+    push_heard(alloc, text, &mut client, &[])?;
     for size in 1..bytes.len() {
-        let told = heard(alloc, &mut client, &bytes[..size])?;
-        if told.as_str() != text.as_str() {
-            return Ok(told);
+        if says_otherwise(alloc, text, &mut client, &bytes[..size])? {
+            return Ok(());
         }
     }
-    let after = standing(alloc, &mut client, &[])?;
     text.push_str("; ")?;
-    text.push_str(after.as_str())?;
-    Ok(text)
+    push_standing(alloc, text, &mut client, &[])
+}
+
+/// Whether the client says something else to these bytes than the text, which is then what it says.
+fn says_otherwise(
+    alloc: Global,
+    text: &mut String,
+    client: &mut Client<'_>,
+    bytes: &[u8],
+) -> Result<bool, Fail> {
+    let mut said = String::new(alloc);
+    push_heard(alloc, &mut said, client, bytes)?;
+    let is_other = said.as_str() != text.as_str();
+    *text = said;
+    Ok(is_other)
 }
 
 /// Prints what is learnt of a message with each byte in turn changed to each other one: where a new client
 /// takes it, what it says to it, what it then knows, and what it asks.
-pub fn learn(rt: &HostRuntime, talk: &Talk<'_>, bytes: &mut [u8]) -> Result<String, Fail> {
+pub fn learn(rt: &HostRuntime, talk: &Talk<'_>, bytes: &mut [u8]) -> Result<(), Fail> {
     for place in 0..bytes.len() {
         let tolds = learnt_at(rt.alloc(), talk, bytes, place)?;
         print_ranges(rt, place, tolds.as_slice())?;
     }
-    Ok(String::new(rt.alloc()))
+    Ok(())
 }
 
-/// What is learnt with each byte in turn at a place, which has its own again in the end; nothing where the
-/// message is refused.
+/// What is learnt with each byte in turn at a place, which has its own again in the end.
 fn learnt_at(
     alloc: Global,
     talk: &Talk<'_>,
@@ -78,37 +102,37 @@ fn learnt_at(
     let mut tolds = Vec::new(alloc);
     for value in 0..=255 {
         bytes[place] = value;
-        let told = told_by_new(alloc, talk, bytes)?;
-        tolds.push(if told.starts_with("0 ") {
-            told
-        } else {
-            String::new(alloc)
-        })?;
+        tolds.push(learnt(alloc, talk, bytes)?)?;
     }
     bytes[place] = own;
     Ok(tolds)
 }
 
-/// Two clients in one phase.
-#[derive(Drop)]
-struct Pair<'p> {
-    /// Hears all, and is made anew behind each message that it takes.
-    trying: Client<'p>,
-    /// Hears what the other refuses.
-    keeping: Client<'p>,
+/// What a new client learns of a message, and how it then stands; nothing where the message is refused.
+fn learnt(alloc: Global, talk: &Talk<'_>, bytes: &[u8]) -> Result<String, Fail> {
+    let mut text = String::new(alloc);
+    push_told_by_new(alloc, &mut text, talk, bytes)?;
+    if !text.starts_with("0 ") {
+        text.clear();
+    }
+    Ok(text)
 }
 
-/// A client hears what is refused of a message with each byte in turn changed to each other one: how it
+/// A client hears what is refused of a message with each byte in turn changed to each other one. Writes how it
 /// then stands, with the bytes that it asks where they are others than before.
-pub fn kept(alloc: Global, talk: &Talk<'_>, bytes: &mut [u8]) -> Result<String, Fail> {
+pub fn push_kept(
+    alloc: Global,
+    text: &mut String,
+    talk: &Talk<'_>,
+    bytes: &mut [u8],
+) -> Result<(), Fail> {
     let wanted = question_of(alloc, talk)?;
-    let trying = new_client(alloc, talk)?;
-    let keeping = new_client(alloc, talk)?;
-    let mut pair = Pair { trying, keeping };
+    let mut trying = new_client(alloc, talk)?;
+    let mut keeping = new_client(alloc, talk)?;
     for place in 0..bytes.len() {
-        keep_at(alloc, talk, &mut pair, bytes, place)?;
+        keep_at(alloc, talk, &mut trying, &mut keeping, bytes, place)?;
     }
-    standing(alloc, &mut pair.keeping, wanted.as_slice())
+    push_standing(alloc, text, &mut keeping, wanted.as_slice())
 }
 
 /// The bytes that a new client asks.
@@ -120,11 +144,13 @@ fn question_of(alloc: Global, talk: &Talk<'_>) -> Result<Vec<u8>, Fail> {
     }
 }
 
-/// Both clients hear a message with each byte in turn at a place, which has its own again in the end.
+/// One client hears a message with each byte in turn at a place, which has its own again in the end, and is
+/// made anew behind each message that it takes; the other one hears what it refuses.
 fn keep_at<'p>(
     alloc: Global,
     talk: &Talk<'p>,
-    pair: &mut Pair<'p>,
+    trying: &mut Client<'p>,
+    keeping: &mut Client<'p>,
     bytes: &mut [u8],
     place: usize,
 ) -> Result<(), Fail>
@@ -134,10 +160,10 @@ fn keep_at<'p>(
     let own = bytes[place];
     for value in 0..=255 {
         bytes[place] = value;
-        if is_taken(alloc, &mut pair.trying, bytes) {
-            pair.trying = new_client(alloc, talk)?;
+        if is_taken(alloc, trying, bytes) {
+            *trying = new_client(alloc, talk)?;
         } else {
-            is_taken(alloc, &mut pair.keeping, bytes);
+            is_taken(alloc, keeping, bytes);
         }
     }
     bytes[place] = own;
@@ -147,7 +173,7 @@ fn keep_at<'p>(
 /// Whether some reply of a message is learnt from.
 fn is_taken(alloc: Global, client: &mut Client<'_>, bytes: &[u8]) -> bool {
     match client.hear(alloc, bytes) {
-        Ok(all) => all.as_slice().iter().any(|reply| reply.is_ok()),
+        Ok(all) => all.as_slice().iter().any(Result::is_ok),
         Err(_) => false,
     }
 }
