@@ -56,7 +56,7 @@ fn assert_noted(
 
 /// The only effect is that `k1` was created.
 fn assert_created(rt: &impl Abort, effects: &[Effect]) {
-    assert_eq!(rt; effects.len(), 1, "the effects");
+    assert_number(rt, effects.len(), 1, "the effects");
     for effect in effects {
         assert_text(rt, effect.name.as_str(), "k1", "its name");
         assert_text(rt, effect.step.word(), "Create", "its step");

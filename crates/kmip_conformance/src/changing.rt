@@ -211,20 +211,35 @@ fn try_place(
 ) -> Result<usize, Fail>
     requires { place < length bytes.now }
 {
-    let Table(_, effects, _) = table;
     let mut server = server_with_both(alloc)?;
+    try_values(rt, alloc, &mut server, table, bytes, place, stream)
+}
+
+/// The same, of a server that has the rows `BEFORE`.
+fn try_values(
+    rt: &impl Abort,
+    alloc: Global,
+    server: &mut Server<ListStore>,
+    table: &Table,
+    bytes: &[u8],
+    place: usize,
+    stream: &[u8],
+) -> Result<usize, Fail>
+    requires { place < length bytes.now }
+{
+    let Table(_, effects, _) = table;
     let mut told = 0_usize;
     for value in 0..=255 {
         if value == bytes[place] {
             continue;
         }
-        let message = changed(alloc, bytes, place, value)?;
         let rows = rows_after(effects, place, value);
-        let saying = try_message(rt, alloc, &mut server, message.as_slice(), rows, stream)?;
-        if rows.is_some() {
-            server = server_with_both(alloc)?;
+        let message = changed(alloc, bytes, place, value)?;
+        match try_message(rt, alloc, server, message.as_slice(), rows, stream)? {
+            Saying::Refused => {}
+            Saying::Told => told = told.saturating_add(1),
+            Saying::Changed => *server = server_with_both(alloc)?,
         }
-        told = told.saturating_add(usize::from(saying == Saying::Told));
     }
     Ok(told)
 }
@@ -374,14 +389,29 @@ fn refuse_at(
     Ok(())
 }
 
+/// The server refuses each message with each byte at each of its first places.
+fn refuse_messages(
+    rt: &impl Abort,
+    alloc: Global,
+    server: &mut Server<ListStore>,
+    replies: [&[u8]; 2],
+    messages: &[(&str, usize)],
+) -> Result<(), Fail> {
+    for (text, count) in messages {
+        refuse_all(rt, alloc, server, replies, text, *count)?;
+    }
+    Ok(())
+}
+
+/// A server with the object `k1` refuses the messages.
+fn refuse_with_k1(rt: &impl Abort, alloc: Global, replies: [&[u8]; 2]) -> Result<(), Fail> {
+    let mut server = server_with_k1(alloc)?;
+    refuse_messages(rt, alloc, &mut server, replies, &MESSAGES)
+}
+
 #[test]
 fn refuses_what_is_no_request(rt: HostRuntime) -> Result<(), Fail> {
     let invalid = hex::decode(rt.alloc(), INVALID_MESSAGE_REPLY)?;
     let missing = hex::decode(rt.alloc(), MISSING_REPLY)?;
-    let replies = [invalid.as_slice(), missing.as_slice()];
-    let mut server = server_with_k1(rt.alloc())?;
-    for (text, count) in &MESSAGES {
-        refuse_all(&rt, rt.alloc(), &mut server, replies, text, *count)?;
-    }
-    Ok(())
+    refuse_with_k1(&rt, rt.alloc(), [invalid.as_slice(), missing.as_slice()])
 }

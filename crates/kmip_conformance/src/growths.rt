@@ -4,21 +4,35 @@
 
 use crate::asserting::{assert_bytes, assert_number};
 use crate::serving::server_of;
-use kmip_store::Records;
+use kmip_server::Server;
+use kmip_store::{ListStore, Records};
 use kmip_vectors::{CREATE_K1, CREATE_K1_REPLY};
+use std::alloc::Global;
+use std::process::Abort;
 use std::test::Fail;
+
+/// A server that refuses a message has no object, and answers it at the second call.
+fn call_twice(
+    rt: &impl Abort,
+    alloc: Global,
+    server: &mut Server<ListStore>,
+    message: &[u8],
+) -> Result<(), Fail> {
+    if server.handle(alloc, message, 0).is_ok() {
+        return Ok(());
+    }
+    assert_number(rt, server.records().count(), 0, "after the first call");
+    let wanted = hex::decode(alloc, CREATE_K1_REPLY)?;
+    let second = server.handle(alloc, message, 0)?;
+    assert_bytes(rt, second.as_slice(), wanted.as_slice(), "the second call");
+    Ok(())
+}
 
 #[test]
 fn creates_at_the_second_call(rt: HostRuntime) -> Result<(), Fail> {
     let message = hex::decode(rt.alloc(), CREATE_K1)?;
-    let wanted = hex::decode(rt.alloc(), CREATE_K1_REPLY)?;
     let mut server = server_of(rt.alloc(), 10_000);
-    let first = server.handle(rt.alloc(), message.as_slice(), 0);
-    if first.is_err() {
-        assert_number(&rt, server.records().count(), 0, "after the first call");
-        let second = server.handle(rt.alloc(), message.as_slice(), 0)?;
-        assert_bytes(&rt, second.as_slice(), wanted.as_slice(), "the second call");
-    }
+    call_twice(&rt, rt.alloc(), &mut server, message.as_slice())?;
     assert_number(&rt, server.records().count(), 1, "after the last call");
     Ok(())
 }

@@ -5,6 +5,7 @@ use crate::asserting::{assert_bytes, assert_number, assert_text};
 use kmip_objects::KeyState;
 use kmip_server::Server;
 use kmip_store::{ListStore, Records};
+use kmip_ttlv::NoMemory;
 use kmip_vectors::{ALL, CREATE_K1, CREATE_K1_REPLY, INVALID_MESSAGE_REPLY, NAME_USED_REPLY};
 use std::alloc::Global;
 use std::process::Abort;
@@ -86,7 +87,7 @@ fn assert_answer(
     message: &[u8],
     wanted: &[u8],
     case: &str,
-) -> Result<(), Fail> {
+) -> Result<(), NoMemory> {
     let reply = server.handle(alloc, message, 0)?;
     assert_bytes(rt, reply.as_slice(), wanted, case);
     Ok(())
@@ -97,29 +98,46 @@ fn answer_fronts(
     rt: &impl Abort,
     alloc: Global,
     server: &mut Server<ListStore>,
-    text: &str,
+    message: &[u8],
     wanted: &[u8],
     name: &str,
-) -> Result<(), Fail> {
-    let message = hex::decode(alloc, text)?;
+) -> Result<(), NoMemory> {
     for size in 0..message.len() {
         assert_answer(rt, alloc, server, &message[..size], wanted, name)?;
     }
-    if text.starts_with("42007b") {
-        assert_answer(rt, alloc, server, message.as_slice(), wanted, name)?;
+    if message.starts_with(&[0x42, 0x00, 0x7B]) {
+        assert_answer(rt, alloc, server, message, wanted, name)?;
     }
+    Ok(())
+}
+
+/// The server answers each front of these messages, and the whole of replies, with this reply.
+fn answer_all_fronts(
+    rt: &impl Abort,
+    alloc: Global,
+    server: &mut Server<ListStore>,
+    messages: &[(&str, &str)],
+    wanted: &[u8],
+) -> Result<(), Fail> {
+    for (name, text) in messages {
+        let message = hex::decode(alloc, *text)?;
+        answer_fronts(rt, alloc, server, message.as_slice(), wanted, name)?;
+    }
+    Ok(())
+}
+
+/// A server without objects answers all messages with this reply, and has none behind them.
+fn answer_without_objects(rt: &impl Abort, alloc: Global, wanted: &[u8]) -> Result<(), Fail> {
+    let mut server = server_of(alloc, 10_000);
+    answer_all_fronts(rt, alloc, &mut server, &ALL, wanted)?;
+    assert_number(rt, server.records().count(), 0, "the rows");
     Ok(())
 }
 
 #[test]
 fn answers_what_is_no_request(rt: HostRuntime) -> Result<(), Fail> {
-    let mut server = server_of(rt.alloc(), 10_000);
     let wanted = hex::decode(rt.alloc(), INVALID_MESSAGE_REPLY)?;
-    for (name, text) in &ALL {
-        answer_fronts(&rt, rt.alloc(), &mut server, text, wanted.as_slice(), name)?;
-    }
-    assert_number(&rt, server.records().count(), 0, "the rows");
-    Ok(())
+    answer_without_objects(&rt, rt.alloc(), wanted.as_slice())
 }
 
 /// Requests to a server with room for one object, and its replies.
@@ -129,12 +147,22 @@ const FILLING: [(&str, &str); 3] = [
     (CREATE_K1, NAME_USED_REPLY),
 ];
 
+/// The server replies to these requests, and keeps the first object alone.
+fn fill(
+    rt: &impl Abort,
+    alloc: Global,
+    server: &mut Server<ListStore>,
+    requests: &[(&str, &str)],
+) -> Result<(), Fail> {
+    for (request, wanted) in requests {
+        assert_reply(rt, alloc, server, request, wanted, request)?;
+        assert_k1_alone(rt, server.records(), request);
+    }
+    Ok(())
+}
+
 #[test]
 fn keeps_to_its_room(rt: HostRuntime) -> Result<(), Fail> {
     let mut server = server_of(rt.alloc(), 1);
-    for (request, wanted) in &FILLING {
-        assert_reply(&rt, rt.alloc(), &mut server, request, wanted, request)?;
-        assert_k1_alone(&rt, server.records(), request);
-    }
-    Ok(())
+    fill(&rt, rt.alloc(), &mut server, &FILLING)
 }

@@ -5,7 +5,7 @@ ghost use Rattle.kmip_store.specs.Calling.{may_call};
 use crate::asserting::assert_text;
 use kmip_objects::{Attrs, KeyAttrs, attrs_fit};
 use kmip_store::{Answer, Call, IndexedStore, ListStore, call_both};
-use kmip_ttlv::Text;
+use kmip_ttlv::{NoMemory, Text};
 use rand_chacha::ChaCha20Rng;
 use rand_core::{Rng, SeedableRng};
 use std::alloc::{AllocError, Global};
@@ -100,21 +100,29 @@ fn locate(alloc: Global, mask: Option<i32>, name: &str) -> Result<Call, Fail>
     Ok(Call::Locate { mask, filter })
 }
 
+/// The call of a method that takes an identifier.
+fn call_on(method: &str, uid: Text) -> Call
+    ensures { IsTrue (may_call result) }
+{
+    match method {
+        "find" => Call::Find(uid),
+        "activate" => Call::Activate(uid),
+        "revoke" => Call::Revoke(uid),
+        _ => Call::Destroy(uid),
+    }
+}
+
 /// The call of a method.
 fn call_of(alloc: Global, method: &str, given: &str, length: i32) -> Result<Call, Fail>
     ensures { IfOk result (λ call. IsTrue (may_call call)) }
 {
-    let uid = Text::copied(alloc, given)?;
     match method {
         "create" => create(alloc, given, length),
         "locate" => locate(alloc, None, given),
         "locate all" => locate(alloc, Some(5), given),
-        "find" => Ok(Call::Find(uid)),
-        "activate" => Ok(Call::Activate(uid)),
-        "revoke" => Ok(Call::Revoke(uid)),
-        "destroy" => Ok(Call::Destroy(uid)),
         "at" => Ok(Call::At(given.parse()?)),
-        _ => Ok(Call::Count),
+        "count" => Ok(Call::Count),
+        _ => Ok(call_on(method, Text::copied(alloc, given)?)),
     }
 }
 
@@ -137,19 +145,23 @@ fn random_call(alloc: Global, rng: &mut ChaCha20Rng) -> Result<Call, Fail>
     }
 }
 
+/// An object that was found, in words.
+fn words_of_found(alloc: Global, row: &kmip_store::Row) -> Result<String, AllocError> {
+    let material = hex::encode(alloc, row.material.as_slice())?;
+    let words = match material.as_str() {
+        "" => "nothing",
+        words => words,
+    };
+    format!(in alloc; "found {} with {words}", row.uid.as_str())
+}
+
 /// An answer in words.
 fn words_of(alloc: Global, answer: &Answer) -> Result<String, AllocError> {
     match answer {
         Answer::Created(uid) => format!(in alloc; "created {}", uid.as_str()),
         Answer::Located(Some(uid)) => format!(in alloc; "located {}", uid.as_str()),
         Answer::Located(None) => String::from_str(alloc, "located none"),
-        Answer::Found(Some(row)) if row.material.as_slice().is_empty() => {
-            format!(in alloc; "found {} with nothing", row.uid.as_str())
-        }
-        Answer::Found(Some(row)) => {
-            let material = hex::encode(alloc, row.material.as_slice())?;
-            format!(in alloc; "found {} with {}", row.uid.as_str(), material.as_str())
-        }
+        Answer::Found(Some(row)) => words_of_found(alloc, row),
         Answer::Found(None) => String::from_str(alloc, "found none"),
         Answer::Moved => String::from_str(alloc, "moved"),
         Answer::Counted(count) => format!(in alloc; "counted {count}"),
@@ -163,7 +175,7 @@ fn answers_of(
     store: &mut ListStore,
     other: &mut IndexedStore,
     call: Call,
-) -> Result<(String, String), Fail>
+) -> Result<(String, String), NoMemory>
     requires { IsTrue (may_call call) }
 {
     let (ours, theirs) = call_both(alloc, store, other, &[call])?;
@@ -180,19 +192,32 @@ fn last_words(alloc: Global, answers: &[Answer]) -> Result<String, AllocError> {
     }
 }
 
-/// Both stores answer the call of a row as it says.
-fn answer_row(
-    rt: &impl Abort,
+/// Makes the call of a row of both stores, and gives the answers in words.
+fn answers_to_row(
     alloc: Global,
     store: &mut ListStore,
     other: &mut IndexedStore,
     row: &Row,
-) -> Result<(), Fail> {
-    let Row(method, given, wanted) = row;
+) -> Result<(String, String), Fail> {
+    let Row(method, given, _) = row;
     let call = call_of(alloc, method, given, 128)?;
-    let (ours, theirs) = answers_of(alloc, store, other, call)?;
-    assert_text(rt, ours.as_str(), wanted, method);
-    assert_text(rt, theirs.as_str(), wanted, method);
+    Ok(answers_of(alloc, store, other, call)?)
+}
+
+/// Both stores answer the call of each row as it says.
+fn answer_rows(
+    rt: &impl Abort,
+    alloc: Global,
+    store: &mut ListStore,
+    other: &mut IndexedStore,
+    rows: &[Row],
+) -> Result<(), Fail> {
+    for row in rows {
+        let Row(method, _, wanted) = row;
+        let (ours, theirs) = answers_to_row(alloc, store, other, row)?;
+        assert_text(rt, ours.as_str(), wanted, method);
+        assert_text(rt, theirs.as_str(), wanted, method);
+    }
     Ok(())
 }
 
@@ -200,36 +225,48 @@ fn answer_row(
 fn answers_call_by_call(rt: HostRuntime) -> Result<(), Fail> {
     let mut store = ListStore::new(rt.alloc(), [0; 32], 2);
     let mut other = IndexedStore::new(rt.alloc(), [0; 32], 2);
-    for row in &ROWS {
-        answer_row(&rt, rt.alloc(), &mut store, &mut other, row)?;
-    }
-    Ok(())
+    answer_rows(&rt, rt.alloc(), &mut store, &mut other, &ROWS)
 }
 
-/// Both stores answer a random call, and alike.
-fn answer_random(
+/// There is an answer, and both are alike.
+fn assert_alike(rt: &impl Abort, ours: &str, theirs: &str) {
+    assert!(rt; !ours.is_empty());
+    assert_text(rt, ours, theirs, "a random call");
+}
+
+/// Both stores answer a hundred random calls, and alike.
+fn answer_random_calls(
     rt: &impl Abort,
     alloc: Global,
     rng: &mut ChaCha20Rng,
     store: &mut ListStore,
     other: &mut IndexedStore,
 ) -> Result<(), Fail> {
-    let call = random_call(alloc, rng)?;
-    let (ours, theirs) = answers_of(alloc, store, other, call)?;
-    assert!(rt; !ours.is_empty());
-    assert_text(rt, ours.as_str(), theirs.as_str(), "a random call");
+    for _ in 0..100 {
+        let call = random_call(alloc, rng)?;
+        let (ours, theirs) = answers_of(alloc, store, other, call)?;
+        assert_alike(rt, ours.as_str(), theirs.as_str());
+    }
     Ok(())
+}
+
+/// Both stores, with material of this seed, answer random calls alike.
+fn answer_seeded(
+    rt: &impl Abort,
+    alloc: Global,
+    rng: &mut ChaCha20Rng,
+    seed: u8,
+) -> Result<(), Fail> {
+    let mut store = ListStore::new(alloc, [seed; 32], 4);
+    let mut other = IndexedStore::new(alloc, [seed; 32], 4);
+    answer_random_calls(rt, alloc, rng, &mut store, &mut other)
 }
 
 #[test]
 fn answers_random_calls_alike(rt: HostRuntime) -> Result<(), Fail> {
     let mut rng = ChaCha20Rng::from_seed([8; 32]);
     for seed in 0..50 {
-        let mut store = ListStore::new(rt.alloc(), [seed; 32], 4);
-        let mut other = IndexedStore::new(rt.alloc(), [seed; 32], 4);
-        for _ in 0..100 {
-            answer_random(&rt, rt.alloc(), &mut rng, &mut store, &mut other)?;
-        }
+        answer_seeded(&rt, rt.alloc(), &mut rng, seed)?;
     }
     Ok(())
 }

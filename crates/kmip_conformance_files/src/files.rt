@@ -13,15 +13,26 @@ const BEFORE: &str = "kmip-progress 1\nk1 active 1 31\nend 1\n";
 
 const AFTER: &str = "kmip-progress 1\nk1 active 2 31\nend 1\n";
 
-/// A folder for one test, with nothing in it.
-fn folder(rt: &HostRuntime, name: &str) -> io::Result<String> {
+/// Removes a folder with all that is in it, where it is there.
+fn remove(rt: &HostRuntime, path: &str) -> io::Result<()> {
+    match fs::remove_dir_all(rt, path) {
+        Err(error) if error.kind() != ErrorKind::NotFound => Err(error),
+        _ => Ok(()),
+    }
+}
+
+/// The path of a folder for one test.
+fn folder_path(rt: &HostRuntime, name: &str) -> io::Result<String> {
     let beside = env::temp_dir(rt)?;
     let beside = beside.as_str();
     let path = format!(in rt.alloc(); "{beside}/kmip_conformance_files_{name}")?;
-    match fs::remove_dir_all(rt, path.as_str()) {
-        Err(error) if error.kind() != ErrorKind::NotFound => return Err(error),
-        _ => {}
-    }
+    Ok(path)
+}
+
+/// A folder for one test, with nothing in it.
+fn folder(rt: &HostRuntime, name: &str) -> io::Result<String> {
+    let path = folder_path(rt, name)?;
+    remove(rt, path.as_str())?;
     fs::create_dir(rt, path.as_str())?;
     Ok(path)
 }
@@ -82,9 +93,10 @@ fn has_text(rt: &HostRuntime, path: &str, wanted: &str) -> io::Result<bool> {
     }
 }
 
-/// Whether a link stands at this path, where something does.
-fn is_link(rt: &HostRuntime, path: &str) -> io::Result<bool> {
-    Ok(rt.symlink_metadata(path)?.is_symlink())
+/// Whether what has this name in a folder is a link.
+fn is_link(rt: &HostRuntime, folder: &str, name: &str) -> io::Result<bool> {
+    let path = path_in(rt, folder, name)?;
+    Ok(rt.symlink_metadata(path.as_str())?.is_symlink())
 }
 
 /// Whether nothing stands at this path.
@@ -105,30 +117,23 @@ fn failure(rt: &HostRuntime, path: &str, most_bytes: u64) -> Option<ErrorKind> {
     kind_of(text_of(rt, path, most_bytes))
 }
 
+/// Whether a file, on a disk that fails after so many steps, has one of the texts, and is not written in
+/// four steps but in ten.
+fn is_whole_after(rt: &HostRuntime, path: &str, steps: usize) -> io::Result<bool> {
+    put(rt, path, BEFORE.as_bytes())?;
+    let is_written = writes(rt, path, steps, false, AFTER)?;
+    let is_new = has_text(rt, path, AFTER)?;
+    let is_old = has_text(rt, path, BEFORE)?;
+    let is_in_time = if is_written { steps > 4 } else { steps < 10 };
+    Ok(is_in_time && (is_new || is_old && !is_written))
+}
+
 #[test]
 fn is_whole_wherever_the_disk_fails(rt: HostRuntime) -> Result<(), Fail> {
     let path = file_for(&rt, "whole")?;
-    let path = path.as_str();
     for steps in 0..20 {
-        put(&rt, path, BEFORE.as_bytes())?;
-        let is_written = writes(&rt, path, steps, false, AFTER)?;
-        assert_true(
-            &rt,
-            steps > 4 || !is_written,
-            "it takes more steps to write it",
-        );
-        assert_true(
-            &rt,
-            steps < 10 || is_written,
-            "it takes less steps to write it",
-        );
-        let is_new = has_text(&rt, path, AFTER)?;
-        let is_old = has_text(&rt, path, BEFORE)?;
-        assert_true(
-            &rt,
-            is_new || is_old && !is_written,
-            "it has one of the texts",
-        );
+        let is_right = is_whole_after(&rt, path.as_str(), steps)?;
+        assert_true(&rt, is_right, "it has one of the texts, and that in time");
     }
     Ok(())
 }
@@ -153,23 +158,33 @@ fn is_absent_or_whole_after(rt: &HostRuntime, folder: &str, steps: usize) -> io:
     Ok(was_free && (is_whole || is_absent))
 }
 
+/// Whether a file, on a disk that is full after so many steps, is put in place by the fourth and written
+/// in six, and nothing is left at the path beside it.
+fn is_put_in_place(rt: &HostRuntime, path: &str, beside: &str, steps: usize) -> io::Result<bool> {
+    let wanted = if steps > 3 { AFTER } else { BEFORE };
+    put(rt, path, BEFORE.as_bytes())?;
+    let is_written = writes(rt, path, steps, true, AFTER)?;
+    let is_wanted = has_text(rt, path, wanted)?;
+    Ok(is_wanted && is_written == (steps > 5) && is_free(rt, beside))
+}
+
+/// The same wherever the disk is full.
+fn is_put_in_place_each_time(rt: &HostRuntime, path: &str, beside: &str) -> io::Result<bool> {
+    for steps in 0..10 {
+        if !is_put_in_place(rt, path, beside, steps)? {
+            return Ok(false);
+        }
+    }
+    Ok(true)
+}
+
 #[test]
 fn leaves_nothing_beside_it_where_the_disk_is_full(rt: HostRuntime) -> Result<(), Fail> {
     let folder = folder(&rt, "full")?;
     let path = path_in(&rt, folder.as_str(), "progress")?;
     let beside = path_in(&rt, folder.as_str(), "progress.new")?;
-    for steps in 0..10 {
-        let wanted = if steps > 3 { AFTER } else { BEFORE };
-        put(&rt, path.as_str(), BEFORE.as_bytes())?;
-        let is_written = writes(&rt, path.as_str(), steps, true, AFTER)?;
-        assert_true(&rt, is_written == (steps > 5), "it is written in six steps");
-        assert_true(
-            &rt,
-            has_text(&rt, path.as_str(), wanted)?,
-            "it is put in place by the fourth",
-        );
-        assert_true(&rt, is_free(&rt, beside.as_str()), "nothing is left");
-    }
+    let is_right = is_put_in_place_each_time(&rt, path.as_str(), beside.as_str())?;
+    assert_true(&rt, is_right, "it is put in place, and nothing is left");
     Ok(())
 }
 
@@ -196,36 +211,66 @@ fn a_link_to_a_whole_path_is_followed(rt: HostRuntime) -> Result<(), Fail> {
 fn is_written_over_a_link(rt: &HostRuntime, folder: &str, path: &str) -> io::Result<bool> {
     let link = link_in(rt, folder, "link", path)?;
     put(rt, link.as_str(), AFTER.as_bytes())?;
-    Ok(is_link(rt, link.as_str())? && has_text(rt, path, AFTER)?)
+    Ok(is_link(rt, folder, "link")? && has_text(rt, path, AFTER)?)
+}
+
+/// Makes the folder `inner` in a folder, and a link in each: the first leads to the second, and this
+/// to a file that is not there yet. The path of the first.
+fn links_in(rt: &HostRuntime, folder: &str) -> io::Result<String> {
+    let inner = path_in(rt, folder, "inner")?;
+    fs::create_dir(rt, inner.as_str())?;
+    link_in(rt, inner.as_str(), "second", "../progress")?;
+    link_in(rt, folder, "first", "inner/second")
 }
 
 #[test]
 fn links_to_a_file_that_is_not_there_yet_stay(rt: HostRuntime) -> Result<(), Fail> {
     let folder = folder(&rt, "links")?;
-    let path = path_in(&rt, folder.as_str(), "progress")?;
-    let inner = path_in(&rt, folder.as_str(), "inner")?;
-    fs::create_dir(&rt, inner.as_str())?;
-    let second = link_in(&rt, inner.as_str(), "second", "../progress")?;
-    let first = link_in(&rt, folder.as_str(), "first", "inner/second")?;
-    let is_locked = is_locked_over_links(&rt, first.as_str(), path.as_str())?;
+    let is_locked = is_locked_over_links(&rt, folder.as_str())?;
     assert_true(&rt, is_locked, "nobody has it by its own path meanwhile");
-    let stay = is_link(&rt, first.as_str())? && is_link(&rt, second.as_str())?;
+    let stay = do_links_stay(&rt, folder.as_str())?;
     assert_true(&rt, stay, "the links stay");
-    let is_there = !is_link(&rt, path.as_str())? && has_text(&rt, path.as_str(), AFTER)?;
+    let is_there = is_where_links_lead(&rt, folder.as_str())?;
     assert_true(&rt, is_there, "the file is where they lead");
     Ok(())
 }
 
 /// Whether a file that is not there is locked over links, so that nobody has it by its own path; it
 /// is written then.
-fn is_locked_over_links(rt: &HostRuntime, link: &str, path: &str) -> io::Result<bool> {
-    let file = ProgressFile::at(rt, link)?;
+fn is_locked_over_links(rt: &HostRuntime, folder: &str) -> io::Result<bool> {
+    let link = links_in(rt, folder)?;
+    let file = ProgressFile::at(rt, link.as_str())?;
     let was_there = file.read()?.is_some();
+    Ok(is_locked_meanwhile(rt, &file, folder)? && !was_there)
+}
+
+/// Whether a file is locked while it is written, so that nobody has it by its own path in the folder.
+fn is_locked_meanwhile(
+    rt: &HostRuntime,
+    file: &ProgressFile<'_, HostRuntime>,
+    folder: &str,
+) -> io::Result<bool> {
     let lock = file.lock();
     file.write(AFTER.as_bytes())?;
-    let same = ProgressFile::at(rt, path)?;
-    let is_in_use = matches!(same.lock(), Err(LockFault::InUse));
-    Ok(lock.is_ok() && is_in_use && !was_there)
+    Ok(is_in_use(rt, folder)? && lock.is_ok())
+}
+
+/// Whether another run has the progress file in a folder.
+fn is_in_use(rt: &HostRuntime, folder: &str) -> io::Result<bool> {
+    let path = path_in(rt, folder, "progress")?;
+    let file = ProgressFile::at(rt, path.as_str())?;
+    Ok(matches!(file.lock(), Err(LockFault::InUse)))
+}
+
+/// Whether both links are still links.
+fn do_links_stay(rt: &HostRuntime, folder: &str) -> io::Result<bool> {
+    Ok(is_link(rt, folder, "first")? && is_link(rt, folder, "inner/second")?)
+}
+
+/// Whether the file that is written stands where the links lead, and is none of them.
+fn is_where_links_lead(rt: &HostRuntime, folder: &str) -> io::Result<bool> {
+    let path = path_in(rt, folder, "progress")?;
+    Ok(!is_link(rt, folder, "progress")? && has_text(rt, path.as_str(), AFTER)?)
 }
 
 #[test]
@@ -242,20 +287,29 @@ fn links_in_a_circle_are_no_file(rt: HostRuntime) -> Result<(), Fail> {
     Ok(())
 }
 
+/// Whether the first run has the lock of a file, which it writes, and another has not.
+fn has_one_run(file: &ProgressFile<'_, HostRuntime>) -> io::Result<bool> {
+    let lock = file.lock();
+    file.write(BEFORE.as_bytes())?;
+    let is_in_use = matches!(file.lock(), Err(LockFault::InUse));
+    Ok(lock.is_ok() && is_in_use)
+}
+
 #[test]
 fn is_of_one_run_at_a_time(rt: HostRuntime) -> Result<(), Fail> {
     let path = file_for(&rt, "lock")?;
     let file = ProgressFile::at(&rt, path.as_str())?;
-    let Ok(lock) = file.lock() else {
-        assert_true(&rt, false, "the first run has the lock");
-        return Ok(());
-    };
-    file.write(BEFORE.as_bytes())?;
-    let is_in_use = matches!(file.lock(), Err(LockFault::InUse));
-    assert_true(&rt, is_in_use, "another run has it");
-    drop(lock);
+    let is_right = has_one_run(&file)?;
+    assert_true(&rt, is_right, "the first run has the lock, and no other");
     assert_true(&rt, file.lock().is_ok(), "no other run has it any more");
     Ok(())
+}
+
+/// Whether a file can't be locked, and its lock would be the file at this path.
+fn has_failing_lock(rt: &HostRuntime, path: &str, lock_path: &str) -> io::Result<bool> {
+    let file = ProgressFile::at(rt, path)?;
+    let is_beside = file.lock_path()?.as_str() == lock_path;
+    Ok(matches!(file.lock(), Err(LockFault::Io(_))) && is_beside)
 }
 
 #[test]
@@ -263,15 +317,8 @@ fn a_lock_in_no_folder_is_a_failure(rt: HostRuntime) -> Result<(), Fail> {
     let folder = folder(&rt, "no_folder")?;
     let path = path_in(&rt, folder.as_str(), "missing/progress")?;
     let wanted = path_in(&rt, folder.as_str(), "missing/progress.lock")?;
-    let file = ProgressFile::at(&rt, path.as_str())?;
-    let is_failure = matches!(file.lock(), Err(LockFault::Io(_)));
-    assert_true(&rt, is_failure, "it can't be locked");
-    let beside = file.lock_path()?;
-    assert_true(
-        &rt,
-        beside.as_str() == wanted.as_str(),
-        "the lock is a file beside it",
-    );
+    let is_right = has_failing_lock(&rt, path.as_str(), wanted.as_str())?;
+    assert_true(&rt, is_right, "it can't be locked by the file beside it");
     Ok(())
 }
 
@@ -283,17 +330,20 @@ fn is_no_text(rt: HostRuntime) -> Result<(), Fail> {
     Ok(())
 }
 
+/// Writes a text of so many bytes.
+fn put_long(rt: &HostRuntime, path: &str, size: usize) -> io::Result<()> {
+    let text = vec![in rt.alloc(); b'x'; size]?;
+    put(rt, path, text.as_slice())
+}
+
 #[test]
 fn is_read_up_to_its_limit(rt: HostRuntime) -> Result<(), Fail> {
     let path = file_for(&rt, "limit")?;
     let path = path.as_str();
-    let mut text = Vec::new(rt.alloc());
-    text.resize(MOST_PROGRESS_BYTES as usize, b'x')?;
-    put(&rt, path, text.as_slice())?;
-    let length = length_of(&rt, path)? as u64;
-    assert_true(&rt, length == MOST_PROGRESS_BYTES, "it is read whole");
-    text.push(b'x')?;
-    put(&rt, path, text.as_slice())?;
+    let most = MOST_PROGRESS_BYTES as usize;
+    put_long(&rt, path, most)?;
+    assert_true(&rt, length_of(&rt, path)? == most, "it is read whole");
+    put_long(&rt, path, most + 1)?;
     let failure = kind_of(text_in(&rt, path));
     assert_true(
         &rt,
@@ -311,29 +361,35 @@ fn length_of(rt: &HostRuntime, path: &str) -> io::Result<usize> {
     }
 }
 
+/// The text of a file, how many bytes it may have, and why it is not read then.
+const LIMITS: [(&[u8], u64, Option<ErrorKind>); 5] = [
+    (b"a\xc3\xa9", 3, None),
+    (b"a\xc3\xa9", 2, Some(ErrorKind::FileTooLarge)),
+    (b"a\xc3\xa9", 1, Some(ErrorKind::FileTooLarge)),
+    // No text, where that is seen: that it is too long is seen first.
+    (b"a\xc3", 2, Some(ErrorKind::InvalidData)),
+    (b"a\xc3", 1, Some(ErrorKind::FileTooLarge)),
+];
+
+/// Whether each of these texts is read, or is not for its reason.
+fn are_limits_kept(
+    rt: &HostRuntime,
+    path: &str,
+    limits: &[(&[u8], u64, Option<ErrorKind>)],
+) -> io::Result<bool> {
+    for (text, most_bytes, wanted) in limits {
+        put(rt, path, text)?;
+        if failure(rt, path, *most_bytes) != *wanted {
+            return Ok(false);
+        }
+    }
+    Ok(true)
+}
+
 #[test]
 fn is_too_long_before_it_is_no_text(rt: HostRuntime) -> Result<(), Fail> {
     let path = file_for(&rt, "too_long")?;
-    let path = path.as_str();
-    put(&rt, path, b"a\xc3\xa9")?;
-    assert_true(&rt, failure(&rt, path, 3).is_none(), "three bytes fit");
-    let too_long = Some(ErrorKind::FileTooLarge);
-    assert_true(
-        &rt,
-        failure(&rt, path, 2) == too_long,
-        "three bytes are too long",
-    );
-    assert_true(
-        &rt,
-        failure(&rt, path, 1) == too_long,
-        "and so where one may be",
-    );
-    put(&rt, path, b"a\xc3")?;
-    assert_true(
-        &rt,
-        failure(&rt, path, 2) == Some(ErrorKind::InvalidData),
-        "they are no text",
-    );
-    assert_true(&rt, failure(&rt, path, 1) == too_long, "that is seen first");
+    let is_right = are_limits_kept(&rt, path.as_str(), &LIMITS)?;
+    assert_true(&rt, is_right, "it is too long before it is no text");
     Ok(())
 }

@@ -2,7 +2,7 @@
 
 use crate::asserting::assert_size;
 use crate::items::size_of;
-use kmip_ttlv::{TtlvFault, fits, read, write};
+use kmip_ttlv::{Item, NoMemory, TtlvFault, fits, read, write};
 use kmip_vectors::{ALL, CREATE_K1, CREATE_K1_REPLY, LOCATE_K1, LOCATE_K1_FOUND, changed};
 use std::alloc::Global;
 use std::process::Abort;
@@ -32,21 +32,35 @@ fn assert_spelled(rt: &impl Abort, alloc: Global, written: &[u8], bytes: &[u8]) 
     assert_size(rt, size_of(rt, alloc, written), Ok(bytes.len()), "written");
 }
 
+/// The item fits, and is written as it stands in the bytes.
+fn assert_written(
+    rt: &impl Abort,
+    alloc: Global,
+    item: &Item,
+    bytes: &[u8],
+) -> Result<(), NoMemory> {
+    assert!(rt; fits(item));
+    let mut written = Vec::new(alloc);
+    write(item, &mut written)?;
+    assert_spelled(rt, alloc, written.as_slice(), bytes);
+    Ok(())
+}
+
+/// The fault is at one of the bytes.
+fn assert_within(rt: &impl Abort, fault: TtlvFault, bytes: &[u8]) {
+    let at = fault.offset().unwrap_or(bytes.len());
+    assert!(rt; at < bytes.len(), "{fault:?} of {bytes:?}");
+}
+
 /// What is read can be written as it stands in the bytes, and what is refused is at fault in them.
-fn try_bytes(rt: &impl Abort, alloc: Global, bytes: &[u8]) -> Result<(), Fail> {
+fn try_bytes(rt: &impl Abort, alloc: Global, bytes: &[u8]) -> Result<(), NoMemory> {
     match read(alloc, bytes) {
-        Ok((item, size)) => {
-            assert!(rt; fits(&item) && size <= bytes.len());
-            let mut again = Vec::new(alloc);
-            write(&item, &mut again)?;
-            assert_spelled(rt, alloc, again.as_slice(), &bytes[..size]);
-        }
+        Ok((item, size)) => assert_written(rt, alloc, &item, &bytes[..size]),
         Err(fault) => {
-            let at = fault.offset().unwrap_or(bytes.len());
-            assert!(rt; at < bytes.len(), "{fault:?} of {bytes:?}");
+            assert_within(rt, fault, bytes);
+            Ok(())
         }
     }
-    Ok(())
 }
 
 /// A message with each byte in turn changed to each other one, and what comes of it where that is a byte
@@ -108,13 +122,24 @@ fn lack_each_end(rt: &impl Abort, alloc: Global, text: &str, name: &str) -> Resu
     Ok(())
 }
 
-#[test]
-fn reads_each_front_and_each_change(rt: HostRuntime) -> Result<(), Fail> {
-    for (name, text) in &ALL {
-        lack_each_end(&rt, rt.alloc(), text, name)?;
-    }
-    for (text, header_end) in &MESSAGES {
-        try_changes(&rt, rt.alloc(), text, *header_end)?;
+/// Each front of each message is too short for an item.
+fn lack_ends(rt: &impl Abort, alloc: Global, messages: &[(&str, &str)]) -> Result<(), Fail> {
+    for (name, text) in messages {
+        lack_each_end(rt, alloc, text, name)?;
     }
     Ok(())
+}
+
+/// Each change of a byte of each message, behind which stands where the header in it ends.
+fn try_all_changes(rt: &impl Abort, alloc: Global, messages: &[(&str, usize)]) -> Result<(), Fail> {
+    for (text, header_end) in messages {
+        try_changes(rt, alloc, text, *header_end)?;
+    }
+    Ok(())
+}
+
+#[test]
+fn reads_each_front_and_each_change(rt: HostRuntime) -> Result<(), Fail> {
+    lack_ends(&rt, rt.alloc(), &ALL)?;
+    try_all_changes(&rt, rt.alloc(), &MESSAGES)
 }

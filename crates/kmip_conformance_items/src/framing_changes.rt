@@ -1,4 +1,5 @@
 //! Messages with one byte changed, taken from a stream.
+ghost use Rattle.std.specs.Prelude.{◌<◌, length};
 
 use crate::asserting::{assert_fed, assert_holds, assert_number, assert_text, assert_true};
 use kmip_frames::{FrameFault, Framer};
@@ -35,7 +36,7 @@ fn assert_framed(
     framer: &mut Framer,
     bytes: &[u8],
     message: &[u8],
-) -> Result<(), Fail> {
+) -> Result<(), FrameFault> {
     let (head, _) = bytes.split_at(bytes.len().min(8));
     let size = match size_said(head) {
         Ok(size) => size,
@@ -56,13 +57,13 @@ fn assert_taken(
     framer: &mut Framer,
     bytes: &[u8],
     size: usize,
-) -> Result<(), Fail> {
+) -> Result<(), FrameFault> {
     let taken = size.min(bytes.len());
     assert_fed(rt, framer.feed(bytes), Ok(taken), "a message");
     assert_holds(rt, framer, taken, size.saturating_sub(taken), "a message");
     match framer.next(alloc)? {
-        Some(message) => assert_eq!(rt; message.as_slice(), &bytes[..size.min(taken)]),
-        None => assert!(rt; taken < size && framer.pending() == taken, "{bytes:?}"),
+        Some(message) => assert_true(rt, message.as_slice() == &bytes[..taken], "the message"),
+        None => assert_true(rt, taken < size && framer.pending() == taken, "a front"),
     }
     Ok(())
 }
@@ -81,30 +82,54 @@ fn assert_failed(rt: &impl Abort, alloc: Global, framer: &mut Framer, message: &
     assert_holds(rt, framer, 8, 0, "a head");
 }
 
-/// A framer is fed a message with each byte in turn changed to each other one, one after the other.
+/// A framer is fed a message with the byte at this place changed to each other one, one after the
+/// other.
+fn frame_changes_at(
+    rt: &impl Abort,
+    alloc: Global,
+    bytes: &[u8],
+    place: usize,
+) -> Result<(), FrameFault>
+    requires { place < length bytes.now }
+{
+    let mut framer = Framer::new(alloc)?;
+    for value in 0..=255 {
+        let changed = changed(alloc, bytes, place, value)?;
+        assert_framed(rt, alloc, &mut framer, changed.as_slice(), bytes)?;
+        if framer.pending() > 0 {
+            framer = Framer::new(alloc)?;
+        }
+    }
+    Ok(())
+}
+
+/// Framers are fed a message with each byte in turn changed to each other one.
 fn frame_changes(rt: &impl Abort, alloc: Global, text: &str) -> Result<(), Fail> {
     let bytes = hex::decode(alloc, text)?;
-    let mut framer = Framer::new(alloc)?;
     for place in 0..bytes.len() {
-        for value in 0..=255 {
-            let changed = changed(alloc, bytes.as_slice(), place, value)?;
-            assert_framed(rt, alloc, &mut framer, changed.as_slice(), bytes.as_slice())?;
-            if framer.pending() > 0 {
-                framer = Framer::new(alloc)?;
-            }
-        }
+        frame_changes_at(rt, alloc, bytes.as_slice(), place)?;
+    }
+    Ok(())
+}
+
+/// The faults that no command shows have their numbers and names.
+fn assert_named(rt: &impl Abort) {
+    for (fault, number, name) in &UNSEEN {
+        assert_text(rt, fault.name(), name, "a fault");
+        assert_number(rt, fault.number() as usize, *number, name);
+    }
+}
+
+/// Framers are fed the changes of each message.
+fn frame_all(rt: &impl Abort, alloc: Global, messages: &[(&str, &str)]) -> Result<(), Fail> {
+    for (_, text) in messages {
+        frame_changes(rt, alloc, text)?;
     }
     Ok(())
 }
 
 #[test]
 fn frames_by_the_head_alone(rt: HostRuntime) -> Result<(), Fail> {
-    for (_, text) in &ALL {
-        frame_changes(&rt, rt.alloc(), text)?;
-    }
-    for (fault, number, name) in &UNSEEN {
-        assert_text(&rt, fault.name(), name, "a fault");
-        assert_number(&rt, fault.number() as usize, *number, name);
-    }
-    Ok(())
+    assert_named(&rt);
+    frame_all(&rt, rt.alloc(), &ALL)
 }

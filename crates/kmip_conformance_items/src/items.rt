@@ -1,7 +1,7 @@
 //! Items of TTLV: of each type, made of its value and written; and as long and as deep as may be, and more.
 
 use crate::asserting::{assert_size, assert_text, assert_true};
-use kmip_ttlv::{Bytes, Item, Tag, Text, TtlvFault, fits, read, write};
+use kmip_ttlv::{Bytes, Item, NoMemory, Tag, Text, TtlvFault, fits, read, write};
 use std::alloc::{AllocError, Global};
 use std::process::Abort;
 use std::test::Fail;
@@ -86,12 +86,21 @@ pub fn size_of(rt: &impl Abort, alloc: Global, bytes: &[u8]) -> Result<usize, Tt
 }
 
 /// The item fits, and is written as the text says in hexadecimal.
-fn assert_written(rt: &impl Abort, alloc: Global, item: &Item, text: &str) -> Result<(), Fail> {
+fn assert_written(rt: &impl Abort, alloc: Global, item: &Item, text: &str) -> Result<(), NoMemory> {
     assert!(rt; fits(item));
     let mut out = Vec::new(alloc);
     write(item, &mut out)?;
     let written = hex::encode(alloc, out.as_slice())?;
     assert_text(rt, written.as_str(), text, text);
+    Ok(())
+}
+
+/// The items of `EXAMPLES` fit, and are written as they stand there.
+fn assert_examples(rt: &impl Abort, alloc: Global, texts: &[&str]) -> Result<(), NoMemory> {
+    for (place, text) in texts.iter().enumerate() {
+        let item = example(alloc, place)?;
+        assert_written(rt, alloc, &item, text)?;
+    }
     Ok(())
 }
 
@@ -106,12 +115,32 @@ fn nested(alloc: Global, levels: u32) -> Result<Vec<u8>, AllocError> {
     Ok(bytes)
 }
 
+/// What `read` says of so many levels of Structures.
+fn assert_levels(rt: &impl Abort, alloc: Global) -> Result<(), AllocError> {
+    for (levels, wanted) in &LEVELS {
+        let bytes = nested(alloc, *levels)?;
+        let outcome = size_of(rt, alloc, bytes.as_slice());
+        assert_size(rt, outcome, *wanted, "levels");
+    }
+    Ok(())
+}
+
 /// The head of a Byte String of this length, and then as many bytes.
 fn byte_string(alloc: Global, len: u32, bytes_len: usize) -> Result<Vec<u8>, AllocError> {
     let mut bytes = vec![in alloc; 0x42, 0x00, 0x20, 0x08]?;
     bytes.extend_from_slice(&len.to_be_bytes())?;
     bytes.resize(8 + bytes_len.min(10_000), 0)?;
     Ok(bytes)
+}
+
+/// What `read` says of Byte Strings of these lengths.
+fn assert_lengths(rt: &impl Abort, alloc: Global) -> Result<(), AllocError> {
+    for (len, bytes_len, wanted) in &LENGTHS {
+        let bytes = byte_string(alloc, *len, *bytes_len)?;
+        let outcome = size_of(rt, alloc, bytes.as_slice());
+        assert_size(rt, outcome, *wanted, "bytes");
+    }
+    Ok(())
 }
 
 /// Whether a Byte String and a Big Integer of this many zeros fit.
@@ -142,20 +171,9 @@ fn assert_levels_fit(rt: &impl Abort, alloc: Global) -> Result<(), AllocError> {
 
 #[test]
 fn writes_each_type_within_the_limits(rt: HostRuntime) -> Result<(), Fail> {
-    for (place, text) in EXAMPLES.iter().enumerate() {
-        let item = example(rt.alloc(), place)?;
-        assert_written(&rt, rt.alloc(), &item, text)?;
-    }
-    for (levels, wanted) in &LEVELS {
-        let bytes = nested(rt.alloc(), *levels)?;
-        let outcome = size_of(&rt, rt.alloc(), bytes.as_slice());
-        assert_size(&rt, outcome, *wanted, "levels");
-    }
-    for (len, bytes_len, wanted) in &LENGTHS {
-        let bytes = byte_string(rt.alloc(), *len, *bytes_len)?;
-        let outcome = size_of(&rt, rt.alloc(), bytes.as_slice());
-        assert_size(&rt, outcome, *wanted, "bytes");
-    }
+    assert_examples(&rt, rt.alloc(), &EXAMPLES)?;
+    assert_levels(&rt, rt.alloc())?;
+    assert_lengths(&rt, rt.alloc())?;
     for row in &FITTING {
         assert_fitting(&rt, rt.alloc(), row)?;
     }

@@ -1,7 +1,7 @@
 //! Texts of plans with a thousand keys, and of a million bytes and more.
 
 use crate::asserting::{assert_number, assert_text};
-use kmip_plan::read_plan;
+use kmip_plan::{PlanFault, read_plan};
 use std::alloc::{AllocError, Global};
 use std::process::Abort;
 use std::test::Fail;
@@ -173,23 +173,29 @@ fn text_of(alloc: Global, row: &Row) -> Result<String, AllocError> {
     Ok(text)
 }
 
-/// Why a text is refused: the fault with its number, field and place; nothing where it is read.
-fn refusal(alloc: Global, text: &str) -> Result<String, AllocError> {
-    let Err(fault) = read_plan(alloc, text) else {
-        return Ok(String::new(alloc));
-    };
-    let mut said = format!(in alloc; "{} {}", fault.number(), fault.name())?;
+/// Writes a fault with its number, field and place.
+fn push_fault(text: &mut String, fault: &PlanFault) -> Result<(), AllocError> {
+    write!(text, "{} {}", fault.number(), fault.name())?;
     if let Some(field) = fault.field() {
-        write!(said, " {field}")?;
+        write!(text, " {field}")?;
     }
     if let Some(place) = fault.place() {
-        write!(said, " at key {place}")?;
+        write!(text, " at key {place}")?;
+    }
+    Ok(())
+}
+
+/// Why a text is refused; nothing where it is read.
+fn refusal(alloc: Global, text: &str) -> Result<String, AllocError> {
+    let mut said = String::new(alloc);
+    if let Some(fault) = read_plan(alloc, text).err() {
+        push_fault(&mut said, &fault)?;
     }
     Ok(said)
 }
 
 /// The text of a row is refused as it says.
-fn judge(rt: &impl Abort, alloc: Global, row: &Row) -> Result<(), Fail> {
+fn judge(rt: &impl Abort, alloc: Global, row: &Row) -> Result<(), AllocError> {
     let text = text_of(alloc, row)?;
     let said = refusal(alloc, text.as_str())?;
     assert_text(rt, said.as_str(), row.wanted, row.piece);
@@ -208,14 +214,19 @@ fn padded_keys(alloc: Global) -> Result<String, AllocError> {
     Ok(text)
 }
 
+/// A long text of a thousand keys is read.
+fn judge_padded(rt: &impl Abort, alloc: Global) -> Result<(), Fail> {
+    let text = padded_keys(alloc)?;
+    assert!(rt; text.len() >= LONG);
+    let plan = read_plan(alloc, text.as_str())?;
+    assert_number(rt, plan.count(), 1_000, "a thousand keys among comments");
+    Ok(())
+}
+
 #[test]
 fn judges_long_texts(rt: HostRuntime) -> Result<(), Fail> {
     for row in &ROWS {
         judge(&rt, rt.alloc(), row)?;
     }
-    let text = padded_keys(rt.alloc())?;
-    assert!(rt; text.len() >= LONG);
-    let plan = read_plan(rt.alloc(), text.as_str())?;
-    assert_number(&rt, plan.count(), 1_000, "a thousand keys among comments");
-    Ok(())
+    judge_padded(&rt, rt.alloc())
 }

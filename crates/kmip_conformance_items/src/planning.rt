@@ -3,7 +3,7 @@
 use crate::asserting::{assert_text, assert_true};
 use crate::progresses::plan_of;
 use kmip_chains::{Key, chain, chain_length, place_of, state_after};
-use kmip_plan::{algorithm_word, bound};
+use kmip_plan::{Plan, PlanFault, algorithm_word, bound};
 use std::alloc::{AllocError, Global};
 use std::process::Abort;
 use std::test::Fail;
@@ -35,25 +35,33 @@ fn push_step(text: &mut String, key: &Key, place: usize) -> Result<(), AllocErro
     }
 }
 
-/// The way of a key.
-fn way(alloc: Global, key: &Key) -> Result<String, AllocError> {
-    let mut text = String::new(alloc);
+/// Writes the way of a key.
+fn push_way(text: &mut String, key: &Key) -> Result<(), AllocError> {
     for place in 1..=chain_length(key) {
-        push_step(&mut text, key, place)?;
+        push_step(text, key, place)?;
     }
     text.pop();
     text.push(';')?;
     for state in 0..8 {
         write!(text, " {}", place_of(key, state).unwrap_or(0))?;
     }
+    Ok(())
+}
+
+/// The way of a plan's first key, and the plan's bound.
+fn way_and_bound(alloc: Global, plan: &Plan) -> Result<String, AllocError> {
+    let mut text = String::new(alloc);
+    if let Some(key) = plan.key(0) {
+        push_way(&mut text, key)?;
+    }
+    write!(text, "; {}", bound(plan))?;
     Ok(text)
 }
 
 /// The one key of a plan has this way, and the plan this bound.
-fn check_way(rt: &impl Abort, alloc: Global, words: &str, wanted: &str) -> Result<(), Fail> {
+fn check_way(rt: &impl Abort, alloc: Global, words: &str, wanted: &str) -> Result<(), PlanFault> {
     let plan = plan_of(alloc, words)?;
-    let mut text = way(alloc, plan.key(0).ok_or("a key")?)?;
-    write!(text, "; {}", bound(&plan))?;
+    let text = way_and_bound(alloc, &plan)?;
     assert_text(rt, text.as_str(), wanted, words);
     assert_true(rt, plan.key(1).is_none(), words);
     Ok(())

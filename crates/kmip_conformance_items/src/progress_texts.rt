@@ -2,11 +2,11 @@
 //! the words of the faults.
 
 use crate::asserting::{assert_number, assert_text, assert_true};
-use crate::progresses::{assert_said, plan_of, push_key};
-use kmip_plan::read_plan;
+use crate::progresses::{assert_said, plan_of, push_table};
+use kmip_plan::{Plan, read_plan};
 use kmip_progress::{Known, Progress, ProgressFault, suits};
 use kmip_ttlv::Text;
-use std::alloc::Global;
+use std::alloc::{AllocError, Global};
 use std::process::Abort;
 use std::test::Fail;
 
@@ -94,58 +94,109 @@ const FAULTS: [(ProgressFault, &str); 4] = [
     (ProgressFault::NoMemory, "4 NoMemory: no memory"),
 ];
 
-/// What is said of the text of a row is what the row says.
-fn check_row(rt: &impl Abort, alloc: Global, row: &str) -> Result<(), Fail> {
-    let row = row.replace(alloc, "/", "\n")?;
-    let (keys, texts) = row.as_str().split_once(": ").ok_or("a row")?;
-    let (text, wanted) = texts.split_once(" => ").ok_or("two texts")?;
+/// What is said of the text of a row is what the row says; of what is no row, nothing is said right.
+fn check_text(rt: &impl Abort, alloc: Global, row: &str) -> Result<(), Fail> {
+    let (keys, texts) = row.split_once(": ").unwrap_or((row, ""));
+    let (text, wanted) = texts.split_once(" => ").unwrap_or((texts, ""));
     let wanted = if wanted == "the same" { text } else { wanted };
     let plan = plan_of(alloc, keys)?;
     assert_said(rt, alloc, &plan, text, wanted)
 }
 
-/// What is known of each key, of a row's words; a word alone is no key.
+/// The same of a row with `/` in the place of each line feed.
+fn check_row(rt: &impl Abort, alloc: Global, row: &str) -> Result<(), Fail> {
+    let row = row.replace(alloc, "/", "\n")?;
+    check_text(rt, alloc, row.as_str())
+}
+
+/// What is said of the text of each row is what the row says. How many these are.
+fn check_rows(rt: &impl Abort, alloc: Global, rows: &str) -> Result<usize, Fail> {
+    let mut count: usize = 0;
+    for row in rows.lines() {
+        if !row.starts_with('#') {
+            check_row(rt, alloc, row)?;
+            count = count.wrapping_add(1);
+        }
+    }
+    Ok(count)
+}
+
+/// The identifier that a word is, where a hyphen is none.
+fn identifier_of(alloc: Global, word: &str) -> Result<Option<Text>, AllocError> {
+    match word {
+        "-" => Ok(None),
+        text => Ok(Some(Text::copied(alloc, text)?)),
+    }
+}
+
+/// Appends what is known of a key: the steps that are done, and the identifier; a word alone is no key.
+fn push_known(all: &mut Vec<Known>, alloc: Global, words: &str) -> Result<(), Fail> {
+    let Some((done, identifier)) = words.split_once(' ') else {
+        return Ok(());
+    };
+    let done = done.parse::<usize>().ok().ok_or("the steps")?;
+    let identifier = identifier_of(alloc, identifier)?;
+    all.push(Known { identifier, done })?;
+    Ok(())
+}
+
+/// What is known of each key, of a row's words.
 fn progress_of(alloc: Global, words: &str) -> Result<Progress, Fail> {
     let mut all: Vec<Known> = Vec::new(alloc);
     for words in words.split(", ") {
-        let Some((done, identifier)) = words.split_once(' ') else {
-            continue;
-        };
-        let done = done.parse::<usize>().ok().ok_or("the steps")?;
-        let identifier = match identifier {
-            "-" => None,
-            text => Some(Text::copied(alloc, text)?),
-        };
-        all.push(Known { identifier, done })?;
+        push_known(&mut all, alloc, words)?;
     }
     Ok(Progress::new(all))
 }
 
 /// The progress of a row suits the plan, or does not.
-fn check_knowns(rt: &impl Abort, alloc: Global, row: &str) -> Result<(), Fail> {
+fn check_known(rt: &impl Abort, alloc: Global, plan: &Plan, row: &str) -> Result<(), Fail> {
     let (words, wanted) = row.split_once(" => ").ok_or("a row")?;
-    let plan = plan_of(alloc, "k1 active, k2 created")?;
     let progress = progress_of(alloc, words)?;
-    assert_true(rt, suits(&plan, &progress) == (wanted == "suits"), row);
+    assert_true(rt, suits(plan, &progress) == (wanted == "suits"), row);
     Ok(())
+}
+
+/// The progress of each row suits the plan, or does not. How many these are.
+fn check_knowns(rt: &impl Abort, alloc: Global, plan: &Plan, rows: &str) -> Result<usize, Fail> {
+    let mut count: usize = 0;
+    for row in rows.lines() {
+        if !row.starts_with('#') {
+            check_known(rt, alloc, plan, row)?;
+            count = count.wrapping_add(1);
+        }
+    }
+    Ok(count)
+}
+
+/// The progresses of `KNOWNS` suit a plan, or do not.
+fn check_progresses(rt: &impl Abort, alloc: Global) -> Result<usize, Fail> {
+    let plan = plan_of(alloc, "k1 active, k2 created")?;
+    check_knowns(rt, alloc, &plan, KNOWNS)
+}
+
+/// Writes an active key of this name into a plan, and into a text its line. Its identifier is its name.
+fn push_line(
+    plan: &mut String,
+    text: &mut String,
+    alloc: Global,
+    name: &str,
+) -> Result<(), AllocError> {
+    let identifier = hex::encode(alloc, name)?;
+    push_table(plan, name, "active")?;
+    write!(text, "{name} active - 1 {identifier}\n")
 }
 
 /// A text of a thousand keys, each with a name of four bytes, and its plan. The identifier of each is its
 /// name: in the hexadecimal of that each digit `d` is `3d`, and each letter `6` and its place in the
 /// alphabet.
-fn push_thousand(plan: &mut String, text: &mut String, alloc: Global) -> Result<(), Fail> {
+fn push_thousand(plan: &mut String, text: &mut String, alloc: Global) -> Result<(), AllocError> {
     text.push_str("kmip-progress 2\n")?;
     for number in 0..1_000_u32 {
-        let key = format!(in alloc; "{number:04x} active")?;
-        push_key(plan, key.as_str())?;
-        write!(text, "{key} - 1 ")?;
-        for byte in key.bytes().take(4) {
-            write!(text, "{byte:02x}")?;
-        }
-        text.push_str("\n")?;
+        let name = format!(in alloc; "{number:04x}")?;
+        push_line(plan, text, alloc, name.as_str())?;
     }
-    text.push_str("end 1000\n")?;
-    Ok(())
+    text.push_str("end 1000\n")
 }
 
 /// The text of a thousand keys is read, and written again.
@@ -164,31 +215,27 @@ fn assert_worded(
     alloc: Global,
     fault: &ProgressFault,
     wanted: &str,
-) -> Result<(), Fail> {
+) -> Result<(), AllocError> {
     let text = format!(in alloc; "{} {}: {fault}", fault.number(), fault.name())?;
     assert_text(rt, text.as_str(), wanted, "a fault");
     Ok(())
 }
 
+/// The numbers, the names and the words of the faults.
+fn check_faults(rt: &impl Abort, alloc: Global) -> Result<(), AllocError> {
+    for (fault, wanted) in &FAULTS {
+        assert_worded(rt, alloc, fault, wanted)?;
+    }
+    Ok(())
+}
+
 #[test]
 fn writes_what_was_read(rt: HostRuntime) -> Result<(), Fail> {
-    let mut count: usize = 0;
-    for row in ROWS.lines() {
-        if !row.starts_with('#') {
-            check_row(&rt, rt.alloc(), row)?;
-            count = count.wrapping_add(1);
-        }
-    }
-    for row in KNOWNS.lines() {
-        if !row.starts_with('#') {
-            check_knowns(&rt, rt.alloc(), row)?;
-            count = count.wrapping_add(1);
-        }
-    }
-    assert_number(&rt, count, ROWS_COUNT + KNOWNS_COUNT, "rows");
+    let texts = check_rows(&rt, rt.alloc(), ROWS)?;
+    assert_number(&rt, texts, ROWS_COUNT, "rows");
+    let progresses = check_progresses(&rt, rt.alloc())?;
+    assert_number(&rt, progresses, KNOWNS_COUNT, "rows");
     check_thousand(&rt, rt.alloc())?;
-    for (fault, wanted) in &FAULTS {
-        assert_worded(&rt, rt.alloc(), fault, wanted)?;
-    }
+    check_faults(&rt, rt.alloc())?;
     Ok(())
 }

@@ -1,31 +1,36 @@
 //! Plans and progresses in few words.
 
 use crate::asserting::assert_text;
-use kmip_plan::{Plan, read_plan};
+use kmip_plan::{Plan, PlanFault, read_plan};
 use kmip_progress::{Progress, suits};
-use std::alloc::Global;
+use std::alloc::{AllocError, Global};
 use std::process::Abort;
 use std::test::Fail;
 
 /// The plan of these keys, each a name, a target, and a reason where it has one: `k1 active, k2 created`.
-pub fn plan_of(alloc: Global, keys: &str) -> Result<Plan, Fail> {
+pub fn plan_of(alloc: Global, keys: &str) -> Result<Plan, PlanFault> {
     let mut text = String::new(alloc);
     for key in keys.split(", ") {
         push_key(&mut text, key)?;
     }
-    Ok(read_plan(alloc, text.as_str())?)
+    read_plan(alloc, text.as_str())
+}
+
+/// Writes the lines of a key with this name and this target.
+pub fn push_table(text: &mut String, name: &str, target: &str) -> Result<(), AllocError> {
+    text.push_str("[[key]]\nalgorithm = \"AES\"\nlength = 256\nusage = [\"encrypt\"]\n")?;
+    write!(text, "name = \"{name}\"\ntarget = \"{target}\"\n")
 }
 
 /// Writes the lines of such a key.
-pub fn push_key(text: &mut String, key: &str) -> Result<(), Fail> {
-    let (name, way) = key.split_once(' ').ok_or("a key")?;
+fn push_key(text: &mut String, key: &str) -> Result<(), AllocError> {
+    let (name, way) = key.split_once(' ').unwrap_or((key, ""));
     let (target, reason) = way.split_once(' ').unwrap_or((way, ""));
-    text.push_str("[[key]]\nalgorithm = \"AES\"\nlength = 256\nusage = [\"encrypt\"]\n")?;
-    write!(text, "name = \"{name}\"\ntarget = \"{target}\"\n")?;
-    if !reason.is_empty() {
-        write!(text, "reason = \"{reason}\"\n")?;
+    push_table(text, name, target)?;
+    if reason.is_empty() {
+        return Ok(());
     }
-    Ok(())
+    write!(text, "reason = \"{reason}\"\n")
 }
 
 /// What is said of a text that is read for a plan is the wanted text.

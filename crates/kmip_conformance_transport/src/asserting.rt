@@ -26,12 +26,13 @@ pub fn assert_received(
     wanted: Result<Option<&[u8]>, LinkFault>,
     case: &str,
 ) {
-    match (received, wanted) {
-        (Ok(Some(reply)), Ok(Some(wanted))) => assert_bytes(rt, reply.as_slice(), wanted, case),
-        (Ok(None), Ok(None)) => {}
-        (Err(fault), Err(wanted)) => assert_eq!(rt; *fault, wanted, "{case}"),
-        _ => assert_true(rt, false, case),
-    }
+    let is_right = match (received, wanted) {
+        (Ok(Some(reply)), Ok(Some(wanted))) => reply.as_slice() == wanted,
+        (Ok(None), Ok(None)) => true,
+        (Err(fault), Err(wanted)) => *fault == wanted,
+        _ => false,
+    };
+    assert_true(rt, is_right, case);
 }
 
 /// A message was sent, or was not for this fault.
@@ -52,30 +53,18 @@ pub fn assert_link<D: Dial + Drop>(
     failures: u64,
     case: &str,
 ) {
-    assert_eq!(rt; link.is_connected(), is_connected, "{case}");
-    assert_eq!(rt; link.failures(), failures, "{case}");
+    assert_true(rt, link.is_connected() == is_connected, case);
+    assert_true(rt, link.failures() == failures, case);
 }
 
 /// A stream came to this end, which has this number and this name.
 pub fn assert_end(rt: &impl Abort, end: StreamEnd, wanted: StreamEnd, number: u32, name: &str) {
     assert_eq!(rt; end, wanted);
-    assert_eq!(rt; (end.number(), end.name()), (number, name));
+    assert_true(rt, end.number() == number, name);
+    assert_true(rt, end.name() == name, name);
 }
 
-/// A stream was served to an end that left so many bytes, and this was answered.
-pub fn assert_served(
-    rt: &impl Abort,
-    end: StreamEnd,
-    left: usize,
-    output: &[u8],
-    answer: &[u8],
-    name: &str,
-) {
-    assert_eq!(rt; end, StreamEnd::Ended(left), "{left} bytes of {name}");
-    assert_eq!(rt; output, answer, "{left} bytes of {name}");
-}
-
-/// The records are still what they were, behind so many bytes of a message.
-pub fn assert_kept(rt: &impl Abort, is_kept: bool, left: usize, name: &str) {
-    assert!(rt; is_kept, "{left} bytes of {name}");
+/// There is none of these.
+pub fn assert_none(rt: &impl Abort, name: Option<&str>) {
+    assert_true(rt, name.is_none(), name.unwrap_or("none"));
 }

@@ -27,10 +27,11 @@ fn assert_answered(
     answer: &Result<Option<Vec<u8>>, LinkFault>,
     wanted: Result<bool, LinkFault>,
 ) {
-    match answer {
-        Ok(answer) => assert_eq!(rt; Ok(answer.is_some()), wanted),
-        Err(fault) => assert_eq!(rt; Err(*fault), wanted),
-    }
+    let outcome = match answer {
+        Ok(answer) => Ok(answer.is_some()),
+        Err(fault) => Err(*fault),
+    };
+    assert_eq!(rt; outcome, wanted);
 }
 
 /// What is received of these bytes, as a word, and how many stay in the framer and in the reader.
@@ -48,44 +49,67 @@ fn assert_taken(
     Ok(())
 }
 
+/// This message is received, behind which so many bytes are not read.
+fn assert_gives(
+    rt: &(impl Abort + AllocGlobal),
+    reader: &mut ByteReader<'_>,
+    framer: &mut Framer,
+    wanted: &[u8],
+    left: usize,
+) -> Result<(), LinkFault> {
+    match receive_message(rt.alloc(), reader, framer)? {
+        Some(message) => assert_bytes(rt, message.as_slice(), wanted, "a message"),
+        None => assert_true(rt, false, "no message"),
+    }
+    assert_left(rt, framer, reader, 0, left, "behind a message");
+    Ok(())
+}
+
+/// A reply that comes twice is received twice.
+fn assert_gives_both(rt: &(impl Abort + AllocGlobal), reply: &[u8]) -> Result<(), Fail> {
+    let bytes = [reply, reply].concat(rt.alloc())?;
+    let mut reader = ByteReader::failing(bytes.as_slice());
+    let mut framer = Framer::new(rt.alloc())?;
+    for left in [152, 0] {
+        assert_gives(rt, &mut reader, &mut framer, reply, left)?;
+    }
+    Ok(())
+}
+
 #[test]
 fn gives_a_message_and_no_more(rt: HostRuntime) -> Result<(), Fail> {
     let reply = hex::decode(rt.alloc(), LOCATE_K1_NONE)?;
     assert_number(&rt, reply.len(), 152, "the reply");
-    let mut bytes = Vec::from_slice(rt.alloc(), reply.as_slice())?;
-    bytes.extend_from_slice(reply.as_slice())?;
-    let mut reader = ByteReader::failing(bytes.as_slice());
-    let mut framer = Framer::new(rt.alloc())?;
-    for left in [152, 0] {
-        match receive_message(rt.alloc(), &mut reader, &mut framer)? {
-            Some(message) => assert_bytes(&rt, message.as_slice(), reply.as_slice(), "a message"),
-            None => assert_true(&rt, false, "no message"),
-        }
-        assert_left(&rt, &framer, &reader, 0, left, "behind a message");
+    assert_gives_both(&rt, reply.as_slice())
+}
+
+/// What is received of each front of a reply, behind which the stream fails or ends.
+fn take_fronts(
+    rt: &(impl Abort + AllocGlobal),
+    does_fail: bool,
+    wanted: Result<bool, LinkFault>,
+) -> Result<(), Fail> {
+    let reply = hex::decode(rt.alloc(), LOCATE_K1_NONE)?;
+    for count in 0..152 {
+        let (front, _) = reply.split_at(reply.len().min(count));
+        let reader = if does_fail {
+            ByteReader::failing(front)
+        } else {
+            ByteReader::ending(front)
+        };
+        assert_taken(rt, reader, wanted, count, 0)?;
     }
     Ok(())
 }
 
 #[test]
 fn fails_where_a_read_fails(rt: HostRuntime) -> Result<(), Fail> {
-    let reply = hex::decode(rt.alloc(), LOCATE_K1_NONE)?;
-    for count in 0..152 {
-        let (front, _) = reply.split_at(reply.len().min(count));
-        let reader = ByteReader::failing(front);
-        assert_taken(&rt, reader, Err(LinkFault::Io), count, 0)?;
-    }
-    Ok(())
+    take_fronts(&rt, true, Err(LinkFault::Io))
 }
 
 #[test]
 fn has_none_where_the_stream_ends(rt: HostRuntime) -> Result<(), Fail> {
-    let reply = hex::decode(rt.alloc(), LOCATE_K1_NONE)?;
-    for count in 0..152 {
-        let (front, _) = reply.split_at(reply.len().min(count));
-        let reader = ByteReader::ending(front);
-        assert_taken(&rt, reader, Ok(false), count, 0)?;
-    }
-    Ok(())
+    take_fronts(&rt, false, Ok(false))
 }
 
 #[test]

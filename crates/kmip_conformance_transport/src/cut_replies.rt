@@ -1,8 +1,8 @@
 //! The client's end of a socket, where a message is cut.
 
 use crate::asserting::{assert_link, assert_received};
-use crate::linking::any_port;
-use kmip_transport::{LinkFault, Tcp, TcpLink};
+use crate::linking::listening;
+use kmip_transport::{LinkFault, TcpLink};
 use kmip_vectors::{ALL, LOCATE_K1};
 use std::alloc::Global;
 use std::io::{Read, Write};
@@ -16,6 +16,16 @@ use std::time::Duration;
 enum Ending {
     Shut,
     Reset,
+}
+
+impl Ending {
+    /// What is received where a stream ends so within a message.
+    fn outcome(self) -> Result<Option<&'static [u8]>, LinkFault> {
+        match self {
+            Ending::Shut => Ok(None),
+            Ending::Reset => Err(LinkFault::Io),
+        }
+    }
 }
 
 /// Sends a request, to which the peer answers these bytes and then ends the stream.
@@ -51,39 +61,78 @@ fn assert_receives(
     assert_link(rt, link, is_reply, failures.saturating_add(failed), name);
 }
 
-#[test]
-fn hands_over_no_front(rt: HostRuntime) -> Result<(), Fail> {
-    let listener = rt.bind(any_port())?;
-    let address = listener.local_addr()?;
-    let mut link = TcpLink::new(Tcp::new(rt.clone()?, address), Duration::from_secs(10));
-    let request = hex::decode(rt.alloc(), LOCATE_K1)?;
-    for (ending, lost) in [
-        (Ending::Shut, Ok(None)),
-        (Ending::Reset, Err(LinkFault::Io)),
-    ] {
-        for (name, text) in &ALL {
-            let message = hex::decode(rt.alloc(), *text)?;
-            for size in 0..message.len() {
-                let front = &message[..size];
-                answer_with(&listener, &mut link, request.as_slice(), front, ending)?;
-                assert_receives(&rt, rt.alloc(), &mut link, lost, name);
-            }
-            answer_with(
-                &listener,
-                &mut link,
-                request.as_slice(),
-                message.as_slice(),
-                Ending::Shut,
-            )?;
-            assert_receives(
-                &rt,
-                rt.alloc(),
-                &mut link,
-                Ok(Some(message.as_slice())),
-                name,
-            );
-            link.close();
-        }
+/// The link receives nothing of each front of a message, behind which the stream ends so.
+fn answer_fronts(
+    rt: &(impl Abort + AllocGlobal),
+    listener: &<HostRuntime as Net>::Listener,
+    link: &mut TcpLink<HostRuntime>,
+    request: &[u8],
+    message: &[u8],
+    ending: Ending,
+    name: &str,
+) -> Result<(), Fail> {
+    for size in 0..message.len() {
+        answer_with(listener, link, request, &message[..size], ending)?;
+        assert_receives(rt, rt.alloc(), link, ending.outcome(), name);
     }
     Ok(())
+}
+
+/// The link receives a whole message.
+fn answer_whole(
+    rt: &(impl Abort + AllocGlobal),
+    listener: &<HostRuntime as Net>::Listener,
+    link: &mut TcpLink<HostRuntime>,
+    request: &[u8],
+    message: &[u8],
+    name: &str,
+) -> Result<(), Fail> {
+    answer_with(listener, link, request, message, Ending::Shut)?;
+    assert_receives(rt, rt.alloc(), link, Ok(Some(message)), name);
+    link.close();
+    Ok(())
+}
+
+/// The link receives each message whole, and nothing of its fronts, behind which the stream ends so.
+fn answer_messages(
+    rt: &(impl Abort + AllocGlobal),
+    listener: &<HostRuntime as Net>::Listener,
+    link: &mut TcpLink<HostRuntime>,
+    request: &[u8],
+    messages: &[(&str, &str)],
+    ending: Ending,
+) -> Result<(), Fail> {
+    for (name, text) in messages {
+        let message = hex::decode(rt.alloc(), *text)?;
+        answer_fronts(
+            rt,
+            listener,
+            link,
+            request,
+            message.as_slice(),
+            ending,
+            name,
+        )?;
+        answer_whole(rt, listener, link, request, message.as_slice(), name)?;
+    }
+    Ok(())
+}
+
+/// The link receives nothing of the fronts of messages, however the stream ends.
+fn answer_requests(
+    rt: &(impl Abort + AllocGlobal),
+    listener: &<HostRuntime as Net>::Listener,
+    link: &mut TcpLink<HostRuntime>,
+) -> Result<(), Fail> {
+    let request = hex::decode(rt.alloc(), LOCATE_K1)?;
+    for ending in [Ending::Shut, Ending::Reset] {
+        answer_messages(rt, listener, link, request.as_slice(), &ALL, ending)?;
+    }
+    Ok(())
+}
+
+#[test]
+fn hands_over_no_front(rt: HostRuntime) -> Result<(), Fail> {
+    let (listener, mut link) = listening(&rt, Duration::from_secs(10))?;
+    answer_requests(&rt, &listener, &mut link)
 }

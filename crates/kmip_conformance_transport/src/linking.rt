@@ -5,7 +5,7 @@ use crate::serving::new_server;
 use kmip_server::{ListStore, Records};
 use kmip_transport::{Dial, Link, LinkFault, Loopback, StreamLink, Tcp, TcpLink, Unix, UnixLink};
 use kmip_vectors::{CREATE_K1, CREATE_K1_REPLY, LOCATE_K1, LOCATE_K1_NONE};
-use std::io::{Read, Write};
+use std::io::{self, Read, Write};
 use std::net::{Ipv4Addr, Net, OpenListener, SocketAddr, SocketAddrV4};
 use std::os::unix::net;
 use std::os::unix::net::UnixListener;
@@ -19,13 +19,14 @@ pub fn any_port() -> SocketAddr {
     SocketAddr::V4(SocketAddrV4::new(Ipv4Addr::LOCALHOST, 0))
 }
 
-/// A listener, and a link to it that waits no longer than ten seconds.
-fn listening(
+/// A listener, and a link to it that waits no longer than this.
+pub fn listening(
     rt: &HostRuntime,
+    limit: Duration,
 ) -> Result<(<HostRuntime as Net>::Listener, TcpLink<HostRuntime>), Fail> {
     let listener = rt.bind(any_port())?;
     let address = listener.local_addr()?;
-    let link = TcpLink::new(Tcp::new(rt.clone()?, address), Duration::from_secs(10));
+    let link = TcpLink::new(Tcp::new(rt.clone()?, address), limit);
     Ok((listener, link))
 }
 
@@ -56,6 +57,18 @@ fn assert_fails<D: Dial + Drop>(
 }
 
 /// The server's reply to this request is this, over a stream of its own.
+fn assert_replies(
+    rt: &(impl Abort + AllocGlobal),
+    link: &mut Loopback<HostRuntime, ListStore>,
+    request: &[u8],
+    reply: &[u8],
+) -> Result<(), LinkFault> {
+    let received = link.exchange(rt.alloc(), request);
+    assert_received(rt, &received, Ok(Some(reply)), "an exchange");
+    link.end_run(rt.alloc())
+}
+
+/// The same of a request and a reply in hexadecimal.
 fn assert_exchanges(
     rt: &(impl Abort + AllocGlobal),
     link: &mut Loopback<HostRuntime, ListStore>,
@@ -64,9 +77,18 @@ fn assert_exchanges(
 ) -> Result<(), Fail> {
     let request = hex::decode(rt.alloc(), request)?;
     let reply = hex::decode(rt.alloc(), reply)?;
-    let received = link.exchange(rt.alloc(), request.as_slice());
-    assert_received(rt, &received, Ok(Some(reply.as_slice())), "an exchange");
-    link.end_run(rt.alloc())?;
+    assert_replies(rt, link, request.as_slice(), reply.as_slice())?;
+    Ok(())
+}
+
+/// The server's replies to both requests, behind which it has one object.
+fn assert_carries(
+    rt: &(impl Abort + AllocGlobal),
+    link: &mut Loopback<HostRuntime, ListStore>,
+) -> Result<(), Fail> {
+    assert_exchanges(rt, link, LOCATE_K1, LOCATE_K1_NONE)?;
+    assert_exchanges(rt, link, CREATE_K1, CREATE_K1_REPLY)?;
+    assert_number(rt, link.server().records().count(), 1, "objects");
     Ok(())
 }
 
@@ -74,17 +96,13 @@ fn assert_exchanges(
 fn carries_requests_to_its_own_server(rt: HostRuntime) -> Result<(), Fail> {
     let server = new_server(rt.alloc());
     let mut link = Loopback::new(rt.clone()?, server, Duration::from_secs(10))?;
-    for (request, reply) in [(LOCATE_K1, LOCATE_K1_NONE), (CREATE_K1, CREATE_K1_REPLY)] {
-        assert_exchanges(&rt, &mut link, request, reply)?;
-    }
-    assert_number(&rt, link.server().records().count(), 1, "objects");
-    Ok(())
+    assert_carries(&rt, &mut link)
 }
 
 #[test]
 fn fails_where_nobody_listens(rt: HostRuntime) -> Result<(), Fail> {
-    let address = rt.bind(any_port())?.local_addr()?;
-    let mut link = TcpLink::new(Tcp::new(rt.clone()?, address), Duration::from_secs(10));
+    let (listener, mut link) = listening(&rt, Duration::from_secs(10))?;
+    drop(listener);
     for failures in 1..=2 {
         assert_fails(&rt, &mut link, failures, "nobody listens");
     }
@@ -104,6 +122,16 @@ fn answer_and_close(
     Ok(())
 }
 
+/// Accepts a stream, and writes these bytes onto it.
+fn accept_with(
+    listener: &<HostRuntime as Net>::Listener,
+    bytes: &[u8],
+) -> io::Result<<HostRuntime as Net>::Stream> {
+    let (mut stream, _) = listener.accept()?;
+    stream.write_all(bytes)?;
+    Ok(stream)
+}
+
 /// Sends a request over a new stream, over which this reply comes; and then another, to which what
 /// comes is no message.
 fn answer_and_break(
@@ -113,8 +141,7 @@ fn answer_and_break(
     reply: &[u8],
 ) -> Result<(), Fail> {
     link.send(b"second")?;
-    let (mut stream, _) = listener.accept()?;
-    stream.write_all(reply)?;
+    let mut stream = accept_with(listener, reply)?;
     assert_receives(rt, link, Ok(Some(reply)), true, 0, "second");
     stream.write_all(&[0; 8])?;
     link.send(b"third")?;
@@ -122,14 +149,23 @@ fn answer_and_break(
     Ok(())
 }
 
-#[test]
-fn connects_anew_behind_a_lost_reply(rt: HostRuntime) -> Result<(), Fail> {
-    let (listener, mut link) = listening(&rt)?;
+/// Loses a reply, behind which the link connects anew.
+fn lose_reply(
+    rt: &(impl Abort + AllocGlobal),
+    listener: &<HostRuntime as Net>::Listener,
+    link: &mut TcpLink<HostRuntime>,
+) -> Result<(), Fail> {
     let reply = hex::decode(rt.alloc(), LOCATE_K1_NONE)?;
     let (front, _) = reply.split_at(reply.len().min(100));
-    answer_and_close(&listener, &mut link, front)?;
-    assert_receives(&rt, &mut link, Ok(None), false, 0, "first");
-    answer_and_break(&rt, &listener, &mut link, reply.as_slice())
+    answer_and_close(listener, link, front)?;
+    assert_receives(rt, link, Ok(None), false, 0, "first");
+    answer_and_break(rt, listener, link, reply.as_slice())
+}
+
+#[test]
+fn connects_anew_behind_a_lost_reply(rt: HostRuntime) -> Result<(), Fail> {
+    let (listener, mut link) = listening(&rt, Duration::from_secs(10))?;
+    lose_reply(&rt, &listener, &mut link)
 }
 
 /// Exchanges with a peer that closes the stream behind each reply.
@@ -152,7 +188,7 @@ fn close_behind_replies(
 
 #[test]
 fn holds_no_stream_once_a_held_one_was_closed(rt: HostRuntime) -> Result<(), Fail> {
-    let (listener, mut link) = listening(&rt)?;
+    let (listener, mut link) = listening(&rt, Duration::from_secs(10))?;
     let reply = hex::decode(rt.alloc(), LOCATE_K1_NONE)?;
     close_behind_replies(&rt, &listener, &mut link, reply.as_slice())
 }
@@ -168,18 +204,28 @@ fn listening_at(
     Ok((listener, link))
 }
 
-/// Sends a request, to which a reply comes through the socket. Then the peer closes the stream.
+/// Sends a request, to which this reply comes through the socket. Then the peer closes the stream.
+fn answer_with(
+    rt: &(impl Abort + AllocGlobal),
+    listener: &UnixListener,
+    link: &mut UnixLink<HostRuntime>,
+    reply: &[u8],
+) -> Result<(), Fail> {
+    link.send(b"request")?;
+    let (mut stream, _) = listener.accept()?;
+    stream.write_all(reply)?;
+    assert_receives(rt, link, Ok(Some(reply)), true, 0, "a reply");
+    Ok(())
+}
+
+/// Sends a request, to which a reply comes through the socket.
 fn answer_once(
     rt: &(impl Abort + AllocGlobal),
     listener: &UnixListener,
     link: &mut UnixLink<HostRuntime>,
 ) -> Result<(), Fail> {
     let reply = hex::decode(rt.alloc(), LOCATE_K1_NONE)?;
-    link.send(b"request")?;
-    let (mut stream, _) = listener.accept()?;
-    stream.write_all(reply.as_slice())?;
-    assert_receives(rt, link, Ok(Some(reply.as_slice())), true, 0, "a reply");
-    Ok(())
+    answer_with(rt, listener, link, reply.as_slice())
 }
 
 #[test]
@@ -195,9 +241,7 @@ fn goes_through_a_unix_socket(rt: HostRuntime) -> Result<(), Fail> {
 
 #[test]
 fn waits_no_longer_than_its_limit(rt: HostRuntime) -> Result<(), Fail> {
-    let listener = rt.bind(any_port())?;
-    let address = listener.local_addr()?;
-    let mut link = TcpLink::new(Tcp::new(rt.clone()?, address), Duration::from_millis(50));
+    let (_listener, mut link) = listening(&rt, Duration::from_millis(50))?;
     assert_fails(&rt, &mut link, 1, "a silent peer");
     Ok(())
 }
