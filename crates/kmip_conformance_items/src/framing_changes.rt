@@ -112,14 +112,6 @@ fn frame_changes(rt: &impl Abort, alloc: Global, text: &str) -> Result<(), Fail>
     Ok(())
 }
 
-/// The faults that no command shows have their numbers and names.
-fn assert_named(rt: &impl Abort) {
-    for (fault, number, name) in &UNSEEN {
-        assert_text(rt, fault.name(), name, "a fault");
-        assert_number(rt, fault.number() as usize, *number, name);
-    }
-}
-
 /// Framers are fed the changes of each message.
 fn frame_all(rt: &impl Abort, alloc: Global, messages: &[(&str, &str)]) -> Result<(), Fail> {
     for (_, text) in messages {
@@ -130,6 +122,9 @@ fn frame_all(rt: &impl Abort, alloc: Global, messages: &[(&str, &str)]) -> Resul
 
 #[test]
 fn frames_by_the_head_alone(rt: HostRuntime) -> Result<(), Fail> {
-    assert_named(&rt);
+    for (fault, number, name) in &UNSEEN {
+        assert_text(&rt, fault.name(), name, "a fault");
+        assert_number(&rt, fault.number() as usize, *number, name);
+    }
     frame_all(&rt, rt.alloc(), &ALL)
 }
