@@ -151,14 +151,6 @@ fn wait(rt: &impl Abort, alloc: Global, front: &[u8]) -> Result<(), FrameFault> 
     Ok(())
 }
 
-/// A framer waits behind each front of a message.
-fn wait_for_each_end(rt: &impl Abort, alloc: Global, bytes: &[u8]) -> Result<(), FrameFault> {
-    for size in 0..bytes.len() {
-        wait(rt, alloc, &bytes[..size])?;
-    }
-    Ok(())
-}
-
 /// A framer takes a head, behind which there are to be so many bytes more, and of more zeros these.
 fn take_padded(
     rt: &impl Abort,
@@ -196,10 +188,12 @@ fn joined(alloc: Global, first: &str, second: &str) -> Result<Vec<u8>, FromHexEr
     hex::decode(alloc, text.as_str())
 }
 
-/// The messages that are joined are handed over, however they come.
+/// The messages that are joined are handed over, however they come; a front of the first is not.
 fn hand_over_joined(rt: &impl Abort, alloc: Global, bytes: &[u8]) -> Result<(), FrameFault> {
     let (first, _) = bytes.split_at(bytes.len().min(184));
-    wait_for_each_end(rt, alloc, first)?;
+    for size in 0..first.len() {
+        wait(rt, alloc, &first[..size])?;
+    }
     hand_over_both(rt, alloc, bytes)?;
     assert_in_equal_pieces(rt, alloc, bytes)?;
     assert_in_two_pieces(rt, alloc, bytes)

@@ -121,21 +121,16 @@ fn check_rows(rt: &impl Abort, alloc: Global, rows: &str) -> Result<usize, Fail>
     Ok(count)
 }
 
-/// The identifier that a word is, where a hyphen is none.
-fn identifier_of(alloc: Global, word: &str) -> Result<Option<Text>, AllocError> {
-    match word {
-        "-" => Ok(None),
-        text => Ok(Some(Text::copied(alloc, text)?)),
-    }
-}
-
 /// Appends what is known of a key: the steps that are done, and the identifier; a word alone is no key.
 fn push_known(all: &mut Vec<Known>, alloc: Global, words: &str) -> Result<(), Fail> {
     let Some((done, identifier)) = words.split_once(' ') else {
         return Ok(());
     };
     let done = done.parse::<usize>().ok().ok_or("the steps")?;
-    let identifier = identifier_of(alloc, identifier)?;
+    let identifier = match identifier {
+        "-" => None,
+        text => Some(Text::copied(alloc, text)?),
+    };
     all.push(Known { identifier, done })?;
     Ok(())
 }

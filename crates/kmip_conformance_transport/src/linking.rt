@@ -188,8 +188,8 @@ fn close_behind_replies(
 
 #[test]
 fn holds_no_stream_once_a_held_one_was_closed(rt: HostRuntime) -> Result<(), Fail> {
-    let (listener, mut link) = listening(&rt, Duration::from_secs(10))?;
     let reply = hex::decode(rt.alloc(), LOCATE_K1_NONE)?;
+    let (listener, mut link) = listening(&rt, Duration::from_secs(10))?;
     close_behind_replies(&rt, &listener, &mut link, reply.as_slice())
 }
 
@@ -228,15 +228,20 @@ fn answer_once(
     answer_with(rt, listener, link, reply.as_slice())
 }
 
+/// A reply comes through the Unix socket at this path of the host; the next exchange fails.
+fn go_through(rt: &(impl Abort + AllocGlobal), host: &HostRuntime, path: &str) -> Result<(), Fail> {
+    let (listener, mut link) = listening_at(host, path)?;
+    answer_once(rt, &listener, &mut link)?;
+    fs::remove_file(host, path)?;
+    assert_fails(rt, &mut link, 1, "a closed stream");
+    Ok(())
+}
+
 #[test]
 fn goes_through_a_unix_socket(rt: HostRuntime) -> Result<(), Fail> {
     let id = process::id(rt.process());
     let path = format!(in rt.alloc(); "/tmp/kmip_conformance_transport_{id}.socket")?;
-    let (listener, mut link) = listening_at(&rt, path.as_str())?;
-    answer_once(&rt, &listener, &mut link)?;
-    fs::remove_file(&rt, path.as_str())?;
-    assert_fails(&rt, &mut link, 1, "a closed stream");
-    Ok(())
+    go_through(&rt, &rt, path.as_str())
 }
 
 #[test]
