@@ -72,7 +72,8 @@ until_it_does grep -q listening serve.out
 port=$(sed 's/listening //' serve.out)
 
 # The tunnel in front of the server: it asks for a certificate of the authority.
-tls_port=$((20000 + RANDOM % 20000))
+# Below the ports that Linux gives to whoever connects (from 32768 on).
+tls_port=$((20000 + RANDOM % 12000))
 cat > server.conf <<END
 foreground = yes
 pid =
