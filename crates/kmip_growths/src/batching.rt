@@ -47,21 +47,31 @@ impl PairCall {
 
 /// Tries the call: what it gives, and what is then known of both keys.
 pub(crate) fn try_pair(rt: &HostRuntime, case: &str, call: PairCall) -> Result<(), Setback> {
-    let alloc = rt.alloc();
-    let plan = read_plan(alloc, PAIR)?;
-    let mut client = Client::fresh(alloc, &plan)?;
+    let plan = read_plan(rt.alloc(), PAIR)?;
+    let mut client = Client::fresh(rt.alloc(), &plan)?;
     client.set_batch(MOST_QUESTIONS);
-    let message = hex::decode(alloc, call.text())?;
-    let mut said = make(alloc, &mut client, call, message.as_slice());
+    let message = hex::decode(rt.alloc(), call.text())?;
+    try_with(rt, case, &mut client, call, message.as_slice())
+}
+
+/// Tries it with this client: once, and once more where it lacked memory.
+fn try_with(
+    rt: &HostRuntime,
+    case: &str,
+    client: &mut Client<'_>,
+    call: PairCall,
+    message: &[u8],
+) -> Result<(), Setback> {
+    let mut said = make(rt.alloc(), client, call, message);
     print!(rt; "{case}: ")?;
     if said.is_err() {
-        print!(rt; "no memory, {}; again: ", standing(&client))?;
-        said = make(alloc, &mut client, call, message.as_slice());
+        print!(rt; "no memory, {}; again: ", standing(client))?;
+        said = make(rt.alloc(), client, call, message);
     }
     print!(rt; "{}, ", said?)?;
-    print_known(rt, &client, 0)?;
+    print_known(rt, client, 0)?;
     print!(rt; " and ")?;
-    print_known(rt, &client, 1)?;
+    print_known(rt, client, 1)?;
     println!(rt; "")?;
     Ok(())
 }

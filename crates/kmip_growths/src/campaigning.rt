@@ -3,7 +3,7 @@ ghost use Rattle.kmip_session.specs.Campaign.{MayBatch};
 
 use crate::plans::DESTROYED;
 use crate::setback::Setback;
-use kmip_plan::read_plan;
+use kmip_plan::{Plan, read_plan};
 use kmip_progress::{Known, Progress};
 use kmip_scripted::{Script, Scripted};
 use kmip_server::{IndexedStore, Records, Server};
@@ -48,26 +48,55 @@ pub(crate) const SAVED_RUNS: [Run; 3] = [
 pub(crate) fn try_campaign(rt: &HostRuntime, case: &str, runs: &[Run]) -> Result<(), Setback>
     requires { MayBatch runs.now }
 {
-    let alloc = rt.alloc();
-    let plan = read_plan(alloc, DESTROYED)?;
-    let mut calm = new_link(alloc);
-    let whole = campaign(alloc, &plan, &mut calm, runs);
-    if whole.fault.is_some() {
+    let plan = read_plan(rt.alloc(), DESTROYED)?;
+    let whole = undisturbed(rt.alloc(), &plan, runs)?;
+    let mut link = new_link(rt.alloc());
+    try_over(rt, case, &plan, &mut link, runs, &whole)
+}
+
+/// The end of such a campaign that does not lack memory, over a link of its own.
+fn undisturbed(alloc: Global, plan: &Plan, runs: &[Run]) -> Result<CampaignEnd, Setback>
+    requires { MayBatch runs.now }
+{
+    let mut link = new_link(alloc);
+    let end = campaign(alloc, plan, &mut link, runs);
+    if end.fault.is_some() {
         return Err(Setback::NoMemory);
     }
-    let mut link = new_link(alloc);
-    let mut end = campaign(alloc, &plan, &mut link, runs);
+    Ok(end)
+}
+
+/// Tries it over this link: once, and once more where it lacked memory.
+fn try_over(
+    rt: &HostRuntime,
+    case: &str,
+    plan: &Plan,
+    link: &mut Scripted<IndexedStore>,
+    runs: &[Run],
+    whole: &CampaignEnd,
+) -> Result<(), Setback>
+    requires { MayBatch runs.now }
+{
+    let end = campaign(rt.alloc(), plan, link, runs);
     print!(rt; "{case}: ")?;
-    if end.fault.is_some() {
-        let word = if is_front(&end, &whole) {
-            "the first"
-        } else {
-            "other"
-        };
-        print!(rt; "no memory, {word} runs and saves; again: ")?;
-        end = campaign(alloc, &plan, &mut link, runs);
+    if end.fault.is_none() {
+        return print_end(rt, &end, link.server().records());
     }
-    print_end(rt, &end, link.server().records())
+    print!(rt;
+        "no memory, {} runs and saves; again: ",
+        front_word(&end, whole)
+    )?;
+    let again = campaign(rt.alloc(), plan, link, runs);
+    print_end(rt, &again, link.server().records())
+}
+
+/// Whether a campaign's runs and saves are the first of another's, as a word.
+fn front_word(end: &CampaignEnd, whole: &CampaignEnd) -> &'static str {
+    if is_front(end, whole) {
+        "the first"
+    } else {
+        "other"
+    }
 }
 
 /// A link to a new server, which loses nothing.

@@ -14,20 +14,32 @@ pub(crate) fn try_handle<S: Records + Drop>(
     let message = hex::decode(rt.alloc(), CREATE_K1)?;
     let wanted = hex::decode(rt.alloc(), CREATE_K1_REPLY)?;
     let mut server = Server::new(store);
-    let mut replied = server.handle(rt.alloc(), message.as_slice(), 0);
+    try_with(rt, case, &mut server, message.as_slice(), wanted.as_slice())
+}
+
+/// Tries it with this server: once, and once more where it lacked memory.
+fn try_with<S: Records>(
+    rt: &HostRuntime,
+    case: &str,
+    server: &mut Server<S>,
+    message: &[u8],
+    wanted: &[u8],
+) -> Result<(), Setback> {
+    let mut replied = server.handle(rt.alloc(), message, 0);
     print!(rt; "{case}: ")?;
     if replied.is_err() {
-        let count = server.records().count();
-        print!(rt; "no memory, {count} objects; again: ")?;
-        replied = server.handle(rt.alloc(), message.as_slice(), 0);
+        print!(rt; "no memory, {} objects; again: ", server.records().count())?;
+        replied = server.handle(rt.alloc(), message, 0);
     }
-    let is_wanted = replied?.as_slice() == wanted.as_slice();
-    let count = server.records().count();
-    let word = if is_wanted {
+    let word = reply_word(replied?.as_slice() == wanted);
+    println!(rt; "{word}, {} objects", server.records().count())?;
+    Ok(())
+}
+
+fn reply_word(is_wanted: bool) -> &'static str {
+    if is_wanted {
         "the reply"
     } else {
         "another reply"
-    };
-    println!(rt; "{word}, {count} objects")?;
-    Ok(())
+    }
 }

@@ -46,28 +46,44 @@ struct Said {
 /// Tries the call of the talk at a place from 0, `Client::ask` or `Client::hear`: what it gives, and
 /// what is then known of the key. The calls before it are made beforehand.
 pub(crate) fn try_call(rt: &HostRuntime, case: &str, place: usize) -> Result<(), Setback> {
-    let alloc = rt.alloc();
-    let plan = read_plan(alloc, ACTIVE)?;
-    let mut client = Client::fresh(alloc, &plan)?;
-    for call in TALK.iter().take(place) {
-        let message = hex::decode(alloc, call.text())?;
-        make(alloc, &mut client, *call, message.as_slice())?;
-    }
     let Some(call) = TALK.get(place).copied() else {
         return Err(Setback::Other);
     };
-    let message = hex::decode(alloc, call.text())?;
-    let mut said = make(alloc, &mut client, call, message.as_slice());
+    let plan = read_plan(rt.alloc(), ACTIVE)?;
+    let mut client = Client::fresh(rt.alloc(), &plan)?;
+    make_all(rt.alloc(), &mut client, &TALK[..place])?;
+    let message = hex::decode(rt.alloc(), call.text())?;
+    try_last(rt, case, &mut client, call, message.as_slice())
+}
+
+/// Makes calls of the client, one after the other.
+fn make_all(alloc: Global, client: &mut Client<'_>, calls: &[Call]) -> Result<(), Setback> {
+    for call in calls {
+        let message = hex::decode(alloc, call.text())?;
+        make(alloc, client, *call, message.as_slice())?;
+    }
+    Ok(())
+}
+
+/// Tries the call: once, and once more where it lacked memory.
+fn try_last(
+    rt: &HostRuntime,
+    case: &str,
+    client: &mut Client<'_>,
+    call: Call,
+    message: &[u8],
+) -> Result<(), Setback> {
+    let mut said = make(rt.alloc(), client, call, message);
     print!(rt; "{case}: ")?;
     if said.is_err() {
         print!(rt; "no memory, ")?;
-        print_known(rt, &client, 0)?;
+        print_known(rt, client, 0)?;
         print!(rt; "; again: ")?;
-        said = make(alloc, &mut client, call, message.as_slice());
+        said = make(rt.alloc(), client, call, message);
     }
     let Said { operation, word } = said?;
     print!(rt; "operation {operation}, {word}, ")?;
-    print_known(rt, &client, 0)?;
+    print_known(rt, client, 0)?;
     println!(rt; "")?;
     Ok(())
 }
