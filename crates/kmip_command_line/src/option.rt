@@ -50,84 +50,128 @@ enum Absent {
 #[derive(Clone, Copy)]
 pub(crate) struct CommandOption(&'static str, Value, Absent, &'static str);
 
-pub(crate) const ANSWER_OPTIONS: [CommandOption; 1] = [CommandOption("stream", Flag, Fine, STREAM)];
+const STREAM_OPTION: CommandOption = CommandOption("stream", Flag, Fine, STREAM);
 
-pub(crate) const SHOW_OPTIONS: [CommandOption; 1] = [CommandOption("canon", Flag, Fine, CANON)];
+const CANON_OPTION: CommandOption = CommandOption("canon", Flag, Fine, CANON);
 
-pub(crate) const CHECK_OPTIONS: [CommandOption; 2] = [
-    CommandOption("plan", Text("PATH"), Wrong, PLAN),
-    CommandOption("after", Text("PATH"), Fine, AFTER),
-];
+const PLAN_OPTION: CommandOption = CommandOption("plan", Text("PATH"), Wrong, PLAN);
+
+const AFTER_OPTION: CommandOption = CommandOption("after", Text("PATH"), Fine, AFTER);
+
+const THEN_OPTION: CommandOption = CommandOption("then", Text("PATH"), Fine, THEN);
+
+const SCRIPT_OPTION: CommandOption = CommandOption("script", Text("PATH"), Wrong, SCRIPT);
+
+const TRACE_OPTION: CommandOption = CommandOption("trace", Flag, Fine, TRACE);
+
+const PROGRESS_OPTION: CommandOption = CommandOption("progress", Text("PATH"), Wrong, PROGRESS);
+
+const CONNECT_OPTION: CommandOption = CommandOption("connect", Text("ADDRESS"), Fine, CONNECT);
+
+const SOCKET_OPTION: CommandOption = CommandOption("socket", Text("PATH"), Fine, SOCKET);
+
+const LOOPBACK_OPTION: CommandOption = CommandOption("loopback", Flag, Fine, LOOPBACK);
+
+const LIMIT_OPTION: CommandOption = CommandOption(
+    "limit",
+    Number("N", 0, MOST_COUNT),
+    Means("10000"),
+    LIMIT,
+);
+
+const BATCH_OPTION: CommandOption = CommandOption(
+    "batch",
+    Number("B", 1, MOST_QUESTIONS as u64),
+    Means("1"),
+    BATCH,
+);
+
+const TIMEOUT_OPTION: CommandOption = CommandOption(
+    "timeout",
+    Number("SECONDS", 1, MOST_SECONDS),
+    Means("30"),
+    TIMEOUT,
+);
+
+const WAIT_OPTION: CommandOption = CommandOption(
+    "wait",
+    Number("MILLISECONDS", 0, MOST_WAIT),
+    Means("100"),
+    WAIT,
+);
+
+const VERBOSE_OPTION: CommandOption = CommandOption("verbose", Flag, Fine, VERBOSE);
+
+const NAME_PREFIX_OPTION: CommandOption = CommandOption(
+    "name-prefix",
+    Text("PREFIX"),
+    Wrong,
+    NAME_PREFIX,
+);
+
+const PORT_OPTION: CommandOption = CommandOption("port", Number("PORT", 0, 65_535), Wrong, PORT);
+
+const CONNECTIONS_OPTION: CommandOption = CommandOption(
+    "connections",
+    Number("N", 0, MOST_COUNT),
+    Wrong,
+    CONNECTIONS,
+);
+
+const NOW_OPTION: CommandOption = CommandOption(
+    "now",
+    Number("SECONDS", 0, LATEST),
+    Means("0"),
+    NOW,
+);
+
+const SERVE_TIMEOUT_OPTION: CommandOption = CommandOption(
+    "timeout",
+    Number("SECONDS", 1, MOST_SECONDS),
+    Means("60"),
+    SERVE_TIMEOUT,
+);
+
+pub(crate) const ANSWER_OPTIONS: [CommandOption; 1] = [STREAM_OPTION];
+
+pub(crate) const SHOW_OPTIONS: [CommandOption; 1] = [CANON_OPTION];
+
+pub(crate) const CHECK_OPTIONS: [CommandOption; 2] = [PLAN_OPTION, AFTER_OPTION];
 
 pub(crate) const SIM_OPTIONS: [CommandOption; 5] = [
-    CommandOption("plan", Text("PATH"), Wrong, PLAN),
-    CommandOption("then", Text("PATH"), Fine, THEN),
-    CommandOption("script", Text("PATH"), Wrong, SCRIPT),
-    CommandOption(
-        "batch",
-        Number("B", 1, MOST_QUESTIONS as u64),
-        Means("1"),
-        BATCH,
-    ),
-    CommandOption("trace", Flag, Fine, TRACE),
+    PLAN_OPTION,
+    THEN_OPTION,
+    SCRIPT_OPTION,
+    BATCH_OPTION,
+    TRACE_OPTION,
 ];
 
 pub(crate) const RUN_OPTIONS: [CommandOption; 10] = [
-    CommandOption("plan", Text("PATH"), Wrong, PLAN),
-    CommandOption("progress", Text("PATH"), Wrong, PROGRESS),
-    CommandOption("connect", Text("ADDRESS"), Fine, CONNECT),
-    CommandOption("socket", Text("PATH"), Fine, SOCKET),
-    CommandOption("loopback", Flag, Fine, LOOPBACK),
-    CommandOption("limit", Number("N", 0, MOST_COUNT), Means("10000"), LIMIT),
-    CommandOption(
-        "batch",
-        Number("B", 1, MOST_QUESTIONS as u64),
-        Means("1"),
-        BATCH,
-    ),
-    CommandOption(
-        "timeout",
-        Number("SECONDS", 1, MOST_SECONDS),
-        Means("30"),
-        TIMEOUT,
-    ),
-    CommandOption(
-        "wait",
-        Number("MILLISECONDS", 0, MOST_WAIT),
-        Means("100"),
-        WAIT,
-    ),
-    CommandOption("verbose", Flag, Fine, VERBOSE),
+    PLAN_OPTION,
+    PROGRESS_OPTION,
+    CONNECT_OPTION,
+    SOCKET_OPTION,
+    LOOPBACK_OPTION,
+    LIMIT_OPTION,
+    BATCH_OPTION,
+    TIMEOUT_OPTION,
+    WAIT_OPTION,
+    VERBOSE_OPTION,
 ];
 
 pub(crate) const PROBE_OPTIONS: [CommandOption; 5] = [
-    CommandOption("name-prefix", Text("PREFIX"), Wrong, NAME_PREFIX),
-    CommandOption("connect", Text("ADDRESS"), Fine, CONNECT),
-    CommandOption("socket", Text("PATH"), Fine, SOCKET),
-    CommandOption("loopback", Flag, Fine, LOOPBACK),
-    CommandOption(
-        "timeout",
-        Number("SECONDS", 1, MOST_SECONDS),
-        Means("30"),
-        TIMEOUT,
-    ),
+    NAME_PREFIX_OPTION,
+    CONNECT_OPTION,
+    SOCKET_OPTION,
+    LOOPBACK_OPTION,
+    TIMEOUT_OPTION,
 ];
 
 pub(crate) const SERVE_OPTIONS: [CommandOption; 4] = [
-    CommandOption("port", Number("PORT", 0, 65_535), Wrong, PORT),
-    CommandOption(
-        "connections",
-        Number("N", 0, MOST_COUNT),
-        Wrong,
-        CONNECTIONS,
-    ),
-    CommandOption("now", Number("SECONDS", 0, LATEST), Means("0"), NOW),
-    CommandOption(
-        "timeout",
-        Number("SECONDS", 1, MOST_SECONDS),
-        Means("60"),
-        SERVE_TIMEOUT,
-    ),
+    PORT_OPTION,
+    CONNECTIONS_OPTION,
+    NOW_OPTION,
+    SERVE_TIMEOUT_OPTION,
 ];
 
 /// The option, for the parser of command lines.
