@@ -7,7 +7,7 @@ use kmip_messages::{Refusal, Request};
 use std::marker::Model;
 
 /// The questions of a request, in their order, and what is to become of those behind a failure.
-#[derive(Debug, Drop)]
+#[derive(Drop)]
 pub struct Batch {
     /// The Batch Error Continuation Option, where there is one.
     pub option: Option<u32>,
@@ -16,7 +16,7 @@ pub struct Batch {
 
 /// Some questions in an order: a request each, or why it is refused. A contract sees the list of
 /// them.
-#[derive(Debug, Drop)]
+#[derive(Drop)]
 pub struct Questions {
     items: Vec<Result<Request, Refusal>>,
 }

@@ -4,7 +4,7 @@ use crate::target::Target;
 use kmip_objects::KeyAttrs;
 
 /// A key that is to be made, and how far it is to go.
-#[derive(Debug, Drop)]
+#[derive(Drop)]
 pub struct Key {
     /// What the key is made with.
     pub attrs: KeyAttrs,

@@ -49,7 +49,7 @@ use std::marker::Model;
 /// What is known of each key of a plan, whose turn it is, and how many questions a message has at
 /// most. A contract sees the keys, what is known of each, the place at which the next key is looked
 /// for, and that number.
-#[derive(Debug, Drop)]
+#[derive(Drop)]
 pub struct Client<'p> {
     plan: &'p Plan,
     knowns: Vec<Knowledge>,

@@ -30,7 +30,7 @@ use kmip_messages::{MessageFault, Outcome, Reply};
 use std::alloc::Global;
 
 /// What a reply was, that a client has learnt from.
-#[derive(Clone, Copy, Debug, PartialEq, Eq)]
+#[derive(Clone, Copy)]
 pub struct Heard {
     /// The place of the key that it is about, from 0.
     pub key: usize,
@@ -40,7 +40,7 @@ pub struct Heard {
 }
 
 /// What has come of a reply.
-#[derive(Clone, Copy, Debug, PartialEq, Eq)]
+#[derive(Clone, Copy, Debug)]
 pub enum News {
     /// An identifier is known that was not, or more steps.
     Grew,

@@ -24,7 +24,7 @@ use std::marker::Model;
 const EVERY_STATE: i32 = (STORAGE_ON_LINE + STORAGE_DESTROYED) as i32;
 
 /// One question of a message.
-#[derive(Clone, Copy, Debug, PartialEq, Eq)]
+#[derive(Clone, Copy)]
 pub struct Part {
     /// The place of the key that it is about, from 0.
     pub key: usize,
@@ -33,7 +33,7 @@ pub struct Part {
 }
 
 /// What a message asks, question by question. A contract sees the list of them.
-#[derive(Debug, Drop)]
+#[derive(Drop)]
 pub struct Parts {
     items: Vec<Part>,
 }
@@ -64,7 +64,7 @@ impl Parts {
 }
 
 /// A message of one to eight questions that is to be sent.
-#[derive(Debug, Drop)]
+#[derive(Drop)]
 pub struct Question {
     pub parts: Parts,
     /// The message, as it is sent.

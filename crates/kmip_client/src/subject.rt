@@ -14,7 +14,7 @@ use kmip_plan::laws::keys_have_names;
 use kmip_ttlv::Bytes;
 
 /// The key and the operation that an id names.
-#[derive(Clone, Copy, Debug)]
+#[derive(Clone, Copy)]
 pub(crate) struct Subject {
     /// The place of the key, from 0.
     pub key: usize,

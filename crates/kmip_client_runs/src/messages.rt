@@ -3,7 +3,7 @@
 use kmip_batches::{
     Batch, read_reply, read_request, reply_fits, request_fits, write_reply, write_request,
 };
-use kmip_messages::{MessageFault, Outcome, Refusal, Reply, Request};
+use kmip_messages::{Outcome, Refusal, Reply, Request};
 use kmip_ttlv::{Bytes, Text};
 use std::alloc::{AllocError, Global};
 use std::test::Fail;
@@ -22,20 +22,8 @@ pub fn push_row(alloc: Global, text: &mut String, word: &str, bytes: &[u8]) -> R
 fn push_request(alloc: Global, text: &mut String, bytes: &[u8]) -> Result<(), AllocError> {
     match read_request(alloc, bytes) {
         Ok(batch) => push_batch(alloc, text, &batch),
-        Err(fault) => push_fault(text, &fault),
+        Err(fault) => write!(text, "{fault}"),
     }
-}
-
-/// Writes the name of a fault, with the tag that it names, or what is wrong with the items.
-pub fn push_fault(text: &mut String, fault: &MessageFault) -> Result<(), AllocError> {
-    text.push_str(fault.name())?;
-    if let Some(tag) = fault.tag() {
-        write!(text, " {:06x}", tag.number())?;
-    }
-    if let Some(fault) = fault.items() {
-        write!(text, " {fault}")?;
-    }
-    Ok(())
 }
 
 fn push_batch(alloc: Global, text: &mut String, batch: &Batch) -> Result<(), AllocError> {
@@ -60,7 +48,7 @@ fn push_question(
         Err(refusal) => {
             let operation = refusal.operation.unwrap_or(0);
             text.push_str("; ")?;
-            push_fault(text, &refusal.fault)?;
+            write!(text, "{}", refusal.fault)?;
             write!(text, " of {operation}")?;
             push_id(alloc, text, refusal.id.as_ref())
         }
@@ -86,7 +74,7 @@ pub fn push_digits(alloc: Global, text: &mut String, bytes: &[u8]) -> Result<(),
 fn push_reply(alloc: Global, text: &mut String, bytes: &[u8]) -> Result<(), AllocError> {
     match read_reply(alloc, bytes) {
         Ok(replies) => push_replies(alloc, text, replies.as_slice()),
-        Err(fault) => push_fault(text, &fault),
+        Err(fault) => write!(text, "{fault}"),
     }
 }
 

@@ -1,8 +1,7 @@
 //! What a client knows, asks and says, as the transcript tells of it.
 
-use crate::messages::{push_digits, push_fault};
+use crate::messages::push_digits;
 use kmip_client::{Client, HearFault, Heard, Part, Question, Verdict};
-use kmip_messages::MessageFault;
 use kmip_ttlv::Text;
 use std::alloc::{AllocError, Global};
 use std::test::Fail;
@@ -76,19 +75,10 @@ fn push_all(text: &mut String, all: &[Result<Heard, HearFault>]) -> Result<(), A
 /// Writes the name of a fault, and what is wrong with a message.
 fn push_refusal(text: &mut String, fault: &HearFault) -> Result<(), AllocError> {
     text.push_str(fault.name())?;
-    if let Some(fault) = message_fault(fault) {
-        text.push(' ')?;
-        push_fault(text, &fault)?;
+    if let HearFault::Unreadable(fault) = fault {
+        write!(text, " {fault}")?;
     }
     Ok(())
-}
-
-/// What is wrong with a message, where it is that.
-fn message_fault(fault: &HearFault) -> Option<MessageFault> {
-    match fault {
-        HearFault::Unreadable(fault) => Some(*fault),
-        _ => None,
-    }
 }
 
 /// Writes the steps done, the identifier in hexadecimal, and the verdict of the key at a place.

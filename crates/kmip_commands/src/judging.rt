@@ -8,7 +8,7 @@ use kmip_ttlv::NoMemory;
 use std::alloc::Global;
 
 /// What a line says.
-#[derive(Debug, Drop)]
+#[derive(Drop)]
 pub enum Judged {
     /// Nothing: the line is empty.
     Empty,

@@ -17,7 +17,7 @@ const MOST_KEPT: usize = MOST_DIGITS + 1;
 const LINE_FEED: u8 = b'\n';
 
 /// What `read_line` found.
-#[derive(Clone, Copy, Debug, PartialEq, Eq)]
+#[derive(Clone, Copy)]
 pub enum NextLine {
     /// A line. The flag says whether the reader has bytes after it that it gives without a wait.
     Line { has_more: bool },
@@ -26,7 +26,7 @@ pub enum NextLine {
 }
 
 /// What one look into the reader's buffer found.
-#[derive(Clone, Copy, Debug, PartialEq, Eq)]
+#[derive(Clone, Copy)]
 enum Piece {
     /// No line feed, or no bytes since the read was interrupted. The buffer is used up.
     Middle,

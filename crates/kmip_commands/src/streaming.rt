@@ -21,7 +21,7 @@ use std::alloc::Global;
 use std::io::{BufRead, Write};
 
 /// How a stream of messages ended.
-#[derive(Clone, Copy, Debug, PartialEq, Eq)]
+#[derive(Clone, Copy, Debug)]
 pub enum InputEnd {
     /// After a whole message, or before the first.
     Whole,
@@ -32,7 +32,7 @@ pub enum InputEnd {
 }
 
 /// What became of the lines of a stream.
-#[derive(Clone, Copy, Debug, PartialEq, Eq)]
+#[derive(Clone, Copy, Debug)]
 pub struct StreamOutcome {
     pub end: InputEnd,
     /// Whether a line was refused, up to the one that ended the stream.

@@ -12,42 +12,32 @@ ghost use Rattle.kmip_fields.specs.declared.fault.MessageFault.TheVariants as fa
 
 use kmip_ttlv::{NoMemory, Tag, TtlvFault};
 use std::alloc::{AllocError, AllocFailed};
-use thiserror::Error;
+use std::error::Error;
+use std::fmt::{self, Debug, Display, Formatter};
 
 /// The first thing that is wrong with a message.
-#[derive(Clone, Copy, Debug, PartialEq, Eq, Error)]
+#[derive(Clone, Copy)]
 pub enum MessageFault {
     /// No item stands at the front of the bytes. Never with want of memory, which is `NoMemory`.
-    #[error("{0}")]
     Ttlv(TtlvFault),
     /// Bytes follow the item, or it is no message of this kind.
-    #[error("not a message")]
     NotMessage,
     /// The Protocol Version is not 2.1, or for a reply not 2.
-    #[error("another version")]
     Version,
     /// The Batch Count is not from 1 to 8, or not the number of Batch Items.
-    #[error("another number of batch items")]
     BatchCount,
     /// A required item of this tag is not there.
-    #[error("missing {0:?}")]
     Missing(Tag),
     /// An item of this tag that may stand once is there twice or more often.
-    #[error("twice {0:?}")]
     Twice(Tag),
     /// The item of this tag has another type.
-    #[error("wrong type of {0:?}")]
     WrongType(Tag),
     /// The item of this tag has a value out of its range, or has no place here.
-    #[error("out of range {0:?}")]
     OutOfRange(Tag),
     /// The operation is none of the profile.
-    #[error("unknown operation")]
     UnknownOperation,
-    #[error("no memory")]
     NoMemory,
     /// What was done is to be undone at a failure, which no server of the profile does.
-    #[error("undo")]
     Undo,
 }
 
@@ -120,6 +110,29 @@ impl MessageFault {
         }
     }
 }
+
+/// The fault's name, with the tag that it is about as six hexadecimal digits, or with what is wrong with
+/// the items: `Missing 420077`, `Ttlv: Short at 0`.
+impl Display for MessageFault {
+    fn fmt<W: fmt::Write>(&self, f: &mut Formatter<W>) -> fmt::Result {
+        f.write_str(self.name())?;
+        if let Some(tag) = self.tag() {
+            write!(f, " {:06x}", tag.number())?;
+        }
+        if let Some(fault) = self.items() {
+            write!(f, ": {fault}")?;
+        }
+        Ok(())
+    }
+}
+
+impl Debug for MessageFault {
+    fn fmt<W: fmt::Write>(&self, f: &mut Formatter<W>) -> fmt::Result {
+        Display::fmt(self, f)
+    }
+}
+
+impl Error for MessageFault {}
 
 impl From<TtlvFault> for MessageFault {
     ghost from_gives = { λ fault e. e ≡ message_fault_of fault };

@@ -14,7 +14,7 @@ use std::marker::Model;
 ///
 /// A message begins with a head of eight bytes: the tag of a Request or Response Message, the type
 /// Structure, and a length that is a multiple of eight. It takes at most 8,192 bytes with its head.
-#[derive(Debug, Drop)]
+#[derive(Drop)]
 pub struct Framer {
     held: Vec<u8>,
 }

@@ -111,7 +111,8 @@ fn hear(alloc: Global, client: &mut Client<'_>, reply: &[u8]) -> Result<&'static
 }
 
 fn lacks_memory(all: &[Result<Heard, HearFault>]) -> bool {
-    all.iter().any(|heard| *heard == Err(HearFault::NoMemory))
+    all.iter()
+        .any(|heard| matches!(heard, Err(HearFault::NoMemory)))
 }
 
 /// What stands where memory was lacking: each reply is learnt, or it is not.

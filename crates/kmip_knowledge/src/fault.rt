@@ -7,7 +7,7 @@ use thiserror::Error;
 
 /// Why the client learns nothing from what has come; it is then as it was. The faults stand in the
 /// order in which they are looked for.
-#[derive(Clone, Copy, Debug, PartialEq, Eq, Error)]
+#[derive(Clone, Copy, Debug, Error)]
 pub enum HearFault {
     /// The bytes are no reply. Never with want of memory, which is `NoMemory`.
     #[error("unreadable: {0}")]

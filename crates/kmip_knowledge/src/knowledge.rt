@@ -7,7 +7,7 @@ use kmip_chains::{Key, chain_length};
 use kmip_ttlv::Text;
 
 /// What is to be found out or done next about a key.
-#[derive(Clone, Copy, Debug, PartialEq, Eq)]
+#[derive(Clone, Copy)]
 pub enum Phase {
     /// Whether there is an object of its name.
     Look,
@@ -31,7 +31,7 @@ pub enum Verdict {
 }
 
 /// What is known of a key.
-#[derive(Debug, Drop)]
+#[derive(Drop)]
 pub struct Knowledge {
     /// The identifier of its object.
     pub identifier: Option<Text>,

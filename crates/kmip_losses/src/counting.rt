@@ -18,7 +18,7 @@ type Question = Result<Request, Refusal>;
 
 /// How many exchanges were disturbed, how many requests these sent, and how many replies about other
 /// keys they handed over.
-#[derive(Clone, Copy, Debug)]
+#[derive(Clone, Copy)]
 pub struct Counts {
     pub disturbed: usize,
     pub requests: usize,

@@ -4,7 +4,7 @@ use kmip_fields::MessageFault;
 use kmip_ttlv::Bytes;
 
 /// Why a request was refused, with what its answer is to carry.
-#[derive(Debug, Drop)]
+#[derive(Drop)]
 pub struct Refusal {
     pub fault: MessageFault,
     /// The request's Operation, where it and the Unique Batch Item ID were lawful.

@@ -4,7 +4,7 @@ use kmip_objects::{Attrs, Texts};
 use kmip_ttlv::{Bytes, Text};
 
 /// The server's answer to one question.
-#[derive(Debug, Drop)]
+#[derive(Drop)]
 pub struct Reply {
     /// The operation that was asked, where the server could tell.
     pub operation: Option<u32>,
@@ -16,7 +16,7 @@ pub struct Reply {
 /// How an operation went.
 ///
 /// Source: KMIP 2.1, Operations, and Message Data, Result Status.
-#[derive(Debug, Drop)]
+#[derive(Drop)]
 pub enum Outcome {
     /// The identifier of the new key.
     Created(Text),

@@ -10,7 +10,7 @@ use kmip_objects::{Attrs, KeyAttrs};
 use kmip_ttlv::{Bytes, Text};
 
 /// One question to the server.
-#[derive(Debug, Drop)]
+#[derive(Drop)]
 pub struct Request {
     /// The Unique Batch Item ID, at most 128 bytes, where there is one.
     pub id: Option<Bytes>,
@@ -20,7 +20,7 @@ pub struct Request {
 /// An operation with what it is asked of.
 ///
 /// Source: KMIP 2.1, Operations.
-#[derive(Debug, Drop)]
+#[derive(Drop)]
 pub enum Ask {
     /// Make a symmetric key with these attributes.
     Create(KeyAttrs),

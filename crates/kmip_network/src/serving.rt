@@ -44,7 +44,8 @@ fn serve_connections(
         let Some(stream) = next_stream(listener) else {
             return told_failures(rt, port);
         };
-        if serve_connection(rt, options, &mut server, stream) == StreamEnd::NoMemory {
+        let ended = serve_connection(rt, options, &mut server, stream);
+        if matches!(ended, StreamEnd::NoMemory) {
             rt.println(CommandFault::NoMemory.text())?;
             return Ok(ExitStatus::Failed(CommandFault::NoMemory));
         }

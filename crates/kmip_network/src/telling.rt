@@ -7,7 +7,7 @@ use kmip_running::Observer;
 use kmip_schedule::LinkFault;
 use kmip_ttlv::NoMemory;
 use kmip_wording::{push_answer, push_question};
-use std::alloc::{AllocError, Global};
+use std::alloc::Global;
 use std::str::from_utf8;
 
 /// Counts each exchange, and tells it on standard error, if it is to: what was asked, and what came
@@ -78,22 +78,9 @@ fn push_fault(alloc: Global, fault: &MessageFault, line: &mut Vec<u8>) -> Result
     if fault.is_no_memory() {
         return Err(NoMemory);
     }
-    let text = fault_text(alloc, fault)?;
-    line.extend_from_slice(text.as_str().as_bytes())?;
+    let why = format!(in alloc; " ({fault})")?;
+    line.extend_from_slice(why.as_bytes())?;
     Ok(())
-}
-
-fn fault_text(alloc: Global, fault: &MessageFault) -> Result<String, AllocError> {
-    let mut text = String::from_str(alloc, " (")?;
-    text.push_str(fault.name())?;
-    if let Some(tag) = fault.tag() {
-        write!(text, " {:06x}", tag.number())?;
-    }
-    if let Some(fault) = fault.items() {
-        write!(text, ": {fault}")?;
-    }
-    text.push_str(")")?;
-    Ok(text)
 }
 
 impl<'a> Observer for Teller<'a> {

@@ -11,7 +11,7 @@ use kmip_ttlv::Text;
 use std::alloc::{AllocError, Global};
 
 /// The attributes that a key is made with.
-#[derive(Debug, Drop)]
+#[derive(Drop)]
 pub struct KeyAttrs {
     /// 1 to 64 bytes, each 21 to 7E hexadecimal.
     pub name: Text,
@@ -42,7 +42,7 @@ impl KeyAttrs {
 }
 
 /// The attributes of the profile, each where it is given.
-#[derive(Debug, Drop)]
+#[derive(Drop)]
 pub struct Attrs {
     pub object_type: Option<u32>,
     pub name: Option<Text>,

@@ -5,7 +5,7 @@ ghost use Rattle.kmip_objects.specs.Lifecycle.{step_word};
 /// An operation that makes a key or changes its state.
 ///
 /// Source: KMIP 2.1, Operations.
-#[derive(Clone, Copy, Debug, PartialEq, Eq)]
+#[derive(Clone, Copy)]
 pub enum Step {
     Create,
     Activate,

@@ -5,10 +5,11 @@ ghost use Rattle.kmip_plan.specs.declared.fault.PlanFault.TheVariants as faults;
 
 use kmip_ttlv::Text;
 use std::alloc::{AllocError, AllocFailed};
-use thiserror::Error;
+use std::error::Error;
+use std::fmt::{self, Debug, Display, Formatter};
 
 /// A field that each key of a plan has.
-#[derive(Clone, Copy, Debug, PartialEq, Eq)]
+#[derive(Clone, Copy, Debug)]
 pub enum Field {
     Name,
     Algorithm,
@@ -34,37 +35,25 @@ impl Field {
 
 /// The first thing that is wrong with a plan. A number is the place of the key, from 1; an unknown
 /// field beside the keys is at place 0.
-#[derive(Debug, Drop, Error)]
+#[derive(Drop)]
 pub enum PlanFault {
-    #[error("no TOML")]
     Toml,
     /// There is no array of keys, or it is empty.
-    #[error("no keys")]
     NoKeys,
     /// More than 1,000 keys.
-    #[error("too many keys")]
     TooMany,
-    #[error("missing {0:?} at key {1}")]
     Missing(Field, usize),
     /// A field that plans do not have.
-    #[error("unknown {0:?} at key {1}")]
     Unknown(Text, usize),
-    #[error("bad name at key {0}")]
     BadName(usize),
     /// The algorithm is none of the profile, or has no keys of this length.
-    #[error("bad length at key {0}")]
     BadLength(usize),
-    #[error("bad usage at key {0}")]
     BadUsage(usize),
-    #[error("bad target at key {0}")]
     BadTarget(usize),
     /// No reason of a Revoke, or a reason with a target that has no Revoke.
-    #[error("bad reason at key {0}")]
     BadReason(usize),
     /// A key before has the name.
-    #[error("the name of key {0} is used")]
     SameName(usize),
-    #[error("no memory")]
     NoMemory,
 }
 
@@ -137,6 +126,28 @@ impl PlanFault {
         }
     }
 }
+
+/// The fault's name, the field that it is about, and the place of the key: `Missing usage at key 2`.
+impl Display for PlanFault {
+    fn fmt<W: fmt::Write>(&self, f: &mut Formatter<W>) -> fmt::Result {
+        f.write_str(self.name())?;
+        if let Some(field) = self.field() {
+            write!(f, " {field}")?;
+        }
+        if let Some(place) = self.place() {
+            write!(f, " at key {place}")?;
+        }
+        Ok(())
+    }
+}
+
+impl Debug for PlanFault {
+    fn fmt<W: fmt::Write>(&self, f: &mut Formatter<W>) -> fmt::Result {
+        Display::fmt(self, f)
+    }
+}
+
+impl Error for PlanFault {}
 
 impl From<AllocError> for PlanFault {
     ghost from_gives = { λ _ e. e ≡ faults.NoMemory };

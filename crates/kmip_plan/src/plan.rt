@@ -11,7 +11,7 @@ use std::marker::Model;
 
 /// The keys of a plan in their order: 1 to 1,000, each in its ranges and with a name of its own. A
 /// contract sees the list of them.
-#[derive(Debug, Drop)]
+#[derive(Drop)]
 pub struct Plan {
     keys: Vec<Key>,
 }

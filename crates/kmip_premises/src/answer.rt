@@ -14,7 +14,7 @@ use kmip_ttlv::{Bytes, NoMemory, Text};
 use std::alloc::Global;
 
 /// What came of a question.
-#[derive(Debug, Drop)]
+#[derive(Drop)]
 pub enum Answer {
     /// Nothing that answers it.
     Nothing,

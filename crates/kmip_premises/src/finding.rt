@@ -6,7 +6,7 @@ use kmip_objects::Step;
 use kmip_ttlv::Text;
 
 /// What the answers say of a premise of the theorem.
-#[derive(Debug, Drop)]
+#[derive(Drop)]
 pub enum Finding {
     /// The server keeps it.
     Kept,
@@ -17,7 +17,7 @@ pub enum Finding {
 }
 
 /// How a server breaks a premise.
-#[derive(Debug, Drop)]
+#[derive(Drop)]
 pub enum Flaw {
     /// It has a second object of one name, with this identifier.
     SecondObject(Text),
@@ -40,7 +40,7 @@ pub enum Flaw {
 /// An attribute that Get Attributes tells.
 ///
 /// Source: KMIP 2.1, Object Attributes.
-#[derive(Clone, Copy, Debug)]
+#[derive(Clone, Copy)]
 pub enum Attribute {
     ObjectType,
     Name,
@@ -67,7 +67,7 @@ impl Attribute {
 }
 
 /// What a probe finds of each premise, and the reasons of the refusals.
-#[derive(Debug, Drop)]
+#[derive(Drop)]
 pub struct Findings {
     /// No second object is made of a used name.
     pub names_are_unique: Finding,

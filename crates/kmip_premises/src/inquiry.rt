@@ -20,7 +20,7 @@ pub const KEY_BITS: i32 = 256;
 pub const KEY_USAGE: i32 = 0xC;
 
 /// One of the two names of a probe.
-#[derive(Clone, Copy, Debug)]
+#[derive(Clone, Copy)]
 pub enum Which {
     /// The prefix and `-1`.
     First,
@@ -29,7 +29,7 @@ pub enum Which {
 }
 
 /// What is asked about the object of a name.
-#[derive(Clone, Copy, Debug)]
+#[derive(Clone, Copy)]
 pub enum Kind {
     /// Which objects have the name, with a Storage Status Mask where there is one.
     Locate(Option<i32>),
@@ -42,7 +42,7 @@ pub enum Kind {
 }
 
 /// A question of a probe.
-#[derive(Clone, Copy, Debug)]
+#[derive(Clone, Copy)]
 pub struct Inquiry(pub Which, pub Kind);
 
 /// How many questions a probe has.

@@ -5,7 +5,7 @@ ghost use Rattle.kmip_probe.specs.Wording.{finding_of, is_for_progress, premise_
 use kmip_premises::{Finding, Findings};
 
 /// A premise of the theorem, of the server.
-#[derive(Clone, Copy, Debug)]
+#[derive(Clone, Copy)]
 pub enum Premise {
     NamesAreUnique,
     NamesStayUsed,

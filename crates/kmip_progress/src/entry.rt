@@ -7,7 +7,7 @@ use kmip_chains::Target;
 use kmip_ttlv::Text;
 
 /// How a text is laid out. Format 2 is written, both are read.
-#[derive(Clone, Copy, Debug)]
+#[derive(Clone, Copy)]
 pub enum Format {
     /// The line of a key has its name, its target, how many steps are done and its identifier.
     One,
@@ -16,7 +16,7 @@ pub enum Format {
 }
 
 /// What the line of a key says.
-#[derive(Debug, Drop)]
+#[derive(Drop)]
 pub struct Entry {
     /// The key's name.
     pub name: Text,

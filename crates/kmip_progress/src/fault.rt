@@ -8,7 +8,7 @@ use thiserror::Error;
 
 /// Why a text is no progress of a plan. `Cut` is looked for first, over the whole text, then
 /// `BadText`, then `OtherPlan`.
-#[derive(Clone, Copy, Debug, PartialEq, Eq, Error)]
+#[derive(Clone, Copy, Debug, Error)]
 pub enum ProgressFault {
     /// A line is none of a progress text, or there are not as many as the last line says.
     #[error("a line is none of a progress text")]

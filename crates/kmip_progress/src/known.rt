@@ -7,7 +7,7 @@ use kmip_objects::is_identifier;
 use kmip_ttlv::Text;
 
 /// What is known of one key of a plan.
-#[derive(Debug, Drop)]
+#[derive(Drop)]
 pub struct Known {
     /// The Unique Identifier of its object, where one is known: 1 to 64 bytes.
     pub identifier: Option<Text>,

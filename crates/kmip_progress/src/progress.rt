@@ -17,7 +17,7 @@ use std::alloc::Global;
 use std::marker::Model;
 
 /// What is known of each key of a plan, in the plan's order. A contract sees the list of it.
-#[derive(Debug, Drop)]
+#[derive(Drop)]
 pub struct Progress {
     known: Vec<Known>,
 }

@@ -27,7 +27,7 @@ pub trait Keeper {
 }
 
 /// Why a text was not saved.
-#[derive(Clone, Copy, Debug, PartialEq, Eq, Error)]
+#[derive(Clone, Copy, Debug, Error)]
 pub enum SaveFault {
     /// It could not be written.
     #[error("the text could not be written")]

@@ -16,7 +16,7 @@ pub trait Observer {
 
 /// A link that tells an observer of each exchange once it is made, and of the end of a run. What is proved over a link holds
 /// over this one: it carries what the link within carries.
-#[derive(Debug, Drop)]
+#[derive(Drop)]
 pub struct Observed<L, O> {
     link: L,
     observer: O,

@@ -46,7 +46,7 @@ fn has_reply(answered: &Result<Option<Vec<u8>>, LinkFault>) -> bool
 
 /// A link that waits before an exchange where the one before it brought no reply. What is proved
 /// over a link holds over this one: it carries what the link within carries.
-#[derive(Debug, Drop)]
+#[derive(Drop)]
 pub struct Paced<L, C> {
     link: L,
     clock: C,

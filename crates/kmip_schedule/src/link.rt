@@ -92,7 +92,7 @@ pub trait Link {
 }
 
 /// Why a link has no answer.
-#[derive(Clone, Copy, Debug, PartialEq, Eq, Error)]
+#[derive(Clone, Copy, Debug, Error)]
 pub enum LinkFault {
     /// The network failed: it could not be reached, read or written.
     #[error("the network failed")]

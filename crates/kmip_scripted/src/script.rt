@@ -7,7 +7,7 @@ use std::marker::Model;
 
 /// What a word of a script makes of an exchange, or between two of them. A number is of 1 to 6
 /// digits where it was read; requests, replies and saves are counted from 1.
-#[derive(Clone, Copy, Debug, PartialEq, Eq)]
+#[derive(Clone, Copy, Debug)]
 pub enum Word {
     /// The request is delivered, and its reply handed over.
     Pass,
@@ -31,7 +31,7 @@ pub enum Word {
 }
 
 /// What a link is to do, in order. A contract sees the list of its words.
-#[derive(Debug, Drop)]
+#[derive(Drop)]
 pub struct Script {
     words: Vec<Word>,
 }

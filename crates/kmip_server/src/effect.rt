@@ -14,7 +14,7 @@ use kmip_ttlv::{NoMemory, Text};
 use std::alloc::Global;
 
 /// A step that took effect on the object of a name.
-#[derive(Debug, Drop)]
+#[derive(Drop)]
 pub struct Effect {
     pub name: Text,
     pub step: Step,

@@ -49,7 +49,7 @@ use kmip_ttlv::NoMemory;
 use std::alloc::Global;
 
 /// What a run begins with.
-#[derive(Clone, Copy, Debug, PartialEq, Eq)]
+#[derive(Clone, Copy)]
 pub enum Start {
     /// Nothing is known.
     Fresh,
@@ -61,7 +61,7 @@ pub enum Start {
 
 /// A run: what it begins with, how many exchanges it may make at most, how many keys each of its
 /// messages asks about at most, 1 to 8, and whether what is known at its end is saved.
-#[derive(Clone, Copy, Debug, PartialEq, Eq)]
+#[derive(Clone, Copy)]
 pub struct Run {
     pub start: Start,
     pub limit: usize,
@@ -70,7 +70,7 @@ pub struct Run {
 }
 
 /// How a run ended.
-#[derive(Debug, Drop)]
+#[derive(Drop)]
 pub struct RunEnd {
     /// Why it stopped; never by want of memory.
     pub stop: Stop,
@@ -86,7 +86,7 @@ pub struct RunEnd {
 
 /// How a campaign ended: the ends of its runs and what was saved, in order, and whether it ended
 /// for want of memory.
-#[derive(Debug, Drop)]
+#[derive(Drop)]
 pub struct CampaignEnd {
     pub runs: Vec<RunEnd>,
     pub saved: Vec<Progress>,

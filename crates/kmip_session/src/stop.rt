@@ -3,7 +3,7 @@ ghost use Rattle.std.specs.Prelude.{◌≡◌, ◌≢◌, IsTrue, false};
 ghost use Rattle.kmip_session.specs.Stops.{is_all_finished, stop_number, stop_name};
 
 /// Why a run stops.
-#[derive(Clone, Copy, Debug, PartialEq, Eq)]
+#[derive(Clone, Copy, PartialEq, Eq)]
 pub enum Stop {
     /// Every key of the plan is finished.
     AllFinished,

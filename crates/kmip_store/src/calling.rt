@@ -24,7 +24,7 @@ use kmip_ttlv::{NoMemory, Text};
 use std::alloc::Global;
 
 /// A call of a method of the records, with what it is given.
-#[derive(Debug, Drop)]
+#[derive(Drop)]
 pub enum Call {
     Create(KeyAttrs),
     Locate { mask: Option<i32>, filter: Attrs },
@@ -37,7 +37,7 @@ pub enum Call {
 }
 
 /// What a call answered, other than want of memory.
-#[derive(Debug, Drop)]
+#[derive(Drop)]
 pub enum Answer {
     /// An object was made, and has this identifier.
     Created(Text),

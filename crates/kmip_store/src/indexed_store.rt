@@ -20,7 +20,7 @@ use std::marker::Model;
 
 /// The rows in a vector, and a map that leads from their names to their places. A look-up by name goes
 /// by the map, and one by identifier to the place whose number the identifier is.
-#[derive(Debug, Drop)]
+#[derive(Drop)]
 pub struct IndexedStore {
     rows: Vec<Row>,
     names: IndexSet<String>,

@@ -17,7 +17,7 @@ use std::alloc::Global;
 use std::marker::Model;
 
 /// The rows in a vector, and every look-up a search through it.
-#[derive(Debug, Drop)]
+#[derive(Drop)]
 pub struct ListStore {
     rows: Vec<Row>,
     room: usize,

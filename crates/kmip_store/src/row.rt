@@ -6,7 +6,7 @@ use kmip_ttlv::{Bytes, Text};
 use std::alloc::{AllocError, Global};
 
 /// An object: its identifier, what it was made with, its state and its key material.
-#[derive(Debug, Drop)]
+#[derive(Drop)]
 pub struct Row {
     /// The Unique Identifier: the decimal number of the row's place, from 1.
     pub uid: Text,

@@ -13,7 +13,7 @@ use std::alloc::Global;
 use std::io::{Read, Write};
 
 /// How a stream of messages that was served came to its end.
-#[derive(Clone, Copy, Debug, PartialEq, Eq)]
+#[derive(Clone, Copy, Debug)]
 pub enum StreamEnd {
     /// It ended, so many bytes behind the last whole message: 0 to 8,191.
     Ended(usize),

@@ -4,10 +4,12 @@ ghost use Rattle.kmip_ttlv.specs.Faults.{fault_number, fault_name, fault_offset}
 ghost use Rattle.kmip_ttlv.specs.declared.fault.TtlvFault.TheVariants as faults;
 
 use std::alloc::{AllocError, AllocFailed};
+use std::error;
+use std::fmt::{self, Debug, Display, Formatter};
 use thiserror::Error;
 
 /// There was no memory for a growth.
-#[derive(Clone, Copy, Debug, PartialEq, Eq, Error)]
+#[derive(Clone, Copy, Debug, Error)]
 #[error("no memory")]
 pub struct NoMemory;
 
@@ -25,33 +27,24 @@ impl<T: Drop> From<AllocFailed<T>> for NoMemory {
 
 /// Why no item stands at the front of some bytes. All but `NoMemory` carry the offset of the first
 /// byte of the item at fault.
-#[derive(Clone, Copy, Debug, PartialEq, Eq, Error)]
+#[derive(Clone, Copy)]
 pub enum TtlvFault {
     /// The bytes end before the outermost item does.
-    #[error("short at {0}")]
     Short(usize),
     /// The type is not 01 to 0B.
-    #[error("unknown type at {0}")]
     UnknownType(usize),
     /// The length is none that the type allows.
-    #[error("bad length at {0}")]
     BadLength(usize),
     /// A Boolean that is neither 0 nor 1.
-    #[error("bad boolean at {0}")]
     BadBoolean(usize),
     /// A Text String that is not UTF-8.
-    #[error("bad text at {0}")]
     BadText(usize),
     /// A child that passes the end of its Structure.
-    #[error("children overrun at {0}")]
     ChildrenOverrun(usize),
     /// An item on the 17th level.
-    #[error("too deep at {0}")]
     TooDeep(usize),
     /// An outermost item of more than 8,192 bytes.
-    #[error("too long at {0}")]
     TooLong(usize),
-    #[error("no memory")]
     NoMemory,
 }
 
@@ -107,6 +100,25 @@ impl TtlvFault {
         }
     }
 }
+
+/// The fault's name and its offset: `BadLength at 8`.
+impl Display for TtlvFault {
+    fn fmt<W: fmt::Write>(&self, f: &mut Formatter<W>) -> fmt::Result {
+        f.write_str(self.name())?;
+        match self.offset() {
+            Some(at) => write!(f, " at {at}"),
+            None => Ok(()),
+        }
+    }
+}
+
+impl Debug for TtlvFault {
+    fn fmt<W: fmt::Write>(&self, f: &mut Formatter<W>) -> fmt::Result {
+        Display::fmt(self, f)
+    }
+}
+
+impl error::Error for TtlvFault {}
 
 impl From<NoMemory> for TtlvFault {
     ghost from_gives = { λ _ e. e ≡ faults.NoMemory };

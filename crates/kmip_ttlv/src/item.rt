@@ -7,7 +7,7 @@ use crate::text::Text;
 /// A tag with a value.
 ///
 /// Source: KMIP 2.1, TTLV Encoding.
-#[derive(Debug, Drop)]
+#[derive(Drop)]
 #[cycle(item)]
 pub struct Item {
     pub tag: Tag,
@@ -17,7 +17,7 @@ pub struct Item {
 /// A value of one of the types 01 to 0B of TTLV, in the order of their numbers.
 ///
 /// Source: KMIP 2.1, TTLV Encoding, Type.
-#[derive(Debug, Drop)]
+#[derive(Drop)]
 #[cycle(item)]
 pub enum Value {
     /// Items in an order.

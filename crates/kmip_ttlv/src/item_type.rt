@@ -6,7 +6,7 @@ ghost use Rattle.kmip_ttlv.specs.Showing.{type_name};
 /// The types of TTLV, in the order of their numbers 01 to 0B.
 ///
 /// Source: KMIP 2.1, TTLV Encoding, Type.
-#[derive(Clone, Copy, Debug, PartialEq, Eq)]
+#[derive(Clone, Copy)]
 pub enum ItemType {
     Structure,
     Integer,

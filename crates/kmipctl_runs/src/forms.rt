@@ -119,10 +119,12 @@ fn tell_outcome(rt: &HostRuntime, lines: &str) -> Result<(), Fail> {
     let mut reader = lines.as_bytes();
     let mut written = Vec::new(rt.alloc());
     let outcome = answer_stream(rt.alloc(), &mut reader, &mut written)?;
-    rt.println(format_args!("{outcome:?}"))?;
+    let outcome = format!(in rt.alloc(); "{outcome:?}")?;
+    rt.println(outcome.as_str())?;
     let in_memory = answer_stream_bytes(rt.alloc(), lines.as_bytes(), &mut written)?;
+    let in_memory = format!(in rt.alloc(); "{in_memory:?}")?;
     if in_memory != outcome {
-        rt.println(format_args!("but in memory {in_memory:?}"))?;
+        rt.println(format_args!("but in memory {in_memory}"))?;
     }
     Ok(())
 }
