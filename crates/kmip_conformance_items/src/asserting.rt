@@ -22,7 +22,15 @@ pub fn assert_size(
     wanted: Result<usize, TtlvFault>,
     case: &str,
 ) {
-    assert_eq!(rt; size, wanted, "{case}");
+    assert_eq!(rt; parts_of(size), parts_of(wanted), "{case}");
+}
+
+/// A size, or the number of a fault, with its offset.
+fn parts_of(size: Result<usize, TtlvFault>) -> (Result<usize, u32>, Option<usize>) {
+    match size {
+        Ok(size) => (Ok(size), None),
+        Err(fault) => (Err(fault.number()), fault.offset()),
+    }
 }
 
 /// The condition holds.
@@ -37,6 +45,8 @@ pub fn assert_fed(
     wanted: Result<usize, FrameFault>,
     case: &str,
 ) {
+    let taken = taken.map_err(|fault| fault.number());
+    let wanted = wanted.map_err(|fault| fault.number());
     assert_eq!(rt; taken, wanted, "{case}");
 }
 

@@ -78,7 +78,7 @@ fn assert_failed(rt: &impl Abort, alloc: Global, framer: &mut Framer, message: &
         "a message",
     );
     let fault = framer.next(alloc).err();
-    assert_true(rt, fault == Some(FrameFault::Failed), "a message");
+    assert_true(rt, matches!(fault, Some(FrameFault::Failed)), "a message");
     assert_holds(rt, framer, 8, 0, "a head");
 }
 

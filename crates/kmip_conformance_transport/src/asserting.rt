@@ -29,7 +29,7 @@ pub fn assert_received(
     let is_right = match (received, wanted) {
         (Ok(Some(reply)), Ok(Some(wanted))) => reply.as_slice() == wanted,
         (Ok(None), Ok(None)) => true,
-        (Err(fault), Err(wanted)) => *fault == wanted,
+        (Err(fault), Err(wanted)) => fault.number() == wanted.number(),
         _ => false,
     };
     assert_true(rt, is_right, case);
@@ -42,7 +42,9 @@ pub fn assert_sent(
     wanted: Result<(), LinkFault>,
     case: &str,
 ) {
-    assert_eq!(rt; sent, wanted, "{case}");
+    let sent = sent.map_err(|fault| fault.number());
+    let wanted = wanted.map_err(|fault| fault.number());
+    assert_true(rt, sent == wanted, case);
 }
 
 /// Whether the link is connected, and how often its network has failed.
@@ -59,9 +61,18 @@ pub fn assert_link<D: Dial + Drop>(
 
 /// A stream came to this end, which has this number and this name.
 pub fn assert_end(rt: &impl Abort, end: StreamEnd, wanted: StreamEnd, number: u32, name: &str) {
-    assert_eq!(rt; end, wanted);
+    assert_true(rt, is_same_end(end, wanted), name);
     assert_true(rt, end.number() == number, name);
     assert_true(rt, end.name() == name, name);
+}
+
+/// Whether two ends are the same, with the bytes that were left, or the fault.
+fn is_same_end(end: StreamEnd, wanted: StreamEnd) -> bool {
+    match (end, wanted) {
+        (StreamEnd::Ended(left), StreamEnd::Ended(wanted)) => left == wanted,
+        (StreamEnd::Frame(fault), StreamEnd::Frame(wanted)) => fault.number() == wanted.number(),
+        _ => end.number() == wanted.number(),
+    }
 }
 
 /// There is none of these.

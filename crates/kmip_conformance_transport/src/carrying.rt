@@ -29,8 +29,9 @@ fn assert_answered(
 ) {
     let outcome = match answer {
         Ok(answer) => Ok(answer.is_some()),
-        Err(fault) => Err(*fault),
+        Err(fault) => Err(fault.number()),
     };
+    let wanted = wanted.map_err(|fault| fault.number());
     assert_eq!(rt; outcome, wanted);
 }
 

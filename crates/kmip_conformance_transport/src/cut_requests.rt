@@ -97,7 +97,8 @@ fn is_left(
     let input = [exchange.before, front].concat(rt.alloc())?;
     let (end, output) = served(rt, listener, server, input.as_slice())?;
     let is_answer = output.as_slice() == exchange.answer;
-    Ok(end == StreamEnd::Ended(front.len()) && is_answer && is_k1_alone(server.records()))
+    let is_front = matches!(end, StreamEnd::Ended(left) if left == front.len());
+    Ok(is_front && is_answer && is_k1_alone(server.records()))
 }
 
 /// Whether that is so of each front of a message.
