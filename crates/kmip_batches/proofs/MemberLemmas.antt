@@ -1,7 +1,10 @@
 -- The Batch Items of a message: what is read of them is what they say, and what is written of some values says them.
-use Rattle.std.proofs.Common.{◌≡◌, suc, true, List, [], ◌∷◌, ◌++◌, map, length, Result, Ok, refl, sym, ap, subst, ◌∙◌}
+use Rattle.std.proofs.Common.{◌≡◌, ℕ, ◌+◌, ◌<◌, ◌==◌, suc, Bool, true, false, if◌then◌else◌, List, [], ◌∷◌, ◌++◌, map, length, drop, get_or, Result, Ok, Err, refl, sym, ap, subst, ◌∙◌}
+use Rattle.std.proofs.lemmas.List.{append_assoc, drop_more}
 use Rattle.kmip_ttlv.specs.Binding.{◌>>=◌}
 use Rattle.kmip_ttlv.specs.Node.{Node, node, Content, as_structure}
+use Rattle.kmip_ttlv.specs.View.{content, views}
+use Rattle.kmip_ttlv.specs.declared.item.Item.{Item}
 use Rattle.kmip_ttlv.proofs.ReadSteps.{Reads, reads-ok, reads-bind, reads-as}
 use Rattle.kmip_fields.specs.declared.fault.MessageFault.{MessageFault}
 use Rattle.kmip_fields.specs.Formats.{Format, inside, structures}
@@ -16,6 +19,30 @@ use Rattle.kmip_batches.specs.Members.{all_structures, member_in, members_in, me
 -- what was read before, and then what reading gives
 abbrev pub with_front : {A : Type 0} → List A → Result (List A) MessageFault → Result (List A) MessageFault
 with_front front read = read >>= λ rest. Ok (front ++ rest)
+
+-- What is read of the Batch Items from a place on, behind a front: b says whether the item there is one, and m what is read of it.
+pub read_here : {A : Type 0} (read : List Node → Result A MessageFault) (items : List Item) (i : ℕ) (x : Item) (front : List A) (b : Bool) (m : Result A MessageFault)
+    → i < length items → x ≡ get_or items i x → (x.tag == TAG_BATCH_ITEM) ≡ b → member_in read (content x.value) ≡ m
+    → with_front front (members_in read (contents TAG_BATCH_ITEM (views (drop i items))))
+    ≡ (if b then (m >>= λ a. with_front (front ++ a ∷ []) (members_in read (contents TAG_BATCH_ITEM (views (drop (i + 1) items)))))
+    else with_front front (members_in read (contents TAG_BATCH_ITEM (views (drop (i + 1) items)))))
+read_here read items i x front b m lt is tag gives =
+    let c = content x.value in
+    let cs = contents TAG_BATCH_ITEM (views (drop (i + 1) items)) in
+    ap (λ xs. with_front front (members_in read (contents TAG_BATCH_ITEM (views xs)))) (drop_more items i x lt ∙ ap (λ y. y ∷ drop (i + 1) items) (sym is))
+    ∙ ap (λ b. with_front front (members_in read (if b then c ∷ cs else cs))) tag
+    ∙ elim b as (λ b. with_front front (members_in read (if b then c ∷ cs else cs))
+    ≡ (if b then (m >>= λ a. with_front (front ++ a ∷ []) (members_in read cs)) else with_front front (members_in read cs))) [
+      | true ↦ ap (λ m. with_front front (m >>= λ a. members_in read cs >>= λ rest. Ok (a ∷ rest))) gives
+          ∙ elim m as (λ m. with_front front (m >>= λ a. members_in read cs >>= λ rest. Ok (a ∷ rest)) ≡ (m >>= λ a. with_front (front ++ a ∷ []) (members_in read cs))) [
+            | Ok a ↦ elim (members_in read cs) as (λ r. with_front front (r >>= λ rest. Ok (a ∷ rest)) ≡ with_front (front ++ a ∷ []) r) [
+              | Ok rest ↦ ap (λ all. Ok all) (sym (append_assoc front (a ∷ []) rest))
+              | Err fault ↦ refl
+            ]
+            | Err fault ↦ refl
+          ]
+      | false ↦ refl
+    ]
 
 -- ---- each is a Structure
 

@@ -35,25 +35,26 @@ pub fn failure_of(words: &str, fault: &str) -> Result<Failure, Fail> {
 
 /// The fault of these words, which may end in a number.
 fn fault_of(words: &str) -> Result<Fault, Fail> {
-    let (word, number) = halves(words, " ");
-    match word {
-        "the" if number == "network fails" => Ok(Fault::Io),
-        "no" if number == "message" => Ok(Fault::Frame),
-        "no" if number == "memory" => Ok(Fault::NoMemory),
+    match words {
+        "the network fails" => Ok(Fault::Io),
+        "no message" => Ok(Fault::Frame),
+        "no memory" => Ok(Fault::NoMemory),
         "nothing" => Ok(Fault::Lost),
         "rubbish" => Ok(Fault::Rubbish),
         "swapped" => Ok(Fault::Swapped),
-        "reply" | "alone" | "twice" | "repeated" => Ok(numbered_fault(word, number.parse()?)),
-        _ => Err(Fail::new("no fault")),
+        _ => numbered_fault(words),
     }
 }
 
-fn numbered_fault(word: &str, number: usize) -> Fault {
+fn numbered_fault(words: &str) -> Result<Fault, Fail> {
+    let (word, number) = halves(words, " ");
+    let number = number.parse()?;
     match word {
-        "reply" => Fault::Reply(number),
-        "alone" => Fault::Alone(number),
-        "twice" => Fault::Twice(number),
-        _ => Fault::Repeated(number),
+        "reply" => Ok(Fault::Reply(number)),
+        "alone" => Ok(Fault::Alone(number)),
+        "twice" => Ok(Fault::Twice(number)),
+        "repeated" => Ok(Fault::Repeated(number)),
+        _ => Err(Fail::new("no fault")),
     }
 }
 

@@ -45,7 +45,10 @@ pub fn link_with(alloc: Global, words: &str) -> Result<Faulty<ListStore>, Fail> 
 /// The message that asks for such an object.
 fn create_of(alloc: Global, words: &str) -> Result<Vec<u8>, Fail> {
     let request = request_of(alloc, words)?;
-    let requests = from_ref(&request);
+    written(alloc, from_ref(&request))
+}
+
+fn written(alloc: Global, requests: &[Request]) -> Result<Vec<u8>, Fail> {
     if !request_fits(requests) {
         return Err(Fail::new("the object does not fit"));
     }

@@ -112,8 +112,7 @@ impl Breaking {
                 Some(true)
             }
             Ask::Destroy(uid) if matches!(self.breach, Breach::ActiveDestroyed) => {
-                self.revoke(alloc, uid.as_str())?;
-                Some(true)
+                self.revoke(alloc, uid.as_str())
             }
             _ => Some(false),
         }
@@ -129,11 +128,18 @@ impl Breaking {
     }
 
     /// Revokes an object; none where that can't be served.
-    fn revoke(&mut self, alloc: Global, uid: &str) -> Option<()> {
+    fn revoke(&mut self, alloc: Global, uid: &str) -> Option<bool> {
         let uid = Text::copied(alloc, uid).ok()?;
         let ask = Ask::Revoke(uid, REVOCATION_UNSPECIFIED);
-        let _revoked = self.served(alloc, &Request { id: None, ask })?;
-        Some(())
+        self.is_served(alloc, &Request { id: None, ask })
+    }
+
+    /// True; none where the request can't be served.
+    fn is_served(&mut self, alloc: Global, request: &Request) -> Option<bool> {
+        match self.served(alloc, request) {
+            Some(_) => Some(true),
+            None => None,
+        }
     }
 
     /// Changes the reply to what this server tells.

@@ -9,7 +9,7 @@ use std::error::Error;
 use std::fmt::{self, Debug, Display, Formatter};
 
 /// A field that each key of a plan has.
-#[derive(Clone, Copy, Debug)]
+#[derive(Clone, Copy)]
 pub enum Field {
     Name,
     Algorithm,

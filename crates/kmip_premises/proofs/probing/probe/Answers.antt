@@ -1,6 +1,7 @@
 -- Each turn asks one question more.
 use Rattle.std.proofs.Common.{◌+◌, [], ◌∷◌, length, sym, subst, ap, ◌∙◌, arith}
 use Rattle.std.specs.List.{All}
+use Rattle.std.proofs.lemmas.Result.{err_from_is_err_and}
 use Rattle.std.proofs.lemmas.List.{length-append}
 use Rattle.std.proofs.lemmas.List.Elements.{All-push}
 use Rattle.kmip_premises.specs.Answers.{IsLawful}
@@ -72,3 +73,13 @@ loop-preserved g c =
                 (subst (λ xs. HasServedNext c.args.prefix.now xs c.in_ok-answer.answer (p c.loop.link) (p c.put.new.link)) slice once)),
           );
     }
+
+pub returns-in_err-answer-clause-sent : goal.returns-in_err-answer-clause-sent
+returns-in_err-answer-clause-sent g c = λ names honest.
+    let still = (c.put.ensures.asked names (c.loop.invariant.asked names honest).0).0 in
+    let fault = err_from_is_err_and c.from_residual.result c.from_residual.ensures.1 in rw fault.1 (still, tt)
+
+pub returns-in_err-push-clause-sent : goal.returns-in_err-push-clause-sent
+returns-in_err-push-clause-sent g c = λ names honest.
+    let still = (c.put.ensures.asked names (c.loop.invariant.asked names honest).0).0 in
+    let fault = err_from_is_err_and c.from_residual-in_err-push.result c.from_residual-in_err-push.ensures.1 in rw fault.1 (still, tt)

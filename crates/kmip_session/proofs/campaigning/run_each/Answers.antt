@@ -1,8 +1,13 @@
 -- Run by run.
-use Rattle.std.proofs.Common.{◌<◌, ◌+◌, ◌≡◌, [], arith, length, suc, rules, refl, inl, inr, subst, sym, take}
+use Rattle.std.proofs.Common.{◌<◌, ◌+◌, ◌≡◌, [], arith, Result, Ok, Err, IsErr, OnOk, filter, length, suc, rules, refl, inl, inr, subst, sym, take}
+use Rattle.std.proofs.Math.Seq.{take_all}
+use Rattle.std.specs.List.{AllZip}
 use Rattle.std.specs.Prelude.{⊤}
+use Rattle.std.proofs.lemmas.List.Elements.{All-nil}
 use Rattle.std.proofs.lemmas.Option.{slice_get-get_or}
 use Rattle.kmip_client.specs.Clients.{fresh}
+use Rattle.kmip_progress.specs.Suiting.{Suits}
+use Rattle.kmip_session.specs.Campaign.{CalmLink, IsEnd, Settles, saves}
 use Rattle.kmip_session.proofs.CampaignLemmas.{campaigned}
 use Rattle.kmip_schedule.specs.Past.{is_planned}
 use Rattle.kmip_session.proofs.DriveLemmas.{further_if}
@@ -135,3 +140,57 @@ returns-in_err-one_run-clause-ended g c = λ honest.
 
 pub returns-clause-ended : goal.returns-clause-ended
 returns-clause-ended g c = λ honest. join_if [] c.loop-place.end.runs.items ⊤ _ _ _ _ _ (λ is. tt) (c.loop-place.invariant.ended honest)
+
+-- of a fault nothing is said that holds where all went well
+on_fault : {V E : Type 0} (P : Type 0) (r : Result V E) → IsErr r → OnOk r P
+on_fault P (Ok v) is = absurd cc
+on_fault P (Err fault) is = tt
+
+pub returns-in_err-client-clause-complete : goal.returns-in_err-client-clause-complete
+returns-in_err-client-clause-complete g c = on_fault _ c.from_residual.result c.from_residual.ensures.0
+
+pub returns-in_err-client-clause-settles : goal.returns-in_err-client-clause-settles
+returns-in_err-client-clause-settles g c = λ calmly holds. on_fault _ c.from_residual.result c.from_residual.ensures.0
+
+pub returns-in_err-client-clause-outlasts : goal.returns-in_err-client-clause-outlasts
+returns-in_err-client-clause-outlasts g c = λ good holds. on_fault _ c.from_residual.result c.from_residual.ensures.0
+
+pub returns-in_err-one_run-clause-complete : goal.returns-in_err-one_run-clause-complete
+returns-in_err-one_run-clause-complete g c = on_fault _ c.from_residual-in_err-one_run.result c.from_residual-in_err-one_run.ensures.0
+
+pub returns-in_err-one_run-clause-settles : goal.returns-in_err-one_run-clause-settles
+returns-in_err-one_run-clause-settles g c = λ calmly holds. on_fault _ c.from_residual-in_err-one_run.result c.from_residual-in_err-one_run.ensures.0
+
+pub returns-in_err-one_run-clause-outlasts : goal.returns-in_err-one_run-clause-outlasts
+returns-in_err-one_run-clause-outlasts g c = λ good holds. on_fault _ c.from_residual-in_err-one_run.result c.from_residual-in_err-one_run.ensures.0
+
+pub returns-in_err-client-clause-suits : goal.returns-in_err-client-clause-suits
+returns-in_err-client-clause-suits g c = rw c.requires.none_saved (All-nil (Suits c.args.plan.now))
+
+pub returns-in_err-one_run-clause-suits : goal.returns-in_err-one_run-clause-suits
+returns-in_err-one_run-clause-suits g c = c.one_run.ensures.suits
+
+pub returns-in_err-one_run-clause-honest : goal.returns-in_err-one_run-clause-honest
+returns-in_err-one_run-clause-honest g c = λ names honest. c.one_run.ensures.honest names (c.loop-place.invariant.running.honest_still names honest)
+
+pub returns-clause-suits : goal.returns-clause-suits
+returns-clause-suits g c = c.loop-place.invariant.running.suits
+
+pub returns-clause-honest : goal.returns-clause-honest
+returns-clause-honest g c = c.loop-place.invariant.running.honest_still
+
+pub returns-clause-complete : goal.returns-clause-complete
+returns-clause-complete g c =
+    let end = c.loop-place.end in
+    subst (λ rs. AllZip (IsEnd c.args.plan.now) rs end.runs.items × (length end.saved.items ≡ length (filter saves rs))) (take_all c.loop-place.place c.args.runs.now c.loop-place-test.false)
+    (c.loop-place.invariant.running.each, c.loop-place.invariant.running.as_many)
+
+pub returns-clause-settles : goal.returns-clause-settles
+returns-clause-settles g c = λ calmly holds.
+    subst (λ rs. AllZip (Settles c.args.plan.now) rs c.loop-place.end.runs.items × CalmLink g.L.Link.past g.L.Link.calm c.args.plan.now c.loop-place.link) (take_all c.loop-place.place c.args.runs.now c.loop-place-test.false)
+    (c.loop-place.invariant.running.settled calmly holds)
+
+pub returns-clause-outlasts : goal.returns-clause-outlasts
+returns-clause-outlasts g c = λ good holds.
+    subst (λ rs. AllOutlast c.args.plan.now rs c.loop-place.end.runs.items (g.L.Link.disturbances c.args.link.now) (g.L.Link.disturbances c.loop-place.link)) (take_all c.loop-place.place c.args.runs.now c.loop-place-test.false)
+    (c.loop-place.invariant.outlasted good holds)

@@ -1,16 +1,24 @@
 -- Turn by turn.
-use Rattle.std.proofs.Common.{◌≡◌, ◌≤◌, ◌<◌, ◌∙◌, refl, rules, subst, arith}
+use Rattle.std.proofs.Common.{◌≡◌, ◌≤◌, ◌<◌, ◌+◌, ℕ, ◌∙◌, refl, rules, subst, sym, arith}
 use Rattle.std.specs.Prelude.{⊤}
 use Rattle.kmip_client.specs.Clients.{one_if}
-use Rattle.kmip_session.specs.Driving.{Learnt, Nearer}
+use Rattle.kmip_schedule.specs.Past.{is_planned}
+use Rattle.kmip_session.specs.Driving.{Learnt, Nearer, WentOn}
 use Rattle.kmip_session.specs.Losing.{ArePaid, left_for}
 use Rattle.kmip_session.proofs.LosingLemmas.{paid_end, paid_limit, paid_none, paid_then}
 use Rattle.kmip_session.proofs.CompleteLemmas.{completed, untouched_settles}
-use Rattle.kmip_session.proofs.DriveLemmas.{asks_one, broken_end, driven_none, driven_then, few_made, further_if, further_last, known_end}
-use Rattle.kmip_session.proofs.KnownLemmas.{learnt_long, off_long}
-use Rattle.kmip_session.proofs.SettleLemmas.{finished_stop, nearer_end, nearer_limit}
-use Rattle.kmip_session.proofs.GoodLemmas.{keeps_then}
+use Rattle.kmip_session.proofs.DriveLemmas.{asks_one, broken_end, driven_none, driven_then, few_made, further_if, further_last, good_no_conflict, known_end, settled_no_limit}
+use Rattle.kmip_session.proofs.KnownLemmas.{grown_then, learnt_long, off_long}
+use Rattle.kmip_session.proofs.SettleLemmas.{finished_stop, nearer_end, nearer_limit, nearer_then}
+use Rattle.kmip_session.proofs.GoodLemmas.{keeps_then, went_then}
 use Rattle.kmip_session.proofs.driving.drive.Goals as goal
+
+-- after the loop as many exchanges were made as may be; a turn that asks nothing adds none
+all_made : (made limit : ℕ) → limit ≤ made → made ≤ limit → made ≡ limit
+all_made made limit least most = omega (arith, least, most)
+
+and_none : (made : ℕ) → made + 0 ≡ made
+and_none made = omega arith
 
 pub loop-made-init : goal.loop-made-init
 loop-made-init g c = record {
@@ -103,7 +111,7 @@ returns-clause-settles g c = λ settling enough memory.
     let calm = g.L.Link.calm in
     let l = c.laws_below.ensures in
     let client = c.args.client.now in
-    let made : c.loop-made.made ≡ c.args.limit = omega (arith, c.loop-made-test.false, c.loop-made.auto.made-end) in
+    let made = all_made c.loop-made.made c.args.limit c.loop-made-test.false c.loop-made.auto.made-end in
     let near =
     subst (λ n. Nearer past calm client c.loop-made.client c.args.link.now c.loop-made.link n) made (c.loop-made.invariant.driven.near settling) in
     let end =
@@ -140,7 +148,7 @@ returns-clause-finishes g c = λ start enough memory.
     let l = c.laws_below.ensures in
     let client = c.args.client.now in
     let settling = (untouched_settles past calm l client c.args.link.now c.plan-plan.ensures.lawful start).0 in
-    let made : c.loop-made.made ≡ c.args.limit = omega (arith, c.loop-made-test.false, c.loop-made.auto.made-end) in
+    let made = all_made c.loop-made.made c.args.limit c.loop-made-test.false c.loop-made.auto.made-end in
     let near =
     subst (λ n. Nearer past calm client c.loop-made.client c.args.link.now c.loop-made.link n) made (c.loop-made.invariant.driven.near settling) in
     let end =
@@ -236,7 +244,7 @@ returns-in-Ok-false-clause-losing g c = λ good memory.
 
 pub returns-clause-losing : goal.returns-clause-losing
 returns-clause-losing g c = λ good memory.
-    let made : c.loop-made.made ≡ c.args.limit = omega (arith, c.loop-made-test.false, c.loop-made.auto.made-end) in
+    let made = all_made c.loop-made.made c.args.limit c.loop-made-test.false c.loop-made.auto.made-end in
     let paid = c.loop-made.invariant.paid good in
     omega (arith, made, paid)
 
@@ -250,7 +258,7 @@ returns-in-Ok-false-clause-outlasts g c = λ good memory enough.
 pub returns-clause-outlasts : goal.returns-clause-outlasts
 returns-clause-outlasts g c = λ good memory enough.
     let past = g.L.Link.past in
-    let made : c.loop-made.made ≡ c.args.limit = omega (arith, c.loop-made-test.false, c.loop-made.auto.made-end) in
+    let made = all_made c.loop-made.made c.args.limit c.loop-made-test.false c.loop-made.auto.made-end in
     let paid =
     subst (λ n. ArePaid n (left_for c.args.client.now (past c.args.link.now)) (left_for c.loop-made.client (past c.loop-made.link)) (g.L.Link.disturbances c.args.link.now)
     (g.L.Link.disturbances c.loop-made.link)) made (c.loop-made.invariant.paid good) in
@@ -258,3 +266,114 @@ returns-clause-outlasts g c = λ good memory enough.
     (paid_limit past g.L.Link.honest g.L.Link.disturbances c.laws_below.ensures c.args.client.now c.loop-made.client c.args.link.now c.loop-made.link c.args.limit
     c.plan-plan.ensures.lawful good (c.loop-made.invariant.driven.good good) paid enough)
     c.stop_of-2.ensures.in_memory c.stop_of-2.ensures.stands
+
+pub returns-in-Ok-false-clause-good : goal.returns-in-Ok-false-clause-good
+returns-in-Ok-false-clause-good g c = λ good. c.turn.ensures.good (c.loop-made.invariant.driven.good good)
+
+pub returns-in-Err-clause-good : goal.returns-in-Err-clause-good
+returns-in-Err-clause-good g c = λ good. c.turn.ensures.good (c.loop-made.invariant.driven.good good)
+
+pub returns-clause-good : goal.returns-clause-good
+returns-clause-good g c = c.loop-made.invariant.driven.good
+
+pub returns-in-Ok-false-clause-goes : goal.returns-in-Ok-false-clause-goes
+returns-in-Ok-false-clause-goes g c = λ good.
+    let past = g.L.Link.past in
+    went_then c.laws_below.ensures c.args.client.now.keys (past c.args.link.now) (past c.loop-made.link) (past c.turn.new.link) (c.loop-made.invariant.driven.goes good)
+    (subst (λ ks. WentOn ks (past c.loop-made.link) (past c.turn.new.link)) c.loop-made.invariant.driven.keeps.keys_stay (c.turn.ensures.goes (c.loop-made.invariant.driven.good good)))
+
+pub returns-in-Err-clause-goes : goal.returns-in-Err-clause-goes
+returns-in-Err-clause-goes g c = λ good.
+    let past = g.L.Link.past in
+    went_then c.laws_below.ensures c.args.client.now.keys (past c.args.link.now) (past c.loop-made.link) (past c.turn.new.link) (c.loop-made.invariant.driven.goes good)
+    (subst (λ ks. WentOn ks (past c.loop-made.link) (past c.turn.new.link)) c.loop-made.invariant.driven.keeps.keys_stay (c.turn.ensures.goes (c.loop-made.invariant.driven.good good)))
+
+pub returns-clause-goes : goal.returns-clause-goes
+returns-clause-goes g c = c.loop-made.invariant.driven.goes
+
+pub returns-in-Err-clause-known : goal.returns-in-Err-clause-known
+returns-in-Err-clause-known g c = λ honest. (c.turn.ensures.honest _ (c.loop-made.invariant.driven.honest_still _ honest), λ memory. absurd (memory refl))
+
+pub returns-clause-known : goal.returns-clause-known
+returns-clause-known g c = λ honest.
+    let past = g.L.Link.past in
+    let made = all_made c.loop-made.made c.args.limit c.loop-made-test.false c.loop-made.auto.made-end in
+    let known = c.loop-made.invariant.driven.known honest in (
+      known.0,
+      λ memory.
+          subst (λ n. Learnt c.args.client.now.keys c.args.client.now.batch (past c.args.link.now) (past c.loop-made.link) c.args.client.now.knowns c.loop-made.client.knowns n) made
+          known.1,
+    )
+
+pub returns-in-Ok-false-clause-grown : goal.returns-in-Ok-false-clause-grown
+returns-in-Ok-false-clause-grown g c = λ honest.
+    let past = g.L.Link.past in
+    grown_then (past c.args.link.now) (past c.loop-made.link) (past c.turn.new.link) (c.loop-made.invariant.driven.grown honest)
+    (c.turn.ensures.grown (subst (λ ks. g.L.Link.honest c.loop-made.link (is_planned ks)) (sym c.loop-made.invariant.driven.keeps.keys_stay) (c.loop-made.invariant.driven.known honest).0))
+
+pub returns-in-Err-clause-grown : goal.returns-in-Err-clause-grown
+returns-in-Err-clause-grown g c = λ honest.
+    let past = g.L.Link.past in
+    grown_then (past c.args.link.now) (past c.loop-made.link) (past c.turn.new.link) (c.loop-made.invariant.driven.grown honest)
+    (c.turn.ensures.grown (subst (λ ks. g.L.Link.honest c.loop-made.link (is_planned ks)) (sym c.loop-made.invariant.driven.keeps.keys_stay) (c.loop-made.invariant.driven.known honest).0))
+
+pub returns-clause-grown : goal.returns-clause-grown
+returns-clause-grown g c = c.loop-made.invariant.driven.grown
+
+pub returns-clause-kept : goal.returns-clause-kept
+returns-clause-kept g c = c.loop-made.invariant.driven.keeps
+
+pub returns-in-Ok-false-clause-limit : goal.returns-in-Ok-false-clause-limit
+returns-in-Ok-false-clause-limit g c = λ is.
+    absurd (settled_no_limit c.laws_below.ensures c.turn.new.client c.stop_of.result (c.in-Ok-false.ensures.none c.in-Ok-false.field-0-test) c.stop_of.ensures.stands is)
+
+pub returns-in-Err-clause-settles : goal.returns-in-Err-clause-settles
+returns-in-Err-clause-settles g c = λ settling enough memory. absurd (memory refl)
+
+pub returns-in-Err-clause-finishes : goal.returns-in-Err-clause-finishes
+returns-in-Err-clause-finishes g c = λ start enough memory. absurd (memory refl)
+
+pub returns-in-Err-clause-calm : goal.returns-in-Err-clause-calm
+returns-in-Err-clause-calm g c = λ settling memory. absurd (memory refl)
+
+pub returns-in-Err-clause-losing : goal.returns-in-Err-clause-losing
+returns-in-Err-clause-losing g c = λ good memory. absurd (memory refl)
+
+pub returns-in-Err-clause-outlasts : goal.returns-in-Err-clause-outlasts
+returns-in-Err-clause-outlasts g c = λ good memory enough. absurd (memory refl)
+
+pub returns-in-Ok-false-clause-calm : goal.returns-in-Ok-false-clause-calm
+returns-in-Ok-false-clause-calm g c = λ settling memory.
+    let past = g.L.Link.past in
+    let calm = g.L.Link.calm in
+    let client = c.args.client.now in
+    let first = c.loop-made.invariant.driven.near settling in
+    let last =
+    subst (λ asked. Nearer past calm c.loop-made.client c.turn.new.client c.loop-made.link c.turn.new.link (one_if asked)) c.in-Ok-false.field-0-test
+    (c.in-Ok-false.ensures.calm first.settling) in
+    subst (λ n. Nearer past calm client c.turn.new.client c.args.link.now c.turn.new.link n) (and_none c.loop-made.made)
+    (nearer_then past calm client c.loop-made.client c.turn.new.client c.args.link.now c.loop-made.link c.turn.new.link c.loop-made.made 0
+    (asks_one client c.loop-made.client c.loop-made.invariant.driven.keeps) first last)
+
+pub returns-clause-calm : goal.returns-clause-calm
+returns-clause-calm g c = λ settling memory.
+    let made = all_made c.loop-made.made c.args.limit c.loop-made-test.false c.loop-made.auto.made-end in
+    subst (λ n. Nearer g.L.Link.past g.L.Link.calm c.args.client.now c.loop-made.client c.args.link.now c.loop-made.link n) made
+    (c.loop-made.invariant.driven.near settling)
+
+pub returns-in-Ok-false-clause-no_conflict : goal.returns-in-Ok-false-clause-no_conflict
+returns-in-Ok-false-clause-no_conflict g c = λ good.
+    good_no_conflict g.L.Link.past g.L.Link.honest g.L.Link.calm c.laws_below.ensures c.turn.new.client c.turn.new.link c.stop_of.result (c.turn.ensures.good (c.loop-made.invariant.driven.good good)) c.stop_of.ensures.stands
+
+pub returns-clause-no_conflict : goal.returns-clause-no_conflict
+returns-clause-no_conflict g c = λ good.
+    good_no_conflict g.L.Link.past g.L.Link.honest g.L.Link.calm c.laws_below.ensures c.loop-made.client c.loop-made.link c.stop_of-2.result (c.loop-made.invariant.driven.good good) c.stop_of-2.ensures.stands
+
+pub returns-in-Ok-false-clause-honest : goal.returns-in-Ok-false-clause-honest
+returns-in-Ok-false-clause-honest g c = λ names honest. c.turn.ensures.honest names (c.loop-made.invariant.driven.honest_still names honest)
+
+pub returns-in-Err-clause-honest : goal.returns-in-Err-clause-honest
+returns-in-Err-clause-honest g c = λ names honest. c.turn.ensures.honest names (c.loop-made.invariant.driven.honest_still names honest)
+
+pub returns-clause-honest : goal.returns-clause-honest
+returns-clause-honest g c = c.loop-made.invariant.driven.honest_still

@@ -1,16 +1,20 @@
 -- Asking changes whose turn it is, and nothing else.
-use Rattle.std.proofs.Common.{◌≡◌, ap, rules, subst, sym}
+use Rattle.std.proofs.Common.{◌≡◌, ◌∙◌, Result, Ok, Err, None, IfOk, IsErr, ap, inl, inr, rules, subst, sym}
 use Rattle.std.specs.Prelude.{⊤, IfSome, IsOk}
 use Rattle.kmip_client.specs.Asking.{IsAbout, next_places}
-use Rattle.kmip_client.specs.Clients.{ClientState}
+use Rattle.kmip_client.specs.Clients.{AreSettled, ClientState}
 use Rattle.kmip_client.specs.Known.{facts}
 use Rattle.kmip_schedule.specs.Past.{is_planned}
-use Rattle.kmip_session.specs.Driving.{IsBrokenOff, IsToBePut, Keeps, KeepsFurther, Learnt, WentOn}
-use Rattle.kmip_session.proofs.DriveLemmas.{further_if}
+use Rattle.kmip_settling.specs.Turns.{taught}
+use Rattle.kmip_session.specs.Driving.{IsBrokenOff, IsGood, IsToBePut, Keeps, KeepsFurther, Learnt, WentOn}
+use Rattle.kmip_session.specs.Losing.{ArePaid, left_for}
+use Rattle.kmip_session.proofs.DriveLemmas.{asks_one, further_if}
 use Rattle.kmip_session.proofs.FurtherLemmas.{further_nowhere}
-use Rattle.kmip_session.proofs.GoodLemmas.{good_asked, keeps_asked, keeps_itself}
+use Rattle.kmip_session.proofs.GoodLemmas.{good_asked, keeps_asked, keeps_itself, keeps_then, went_nowhere}
 use Rattle.kmip_session.proofs.KnownLemmas.{always_err, broken_nowhere, grown_itself, learnt_nothing}
+use Rattle.kmip_session.proofs.LosingLemmas.{paid_none}
 use Rattle.kmip_session.proofs.RememberLemmas.{no_both}
+use Rattle.kmip_session.proofs.SettleLemmas.{nearer_asked, nearer_then}
 use Rattle.kmip_session.proofs.driving.turn.Goals as goal
 
 pub returns-in_err-question-clause-kept : goal.returns-in_err-question-clause-kept
@@ -101,3 +105,142 @@ returns-in_err-put-clause-further g c = λ good.
     subst (λ (s : ClientState). KeepsFurther past g.L.Link.honest g.L.Link.calm s.keys (IsOk c.from_residual-in_err-put.result) c.args.link.now c.put.new.link) c.in_ok-question.ensures.turn
     (further_if past g.L.Link.honest g.L.Link.calm c.ask.new.self.keys c.args.link.now c.put.new.link _ _
     (λ is. no_both c.from_residual-in_err-put.result c.from_residual-in_err-put.ensures.0 is) (c.put.ensures.further asked.0 asked.1))
+
+-- of a fault nothing is said that holds of a value
+if_err : {V E : Type 0} (P : V → Type 0) (r : Result V E) → IsErr r → IfOk r P
+if_err P (Ok v) is = absurd cc
+if_err P (Err fault) is = tt
+
+pub returns-in_err-question-clause-good : goal.returns-in_err-question-clause-good
+returns-in_err-question-clause-good g c = λ good. subst (λ s. IsGood g.L.Link.past g.L.Link.honest s c.args.link.now) (sym c.in_err-question.ensures.same) good
+
+pub returns-in_err-question-clause-goes : goal.returns-in_err-question-clause-goes
+returns-in_err-question-clause-goes g c = λ good. went_nowhere c.laws_below.ensures c.args.client.now.keys (g.L.Link.past c.args.link.now)
+
+pub returns-in_err-question-clause-known : goal.returns-in_err-question-clause-known
+returns-in_err-question-clause-known g c = λ honest. (honest, if_err _ c.from_residual.result c.from_residual.ensures.0)
+
+pub returns-in_err-question-clause-lost : goal.returns-in_err-question-clause-lost
+returns-in_err-question-clause-lost g c = always_err c.from_residual.result (inl c.in_err-question.ensures.same)
+
+pub returns-in_err-question-clause-none : goal.returns-in_err-question-clause-none
+returns-in_err-question-clause-none g c = if_err _ c.from_residual.result c.from_residual.ensures.0
+
+pub returns-in_err-question-clause-calm : goal.returns-in_err-question-clause-calm
+returns-in_err-question-clause-calm g c = λ settling. if_err _ c.from_residual.result c.from_residual.ensures.0
+
+pub returns-in_err-question-clause-losing : goal.returns-in_err-question-clause-losing
+returns-in_err-question-clause-losing g c = λ good. if_err _ c.from_residual.result c.from_residual.ensures.0
+
+pub returns-in_default-clause-good : goal.returns-in_default-clause-good
+returns-in_default-clause-good g c = λ good.
+    subst (λ s. IsGood g.L.Link.past g.L.Link.honest s c.args.link.now) (sym c.in_ok-question.ensures.turn)
+    (record { honest_for = good.honest_for; sound = good.sound; held = good.held })
+
+pub returns-in_default-clause-goes : goal.returns-in_default-clause-goes
+returns-in_default-clause-goes g c = λ good. went_nowhere c.laws_below.ensures c.args.client.now.keys (g.L.Link.past c.args.link.now)
+
+pub returns-in_default-clause-none : goal.returns-in_default-clause-none
+returns-in_default-clause-none g c = λ is.
+    subst (λ (s : ClientState). AreSettled s.keys s.knowns) (sym c.in_ok-question.ensures.turn) (c.in_ok-question.ensures.none c.in_default.is)
+
+pub returns-in_default-clause-calm : goal.returns-in_default-clause-calm
+returns-in_default-clause-calm g c = nearer_asked g.L.Link.past g.L.Link.calm c.args.client.now c.ask.new.self c.args.link.now c.in_ok-question.ensures.turn
+
+pub returns-in_default-clause-losing : goal.returns-in_default-clause-losing
+returns-in_default-clause-losing g c = λ good.
+    let left = left_for c.args.client.now (g.L.Link.past c.args.link.now) in
+    let lost = g.L.Link.disturbances c.args.link.now in
+    subst (λ s. ArePaid 0 left (left_for s (g.L.Link.past c.args.link.now)) lost lost) (sym c.in_ok-question.ensures.turn) (paid_none left lost)
+
+pub returns-in_err-put-clause-good : goal.returns-in_err-put-clause-good
+returns-in_err-put-clause-good g c = λ good.
+    let past = g.L.Link.past in
+    let asked =
+    good_asked past g.L.Link.honest c.args.client.now c.ask.new.self c.args.link.now _ c.in-Some.question c.in_ok-question.ensures.turn c.in-Some.is
+    c.in_ok-question.ensures.justified good in
+    (c.put.ensures.good asked.0 asked.1).0
+
+pub returns-in_err-put-clause-goes : goal.returns-in_err-put-clause-goes
+returns-in_err-put-clause-goes g c = λ good.
+    let past = g.L.Link.past in
+    let asked =
+    good_asked past g.L.Link.honest c.args.client.now c.ask.new.self c.args.link.now _ c.in-Some.question c.in_ok-question.ensures.turn c.in-Some.is
+    c.in_ok-question.ensures.justified good in
+    subst (λ (s : ClientState). WentOn s.keys (past c.args.link.now) (past c.put.new.link)) c.in_ok-question.ensures.turn
+    (c.put.ensures.good asked.0 asked.1).1
+
+pub returns-in_err-put-clause-known : goal.returns-in_err-put-clause-known
+returns-in_err-put-clause-known g c = λ honest. (c.put.ensures.honest _ honest, if_err _ c.from_residual-in_err-put.result c.from_residual-in_err-put.ensures.0)
+
+pub returns-in_err-put-clause-lost : goal.returns-in_err-put-clause-lost
+returns-in_err-put-clause-lost g c =
+    always_err c.from_residual-in_err-put.result
+    (inr (c.in-Some.question, sym c.in_ok-question.ensures.question ∙ c.in-Some.is, c.in_err-put.ensures.lost ∙ ap (taught c.in-Some.question None) c.in_ok-question.ensures.turn))
+
+pub returns-in_err-put-clause-grown : goal.returns-in_err-put-clause-grown
+returns-in_err-put-clause-grown g c = λ honest.
+    c.put.ensures.grown (subst (λ (s : ClientState). g.L.Link.honest c.args.link.now (is_planned s.keys)) (sym c.in_ok-question.ensures.turn) honest)
+
+pub returns-in_err-put-clause-kept : goal.returns-in_err-put-clause-kept
+returns-in_err-put-clause-kept g c = keeps_then c.args.client.now c.ask.new.self c.put.new.client (keeps_asked c.args.client.now c.ask.new.self c.in_ok-question.ensures.turn) c.put.ensures.kept
+
+pub returns-in_err-put-clause-honest : goal.returns-in_err-put-clause-honest
+returns-in_err-put-clause-honest g c = c.put.ensures.honest
+
+pub returns-in_err-put-clause-ended : goal.returns-in_err-put-clause-ended
+returns-in_err-put-clause-ended g c = c.put.ensures.ended
+
+pub returns-clause-grown : goal.returns-clause-grown
+returns-clause-grown g c = λ honest.
+    c.put.ensures.grown (subst (λ (s : ClientState). g.L.Link.honest c.args.link.now (is_planned s.keys)) (sym c.in_ok-question.ensures.turn) honest)
+
+pub returns-clause-kept : goal.returns-clause-kept
+returns-clause-kept g c = keeps_then c.args.client.now c.ask.new.self c.put.new.client (keeps_asked c.args.client.now c.ask.new.self c.in_ok-question.ensures.turn) c.put.ensures.kept
+
+pub returns-clause-honest : goal.returns-clause-honest
+returns-clause-honest g c = c.put.ensures.honest
+
+pub returns-clause-ended : goal.returns-clause-ended
+returns-clause-ended g c = c.put.ensures.ended
+
+pub returns-in_err-put-clause-none : goal.returns-in_err-put-clause-none
+returns-in_err-put-clause-none g c = if_err _ c.from_residual-in_err-put.result c.from_residual-in_err-put.ensures.0
+
+pub returns-in_err-put-clause-calm : goal.returns-in_err-put-clause-calm
+returns-in_err-put-clause-calm g c = λ settling. if_err _ c.from_residual-in_err-put.result c.from_residual-in_err-put.ensures.0
+
+pub returns-in_err-put-clause-losing : goal.returns-in_err-put-clause-losing
+returns-in_err-put-clause-losing g c = λ good. if_err _ c.from_residual-in_err-put.result c.from_residual-in_err-put.ensures.0
+
+pub returns-clause-known : goal.returns-clause-known
+returns-clause-known g c = λ honest.
+    let past = g.L.Link.past in
+    let link = c.args.link.now in
+    let next = c.put.new.link in
+    subst
+    (λ (s : ClientState). g.L.Link.honest next (is_planned s.keys) × Learnt s.keys s.batch (past link) (past next) s.knowns c.put.new.client.knowns 1) c.in_ok-question.ensures.turn
+    (c.in_ok-put.ensures.known (subst (λ (s : ClientState). g.L.Link.honest link (is_planned s.keys)) (sym c.in_ok-question.ensures.turn) honest))
+
+pub returns-clause-none : goal.returns-clause-none
+returns-clause-none g c = λ is. absurd cc
+
+pub returns-clause-calm : goal.returns-clause-calm
+returns-clause-calm g c = λ settling.
+    let past = g.L.Link.past in
+    let calm = g.L.Link.calm in
+    let client = c.args.client.now in
+    let link = c.args.link.now in
+    let first = nearer_asked past calm client c.ask.new.self link c.in_ok-question.ensures.turn settling in
+    nearer_then past calm client c.ask.new.self c.put.new.client link link c.put.new.link 0 1 (asks_one client c.ask.new.self (keeps_asked client c.ask.new.self c.in_ok-question.ensures.turn)) first
+    (c.in_ok-put.ensures.calm first.settling)
+
+pub returns-clause-losing : goal.returns-clause-losing
+returns-clause-losing g c = λ good.
+    let past = g.L.Link.past in
+    let asked =
+    good_asked past g.L.Link.honest c.args.client.now c.ask.new.self c.args.link.now _ c.in-Some.question c.in_ok-question.ensures.turn c.in-Some.is
+    c.in_ok-question.ensures.justified good in
+    subst
+    (λ s. ArePaid 1 (left_for s (past c.args.link.now)) (left_for c.put.new.client (past c.put.new.link)) (g.L.Link.disturbances c.args.link.now) (g.L.Link.disturbances c.put.new.link))
+    c.in_ok-question.ensures.turn (c.in_ok-put.ensures.losing asked.0)

@@ -1,9 +1,13 @@
 -- Nothing of any plan has happened yet over the new link, so what is made of the plans in turn is good.
-use Rattle.std.proofs.Common.{◌≡◌, map, subst, ap, ◌∙◌}
+use Rattle.std.proofs.Common.{◌≡◌, List, Vec, Global, length, map, subst, sym, ap, ◌∙◌, arith}
+use Rattle.std.proofs.lemmas.List.{length-map}
+use Rattle.std.specs.List.{All}
 use Rattle.std.specs.Prelude.{⊤, None}
 use Rattle.kmip_schedule.specs.Sound.{Opening}
 use Rattle.kmip_scripted.specs.Runs.{lists_of}
 use Rattle.kmip_scripted.specs.Scenes.{past_in}
+use Rattle.kmip_session.specs.Campaign.{MayBatch}
+use Rattle.kmip_session.specs.declared.campaigning.Run.{Run}
 use Rattle.kmip_session.specs.Campaigns.{AreInTurn, CalmStart, GoodStart, first_plan, last_plan}
 use Rattle.kmip_simulation.specs.Simulating.{HasNoWord, in_batches}
 use Rattle.kmip_simulation.proofs.EndingLemmas.{ended_from_nothing}
@@ -39,4 +43,16 @@ returns c =
           runs c.campaigns-end.ensures.in_turn;
       ended = ended_from_nothing link.sent link.ended end.runs.items (end.fault ≡ None) c.campaigns-end.new.link.ended c.new_link-link.ensures.none_sent
           c.new_link-link.ensures.none_ended (c.campaigns-end.ensures.ended tt);
+    }
+
+pub campaigns-end-requires : goal.campaigns-end-requires
+campaigns-end-requires c =
+    let two : length c.in_ok-lists.lists.items ≡ 2 =
+    sym (length-map c.in_ok-lists.lists.items (λ (list : Vec Run Global). list.items)) ∙ ap length c.in_ok-lists.ensures.lists in
+    let made : c.as_slice-2.result.now ≡ c.in_ok-lists-2.lists.items = c.as_slice-2.ensures.value in
+    record {
+      some = omega (arith, c.requires.two);
+      as_many = ap length made ∙ c.in_ok-lists-2.ensures.as_many ∙ ap length c.as_slice.ensures.value ∙ two ∙ sym c.requires.two;
+      prolong = c.requires.prolong;
+      batches = subst (All (λ (list : Vec Run Global). MayBatch list.items)) (sym {A = List (Vec Run Global)} made) c.in_ok-lists-2.ensures.may;
     }

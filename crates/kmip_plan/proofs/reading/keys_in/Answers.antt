@@ -1,0 +1,21 @@
+-- Each element is one key more.
+use Rattle.std.proofs.Common.{◌≡◌, ◌∙◌, ◌<◌, ◌+◌, ◌++◌, ◌∷◌, [], length, get_or, drop, ap, sym, subst}
+use Rattle.std.proofs.lemmas.List.{drop_more}
+use Rattle.toml.specs.View.{items_view, view}
+use Rattle.kmip_ttlv.specs.Binding.{◌>>=◌}
+use Rattle.kmip_plan.specs.Tables.{fields_of}
+use Rattle.kmip_plan.specs.Reading.{key_in, keys_in}
+use Rattle.kmip_plan.proofs.reading.keys_in.Goals as goal
+
+pub loop-value-preserved : goal.loop-value-preserved
+loop-value-preserved c =
+    let i = c.loop-value.value-index in
+    let value = c.value-item.result in
+    let before = c.loop-value.keys.items in
+    let left = drop (i + 1) c.args.array.now.items in
+    let inside = subst (λ values. i < length values) c.deref-value-items.ensures.value c.loop-value-test.true in
+    let is = subst (λ values. value ≡ get_or values i value) c.deref-value-items.ensures.value c.value-item.is in
+    let here = drop_more c.args.array.now.items i value inside ∙ ap (λ v. v ∷ left) (sym is) in
+    let said = ap (λ keys. key_in keys (fields_of (view value))) (sym c.as_slice.ensures.value) ∙ c.in_ok-key.ensures in
+    ap (λ keys. keys_in keys (items_view left)) c.in_ok-push.ensures.items ∙ sym (ap (λ read. read >>= λ k. keys_in (before ++ k ∷ []) (items_view left)) said)
+    ∙ sym (ap (λ values. keys_in before (items_view values)) here) ∙ c.loop-value.invariant
