@@ -1,5 +1,6 @@
 -- The request was asked, things happened, the word was done, and its answer was handed over.
 use Rattle.std.proofs.Common.{sym, ap, subst, ◌∙◌, inr, length, option_map}
+use Rattle.std.proofs.lemmas.Result.{IfOk-from_err}
 use Rattle.kmip_batches.specs.Items.{requests_in}
 use Rattle.kmip_schedule.specs.Clean.{strange_handed}
 use Rattle.kmip_schedule.specs.Moves.{Delivered}
@@ -58,5 +59,62 @@ returns-clause-counted g c = λ names.
       new_is = c.count.ensures;
     })
 
-pub bogus : goal.bogus
-bogus g c = ?
+pub returns-in_err-prepare-clause-answer : goal.returns-in_err-prepare-clause-answer
+returns-in_err-prepare-clause-answer g c = IfOk-from_err c.from_residual.result _ c.from_residual.ensures.0
+
+pub returns-in_err-prepare-clause-exact : goal.returns-in_err-prepare-clause-exact
+returns-in_err-prepare-clause-exact g c = IfOk-from_err c.from_residual.result _ c.from_residual.ensures.0
+
+pub returns-in_err-prepare-clause-hands : goal.returns-in_err-prepare-clause-hands
+returns-in_err-prepare-clause-hands g c = IfOk-from_err c.from_residual.result _ c.from_residual.ensures.0
+
+pub returns-in_err-prepare-clause-calmly : goal.returns-in_err-prepare-clause-calmly
+returns-in_err-prepare-clause-calmly g c = IfOk-from_err c.from_residual.result _ c.from_residual.ensures.0
+
+pub returns-in_err-prepare-clause-counted : goal.returns-in_err-prepare-clause-counted
+returns-in_err-prepare-clause-counted g c = IfOk-from_err c.from_residual.result _ c.from_residual.ensures.0
+
+pub returns-in_err-answer-clause-answer : goal.returns-in_err-answer-clause-answer
+returns-in_err-answer-clause-answer g c = IfOk-from_err c.from_residual-in_err-answer.result _ c.from_residual-in_err-answer.ensures.0
+
+pub returns-in_err-answer-clause-exact : goal.returns-in_err-answer-clause-exact
+returns-in_err-answer-clause-exact g c = IfOk-from_err c.from_residual-in_err-answer.result _ c.from_residual-in_err-answer.ensures.0
+
+pub returns-in_err-answer-clause-hands : goal.returns-in_err-answer-clause-hands
+returns-in_err-answer-clause-hands g c = IfOk-from_err c.from_residual-in_err-answer.result _ c.from_residual-in_err-answer.ensures.0
+
+pub returns-in_err-answer-clause-calmly : goal.returns-in_err-answer-clause-calmly
+returns-in_err-answer-clause-calmly g c = IfOk-from_err c.from_residual-in_err-answer.result _ c.from_residual-in_err-answer.ensures.0
+
+pub returns-in_err-answer-clause-counted : goal.returns-in_err-answer-clause-counted
+returns-in_err-answer-clause-counted g c = IfOk-from_err c.from_residual-in_err-answer.result _ c.from_residual-in_err-answer.ensures.0
+
+pub returns-in_err-counts-clause-answer : goal.returns-in_err-counts-clause-answer
+returns-in_err-counts-clause-answer g c = IfOk-from_err c.from_residual-in_err-counts.result _ c.from_residual-in_err-counts.ensures.0
+
+pub returns-in_err-counts-clause-exact : goal.returns-in_err-counts-clause-exact
+returns-in_err-counts-clause-exact g c = IfOk-from_err c.from_residual-in_err-counts.result _ c.from_residual-in_err-counts.ensures.0
+
+pub returns-in_err-counts-clause-hands : goal.returns-in_err-counts-clause-hands
+returns-in_err-counts-clause-hands g c = IfOk-from_err c.from_residual-in_err-counts.result _ c.from_residual-in_err-counts.ensures.0
+
+pub returns-in_err-counts-clause-calmly : goal.returns-in_err-counts-clause-calmly
+returns-in_err-counts-clause-calmly g c = IfOk-from_err c.from_residual-in_err-counts.result _ c.from_residual-in_err-counts.ensures.0
+
+pub returns-in_err-counts-clause-counted : goal.returns-in_err-counts-clause-counted
+returns-in_err-counts-clause-counted g c = IfOk-from_err c.from_residual-in_err-counts.result _ c.from_residual-in_err-counts.ensures.0
+
+pub returns-in_err-hand_over-clause-answer : goal.returns-in_err-hand_over-clause-answer
+returns-in_err-hand_over-clause-answer g c = IfOk-from_err c.from_residual-in_err-hand_over.result _ c.from_residual-in_err-hand_over.ensures.0
+
+pub returns-in_err-hand_over-clause-exact : goal.returns-in_err-hand_over-clause-exact
+returns-in_err-hand_over-clause-exact g c = IfOk-from_err c.from_residual-in_err-hand_over.result _ c.from_residual-in_err-hand_over.ensures.0
+
+pub returns-in_err-hand_over-clause-hands : goal.returns-in_err-hand_over-clause-hands
+returns-in_err-hand_over-clause-hands g c = IfOk-from_err c.from_residual-in_err-hand_over.result _ c.from_residual-in_err-hand_over.ensures.0
+
+pub returns-in_err-hand_over-clause-calmly : goal.returns-in_err-hand_over-clause-calmly
+returns-in_err-hand_over-clause-calmly g c = IfOk-from_err c.from_residual-in_err-hand_over.result _ c.from_residual-in_err-hand_over.ensures.0
+
+pub returns-in_err-hand_over-clause-counted : goal.returns-in_err-hand_over-clause-counted
+returns-in_err-hand_over-clause-counted g c = IfOk-from_err c.from_residual-in_err-hand_over.result _ c.from_residual-in_err-hand_over.ensures.0

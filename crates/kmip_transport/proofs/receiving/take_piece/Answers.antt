@@ -1,0 +1,11 @@
+-- What one read adds is what is taken.
+use Rattle.kmip_transport.proofs.receiving.take_piece.Goals as goal
+
+pub returns-clause-taken : goal.returns-clause-taken
+returns-clause-taken g c = c.read_into.ensures.taken
+
+pub returns-clause-end : goal.returns-clause-end
+returns-clause-end g c = c.read_into.ensures.end
+
+pub returns-clause-refused : goal.returns-clause-refused
+returns-clause-refused g c = c.read_into.ensures.refused
