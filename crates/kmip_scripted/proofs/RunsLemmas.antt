@@ -1,5 +1,5 @@
 -- The runs of a script, word by word.
-use Rattle.std.proofs.Common.{◌≡◌, ◌≤◌, ◌<◌, ◌+◌, ℕ, Bool, true, false, List, [], ◌∷◌, ◌++◌, drop, length, get_or, Option, Result, Ok, Err, IfOk, IsTrue, rules, refl, sym, ap, subst, ◌∙◌, arith, append_assoc}
+use Rattle.std.proofs.Common.{◌≡◌, ◌≤◌, ◌<◌, ◌+◌, ℕ, Bool, true, false, List, [], ◌∷◌, ◌++◌, drop, length, get_or, Option, Result, Ok, Err, IfOk, IsTrue, rules, refl, sym, ap, subst, ◌∙◌, arith, append_assoc, ◌⊎◌, inl, inr}
 use Rattle.std.proofs.lemmas.List.{drop_more, drop_all}
 use Rattle.std.proofs.lemmas.List.Elements.{All-cons, All-head, All-nil, All-tail}
 use Rattle.kmip_session.specs.declared.campaigning.Run.{Run}
@@ -58,6 +58,24 @@ pub not_ended : (part : Part) (word : Word) (next : Option ℕ) (old new : List 
 not_ended part word next old new after word_is after_is is none same =
     restarts_by part next old new
     (λ more rest. ap (λ runs. runs ++ runs_from more false (start_at next) rest) same ∙ not_ended_at more part next rest old is none) word after word_is after_is
+
+-- the word ends a run that is saved
+saving : (more : ℕ) (part : Part) (rest : List Word) (word : Word) → (word ≡ words.Save) ⊎ (word ≡ words.Prolong)
+    → left_of more part (words.Save ∷ rest) ≡ left_of more part (word ∷ rest)
+saving more part rest word (inl is) = sym (ap (λ w. left_of more part (w ∷ rest)) is)
+saving more part rest word (inr is) = sym (ap (λ w. left_of more part (w ∷ rest)) is)
+
+pub saved : (part : Part) (word : Word) (old new : List Run) (after : Part) → (word ≡ words.Save) ⊎ (word ≡ words.Prolong)
+    → after ≡ record { start = Same; limit = 0; begun = false } → new ≡ old ++ record { start = part.start; limit = part.limit; batch = 1; save = true } ∷ []
+    → Restarts part word old new after
+saved part word old new after word_is after_is joined = λ more rest.
+    let whole : part.limit + 0 ≡ part.limit = omega arith in
+    ap (λ next. new ++ left_of more next rest) after_is
+    ∙ ap (λ runs. new ++ runs) (grown_none (runs_from more false Same rest))
+    ∙ ap (λ runs. runs ++ runs_from more false Same rest) joined
+    ∙ append_assoc old (record { start = part.start; limit = part.limit; batch = 1; save = true } ∷ []) (runs_from more false Same rest)
+    ∙ ap (λ n. old ++ record { start = part.start; limit = n; batch = 1; save = true } ∷ runs_from more false Same rest) (sym whole)
+    ∙ ap (λ runs. old ++ runs) (saving more part rest word word_is)
 
 -- The runs that the words before a place have ended, and the one that the word there is of.
 pub record AreTaken (start : Start) (words : List Word) (place : ℕ) (part : Part) (runs : List Run) : Type 0 where

@@ -3,8 +3,8 @@ use Rattle.std.proofs.Common.{◌≡◌, ℕ, ◌+◌, ◌≤◌, List, [], ◌+
 use Rattle.std.specs.Io.KnownBytes.{Consumes, Keeps}
 use Rattle.std.proofs.KnownBytes.{Consumes-nil, Consumes-trans, Consumes-kept}
 use Rattle.std.proofs.lemmas.Bool.{cases_lt}
-use Rattle.std.proofs.lemmas.List.{length-append, append-nil, take_all}
-use Rattle.std.proofs.Common.{append_assoc}
+use Rattle.std.proofs.lemmas.List.{length-append, length-take, append-nil, take_all}
+use Rattle.std.proofs.Common.{append_assoc, min}
 use Rattle.kmip_ttlv.specs.Limits.{head_size}
 use Rattle.kmip_frames.specs.Framing.{size_needed, wants, held_after, count_taken}
 use Rattle.kmip_frames.specs.Laws.{ShortBytesLackAHead, SizesAreBounded, MoreChangesNothing}
@@ -74,3 +74,7 @@ received_no_more bytes fault a b c d x y z one unfinished two (io, kept) =
       consumed = whole.consumed;
       answered = rw (← whole.joined) (rw (← same) at unfinished.0, refl);
     })
+
+-- room for no more than is wanted
+pub fits : (size own most said : ℕ) (room : List ℕ) → size ≡ min own most → own ≡ said → length (take size room) ≤ said
+fits size own most said room is same = omega (arith, length-take size room)

@@ -129,6 +129,20 @@ not_written bytes message sent now s t held new x y w v short none received is s
       written = inr (omega arith);
     }
 
+-- a message was served, and its reply written
+pub served_one : {M : Type 0} (bytes : M → List ℕ) (message : M) (sent reply told : List ℕ) (now : ℤ) (s t : Stock) (held new : List ℕ) (x y w v : Option (List ℕ))
+    → held ≡ [] → Receives bytes (Ok (Some message)) held new x y → sent ≡ bytes message → t ≡ stock_after_batch s sent
+    → told ≡ reply → reply ≡ batch_reply s sent now → Appends w v told → ServesOne now s t x y w v
+served_one bytes message sent reply told now s t held new x y w v none received is served told_is answered appended =
+    let r = fresh bytes (Ok (Some message)) held new x y none received in
+    record {
+      message = r.read;
+      read = r.consumed;
+      is = r.answered.0;
+      records = served ∙ ap (stock_after_batch s) (is ∙ r.answered.1);
+      written = subst (Appends w v) (told_is ∙ answered ∙ ap (λ m. batch_reply s m now) (is ∙ r.answered.1)) appended;
+    }
+
 -- ---- messages in turn
 
 pub stock_after_messages-append : (s : Stock) (a b : List (List ℕ)) → stock_after_messages s (a ++ b) ≡ stock_after_messages (stock_after_messages s a) b

@@ -1,6 +1,7 @@
 -- Each element is one key more.
-use Rattle.std.proofs.Common.{◌≡◌, ◌∙◌, ◌<◌, ◌+◌, ◌++◌, ◌∷◌, [], length, get_or, drop, ap, sym, subst}
-use Rattle.std.proofs.lemmas.List.{drop_more}
+use Rattle.std.proofs.Common.{◌≡◌, ◌∙◌, ◌<◌, ◌≤◌, ◌+◌, ◌++◌, ◌∷◌, [], length, get_or, drop, ap, sym, subst}
+use Rattle.std.proofs.lemmas.List.{drop_all, drop_more}
+use Rattle.std.proofs.lemmas.Result.{err_from_is_err_and}
 use Rattle.toml.specs.View.{items_view, view}
 use Rattle.kmip_ttlv.specs.Binding.{◌>>=◌}
 use Rattle.kmip_plan.specs.Tables.{fields_of}
@@ -19,3 +20,14 @@ loop-value-preserved c =
     let said = ap (λ keys. key_in keys (fields_of (view value))) (sym c.as_slice.ensures.value) ∙ c.in_ok-key.ensures in
     ap (λ keys. keys_in keys (items_view left)) c.in_ok-push.ensures.items ∙ sym (ap (λ read. read >>= λ k. keys_in (before ++ k ∷ []) (items_view left)) said)
     ∙ sym (ap (λ values. keys_in before (items_view values)) here) ∙ c.loop-value.invariant
+
+pub returns : goal.returns
+returns c =
+    let keys = c.loop-value.keys.items in
+    let none = drop_all c.loop-value.value-index c.args.array.now.items (subst (λ values. length values ≤ c.loop-value.value-index) c.deref-value-items.ensures.value c.loop-value-test.false) in
+    sym c.loop-value.invariant ∙ ap (λ values. keys_in keys (items_view values)) none
+
+pub returns-in_err-push : goal.returns-in_err-push
+returns-in_err-push c =
+    let fault = err_from_is_err_and c.from_residual-in_err-push.result c.from_residual-in_err-push.ensures.1 in
+    rw (fault.1, fault.2) tt

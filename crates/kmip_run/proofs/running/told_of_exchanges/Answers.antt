@@ -1,5 +1,5 @@
 -- What is told has come of the exchanges.
-use Rattle.std.proofs.Common.{rules, inl, inr}
+use Rattle.std.proofs.Common.{rules, refl, inl, inr}
 use Rattle.kmip_running.specs.declared.keeper.SaveFault.TheVariants as faults
 use Rattle.kmip_run.proofs.CourseLemmas.{came_stop, came_unsaved}
 use Rattle.kmip_run.proofs.running.told_of_exchanges.Goals as goal
@@ -16,7 +16,7 @@ returns-in_ok-text-in-Ok g c = record {
     within = search rules;
     at_limit = search rules;
     refused_is = search rules;
-    text_is = search rules;
+    text_is = rw (c.into_bytes.ensures.value, c.in_ok-text-in-Ok.ensures, c.carry_out-ended.ensures.kept.keys_stay) refl;
   });
   safe = search rules;
   few = search rules;

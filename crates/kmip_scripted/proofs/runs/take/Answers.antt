@@ -1,6 +1,6 @@
--- A `restart` ends the run where that has any word.
+-- A `save` and a `prolong` end the run, and so does a `restart` where that has any word.
 use Rattle.std.proofs.Common.{◌++◌, [], ◌∷◌, false, ap, ◌∙◌}
-use Rattle.kmip_scripted.proofs.RunsLemmas.{ended, not_ended}
+use Rattle.kmip_scripted.proofs.RunsLemmas.{ended, not_ended, saved}
 use Rattle.kmip_scripted.proofs.runs.take.Goals as goal
 use Rattle.kmip_scripted.proofs.runs.take.Goals.{then-part+in_ok-push-in-Restart, else-part}
 
@@ -15,3 +15,8 @@ returns-after-part-clause-same c = elim c.if-part.branch [
       (c.new-in-Restart.ensures ∙ ap (λ s. record { start = s; limit = 0; begun = false }) c.start_at.ensures) w.if-part.false
       (c.requires.idle w.if-part.false) (ap (λ v. v.items) w.runs-is)
 ]
+
+pub returns-in_ok-push-in-Save-clause-same : goal.returns-in_ok-push-in-Save-clause-same
+returns-in_ok-push-in-Save-clause-same c =
+    saved c.args.part c.args.word c.args.runs.now.items c.push.new.self.items c.new.result c.in-Save.is c.new.ensures
+    (c.in_ok-push-in-Save.ensures.items ∙ ap (λ run. c.args.runs.now.items ++ run ∷ []) c.run.ensures)

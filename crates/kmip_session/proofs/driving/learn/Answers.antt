@@ -1,7 +1,13 @@
--- What was handed over is what is heard.
-use Rattle.std.proofs.Common.{IfSome, subst, sym}
+-- What was handed over is what is heard; where nothing was, the keys are lost.
+use Rattle.std.proofs.Common.{IfSome, rules, subst, sym}
 use Rattle.kmip_client.specs.Truth.{TrueMessage}
 use Rattle.kmip_session.proofs.driving.learn.Goals as goal
+
+pub returns-in_default-clause-taught : goal.returns-in_default-clause-taught
+returns-in_default-clause-taught c = search rules
+
+pub returns-in_default-clause-kept : goal.returns-in_default-clause-kept
+returns-in_default-clause-kept c = search rules
 
 pub returns-clause-held : goal.returns-clause-held
 returns-clause-held c = λ objects held so.

@@ -1,5 +1,8 @@
 -- The ends of a stream, at one message.
-use Rattle.kmip_transport.proofs.ServingLemmas.{stream_ended, stream_failed, not_served, not_written}
+use Rattle.std.proofs.Common.{ap, ◌∙◌}
+use Rattle.std.proofs.Math.Facts.{to_z-of_z}
+use Rattle.kmip_server.specs.Batching.{batch_reply}
+use Rattle.kmip_transport.proofs.ServingLemmas.{stream_ended, stream_failed, not_served, not_written, served_one}
 use Rattle.kmip_transport.proofs.serving.serve_message.Goals as goal
 
 pub returns-in-Ok-None-clause-ended : goal.returns-in-Ok-None-clause-ended
@@ -16,3 +19,8 @@ returns-in_default-clause-ended g c =
 pub returns-clause-ended : goal.returns-clause-ended
 returns-clause-ended g c =
     not_written _ _ _ _ _ _ _ _ _ _ _ _ c.sizes.ensures.short c.requires (rw c.in-Ok-Some.field-0-is at c.in-Ok-Some.ensures) c.as_slice.ensures.value c.in-Ok.ensures.after
+
+pub returns-in-Ok-send_message-clause-one : goal.returns-in-Ok-send_message-clause-one
+returns-in-Ok-send_message-clause-one g c =
+    served_one _ _ _ _ _ _ _ _ _ _ _ _ _ _ c.requires (rw c.in-Ok-Some.field-0-is at c.in-Ok-Some.ensures) c.as_slice.ensures.value c.in-Ok.ensures.after
+    c.as_slice-2.ensures.value (c.in-Ok.ensures.reply ∙ ap (batch_reply c.args.server.now c.as_slice.result.now) (to_z-of_z c.ranges.now)) c.in-Ok-send_message.ensures.sent

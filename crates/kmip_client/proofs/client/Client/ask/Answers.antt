@@ -1,15 +1,16 @@
 -- The turn passes to the place after the last key that is asked about.
-use Rattle.std.proofs.Common.{◌≡◌, ◌∙◌, ℕ, ◌-◌, ◌≤◌, ◌<◌, List, length, Some, IsTrue, nat_le, subst, sym, refl, arith}
+use Rattle.std.proofs.Common.{◌≡◌, ◌∙◌, ℕ, ◌+◌, ◌-◌, ◌≤◌, ◌<◌, List, length, Some, IsTrue, nat_le, subst, sym, ap, refl, arith}
 use Rattle.std.proofs.lemmas.Bool.{and_from, and_parts, le-leb, leb-true}
 use Rattle.std.proofs.lemmas.Option.{get_or_from_slice_get, slice_get_within}
 use Rattle.std.proofs.lemmas.Slice.Zip.{AllZip-long}
 use Rattle.std.specs.List.{All, slice_get}
+use Rattle.std.specs.Option.{option_map_or}
 use Rattle.kmip_messages.specs.declared.standard.TheConstants.{MOST_QUESTIONS}
 use Rattle.kmip_batches.specs.Members.{may_have}
 use Rattle.kmip_chains.specs.declared.key.Key.{Key}
 use Rattle.kmip_plan.specs.Plans.{IsLawful}
 use Rattle.kmip_knowledge.specs.declared.knowledge.Knowledge.{Knowledge}
-use Rattle.kmip_client.specs.Asking.{AreApart, in_turn}
+use Rattle.kmip_client.specs.Asking.{AreApart, after_ask, in_turn, next_places, turn_behind}
 use Rattle.kmip_client.specs.Clients.{ClientState, WorksAt, AreSettled, working_count}
 use Rattle.kmip_client.specs.Shapes.{IsShaped}
 use Rattle.kmip_client.proofs.AskingLemmas.{few_cut, none_all, none_from, none_next}
@@ -105,3 +106,14 @@ returns-in_err-question-clause-few c = few_cut c.args.self.now.batch (in_turn c.
 
 pub returns-then-self-eq0-clause-few : goal.returns-then-self-eq0-clause-few
 returns-then-self-eq0-clause-few c = few_cut c.args.self.now.batch (in_turn c.args.self.now)
+
+pub returns-clause-turn : goal.returns-clause-turn
+returns-clause-turn c =
+    let places = c.in_ok-places.places.items in
+    let state : ClientState = record { keys = c.self.inside.plan.now; knowns = c.self.inside.knowns.items; next = c.self.inside.next; batch = c.self.inside.batch } in
+    let last : Some c.in-Some.last.now ≡ slice_get places (length places - 1) =
+    subst (λ ps. Some c.in-Some.last.now ≡ slice_get ps (length ps - 1)) c.deref.ensures.value c.in-Some.ensures.value in
+    let asked : places ≡ next_places state = rw (c.keys-keys.ensures.value, c.as_slice.ensures.value) at c.in_ok-places.ensures.places in
+    subst (λ (s : ClientState). record state { next = c.in-Some.last.now + 1 } ≡ after_ask s) c.self.view_is
+    (subst (λ (ps : List ℕ). record state { next = c.in-Some.last.now + 1 } ≡ record state { next = turn_behind ps state.next }) asked
+    (ap (λ o. record state { next = option_map_or (λ place. place + 1) o state.next }) last))

@@ -1,5 +1,5 @@
 -- A message waits where as much is held as is needed.
-use Rattle.std.proofs.Common.{◌∙◌, refl, rules}
+use Rattle.std.proofs.Common.{◌∙◌, refl, rules, arith}
 use Rattle.std.proofs.lemmas.Result.{err_from_is_err_and}
 use Rattle.kmip_frames.proofs.Steps.{tested_none, waits_none, waits_whole}
 use Rattle.kmip_frames.proofs.framer.Framer.next.Goals as goal
@@ -23,3 +23,6 @@ returns c =
     let none = tested_none c.args.self.now c.self.inside.held.items c.as_slice.result.now c.fault_of.result c.is_some.result c.self.view_is c.as_slice.ensures.value c.fault_of.ensures c.is_some.ensures c.if-is_some.false in
     let whole = waits_whole c.args.self.now c.self.inside.held.items c.as_slice-2.result.now c.len.result c.size_needed.result c.self.view_is c.self.invariant.1 c.as_slice-2.ensures.value (c.len.ensures ∙ c.self.inside.held.ok.0) c.size_needed.ensures c.if-len-size_needed.false none in
     (whole, c.in_ok-message.ensures.items ∙ c.as_slice-3.ensures.value ∙ c.self.view_is, search rules)
+
+pub invariant_of-self : goal.invariant_of-self
+invariant_of-self c = (rw c.clear.ensures.capacity c.self.invariant.0, rw c.clear.ensures.items (omega arith))

@@ -14,3 +14,9 @@ pub returns-clause-failed : goal.returns-clause-failed
 returns-clause-failed c = λ some.
     let found = some_of (fault_in c.args.self.now) (is_some (fault_in c.args.self.now)) refl some in
     omega (arith, fault_size c.args.self.now found.0 found.1, size_needed_fault c.args.self.now found.0 found.1, c.size_needed.ensures ∙ ap size_needed (c.as_slice.ensures.value ∙ c.self.view_is), c.len.ensures ∙ c.self.inside.held.ok.0 ∙ ap length c.self.view_is)
+
+pub returns-clause-value : goal.returns-clause-value
+returns-clause-value c =
+    let size = c.size_needed.ensures ∙ ap size_needed (c.as_slice.ensures.value ∙ c.self.view_is) in
+    let held = c.len.ensures ∙ c.self.inside.held.ok.0 ∙ ap length c.self.view_is in
+    rw (size, held) refl
