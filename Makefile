@@ -1,6 +1,6 @@
 # make            builds the program (a clean clone is proved first, which takes some 40 minutes on 4 cores)
 # make demo       answers the example requests, and carries out a plan over a network that loses a reply
-# make test       the gate: every proof from nothing, the wrong bodies, the tests and the program
+# make test       the gate: every proof, the wrong bodies, the tests and the stored runs, and then all trials but bench
 # make bench      compares the program with a baseline in plain Rust, and times simulations (needs rustc)
 # make refuse     refuses each growth of memory of the program and of kmip_growths in turn (needs cc, python3)
 # make hostile    gives the program lines of ten megabytes, under limits of memory
@@ -33,7 +33,7 @@ demo: $(program)
 	@$(program) sim --plan examples/lost-create.toml --script examples/lost-create.script
 
 test:
-	@rt ci
+	@python3 tools/gate.py
 
 bench: $(program)
 	@bench/bench.sh $(program)

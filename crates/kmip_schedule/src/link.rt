@@ -1,12 +1,12 @@
 //! A link to a server, and why it has no answer.
-ghost use Rattle.std.specs.Prelude.{◌≡◌, ◌≤◌, ◌<◌, ℕ, List, length, Some, None, Ok, IfErr, OnErr, OnOk, option_map};
+ghost use Rattle.std.specs.Prelude.{◌≡◌, ◌≤◌, ◌<◌, ℕ, List, length, Some, None, Ok, Err, IfErr, OnErr, OnOk, option_map};
 ghost use Rattle.std.specs.Result.{result_ok};
 ghost use Rattle.kmip_schedule.specs.Calm.{CalmlyExchanged, CalmlyEnded};
 ghost use Rattle.kmip_schedule.specs.Clean.{Counted, Disturbances, IsRoomy};
 ghost use Rattle.kmip_schedule.specs.Ending.{Ended};
 ghost use Rattle.kmip_schedule.specs.Exchanges.{Exchanged, answer_in};
 ghost use Rattle.kmip_schedule.specs.Faults.{link_fault_number, link_fault_name, most_failures};
-ghost use Rattle.kmip_schedule.specs.Losses.{or_loss};
+ghost use Rattle.kmip_schedule.specs.Losses.{IsInMemory, or_loss};
 ghost use Rattle.kmip_schedule.specs.Moves.{Delivered};
 ghost use Rattle.kmip_schedule.specs.Past.{AreAmong, Past, Names};
 
@@ -36,6 +36,10 @@ pub trait Link {
     /// Where the runs that were ended over it did: how many messages had been sent then, in order.
     ghost ended: { Self → List ℕ };
 
+    /// The second is what calls of it made of the first, none of which lacked memory. A link of
+    /// which this can't be told says it of any two.
+    ghost follows: { Self → Self → Type 0 };
+
     /// Sends the bytes of a request, and answers the bytes of a reply that came; none where it was
     /// lost, or where the link sends nothing any more.
     ///
@@ -61,12 +65,15 @@ pub trait Link {
             → IsRoomy (answer_in (λ v. v.items) result)
             → disturbances self.new ≡ disturbances self.old }
         ensures ended { (names : Names) → honest self.old names
-            → ended self.new ≡ ended self.old };
+            → ended self.new ≡ ended self.old }
+        ensures followed { IsInMemory (answer_in (λ v. v.items) result)
+            → follows self.old self.new };
 
     /// A run has ended, which is noted: what is under way over the link may still arrive, or never.
     ///
     /// # Errors
-    /// `Io` and `Frame` as of an exchange, and `NoMemory`: the end is then noted or not.
+    /// `Io` and `Frame` as of an exchange, and `NoMemory`: the end is then noted or not, and no
+    /// failure of the network was met.
     fn end_run(&mut self, alloc: Global) -> Result<(), LinkFault>
         ensures honest { (names : Names) → honest self.old names → honest self.new names
             × Delivered names (past self.old) (past self.new) }
@@ -79,16 +86,21 @@ pub trait Link {
         ensures undisturbed { (names : Names) → honest self.old names
             → disturbances self.new ≡ disturbances self.old }
         ensures ended { (names : Names) → honest self.old names
-            → Ended result (length (past self.old).sent) (ended self.old) (ended self.new) };
+            → Ended result (length (past self.old).sent) (ended self.old) (ended self.new) }
+        ensures followed { IsInMemory result → follows self.old self.new }
+        ensures wanting { result ≡ Err LinkFault.NoMemory
+            → failures self.new ≡ failures self.old };
 
     /// A calm link is honest, and its network may fail once more; and what it is for names it is for
-    /// fewer. Laws, which do nothing.
+    /// fewer. It follows itself, and what follows it in two steps. Laws, which do nothing.
     fn calm_laws()
         ensures honest { (link : Self) (names : Names) → calm link names → honest link names }
         ensures unspent { (link : Self) (names : Names) → calm link names
             → failures link < most_failures }
         ensures fewer { (link : Self) (names fewer : Names) → AreAmong fewer names
-            → (honest link names → honest link fewer) × (calm link names → calm link fewer) };
+            → (honest link names → honest link fewer) × (calm link names → calm link fewer) }
+        ensures itself { (link : Self) → follows link link }
+        ensures twice { (x y z : Self) → follows x y → follows y z → follows x z };
 }
 
 /// Why a link has no answer.

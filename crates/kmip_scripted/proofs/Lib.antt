@@ -7,3 +7,4 @@ pub mod EndingLemmas
 pub mod RunsLemmas
 pub mod SplitLemmas
 pub mod PartLemmas
+pub mod CallLemmas

@@ -5,6 +5,9 @@ pub mod Arriving
 pub mod Serving
 pub mod Disturbing
 pub mod Words
+pub mod Following
 pub mod Early
 pub mod Wanting
 pub mod Runs
+pub mod ScriptTexts
+pub mod ScriptReading

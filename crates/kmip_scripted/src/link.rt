@@ -1,13 +1,15 @@
 //! The link in memory as a link.
-ghost use Rattle.std.specs.Prelude.{◌≡◌, ◌≢◌, [], length, Err, IfOk, OnOk, option_map};
+ghost use Rattle.std.specs.Prelude.{◌≡◌, ◌≢◌, [], length, true, Err, IfOk, OnErr, OnOk, option_map};
 ghost use Rattle.kmip_schedule.specs.Calm.{CalmlyEnded, CalmlyExchanged};
 ghost use Rattle.kmip_schedule.specs.Clean.{Counted, IsRoomy};
 ghost use Rattle.kmip_schedule.specs.Ending.{Ended};
 ghost use Rattle.kmip_schedule.specs.Exchanges.{Exchanged, answer_in};
 ghost use Rattle.kmip_schedule.specs.Moves.{Delivered};
 ghost use Rattle.kmip_schedule.specs.Past.{Names};
+ghost use Rattle.kmip_schedule.specs.Losses.{IsInMemory};
+ghost use Rattle.kmip_scripted.specs.Following.{Follows};
 ghost use Rattle.kmip_scripted.specs.Scenes.{disturbances_in, past_in};
-ghost use Rattle.kmip_scripted.specs.Words.{after_run, exchange};
+ghost use Rattle.kmip_scripted.specs.Words.{AreBegun, IsBegun, after_run, exchange};
 
 use crate::scripted::Scripted;
 use kmip_schedule::{Link, LinkFault};
@@ -20,6 +22,7 @@ use std::alloc::Global;
 /// message, and where the server had no room for what it asks.
 impl<S: Records> Link for Scripted<S> {
     ghost use Rattle.std.specs.Prelude.{◌≡◌, [], ⊤};
+    ghost use Rattle.kmip_scripted.specs.Following.{Follows};
     ghost use Rattle.kmip_scripted.specs.Scenes.{disturbances_in, past_in};
 
     ghost past = { past_in };
@@ -33,6 +36,8 @@ impl<S: Records> Link for Scripted<S> {
     ghost disturbances = { disturbances_in };
 
     ghost ended = { λ link. link.ended };
+
+    ghost follows = { Follows };
 
     fn exchange(&mut self, alloc: Global, request: &[u8]) -> Result<Option<Vec<u8>>, LinkFault>
         ensures answer { IfOk result (λ answer. option_map (λ v. v.items) answer
@@ -50,7 +55,11 @@ impl<S: Records> Link for Scripted<S> {
             → IsRoomy (answer_in (λ v. v.items) result)
             → disturbances_in self.new ≡ disturbances_in self.old }
         ensures never_io { result ≢ Err LinkFault.Io }
+        ensures never_frame { result ≢ Err LinkFault.Frame }
+        ensures begun { OnErr result (IsBegun request.now self.old self.new) }
         ensures ended { self.new.ended ≡ self.old.ended }
+        ensures followed { IsInMemory (answer_in (λ v. v.items) result)
+            → Follows self.old self.new }
     {
         match self.follow(alloc, request) {
             Ok(answer) => Ok(answer),
@@ -67,7 +76,10 @@ impl<S: Records> Link for Scripted<S> {
             × CalmlyEnded names result (past_in self.old) (past_in self.new) }
         ensures undisturbed { disturbances_in self.new ≡ disturbances_in self.old }
         ensures never_io { result ≢ Err LinkFault.Io }
+        ensures never_frame { result ≢ Err LinkFault.Frame }
+        ensures begun { OnErr result (AreBegun true self.old.words self.old self.new) }
         ensures ended { Ended result (length self.old.sent) self.old.ended self.new.ended }
+        ensures followed { IsInMemory result → Follows self.old self.new }
     {
         match self.finish_run(alloc) {
             Ok(()) => Ok(()),

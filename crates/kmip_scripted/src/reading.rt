@@ -1,4 +1,10 @@
 //! A script from its text.
+ghost use Rattle.std.specs.Prelude.{◌≡◌, ◌<◌, ◌++◌, ◌∷◌, List, ℕ, length, Ok, Err, IfOk, IfErr, OnOk};
+ghost use Rattle.std.specs.Str.{all_ascii_digits};
+ghost use Rattle.kmip_scripted.specs.ScriptReading.{FailsScript, GivesScript, number_in, numbered_word, plain_word, restart_in, script_read, word_in, words_of_line};
+ghost use Rattle.kmip_scripted.specs.ScriptTexts.{FailsAt, IsScript, lines_in};
+ghost use Rattle.kmip_scripted.specs.declared.fault.ScriptFault.TheVariants.{Line};
+ghost use Rattle.kmip_scripted.specs.declared.script.Word.{Word as WordLem};
 
 use crate::fault::ScriptFault;
 use crate::script::{Script, Word};
@@ -17,23 +23,81 @@ pub const MOST_DIGITS: usize = 6;
 /// # Errors
 /// `Line` with the number of the first line, from 1, that is no word, or that is one of more than
 /// 10,000; and `NoMemory`.
-pub fn read_script(alloc: Global, text: &str) -> Result<Script, ScriptFault> {
-    let mut words = Vec::new(alloc);
-    for (place, line) in text.split('\n').enumerate() {
-        if place > MOST_LINES || (place == MOST_LINES && !line.is_empty()) {
-            return Err(ScriptFault::Line(MOST_LINES + 1));
-        }
-        if line.is_empty() {
-            continue;
-        }
-        let word = word_in(line).ok_or(ScriptFault::Line(place + 1))?;
-        words.push(word)?;
-    }
+pub fn read_script(alloc: Global, text: &str) -> Result<Script, ScriptFault>
+    ensures found { IfOk result (λ script. IsScript text.now script) }
+    ensures only { (words : List WordLem) → IsScript text.now words
+        → GivesScript (λ script. script) result (Ok words) }
+    ensures fault { (number : ℕ) → result ≡ Err (Line number) → FailsAt text.now number }
+    ensures first { (number : ℕ) → FailsAt text.now number
+        → GivesScript (λ script. script) result (Err (Line number)) }
+    ensures exact { GivesScript (λ script. script) result (script_read text.now) }
+{
+    whole_script(alloc, text)
+}
+
+/// The same, line by line.
+fn whole_script(alloc: Global, text: &str) -> Result<Script, ScriptFault>
+    ensures { GivesScript (λ script. script) result (script_read text.now) }
+{
+    let words = words_of(alloc, text)?;
     Ok(Script::new(words))
 }
 
+/// The words of a text.
+fn words_of(alloc: Global, text: &str) -> Result<Vec<Word>, ScriptFault>
+    ensures { GivesScript (λ words. words.items) result (script_read text.now) }
+{
+    let mut words = Vec::new(alloc);
+    let mut rest = text;
+    for number in 1..MOST_LINES + 1 {
+        if rest.is_empty() {
+            return Ok(words);
+        }
+        let (line, behind) = first_line(rest);
+        push_word(line, number, &mut words)?;
+        rest = behind;
+    }
+    if !rest.is_empty() {
+        return Err(ScriptFault::Line(MOST_LINES + 1));
+    }
+    Ok(words)
+}
+
+/// The first line of a text that is not empty, without its line feed, and what stands behind that.
+fn first_line(text: &str) -> (&str, &str)
+    requires { 0 < length text.now }
+    ensures { lines_in text.now ≡ result.0.now ∷ lines_in result.1.now }
+{
+    match text.split_once('\n') {
+        Some((line, behind)) => (line, behind),
+        None => (text, ""),
+    }
+}
+
+/// Appends the word of a line of this number, where it is not empty.
+///
+/// # Errors
+/// `Line` where it is no word, and `NoMemory`.
+fn push_word(line: &str, number: usize, words: &mut Vec<Word>) -> Result<(), ScriptFault>
+    ensures word { OnOk result ((more : List WordLem)
+        × (words_of_line line.now number ≡ Ok more)
+        × (words.new.items ≡ words.old.items ++ more)) }
+    ensures fault { IfErr result (λ fault. FailsScript fault (words_of_line line.now number)) }
+{
+    if line.is_empty() {
+        return Ok(());
+    }
+    let Some(word) = word_in(line) else {
+        return Err(ScriptFault::Line(number));
+    };
+    words.push(word)?;
+    Ok(())
+}
+
 /// The word of a line, where it is one.
-fn word_in(line: &str) -> Option<Word> {
+fn word_in(line: &str) -> Option<Word>
+    ensures { result ≡ word_in line.now }
+{
     match line.split_once(' ') {
         Some((word, number)) => numbered_word(word, number),
         None => plain_word(line),
@@ -41,7 +105,9 @@ fn word_in(line: &str) -> Option<Word> {
 }
 
 /// A word with no number behind it.
-fn plain_word(word: &str) -> Option<Word> {
+fn plain_word(word: &str) -> Option<Word>
+    ensures { result ≡ plain_word word.now }
+{
     match word {
         "pass" => Some(Word::Pass),
         "lose-request" => Some(Word::LoseRequest),
@@ -53,26 +119,43 @@ fn plain_word(word: &str) -> Option<Word> {
 }
 
 /// A word with a number behind it, or with `none`.
-fn numbered_word(word: &str, number: &str) -> Option<Word> {
+fn numbered_word(word: &str, number: &str) -> Option<Word>
+    ensures { result ≡ numbered_word word.now number.now }
+{
     match word {
         "cut" => Some(Word::Cut(number_in(number)?)),
         "stale" => Some(Word::Stale(number_in(number)?)),
         "again" => Some(Word::Again(number_in(number)?)),
-        "restart" => {
-            if number == "none" {
-                return Some(Word::Restart(None));
-            }
-            Some(Word::Restart(Some(number_in(number)?)))
-        }
+        "restart" => restart_in(number),
         _ => None,
     }
 }
 
+/// A restart from the save of a number, or from nothing.
+fn restart_in(number: &str) -> Option<Word>
+    ensures { result ≡ restart_in number.now }
+{
+    if number == "none" {
+        return Some(Word::Restart(None));
+    }
+    let number = number_in(number)?;
+    Some(Word::Restart(Some(number)))
+}
+
 /// A number of 1 to 6 decimal digits.
-fn number_in(word: &str) -> Option<usize> {
+fn number_in(word: &str) -> Option<usize>
+    ensures { result ≡ number_in word.now }
+{
     let digits = word.as_bytes();
-    if digits.len() > MOST_DIGITS || !digits.iter().all(|byte| b'0' <= *byte && *byte <= b'9') {
+    if digits.is_empty() || digits.len() > MOST_DIGITS || !are_digits(digits) {
         return None;
     }
     word.parse::<usize>().ok()
+}
+
+/// Whether each byte is a decimal digit.
+fn are_digits(bytes: &[u8]) -> bool
+    ensures { result ≡ all_ascii_digits bytes.now }
+{
+    bytes.iter().all(|byte| b'0' <= *byte && *byte <= b'9')
 }

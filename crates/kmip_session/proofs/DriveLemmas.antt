@@ -1,15 +1,18 @@
 -- What is kept over several exchanges.
-use Rattle.std.proofs.Common.{◌≡◌, ◌≢◌, ◌≤◌, ℕ, ◌+◌, List, length, ap, subst, sym, inl, inr, ◌∙◌, arith}
+use Rattle.std.proofs.Common.{◌≡◌, ◌≢◌, ◌≤◌, ℕ, ◌+◌, List, length, ap, subst, sym, refl, inl, inr, ◌⊎◌, ◌∙◌, arith}
 use Rattle.std.specs.Prelude.{⊤}
 use Rattle.kmip_chains.specs.declared.key.Key.{Key}
 use Rattle.kmip_client.specs.Clients.{AreSettled, ClientState}
 use Rattle.kmip_client.specs.Known.{facts}
 use Rattle.kmip_knowledge.specs.declared.knowledge.Knowledge.{Knowledge}
 use Rattle.kmip_schedule.specs.Past.{Names, Past, is_planned}
-use Rattle.kmip_session.specs.Driving.{AsksOne, Grown, IsBrokenOff, IsGood, IsSettling, Keeps, KeepsFurther, Learnt, Nearer, SomeClash, Stands, WentOn}
+use Rattle.kmip_session.specs.Driving.{AsksOne, Grown, IsBrokenOff, IsGood, IsSettling, IsUnheard, IsUnmade, Keeps, KeepsFurther, Learnt, LearntUntil, Nearer, SomeClash, Stands, WentOn}
 use Rattle.kmip_session.specs.Lawbook.{Lawbook}
+use Rattle.kmip_session.specs.Turning.{exchanges_made}
 use Rattle.kmip_session.specs.declared.stop.Stop.{Stop}
 use Rattle.kmip_session.specs.declared.stop.Stop.TheVariants as stops
+use Rattle.kmip_session.specs.declared.turn_fault.TurnFault.{TurnFault}
+use Rattle.kmip_session.specs.declared.turn_fault.TurnFault.TheVariants.{Unmade, Unheard}
 use Rattle.kmip_session.proofs.FurtherLemmas.{further_nowhere, further_then}
 use Rattle.kmip_session.proofs.GoodLemmas.{keeps_itself, keeps_then, went_nowhere, went_then}
 use Rattle.kmip_session.proofs.SettleLemmas.{nearer_none, nearer_then}
@@ -25,6 +28,11 @@ learnt_of keys own most many old new knowns nexts n same batch learnt =
 pub asks_one : (a b : ClientState) → Keeps a b → AsksOne a → AsksOne b
 asks_one a b keeps (inl one) = inl (keeps.batch_stays ∙ one)
 asks_one a b keeps (inr alone) = inr (ap length keeps.keys_stay ∙ alone)
+
+breaks_off : (keys : List Key) (most : ℕ) (old new : Past) (heard : ℕ) (fault : TurnFault) → IsBrokenOff keys most old new fault
+    → ((heard + exchanges_made fault ≡ heard) × IsUnmade keys most old new) ⊎ ((heard + exchanges_made fault ≡ heard + 1) × IsUnheard keys most old new)
+breaks_off keys most old new heard Unmade off = inl (omega arith, off)
+breaks_off keys most old new heard Unheard off = inr (refl, off)
 
 module _ {L : Type 0} (past : L → Past) (honest calm : L → Names → Type 0) where
   -- after so many exchanges
@@ -101,17 +109,20 @@ module _ {L : Type 0} (past : L → Past) (honest calm : L → Names → Type 0)
       )
 
   -- and a last exchange in which memory ran out
-  pub broken_end : (a b c : ClientState) (x y z : L) (m : ℕ) → Driven a b x y m
-      → (honest y (is_planned b.keys) → (facts c.knowns ≡ facts b.knowns) × IsBrokenOff b.keys b.batch (past y) (past z)) → honest x (is_planned a.keys)
-      → (between : Past) × Learnt a.keys a.batch (past x) between a.knowns c.knowns m × IsBrokenOff a.keys a.batch between (past z)
-  broken_end a b c x y z m first last holds =
+  pub broken_end : (a b c : ClientState) (x y z : L) (m : ℕ) (fault : TurnFault) → Driven a b x y m
+      → (honest y (is_planned b.keys) → (facts c.knowns ≡ facts b.knowns) × IsBrokenOff b.keys b.batch (past y) (past z) fault) → honest x (is_planned a.keys)
+      → LearntUntil a.keys a.batch (past x) (past z) a.knowns c.knowns (m + exchanges_made fault)
+  broken_end a b c x y z m fault first last holds =
       let before = first.known holds in
-      let off = last (subst (λ ks. honest y (is_planned ks)) (sym first.keeps.keys_stay) before.0) in (
-        past y,
-        learnt_still a.keys a.batch (past x) (past y) (past y) a.knowns b.knowns c.knowns m before.1 (stays_itself (past y)) off.0,
-        subst (λ ks. IsBrokenOff ks a.batch (past y) (past z)) first.keeps.keys_stay
-            (subst (λ most. IsBrokenOff b.keys most (past y) (past z)) first.keeps.batch_stays off.1),
-      )
+      let off = last (subst (λ ks. honest y (is_planned ks)) (sym first.keeps.keys_stay) before.0) in
+      record {
+        between = past y;
+        heard = m;
+        learnt = learnt_still a.keys a.batch (past x) (past y) (past y) a.knowns b.knowns c.knowns m before.1 (stays_itself (past y)) off.0;
+        broken = breaks_off a.keys a.batch (past y) (past z) m fault
+            (subst (λ ks. IsBrokenOff ks a.batch (past y) (past z) fault) first.keeps.keys_stay
+            (subst (λ most. IsBrokenOff b.keys most (past y) (past z) fault) first.keeps.batch_stays off.1));
+      }
 
   -- so few exchanges were made
   pub few_made : (a b : ClientState) (x y : L) (m limit : ℕ) → Driven a b x y m → m ≤ limit → honest x (is_planned a.keys) → length (past y).sent ≤ length (past x).sent + limit

@@ -1,5 +1,5 @@
 -- What exchanges ask and teach, one after the other.
-use Rattle.std.proofs.Common.{◌≡◌, ◌≤◌, arith, ℕ, ◌+◌, List, [], ◌∷◌, ◌++◌, length, Option, Some, None, Result, Ok, Err, OnErr, OnOk, sym, ap, subst, refl, ◌∙◌, flat_map, append_assoc, append-nil, inl, inr}
+use Rattle.std.proofs.Common.{◌≡◌, ◌≤◌, arith, ℕ, ◌+◌, List, [], ◌∷◌, ◌++◌, length, Option, Some, None, IsSome, Result, Ok, Err, OnErr, OnOk, sym, ap, subst, refl, ◌∙◌, flat_map, append_assoc, append-nil, inl, inr}
 use Rattle.std.proofs.lemmas.List.Elements.{All-append, All-cons, All-nil}
 use Rattle.std.proofs.lemmas.List.{length-append}
 use Rattle.std.proofs.lemmas.List.Concat.{flat_map-append}
@@ -15,7 +15,7 @@ use Rattle.kmip_schedule.specs.Moves.{Delivered, Move, after_move, after_moves}
 use Rattle.kmip_schedule.specs.Past.{Names, Past}
 use Rattle.kmip_schedule.specs.declared.link.LinkFault.{LinkFault}
 use Rattle.kmip_schedule.specs.declared.link.LinkFault.TheVariants.{Io, Frame, NoMemory}
-use Rattle.kmip_session.specs.Driving.{Grown, IsBrokenOff, IsQuestion, IsToBePut, Learnt}
+use Rattle.kmip_session.specs.Driving.{Grown, IsQuestion, IsToBePut, IsUnheard, IsUnmade, Learnt, LearntUntil}
 use Rattle.kmip_client.specs.Known.{facts, heard, known_after}
 use Rattle.kmip_schedule.specs.Losses.{or_loss}
 use Rattle.kmip_settling.specs.Turns.{taught}
@@ -108,7 +108,7 @@ handed_over names old new sent (Err Io) answer is done = subst (λ a. HandsOver 
 handed_over names old new sent (Err Frame) answer is done = subst (λ a. HandsOver names old sent a new) (some_answer None answer is) done
 handed_over names old new sent (Err NoMemory) answer is done = absurd cc
 
-handed_asks : (names : Names) (old new : Past) (sent : List ℕ) (answer : Option (List ℕ)) → HandsOver names old sent answer new
+pub handed_asks : (names : Names) (old new : Past) (sent : List ℕ) (answer : Option (List ℕ)) → HandsOver names old sent answer new
     → (new.sent ≡ old.sent ++ sent ∷ []) × (new.handed ≡ old.handed ++ answer ∷ []) × (new.requests ≡ old.requests ++ requests_in sent)
 handed_asks names old new sent answer hands =
     let stays = delivered_stays names (with_asked sent old) hands.between hands.delivered in (
@@ -177,40 +177,46 @@ always_err (Err fault) holds = holds
 pub lost_facts : LossesTeachNothing → (c next : ClientState) (question : Question) → next ≡ taught question None c → facts next.knowns ≡ facts c.knowns
 lost_facts lost c next question is = ap (λ (s : ClientState). facts s.knowns) is ∙ taught_facts lost c.keys question None c.knowns
 
-pub broken_nowhere : (keys : List Key) (most : ℕ) (p : Past) → IsBrokenOff keys most p p
-broken_nowhere keys most p = inl (refl, (refl, refl))
+pub broken_nowhere : (keys : List Key) (most : ℕ) (p : Past) → IsUnmade keys most p p
+broken_nowhere keys most p = record { asked = inl refl; sent_stays = refl; handed_stays = refl }
 
 -- before it came to its end
 pub broken_asked : (names : Names) (c : ClientState) (old new : Past) (question : Question) (answered : Result (Option (List ℕ)) LinkFault)
-    → IsToBePut c question → or_loss answered ≡ None → Exchanged names old question.bytes answered new → IsBrokenOff c.keys c.batch old new
+    → IsToBePut c question → or_loss answered ≡ None → Exchanged names old question.bytes answered new → IsUnmade c.keys c.batch old new
 broken_asked names c old new question (Ok answer) put none done = absurd cc
 broken_asked names c old new question (Err Io) put none done = absurd cc
 broken_asked names c old new question (Err Frame) put none done = absurd cc
 broken_asked names c old new question (Err NoMemory) put none done = elim done [
   | inl before ↦
       let stays = delivered_stays names old new before in
-      inl (stays.requests_stay, (stays.sent_stays, stays.handed_stays))
+      record { asked = inl stays.requests_stay; sent_stays = stays.sent_stays; handed_stays = stays.handed_stays }
   | inr after ↦
       let stays = delivered_stays names (with_asked question.bytes old) new after in
-      inr (record {
-        question = question.bytes;
-        is_question = asked_one c put.places question put.about put.few;
-        requests_are = stays.requests_stay;
-        ended = inl (stays.sent_stays, stays.handed_stays);
-      })
+      record {
+        asked = inr (record {
+          question = question.bytes;
+          is_question = asked_one c put.places question put.about put.few;
+          requests_are = stays.requests_stay;
+        });
+        sent_stays = stays.sent_stays;
+        handed_stays = stays.handed_stays;
+      }
 ]
 
 -- and behind it
-pub broken_handed : (names : Names) (c : ClientState) (old new : Past) (question : Question) (answer : Option (List ℕ)) → IsToBePut c question
-    → HandsOver names old question.bytes answer new → IsBrokenOff c.keys c.batch old new
-broken_handed names c old new question answer put hands =
-    let asks = handed_asks names old new question.bytes answer hands in
-    inr (record {
+pub broken_handed : (names : Names) (c : ClientState) (old new : Past) (question : Question) (answer : Option (List ℕ)) → IsToBePut c question → IsSome answer
+    → HandsOver names old question.bytes answer new → IsUnheard c.keys c.batch old new
+broken_handed names c old new question None put came hands = absurd cc
+broken_handed names c old new question (Some reply) put came hands =
+    let asks = handed_asks names old new question.bytes (Some reply) hands in
+    record {
       question = question.bytes;
+      reply = reply;
       is_question = asked_one c put.places question put.about put.few;
       requests_are = asks.2;
-      ended = inr (answer, asks.0, asks.1);
-    })
+      sent_are = asks.0;
+      handed_are = asks.1;
+    }
 
 -- ---- how many were sent
 
@@ -219,12 +225,21 @@ pub learnt_long : (keys : List Key) (most : ℕ) (old new : Past) (knowns nexts 
 learnt_long keys most old new knowns nexts exchanges learnt =
     ap length learnt.sent_are ∙ length-append old.sent learnt.questions ∙ ap (λ n. length old.sent + n) learnt.as_many_questions
 
-pub off_long : (keys : List Key) (most : ℕ) (old new : Past) → IsBrokenOff keys most old new → length new.sent ≤ length old.sent + 1
-off_long keys most old new (inl none) = let same = ap length none.1.0 in omega (arith, same)
-off_long keys most old new (inr cut) = elim cut.ended [
-  | inl none ↦ let same = ap length none.0 in omega (arith, same)
-  | inr one ↦ let more = ap length one.1 ∙ length-append old.sent (cut.question ∷ []) in omega (arith, more)
-]
+pub unmade_long : (keys : List Key) (most : ℕ) (old new : Past) → IsUnmade keys most old new → length new.sent ≡ length old.sent
+unmade_long keys most old new none = ap length none.sent_stays
+
+pub unheard_long : (keys : List Key) (most : ℕ) (old new : Past) → IsUnheard keys most old new → length new.sent ≡ length old.sent + 1
+unheard_long keys most old new one = ap length one.sent_are ∙ length-append old.sent (one.question ∷ [])
+
+-- as many as exchanges were made
+pub until_long : (keys : List Key) (most : ℕ) (old new : Past) (knowns nexts : List Knowledge) (exchanges : ℕ) → LearntUntil keys most old new knowns nexts exchanges
+    → length new.sent ≡ length old.sent + exchanges
+until_long keys most old new knowns nexts exchanges u =
+    let first = learnt_long keys most old u.between knowns nexts u.heard u.learnt in
+    elim u.broken [
+      | inl none ↦ let last = unmade_long keys most u.between new none.1 in omega (arith, first, last, none.0)
+      | inr one ↦ let last = unheard_long keys most u.between new one.1 in omega (arith, first, last, one.0)
+    ]
 
 -- ---- nothing is taken back
 

@@ -1,6 +1,7 @@
 pub mod PutLemmas
 pub mod FactLemmas
 pub mod KnownLemmas
+pub mod TurnLemmas
 pub mod GoodLemmas
 pub mod ReportLemmas
 pub mod SettleLemmas

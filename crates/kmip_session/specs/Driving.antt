@@ -10,7 +10,7 @@ use Rattle.kmip_plan.specs.Plans.{IsLawful, IsPlanned}
 use Rattle.kmip_plan.specs.Prolonging.{Prolongs}
 use Rattle.kmip_chains.specs.declared.key.Key.{Key}
 use Rattle.kmip_ttlv.specs.Spelling.{canon}
-use Rattle.kmip_client.specs.Asking.{AreApart, IsAbout, after_ask, next_question, requests_at}
+use Rattle.kmip_client.specs.Asking.{AreApart, IsAbout, requests_at}
 use Rattle.kmip_client.specs.Clients.{ClientState, fresh, NoneWorks, SomeWorks, WorksAt, verdict_at}
 use Rattle.kmip_client.specs.Held.{Held}
 use Rattle.kmip_client.specs.Places.{Onward, position}
@@ -29,10 +29,11 @@ use Rattle.kmip_client.specs.Known.{facts, known_after}
 use Rattle.kmip_settling.specs.Laws.{NoneIsMade}
 use Rattle.kmip_settling.specs.Needs.{need_all}
 use Rattle.kmip_settling.specs.Ready.{IsReady}
-use Rattle.kmip_settling.specs.Turns.{taught}
 use Rattle.kmip_session.specs.Campaign.{CalmLink, GoodLink}
 use Rattle.kmip_session.specs.declared.stop.Stop.{Stop}
 use Rattle.kmip_session.specs.declared.stop.Stop.TheVariants as stops
+use Rattle.kmip_session.specs.declared.turn_fault.TurnFault.{TurnFault}
+use Rattle.kmip_session.specs.declared.turn_fault.TurnFault.TheVariants.{Unmade, Unheard}
 
 -- The link is honest for the plan's names, all that has happened over it is sound, and what the client knows is true.
 pub record IsGood {L : Type 0} (past : L → Past) (honest : L → Names → Type 0) (c : ClientState) (link : L) : Type 0 where
@@ -45,10 +46,11 @@ pub record IsSettling {L : Type 0} (past : L → Past) (calm : L → Names → T
   pub calm_for : calm link (is_planned c.keys)
   pub ready : IsReady (past link).room c.keys (past link).objects c.knowns
 
--- The link is calm for the plan's names, none of them has an object, there is room for all, and the client knows nothing yet.
+-- The link is calm for the plan's names, none of them has an object, there is room for all, and the client knows nothing yet, however
+-- many keys its messages ask about.
 pub record IsUntouched {L : Type 0} (past : L → Past) (calm : L → Names → Type 0) (c : ClientState) (link : L) : Type 0 where
   pub calm_for : calm link (is_planned c.keys)
-  pub fresh_is : c ≡ fresh c.keys
+  pub fresh_is : c ≡ record (fresh c.keys) { batch = c.batch }
   pub none_made : NoneIsMade c.keys (past link).objects
   pub roomy : length (past link).objects + length c.keys ≤ (past link).room
 
@@ -115,29 +117,40 @@ pub record Grown (old new : Past) : Type 0 where
   pub sent : (more : List (List ℕ)) × (new.sent ≡ old.sent ++ more)
   pub handed : (more : List (Option (List ℕ))) × (new.handed ≡ old.handed ++ more)
 
--- no exchange came to its end; one did, with this question
-abbrev pub EndsNoExchange : Past → Past → Type 0
-EndsNoExchange old new = (new.sent ≡ old.sent) × (new.handed ≡ old.handed)
-
-abbrev pub EndsOneExchange : List ℕ → Past → Past → Type 0
-EndsOneExchange question old new =
-    (answer : Option (List ℕ)) × (new.sent ≡ old.sent ++ question ∷ []) × (new.handed ≡ old.handed ++ answer ∷ [])
-
--- The questions of a message about keys of the plan joined those asked, and its exchange came to its end or not.
-pub record IsCutShort (keys : List Key) (most : ℕ) (old new : Past) : Type 0 where
+-- The questions of one more message about keys of the plan joined those asked.
+pub record AsksMore (keys : List Key) (most : ℕ) (old new : Past) : Type 0 where
   pub question : List ℕ
   pub is_question : IsQuestion keys most question
   pub requests_are : new.requests ≡ old.requests ++ requests_in question
-  pub ended : EndsNoExchange old new ⊎ EndsOneExchange question old new
 
--- What memory that ran out leaves of the exchange in which it did: nothing that was asked, sent or handed over, or one message.
-abbrev pub IsBrokenOff : List Key → ℕ → Past → Past → Type 0
-IsBrokenOff keys most old new = ((new.requests ≡ old.requests) × EndsNoExchange old new) ⊎ IsCutShort keys most old new
+-- The exchange in which memory ran out was not made: nothing was sent or handed over, and the questions of one message at most joined
+-- those asked.
+pub record IsUnmade (keys : List Key) (most : ℕ) (old new : Past) : Type 0 where
+  pub asked : (new.requests ≡ old.requests) ⊎ AsksMore keys most old new
+  pub sent_stays : new.sent ≡ old.sent
+  pub handed_stays : new.handed ≡ old.handed
 
--- Private: what memory that ran out in a turn leaves of the client: it is as it was, or its next message was sent, and the keys that
--- this asks about are looked at again.
-abbrev pub IsGivenUp : ClientState → ClientState → Type 0
-IsGivenUp old new = (new ≡ old) ⊎ ((question : Question) × (next_question old ≡ Some question) × (new ≡ taught question None (after_ask old)))
+-- One more exchange was made, and a reply came, from which there was no memory to learn.
+pub record IsUnheard (keys : List Key) (most : ℕ) (old new : Past) : Type 0 where
+  pub question : List ℕ
+  pub reply : List ℕ
+  pub is_question : IsQuestion keys most question
+  pub requests_are : new.requests ≡ old.requests ++ requests_in question
+  pub sent_are : new.sent ≡ old.sent ++ question ∷ []
+  pub handed_are : new.handed ≡ old.handed ++ Some reply ∷ []
+
+-- Private: what a turn leaves in which memory ran out, by where it did.
+abbrev pub IsBrokenOff : List Key → ℕ → Past → Past → TurnFault → Type 0
+IsBrokenOff keys most old new Unmade = IsUnmade keys most old new
+IsBrokenOff keys most old new Unheard = IsUnheard keys most old new
+
+-- So many exchanges were made until memory ran out. What they handed over was learnt, but for the last reply, where there was no memory
+-- to learn from it.
+pub record LearntUntil (keys : List Key) (most : ℕ) (old new : Past) (knowns nexts : List Knowledge) (exchanges : ℕ) : Type 0 where
+  pub between : Past
+  pub heard : ℕ
+  pub learnt : Learnt keys most old between knowns nexts heard
+  pub broken : ((exchanges ≡ heard) × IsUnmade keys most between new) ⊎ ((exchanges ≡ heard + 1) × IsUnheard keys most between new)
 
 -- Private: each part of a message is about a key of the plan.
 abbrev pub AreParts : List Key → List Part → Type 0

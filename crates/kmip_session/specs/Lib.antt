@@ -1,6 +1,7 @@
 pub mod Stops
 pub mod Losing
 pub mod Driving
+pub mod Turning
 pub mod Reporting
 pub mod Lawbook
 pub mod Campaign

@@ -127,6 +127,7 @@ pub fn campaign<L: Link>(alloc: Global, plan: &Plan, link: &mut L, runs: &[Run])
     ensures ended { L.honest link.old (is_planned plan.now) → AreEnded result.runs.items
         (result.fault ≡ None) (length (L.past link.old).sent)
         (L.ended link.old) (L.ended link.new) }
+    ensures followed { result.fault ≡ None → L.follows link.old link.new }
 {
     laws_of_runs();
     plan.keys();
@@ -170,6 +171,7 @@ pub(crate) fn run_all<L: Link>(
     ensures ended { L.honest link.old (is_planned plan.now) → EndsJoin [] result.runs.items
         (result.fault ≡ None) (length (L.past link.old).sent) (length (L.past link.new).sent)
         (L.ended link.old) (L.ended link.new) }
+    ensures followed { result.fault ≡ None → L.follows link.old link.new }
 {
     let mut end = CampaignEnd {
         runs: Vec::new(alloc),
@@ -222,6 +224,7 @@ fn run_each<L: Link>(
     ensures ended { L.honest link.old (is_planned plan.now) → EndsJoin [] end.new.runs.items
         (result ≡ Ok tt) (length (L.past link.old).sent) (length (L.past link.new).sent)
         (L.ended link.old) (L.ended link.new) }
+    ensures followed { OnOk result (L.follows link.old link.new) }
 {
     laws_of_runs();
     L::calm_laws();
@@ -281,8 +284,10 @@ fn one_run<'p, L: Link>(
     ensures ended { L.honest link.old (is_planned plan.now) → EndsJoin end.old.runs.items
         end.new.runs.items (result ≡ Ok tt) (length (L.past link.old).sent)
         (length (L.past link.new).sent) (L.ended link.old) (L.ended link.new) }
+    ensures followed { OnOk result (L.follows link.old link.new) }
 {
     laws_of_runs();
+    L::calm_laws();
     plan.keys();
     begin(alloc, plan, client, carried, end.saved.as_slice(), run)?;
     let driven = drive(alloc, client, link, run.limit);
@@ -457,7 +462,7 @@ fn end_of(alloc: Global, client: &Client<'_>, driven: (Stop, usize)) -> Result<R
 /// Ends a run over the link; a failure of the network is passed over.
 ///
 /// # Errors
-/// Where there is no memory.
+/// Where there is no memory; no failure of the network was met then.
 pub fn close_run<L: Link>(alloc: Global, link: &mut L) -> Result<(), NoMemory>
     ensures honest { (names : Names) → L.honest link.old names → L.honest link.new names
         × Delivered names (L.past link.old) (L.past link.new) }
@@ -470,6 +475,8 @@ pub fn close_run<L: Link>(alloc: Global, link: &mut L) -> Result<(), NoMemory>
     ensures once { (names : Names) → L.honest link.old names
         → EndedAt (length (L.past link.old).sent) (L.ended link.old) (L.ended link.new)
         ⊎ (L.ended link.new ≡ L.ended link.old) }
+    ensures followed { OnOk result (L.follows link.old link.new) }
+    ensures wanting { OnErr result (L.failures link.new ≡ L.failures link.old) }
 {
     match link.end_run(alloc) {
         Ok(()) | Err(LinkFault::Io) | Err(LinkFault::Frame) => Ok(()),

@@ -1,5 +1,5 @@
 //! Runs of exchanges, until no key is worked on any more or as many were made as may be.
-ghost use Rattle.std.specs.Prelude.{◌≡◌, ◌≢◌, ◌≤◌, ◌<◌, ◌+◌, ℕ, List, length, filter, false, Some, None, IfOk, IsOk, IfSome, OnErr, OnOk, option_map};
+ghost use Rattle.std.specs.Prelude.{◌≡◌, ◌≢◌, ◌≤◌, ◌<◌, ◌+◌, ℕ, List, length, filter, false, Some, None, IfOk, IfErr, IsOk, IsSome, IfSome, OnErr, OnOk, ◌++◌, option_map};
 ghost use Rattle.std.specs.List.{list_any};
 ghost use Rattle.kmip_objects.specs.Objects.{Object};
 ghost use Rattle.kmip_client.specs.Clients.{one_if, AreSettled};
@@ -12,7 +12,6 @@ ghost use Rattle.kmip_schedule.specs.Past.{Names, is_planned};
 ghost use Rattle.kmip_session.specs.Driving.{
   AsksOne,
   IsBrokenOff,
-  IsGivenUp,
   IsGood,
   IsSettling,
   IsToBePut,
@@ -24,6 +23,7 @@ ghost use Rattle.kmip_session.specs.Driving.{
   Nearer,
   WentOn,
   Learnt,
+  LearntUntil,
   Grown,
   Keeps,
   Stands,
@@ -32,10 +32,12 @@ ghost use Rattle.kmip_client.specs.Known.{facts};
 ghost use Rattle.kmip_schedule.specs.Past.{Past};
 ghost use Rattle.kmip_session.specs.Lawbook.{Lawbook};
 ghost use Rattle.kmip_session.specs.Losing.{ArePaid, IsEnough, left_for};
+ghost use Rattle.kmip_session.specs.Turning.{IsAnswered, IsGivenUp, IsTurned, TakesTurn, messages_made};
 ghost use Rattle.kmip_settling.specs.Needs.{chains_and_looks};
 ghost use Rattle.kmip_settling.specs.Turns.{answers_part, is_unanswered, lost_each, taught, taught_by};
 
 use crate::stop::Stop;
+use crate::turn_fault::TurnFault;
 use kmip_chains::laws::states_have_places;
 use kmip_client::laws::{
     onward_is_an_order, prolonged_plans_keep_the_truth, the_settled_are_not_worked_on,
@@ -61,6 +63,9 @@ use std::alloc::Global;
 /// of the plan is worked on any more, or `limit` exchanges were made. Answers why it stopped, and
 /// how many exchanges were made.
 ///
+/// An exchange that lacked memory was not made. One whose reply came was made, also where there was
+/// no memory to learn from the reply.
+///
 /// Each key that a message asks about and that no reply of what comes back answers is looked at
 /// again: where nothing comes, where it is no message, and where its replies are to other questions
 /// or teach nothing.
@@ -79,9 +84,10 @@ pub fn drive<L: Link>(
         × (result.0 ≢ Stop.NoMemory → Learnt client.old.keys client.old.batch (L.past link.old)
         (L.past link.new) client.old.knowns client.new.knowns result.1) }
     ensures broken { L.honest link.old (is_planned client.old.keys) → result.0 ≡ Stop.NoMemory
-        → (between : Past) × Learnt client.old.keys client.old.batch (L.past link.old) between
-        client.old.knowns client.new.knowns result.1
-        × IsBrokenOff client.old.keys client.old.batch between (L.past link.new) }
+        → LearntUntil client.old.keys client.old.batch (L.past link.old) (L.past link.new)
+        client.old.knowns client.new.knowns result.1 }
+    ensures turned { IsTurned (L.honest link.old (is_planned client.old.keys)) result.0 result.1
+        client.old client.new (L.past link.old) (L.past link.new) }
     ensures few { L.honest link.old (is_planned client.old.keys)
         → length (L.past link.new).sent ≤ length (L.past link.old).sent + limit }
     ensures grown { L.honest link.old (is_planned client.old.keys)
@@ -106,7 +112,7 @@ pub fn drive<L: Link>(
         → result.0 ≡ Stop.AllFinished }
     ensures finishes { IsUntouched L.past L.calm client.old link.old
         → bound client.old.keys ≤ limit → result.0 ≢ Stop.NoMemory
-        → (result.1 ≤ chains_and_looks client.old.keys)
+        → (result.0 ≡ Stop.AllFinished) × (result.1 ≤ chains_and_looks client.old.keys)
         × (AsksOne client.old → result.1 ≡ chains_and_looks client.old.keys)
         × IsComplete client.old.keys (L.past link.new).objects client.new.knowns }
     ensures no_conflict { IsGood L.past L.honest client.old link.old
@@ -116,14 +122,16 @@ pub fn drive<L: Link>(
         → L.ended link.new ≡ L.ended link.old }
     ensures further { IsGood L.past L.honest client.old link.old → KeepsFurther L.past L.honest
         L.calm client.old.keys (result.0 ≢ Stop.NoMemory) link.old link.new }
+    ensures followed { result.0 ≢ Stop.NoMemory → L.follows link.old link.new }
 {
     laws_below();
+    L::calm_laws();
     let _plan = client.plan();
     for made in 0..limit {
         match turn(alloc, client, link) {
             Ok(true) => {}
             Ok(false) => return (stop_of(client), made),
-            Err(NoMemory) => return (Stop::NoMemory, made),
+            Err(fault) => return (Stop::NoMemory, made + fault.exchanges()),
         }
     }
     (stop_of(client), limit)
@@ -163,7 +171,7 @@ fn laws_below()
 /// # Errors
 /// Where there is no memory; the client is then as it was, or the keys that were asked about are
 /// looked at again.
-fn turn<L: Link>(alloc: Global, client: &mut Client<'_>, link: &mut L) -> Result<bool, NoMemory>
+fn turn<L: Link>(alloc: Global, client: &mut Client<'_>, link: &mut L) -> Result<bool, TurnFault>
     ensures good { IsGood L.past L.honest client.old link.old
         → IsGood L.past L.honest client.new link.new }
     ensures goes { IsGood L.past L.honest client.old link.old
@@ -172,10 +180,13 @@ fn turn<L: Link>(alloc: Global, client: &mut Client<'_>, link: &mut L) -> Result
         → L.honest link.new (is_planned client.old.keys)
         × IfOk result (λ asked. Learnt client.old.keys client.old.batch (L.past link.old)
         (L.past link.new) client.old.knowns client.new.knowns (one_if asked)) }
-    ensures broken { L.honest link.old (is_planned client.old.keys) → OnErr result (
+    ensures broken { L.honest link.old (is_planned client.old.keys) → IfErr result (λ fault.
         (facts client.new.knowns ≡ facts client.old.knowns)
-        × IsBrokenOff client.old.keys client.old.batch (L.past link.old) (L.past link.new)) }
-    ensures lost { OnErr result (IsGivenUp client.old client.new) }
+        × IsBrokenOff client.old.keys client.old.batch (L.past link.old) (L.past link.new) fault) }
+    ensures lost { IfErr result (IsGivenUp (L.honest link.old (is_planned client.old.keys))
+        client.old client.new (L.past link.old) (L.past link.new)) }
+    ensures turned { IfOk result (λ asked. TakesTurn (L.honest link.old (is_planned client.old.keys))
+        asked client.old client.new (L.past link.old) (L.past link.new)) }
     ensures grown { L.honest link.old (is_planned client.old.keys)
         → Grown (L.past link.old) (L.past link.new) }
     ensures kept { Keeps client.old client.new }
@@ -192,8 +203,10 @@ fn turn<L: Link>(alloc: Global, client: &mut Client<'_>, link: &mut L) -> Result
         → L.ended link.new ≡ L.ended link.old }
     ensures further { IsGood L.past L.honest client.old link.old → KeepsFurther L.past L.honest
         L.calm client.old.keys (IsOk result) link.old link.new }
+    ensures followed { OnOk result (L.follows link.old link.new) }
 {
     laws_below();
+    L::calm_laws();
     let Some(question) = client.ask(alloc)? else {
         return Ok(false);
     };
@@ -210,7 +223,7 @@ fn put<L: Link>(
     client: &mut Client<'_>,
     link: &mut L,
     question: &Question,
-) -> Result<(), NoMemory>
+) -> Result<(), TurnFault>
     requires { IsToBePut client.old question.now }
     ensures good { IsGood L.past L.honest client.old link.old
         → JustifiedMessage client.old.keys (L.past link.old).objects question.now.bytes
@@ -220,10 +233,16 @@ fn put<L: Link>(
         → L.honest link.new (is_planned client.old.keys)
         × OnOk result (Learnt client.old.keys client.old.batch (L.past link.old)
         (L.past link.new) client.old.knowns client.new.knowns 1) }
-    ensures broken { L.honest link.old (is_planned client.old.keys) → OnErr result (
+    ensures broken { L.honest link.old (is_planned client.old.keys) → IfErr result (λ fault.
         (facts client.new.knowns ≡ facts client.old.knowns)
-        × IsBrokenOff client.old.keys client.old.batch (L.past link.old) (L.past link.new)) }
+        × IsBrokenOff client.old.keys client.old.batch (L.past link.old) (L.past link.new) fault) }
     ensures lost { OnErr result (client.new ≡ taught question.now None client.old) }
+    ensures sent { L.honest link.old (is_planned client.old.keys) → IfErr result (λ fault.
+        (L.past link.new).sent
+        ≡ (L.past link.old).sent ++ messages_made fault question.now.bytes) }
+    ensures answered { OnOk result (IsAnswered
+        (L.honest link.old (is_planned client.old.keys)) question.now client.old client.new
+        (L.past link.old) (L.past link.new)) }
     ensures grown { L.honest link.old (is_planned client.old.keys)
         → Grown (L.past link.old) (L.past link.new) }
     ensures kept { Keeps client.old client.new }
@@ -238,13 +257,14 @@ fn put<L: Link>(
     ensures further { IsGood L.past L.honest client.old link.old
         → JustifiedMessage client.old.keys (L.past link.old).objects question.now.bytes
         → KeepsFurther L.past L.honest L.calm client.old.keys (IsOk result) link.old link.new }
+    ensures followed { OnOk result (L.follows link.old link.new) }
 {
     laws_below();
     L::calm_laws();
     let _plan = client.plan();
     let Ok(answer) = answer_or_loss(link.exchange(alloc, question.bytes.as_slice())) else {
         lose_each(client, question.parts.as_slice());
-        return Err(NoMemory);
+        return Err(TurnFault::Unmade);
     };
     learn(alloc, client, question, answer)
 }
@@ -259,11 +279,12 @@ fn learn(
     client: &mut Client<'_>,
     question: &Question,
     answer: Option<Vec<u8>>,
-) -> Result<(), NoMemory>
+) -> Result<(), TurnFault>
     requires { AreParts client.old.keys question.now.parts }
     ensures taught { OnOk result (client.new
         ≡ taught question.now (option_map (λ v. v.items) answer) client.old) }
     ensures lost { OnErr result (client.new ≡ taught question.now None client.old) }
+    ensures unheard { IfErr result (λ fault. (fault ≡ TurnFault.Unheard) × IsSome answer) }
     ensures kept { Keeps client.old client.new }
     ensures held { (objects : List Object) → Held objects client.old.keys client.old.knowns
         → IfSome answer (λ v. TrueMessage client.old.keys objects v.items)
@@ -286,7 +307,7 @@ fn hear(
     client: &mut Client<'_>,
     parts: &[Part],
     reply: &[u8],
-) -> Result<(), NoMemory>
+) -> Result<(), TurnFault>
     requires { AreParts client.old.keys parts.now }
     ensures taught { OnOk result (client.new ≡ record client.old {
       knowns =
@@ -297,6 +318,7 @@ fn hear(
       knowns =
           lost_each client.old.keys parts.now client.old.knowns;
     }) }
+    ensures unheard { IfErr result (λ fault. fault ≡ TurnFault.Unheard) }
     ensures kept { Keeps client.old client.new }
     ensures held { (objects : List Object) → Held objects client.old.keys client.old.knowns
         → TrueMessage client.old.keys objects reply.now
@@ -369,12 +391,17 @@ fn answers_part(part: &Part, heard: &Result<Heard, HearFault>) -> bool
 ///
 /// # Errors
 /// Where the fault is that there is no memory.
-fn unless_no_memory(fault: HearFault) -> Result<(), NoMemory>
-    ensures { OnOk result (fault ≢ HearFault.NoMemory) }
+fn unless_no_memory(fault: HearFault) -> Result<(), TurnFault>
+    ensures passed { OnOk result (fault ≢ HearFault.NoMemory) }
+    ensures unheard { IfErr result (λ e. e ≡ TurnFault.Unheard) }
 {
     match fault {
-        HearFault::NoMemory => Err(NoMemory),
-        _ => Ok(()),
+        HearFault::NoMemory => Err(TurnFault::Unheard),
+        HearFault::Unreadable(_)
+        | HearFault::StrangerId
+        | HearFault::WrongOperation
+        | HearFault::OtherIdentifier
+        | HearFault::OtherName => Ok(()),
     }
 }
 

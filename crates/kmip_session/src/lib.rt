@@ -6,6 +6,7 @@ mod driving;
 mod prolonging;
 mod reporting;
 mod stop;
+mod turn_fault;
 
 pub use campaigning::{CampaignEnd, Run, RunEnd, Start, campaign, close_run};
 pub use driving::drive;

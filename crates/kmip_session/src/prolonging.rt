@@ -72,6 +72,7 @@ pub fn campaigns<L: Link>(
     ensures ended { L.honest link.old (is_planned (last_plan plans.now))
         → AreEnded result.runs.items (result.fault ≡ None) (length (L.past link.old).sent)
         (L.ended link.old) (L.ended link.new) }
+    ensures followed { result.fault ≡ None → L.follows link.old link.new }
 {
     laws_below();
     let mut end = CampaignEnd {
@@ -120,6 +121,7 @@ fn run_plans<L: Link>(
     ensures ended { L.honest link.old (is_planned (last_plan plans.now))
         → EndsJoin [] end.new.runs.items (result ≡ Ok tt) (length (L.past link.old).sent)
         (length (L.past link.new).sent) (L.ended link.old) (L.ended link.new) }
+    ensures followed { OnOk result (L.follows link.old link.new) }
 {
     laws_below();
     L::calm_laws();
@@ -162,6 +164,7 @@ fn run_part<L: Link>(
     ensures ended { L.honest link.old (is_planned plan.now) → EndsJoin end.old.runs.items
         end.new.runs.items (IsOk result) (length (L.past link.old).sent)
         (length (L.past link.new).sent) (L.ended link.old) (L.ended link.new) }
+    ensures followed { OnOk result (L.follows link.old link.new) }
 {
     end.runs.reserve(runs.len())?;
     end.saved.reserve(runs.len())?;

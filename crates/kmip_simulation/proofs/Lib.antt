@@ -1,4 +1,3 @@
 mod RoomLemmas
 pub mod PlansLemmas
 pub mod TextLemmas
-pub mod EndingLemmas

@@ -4,13 +4,13 @@ use Rattle.kmip_chains.specs.declared.key.Key.{Key}
 use Rattle.kmip_plan.specs.Plans.{IsLawful}
 use Rattle.kmip_schedule.specs.Past.{Past}
 use Rattle.kmip_settling.specs.Needs.{missing}
-use Rattle.kmip_store.specs.declared.identifying.TheConstants.{MOST_ROOM}
+use Rattle.kmip_store.specs.Stock.{most_room}
 
 -- no more objects are missing than there are keys
 missing_few : (keys : List Key) → missing keys [] ≤ length keys
 missing_few [] = omega arith
 missing_few (key ∷ keys) = omega (arith, missing_few keys)
 
-pub has_room : (keys : List Key) (p : Past) → IsLawful keys → p.objects ≡ [] → p.room ≡ MOST_ROOM
+pub has_room : (keys : List Key) (p : Past) → IsLawful keys → p.objects ≡ [] → p.room ≡ most_room
     → length p.objects + missing keys p.objects ≤ p.room
 has_room keys p lawful none room = rw (none, room) omega (arith, missing_few keys, lawful.few)

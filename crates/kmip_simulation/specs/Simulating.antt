@@ -1,6 +1,6 @@
 -- What holds of a campaign over a link in memory that followed a script, and of all that happened.
 -- Source: own.
-use Rattle.std.specs.Prelude.{◌≡◌, ℕ, ⊤, List, [], length, filter, map, take, None}
+use Rattle.std.specs.Prelude.{◌≡◌, ℕ, ⊤, List, [], length, filter, map, replicate, take, None}
 use Rattle.std.specs.List.{All, AllZip}
 use Rattle.kmip_chains.specs.declared.key.Key.{Key}
 use Rattle.kmip_client.specs.Held.{TrueProgress}
@@ -16,9 +16,17 @@ use Rattle.kmip_session.specs.Remembering.{AreKnown}
 use Rattle.kmip_session.specs.Campaigns.{AreInTurn, CalmStart, IsTrueFor, last_plan}
 use Rattle.kmip_session.specs.declared.campaigning.CampaignEnd.{CampaignEnd}
 use Rattle.kmip_session.specs.declared.campaigning.Run.{Run}
+use Rattle.kmip_store.specs.Stock.{empty_stock, most_room}
+use Rattle.kmip_scripted.specs.Following.{Follows}
 use Rattle.kmip_scripted.specs.Runs.{lists_of, runs_of}
-use Rattle.kmip_scripted.specs.Scenes.{Scene, disturbances_in, past_in}
+use Rattle.kmip_scripted.specs.Scenes.{Scene, disturbances_in, past_in, scene_of}
+use Rattle.kmip_scripted.specs.Words.{next_words}
 use Rattle.kmip_scripted.specs.declared.script.Word.{Word}
+
+-- the link to a new server that is to follow a script: no object, room for 10,000, key material from the stream of a seed of 32 zeros,
+-- nothing that was asked, and the words of the script left
+abbrev pub first_scene : List Word → Scene
+first_scene words = scene_of (empty_stock (replicate 32 0) most_room) (next_words words)
 
 -- each of the runs was made and has its end, and those that say so were saved
 abbrev pub AreMade : List Key → List Run → CampaignEnd → Type 0
@@ -49,17 +57,16 @@ pub record IsCarriedOut (keys : List Key) (runs : List Run) (end : CampaignEnd) 
       → AllZip (Settles keys) runs end.runs.items × CalmLink past_in HasNoWord keys after
   pub outlasts : end.fault ≡ None → AllOutlast keys runs end.runs.items (disturbances_in before) (disturbances_in after)
   pub ended : AreEnded end.runs.items (end.fault ≡ None) (length before.sent) before.ended after.ended
+  pub followed : end.fault ≡ None → Follows before after
 
--- The runs of a script were made for a plan, with so many keys asked about at once, over a link that began with nothing and followed the
--- script, and ended so: the first of them, and where memory sufficed all. With no word in the script the link was calm, and had room for
--- all keys. No run but these ended over the link.
+-- The runs of a script were made for a plan, with so many keys asked about at once, over the link to a new server that follows the
+-- script, and ended so: the first of them, and where memory sufficed all. The link at the end is then what the words made of the first,
+-- exchange by exchange. With no word in the script the link was calm, and had room for all keys. No run but these ended over the link.
 pub record IsSimulated (keys : List Key) (batch : ℕ) (words : List Word) (end : CampaignEnd) (link : Scene) : Type 0 where
-  pub begun : Scene
-  pub opening : Opening keys (past_in begun)
+  pub opening : Opening keys (past_in (first_scene words))
   pub mirrored : IsMirrored keys (past_in link)
-  pub calm : words ≡ [] → CalmLink past_in HasNoWord keys begun
-  pub carried : IsCarriedOut keys (in_batches batch (runs_of keys words)) end begun link
-  pub ended : AreEnded end.runs.items (end.fault ≡ None) 0 [] link.ended
+  pub calm : words ≡ [] → CalmLink past_in HasNoWord keys (first_scene words)
+  pub carried : IsCarriedOut keys (in_batches batch (runs_of keys words)) end (first_scene words) link
 
 -- After that, a second campaign made these runs for the same plan over the same link.
 pub record IsSimulatedAgain (keys : List Key) (batch : ℕ) (words : List Word) (runs : List Run) (first second : CampaignEnd) (link : Scene) : Type 0 where
@@ -68,16 +75,16 @@ pub record IsSimulatedAgain (keys : List Key) (batch : ℕ) (words : List Word) 
   pub carried : IsCarriedOut keys runs second between link
 
 -- The runs of a script with one `prolong` were made for plans in turn, each of which prolongs the one before, with so many keys asked
--- about at once, over one link that began with nothing and followed the script, and ended so. All that holds of the runs for one plan
--- holds of these for the last plan, what was saved under an earlier one included.
+-- about at once, over one link to a new server that follows the script, and ended so. All that holds of the runs for one plan holds of
+-- these for the last plan, what was saved under an earlier one included.
 pub record AreSimulated (plans : List (List Key)) (batch : ℕ) (words : List Word) (end : CampaignEnd) (link : Scene) : Type 0 where
   pub safe : Safe (last_plan plans) (past_in link) (reported (last_plan plans) end.runs.items end.saved.items)
   pub machine : IsMirrored (last_plan plans) (past_in link)
   pub sound : Sound (last_plan plans) (past_in link)
   pub no_conflict : All HasNoConflict end.runs.items
   pub true_saved : All (IsTrueFor (past_in link).objects (last_plan plans)) end.saved.items
-  pub begun : Scene
-  pub opening : (keys : List Key) → Opening keys (past_in begun)
-  pub in_turn : AreInTurn plans (map (in_batches batch) (lists_of (last_plan plans) words)) end.runs.items end.saved.items ⊤ (CalmStart past_in HasNoWord plans begun) (end.fault ≡ None)
-      (past_in begun) (past_in link)
+  pub opening : (keys : List Key) → Opening keys (past_in (first_scene words))
+  pub in_turn : AreInTurn plans (map (in_batches batch) (lists_of (last_plan plans) words)) end.runs.items end.saved.items ⊤
+      (CalmStart past_in HasNoWord plans (first_scene words)) (end.fault ≡ None) (past_in (first_scene words)) (past_in link)
   pub ended : AreEnded end.runs.items (end.fault ≡ None) 0 [] link.ended
+  pub followed : end.fault ≡ None → Follows (first_scene words) link

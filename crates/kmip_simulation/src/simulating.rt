@@ -1,16 +1,15 @@
 //! A campaign over a link in memory that follows a script.
-ghost use Rattle.std.specs.Prelude.{◌≡◌, List, [], length, map, IfOk, IsTrue};
+ghost use Rattle.std.specs.Prelude.{◌≡◌, List, length, map, IfOk, IsTrue};
 ghost use Rattle.std.specs.List.{All};
 ghost use Rattle.kmip_batches.specs.Members.{may_have};
 ghost use Rattle.kmip_chains.specs.declared.key.Key.{Key};
 ghost use Rattle.kmip_schedule.specs.Sound.{Opening, Sound};
 ghost use Rattle.kmip_scripted.specs.Scenes.{past_in};
-ghost use Rattle.kmip_scripted.specs.Words.{next_words, prolongings};
+ghost use Rattle.kmip_scripted.specs.Words.{prolongings};
 ghost use Rattle.kmip_session.specs.Campaign.{MayBatch};
 ghost use Rattle.kmip_session.specs.Campaigns.{AreProlonged};
-ghost use Rattle.kmip_simulation.specs.Simulating.{AreSimulated, IsCarriedOut, IsSimulated, IsSimulatedAgain, in_batches};
+ghost use Rattle.kmip_simulation.specs.Simulating.{AreSimulated, IsCarriedOut, IsSimulated, IsSimulatedAgain, first_scene, in_batches};
 ghost use Rattle.kmip_simulation.specs.SimText.{is_last_finished};
-ghost use Rattle.kmip_store.specs.declared.identifying.TheConstants.{MOST_ROOM};
 
 use kmip_plan::Plan;
 use kmip_schedule::laws::{nothing_done_is_sound, opening_is_mirrored};
@@ -158,12 +157,8 @@ fn all_in_batches(
 
 /// A link to a new server, over which nothing has happened yet.
 fn new_link(alloc: Global, script: Script) -> Scripted<IndexedStore>
+    ensures first { result ≡ first_scene script }
     ensures opening { (keys : List Key) → Opening keys (past_in result) }
-    ensures room { (past_in result).room ≡ MOST_ROOM }
-    ensures objects { (past_in result).objects ≡ [] }
-    ensures words { result.words ≡ next_words script }
-    ensures none_sent { result.sent ≡ [] }
-    ensures none_ended { result.ended ≡ [] }
 {
     let store = IndexedStore::new(alloc, SEED, MOST_ROOM);
     Scripted::new(alloc, Server::new(store), script)

@@ -39,4 +39,5 @@ returns g c =
       settles = λ calmly is. all.settles calmly nothing is;
       outlasts = λ good is. c.run_all.ensures.outlasts good (subst (λ carried. All (TrueProgress (past c.args.link.now).objects keys) carried) (sym none) nothing) is;
       ended = λ honest. all_joined ends _ _ _ _ _ (c.run_all.ensures.ended honest);
+      followed = c.run_all.ensures.followed;
     }

@@ -9,7 +9,7 @@ use Rattle.kmip_session.proofs.CampaignLemmas.{closed, stood}
 use Rattle.kmip_session.proofs.DriveLemmas.{further_if}
 use Rattle.kmip_session.proofs.EndingLemmas.{join_none, join_run}
 use Rattle.kmip_session.proofs.FurtherLemmas.{further_closed, further_nowhere, further_then}
-use Rattle.kmip_session.proofs.KnownLemmas.{always_err, grown_itself}
+use Rattle.kmip_session.proofs.KnownLemmas.{always_err, grown_itself, on_ok}
 use Rattle.kmip_session.proofs.OutlastLemmas.{outlasted_run}
 use Rattle.kmip_session.proofs.RememberLemmas.{always_ok, broken_off, no_ok, ran_closed}
 use Rattle.kmip_session.proofs.RunLemmas.{driven_further, if_ok}
@@ -145,3 +145,9 @@ returns-clause-outlasts g c = λ standing carried.
     (subst (λ ps. All (TrueProgress (g.L.Link.past c.args.link.now).objects c.args.plan.now) ps) (sym c.as_slice.ensures.value) saved))
     c.drive-driven.ensures.outlasts c.in_ok-finish.ensures.ended.1 c.in_ok-finish.ensures.ended.0.noted
     (c.close_run.ensures.undisturbed (is_planned c.args.client.now.keys) still) standing)
+
+pub returns-clause-followed : goal.returns-clause-followed
+returns-clause-followed g c =
+    on_ok c.close_run.result
+    (c.calm_laws.ensures.twice c.args.link.now c.drive-driven.new.link c.close_run.new.link (c.drive-driven.ensures.followed c.in_ok-finish.ensures.ended.1))
+    c.close_run.ensures.followed

@@ -28,4 +28,5 @@ returns g c =
       };
       outlasts = λ good carried is. if_ok c.run_each.result (whole is) (c.run_each.ensures.outlasts good carried);
       ended = λ honest. join_if [] end.runs.items _ _ _ _ _ _ whole (c.run_each.ensures.ended honest);
+      followed = λ is. if_ok c.run_each.result (whole is) c.run_each.ensures.followed;
     }

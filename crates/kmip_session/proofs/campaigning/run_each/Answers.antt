@@ -35,6 +35,7 @@ loop-place-init g c = record {
       c.args.end.now.saved.items c.in_ok-client.ensures.fresh c.in_ok-client.ensures.held c.requires.no_end c.requires.none_saved;
   ended = λ honest. join_none [] c.args.end.now.runs.items ⊤ _ _ _ _ c.requires.no_end refl (λ is. refl);
   outlasted = λ good holds. outlast_none c.args.plan.now c.args.runs.now c.args.end.now.runs.items _ _ c.requires.no_end refl;
+  followed = c.calm_laws.ensures.itself c.args.link.now;
 }
 
 pub returns-in_err-one_run-clause-order : goal.returns-in_err-one_run-clause-order
@@ -97,6 +98,7 @@ loop-place-preserved g c =
           (sym e)
           (outlast_more c.args.plan.now c.args.runs.now c.loop-place.place _ c.loop-place.end.runs.items c.one_run.new.end.runs.items _ _ _
           (slice_get-get_or c.args.runs.now c.loop-place.place _ below) (c.loop-place.invariant.outlasted good holds) (c.in_ok-one_run.ensures.outlasts standing now));
+      followed = c.calm_laws.ensures.twice c.args.link.now c.loop-place.link c.one_run.new.link c.loop-place.invariant.followed c.in_ok-one_run.ensures.followed;
     }
 
 pub returns-clause-order : goal.returns-clause-order
@@ -194,3 +196,12 @@ pub returns-clause-outlasts : goal.returns-clause-outlasts
 returns-clause-outlasts g c = λ good holds.
     subst (λ rs. AllOutlast c.args.plan.now rs c.loop-place.end.runs.items (g.L.Link.disturbances c.args.link.now) (g.L.Link.disturbances c.loop-place.link)) (take_all c.loop-place.place c.args.runs.now c.loop-place-test.false)
     (c.loop-place.invariant.outlasted good holds)
+
+pub returns-in_err-client-clause-followed : goal.returns-in_err-client-clause-followed
+returns-in_err-client-clause-followed g c = on_fault _ c.from_residual.result c.from_residual.ensures.0
+
+pub returns-in_err-one_run-clause-followed : goal.returns-in_err-one_run-clause-followed
+returns-in_err-one_run-clause-followed g c = on_fault _ c.from_residual-in_err-one_run.result c.from_residual-in_err-one_run.ensures.0
+
+pub returns-clause-followed : goal.returns-clause-followed
+returns-clause-followed g c = c.loop-place.invariant.followed

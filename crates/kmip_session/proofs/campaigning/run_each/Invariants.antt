@@ -17,4 +17,5 @@ invariant-loop-place g l = record {
       → EndsJoin [] l.end.runs.items ⊤ (length (g.L.Link.past l.fn.link).sent) (length (g.L.Link.past l.link).sent) (g.L.Link.ended l.fn.link) (g.L.Link.ended l.link);
   outlasted : GoodLink g.L.Link.past g.L.Link.honest l.fn.plan l.fn.link → All (TrueProgress (g.L.Link.past l.fn.link).objects l.fn.plan) l.fn.carried
       → AllOutlast l.fn.plan (take l.place l.runs) l.end.runs.items (g.L.Link.disturbances l.fn.link) (g.L.Link.disturbances l.link);
+  followed : g.L.Link.follows l.fn.link l.link;
 }

@@ -1,21 +1,35 @@
 -- Turn by turn.
 use Rattle.std.proofs.Common.{◌≡◌, ◌≤◌, ◌<◌, ◌+◌, ℕ, ◌∙◌, refl, rules, subst, sym, arith}
 use Rattle.std.specs.Prelude.{⊤}
-use Rattle.kmip_client.specs.Clients.{one_if}
-use Rattle.kmip_schedule.specs.Past.{is_planned}
-use Rattle.kmip_session.specs.Driving.{Learnt, Nearer, WentOn}
+use Rattle.kmip_client.specs.Clients.{ClientState, one_if}
+use Rattle.kmip_schedule.specs.Past.{Names, is_planned}
+use Rattle.kmip_session.specs.Driving.{Keeps, Learnt, LearntUntil, Nearer, WentOn}
 use Rattle.kmip_session.specs.Losing.{ArePaid, left_for}
+use Rattle.kmip_session.specs.Turning.{IsTurned, TakesTurn, exchanges_made}
+use Rattle.kmip_session.specs.declared.stop.Stop.TheVariants as stops
+use Rattle.kmip_session.specs.declared.turn_fault.TurnFault.{TurnFault}
+use Rattle.kmip_session.specs.declared.turn_fault.TurnFault.TheVariants.{Unmade, Unheard}
 use Rattle.kmip_session.proofs.LosingLemmas.{paid_end, paid_limit, paid_none, paid_then}
 use Rattle.kmip_session.proofs.CompleteLemmas.{completed, untouched_settles}
 use Rattle.kmip_session.proofs.DriveLemmas.{asks_one, broken_end, driven_none, driven_then, few_made, further_if, further_last, good_no_conflict, known_end, settled_no_limit}
-use Rattle.kmip_session.proofs.KnownLemmas.{grown_then, learnt_long, off_long}
+use Rattle.kmip_session.proofs.KnownLemmas.{grown_then, learnt_long, until_long}
 use Rattle.kmip_session.proofs.SettleLemmas.{finished_stop, nearer_end, nearer_limit, nearer_then}
 use Rattle.kmip_session.proofs.GoodLemmas.{keeps_then, went_then}
+use Rattle.kmip_session.proofs.TurnLemmas.{turned_broken, turned_limit, turned_more, turned_none, turned_rest}
 use Rattle.kmip_session.proofs.driving.drive.Goals as goal
 
 -- after the loop as many exchanges were made as may be; a turn that asks nothing adds none
 all_made : (made limit : ℕ) → limit ≤ made → made ≤ limit → made ≡ limit
 all_made made limit least most = omega (arith, least, most)
+
+one_at_most : (fault : TurnFault) → exchanges_made fault ≤ 1
+one_at_most Unmade = omega arith
+one_at_most Unheard = omega arith
+
+-- a link that was honest for the plan's names still is
+still_honest : {L : Type 0} (honest : L → Names → Type 0) (x y : L) (a b : ClientState) → Keeps a b → (honest x (is_planned a.keys) → honest y (is_planned a.keys))
+    → honest x (is_planned a.keys) → honest y (is_planned b.keys)
+still_honest honest x y a b keeps still holds = subst (λ ks. honest y (is_planned ks)) (sym keeps.keys_stay) (still holds)
 
 and_none : (made : ℕ) → made + 0 ≡ made
 and_none made = omega arith
@@ -25,6 +39,8 @@ loop-made-init g c = record {
   driven = driven_none g.L.Link.past g.L.Link.honest g.L.Link.calm c.laws_below.ensures c.args.client.now c.args.link.now;
   ended = λ names honest. refl;
   paid = λ good. paid_none (left_for c.args.client.now (g.L.Link.past c.args.link.now)) (g.L.Link.disturbances c.args.link.now);
+  turned = turned_none _ c.args.client.now (g.L.Link.past c.args.link.now);
+  followed = c.calm_laws.ensures.itself c.args.link.now;
 }
 
 pub returns-in-Ok-false-clause-known : goal.returns-in-Ok-false-clause-known
@@ -82,6 +98,15 @@ loop-made-preserved g c =
           (subst (λ asked. ArePaid (one_if asked) (left_for c.loop-made.client (past c.loop-made.link)) (left_for c.turn.new.client (past c.turn.new.link))
           (g.L.Link.disturbances c.loop-made.link) (g.L.Link.disturbances c.turn.new.link)) c.in-Ok-true.field-0-test
           (c.in-Ok-true.ensures.losing (c.loop-made.invariant.driven.good good)));
+      turned =
+          turned_more _ _ c.loop-made.made c.args.client.now c.loop-made.client c.turn.new.client (past c.args.link.now) (past c.loop-made.link) (past c.turn.new.link)
+          (still_honest g.L.Link.honest c.args.link.now c.loop-made.link c.args.client.now c.loop-made.client c.loop-made.invariant.driven.keeps
+          (c.loop-made.invariant.driven.honest_still (is_planned c.args.client.now.keys)))
+          c.loop-made.invariant.turned
+          (subst
+          (λ asked. TakesTurn (g.L.Link.honest c.loop-made.link (is_planned c.loop-made.client.keys)) asked c.loop-made.client c.turn.new.client (past c.loop-made.link) (past c.turn.new.link))
+          c.in-Ok-true.field-0-test c.in-Ok-true.ensures.turned);
+      followed = c.calm_laws.ensures.twice c.args.link.now c.loop-made.link c.turn.new.link c.loop-made.invariant.followed c.in-Ok-true.ensures.followed;
     }
 
 pub returns-in-Ok-false-clause-settles : goal.returns-in-Ok-false-clause-settles
@@ -138,8 +163,14 @@ returns-in-Ok-false-clause-finishes g c = λ start enough memory.
     nearer_end past calm l client c.loop-made.client c.turn.new.client c.args.link.now c.loop-made.link c.turn.new.link c.loop-made.made
     (asks_one client c.loop-made.client c.loop-made.invariant.driven.keeps) first last
     (c.in-Ok-false.ensures.none c.in-Ok-false.field-0-test) in
+    let done =
     completed past calm l client c.turn.new.client c.args.link.now c.turn.new.link c.loop-made.made c.plan-plan.ensures.lawful start end.0
-    (c.turn.ensures.kept.keys_stay ∙ c.loop-made.invariant.driven.keeps.keys_stay) end.1 end.2 end.3
+    (c.turn.ensures.kept.keys_stay ∙ c.loop-made.invariant.driven.keeps.keys_stay) end.1 end.2 end.3 in (
+      finished_stop c.turn.new.client.keys c.turn.new.client.knowns c.stop_of.result end.3 c.stop_of.ensures.in_memory c.stop_of.ensures.stands,
+      done.0,
+      done.1,
+      done.2,
+    )
 
 pub returns-clause-finishes : goal.returns-clause-finishes
 returns-clause-finishes g c = λ start enough memory.
@@ -153,16 +184,26 @@ returns-clause-finishes g c = λ start enough memory.
     subst (λ n. Nearer past calm client c.loop-made.client c.args.link.now c.loop-made.link n) made (c.loop-made.invariant.driven.near settling) in
     let end =
     nearer_limit past calm l client c.loop-made.client c.args.link.now c.loop-made.link c.args.limit c.plan-plan.ensures.lawful settling enough near in
+    let done =
     completed past calm l client c.loop-made.client c.args.link.now c.loop-made.link c.args.limit c.plan-plan.ensures.lawful start near.settling
-    c.loop-made.invariant.driven.keeps.keys_stay (omega (arith, end.0)) (λ one. end.0) end.1
+    c.loop-made.invariant.driven.keeps.keys_stay (omega (arith, end.0)) (λ one. end.0) end.1 in (
+      finished_stop c.loop-made.client.keys c.loop-made.client.knowns c.stop_of-2.result end.1 c.stop_of-2.ensures.in_memory c.stop_of-2.ensures.stands,
+      done.0,
+      done.1,
+      done.2,
+    )
 
 pub returns-in-Ok-false-clause-broken : goal.returns-in-Ok-false-clause-broken
 returns-in-Ok-false-clause-broken g c = λ honest is. absurd (c.stop_of.ensures.in_memory is)
 
 pub returns-in-Err-clause-broken : goal.returns-in-Err-clause-broken
 returns-in-Err-clause-broken g c = λ honest is.
-    broken_end g.L.Link.past g.L.Link.honest g.L.Link.calm c.args.client.now c.loop-made.client c.turn.new.client c.args.link.now c.loop-made.link c.turn.new.link
-    c.loop-made.made c.loop-made.invariant.driven c.in-Err.ensures.broken honest
+    subst
+    (λ n. LearntUntil c.args.client.now.keys c.args.client.now.batch (g.L.Link.past c.args.link.now) (g.L.Link.past c.turn.new.link) c.args.client.now.knowns
+    c.turn.new.client.knowns (c.loop-made.made + n))
+    (sym c.exchanges.ensures)
+    (broken_end g.L.Link.past g.L.Link.honest g.L.Link.calm c.args.client.now c.loop-made.client c.turn.new.client c.args.link.now c.loop-made.link c.turn.new.link
+    c.loop-made.made c.in-Err.fault c.loop-made.invariant.driven c.in-Err.ensures.broken honest)
 
 pub returns-clause-broken : goal.returns-clause-broken
 returns-clause-broken g c = λ honest is. absurd (c.stop_of-2.ensures.in_memory is)
@@ -207,12 +248,13 @@ returns-in-Err-clause-few g c = λ honest.
     let past = g.L.Link.past in
     let off =
     broken_end past g.L.Link.honest g.L.Link.calm c.args.client.now c.loop-made.client c.turn.new.client c.args.link.now c.loop-made.link c.turn.new.link
-    c.loop-made.made c.loop-made.invariant.driven c.in-Err.ensures.broken honest in
-    let keys = c.args.client.now.keys in
-    let first = learnt_long keys c.args.client.now.batch (past c.args.link.now) off.0 c.args.client.now.knowns c.turn.new.client.knowns c.loop-made.made off.1 in
-    let last = off_long keys c.args.client.now.batch off.0 (past c.turn.new.link) off.2 in
+    c.loop-made.made c.in-Err.fault c.loop-made.invariant.driven c.in-Err.ensures.broken honest in
+    let long =
+    until_long c.args.client.now.keys c.args.client.now.batch (past c.args.link.now) (past c.turn.new.link) c.args.client.now.knowns c.turn.new.client.knowns
+    (c.loop-made.made + exchanges_made c.in-Err.fault) off in
+    let one = one_at_most c.in-Err.fault in
     let below : c.loop-made.made < c.args.limit = search rules in
-    omega (arith, first, last, below)
+    omega (arith, long, one, below)
 
 pub returns-clause-few : goal.returns-clause-few
 returns-clause-few g c = λ honest.
@@ -377,3 +419,42 @@ returns-in-Err-clause-honest g c = λ names honest. c.turn.ensures.honest names 
 
 pub returns-clause-honest : goal.returns-clause-honest
 returns-clause-honest g c = c.loop-made.invariant.driven.honest_still
+
+pub returns-in-Ok-false-clause-turned : goal.returns-in-Ok-false-clause-turned
+returns-in-Ok-false-clause-turned g c =
+    let past = g.L.Link.past in
+    turned_rest _ _ c.stop_of.result c.loop-made.made c.args.client.now c.loop-made.client c.turn.new.client (past c.args.link.now) (past c.loop-made.link) (past c.turn.new.link)
+    (still_honest g.L.Link.honest c.args.link.now c.loop-made.link c.args.client.now c.loop-made.client c.loop-made.invariant.driven.keeps
+    (c.loop-made.invariant.driven.honest_still (is_planned c.args.client.now.keys)))
+    c.stop_of.ensures.in_memory c.loop-made.invariant.turned
+    (subst
+    (λ asked. TakesTurn (g.L.Link.honest c.loop-made.link (is_planned c.loop-made.client.keys)) asked c.loop-made.client c.turn.new.client (past c.loop-made.link) (past c.turn.new.link))
+    c.in-Ok-false.field-0-test c.in-Ok-false.ensures.turned)
+
+pub returns-in-Err-clause-turned : goal.returns-in-Err-clause-turned
+returns-in-Err-clause-turned g c =
+    let past = g.L.Link.past in
+    let honest = g.L.Link.honest in
+    subst
+    (λ n. IsTurned (honest c.args.link.now (is_planned c.args.client.now.keys)) stops.NoMemory (c.loop-made.made + n) c.args.client.now c.turn.new.client (past c.args.link.now)
+    (past c.turn.new.link))
+    (sym c.exchanges.ensures)
+    (turned_broken _ _ c.loop-made.made c.args.client.now c.loop-made.client c.turn.new.client (past c.args.link.now) (past c.loop-made.link) (past c.turn.new.link) c.in-Err.fault
+    (still_honest honest c.args.link.now c.loop-made.link c.args.client.now c.loop-made.client c.loop-made.invariant.driven.keeps
+    (c.loop-made.invariant.driven.honest_still (is_planned c.args.client.now.keys)))
+    c.loop-made.invariant.turned c.in-Err.ensures.lost)
+
+pub returns-clause-turned : goal.returns-clause-turned
+returns-clause-turned g c =
+    turned_limit _ c.stop_of-2.result c.loop-made.made c.args.limit c.args.client.now c.loop-made.client (g.L.Link.past c.args.link.now) (g.L.Link.past c.loop-made.link)
+    (all_made c.loop-made.made c.args.limit c.loop-made-test.false c.loop-made.auto.made-end) c.stop_of-2.ensures.in_memory c.loop-made.invariant.turned
+
+pub returns-in-Ok-false-clause-followed : goal.returns-in-Ok-false-clause-followed
+returns-in-Ok-false-clause-followed g c = λ memory.
+    c.calm_laws.ensures.twice c.args.link.now c.loop-made.link c.turn.new.link c.loop-made.invariant.followed c.in-Ok-false.ensures.followed
+
+pub returns-in-Err-clause-followed : goal.returns-in-Err-clause-followed
+returns-in-Err-clause-followed g c = λ memory. absurd (memory refl)
+
+pub returns-clause-followed : goal.returns-clause-followed
+returns-clause-followed g c = λ memory. c.loop-made.invariant.followed

@@ -1,9 +1,10 @@
--- So many exchanges were made, and are paid for; what was good still is, and no run was ended.
+-- So many exchanges were made, one a turn, and are paid for; what was good still is, and no run was ended.
 use Rattle.std.proofs.Common.{◌≡◌}
-use Rattle.kmip_schedule.specs.Past.{Names}
+use Rattle.kmip_schedule.specs.Past.{Names, is_planned}
 use Rattle.kmip_session.specs.Driving.{IsGood}
 use Rattle.kmip_session.specs.Losing.{ArePaid, left_for}
 use Rattle.kmip_session.proofs.DriveLemmas.{Driven}
+use Rattle.kmip_session.proofs.TurnLemmas.{HasTurned}
 use Rattle.kmip_session.proofs.driving.drive.Given as goal
 
 abbrev pub invariant-loop-made : goal.invariant-loop-made
@@ -12,4 +13,6 @@ invariant-loop-made g l = record {
   ended : (names : Names) → g.L.Link.honest l.fn.link names → g.L.Link.ended l.link ≡ g.L.Link.ended l.fn.link;
   paid : IsGood g.L.Link.past g.L.Link.honest l.fn.client l.fn.link
       → ArePaid l.made (left_for l.fn.client (g.L.Link.past l.fn.link)) (left_for l.client (g.L.Link.past l.link)) (g.L.Link.disturbances l.fn.link) (g.L.Link.disturbances l.link);
+  turned : HasTurned (g.L.Link.honest l.fn.link (is_planned l.fn.client.keys)) l.made l.fn.client l.client (g.L.Link.past l.fn.link) (g.L.Link.past l.link);
+  followed : g.L.Link.follows l.fn.link l.link;
 }

@@ -1,6 +1,7 @@
 -- What was handed over is what is heard; where nothing was, the keys are lost.
-use Rattle.std.proofs.Common.{IfSome, rules, subst, sym}
+use Rattle.std.proofs.Common.{IfSome, IsSome, refl, rules, subst, sym}
 use Rattle.kmip_client.specs.Truth.{TrueMessage}
+use Rattle.kmip_session.proofs.TurnLemmas.{if_fault}
 use Rattle.kmip_session.proofs.driving.learn.Goals as goal
 
 pub returns-in_default-clause-taught : goal.returns-in_default-clause-taught
@@ -14,3 +15,6 @@ returns-clause-held c = λ objects held so.
     c.hear.ensures.held objects held
     (subst (λ bytes. TrueMessage c.args.client.now.keys objects bytes) (sym c.as_slice-3.ensures.value)
     (subst (λ answer. IfSome answer (λ v. TrueMessage c.args.client.now.keys objects v.items)) c.in-Some.is so))
+
+pub returns-clause-unheard : goal.returns-clause-unheard
+returns-clause-unheard c = if_fault _ _ c.hear.result (λ fault is. (is, subst (λ o. IsSome o) (sym c.in-Some.is) refl)) c.hear.ensures.unheard

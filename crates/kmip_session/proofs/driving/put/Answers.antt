@@ -1,17 +1,19 @@
 -- Asked for good, handed over, and learnt.
-use Rattle.std.proofs.Common.{◌≡◌, None, rules, option_map, subst, sym}
+use Rattle.std.proofs.Common.{◌≡◌, ◌∙◌, ◌++◌, None, append-nil, rules, option_map, subst, sym}
 use Rattle.kmip_client.specs.Justified.{JustifiedMessage}
 use Rattle.kmip_schedule.specs.Exchanges.{Exchanged, HandsOver, answer_in}
 use Rattle.kmip_schedule.specs.Past.{is_planned}
 use Rattle.kmip_schedule.specs.Losses.{or_loss}
 use Rattle.kmip_settling.specs.Turns.{lost_each}
-use Rattle.kmip_session.specs.Driving.{AreParts}
+use Rattle.kmip_session.specs.Driving.{AreParts, IsBrokenOff}
+use Rattle.kmip_session.specs.Turning.{messages_made}
 use Rattle.kmip_session.proofs.FurtherLemmas.{further_asked}
 use Rattle.kmip_session.proofs.GoodLemmas.{good_left, if_handed, left, told}
-use Rattle.kmip_session.proofs.KnownLemmas.{broken_asked, broken_handed, exchanged_grown, handed_over, learnt_one, lost_facts, on_err, on_ok}
+use Rattle.kmip_session.proofs.KnownLemmas.{broken_asked, broken_handed, exchanged_grown, handed_asks, handed_over, learnt_one, lost_facts, on_ok}
 use Rattle.kmip_session.proofs.LosingLemmas.{paid_one}
 use Rattle.kmip_session.proofs.PutLemmas.{are_parts}
 use Rattle.kmip_session.proofs.SettleLemmas.{nearer_one}
+use Rattle.kmip_session.proofs.TurnLemmas.{answered_by, both_err, if_fault, some_mapped}
 use Rattle.kmip_session.proofs.driving.put.Goals as goal
 
 pub returns-in_default-clause-good : goal.returns-in_default-clause-good
@@ -96,6 +98,19 @@ returns-in_default-clause-broken g c = λ honest.
       broken_asked names client (past c.args.link.now) (past c.exchange.new.self) c.args.question.now answered c.requires none step,
     )
 
+pub returns-in_default-clause-sent : goal.returns-in_default-clause-sent
+returns-in_default-clause-sent g c = λ honest.
+    let past = g.L.Link.past in
+    let client = c.args.client.now in
+    let names = is_planned client.keys in
+    let answered = answer_in (λ v. v.items) c.exchange.result in
+    let none : or_loss answered ≡ None = search rules in
+    let step =
+    subst (λ bytes. Exchanged names (past c.args.link.now) bytes answered (past c.exchange.new.self)) c.as_slice.ensures
+    (c.exchange.ensures.honest names honest).1 in
+    (broken_asked names client (past c.args.link.now) (past c.exchange.new.self) c.args.question.now answered c.requires none step).sent_stays
+    ∙ sym (append-nil (past c.args.link.now).sent)
+
 pub returns-clause-broken : goal.returns-clause-broken
 returns-clause-broken g c = λ honest.
     let past = g.L.Link.past in
@@ -106,12 +121,41 @@ returns-clause-broken g c = λ honest.
     subst (λ bytes. HandsOver names (past c.args.link.now) bytes (option_map (λ v. v.items) c.in-Ok.answer) (past c.exchange.new.self)) c.as_slice.ensures
     (handed_over names (past c.args.link.now) (past c.exchange.new.self) c.as_slice.result.now _ _ (sym c.in-Ok.ensures)
     (c.exchange.ensures.honest names honest).1) in
-    on_err c.learn.result
-    (λ lost. (
+    both_err _ _ c.learn.result c.learn.ensures.lost c.learn.ensures.unheard
+    (λ fault lost unheard. (
       lost_facts l.lost client c.learn.new.client c.args.question.now lost,
-      broken_handed names client (past c.args.link.now) (past c.exchange.new.self) c.args.question.now _ c.requires hands,
+      subst (λ f. IsBrokenOff client.keys client.batch (past c.args.link.now) (past c.exchange.new.self) f) (sym unheard.0)
+          (broken_handed names client (past c.args.link.now) (past c.exchange.new.self) c.args.question.now _ c.requires
+          (some_mapped c.in-Ok.answer (λ v. v.items) unheard.1) hands),
     ))
-    c.learn.ensures.lost
+
+pub returns-clause-sent : goal.returns-clause-sent
+returns-clause-sent g c = λ honest.
+    let past = g.L.Link.past in
+    let client = c.args.client.now in
+    let names = is_planned client.keys in
+    let hands =
+    subst (λ bytes. HandsOver names (past c.args.link.now) bytes (option_map (λ v. v.items) c.in-Ok.answer) (past c.exchange.new.self)) c.as_slice.ensures
+    (handed_over names (past c.args.link.now) (past c.exchange.new.self) c.as_slice.result.now _ _ (sym c.in-Ok.ensures)
+    (c.exchange.ensures.honest names honest).1) in
+    if_fault _ _ c.learn.result
+    (λ fault unheard.
+    subst (λ f. (past c.exchange.new.self).sent ≡ (past c.args.link.now).sent ++ messages_made f c.args.question.now.bytes) (sym unheard.0)
+    (handed_asks names (past c.args.link.now) (past c.exchange.new.self) c.args.question.now.bytes _ hands).0)
+    c.learn.ensures.unheard
+
+pub returns-clause-answered : goal.returns-clause-answered
+returns-clause-answered g c =
+    let past = g.L.Link.past in
+    let client = c.args.client.now in
+    let names = is_planned client.keys in
+    on_ok c.learn.result
+    (answered_by names (g.L.Link.honest c.args.link.now names) client c.learn.new.client (past c.args.link.now) (past c.exchange.new.self) c.args.question.now _
+    (λ honest.
+    subst (λ bytes. HandsOver names (past c.args.link.now) bytes (option_map (λ v. v.items) c.in-Ok.answer) (past c.exchange.new.self)) c.as_slice.ensures
+    (handed_over names (past c.args.link.now) (past c.exchange.new.self) c.as_slice.result.now _ _ (sym c.in-Ok.ensures)
+    (c.exchange.ensures.honest names honest).1)))
+    c.learn.ensures.taught
 
 pub returns-in_default-clause-further : goal.returns-in_default-clause-further
 returns-in_default-clause-further g c = λ good just.

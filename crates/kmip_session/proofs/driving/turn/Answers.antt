@@ -1,20 +1,22 @@
 -- Asking changes whose turn it is, and nothing else.
-use Rattle.std.proofs.Common.{◌≡◌, ◌∙◌, Result, Ok, Err, None, IfOk, IsErr, ap, inl, inr, rules, subst, sym}
+use Rattle.std.proofs.Common.{◌≡◌, ◌∙◌, Result, Ok, Err, IfOk, IsErr, ap, inl, refl, rules, subst, sym}
+use Rattle.std.proofs.lemmas.Result.{err_from_is_err_and}
 use Rattle.std.specs.Prelude.{⊤, IfSome, IsOk}
 use Rattle.kmip_client.specs.Asking.{IsAbout, next_places}
 use Rattle.kmip_client.specs.Clients.{AreSettled, ClientState}
 use Rattle.kmip_client.specs.Known.{facts}
 use Rattle.kmip_schedule.specs.Past.{is_planned}
-use Rattle.kmip_settling.specs.Turns.{taught}
 use Rattle.kmip_session.specs.Driving.{IsBrokenOff, IsGood, IsToBePut, Keeps, KeepsFurther, Learnt, WentOn}
 use Rattle.kmip_session.specs.Losing.{ArePaid, left_for}
+use Rattle.kmip_session.specs.Turning.{IsAnswered}
 use Rattle.kmip_session.proofs.DriveLemmas.{asks_one, further_if}
 use Rattle.kmip_session.proofs.FurtherLemmas.{further_nowhere}
 use Rattle.kmip_session.proofs.GoodLemmas.{good_asked, keeps_asked, keeps_itself, keeps_then, went_nowhere}
-use Rattle.kmip_session.proofs.KnownLemmas.{always_err, broken_nowhere, grown_itself, learnt_nothing}
+use Rattle.kmip_session.proofs.KnownLemmas.{broken_nowhere, grown_itself, learnt_nothing}
 use Rattle.kmip_session.proofs.LosingLemmas.{paid_none}
 use Rattle.kmip_session.proofs.RememberLemmas.{no_both}
 use Rattle.kmip_session.proofs.SettleLemmas.{nearer_asked, nearer_then}
+use Rattle.kmip_session.proofs.TurnLemmas.{asked_nothing, given_up}
 use Rattle.kmip_session.proofs.driving.turn.Goals as goal
 
 pub returns-in_err-question-clause-kept : goal.returns-in_err-question-clause-kept
@@ -63,7 +65,8 @@ returns-in_default-clause-grown g c = λ honest. grown_itself (g.L.Link.past c.a
 
 pub returns-in_err-question-clause-broken : goal.returns-in_err-question-clause-broken
 returns-in_err-question-clause-broken g c = λ honest.
-    always_err c.from_residual.result (
+    let fault = err_from_is_err_and c.from_residual.result c.from_residual.ensures.1 in
+    rw (fault.1, fault.2) (
       ap (λ (s : ClientState). facts s.knowns) c.in_err-question.ensures.same,
       broken_nowhere c.args.client.now.keys c.args.client.now.batch (g.L.Link.past c.args.link.now),
     )
@@ -72,8 +75,11 @@ pub returns-in_err-put-clause-broken : goal.returns-in_err-put-clause-broken
 returns-in_err-put-clause-broken g c = λ honest.
     let past = g.L.Link.past in
     let asked = c.in_ok-question.ensures.turn in
-    always_err c.from_residual-in_err-put.result
-    (subst (λ (s : ClientState). (facts c.put.new.client.knowns ≡ facts s.knowns) × IsBrokenOff s.keys s.batch (past c.args.link.now) (past c.put.new.link)) asked
+    let fault = err_from_is_err_and c.from_residual-in_err-put.result c.from_residual-in_err-put.ensures.1 in
+    rw (fault.1, fault.2)
+    (subst
+    (λ (s : ClientState). (facts c.put.new.client.knowns ≡ facts s.knowns)
+    × IsBrokenOff s.keys s.batch (past c.args.link.now) (past c.put.new.link) c.in_err-put.field-0.0) asked
     (c.in_err-put.ensures.broken (subst (λ (s : ClientState). g.L.Link.honest c.args.link.now (is_planned s.keys)) (sym asked) honest)))
 
 pub returns-in_err-question-clause-further : goal.returns-in_err-question-clause-further
@@ -121,7 +127,9 @@ pub returns-in_err-question-clause-known : goal.returns-in_err-question-clause-k
 returns-in_err-question-clause-known g c = λ honest. (honest, if_err _ c.from_residual.result c.from_residual.ensures.0)
 
 pub returns-in_err-question-clause-lost : goal.returns-in_err-question-clause-lost
-returns-in_err-question-clause-lost g c = always_err c.from_residual.result (inl c.in_err-question.ensures.same)
+returns-in_err-question-clause-lost g c =
+    let fault = err_from_is_err_and c.from_residual.result c.from_residual.ensures.1 in
+    rw (fault.1, fault.2) (inl c.in_err-question.ensures.same, λ honest. refl)
 
 pub returns-in_err-question-clause-none : goal.returns-in_err-question-clause-none
 returns-in_err-question-clause-none g c = if_err _ c.from_residual.result c.from_residual.ensures.0
@@ -175,8 +183,32 @@ returns-in_err-put-clause-known g c = λ honest. (c.put.ensures.honest _ honest,
 
 pub returns-in_err-put-clause-lost : goal.returns-in_err-put-clause-lost
 returns-in_err-put-clause-lost g c =
-    always_err c.from_residual-in_err-put.result
-    (inr (c.in-Some.question, sym c.in_ok-question.ensures.question ∙ c.in-Some.is, c.in_err-put.ensures.lost ∙ ap (taught c.in-Some.question None) c.in_ok-question.ensures.turn))
+    let past = g.L.Link.past in
+    let asked = c.in_ok-question.ensures.turn in
+    let fault = err_from_is_err_and c.from_residual-in_err-put.result c.from_residual-in_err-put.ensures.1 in
+    rw (fault.1, fault.2)
+    (given_up _ _ c.args.client.now c.ask.new.self c.put.new.client (past c.args.link.now) (past c.put.new.link) c.in-Some.question c.in_err-put.field-0.0
+    (λ honest. subst (λ (s : ClientState). g.L.Link.honest c.args.link.now (is_planned s.keys)) (sym asked) honest) asked
+    (sym c.in_ok-question.ensures.question ∙ c.in-Some.is) c.in_err-put.ensures.lost c.in_err-put.ensures.sent)
+
+pub returns-in_default-clause-turned : goal.returns-in_default-clause-turned
+returns-in_default-clause-turned g c = record {
+  next_is = asked_nothing c.args.client.now c.ask.new.self c.in_ok-question.ensures.turn (sym c.in_ok-question.ensures.question ∙ c.in_default.is);
+  sent_stays = λ honest. refl;
+  handed_stays = λ honest. refl;
+}
+
+pub returns-clause-turned : goal.returns-clause-turned
+returns-clause-turned g c =
+    let past = g.L.Link.past in
+    record {
+      question = c.in-Some.question;
+      question_is = sym c.in_ok-question.ensures.question ∙ c.in-Some.is;
+      answered =
+          subst
+          (λ (s : ClientState). IsAnswered (g.L.Link.honest c.args.link.now (is_planned s.keys)) c.in-Some.question s c.put.new.client (past c.args.link.now) (past c.put.new.link))
+          c.in_ok-question.ensures.turn c.in_ok-put.ensures.answered;
+    }
 
 pub returns-in_err-put-clause-grown : goal.returns-in_err-put-clause-grown
 returns-in_err-put-clause-grown g c = λ honest.

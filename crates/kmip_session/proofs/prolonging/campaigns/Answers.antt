@@ -6,7 +6,7 @@ use Rattle.kmip_session.specs.Campaign.{reported, reported_by}
 use Rattle.kmip_session.specs.Campaigns.{last_plan}
 use Rattle.kmip_session.proofs.EndingLemmas.{all_joined, join_if}
 use Rattle.kmip_session.proofs.PlanLemmas.{in_turn_if}
-use Rattle.kmip_session.proofs.RunLemmas.{ok_of}
+use Rattle.kmip_session.proofs.RunLemmas.{if_ok, ok_of}
 use Rattle.kmip_session.proofs.prolonging.campaigns.Goals as goal
 
 pub returns : goal.returns
@@ -37,4 +37,5 @@ returns g c =
       ended = λ honest.
           all_joined end.runs.items _ _ _ _ _
           (join_if [] end.runs.items _ _ _ _ _ _ (ok_of c.run_plans.result c.err-fault.result c.err-fault.ensures.value) (c.run_plans.ensures.ended honest));
+      followed = λ is. if_ok c.run_plans.result (ok_of c.run_plans.result c.err-fault.result c.err-fault.ensures.value is) c.run_plans.ensures.followed;
     }

@@ -4,6 +4,7 @@ use Rattle.kmip_session.specs.Campaign.{IsEnd}
 use Rattle.kmip_session.proofs.EndingLemmas.{join_none, join_part}
 use Rattle.kmip_session.proofs.KnownLemmas.{always_err}
 use Rattle.kmip_session.proofs.PlanLemmas.{few_ends, few_saved, if_ok_more, read_for}
+use Rattle.kmip_session.proofs.RememberLemmas.{always_ok}
 use Rattle.kmip_session.proofs.prolonging.run_part.Goals as goal
 
 pub returns-in_err-append-clause-broken : goal.returns-in_err-append-clause-broken
@@ -92,3 +93,8 @@ returns-clause-ended g c = λ honest.
     let whole : part.fault ≡ None = search rules in
     join_part c.args.end.now.runs.items part.runs.items _ _ _ _ _ _ _
     (c.in_ok-append.ensures.items ∙ ap (λ ends. ends ++ part.runs.items) c.in_ok-reserve.ensures.items) (λ is. whole) (c.run_all-part.ensures.ended honest)
+
+pub returns-clause-followed : goal.returns-clause-followed
+returns-clause-followed g c =
+    let whole : c.run_all-part.result.fault ≡ None = search rules in
+    always_ok c.carry_over-read.result (c.run_all-part.ensures.followed whole)

@@ -28,6 +28,7 @@ loop-place-init g c =
           (subst (λ ks. IsLawful ks) (sym (last_is plans (length plans - 1) c.index-plans-plans.result (omega (arith, c.requires.some)) most)) c.keys-2.ensures.lawful)
           (subst (λ ks. IsLawful ks) (sym first_plan_is) c.keys.ensures.lawful) (subst (λ ks. slice_get plans 0 ≡ Some ks) (sym first_plan_is) first);
       ended = λ honest. join_none [] c.args.end.now.runs.items ⊤ _ _ _ _ c.requires.no_end refl (λ is. refl);
+      followed = c.calm_laws.ensures.itself c.args.link.now;
     }
 
 pub run_part-requires-clause-carried : goal.run_part-requires-clause-carried
@@ -110,6 +111,7 @@ loop-place-preserved g c =
           (c.loop-place.invariant.turning.honest_still (is_planned (last_plan plans)) far) in
           join_then [] c.loop-place.end.runs.items c.run_part.new.end.runs.items ⊤ ⊤ _ _ _ _ _ _ tt (c.loop-place.invariant.ended far)
           (join_if c.loop-place.end.runs.items c.run_part.new.end.runs.items _ ⊤ _ _ _ _ (λ is. search rules) (c.run_part.ensures.ended near));
+      followed = c.calm_laws.ensures.twice c.args.link.now c.loop-place.link c.run_part.new.link c.loop-place.invariant.followed c.in_ok-carried.ensures.followed;
     }
 
 pub returns-clause-ran : goal.returns-clause-ran
@@ -142,3 +144,6 @@ returns-in_err-carried-clause-ended g c = λ far.
 
 pub returns-clause-ended : goal.returns-clause-ended
 returns-clause-ended g c = λ far. join_if [] c.loop-place.end.runs.items ⊤ _ _ _ _ _ (λ is. tt) (c.loop-place.invariant.ended far)
+
+pub returns-clause-followed : goal.returns-clause-followed
+returns-clause-followed g c = c.loop-place.invariant.followed

@@ -11,4 +11,5 @@ invariant-loop-place g l = record {
   turning : Turning g.L.Link.past g.L.Link.honest g.L.Link.calm l.plans (map (λ list. list.items) l.runs) l.fn.link l.link l.place l.end l.carried.items;
   ended : g.L.Link.honest l.fn.link (is_planned (last_plan l.plans))
       → EndsJoin [] l.end.runs.items ⊤ (length (g.L.Link.past l.fn.link).sent) (length (g.L.Link.past l.link).sent) (g.L.Link.ended l.fn.link) (g.L.Link.ended l.link);
+  followed : g.L.Link.follows l.fn.link l.link;
 }

@@ -21,4 +21,5 @@ returns c =
       settles = c.campaign.ensures.settles;
       outlasts = c.campaign.ensures.outlasts good;
       ended = c.campaign.ensures.ended tt;
+      followed = c.campaign.ensures.followed;
     }

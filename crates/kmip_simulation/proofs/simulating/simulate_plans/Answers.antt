@@ -5,20 +5,24 @@ use Rattle.std.specs.List.{All}
 use Rattle.std.specs.Prelude.{⊤, None}
 use Rattle.kmip_schedule.specs.Sound.{Opening}
 use Rattle.kmip_scripted.specs.Runs.{lists_of}
-use Rattle.kmip_scripted.specs.Scenes.{past_in}
+use Rattle.kmip_scripted.specs.Following.{Follows}
+use Rattle.kmip_scripted.specs.Scenes.{Scene, past_in}
 use Rattle.kmip_session.specs.Campaign.{MayBatch}
 use Rattle.kmip_session.specs.declared.campaigning.Run.{Run}
 use Rattle.kmip_session.specs.Campaigns.{AreInTurn, CalmStart, GoodStart, first_plan, last_plan}
 use Rattle.kmip_simulation.specs.Simulating.{HasNoWord, in_batches}
-use Rattle.kmip_simulation.proofs.EndingLemmas.{ended_from_nothing}
+use Rattle.kmip_session.specs.Ending.{AreEnded}
 use Rattle.kmip_simulation.proofs.PlansLemmas.{second_is}
 use Rattle.kmip_simulation.proofs.simulating.simulate_plans.Goals as goal
 
 pub returns : goal.returns
 returns c =
     let plans = c.args.plans.now in
+    let words = c.args.script in
     let link = c.new_link-link.result in
+    let first = c.new_link-link.ensures.first in
     let end = c.campaigns-end.result in
+    let after = c.campaigns-end.new.link in
     let opening : (keys : _) → Opening keys (past_in link) = c.new_link-link.ensures.opening in
     let good : GoodStart past_in (λ link names. ⊤) plans link = record {
       honest_for = tt;
@@ -27,22 +31,26 @@ returns c =
     } in
     let second = second_is plans c.index-plans-1.result c.requires.two c.index-plans-1.is in
     let batch = c.args.batch in
-    let runs : map (λ list. list.items) c.as_slice-2.result.now ≡ map (in_batches batch) (lists_of (last_plan plans) c.args.script) =
+    let lists = map (in_batches batch) (lists_of (last_plan plans) words) in
+    let runs : map (λ list. list.items) c.as_slice-2.result.now ≡ lists =
     ap (map (λ list. list.items)) c.as_slice-2.ensures.value ∙ c.in_ok-lists-2.ensures.lists
     ∙ ap (λ ls. map (in_batches batch) (map (λ list. list.items) ls)) c.as_slice.ensures.value
-    ∙ ap (map (in_batches batch)) (c.in_ok-lists.ensures.lists ∙ ap (λ keys. lists_of keys c.args.script) second) in
+    ∙ ap (map (in_batches batch)) (c.in_ok-lists.ensures.lists ∙ ap (λ keys. lists_of keys words) second) in
     record {
       safe = c.campaigns-end.ensures.safe good;
       machine = (c.campaigns-end.ensures.machine good).0 (opening (last_plan plans));
       sound = (c.campaigns-end.ensures.sound good).sound;
       no_conflict = c.campaigns-end.ensures.no_conflict good;
       true_saved = c.campaigns-end.ensures.true_saved good;
-      begun = link;
-      opening = opening;
-      in_turn = subst (λ rs. AreInTurn plans rs end.runs.items end.saved.items ⊤ (CalmStart past_in HasNoWord plans link) (end.fault ≡ None) (past_in link) (past_in c.campaigns-end.new.link))
-          runs c.campaigns-end.ensures.in_turn;
-      ended = ended_from_nothing link.sent link.ended end.runs.items (end.fault ≡ None) c.campaigns-end.new.link.ended c.new_link-link.ensures.none_sent
-          c.new_link-link.ensures.none_ended (c.campaigns-end.ensures.ended tt);
+      opening = λ keys. subst (λ s. Opening keys (past_in s)) first (opening keys);
+      in_turn =
+          subst
+          (λ s. AreInTurn plans lists end.runs.items end.saved.items ⊤ (CalmStart past_in HasNoWord plans s) (end.fault ≡ None) (past_in s) (past_in after)) first
+          (subst
+          (λ rs. AreInTurn plans rs end.runs.items end.saved.items ⊤ (CalmStart past_in HasNoWord plans link) (end.fault ≡ None) (past_in link) (past_in after)) runs
+          c.campaigns-end.ensures.in_turn);
+      ended = subst (λ (s : Scene). AreEnded end.runs.items (end.fault ≡ None) (length s.sent) s.ended after.ended) first (c.campaigns-end.ensures.ended tt);
+      followed = λ is. subst (λ s. Follows s after) first (c.campaigns-end.ensures.followed is);
     }
 
 pub campaigns-end-requires : goal.campaigns-end-requires

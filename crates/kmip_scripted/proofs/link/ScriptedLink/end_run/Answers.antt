@@ -1,6 +1,7 @@
 -- The end of a run counts nothing.
-use Rattle.std.proofs.Common.{true, ap, ◌∙◌}
+use Rattle.std.proofs.Common.{true, ap, refl, ◌∙◌}
 use Rattle.kmip_scripted.specs.Scenes.{disturbances_in}
+use Rattle.kmip_scripted.proofs.CallLemmas.{follows_end}
 use Rattle.kmip_scripted.proofs.CountLemmas.{begun_keep, run_keeps}
 use Rattle.kmip_scripted.proofs.link.ScriptedLink.end_run.Goals as goal
 
@@ -9,3 +10,9 @@ returns-in-Ok-clause-undisturbed g c = ap disturbances_in c.in-Ok.ensures.exact 
 
 pub returns-in-Err-clause-undisturbed : goal.returns-in-Err-clause-undisturbed
 returns-in-Err-clause-undisturbed g c = begun_keep true c.args.self.now.words c.args.self.now c.finish_run.new.self c.in-Err.ensures.begun
+
+pub returns-in-Ok-clause-followed : goal.returns-in-Ok-clause-followed
+returns-in-Ok-clause-followed g c = λ memory. follows_end c.args.self.now c.finish_run.new.self c.in-Ok.ensures.exact
+
+pub returns-in-Err-clause-followed : goal.returns-in-Err-clause-followed
+returns-in-Err-clause-followed g c = λ memory. absurd (memory refl)

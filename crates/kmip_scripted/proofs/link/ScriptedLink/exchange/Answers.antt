@@ -1,7 +1,8 @@
 -- The counts stay until an exchange is handed over; and where no word is left, and the server has room, then too. An exchange ends no run.
-use Rattle.std.proofs.Common.{Ok, ap, subst, ◌∙◌}
+use Rattle.std.proofs.Common.{Ok, ap, refl, subst, ◌∙◌}
 use Rattle.kmip_schedule.specs.Clean.{IsRoomy}
 use Rattle.kmip_scripted.specs.Scenes.{disturbances_in}
+use Rattle.kmip_scripted.proofs.CallLemmas.{follows_exchange}
 use Rattle.kmip_scripted.proofs.CountLemmas.{calm_is_kept, exchange_begun_keeps, no_fewer}
 use Rattle.kmip_scripted.proofs.EndingLemmas.{begun_ended, exchange_ended}
 use Rattle.kmip_scripted.proofs.link.ScriptedLink.exchange.Goals as goal
@@ -20,3 +21,9 @@ returns-in-Ok-clause-ended g c = exchange_ended c.args.request.now c.args.self.n
 
 pub returns-in-Err-clause-ended : goal.returns-in-Err-clause-ended
 returns-in-Err-clause-ended g c = begun_ended c.args.request.now c.args.self.now c.follow.new.self c.in-Err.ensures.begun
+
+pub returns-in-Ok-clause-followed : goal.returns-in-Ok-clause-followed
+returns-in-Ok-clause-followed g c = λ memory. follows_exchange c.args.request.now c.args.self.now c.follow.new.self c.in-Ok.ensures.exact
+
+pub returns-in-Err-clause-followed : goal.returns-in-Err-clause-followed
+returns-in-Err-clause-followed g c = λ memory. absurd (memory refl)

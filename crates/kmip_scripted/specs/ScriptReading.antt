@@ -1,0 +1,89 @@
+-- What reading a script gives, line by line, as the crates above cite it.
+-- Source: own: `ScriptTexts` says which texts are scripts.
+use Rattle.std.specs.Prelude.{◌≡◌, ℕ, ◌+◌, ◌==◌, nat_lt, nat_le, ◌&&◌, List, [], ◌∷◌, ◌++◌, codes, length, option_map, Option, Some, None, Result, Ok, Err, if◌then◌else◌}
+use Rattle.std.specs.Str.{all_ascii_digits}
+use Rattle.std.specs.Str.Parse.{digits_value}
+use Rattle.kmip_chains.specs.Words.{is_text}
+use Rattle.kmip_scripted.specs.ScriptTexts.{lines_in, most_lines}
+use Rattle.kmip_scripted.specs.declared.fault.ScriptFault.{ScriptFault}
+use Rattle.kmip_scripted.specs.declared.fault.ScriptFault.TheVariants.{Line, NoMemory}
+use Rattle.kmip_scripted.specs.declared.script.Word.{Word}
+use Rattle.kmip_scripted.specs.declared.script.Word.TheVariants.{Pass, LoseRequest, LoseReply, Cut, Stale, Again, Save, Prolong, Restart}
+
+-- a number of 1 to 6 decimal digits
+abbrev pub number_in : List ℕ → Option ℕ
+number_in digits =
+    if nat_le 1 (length digits) && nat_le (length digits) 6 && all_ascii_digits digits then Some (digits_value 10 digits) else None
+
+-- what stands before the first space, and what behind it
+abbrev pub before_space : ℕ → Option (List ℕ × List ℕ) → Option (List ℕ × List ℕ)
+before_space byte parts = option_map (λ p. (byte ∷ p.0, p.1)) parts
+
+abbrev pub at_space : List ℕ → Option (List ℕ × List ℕ)
+at_space [] = None
+at_space (byte ∷ bytes) = if byte == 32 then Some ([], bytes) else before_space byte (at_space bytes)
+
+-- a word without a number, and one with a number behind it or `none`
+abbrev pub plain_word : List ℕ → Option Word
+plain_word word =
+    if is_text word (codes "pass") then Some Pass
+    else if is_text word (codes "lose-request") then Some LoseRequest
+    else if is_text word (codes "lose-reply") then Some LoseReply
+    else if is_text word (codes "save") then Some Save
+    else if is_text word (codes "prolong") then Some Prolong
+    else None
+
+abbrev pub restart_in : List ℕ → Option Word
+restart_in number = if is_text number (codes "none") then Some (Restart None) else option_map (λ n. Restart (Some n)) (number_in number)
+
+abbrev pub numbered_word : List ℕ → List ℕ → Option Word
+numbered_word word number =
+    if is_text word (codes "cut") then option_map Cut (number_in number)
+    else if is_text word (codes "stale") then option_map Stale (number_in number)
+    else if is_text word (codes "again") then option_map Again (number_in number)
+    else if is_text word (codes "restart") then restart_in number
+    else None
+
+-- the word that a line says
+abbrev pub word_by : List ℕ → Option (List ℕ × List ℕ) → Option Word
+word_by line None = plain_word line
+word_by line (Some parts) = numbered_word parts.0 parts.1
+
+abbrev pub word_in : List ℕ → Option Word
+word_in line = word_by line (at_space line)
+
+-- the words of a line of this number: one, or none where it is empty
+abbrev pub word_or_fault : Option Word → ℕ → Result (List Word) ScriptFault
+word_or_fault None number = Err (Line number)
+word_or_fault (Some word) number = Ok (word ∷ [])
+
+abbrev pub words_of_line : List ℕ → ℕ → Result (List Word) ScriptFault
+words_of_line [] number = Ok []
+words_of_line (byte ∷ bytes) number = word_or_fault (word_in (byte ∷ bytes)) number
+
+-- some words, and then others
+abbrev pub with_front : List Word → Result (List Word) ScriptFault → Result (List Word) ScriptFault
+with_front words (Ok others) = Ok (words ++ others)
+with_front words (Err fault) = Err fault
+
+abbrev pub followed_by : Result (List Word) ScriptFault → Result (List Word) ScriptFault → Result (List Word) ScriptFault
+followed_by (Ok words) read = with_front words read
+followed_by (Err fault) read = Err fault
+
+-- the words of lines, of which the first has this number, or the first line that is at fault
+abbrev pub words_from : ℕ → List (List ℕ) → Result (List Word) ScriptFault
+words_from number [] = Ok []
+words_from number (line ∷ lines) =
+    if nat_lt most_lines number then Err (Line number) else followed_by (words_of_line line number) (words_from (number + 1) lines)
+
+abbrev pub script_read : List ℕ → Result (List Word) ScriptFault
+script_read text = words_from 1 (lines_in text)
+
+-- a call answered what reading gives, unless memory ran out
+abbrev pub FailsScript : {Y : Type 0} → ScriptFault → Result Y ScriptFault → Type 0
+FailsScript NoMemory read = Unit {0}
+FailsScript (Line number) read = read ≡ Err (Line number)
+
+abbrev pub GivesScript : {X Y : Type 0} → (X → Y) → Result X ScriptFault → Result Y ScriptFault → Type 0
+GivesScript view (Ok x) read = read ≡ Ok (view x)
+GivesScript view (Err fault) read = FailsScript fault read

@@ -1,0 +1,78 @@
+-- Which texts are scripts: a word a line, and empty lines, which say nothing.
+-- Source: own.
+use Rattle.std.specs.Prelude.{◌≡◌, ◌≢◌, ◌⊎◌, ◌≤◌, ⊥, ⊤, ℕ, ◌+◌, ◌==◌, ¬, true, List, [], ◌∷◌, ◌++◌, codes, length, Option, Some, None}
+use Rattle.std.specs.List.{slice_split}
+use Rattle.std.specs.Str.{all_ascii_digits}
+use Rattle.std.specs.Str.Parse.{digits_value}
+use Rattle.kmip_scripted.specs.declared.script.Word.{Word}
+use Rattle.kmip_scripted.specs.declared.script.Word.TheVariants.{Pass, LoseRequest, LoseReply, Cut, Stale, Again, Save, Prolong, Restart}
+
+-- the most lines that a script may have
+abbrev pub most_lines : ℕ
+most_lines = 10000
+
+-- The digits are a decimal number of 1 to 6 digits, zeros in front allowed.
+pub record IsNumber (digits : List ℕ) (number : ℕ) : Type 0 where
+  pub some : 1 ≤ length digits
+  pub few : length digits ≤ 6
+  pub are_digits : all_ascii_digits digits ≡ true
+  pub value : number ≡ digits_value 10 digits
+
+-- The line is this front, and then a number.
+pub record IsNumbered (front : List ℕ) (number : ℕ) (line : List ℕ) : Type 0 where
+  pub digits : List ℕ
+  pub line_is : line ≡ front ++ digits
+  pub is_number : IsNumber digits number
+
+-- the line says the word
+abbrev pub IsWord : List ℕ → Word → Type 0
+IsWord line Pass = line ≡ codes "pass"
+IsWord line LoseRequest = line ≡ codes "lose-request"
+IsWord line LoseReply = line ≡ codes "lose-reply"
+IsWord line (Cut size) = IsNumbered (codes "cut ") size line
+IsWord line (Stale number) = IsNumbered (codes "stale ") number line
+IsWord line (Again number) = IsNumbered (codes "again ") number line
+IsWord line Save = line ≡ codes "save"
+IsWord line Prolong = line ≡ codes "prolong"
+IsWord line (Restart None) = line ≡ codes "restart none"
+IsWord line (Restart (Some number)) = IsNumbered (codes "restart ") number line
+
+-- the lines say these words, one after the other; an empty line says nothing
+abbrev pub Say : List (List ℕ) → List Word → Type 0
+Say [] [] = ⊤
+Say [] (word ∷ words) = ⊥
+Say ([] ∷ lines) words = Say lines words
+Say ((byte ∷ bytes) ∷ lines) [] = ⊥
+Say ((byte ∷ bytes) ∷ lines) (word ∷ words) = IsWord (byte ∷ bytes) word × Say lines words
+
+-- the lines of a text: what stands between its line feeds, and what stands behind the last one where that is not empty
+abbrev pub without_empty_end : List (List ℕ) → List (List ℕ)
+without_empty_end [] = []
+without_empty_end ([] ∷ []) = []
+without_empty_end ((byte ∷ bytes) ∷ []) = (byte ∷ bytes) ∷ []
+without_empty_end (line ∷ next ∷ lines) = line ∷ without_empty_end (next ∷ lines)
+
+abbrev pub lines_in : List ℕ → List (List ℕ)
+lines_in text = without_empty_end (slice_split (λ b. b == 10) text)
+
+-- The text is a script of these words.
+pub record IsScript (text : List ℕ) (words : List Word) : Type 0 where
+  pub few : length (lines_in text) ≤ most_lines
+  pub say : Say (lines_in text) words
+
+-- The line says something, and no word.
+pub record IsNoWord (line : List ℕ) : Type 0 where
+  pub some : line ≢ []
+  pub none : (word : Word) → ¬ (IsWord line word)
+
+-- The line of this number, from 1, is the first at fault: those before it say words, and it says none, or it is one too many.
+pub record FailsAt (text : List ℕ) (number : ℕ) : Type 0 where
+  pub before : List (List ℕ)
+  pub line : List ℕ
+  pub behind : List (List ℕ)
+  pub words : List Word
+  pub lines_are : lines_in text ≡ before ++ line ∷ behind
+  pub number_is : number ≡ length before + 1
+  pub few : length before ≤ most_lines
+  pub say : Say before words
+  pub amiss : IsNoWord line ⊎ (length before ≡ most_lines)

@@ -1,0 +1,88 @@
+#!/usr/bin/env python3
+"""The gate: every proof, must-fail edit, test and stored run, and then the trials of the program that this built.
+
+    tools/gate.py
+
+It runs at the top of the repository. First comes `rt ci`; where that fails no trial is run. Each trial has a
+line, and what it printed stands in out/gate/NAME.log, and is printed too where it fails. A trial is skipped,
+by its name, where the machine lacks what it needs. The last line counts all: `N passed, N failed`, and how
+many were skipped where some were. The exit status is 0 where nothing failed.
+"""
+
+import os
+import re
+import shutil
+import subprocess
+import sys
+import time
+
+TOP = os.path.realpath(os.path.join(os.path.dirname(os.path.realpath(__file__)), '..'))
+PROGRAM = 'crates/kmipctl/out/kmipctl'
+GROWTHS = 'crates/kmip_growths/out/kmip_growths'
+LOGS = 'out/gate'
+COUNTS = re.compile(r'^(\d+) passed, (\d+) failed')
+
+# The name, the command, and what each of the alternatives in a row of words names: a program that it needs.
+TRIALS = [
+    ('refuse', ['python3', 'bench/refuse.py', PROGRAM, GROWTHS, 'out/refuse'], [['cc']]),
+    ('peers', ['python3', 'bench/peers.py', PROGRAM, 'out/peers'], []),
+    ('hostile', ['bench/hostile.sh', PROGRAM], []),
+    ('tls', ['examples/tls/tls.sh', PROGRAM], [['openssl'], ['stunnel4', 'stunnel']]),
+    ('storm', ['bench/storm.sh', PROGRAM, '40'], [['rustc']]),
+    ('documents', ['python3', 'tools/reading.py', '--check'], []),
+]
+
+
+def prove():
+    """Runs `rt ci`, prints what it prints, and returns how many passed and how many failed."""
+    running = subprocess.Popen(['rt', 'ci'], stdout=subprocess.PIPE, text=True, errors='replace')
+    counts = None
+    for line in running.stdout:
+        counts = COUNTS.match(line) or counts
+        print(line, end='', flush=True)
+    passed, failed = map(int, counts.groups()) if counts else (0, 1)
+    return passed, max(failed, 1 if running.wait() else 0)
+
+
+def lacks(needs):
+    """Returns the first thing that the machine lacks, if it lacks one."""
+    return next((words[0] for words in needs if not any(map(shutil.which, words))), None)
+
+
+def succeeds(name, command):
+    """Runs a trial, prints its line, and returns whether it passed."""
+    log, start = f'{LOGS}/{name}.log', time.monotonic()
+    with open(log, 'w') as written:
+        status = subprocess.run(command, stdin=subprocess.DEVNULL, stdout=written, stderr=written).returncode
+    took = f'{time.monotonic() - start:.0f} s'
+    if status:
+        with open(log, errors='replace') as written:
+            print(written.read(), end='')
+        print(f'{name} FAILED after {took}, with status {status}: {" ".join(command)}', flush=True)
+    else:
+        print(f'{name}: ok, {took}', flush=True)
+    return not status
+
+
+def main():
+    os.chdir(TOP)
+    os.makedirs(LOGS, exist_ok=True)
+    passed, failed = prove()
+    skipped = 0
+    if failed:
+        print(f'no trial was run: {", ".join(name for name, _, _ in TRIALS)}')
+    for name, command, needs in [] if failed else TRIALS:
+        lacking = lacks(needs)
+        if lacking:
+            skipped += 1
+            print(f'{name} skipped: this machine has no {lacking}', flush=True)
+        elif succeeds(name, command):
+            passed += 1
+        else:
+            failed += 1
+    print(f'{passed} passed, {failed} failed' + (f', {skipped} skipped' if skipped else ''))
+    return 1 if failed else 0
+
+
+if __name__ == '__main__':
+    sys.exit(main())
