@@ -8,3 +8,5 @@ pub mod RunsLemmas
 pub mod SplitLemmas
 pub mod PartLemmas
 pub mod CallLemmas
+pub mod ScriptLemmas
+pub mod ScriptLaws

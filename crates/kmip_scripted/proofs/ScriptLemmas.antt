@@ -1,15 +1,19 @@
 -- What a line says, and what a text does.
-use Rattle.std.proofs.Common.{◌≡◌, ◌≢◌, ◌<◌, ◌≤◌, ◌∙◌, ℕ, zero, suc, ◌+◌, ◌==◌, Bool, true, false, cond, List, [], ◌∷◌, ◌++◌, length, Option, Some, None, Result, Ok, Err, option_map, if◌then◌else◌, ap, arith, inl, inr, refl, subst, sym, eq-eqb, ne_eqb, eqb-true, append-nil, append_assoc}
-use Rattle.std.specs.Prelude.{◌⊎◌, ¬, ⊤, codes, nat_lt, nat_le, ◌&&◌}
-use Rattle.std.proofs.lemmas.Bool.{cases_Bool}
+use Rattle.std.proofs.Common.{◌≡◌, ◌≢◌, ◌<◌, ◌≤◌, ◌∙◌, ℕ, zero, suc, ◌+◌, ◌==◌, Bool, true, false, cond, List, [], ◌∷◌, ◌++◌, get_or, length, Option, Some, None, Result, Ok, Err, option_map, if◌then◌else◌, ap, arith, inl, inr, refl, rules, subst, sym, eq-eqb, ne_eqb, eqb-true, append-nil, append_assoc}
+use Rattle.std.specs.Prelude.{◌⊎◌, ⊤, ◌*◌, ◌-◌, ◌^◌, codes, nat_lt, nat_le, ◌&&◌}
+use Rattle.std.proofs.lemmas.Bool.{and_from, and_parts, cases_Bool, false_from_ne_true, le-leb, leb-true}
+use Rattle.std.proofs.lemmas.Slice.Eq.{bytes_eq-Decides}
+use Rattle.std.proofs.lemmas.List.Elements.{All-cons, All-head, All-nil, All-tail}
 use Rattle.std.proofs.lemmas.Bool.Decides.{nat_tests}
 use Rattle.std.proofs.lemmas.List.Splits.{slice_split-cons_yes, slice_split-cons_no, slice_split_none, slice_split_at}
-use Rattle.std.specs.List.{All, onto_first, slice_split}
+use Rattle.std.specs.List.{All, list_all, onto_first, slice_split}
+use Rattle.std.specs.Result.{result_ok}
 use Rattle.std.specs.Str.{all_ascii_digits}
-use Rattle.std.specs.Str.Parse.{digits_value}
+use Rattle.std.specs.Str.Parse.{ParsesUnsigned}
+use Rattle.std.proofs.lemmas.Str.Parse.{IsNumeralModel, digits_value_short, numerals_by_fold, parse_gives}
 use Rattle.kmip_chains.specs.Words.{is_text}
 use Rattle.kmip_scripted.specs.ScriptReading.{at_space, before_space, followed_by, number_in, numbered_word, plain_word, restart_in, script_read, with_front, word_by, word_in, word_or_fault, words_from, words_of_line}
-use Rattle.kmip_scripted.specs.ScriptTexts.{FailsAt, IsNoWord, IsNumber, IsNumbered, IsScript, IsWord, Say, lines_in, most_lines, without_empty_end}
+use Rattle.kmip_scripted.specs.ScriptTexts.{FailsAt, IsNoWord, IsNumber, IsNumbered, IsScript, IsWord, Say, is_digit, lines_in, most_lines, value_behind, without_empty_end}
 use Rattle.kmip_scripted.specs.declared.fault.ScriptFault.{ScriptFault}
 use Rattle.kmip_scripted.specs.declared.fault.ScriptFault.TheVariants.{Line, NoMemory}
 use Rattle.kmip_scripted.specs.declared.script.Word.{Word}
@@ -21,6 +25,9 @@ same_text s t h = (bytes_eq-Decides s t).0 h
 same_some : {A : Type 0} (a x : A) → Some a ≡ Some x → a ≡ x
 same_some a x is = cc
 
+same_pair : (a x : List ℕ × List ℕ) → Some a ≡ Some x → a ≡ x
+same_pair a x is = cc
+
 no_some : {A : Type 0} (x : A) (P : A → Type 0) → None ≡ Some x → P x
 no_some x P is = absurd cc
 
@@ -28,15 +35,15 @@ no_some x P is = absurd cc
 
 pub number_is : (digits : List ℕ) (number : ℕ) → number_in digits ≡ Some number → IsNumber digits number
 number_is digits number is =
-    elim (cases_Bool (nat_le 1 (length digits) && nat_le (length digits) 6 && all_ascii_digits digits)) [
+    elim (cases_Bool (nat_le 1 (length digits) && nat_le (length digits) 6 && list_all is_digit digits)) [
       | inl fits ↦
-          let parts = and_parts (nat_le 1 (length digits) && nat_le (length digits) 6) (all_ascii_digits digits) fits in
+          let parts = and_parts (nat_le 1 (length digits) && nat_le (length digits) 6) (list_all is_digit digits) fits in
           let sizes = and_parts (nat_le 1 (length digits)) (nat_le (length digits) 6) parts.0 in
           record {
             some = leb-true 1 (length digits) sizes.0;
             few = leb-true (length digits) 6 sizes.1;
             are_digits = parts.1;
-            value = sym (same_some (digits_value 10 digits) number (rw fits at is));
+            value = sym (same_some (value_behind 0 digits) number (rw fits at is));
           }
       | inr not ↦ no_some number (IsNumber digits) (rw not at is)
     ]
@@ -44,40 +51,66 @@ number_is digits number is =
 pub is_number : (digits : List ℕ) (number : ℕ) → IsNumber digits number → number_in digits ≡ Some number
 is_number digits number is =
     let fits =
-    and_from (nat_le 1 (length digits) && nat_le (length digits) 6) (all_ascii_digits digits)
+    and_from (nat_le 1 (length digits) && nat_le (length digits) 6) (list_all is_digit digits)
     (and_from (nat_le 1 (length digits)) (nat_le (length digits) 6) (le-leb 1 (length digits) is.some) (le-leb (length digits) 6 is.few)) is.are_digits in
     rw fits (ap Some (sym is.value))
 
+-- what the parser of numbers answers of digits
+ascii_digits : (digits : List ℕ) → list_all is_digit digits ≡ all_ascii_digits digits
+ascii_digits [] = refl
+ascii_digits (digit ∷ digits) = ap (λ b. is_digit digit && b) (ascii_digits digits)
+
+own : IsNumeralModel (λ ds. all_ascii_digits ds ≡ true) (value_behind 0)
+own = numerals_by_fold _ (search rules) value_behind (search rules)
+
+pub parsed : {E : Type 0} (digits : List ℕ) (r : Result ℕ E) → ParsesUnsigned 64 10 digits r → list_all is_digit digits ≡ true → 1 ≤ length digits
+    → length digits ≤ 6 → r ≡ Ok (value_behind 0 digits)
+parsed digits r h all some few =
+    let are : all_ascii_digits digits ≡ true = sym (ascii_digits digits) ∙ all in
+    parse_gives own 64 digits r h are (omega (arith, some)) (omega (arith, digits_value_short own digits 6 are few))
+
+pub number_given : {E : Type 0} (digits : List ℕ) (r : Result ℕ E) → ParsesUnsigned 64 10 digits r → list_all is_digit digits ≡ true → 1 ≤ length digits
+    → length digits ≤ 6 → result_ok r ≡ number_in digits
+number_given digits r h all some few =
+    ap result_ok (parsed digits r h all some few)
+    ∙ sym (is_number digits (value_behind 0 digits) (record { some = some; few = few; are_digits = all; value = refl }))
+
 -- ---- a space in a line
 
-pub at_first_space : (before behind : List ℕ) → All (λ b. b == 32 ≡ false) before → at_space (before ++ 32 ∷ behind) ≡ Some (before, behind)
+pub at_first_space : (before behind : List ℕ) → All (λ b. (b == 32) ≡ false) before → at_space (before ++ 32 ∷ behind) ≡ Some (before, behind)
 at_first_space [] behind none = refl
 at_first_space (b ∷ before) behind none =
-    rw (All-head (λ b. b == 32 ≡ false) b before none)
-    (ap (before_space b) (at_first_space before behind (All-tail (λ b. b == 32 ≡ false) b before none)))
+    rw (All-head (λ b. (b == 32) ≡ false) b before none)
+    (ap (before_space b) (at_first_space before behind (All-tail (λ b. (b == 32) ≡ false) b before none)))
 
-pub at_no_space : (line : List ℕ) → All (λ b. b == 32 ≡ false) line → at_space line ≡ None
+pub at_no_space : (line : List ℕ) → All (λ b. (b == 32) ≡ false) line → at_space line ≡ None
 at_no_space [] none = refl
 at_no_space (b ∷ line) none =
-    rw (All-head (λ b. b == 32 ≡ false) b line none) (ap (before_space b) (at_no_space line (All-tail (λ b. b == 32 ≡ false) b line none)))
+    rw (All-head (λ b. (b == 32) ≡ false) b line none) (ap (before_space b) (at_no_space line (All-tail (λ b. (b == 32) ≡ false) b line none)))
 
 -- the line is what stands before its first space, a space, and what stands behind
+with_byte : (b : ℕ) (line : List ℕ) (parts : List ℕ × List ℕ) (found : Option (List ℕ × List ℕ))
+    → ((p : List ℕ × List ℕ) → found ≡ Some p → line ≡ p.0 ++ 32 ∷ p.1) → before_space b found ≡ Some parts → b ∷ line ≡ parts.0 ++ 32 ∷ parts.1
+with_byte b line parts None rest is = absurd cc
+with_byte b line parts (Some p) rest is =
+    let same : (b ∷ p.0, p.1) ≡ parts = same_pair (b ∷ p.0, p.1) parts is in
+    subst (λ (q : List ℕ × List ℕ). b ∷ line ≡ q.0 ++ 32 ∷ q.1) same (ap (λ xs. b ∷ xs) (rest p refl))
+
 space_parts : (line : List ℕ) (parts : List ℕ × List ℕ) → at_space line ≡ Some parts → line ≡ parts.0 ++ 32 ∷ parts.1
 space_parts [] parts is = absurd cc
 space_parts (b ∷ line) parts is =
     elim (cases_Bool (b == 32)) [
       | inl space ↦
-          let same : ([], line) ≡ parts = same_some ([], line) parts (rw space at is) in
+          let same : ([], line) ≡ parts = same_pair ([], line) parts (rw space at is) in
           subst (λ (p : List ℕ × List ℕ). b ∷ line ≡ p.0 ++ 32 ∷ p.1) same (ap (λ x. x ∷ line) (eqb-true b 32 space))
-      | inr other ↦ later b line parts (at_space line) refl (rw other at is)
+      | inr other ↦ with_byte b line parts (at_space line) (λ p at. space_parts line p at) (rw other at is)
     ]
-  where
-    later : (b : ℕ) (line : List ℕ) (parts : List ℕ × List ℕ) (found : Option (List ℕ × List ℕ)) → at_space line ≡ found → before_space b found ≡ Some parts
-        → b ∷ line ≡ parts.0 ++ 32 ∷ parts.1
-    later b line parts None at is = absurd cc
-    later b line parts (Some p) at is =
-        let same : (b ∷ p.0, p.1) ≡ parts = same_some (b ∷ p.0, p.1) parts is in
-        subst (λ (q : List ℕ × List ℕ). b ∷ line ≡ q.0 ++ 32 ∷ q.1) same (ap (λ xs. b ∷ xs) (space_parts line p at))
+
+-- no byte of them is this one
+pub none_by : (c : ℕ) (xs : List ℕ) → ((i : ℕ) → i < length xs → get_or xs i 0 ≢ c) → All (λ b. (b == c) ≡ false) xs
+none_by c [] none = All-nil (λ b. (b == c) ≡ false)
+none_by c (x ∷ xs) none =
+    All-cons (λ b. (b == c) ≡ false) x xs (ne_eqb x c (none zero (omega arith))) (none_by c xs (λ i below. none (suc i) (omega (arith, below))))
 
 -- ---- a word
 
@@ -90,17 +123,17 @@ chosen word name found rest x P here there is =
       | inr other ↦ there (rw other at is)
     ]
 
-one : (word name : List ℕ) (a x : Word) (P : Word → Type 0) → P a → Some a ≡ Some x → P x
-one word name a x P holds is = subst P (same_some a x is) holds
+one : (a x : Word) (P : Word → Type 0) → P a → Some a ≡ Some x → P x
+one a x P holds is = subst P (same_some a x is) holds
 
 plain_is : (line : List ℕ) (word : Word) → plain_word line ≡ Some word → IsWord line word
 plain_is line word is =
     let P : Word → Type 0 = IsWord line in
-    chosen line (codes "pass") (Some Pass) _ word P (λ e. one line _ Pass word P e) (
-    chosen line (codes "lose-request") (Some LoseRequest) _ word P (λ e. one line _ LoseRequest word P e) (
-    chosen line (codes "lose-reply") (Some LoseReply) _ word P (λ e. one line _ LoseReply word P e) (
-    chosen line (codes "save") (Some Save) _ word P (λ e. one line _ Save word P e) (
-    chosen line (codes "prolong") (Some Prolong) _ word P (λ e. one line _ Prolong word P e) (no_some word P))))) is
+    chosen line (codes "pass") (Some Pass) _ word P (λ e. one Pass word P e) (
+    chosen line (codes "lose-request") (Some LoseRequest) _ word P (λ e. one LoseRequest word P e) (
+    chosen line (codes "lose-reply") (Some LoseReply) _ word P (λ e. one LoseReply word P e) (
+    chosen line (codes "save") (Some Save) _ word P (λ e. one Save word P e) (
+    chosen line (codes "prolong") (Some Prolong) _ word P (λ e. one Prolong word P e) (no_some word P))))) is
 
 -- a number behind a front
 numbered : (front digits line : List ℕ) (make : ℕ → Word) (word : Word) (P : Word → Type 0) → line ≡ front ++ digits
@@ -117,7 +150,7 @@ restart_is : (line number : List ℕ) (word : Word) → line ≡ codes "restart"
 restart_is line number word line_is is =
     let P : Word → Type 0 = IsWord line in
     chosen number (codes "none") (Some (Restart None)) _ word P
-    (λ e. one line _ (Restart None) word P (line_is ∙ ap (λ ds. codes "restart" ++ 32 ∷ ds) e))
+    (λ e. one (Restart None) word P (line_is ∙ ap (λ ds. codes "restart" ++ 32 ∷ ds) e))
     (numbered (codes "restart ") number line (λ n. Restart (Some n)) word P line_is (λ n holds. holds)) is
 
 numbered_is : (line before number : List ℕ) (word : Word) → line ≡ before ++ 32 ∷ number → numbered_word before number ≡ Some word → IsWord line word
@@ -136,10 +169,17 @@ word_is line word is = by_space (at_space line) refl is
     by_space None at is = plain_is line word is
     by_space (Some parts) at is = numbered_is line parts.0 parts.1 word (space_parts line parts at) is
 
+-- by its first space
+pub parted : (line before behind : List ℕ) → line ≡ before ++ 32 ∷ behind → All (λ b. (b == 32) ≡ false) before → word_in line ≡ numbered_word before behind
+parted line before behind is none = ap word_in is ∙ ap (word_by (before ++ 32 ∷ behind)) (at_first_space before behind none)
+
+pub unparted : (line : List ℕ) → All (λ b. (b == 32) ≡ false) line → word_in line ≡ plain_word line
+unparted line none = ap (word_by line) (at_no_space line none)
+
 -- and the other way round
 no_digits : (digits : List ℕ) (number : ℕ) → IsNumber digits number → is_text digits (codes "none") ≡ false
 no_digits digits number is = false_from_ne_true (is_text digits (codes "none")) (λ same.
-    let all = subst (λ ds. all_ascii_digits ds ≡ true) (same_text digits (codes "none") same) is.are_digits in absurd cc)
+    let all = subst (λ ds. list_all is_digit ds ≡ true) (same_text digits (codes "none") same) is.are_digits in absurd cc)
 
 of_number : (digits : List ℕ) (number : ℕ) (make : ℕ → Word) → IsNumber digits number → option_map make (number_in digits) ≡ Some (make number)
 of_number digits number make is = ap (option_map make) (is_number digits number is)
@@ -158,10 +198,10 @@ is_word line (Restart (Some number)) is =
     ap word_in is.line_is
     ∙ rw (no_digits is.digits number is.is_number) (of_number is.digits number (λ n. Restart (Some n)) is.is_number)
 
-no_word : (line : List ℕ) → word_in line ≡ None → (word : Word) → ¬ (IsWord line word)
+pub no_word : (line : List ℕ) → word_in line ≡ None → (word : Word) → ¬ (IsWord line word)
 no_word line none word is = no_some word (λ w. ⊥) (sym none ∙ is_word line word is)
 
-none_without : (line : List ℕ) → ((word : Word) → ¬ (IsWord line word)) → word_in line ≡ None
+pub none_without : (line : List ℕ) → ((word : Word) → ¬ (IsWord line word)) → word_in line ≡ None
 none_without line none = by_word (word_in line) refl
   where
     by_word : (found : Option Word) → word_in line ≡ found → word_in line ≡ None
@@ -194,6 +234,10 @@ line_then line behind none =
 pub line_last : (byte : ℕ) (bytes : List ℕ) → All (λ b. (b == 10) ≡ false) (byte ∷ bytes) → lines_in (byte ∷ bytes) ≡ (byte ∷ bytes) ∷ []
 line_last byte bytes none = ap without_empty_end (slice_split_none (λ b. b == 10) (byte ∷ bytes) none)
 
+pub last_line : (text : List ℕ) → 0 < length text → All (λ b. (b == 10) ≡ false) text → lines_in text ≡ text ∷ []
+last_line [] some none = absurd (omega (arith, some))
+last_line (byte ∷ bytes) some none = line_last byte bytes none
+
 -- a text that is not empty has a line
 pub some_line : (byte : ℕ) (bytes : List ℕ) → (line : List ℕ) × (lines : List (List ℕ)) × (lines_in (byte ∷ bytes) ≡ line ∷ lines)
 some_line byte bytes =
@@ -221,26 +265,40 @@ pub front_more : (done more : List Word) (read : Result (List Word) ScriptFault)
 front_more done more (Ok words) = ap Ok (sym (append_assoc done more words))
 front_more done more (Err fault) = refl
 
-within : (number : ℕ) → number ≤ most_lines → nat_lt most_lines number ≡ false
+pub within : (number : ℕ) → number ≤ most_lines → nat_lt most_lines number ≡ false
 within number few = grind (arith, nat_tests)
 
-beyond : (number : ℕ) → most_lines < number → nat_lt most_lines number ≡ true
+pub beyond : (number : ℕ) → most_lines < number → nat_lt most_lines number ≡ true
 beyond number many = grind (arith, nat_tests)
+
+pub read_here : (line : List ℕ) (lines : List (List ℕ)) (number : ℕ) → number ≤ most_lines
+    → words_from number (line ∷ lines) ≡ followed_by (words_of_line line number) (words_from (number + 1) lines)
+read_here line lines number few =
+    ap (λ b. if b then Err (Line number) else followed_by (words_of_line line number) (words_from (number + 1) lines)) (within number few)
 
 -- one more line
 pub one_line : (done more words : List Word) (line : List ℕ) (lines : List (List ℕ)) (number : ℕ) → number ≤ most_lines → words_of_line line number ≡ Ok more → words ≡ done ++ more
     → with_front words (words_from (number + 1) lines) ≡ with_front done (words_from number (line ∷ lines))
 one_line done more words line lines number few read is =
     ap (λ ws. with_front ws (words_from (number + 1) lines)) is ∙ sym (front_more done more (words_from (number + 1) lines))
-    ∙ ap (with_front done) (sym (rw (within number few) (ap (λ r. followed_by r (words_from (number + 1) lines)) read)))
+    ∙ ap (with_front done) (sym (read_here line lines number few ∙ ap (λ r. followed_by r (words_from (number + 1) lines)) read))
 
 -- or one at fault
 pub line_fails : (done : List Word) (line : List ℕ) (lines : List (List ℕ)) (number : ℕ) (fault : ScriptFault) → number ≤ most_lines → words_of_line line number ≡ Err fault
     → with_front done (words_from number (line ∷ lines)) ≡ Err fault
 line_fails done line lines number fault few read =
-    ap (with_front done) (rw (within number few) (ap (λ r. followed_by r (words_from (number + 1) lines)) read))
+    ap (with_front done) (read_here line lines number few) ∙ ap (λ r. with_front done (followed_by r (words_from (number + 1) lines))) read
 
 -- or one too many
 pub line_too_many : (done : List Word) (line : List ℕ) (lines : List (List ℕ)) (number : ℕ) → most_lines < number
     → with_front done (words_from number (line ∷ lines)) ≡ Err (Line number)
-line_too_many done line lines number many = ap (with_front done) (rw (beyond number many) refl)
+line_too_many done line lines number many =
+    ap (λ b. with_front done (if b then Err (Line number) else followed_by (words_of_line line number) (words_from (number + 1) lines))) (beyond number many)
+
+pub too_many : (done : List Word) (rest : List ℕ) (number : ℕ) (all : Result (List Word) ScriptFault) → (length rest == 0) ≡ false → number ≡ most_lines + 1
+    → with_front done (words_from number (lines_in rest)) ≡ all → all ≡ Err (Line (most_lines + 1))
+too_many done [] number all some last is = absurd cc
+too_many done (byte ∷ bytes) number all some last is =
+    let found = some_line byte bytes in
+    sym is ∙ ap (λ lines. with_front done (words_from number lines)) found.2
+    ∙ line_too_many done found.0 found.1 number (omega (arith, last)) ∙ ap (λ n. Err (Line n)) last

@@ -1,10 +1,9 @@
 -- What reading a script gives, line by line, as the crates above cite it.
 -- Source: own: `ScriptTexts` says which texts are scripts.
 use Rattle.std.specs.Prelude.{◌≡◌, ℕ, ◌+◌, ◌==◌, nat_lt, nat_le, ◌&&◌, List, [], ◌∷◌, ◌++◌, codes, length, option_map, Option, Some, None, Result, Ok, Err, if◌then◌else◌}
-use Rattle.std.specs.Str.{all_ascii_digits}
-use Rattle.std.specs.Str.Parse.{digits_value}
+use Rattle.std.specs.List.{list_all}
 use Rattle.kmip_chains.specs.Words.{is_text}
-use Rattle.kmip_scripted.specs.ScriptTexts.{lines_in, most_lines}
+use Rattle.kmip_scripted.specs.ScriptTexts.{is_digit, lines_in, most_lines, value_behind}
 use Rattle.kmip_scripted.specs.declared.fault.ScriptFault.{ScriptFault}
 use Rattle.kmip_scripted.specs.declared.fault.ScriptFault.TheVariants.{Line, NoMemory}
 use Rattle.kmip_scripted.specs.declared.script.Word.{Word}
@@ -13,7 +12,7 @@ use Rattle.kmip_scripted.specs.declared.script.Word.TheVariants.{Pass, LoseReque
 -- a number of 1 to 6 decimal digits
 abbrev pub number_in : List ℕ → Option ℕ
 number_in digits =
-    if nat_le 1 (length digits) && nat_le (length digits) 6 && all_ascii_digits digits then Some (digits_value 10 digits) else None
+    if nat_le 1 (length digits) && nat_le (length digits) 6 && list_all is_digit digits then Some (value_behind 0 digits) else None
 
 -- what stands before the first space, and what behind it
 abbrev pub before_space : ℕ → Option (List ℕ × List ℕ) → Option (List ℕ × List ℕ)

@@ -1,9 +1,7 @@
 -- Which texts are scripts: a word a line, and empty lines, which say nothing.
 -- Source: own.
-use Rattle.std.specs.Prelude.{◌≡◌, ◌≢◌, ◌⊎◌, ◌≤◌, ⊥, ⊤, ℕ, ◌+◌, ◌==◌, ¬, true, List, [], ◌∷◌, ◌++◌, codes, length, Option, Some, None}
-use Rattle.std.specs.List.{slice_split}
-use Rattle.std.specs.Str.{all_ascii_digits}
-use Rattle.std.specs.Str.Parse.{digits_value}
+use Rattle.std.specs.Prelude.{◌≡◌, ◌≢◌, ◌⊎◌, ◌≤◌, ⊤, ℕ, ◌+◌, ◌-◌, ◌*◌, ◌==◌, ◌&&◌, nat_le, Bool, true, List, [], ◌∷◌, ◌++◌, codes, length, Option, Some, None}
+use Rattle.std.specs.List.{list_all, slice_split}
 use Rattle.kmip_scripted.specs.declared.script.Word.{Word}
 use Rattle.kmip_scripted.specs.declared.script.Word.TheVariants.{Pass, LoseRequest, LoseReply, Cut, Stale, Again, Save, Prolong, Restart}
 
@@ -11,12 +9,20 @@ use Rattle.kmip_scripted.specs.declared.script.Word.TheVariants.{Pass, LoseReque
 abbrev pub most_lines : ℕ
 most_lines = 10000
 
+-- a decimal digit, and the number that digits are behind others that are a number already
+abbrev pub is_digit : ℕ → Bool
+is_digit byte = nat_le 48 byte && nat_le byte 57
+
+abbrev pub value_behind : ℕ → List ℕ → ℕ
+value_behind number [] = number
+value_behind number (digit ∷ digits) = value_behind (10 * number + (digit - 48)) digits
+
 -- The digits are a decimal number of 1 to 6 digits, zeros in front allowed.
 pub record IsNumber (digits : List ℕ) (number : ℕ) : Type 0 where
   pub some : 1 ≤ length digits
   pub few : length digits ≤ 6
-  pub are_digits : all_ascii_digits digits ≡ true
-  pub value : number ≡ digits_value 10 digits
+  pub are_digits : list_all is_digit digits ≡ true
+  pub value : number ≡ value_behind 0 digits
 
 -- The line is this front, and then a number.
 pub record IsNumbered (front : List ℕ) (number : ℕ) (line : List ℕ) : Type 0 where

@@ -1,8 +1,8 @@
 //! A script from its text.
 ghost use Rattle.std.specs.Prelude.{◌≡◌, ◌<◌, ◌++◌, ◌∷◌, List, ℕ, length, Ok, Err, IfOk, IfErr, OnOk};
-ghost use Rattle.std.specs.Str.{all_ascii_digits};
+ghost use Rattle.std.specs.List.{list_all};
 ghost use Rattle.kmip_scripted.specs.ScriptReading.{FailsScript, GivesScript, number_in, numbered_word, plain_word, restart_in, script_read, word_in, words_of_line};
-ghost use Rattle.kmip_scripted.specs.ScriptTexts.{FailsAt, IsScript, lines_in};
+ghost use Rattle.kmip_scripted.specs.ScriptTexts.{FailsAt, IsScript, is_digit, lines_in};
 ghost use Rattle.kmip_scripted.specs.declared.fault.ScriptFault.TheVariants.{Line};
 ghost use Rattle.kmip_scripted.specs.declared.script.Word.{Word as WordLem};
 
@@ -155,7 +155,7 @@ fn number_in(word: &str) -> Option<usize>
 
 /// Whether each byte is a decimal digit.
 fn are_digits(bytes: &[u8]) -> bool
-    ensures { result ≡ all_ascii_digits bytes.now }
+    ensures { result ≡ list_all is_digit bytes.now }
 {
     bytes.iter().all(|byte| b'0' <= *byte && *byte <= b'9')
 }
