@@ -1,14 +1,14 @@
 -- Reading gives the words of a text exactly where it is a script of them, and else its first line at fault.
-use Rattle.std.proofs.Common.{◌≡◌, ◌≢◌, ◌<◌, ◌≤◌, ◌∙◌, ℕ, ◌+◌, ◌-◌, Bool, true, false, List, [], ◌∷◌, ◌++◌, length, Option, Some, None, Result, Ok, Err, IfOk, ap, arith, inl, inr, refl, subst, sym}
+use Rattle.std.proofs.Common.{◌≡◌, ◌<◌, ◌≤◌, ◌∙◌, ℕ, ◌+◌, ◌-◌, true, false, List, [], ◌∷◌, ◌++◌, length, Option, Some, None, Result, Ok, Err, IfOk, ap, arith, inl, inr, refl, subst, sym}
 use Rattle.std.specs.Prelude.{◌⊎◌, nat_lt}
 use Rattle.std.proofs.lemmas.Bool.{cases_Bool}
 use Rattle.std.proofs.lemmas.Bool.Decides.{nat_tests}
 use Rattle.kmip_scripted.specs.ScriptReading.{GivesScript, followed_by, script_read, with_front, word_in, word_or_fault, words_from, words_of_line}
-use Rattle.kmip_scripted.specs.ScriptTexts.{FailsAt, IsNoWord, IsScript, IsWord, Say, lines_in, most_lines}
+use Rattle.kmip_scripted.specs.ScriptTexts.{FailsAt, IsNoWord, IsScript, Say, lines_in, most_lines}
 use Rattle.kmip_scripted.specs.declared.fault.ScriptFault.{ScriptFault}
-use Rattle.kmip_scripted.specs.declared.fault.ScriptFault.TheVariants.{Line, NoMemory}
+use Rattle.kmip_scripted.specs.declared.fault.ScriptFault.TheVariants.{Line}
 use Rattle.kmip_scripted.specs.declared.script.Word.{Word}
-use Rattle.kmip_scripted.proofs.ScriptLemmas.{beyond, is_word, no_word, none_without, read_here, within, word_is}
+use Rattle.kmip_scripted.proofs.ScriptLemmas.{is_word, no_word, none_without, read_here, word_is}
 
 abbrev ok : List Word → Result (List Word) ScriptFault
 ok words = Ok words

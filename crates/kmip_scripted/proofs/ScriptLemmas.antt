@@ -1,6 +1,6 @@
 -- What a line says, and what a text does.
-use Rattle.std.proofs.Common.{◌≡◌, ◌≢◌, ◌<◌, ◌≤◌, ◌∙◌, ℕ, zero, suc, ◌+◌, ◌==◌, Bool, true, false, cond, List, [], ◌∷◌, ◌++◌, get_or, length, Option, Some, None, Result, Ok, Err, option_map, if◌then◌else◌, ap, arith, inl, inr, refl, rules, subst, sym, eq-eqb, ne_eqb, eqb-true, append-nil, append_assoc}
-use Rattle.std.specs.Prelude.{◌⊎◌, ⊤, ◌*◌, ◌-◌, ◌^◌, codes, nat_lt, nat_le, ◌&&◌}
+use Rattle.std.proofs.Common.{◌≡◌, ◌≢◌, ◌<◌, ◌≤◌, ◌∙◌, ℕ, zero, suc, ◌+◌, ◌==◌, true, false, List, [], ◌∷◌, ◌++◌, get_or, length, Option, Some, None, Result, Ok, Err, option_map, if◌then◌else◌, ap, arith, inl, inr, refl, rules, subst, sym, ne_eqb, eqb-true, append_assoc}
+use Rattle.std.specs.Prelude.{codes, nat_lt, nat_le, ◌&&◌}
 use Rattle.std.proofs.lemmas.Bool.{and_from, and_parts, cases_Bool, false_from_ne_true, le-leb, leb-true}
 use Rattle.std.proofs.lemmas.Slice.Eq.{bytes_eq-Decides}
 use Rattle.std.proofs.lemmas.List.Elements.{All-cons, All-head, All-nil, All-tail}
@@ -12,10 +12,10 @@ use Rattle.std.specs.Str.{all_ascii_digits}
 use Rattle.std.specs.Str.Parse.{ParsesUnsigned}
 use Rattle.std.proofs.lemmas.Str.Parse.{IsNumeralModel, digits_value_short, numerals_by_fold, parse_gives}
 use Rattle.kmip_chains.specs.Words.{is_text}
-use Rattle.kmip_scripted.specs.ScriptReading.{at_space, before_space, followed_by, number_in, numbered_word, plain_word, restart_in, script_read, with_front, word_by, word_in, word_or_fault, words_from, words_of_line}
-use Rattle.kmip_scripted.specs.ScriptTexts.{FailsAt, IsNoWord, IsNumber, IsNumbered, IsScript, IsWord, Say, is_digit, lines_in, most_lines, value_behind, without_empty_end}
+use Rattle.kmip_scripted.specs.ScriptReading.{at_space, before_space, followed_by, number_in, numbered_word, plain_word, restart_in, with_front, word_by, word_in, words_from, words_of_line}
+use Rattle.kmip_scripted.specs.ScriptTexts.{IsNumber, IsNumbered, IsWord, is_digit, lines_in, most_lines, value_behind, without_empty_end}
 use Rattle.kmip_scripted.specs.declared.fault.ScriptFault.{ScriptFault}
-use Rattle.kmip_scripted.specs.declared.fault.ScriptFault.TheVariants.{Line, NoMemory}
+use Rattle.kmip_scripted.specs.declared.fault.ScriptFault.TheVariants.{Line}
 use Rattle.kmip_scripted.specs.declared.script.Word.{Word}
 use Rattle.kmip_scripted.specs.declared.script.Word.TheVariants.{Pass, LoseRequest, LoseReply, Cut, Stale, Again, Save, Prolong, Restart}
 

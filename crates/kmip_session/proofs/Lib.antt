@@ -12,6 +12,7 @@ pub mod FurtherLemmas
 pub mod CampaignLemmas
 pub mod OrderLemmas
 pub mod RememberLemmas
+pub mod TurnedRunLemmas
 pub mod CalmLemmas
 pub mod RunLemmas
 pub mod OutlastLemmas

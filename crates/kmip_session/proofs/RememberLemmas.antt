@@ -126,7 +126,7 @@ no_both (Err e) failed is = absurd cc
 -- ---- several runs
 
 -- what is saved joins what was carried over
-saved_behind : (run : Run) (knowns : List Knowledge) (carried saved : List (List Known)) → carried ++ saved_after run knowns saved ≡ saved_after run knowns (carried ++ saved)
+pub saved_behind : (run : Run) (knowns : List Knowledge) (carried saved : List (List Known)) → carried ++ saved_after run knowns saved ≡ saved_after run knowns (carried ++ saved)
 saved_behind run knowns carried saved = elim (cases_Bool run.save) [
   | inl save ↦ rw save (sym (append_assoc carried saved (map known_of knowns ∷ [])))
   | inr none ↦ rw none refl

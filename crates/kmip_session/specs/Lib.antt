@@ -10,3 +10,4 @@ pub mod CampaignParts
 pub mod Campaigns
 pub mod CampaignsParts
 pub mod Remembering
+pub mod TurnedRuns

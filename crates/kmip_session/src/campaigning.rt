@@ -30,6 +30,7 @@ ghost use Rattle.kmip_session.specs.Driving.{KeepsFurther, Stands, WentOn};
 ghost use Rattle.kmip_session.specs.Ending.{AreEnded, EndsJoin};
 ghost use Rattle.kmip_session.specs.Losing.{AllOutlast, HasOutlasted};
 ghost use Rattle.kmip_session.specs.Remembering.{AreKnown, AreKnownFrom, resumed, saved_numbered, start_knowns};
+ghost use Rattle.kmip_session.specs.TurnedRuns.{AreTurnedFrom, RanTurned, begin_client, resumed_client};
 
 use crate::driving::drive;
 use crate::reporting::report_of;
@@ -118,6 +119,9 @@ pub fn campaign<L: Link>(alloc: Global, plan: &Plan, link: &mut L, runs: &[Run])
     ensures known { AreKnown plan.now runs.now result.runs.items result.saved.items
         (L.honest link.old (is_planned plan.now)) (result.fault ≡ None)
         (L.past link.old) (L.past link.new) }
+    ensures turned { AreTurnedFrom plan.now [] runs.now result.runs.items
+        (L.honest link.old (is_planned plan.now)) (result.fault ≡ None)
+        (L.past link.old) (L.past link.new) }
     ensures settles { CalmLink L.past L.calm plan.now link.old → result.fault ≡ None
         → AllZip (Settles plan.now) runs.now result.runs.items
         × CalmLink L.past L.calm plan.now link.new }
@@ -172,6 +176,9 @@ pub(crate) fn run_all<L: Link>(
         (result.fault ≡ None) (length (L.past link.old).sent) (length (L.past link.new).sent)
         (L.ended link.old) (L.ended link.new) }
     ensures followed { result.fault ≡ None → L.follows link.old link.new }
+    ensures turned { AreTurnedFrom plan.now carried.now runs.now result.runs.items
+        (L.honest link.old (is_planned plan.now)) (result.fault ≡ None)
+        (L.past link.old) (L.past link.new) }
 {
     let mut end = CampaignEnd {
         runs: Vec::new(alloc),
@@ -212,6 +219,9 @@ fn run_each<L: Link>(
         × (length end.new.saved.items ≡ length (filter saves runs.now))) }
     ensures known { AreKnownFrom plan.now carried.now runs.now end.new.runs.items
         end.new.saved.items (L.honest link.old (is_planned plan.now)) (result ≡ Ok tt)
+        (L.past link.old) (L.past link.new) }
+    ensures turned { AreTurnedFrom plan.now carried.now runs.now end.new.runs.items
+        (L.honest link.old (is_planned plan.now)) (result ≡ Ok tt)
         (L.past link.old) (L.past link.new) }
     ensures settles { CalmLink L.past L.calm plan.now link.old
         → All (TrueProgress (L.past link.old).objects plan.now) carried.now
@@ -267,9 +277,16 @@ fn one_run<'p, L: Link>(
         → KeepsFurther L.past L.honest L.calm plan.now (result ≡ Ok tt) link.old link.new }
     ensures ran { OnOk result (HasRun L.past L.honest plan.now carried.now run client.old
         client.new link.old link.new end.old end.new) }
+    ensures turned { OnOk result (RanTurned plan.now
+        (begin_client plan.now run client.old (carried.now ++ end.old.saved.items)) client.new
+        (L.honest link.old (is_planned plan.now)) (L.past link.old) (L.past link.new)
+        end.old.runs.items end.new.runs.items) }
     ensures broken { OnErr result (IsBroken L.past L.honest plan.now run link.old link.new
-        end.old end.new ⊎ HasRun L.past L.honest plan.now carried.now run client.old client.new
-        link.old link.new end.old end.new) }
+        end.old end.new ⊎ (HasRun L.past L.honest plan.now carried.now run client.old client.new
+        link.old link.new end.old end.new × RanTurned plan.now
+        (begin_client plan.now run client.old (carried.now ++ end.old.saved.items)) client.new
+        (L.honest link.old (is_planned plan.now)) (L.past link.old) (L.past link.new)
+        end.old.runs.items end.new.runs.items)) }
     ensures settles { Standing L.past L.honest plan.now client.old link.old end.old.runs.items
         end.old.saved.items
         → All (TrueProgress (L.past link.old).objects plan.now) carried.now
@@ -318,6 +335,8 @@ fn begin<'p>(
         → Held objects client.new.keys client.new.knowns }
     ensures begun { OnOk result (client.new.knowns
         ≡ start_knowns plan.now run.start client.old.knowns (carried.now ++ saved.now)) }
+    ensures client { OnOk result (client.new
+        ≡ begin_client plan.now run client.old (carried.now ++ saved.now)) }
     ensures batch { OnOk result (client.new.batch ≡ run.batch) }
 {
     let number = match run.start {
@@ -374,6 +393,8 @@ fn client_from<'p>(
         → IfOk result (λ client. Held objects client.keys client.knowns) }
     ensures known { IfOk result (λ client. client.knowns
         ≡ resumed plan.now (saved_numbered number (carried.now ++ saved.now))) }
+    ensures client { IfOk result (λ client. client
+        ≡ resumed_client plan.now (saved_numbered number (carried.now ++ saved.now))) }
 {
     match saved_at(carried, saved, number) {
         Some(progress) => Client::resume(alloc, plan, progress),

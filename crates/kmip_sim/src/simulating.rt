@@ -1,13 +1,16 @@
 //! The command `sim`, over a writer and in memory.
-ghost use Rattle.std.specs.Prelude.{◌≡◌, ◌++◌, [], false, true, None, Some, Ok, IfOk, IfErr, IsTrue, OnErr, OnOk, option_map, string_bytes};
+ghost use Rattle.std.specs.Prelude.{◌≡◌, ◌++◌, ℕ, List, [], false, true, None, Some, Ok, IfOk, IfErr, IsTrue, OnErr, OnOk, option_map, string_bytes};
 ghost use Rattle.kmip_batches.specs.Members.{may_have};
 ghost use Rattle.kmip_plan.specs.Prolonging.{Prolongs};
 ghost use Rattle.kmip_plan.specs.Reading.{plan_read};
 ghost use Rattle.kmip_check.specs.Checking.{is_memory};
 ghost use Rattle.kmip_commands.specs.Printing.{IfFailed, IfWhole, UnlessOutput, fault_line};
+ghost use Rattle.kmip_scripted.specs.ScriptTexts.{IsScript};
 ghost use Rattle.kmip_scripted.specs.Words.{prolongings};
 ghost use Rattle.kmip_sim.specs.Simulating.{
   BreaksOffSim,
+  GivesWords,
+  IsRefusedFor,
   TellsPlanFault,
   TellsProlongsNot,
   TellsScriptFault,
@@ -45,11 +48,11 @@ pub fn run_sim<W: Write>(
 ) -> ExitStatus
     requires batch { IsTrue (may_have batch) }
     ensures text { IfWhole result (λ r. WritesSim detail batch (plan_read plan.now)
-        (option_map (λ text. plan_read text.now) further.entry) r
+        (option_map (λ text. plan_read text.now) further.entry) script.now r
         (W.contents writer.old) (W.contents writer.new)) }
     ensures broken { IfFailed result (λ fault. UnlessOutput fault (BreaksOffSim detail batch
         (plan_read plan.now) (option_map (λ text. plan_read text.now) further.entry)
-        (fault_line fault) (W.contents writer.old) (W.contents writer.new))) }
+        script.now (fault_line fault) (W.contents writer.old) (W.contents writer.new))) }
 {
     let ended = sim(alloc, detail, batch, plan, further, script, writer);
     finished(ended, writer)
@@ -78,10 +81,11 @@ pub fn sim<W: Write>(
 ) -> Result<bool, CommandFault>
     requires batch { IsTrue (may_have batch) }
     ensures text { IfOk result (λ r. WritesSim detail batch (plan_read plan.now)
-        (option_map (λ text. plan_read text.now) further.entry) r
+        (option_map (λ text. plan_read text.now) further.entry) script.now r
         (W.contents writer.old) (W.contents writer.new)) }
     ensures broken { IfErr result (λ fault. UnlessOutput fault (BreaksOffSim detail batch
-        (plan_read plan.now) (option_map (λ text. plan_read text.now) further.entry) []
+        (plan_read plan.now) (option_map (λ text. plan_read text.now) further.entry)
+        script.now []
         (W.contents writer.old) (W.contents writer.new))) }
 {
     let told = told_of(alloc, detail, batch, plan, further, script)?;
@@ -106,7 +110,7 @@ pub fn sim_bytes(
 ) -> Result<bool, NoMemory>
     requires batch { IsTrue (may_have batch) }
     ensures text { IfOk result (λ r. WritesSim detail batch (plan_read plan.now)
-        (option_map (λ text. plan_read text.now) further.entry) r
+        (option_map (λ text. plan_read text.now) further.entry) script.now r
         (Some output.old.items) (Some output.new.items)) }
     ensures broken { OnErr result (BreaksOffSim detail batch (plan_read plan.now)
         (option_map (λ text. plan_read text.now) further.entry) []
@@ -140,7 +144,8 @@ fn told_of(
 ) -> Result<Told, NoMemory>
     requires batch { IsTrue (may_have batch) }
     ensures { IfOk result (λ told. TellsSim detail batch (plan_read plan.now)
-        (option_map (λ text. plan_read text.now) further.entry) told.ended told.text.items) }
+        (option_map (λ text. plan_read text.now) further.entry) script.now
+        told.ended told.text.items) }
 {
     match read_plan(alloc, plan) {
         Ok(plan) => told_of_plan(alloc, detail, batch, plan, further, script),
@@ -159,7 +164,8 @@ fn told_of_plan(
 ) -> Result<Told, NoMemory>
     requires batch { IsTrue (may_have batch) }
     ensures { IfOk result (λ told. TellsSim detail batch (Ok plan)
-        (option_map (λ text. plan_read text.now) further.entry) told.ended told.text.items) }
+        (option_map (λ text. plan_read text.now) further.entry) script.now
+        told.ended told.text.items) }
 {
     let Some(further) = further else {
         return told_of_script(alloc, detail, batch, &plan, script);
@@ -181,7 +187,8 @@ fn told_of_plans(
 ) -> Result<Told, NoMemory>
     requires batch { IsTrue (may_have batch) }
     ensures { IfOk result (λ told.
-        TellsSim detail batch (Ok plan) (Some (Ok further)) told.ended told.text.items) }
+        TellsSim detail batch (Ok plan) (Some (Ok further)) script.now
+        told.ended told.text.items) }
 {
     if !prolongs(&further, &plan) {
         return told_of_prolongs_not(alloc);
@@ -203,7 +210,7 @@ fn told_of_script(
 ) -> Result<Told, NoMemory>
     requires batch { IsTrue (may_have batch) }
     ensures { IfOk result (λ told.
-        TellsSim detail batch (Ok plan.now) None told.ended told.text.items) }
+        TellsSim detail batch (Ok plan.now) None script.now told.ended told.text.items) }
 {
     match script_in(alloc, script, 0) {
         Ok(script) => told_of_simulation(alloc, detail, batch, plan, script),
@@ -218,7 +225,7 @@ fn told_of_script(
 ///
 /// Those of `read_script`; and `Line(0)`, where it stands more often or less.
 fn script_in(alloc: Global, text: &str, count: usize) -> Result<Script, ScriptFault>
-    ensures { IfOk result (λ script. prolongings script ≡ count) }
+    ensures { GivesWords text.now count result }
 {
     let script = read_script(alloc, text)?;
     if script.prolongings() != count {
@@ -258,7 +265,8 @@ fn told_of_prolongs_not(alloc: Global) -> Result<Told, NoMemory>
 
 /// What is told of a script that is refused for this line.
 fn told_of_script_fault(alloc: Global, line: usize) -> Result<Told, NoMemory>
-    ensures { IfOk result (λ told. TellsScriptFault told.ended told.text.items) }
+    ensures { (script : List ℕ) (prolonged : ℕ) → IsRefusedFor script prolonged line
+        → IfOk result (λ told. TellsScriptFault script prolonged told.ended told.text.items) }
 {
     let line = script_refusal_text(alloc, line)?;
     Ok(Told {
@@ -286,8 +294,8 @@ fn told_of_simulation(
 ) -> Result<Told, NoMemory>
     requires batch { IsTrue (may_have batch) }
     requires none { prolongings script ≡ 0 }
-    ensures { IfOk result (λ told.
-        TellsSimulation detail batch plan.now told.ended told.text.items) }
+    ensures { (text : List ℕ) → IsScript text script → IfOk result (λ told.
+        TellsSimulation detail batch plan.now text told.ended told.text.items) }
 {
     let simulation = simulate(alloc, plan, script, batch)?;
     let told = told_of_end(alloc, detail, &simulation)?;
@@ -306,8 +314,8 @@ fn told_of_simulations(
     requires batch { IsTrue (may_have batch) }
     requires prolongs { Prolongs further plan }
     requires one { prolongings script ≡ 1 }
-    ensures { IfOk result (λ told.
-        TellsSimulations detail batch plan further told.ended told.text.items) }
+    ensures { (text : List ℕ) → IsScript text script → IfOk result (λ told.
+        TellsSimulations detail batch plan further text told.ended told.text.items) }
 {
     let plans = [plan, further];
     let simulation = simulate_plans(alloc, plans.as_slice(), script, batch)?;

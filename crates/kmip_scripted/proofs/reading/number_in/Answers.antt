@@ -1,5 +1,5 @@
 -- Digits, and not too many, are a number.
-use Rattle.std.proofs.Common.{◌≡◌, ◌≤◌, ◌∙◌, length, true, rules, arith}
+use Rattle.std.proofs.Common.{◌≡◌, ◌≤◌, ◌∙◌, length, true, rules}
 use Rattle.std.specs.List.{list_all}
 use Rattle.kmip_scripted.specs.ScriptTexts.{is_digit}
 use Rattle.kmip_scripted.proofs.ScriptLemmas.{number_given}

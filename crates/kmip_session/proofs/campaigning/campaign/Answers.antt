@@ -1,10 +1,12 @@
 -- Nothing was carried over; and all that is reported was reached, so what is sound is safe.
-use Rattle.std.proofs.Common.{◌≡◌, ◌∙◌, [], subst, sym}
+use Rattle.std.proofs.Common.{◌≡◌, ◌∙◌, [], None, subst, sym}
 use Rattle.std.specs.List.{All}
 use Rattle.std.proofs.lemmas.List.Elements.{All-nil}
 use Rattle.kmip_client.specs.Held.{TrueProgress}
 use Rattle.kmip_session.specs.Campaign.{reported}
 use Rattle.kmip_session.specs.CampaignParts.{HasRunAll}
+use Rattle.kmip_session.specs.TurnedRuns.{AreTurnedFrom}
+use Rattle.kmip_schedule.specs.Past.{is_planned}
 use Rattle.kmip_session.proofs.CampaignLemmas.{reported_reached}
 use Rattle.kmip_session.proofs.EndingLemmas.{all_joined}
 use Rattle.kmip_session.proofs.campaigning.campaign.Goals as goal
@@ -36,6 +38,10 @@ returns g c =
       order = all.order;
       complete = all.complete;
       known = all.known;
+      turned =
+          subst
+          (λ carried. AreTurnedFrom keys carried c.args.runs.now ends (g.L.Link.honest c.args.link.now (is_planned keys)) (c.run_all.result.fault ≡ None) (past c.args.link.now)
+          (past c.run_all.new.link)) none c.run_all.ensures.turned;
       settles = λ calmly is. all.settles calmly nothing is;
       outlasts = λ good is. c.run_all.ensures.outlasts good (subst (λ carried. All (TrueProgress (past c.args.link.now).objects keys) carried) (sym none) nothing) is;
       ended = λ honest. all_joined ends _ _ _ _ _ (c.run_all.ensures.ended honest);

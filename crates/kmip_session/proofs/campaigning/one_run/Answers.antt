@@ -4,6 +4,7 @@ use Rattle.std.specs.List.{All}
 use Rattle.kmip_client.specs.Held.{TrueProgress}
 use Rattle.kmip_schedule.specs.Past.{is_planned}
 use Rattle.kmip_session.specs.Remembering.{start_knowns}
+use Rattle.kmip_session.specs.TurnedRuns.{begin_client}
 use Rattle.kmip_session.proofs.CalmLemmas.{settled_run}
 use Rattle.kmip_session.proofs.CampaignLemmas.{closed, stood}
 use Rattle.kmip_session.proofs.DriveLemmas.{further_if}
@@ -13,6 +14,7 @@ use Rattle.kmip_session.proofs.KnownLemmas.{always_err, grown_itself, on_ok}
 use Rattle.kmip_session.proofs.OutlastLemmas.{outlasted_run}
 use Rattle.kmip_session.proofs.RememberLemmas.{always_ok, broken_off, no_ok, ran_closed}
 use Rattle.kmip_session.proofs.RunLemmas.{driven_further, if_ok}
+use Rattle.kmip_session.proofs.TurnedRunLemmas.{ran_turned}
 use Rattle.kmip_session.proofs.campaigning.one_run.Goals as goal
 
 pub returns-in_err-finish-clause-stands : goal.returns-in_err-finish-clause-stands
@@ -61,16 +63,34 @@ returns-clause-ran g c =
     (λ honest. let known = c.drive-driven.ensures.known honest in (known.0, known.1 c.in_ok-finish.ensures.ended.1))
     c.in_ok-finish.ensures.ended.0 c.close_run.ensures.honest)
 
+pub returns-clause-turned : goal.returns-clause-turned
+returns-clause-turned g c =
+    always_ok c.close_run.result
+    (ran_turned g.L.Link.past g.L.Link.honest c.args.plan.now c.args.run _ c.begin.new.client c.drive-driven.new.client c.args.link.now c.drive-driven.new.link
+    c.close_run.new.link c.drive-driven.result c.args.end.now c.finish.new.end c.begin.ensures.keys
+    (subst (λ ps. c.begin.new.client ≡ begin_client c.args.plan.now c.args.run c.args.client.now (c.args.carried.now ++ ps)) c.as_slice.ensures.value
+    c.in_ok-begin.ensures.client)
+    c.drive-driven.ensures.kept c.drive-driven.ensures.honest c.close_run.ensures.honest c.in_ok-finish.ensures.ended.1 c.drive-driven.ensures.turned
+    c.in_ok-finish.ensures.ended.0)
+
 pub returns-clause-broken : goal.returns-clause-broken
 returns-clause-broken g c =
     always_err c.close_run.result
-    (inr (ran_closed g.L.Link.past g.L.Link.honest c.args.plan.now c.args.carried.now c.args.run c.args.client.now c.begin.new.client c.drive-driven.new.client c.args.link.now
-    c.drive-driven.new.link c.close_run.new.link c.drive-driven.result c.args.end.now c.finish.new.end c.begin.ensures.keys c.in_ok-begin.ensures.batch
-    (subst (λ ps. c.begin.new.client.knowns ≡ start_knowns c.args.plan.now c.args.run.start c.args.client.now.knowns (c.args.carried.now ++ ps)) c.as_slice.ensures.value
-    c.in_ok-begin.ensures.begun)
-    c.drive-driven.ensures.kept
-    (λ honest. let known = c.drive-driven.ensures.known honest in (known.0, known.1 c.in_ok-finish.ensures.ended.1))
-    c.in_ok-finish.ensures.ended.0 c.close_run.ensures.honest))
+    (inr (
+      ran_closed g.L.Link.past g.L.Link.honest c.args.plan.now c.args.carried.now c.args.run c.args.client.now c.begin.new.client c.drive-driven.new.client c.args.link.now
+          c.drive-driven.new.link c.close_run.new.link c.drive-driven.result c.args.end.now c.finish.new.end c.begin.ensures.keys c.in_ok-begin.ensures.batch
+          (subst (λ ps. c.begin.new.client.knowns ≡ start_knowns c.args.plan.now c.args.run.start c.args.client.now.knowns (c.args.carried.now ++ ps)) c.as_slice.ensures.value
+          c.in_ok-begin.ensures.begun)
+          c.drive-driven.ensures.kept
+          (λ honest. let known = c.drive-driven.ensures.known honest in (known.0, known.1 c.in_ok-finish.ensures.ended.1))
+          c.in_ok-finish.ensures.ended.0 c.close_run.ensures.honest,
+      ran_turned g.L.Link.past g.L.Link.honest c.args.plan.now c.args.run _ c.begin.new.client c.drive-driven.new.client c.args.link.now c.drive-driven.new.link
+          c.close_run.new.link c.drive-driven.result c.args.end.now c.finish.new.end c.begin.ensures.keys
+          (subst (λ ps. c.begin.new.client ≡ begin_client c.args.plan.now c.args.run c.args.client.now (c.args.carried.now ++ ps)) c.as_slice.ensures.value
+          c.in_ok-begin.ensures.client)
+          c.drive-driven.ensures.kept c.drive-driven.ensures.honest c.close_run.ensures.honest c.in_ok-finish.ensures.ended.1 c.drive-driven.ensures.turned
+          c.in_ok-finish.ensures.ended.0,
+    ))
 
 pub returns-clause-settles : goal.returns-clause-settles
 returns-clause-settles g c = λ standing carried calmly.

@@ -3,6 +3,7 @@ use Rattle.std.proofs.Common.{[]}
 use Rattle.kmip_session.proofs.DriveLemmas.{further_if}
 use Rattle.kmip_session.proofs.EndingLemmas.{join_if}
 use Rattle.kmip_session.proofs.RunLemmas.{if_ok, known_if, ok_of}
+use Rattle.kmip_session.proofs.TurnedRunLemmas.{turned_if}
 use Rattle.kmip_session.proofs.campaigning.run_all.Goals as goal
 
 pub returns : goal.returns
@@ -28,5 +29,6 @@ returns g c =
       };
       outlasts = λ good carried is. if_ok c.run_each.result (whole is) (c.run_each.ensures.outlasts good carried);
       ended = λ honest. join_if [] end.runs.items _ _ _ _ _ _ whole (c.run_each.ensures.ended honest);
+      turned = turned_if keys c.args.carried.now c.args.runs.now end.runs.items _ _ _ (past c.args.link.now) (past c.run_each.new.link) whole c.run_each.ensures.turned;
       followed = λ is. if_ok c.run_each.result (whole is) c.run_each.ensures.followed;
     }

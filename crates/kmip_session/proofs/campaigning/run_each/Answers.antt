@@ -17,6 +17,7 @@ use Rattle.kmip_session.proofs.OutlastLemmas.{outlast_more, outlast_none}
 use Rattle.kmip_session.proofs.OrderLemmas.{ends_all, ends_more, ends_same}
 use Rattle.kmip_session.proofs.RememberLemmas.{broken_known, no_ok, recalled_known, recalled_more, recalled_none}
 use Rattle.kmip_session.proofs.RunLemmas.{carried_on, ran_nothing, ran_off, running_more, running_none}
+use Rattle.kmip_session.proofs.TurnedRunLemmas.{all_turned, more_turned, none_turned, nothing_turned}
 use Rattle.kmip_session.proofs.campaigning.run_each.Goals as goal
 
 pub returns-in_err-client-clause-known : goal.returns-in_err-client-clause-known
@@ -36,6 +37,8 @@ loop-place-init g c = record {
   ended = λ honest. join_none [] c.args.end.now.runs.items ⊤ _ _ _ _ c.requires.no_end refl (λ is. refl);
   outlasted = λ good holds. outlast_none c.args.plan.now c.args.runs.now c.args.end.now.runs.items _ _ c.requires.no_end refl;
   followed = c.calm_laws.ensures.itself c.args.link.now;
+  turned = none_turned c.args.plan.now c.args.carried.now c.args.runs.now c.in_ok-client.client _ (g.L.Link.past c.args.link.now) c.args.end.now.runs.items
+      c.args.end.now.saved.items c.in_ok-client.ensures.fresh c.requires.no_end c.requires.none_saved;
 }
 
 pub returns-in_err-one_run-clause-order : goal.returns-in_err-one_run-clause-order
@@ -50,7 +53,7 @@ returns-in_err-one_run-clause-order g c =
       | inr ran ↦
           ends_all keys runs (suc c.loop-place.place) c.one_run.new.end.runs.items
           (ends_more keys runs c.loop-place.place _ c.loop-place.end.runs.items c.one_run.new.end.runs.items
-          (slice_get-get_or runs c.loop-place.place _ below) before.each c.one_run.new.client.knowns ran.driven ran.ended.noted)
+          (slice_get-get_or runs c.loop-place.place _ below) before.each c.one_run.new.client.knowns ran.0.driven ran.0.ended.noted)
     ]
 
 pub returns-in_err-one_run-clause-known : goal.returns-in_err-one_run-clause-known
@@ -68,7 +71,7 @@ returns-in_err-one_run-clause-known g c =
       | inr ran ↦
           recalled_known past honest keys c.args.carried.now runs c.one_run.new.client c.args.link.now c.one_run.new.link c.one_run.new.end.runs.items c.one_run.new.end.saved.items _
           (recalled_more past honest keys c.args.carried.now runs c.loop-place.client c.one_run.new.client c.args.link.now c.loop-place.link c.one_run.new.link _ c.loop-place.end
-          c.one_run.new.end c.loop-place.place (slice_get-get_or runs c.loop-place.place _ below) before.as_many_ends before.recalled ran)
+          c.one_run.new.end c.loop-place.place (slice_get-get_or runs c.loop-place.place _ below) before.as_many_ends before.recalled ran.0)
     ]
 
 pub loop-place-preserved : goal.loop-place-preserved
@@ -99,6 +102,12 @@ loop-place-preserved g c =
           (outlast_more c.args.plan.now c.args.runs.now c.loop-place.place _ c.loop-place.end.runs.items c.one_run.new.end.runs.items _ _ _
           (slice_get-get_or c.args.runs.now c.loop-place.place _ below) (c.loop-place.invariant.outlasted good holds) (c.in_ok-one_run.ensures.outlasts standing now));
       followed = c.calm_laws.ensures.twice c.args.link.now c.loop-place.link c.one_run.new.link c.loop-place.invariant.followed c.in_ok-one_run.ensures.followed;
+      turned =
+          more_turned c.args.plan.now c.args.carried.now c.args.runs.now c.loop-place.client c.one_run.new.client _ _ (g.L.Link.past c.args.link.now)
+          (g.L.Link.past c.loop-place.link) (g.L.Link.past c.one_run.new.link) _ c.loop-place.end.runs.items c.one_run.new.end.runs.items c.loop-place.end.saved.items
+          c.one_run.new.end.saved.items c.loop-place.place (slice_get-get_or c.args.runs.now c.loop-place.place _ below) c.loop-place.invariant.running.as_many_ends
+          (c.loop-place.invariant.running.honest_still (is_planned c.args.plan.now)) c.loop-place.invariant.turned c.in_ok-one_run.ensures.turned
+          c.in_ok-one_run.ensures.ran.ended.saved_are;
     }
 
 pub returns-clause-order : goal.returns-clause-order
@@ -205,3 +214,41 @@ returns-in_err-one_run-clause-followed g c = on_fault _ c.from_residual-in_err-o
 
 pub returns-clause-followed : goal.returns-clause-followed
 returns-clause-followed g c = c.loop-place.invariant.followed
+
+pub returns-in_err-client-clause-turned : goal.returns-in_err-client-clause-turned
+returns-in_err-client-clause-turned g c =
+    let past = g.L.Link.past in
+    let keys = c.args.plan.now in
+    let carried = c.args.carried.now in
+    nothing_turned keys carried c.args.runs.now _ _ (past c.args.link.now) c.args.end.now.runs.items c.requires.no_end
+
+pub returns-in_err-one_run-clause-turned : goal.returns-in_err-one_run-clause-turned
+returns-in_err-one_run-clause-turned g c =
+    let past = g.L.Link.past in
+    let keys = c.args.plan.now in
+    let carried = c.args.carried.now in
+    let runs = c.args.runs.now in
+    let first = past c.args.link.now in
+    let before = c.loop-place.end in
+    let after = c.one_run.new.end in
+    let none : c.from_residual-in_err-one_run.result ≡ Ok tt → ⊥ = λ is. no_ok c.from_residual-in_err-one_run.result tt c.from_residual-in_err-one_run.ensures.0 is in
+    let below : c.loop-place.place < length runs = search rules in
+    elim c.in_err-one_run.ensures.broken [
+      | inl broken ↦
+          all_turned keys carried runs c.loop-place.client _ _ first (past c.loop-place.link) (past c.one_run.new.link) before.runs.items after.runs.items before.saved.items
+          broken.same.same_runs (λ is. absurd (none is)) c.loop-place.invariant.turned
+      | inr ran ↦
+          all_turned keys carried runs c.one_run.new.client _ _ first (past c.one_run.new.link) (past c.one_run.new.link) after.runs.items after.runs.items after.saved.items refl
+          (λ is. refl)
+          (more_turned keys carried runs c.loop-place.client c.one_run.new.client _ _ first (past c.loop-place.link) (past c.one_run.new.link) _ before.runs.items after.runs.items
+          before.saved.items after.saved.items c.loop-place.place (slice_get-get_or runs c.loop-place.place _ below) c.loop-place.invariant.running.as_many_ends
+          (c.loop-place.invariant.running.honest_still (is_planned keys)) c.loop-place.invariant.turned ran.1
+          ran.0.ended.saved_are)
+    ]
+
+pub returns-clause-turned : goal.returns-clause-turned
+returns-clause-turned g c =
+    let past = g.L.Link.past in
+    let ends = c.loop-place.end.runs.items in
+    all_turned c.args.plan.now c.args.carried.now c.args.runs.now c.loop-place.client _ _ (past c.args.link.now) (past c.loop-place.link) (past c.loop-place.link) ends ends
+    c.loop-place.end.saved.items refl (λ is. refl) c.loop-place.invariant.turned

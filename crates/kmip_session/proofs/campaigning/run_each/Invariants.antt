@@ -8,6 +8,7 @@ use Rattle.kmip_session.specs.Campaign.{GoodLink}
 use Rattle.kmip_session.specs.Ending.{EndsJoin}
 use Rattle.kmip_session.specs.Losing.{AllOutlast}
 use Rattle.kmip_session.proofs.RunLemmas.{Running}
+use Rattle.kmip_session.proofs.TurnedRunLemmas.{TurnedSoFar}
 use Rattle.kmip_session.proofs.campaigning.run_each.Given as goal
 
 abbrev pub invariant-loop-place : goal.invariant-loop-place
@@ -18,4 +19,6 @@ invariant-loop-place g l = record {
   outlasted : GoodLink g.L.Link.past g.L.Link.honest l.fn.plan l.fn.link → All (TrueProgress (g.L.Link.past l.fn.link).objects l.fn.plan) l.fn.carried
       → AllOutlast l.fn.plan (take l.place l.runs) l.end.runs.items (g.L.Link.disturbances l.fn.link) (g.L.Link.disturbances l.link);
   followed : g.L.Link.follows l.fn.link l.link;
+  turned : TurnedSoFar l.fn.plan l.fn.carried l.runs l.client (g.L.Link.honest l.fn.link (is_planned l.fn.plan)) (g.L.Link.past l.fn.link) (g.L.Link.past l.link)
+      l.end.runs.items l.end.saved.items;
 }

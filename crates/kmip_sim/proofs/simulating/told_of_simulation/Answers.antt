@@ -2,10 +2,11 @@
 use Rattle.kmip_sim.proofs.simulating.told_of_simulation.Goals as goal
 
 pub returns : goal.returns
-returns c =
+returns c = λ text is.
     let simulation = c.in_ok-simulation.simulation in
     record {
       words = c.args.script;
+      is_script = is;
       as_often = c.requires.none;
       end = simulation.end;
       link = simulation.link;

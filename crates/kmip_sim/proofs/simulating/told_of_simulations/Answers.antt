@@ -4,11 +4,12 @@ use Rattle.kmip_simulation.specs.Simulating.{AreSimulated}
 use Rattle.kmip_sim.proofs.simulating.told_of_simulations.Goals as goal
 
 pub returns : goal.returns
-returns c =
+returns c = λ text is.
     let simulation = c.in_ok-simulation.simulation in
     let both : c.as_slice.result.now ≡ c.args.plan ∷ c.args.further ∷ [] = search rules in
     record {
       words = c.args.script;
+      is_script = is;
       as_often = c.requires.one;
       end = simulation.end;
       link = simulation.link;
