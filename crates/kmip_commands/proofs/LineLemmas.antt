@@ -1,14 +1,34 @@
 -- Lines of bytes that a reader gave in parts.
-use Rattle.std.proofs.Common.{◌≡◌, ◌≢◌, ℕ, zero, suc, ◌+◌, ◌-◌, ◌<◌, Bool, true, false, not, eqb, ltb, cond, List, [], ◌∷◌, ◌++◌, Option, Some, None, IfSome, length, take, refl, sym, ap, subst, ◌∙◌, arith, append_assoc, append-nil, eq-eqb, ne_eqb, eqb-true, true≢false, length-take, length-take-le, take_all, drop, length-drop}
+use Rattle.std.proofs.Common.{◌≡◌, ◌≢◌, ℕ, zero, suc, ◌+◌, ◌-◌, ◌<◌, Bool, true, false, not, eqb, ltb, cond, List, [], ◌∷◌, ◌++◌, Option, Some, None, IfSome, length, take, refl, sym, ap, subst, ◌∙◌, arith, append_assoc, append-nil, eq-eqb, ne_eqb, eqb-true, true≢false, le_refl, length-take, length-take-le, take_all, drop, length-drop}
 use Rattle.std.specs.List.{position, position_or_len}
 use Rattle.std.proofs.lemmas.List.{take_more, get_or-take, take-append-drop}
 use Rattle.std.proofs.lemmas.List.Elements.{All-nil, All-append, All-head, All-tail}
 use Rattle.std.proofs.lemmas.List.Quantifiers.{position-Some}
-use Rattle.std.proofs.lemmas.List.Sums.{prefix_len_passes}
+use Rattle.std.proofs.lemmas.List.Sums.{prefix_len_passes, position_or_len_is}
 use Rattle.std.proofs.lemmas.Bool.Decides.{nat_tests}
 use Rattle.std.specs.Io.KnownBytes.{Consumes, IsAtEnd}
 use Rattle.std.proofs.KnownBytes.{Consumes-nil, Consumes-trans}
+use Rattle.memchr.specs.Find.{IsFirstByte, is_byte}
 use Rattle.kmip_commands.specs.Lines.{most_kept, lines_of, onto_first, IsWithinLine, kept_with, TakesPart, TakesFirst}
+
+-- what is not true is false
+is_false : (b : Bool) → (b ≡ true → ⊥) → b ≡ false
+is_false true never = absurd (never refl)
+is_false false never = refl
+
+-- the first line feed that a search finds is the first by place
+pub feed_found : (bytes : List ℕ) (found : Option ℕ) → IsFirstByte (is_byte 10) bytes found → found ≡ position (λ b. eqb b 10) bytes
+feed_found bytes None nowhere =
+    let all : position_or_len (λ b. eqb b 10) bytes ≡ length bytes =
+    position_or_len_is (λ b. eqb b 10) bytes (length bytes) 0 (le_refl _) (λ k lt. is_false _ (nowhere k (omega arith) lt)) (λ lt. absurd (omega arith)) in
+    let beyond : ltb (position_or_len (λ b. eqb b 10) bytes) (length bytes) ≡ false = grind (arith, nat_tests) in
+    sym (ap (λ t. cond t (Some (position_or_len (λ b. eqb b 10) bytes)) None) beyond)
+feed_found bytes (Some place) first =
+    let before = first.0 in
+    let at : position_or_len (λ b. eqb b 10) bytes ≡ place =
+    position_or_len_is (λ b. eqb b 10) bytes place 0 (omega (arith, before.high)) (λ k lt. is_false _ (before.before k (omega arith) lt)) (λ lt. first.1) in
+    let within : ltb (position_or_len (λ b. eqb b 10) bytes) (length bytes) ≡ true = grind (arith, nat_tests, before.high) in
+    sym (ap (λ t. cond t (Some (position_or_len (λ b. eqb b 10) bytes)) None) within ∙ ap Some at)
 
 -- what stands before the first line feed has none, and the line feed follows it
 pub to_feed : (bytes : List ℕ) (place : ℕ) → position (λ b. eqb b 10) bytes ≡ Some place

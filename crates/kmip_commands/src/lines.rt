@@ -6,6 +6,7 @@ ghost use Rattle.kmip_commands.specs.Lines.{TakesLine, TakesPiece, kept_with, li
 
 use crate::fault::CommandFault;
 use crate::replies::flush;
+use memchr::memchr;
 use std::io::{BufRead, ErrorKind, Write};
 
 /// A line of more bytes is too long, whatever they are.
@@ -100,7 +101,7 @@ fn take_piece<R: BufRead>(reader: &mut R, line: &mut Vec<u8>) -> Result<Piece, C
 fn line_feed_in(bytes: &[u8]) -> Option<usize>
     ensures { result ≡ position (λ b. b == 10) bytes.now }
 {
-    bytes.iter().position(|byte| *byte == LINE_FEED)
+    memchr(LINE_FEED, bytes)
 }
 
 /// Appends a piece to the line, as far as the line has room for it.

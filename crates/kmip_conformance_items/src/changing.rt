@@ -49,7 +49,7 @@ fn assert_written(
 /// The fault is at one of the bytes.
 fn assert_within(rt: &impl Abort, fault: TtlvFault, bytes: &[u8]) {
     let at = fault.offset().unwrap_or(bytes.len());
-    assert!(rt; at < bytes.len(), "{fault:?} of {bytes:?}");
+    assert!(rt; at < bytes.len(), "{fault} of {bytes:?}");
 }
 
 /// What is read can be written as it stands in the bytes, and what is refused is at fault in them.

@@ -12,13 +12,16 @@ ghost use Rattle.kmip_fields.specs.declared.fault.MessageFault.TheVariants as fa
 
 use kmip_ttlv::{NoMemory, Tag, TtlvFault};
 use std::alloc::{AllocError, AllocFailed};
-use std::error::Error;
-use std::fmt::{self, Debug, Display, Formatter};
+use thiserror::Error;
 
-/// The first thing that is wrong with a message.
-#[derive(Clone, Copy)]
+/// The first thing that is wrong with a message. It is displayed by its name, with the tag that it is
+/// about as six hexadecimal digits, or with what is wrong with the items: `Missing 420077`,
+/// `Ttlv: Short at 0`.
+#[derive(Clone, Copy, Debug, Error)]
+#[error("{}", self.name())]
 pub enum MessageFault {
     /// No item stands at the front of the bytes. Never with want of memory, which is `NoMemory`.
+    #[error("{name}: {0}", name = self.name())]
     Ttlv(TtlvFault),
     /// Bytes follow the item, or it is no message of this kind.
     NotMessage,
@@ -27,12 +30,16 @@ pub enum MessageFault {
     /// The Batch Count is not from 1 to 8, or not the number of Batch Items.
     BatchCount,
     /// A required item of this tag is not there.
+    #[error("{} {:06x}", self.name(), .0.number())]
     Missing(Tag),
     /// An item of this tag that may stand once is there twice or more often.
+    #[error("{} {:06x}", self.name(), .0.number())]
     Twice(Tag),
     /// The item of this tag has another type.
+    #[error("{} {:06x}", self.name(), .0.number())]
     WrongType(Tag),
     /// The item of this tag has a value out of its range, or has no place here.
+    #[error("{} {:06x}", self.name(), .0.number())]
     OutOfRange(Tag),
     /// The operation is none of the profile.
     UnknownOperation,
@@ -110,29 +117,6 @@ impl MessageFault {
         }
     }
 }
-
-/// The fault's name, with the tag that it is about as six hexadecimal digits, or with what is wrong with
-/// the items: `Missing 420077`, `Ttlv: Short at 0`.
-impl Display for MessageFault {
-    fn fmt<W: fmt::Write>(&self, f: &mut Formatter<W>) -> fmt::Result {
-        f.write_str(self.name())?;
-        if let Some(tag) = self.tag() {
-            write!(f, " {:06x}", tag.number())?;
-        }
-        if let Some(fault) = self.items() {
-            write!(f, ": {fault}")?;
-        }
-        Ok(())
-    }
-}
-
-impl Debug for MessageFault {
-    fn fmt<W: fmt::Write>(&self, f: &mut Formatter<W>) -> fmt::Result {
-        Display::fmt(self, f)
-    }
-}
-
-impl Error for MessageFault {}
 
 impl From<TtlvFault> for MessageFault {
     ghost from_gives = { λ fault e. e ≡ message_fault_of fault };

@@ -5,11 +5,10 @@ ghost use Rattle.kmip_plan.specs.declared.fault.PlanFault.TheVariants as faults;
 
 use kmip_ttlv::Text;
 use std::alloc::{AllocError, AllocFailed};
-use std::error::Error;
-use std::fmt::{self, Debug, Display, Formatter};
+use thiserror::Error;
 
 /// A field that each key of a plan has.
-#[derive(Clone, Copy)]
+#[derive(Clone, Copy, Debug)]
 pub enum Field {
     Name,
     Algorithm,
@@ -34,16 +33,23 @@ impl Field {
 }
 
 /// The first thing that is wrong with a plan. A number is the place of the key, from 1; an unknown
-/// field beside the keys is at place 0.
-#[derive(Drop)]
+/// field beside the keys is at place 0. It is displayed by its name, the field that it is about, and
+/// the place of the key: `Missing usage at key 2`.
+#[derive(Debug, Drop, Error)]
+#[error("{name} at key {0}", name = self.name())]
 pub enum PlanFault {
+    #[error("{}", self.name())]
     Toml,
     /// There is no array of keys, or it is empty.
+    #[error("{}", self.name())]
     NoKeys,
     /// More than 1,000 keys.
+    #[error("{}", self.name())]
     TooMany,
+    #[error("{} {} at key {}", self.name(), .0.word(), .1)]
     Missing(Field, usize),
     /// A field that plans do not have.
+    #[error("{} {} at key {}", self.name(), .0.as_str(), .1)]
     Unknown(Text, usize),
     BadName(usize),
     /// The algorithm is none of the profile, or has no keys of this length.
@@ -54,6 +60,7 @@ pub enum PlanFault {
     BadReason(usize),
     /// A key before has the name.
     SameName(usize),
+    #[error("{}", self.name())]
     NoMemory,
 }
 
@@ -126,28 +133,6 @@ impl PlanFault {
         }
     }
 }
-
-/// The fault's name, the field that it is about, and the place of the key: `Missing usage at key 2`.
-impl Display for PlanFault {
-    fn fmt<W: fmt::Write>(&self, f: &mut Formatter<W>) -> fmt::Result {
-        f.write_str(self.name())?;
-        if let Some(field) = self.field() {
-            write!(f, " {field}")?;
-        }
-        if let Some(place) = self.place() {
-            write!(f, " at key {place}")?;
-        }
-        Ok(())
-    }
-}
-
-impl Debug for PlanFault {
-    fn fmt<W: fmt::Write>(&self, f: &mut Formatter<W>) -> fmt::Result {
-        Display::fmt(self, f)
-    }
-}
-
-impl Error for PlanFault {}
 
 impl From<AllocError> for PlanFault {
     ghost from_gives = { λ _ e. e ≡ faults.NoMemory };

@@ -19,7 +19,7 @@ use Rattle.kmip_store.specs.Stepping.{row_in_state, rows_in_state, row_with}
 use Rattle.kmip_store.proofs.ForCallers.{moved_uid, moved_attrs, has_name_moved}
 
 -- two texts that are apart one way are apart the other way
-apart_back : (a b : List ℕ) → pointwise nat_eq a b ≡ false → pointwise nat_eq b a ≡ false
+pub apart_back : (a b : List ℕ) → pointwise nat_eq a b ≡ false → pointwise nat_eq b a ≡ false
 apart_back a b apart =
     false_from_ne_true (pointwise nat_eq b a) (λ same. both_ways _ apart ((bytes_eq-Decides a b).1 (sym ((bytes_eq-Decides b a).0 same))))
 

@@ -3,6 +3,6 @@ pub mod PlaceLemmas
 pub mod KeptLemmas
 mod ChangingLemmas
 pub mod SteppingLemmas
-pub mod NumberingLemmas
+mod IndexingLemmas
 pub mod LocatingLemmas
 pub mod CallingLemmas

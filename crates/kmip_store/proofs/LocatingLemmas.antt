@@ -1,8 +1,10 @@
 -- At most one row has the name that a Locate gives.
 use Rattle.std.proofs.Common.{if◌then◌else◌, ◌≡◌, ℕ, Bool, false, nat_eq, ℤ, List, [], ◌∷◌, Option, Some, None, refl, sym, ap, ◌∙◌, inl, inr}
 use Rattle.std.specs.Cmp.Lexicographic.{pointwise}
-use Rattle.std.specs.List.{find, position, list_any}
-use Rattle.std.specs.Option.{option_map, option_to_list, IsSome}
+use Rattle.std.specs.List.{find, position}
+use Rattle.std.specs.Option.{option_map, option_to_list, is_some, IsSome}
+use Rattle.std.specs.declared.string.String.{String}
+use Rattle.indexmap.specs.IndexMap.{IndexMap, get_by_text}
 use Rattle.std.proofs.lemmas.Bool.{and_right, or_parts, cases_Bool, both_ways, false≢true, cond-true, cond-false}
 use Rattle.std.proofs.lemmas.Option.{none-some, same_Some}
 use Rattle.std.proofs.lemmas.Slice.Eq.{bytes_eq-Decides}
@@ -10,8 +12,8 @@ use Rattle.kmip_objects.specs.Objects.{Object}
 use Rattle.kmip_objects.specs.declared.attributes.Attrs.{Attrs}
 use Rattle.kmip_store.specs.declared.row.Row.{Row}
 use Rattle.kmip_store.specs.Stock.{object_of, objects_of, has_row_named, HaveOwnNames}
-use Rattle.kmip_store.proofs.PlaceLemmas.{none_passes, any_map}
-use Rattle.kmip_store.specs.Indexing.{names_of}
+use Rattle.kmip_store.proofs.PlaceLemmas.{none_passes, any_map, found_any}
+use Rattle.kmip_store.specs.Indexing.{LeadsTo, names_of}
 use Rattle.kmip_objects.specs.Attributes.{has_given}
 use Rattle.kmip_store.specs.Locating.{is_searched, is_wanted, locate}
 
@@ -89,6 +91,9 @@ named_wanted mask given name (r ∷ rows) row is own found = elim (cases_Bool (p
 ]
 
 -- the map from the names knows which names are used
-pub has_named : (rows : List Row) (names : List (List ℕ)) (name : List ℕ) → names ≡ names_of rows
-    → list_any (pointwise nat_eq name) names ≡ has_row_named name rows
-has_named rows names name is = ap (list_any (pointwise nat_eq name)) is ∙ any_map (λ r. r.attrs.name) (pointwise nat_eq name) rows
+pub has_named : {A S : Type 0} (rows : List Row) (names : IndexMap (String A) ℕ S) (name : List ℕ) → LeadsTo names (names_of rows)
+    → is_some (get_by_text names name) ≡ has_row_named name rows
+has_named rows names name leads =
+    ap is_some (leads name)
+    ∙ sym (found_any (pointwise nat_eq name) (names_of rows) [] (position (pointwise nat_eq name) (names_of rows)) refl)
+    ∙ any_map (λ r. r.attrs.name) (pointwise nat_eq name) rows

@@ -1,9 +1,10 @@
 -- The place of the first item that passes a test, and the item there.
-use Rattle.std.proofs.Common.{◌≡◌, ℕ, ◌+◌, Bool, false, not, ◌||◌, List, [], ◌∷◌, map, length, Some, None, Result, Ok, Err, IsOk, IfOk, refl, sym, ap, ◌∙◌, inl, inr, slice_get, ltb, cond}
+use Rattle.std.proofs.Common.{◌≡◌, ℕ, ◌+◌, Bool, false, not, ◌||◌, List, [], ◌∷◌, map, length, Option, Some, None, is_some, refl, sym, ap, ◌∙◌, inl, inr, slice_get, ltb, cond}
 use Rattle.std.specs.List.{find, position, position_or_len, list_any}
-use Rattle.std.proofs.lemmas.Bool.{cases_Bool, false≢true, cond-true, cond-false, ltb-false}
+use Rattle.std.proofs.lemmas.Bool.{cases_Bool, cond-true, cond-false, ltb-false}
 use Rattle.std.proofs.lemmas.List.{length-map}
-use Rattle.std.proofs.lemmas.List.Folds.{find_at}
+use Rattle.std.proofs.lemmas.List.Folds.{find_at, list_any_at}
+use Rattle.std.proofs.lemmas.List.Quantifiers.{position-Some}
 use Rattle.std.proofs.lemmas.Option.{none-some, cond_some, slice_get_past}
 
 first_map : {X Y : Type 0} (f : X → Y) (test : Y → Bool) (xs : List X) → position_or_len test (map f xs) ≡ position_or_len (λ x. test (f x)) xs
@@ -35,11 +36,13 @@ any_none test (x ∷ xs) is = elim (cases_Bool (test x)) [
 pub none_passes : {X : Type 0} (test : X → Bool) (xs : List X) → position test xs ≡ None → list_any test xs ≡ false
 none_passes test xs is = any_none test xs (find_none test xs is)
 
+-- what has a place is there
+pub found_any : {X : Type 0} (test : X → Bool) (xs : List X) (d : X) (found : Option ℕ) → position test xs ≡ found → list_any test xs ≡ is_some found
+found_any test xs d None at = none_passes test xs at
+found_any test xs d (Some place) at =
+    let first = position-Some test xs place d at in
+    list_any_at test xs place d first.0 first.1
+
 pub any_map : {X Y : Type 0} (f : X → Y) (test : Y → Bool) (xs : List X) → list_any test (map f xs) ≡ list_any (λ x. test (f x)) xs
 any_map f test [] = refl
 any_map f test (x ∷ xs) = ap (λ b. test (f x) || b) (any_map f test xs)
-
--- a call that succeeds does what it does where it succeeds
-pub of_ok : {A E : Type 0} (P : Type 0) (r : Result A E) → IsOk r → IfOk r (λ _. P) → P
-of_ok P (Ok a) succeeds does = does
-of_ok P (Err e) fails does = absurd (false≢true fails)

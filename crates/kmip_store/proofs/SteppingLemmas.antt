@@ -14,8 +14,8 @@ use Rattle.kmip_objects.specs.declared.state.KeyState.{KeyState}
 use Rattle.kmip_objects.specs.declared.step.Step.{Step}
 use Rattle.kmip_store.specs.declared.row.Row.{Row}
 use Rattle.kmip_store.specs.Stock.{Stock, AreNumbered}
-use Rattle.kmip_store.specs.Indexing.{names_of}
-use Rattle.kmip_store.proofs.ForCallers.{moved_attrs}
+use Rattle.kmip_store.specs.Indexing.{names_of, uids_of}
+use Rattle.kmip_store.proofs.ForCallers.{moved_attrs, moved_uid}
 use Rattle.kmip_store.specs.Stepping.{row_with, enter, row_in_state, rows_in_state, enter_state, take_step_from, take_step}
 
 -- the test of a row by its identifier
@@ -104,6 +104,11 @@ own_uid rows uid place row at is =
 pub names_moved : (uid : List ℕ) (state : KeyState) (rows : List Row) → names_of (rows_in_state uid state rows) ≡ names_of rows
 names_moved uid state [] = refl
 names_moved uid state (r ∷ rows) = rw (moved_attrs uid state r, names_moved uid state rows) refl
+
+-- nor identifiers
+pub uids_moved : (uid : List ℕ) (state : KeyState) (rows : List Row) → uids_of (rows_in_state uid state rows) ≡ uids_of rows
+uids_moved uid state [] = refl
+uids_moved uid state (r ∷ rows) = rw (moved_uid uid state r, uids_moved uid state rows) refl
 
 pub step_found : (step : Step) (uid : List ℕ) (s : Stock) (row : Row) (next : Option KeyState) → row_with uid s.rows ≡ Some row
     → next ≡ after row.state step → take_step step uid s ≡ enter_state uid s next

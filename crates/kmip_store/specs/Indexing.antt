@@ -1,14 +1,25 @@
--- Private: what the map of an `IndexedStore` has.
+-- Private: where the maps of an `IndexedStore` lead.
 -- Source: own.
-use Rattle.std.specs.Prelude.{ℕ, List, map, string_bytes}
+use Rattle.std.specs.Prelude.{◌≡◌, ℕ, List, map, Some, nat_eq, if◌then◌else◌}
+use Rattle.std.specs.Cmp.Lexicographic.{pointwise}
+use Rattle.std.specs.List.{position}
 use Rattle.std.specs.declared.string.String.{String}
-use Rattle.indexmap.specs.IndexSet.{IndexSet, keys}
+use Rattle.indexmap.specs.IndexMap.{IndexMap, get_by_text}
 use Rattle.kmip_store.specs.declared.row.Row.{Row}
-
--- the texts that a map leads from, in the order of the places that it leads to
-abbrev pub texts : {A S : Type 0} → IndexSet (String A) S → List (List ℕ)
-texts places = map string_bytes (keys places)
 
 -- the names of the rows, in their order
 abbrev pub names_of : List Row → List (List ℕ)
 names_of rows = map (λ r. r.attrs.name) rows
+
+-- the identifiers of the rows, in their order
+abbrev pub uids_of : List Row → List (List ℕ)
+uids_of rows = map (λ r. r.uid) rows
+
+-- the map leads from each of the texts to its place among them, and from no other text
+abbrev pub LeadsTo : {A S : Type 0} → IndexMap (String A) ℕ S → List (List ℕ) → Type 0
+LeadsTo places texts = (text : List ℕ) → get_by_text places text ≡ position (pointwise nat_eq text) texts
+
+-- the map leads from this text to the place, and from each other text where it led
+abbrev pub LeadsOn : {A S : Type 0} → IndexMap (String A) ℕ S → IndexMap (String A) ℕ S → List ℕ → ℕ → Type 0
+LeadsOn old new text place =
+    (other : List ℕ) → get_by_text new other ≡ (if pointwise nat_eq text other then Some place else get_by_text old other)

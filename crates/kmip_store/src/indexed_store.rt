@@ -1,4 +1,4 @@
-//! The records as rows under a map of their names.
+//! The records as rows under two maps.
 ghost use Rattle.std.specs.Prelude.{◌≡◌, ◌≤◌};
 ghost use Rattle.kmip_store.specs.Stock.{empty_stock, most_room};
 
@@ -6,11 +6,11 @@ use crate::fault::StoreFault;
 use crate::making::{NewObject, new_object};
 use crate::matching::{row_by_index, wanted_by_index};
 use crate::material::draw;
-use crate::places::{has_text, note};
+use crate::places::{Places, has_text, note_both};
 use crate::records::Records;
 use crate::row::Row;
 use crate::stepping::step_by_index;
-use indexmap::IndexSet;
+use indexmap::IndexMap;
 use kmip_objects::{Attrs, KeyAttrs, Step};
 use kmip_ttlv::Text;
 use rand_chacha::ChaCha20Rng;
@@ -18,27 +18,28 @@ use rand_core::SeedableRng;
 use std::alloc::Global;
 use std::marker::Model;
 
-/// The rows in a vector, and a map that leads from their names to their places. A look-up by name goes
-/// by the map, and one by identifier to the place whose number the identifier is.
+/// The rows in a vector, and two maps that lead to their places: from the names, and from the
+/// identifiers. Every look-up goes by a map.
 #[derive(Drop)]
 pub struct IndexedStore {
     rows: Vec<Row>,
-    names: IndexSet<String>,
+    names: Places,
+    uids: Places,
     room: usize,
     stream: ChaCha20Rng,
 }
 
 impl Model for IndexedStore {
-    ghost use Rattle.std.specs.Prelude.{◌≡◌};
     ghost use Rattle.kmip_store.specs.Stock.{Stock, IsKept};
-    ghost use Rattle.kmip_store.specs.Indexing.{names_of, texts};
+    ghost use Rattle.kmip_store.specs.Indexing.{LeadsTo, names_of, uids_of};
 
     ghost Value = { Stock };
 
     ghost view = { λ s. record { rows = s.rows.items; room = s.room; stream = s.stream } };
 
     ghost invariant = { λ s. IsKept s.rows.items s.room
-        × (texts s.names ≡ names_of s.rows.items) };
+        × LeadsTo s.names (names_of s.rows.items)
+        × LeadsTo s.uids (uids_of s.rows.items) };
 }
 
 impl IndexedStore {
@@ -50,7 +51,8 @@ impl IndexedStore {
     {
         IndexedStore {
             rows: Vec::new(alloc),
-            names: IndexSet::new(alloc),
+            names: IndexMap::new(alloc),
+            uids: IndexMap::new(alloc),
             room,
             stream: ChaCha20Rng::from_seed(seed),
         }
@@ -60,7 +62,6 @@ impl IndexedStore {
 impl Records for IndexedStore {
     ghost stock = { λ s. s };
 
-    #[tactic(auto, using(crate::proofs::LocatingLemmas::has_named))]
     fn create(&mut self, alloc: Global, attrs: &KeyAttrs) -> Result<Text, StoreFault> {
         if has_text(&self.names, attrs.name.as_str()) {
             return Err(StoreFault::SameName);
@@ -68,14 +69,20 @@ impl Records for IndexedStore {
         if self.rows.len() >= self.room {
             return Err(StoreFault::Full);
         }
-        // All memory is taken before anything changes.
+        // All memory is taken before the rows and the stream change.
         self.rows.reserve(1)?;
-        self.names.reserve(1)?;
-        let NewObject { row, uid, name } = new_object(alloc, self.rows.len(), attrs)?;
-        note(&mut self.names, name);
-        let row = draw(&mut self.stream, row);
+        let place = self.rows.len();
+        let made = new_object(alloc, place, attrs)?;
+        note_both(
+            &mut self.names,
+            made.name_key,
+            &mut self.uids,
+            made.uid_key,
+            place,
+        )?;
+        let row = draw(&mut self.stream, made.row);
         self.rows.push_reserved(row);
-        Ok(uid)
+        Ok(made.uid)
     }
 
     fn locate(
@@ -92,19 +99,19 @@ impl Records for IndexedStore {
     }
 
     fn find(&self, uid: &str) -> Option<&Row> {
-        row_by_index(self.rows.as_slice(), uid)
+        row_by_index(self.rows.as_slice(), &self.uids, uid)
     }
 
     fn activate(&mut self, uid: &str) -> Result<(), StoreFault> {
-        step_by_index(&mut self.rows, uid, Step::Activate)
+        step_by_index(&mut self.rows, &self.uids, uid, Step::Activate)
     }
 
     fn revoke(&mut self, uid: &str) -> Result<(), StoreFault> {
-        step_by_index(&mut self.rows, uid, Step::Revoke)
+        step_by_index(&mut self.rows, &self.uids, uid, Step::Revoke)
     }
 
     fn destroy(&mut self, uid: &str) -> Result<(), StoreFault> {
-        step_by_index(&mut self.rows, uid, Step::Destroy)
+        step_by_index(&mut self.rows, &self.uids, uid, Step::Destroy)
     }
 
     fn count(&self) -> usize {

@@ -1,5 +1,5 @@
 //! The objects of the test server: the trait `Records`, two stores that keep them, a plain list and
-//! rows under a map of their names, and the law that any two stores answer alike.
+//! rows under maps of their names and identifiers, and the law that any two stores answer alike.
 #![tactic(auto)]
 
 mod calling;
@@ -11,7 +11,6 @@ mod list_store;
 mod making;
 mod matching;
 mod material;
-mod numbering;
 mod places;
 mod records;
 mod row;

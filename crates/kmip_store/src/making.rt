@@ -32,8 +32,10 @@ pub(crate) struct NewObject {
     pub(crate) row: Row,
     /// The row's identifier, for the answer.
     pub(crate) uid: Text,
-    /// The row's name, for the map of names.
-    pub(crate) name: String,
+    /// The row's name, for the map from the names.
+    pub(crate) name_key: String,
+    /// The row's identifier, for the map from the identifiers.
+    pub(crate) uid_key: String,
 }
 
 /// A new object at a place from 0, with zeros in the place of its material.
@@ -47,10 +49,17 @@ pub(crate) fn new_object(
     ensures size { IfOk result (λ made. length made.row.material
         ≡ material_size attrs.now.length) }
     ensures uid { IfOk result (λ made. made.uid ≡ made.row.uid) }
-    ensures name { IfOk result (λ made. string_bytes made.name ≡ attrs.now.name) }
+    ensures name_key { IfOk result (λ made. string_bytes made.name_key ≡ attrs.now.name) }
+    ensures uid_key { IfOk result (λ made. string_bytes made.uid_key ≡ made.row.uid) }
 {
-    let name = String::from_str(alloc, attrs.name.as_str())?;
+    let name_key = String::from_str(alloc, attrs.name.as_str())?;
     let row = new_row(alloc, place, attrs)?;
+    let uid_key = String::from_str(alloc, row.uid.as_str())?;
     let uid = Text::copied(alloc, row.uid.as_str())?;
-    Ok(NewObject { row, uid, name })
+    Ok(NewObject {
+        row,
+        uid,
+        name_key,
+        uid_key,
+    })
 }

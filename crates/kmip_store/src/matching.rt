@@ -1,16 +1,14 @@
 //! Rows found by name, by identifier, and by what a Locate gives.
-ghost use Rattle.std.specs.Prelude.{◌≡◌, ◌≤◌, length, IsSome};
-ghost use Rattle.std.specs.List.{find};
+ghost use Rattle.std.specs.Prelude.{◌≡◌, IsSome};
+ghost use Rattle.std.specs.List.{find, slice_get};
 ghost use Rattle.std.specs.Option.{option_copied};
 ghost use Rattle.kmip_store.specs.Locating.{storage_bit, is_searched, is_wanted};
 ghost use Rattle.kmip_store.specs.Stepping.{row_with};
-ghost use Rattle.kmip_store.specs.Stock.{has_row_named, object_of, AreNumbered, HaveOwnNames, most_room};
-ghost use Rattle.kmip_store.specs.Indexing.{texts, names_of};
+ghost use Rattle.kmip_store.specs.Stock.{has_row_named, object_of, HaveOwnNames};
+ghost use Rattle.kmip_store.specs.Indexing.{LeadsTo, names_of, uids_of};
 
-use crate::numbering::{place_of_uid, row_at};
-use crate::places::place_of;
+use crate::places::{Places, place_of};
 use crate::row::Row;
-use indexmap::IndexSet;
 use kmip_objects::standard::{STORAGE_DESTROYED, STORAGE_ON_LINE};
 use kmip_objects::{Attrs, KeyState, has_given};
 
@@ -40,22 +38,22 @@ pub(crate) fn first_wanted<'a>(
     rows.iter().find(|row| is_wanted(row, mask, filter))
 }
 
-/// The row with the identifier, found at the place that it names.
-pub(crate) fn row_by_index<'a>(rows: &'a [Row], uid: &str) -> Option<&'a Row>
-    requires { AreNumbered 0 rows.now × (length rows.now ≤ most_room) }
+/// The row with the identifier, found by the map from the identifiers.
+pub(crate) fn row_by_index<'a>(rows: &'a [Row], uids: &Places, uid: &str) -> Option<&'a Row>
+    requires { LeadsTo uids.now (uids_of rows.now) }
     ensures { option_copied result ≡ row_with uid.now rows.now }
 {
-    row_at(rows, place_of_uid(rows, uid)?)
+    row_at(rows, place_of(uids, uid)?)
 }
 
 /// The row with the name that is given, found by the map from the names, if it is wanted too.
 pub(crate) fn wanted_by_index<'a>(
     rows: &'a [Row],
-    names: &IndexSet<String>,
+    names: &Places,
     mask: Option<i32>,
     filter: &Attrs,
 ) -> Option<&'a Row>
-    requires names { texts names.now ≡ names_of rows.now }
+    requires names { LeadsTo names.now (names_of rows.now) }
     requires own { HaveOwnNames rows.now }
     requires given { IsSome filter.now.name }
     ensures { option_copied result ≡ find (λ r. is_wanted mask filter.now
@@ -68,6 +66,13 @@ pub(crate) fn wanted_by_index<'a>(
     } else {
         None
     }
+}
+
+/// The row at a place.
+fn row_at(rows: &[Row], place: usize) -> Option<&Row>
+    ensures { option_copied result ≡ slice_get rows.now place }
+{
+    rows.get(place)
 }
 
 /// Whether the row is searched under the mask, and has every attribute that is given.

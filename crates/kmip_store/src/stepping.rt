@@ -5,10 +5,10 @@ ghost use Rattle.std.specs.List.{position};
 ghost use Rattle.rand_chacha.specs.ChaCha.{ChaCha};
 ghost use Rattle.kmip_store.specs.Stock.{IsKept, AreNumbered, most_room};
 ghost use Rattle.kmip_store.specs.Stepping.{Becomes, take_step, enter};
-ghost use Rattle.kmip_store.specs.Indexing.{names_of};
+ghost use Rattle.kmip_store.specs.Indexing.{LeadsTo, names_of, uids_of};
 
 use crate::fault::StoreFault;
-use crate::numbering::place_of_uid;
+use crate::places::{Places, place_of};
 use crate::row::Row;
 use kmip_objects::{KeyState, Step};
 use kmip_ttlv::Bytes;
@@ -32,20 +32,27 @@ pub(crate) fn step(rows: &mut Vec<Row>, uid: &str, step: Step) -> Result<(), Sto
     step_at(rows, place, step)
 }
 
-/// The same, the row being found at the place that the identifier names.
+/// The same, the row being found by the map from the identifiers.
 ///
 /// # Errors
 /// Those of `step`.
-pub(crate) fn step_by_index(rows: &mut Vec<Row>, uid: &str, step: Step) -> Result<(), StoreFault>
-    requires { AreNumbered 0 rows.old.items × (length rows.old.items ≤ most_room) }
+pub(crate) fn step_by_index(
+    rows: &mut Vec<Row>,
+    uids: &Places,
+    uid: &str,
+    step: Step,
+) -> Result<(), StoreFault>
+    requires numbered { AreNumbered 0 rows.old.items × (length rows.old.items ≤ most_room) }
+    requires uids { LeadsTo uids.now (uids_of rows.old.items) }
     ensures step { (room : ℕ) (stream : ChaCha)
         → Becomes result (record { rows = rows.old.items; room = room; stream = stream })
         (record { rows = rows.new.items; room = room; stream = stream })
         (take_step step uid.now (record { rows = rows.old.items; room = room; stream = stream })) }
     ensures kept { (room : ℕ) → IsKept rows.old.items room → IsKept rows.new.items room }
     ensures names { names_of rows.new.items ≡ names_of rows.old.items }
+    ensures uids { uids_of rows.new.items ≡ uids_of rows.old.items }
 {
-    let place = place_of_uid(rows.as_slice(), uid);
+    let place = place_of(uids, uid);
     step_at(rows, place, step)
 }
 
@@ -64,6 +71,7 @@ fn step_at(rows: &mut Vec<Row>, place: Option<usize>, step: Step) -> Result<(), 
         (take_step step uid (record { rows = rows.old.items; room = room; stream = stream })) }
     ensures kept { (room : ℕ) → IsKept rows.old.items room → IsKept rows.new.items room }
     ensures names { names_of rows.new.items ≡ names_of rows.old.items }
+    ensures uids { uids_of rows.new.items ≡ uids_of rows.old.items }
 {
     let Some(place) = place else {
         return Err(StoreFault::NotFound);

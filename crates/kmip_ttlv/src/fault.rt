@@ -4,8 +4,6 @@ ghost use Rattle.kmip_ttlv.specs.Faults.{fault_number, fault_name, fault_offset}
 ghost use Rattle.kmip_ttlv.specs.declared.fault.TtlvFault.TheVariants as faults;
 
 use std::alloc::{AllocError, AllocFailed};
-use std::error;
-use std::fmt::{self, Debug, Display, Formatter};
 use thiserror::Error;
 
 /// There was no memory for a growth.
@@ -26,8 +24,9 @@ impl<T: Drop> From<AllocFailed<T>> for NoMemory {
 }
 
 /// Why no item stands at the front of some bytes. All but `NoMemory` carry the offset of the first
-/// byte of the item at fault.
-#[derive(Clone, Copy)]
+/// byte of the item at fault. It is displayed by its name and that offset: `BadLength at 8`.
+#[derive(Clone, Copy, Debug, Error)]
+#[error("{name} at {0}", name = self.name())]
 pub enum TtlvFault {
     /// The bytes end before the outermost item does.
     Short(usize),
@@ -45,6 +44,7 @@ pub enum TtlvFault {
     TooDeep(usize),
     /// An outermost item of more than 8,192 bytes.
     TooLong(usize),
+    #[error("{}", self.name())]
     NoMemory,
 }
 
@@ -100,25 +100,6 @@ impl TtlvFault {
         }
     }
 }
-
-/// The fault's name and its offset: `BadLength at 8`.
-impl Display for TtlvFault {
-    fn fmt<W: fmt::Write>(&self, f: &mut Formatter<W>) -> fmt::Result {
-        f.write_str(self.name())?;
-        match self.offset() {
-            Some(at) => write!(f, " at {at}"),
-            None => Ok(()),
-        }
-    }
-}
-
-impl Debug for TtlvFault {
-    fn fmt<W: fmt::Write>(&self, f: &mut Formatter<W>) -> fmt::Result {
-        Display::fmt(self, f)
-    }
-}
-
-impl error::Error for TtlvFault {}
 
 impl From<NoMemory> for TtlvFault {
     ghost from_gives = { λ _ e. e ≡ faults.NoMemory };

@@ -6,7 +6,7 @@ use std::marker::Model;
 /// The number that says what an item means: three bytes, so below 2^24.
 ///
 /// Source: KMIP 2.1, TTLV Encoding, Tag.
-#[derive(Clone, Copy, PartialEq, Eq)]
+#[derive(Clone, Copy, Debug, PartialEq, Eq)]
 pub struct Tag {
     number: u32,
 }

@@ -5,7 +5,7 @@ use std::alloc::{AllocError, Global};
 use std::marker::Model;
 
 /// UTF-8 text of any length. A contract sees the list of its bytes, and not where they lie.
-#[derive(Drop)]
+#[derive(Debug, Drop)]
 pub struct Text {
     text: String,
 }

@@ -1,5 +1,7 @@
 //! Items to bytes.
 ghost use Rattle.std.specs.Prelude.{◌≡◌, ◌+◌, ◌<◌, ◌^◌, ◌++◌, length, take, OnErr, OnOk};
+ghost use Rattle.std.specs.Int.{w32, w64, cast_unsigned};
+ghost use Rattle.byteorder.specs.Endian.{big_bytes};
 ghost use Rattle.kmip_ttlv.specs.Node.{node, structure, nodes_of};
 ghost use Rattle.kmip_ttlv.specs.View.{view, views};
 ghost use Rattle.kmip_ttlv.specs.Spelling.{head, item_bytes, zeros, padding, canon, canons};
@@ -48,32 +50,63 @@ fn append(item: &Item, out: &mut Vec<u8>) -> Result<(), NoMemory>
     let _number = tag.number();
     match &item.value {
         Value::Structure(items) => append_structure(tag, items.as_slice(), out),
-        Value::Integer(number) => append_leaf(tag, ItemType::Integer, &number.to_be_bytes(), out),
+        Value::Integer(number) => append_leaf(tag, ItemType::Integer, &i32_bytes(*number), out),
         Value::LongInteger(number) => {
-            append_leaf(tag, ItemType::LongInteger, &number.to_be_bytes(), out)
+            append_leaf(tag, ItemType::LongInteger, &i64_bytes(*number), out)
         }
         Value::BigInteger(digits) => append_leaf(tag, ItemType::BigInteger, digits.as_slice(), out),
         Value::Enumeration(number) => {
-            append_leaf(tag, ItemType::Enumeration, &number.to_be_bytes(), out)
+            append_leaf(tag, ItemType::Enumeration, &u32_bytes(*number), out)
         }
         Value::Boolean(truth) => {
-            append_leaf(
-                tag,
-                ItemType::Boolean,
-                &u64::from(*truth).to_be_bytes(),
-                out,
-            )
+            append_leaf(tag, ItemType::Boolean, &u64_bytes(u64::from(*truth)), out)
         }
         Value::TextString(text) => {
             append_leaf(tag, ItemType::TextString, text.as_str().as_bytes(), out)
         }
         Value::ByteString(bytes) => append_leaf(tag, ItemType::ByteString, bytes.as_slice(), out),
-        Value::DateTime(number) => append_leaf(tag, ItemType::DateTime, &number.to_be_bytes(), out),
-        Value::Interval(number) => append_leaf(tag, ItemType::Interval, &number.to_be_bytes(), out),
+        Value::DateTime(number) => append_leaf(tag, ItemType::DateTime, &i64_bytes(*number), out),
+        Value::Interval(number) => append_leaf(tag, ItemType::Interval, &u32_bytes(*number), out),
         Value::DateTimeExtended(number) => {
-            append_leaf(tag, ItemType::DateTimeExtended, &number.to_be_bytes(), out)
+            append_leaf(tag, ItemType::DateTimeExtended, &i64_bytes(*number), out)
         }
     }
+}
+
+/// A signed number of 32 bits as bytes, the highest first.
+fn i32_bytes(number: i32) -> [u8; 4]
+    ensures { result ≡ big_bytes 4 (cast_unsigned w32 number) }
+{
+    let mut bytes = [0; 4];
+    BigEndian::write_i32(&mut bytes, number);
+    bytes
+}
+
+/// A number of 32 bits as bytes, the highest first.
+fn u32_bytes(number: u32) -> [u8; 4]
+    ensures { result ≡ big_bytes 4 number }
+{
+    let mut bytes = [0; 4];
+    BigEndian::write_u32(&mut bytes, number);
+    bytes
+}
+
+/// A signed number of 64 bits as bytes, the highest first.
+fn i64_bytes(number: i64) -> [u8; 8]
+    ensures { result ≡ big_bytes 8 (cast_unsigned w64 number) }
+{
+    let mut bytes = [0; 8];
+    BigEndian::write_i64(&mut bytes, number);
+    bytes
+}
+
+/// A number of 64 bits as bytes, the highest first.
+fn u64_bytes(number: u64) -> [u8; 8]
+    ensures { result ≡ big_bytes 8 number }
+{
+    let mut bytes = [0; 8];
+    BigEndian::write_u64(&mut bytes, number);
+    bytes
 }
 
 /// Appends a Structure: its head, and then its items, which end at a multiple of eight.

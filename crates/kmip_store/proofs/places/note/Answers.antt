@@ -1,14 +1,12 @@
--- There is room, and the text is on no key.
-use Rattle.std.proofs.Common.{◌++◌, [], ◌∷◌, map, nat_eq, string_bytes, if◌then◌else◌, ap, sym, ◌∙◌}
-use Rattle.std.specs.Cmp.Lexicographic.{pointwise}
-use Rattle.std.proofs.lemmas.List.{map-append}
-use Rattle.kmip_store.proofs.PlaceLemmas.{any_map, of_ok}
+-- The text is new, so its entry is the last.
+use Rattle.std.proofs.Common.{string_bytes, Some, ◌∙◌}
+use Rattle.std.proofs.lemmas.Map.Text.{hash_map_updates_text}
+use Rattle.indexmap.proofs.CallerLemmas.{insert_entry-new}
 use Rattle.kmip_store.proofs.places.note.Goals as goal
 
-pub returns : goal.returns
-returns c =
-    let keys = c.args.places.now.keys in
-    let text = c.args.text in
-    let noted = of_ok _ c.insert-noted.result (c.insert-noted.ensures.succeeds c.requires.room) c.insert-noted.ensures.keys in
-    let free = sym (any_map string_bytes (pointwise nat_eq (string_bytes text)) keys) ∙ c.requires.free in
-    ap (map string_bytes) (noted ∙ ap (λ b. if b then keys else keys ++ text ∷ []) free) ∙ map-append string_bytes keys (text ∷ [])
+pub returns-clause-leads : goal.returns-clause-leads
+returns-clause-leads c = λ other.
+    hash_map_updates_text (string_bytes c.args.text) c.args.places.now c.insert.new.self (Some c.args.place) c.in_ok-insert.ensures.updates other
+
+pub returns-clause-last : goal.returns-clause-last
+returns-clause-last c = c.in_ok-insert.ensures.entries ∙ insert_entry-new _ c.args.places.now c.args.text c.args.place c.requires

@@ -2,11 +2,11 @@
 use Rattle.std.proofs.Common.{◌<◌, set, length, Some, Ok, IfSome, refl, sym, ap, subst, ◌∙◌}
 use Rattle.std.proofs.lemmas.Option.{slice_get-get_or}
 use Rattle.kmip_store.specs.Stock.{Stock, IsKept}
-use Rattle.kmip_store.specs.Indexing.{names_of}
+use Rattle.kmip_store.specs.Indexing.{names_of, uids_of}
 use Rattle.kmip_store.specs.Stepping.{enter_state, rows_in_state, take_step_from}
 use Rattle.kmip_store.proofs.KeptLemmas.{kept_moved}
 use Rattle.kmip_store.proofs.PlaceLemmas.{find_none}
-use Rattle.kmip_store.proofs.SteppingLemmas.{has_uid, found_row, own_uid, step_found, stepped_is, names_moved}
+use Rattle.kmip_store.proofs.SteppingLemmas.{has_uid, found_row, own_uid, step_found, stepped_is, names_moved, uids_moved}
 use Rattle.kmip_store.proofs.stepping.step_at.Goals as goal
 
 pub returns-in_default-clause-step : goal.returns-in_default-clause-step
@@ -62,3 +62,14 @@ returns-clause-names c =
     let at = slice_get-get_or rows place moved within ∙ ap Some (sym c.index_mut.ensures.value) in
     let stepped = stepped_is rows (set rows place c.enter.new.row) state place moved c.requires.numbered.0 c.requires.numbered.1 at (ap (set rows place) c.enter.ensures) in
     ap names_of stepped ∙ names_moved moved.uid state rows
+
+pub returns-clause-uids : goal.returns-clause-uids
+returns-clause-uids c =
+    let rows = c.args.rows.now.items in
+    let place = c.in-Some.place in
+    let state = c.in-Some-after.state in
+    let moved = c.index_mut.result.now in
+    let within : place < length rows = subst (λ o. IfSome o (λ p. p < length rows)) c.in-Some.is c.requires.within in
+    let at = slice_get-get_or rows place moved within ∙ ap Some (sym c.index_mut.ensures.value) in
+    let stepped = stepped_is rows (set rows place c.enter.new.row) state place moved c.requires.numbered.0 c.requires.numbered.1 at (ap (set rows place) c.enter.ensures) in
+    ap uids_of stepped ∙ uids_moved moved.uid state rows

@@ -1,5 +1,5 @@
 -- The head is read where the whole item is there.
-use Rattle.std.proofs.Common.{◌≡◌, ◌+◌, ◌≤◌, ◌&&◌, ◌∙◌, false, true, length, drop, nat_lt, Ok, Some, arith, rules, sym, ap, subst, refl}
+use Rattle.std.proofs.Common.{◌≡◌, ◌+◌, ◌≤◌, ◌&&◌, ◌∙◌, false, true, length, drop, nat_lt, Ok, Some, arith, rules, ap, subst}
 use Rattle.std.proofs.lemmas.List.{take_rest}
 use Rattle.byteorder.specs.Endian.{big_number}
 use Rattle.kmip_ttlv.specs.Heads.{typed_head_at}
