@@ -42,11 +42,12 @@ pub record IsTurned (honest : Type 0) (stop : Stop) (made : ℕ) (old new : Clie
   pub sent_are : honest → after.sent ≡ before.sent ++ questions
   pub handed_are : honest → stop ≢ stops.NoMemory → after.handed ≡ before.handed ++ answers
 
--- Private: how many exchanges were made in a turn in which memory ran out, and the messages that they sent.
+-- Private: how many exchanges were made in a turn in which memory ran out.
 abbrev pub exchanges_made : TurnFault → ℕ
 exchanges_made Unmade = 0
 exchanges_made Unheard = 1
 
+-- Private: the messages that its exchange sent.
 abbrev pub messages_made : TurnFault → List ℕ → List (List ℕ)
 messages_made Unmade question = []
 messages_made Unheard question = question ∷ []
@@ -58,17 +59,19 @@ pub record IsAnswered (honest : Type 0) (question : Question) (c next : ClientSt
   pub sent_are : honest → after.sent ≡ before.sent ++ question.bytes ∷ []
   pub handed_are : honest → after.handed ≡ before.handed ++ answer ∷ []
 
--- Private: a turn that asks the next question, and one in which there is none.
+-- Private: a turn that asks the next question.
 pub record TurnsOnce (honest : Type 0) (c next : ClientState) (before after : Past) : Type 0 where
   pub question : Question
   pub question_is : next_question c ≡ Some question
   pub answered : IsAnswered honest question (after_ask c) next before after
 
+-- Private: one in which there is none.
 pub record Rests (honest : Type 0) (c next : ClientState) (before after : Past) : Type 0 where
   pub next_is : next ≡ c
   pub sent_stays : honest → after.sent ≡ before.sent
   pub handed_stays : honest → after.handed ≡ before.handed
 
+-- Private: a turn, which asked or did not.
 abbrev pub TakesTurn : Type 0 → Bool → ClientState → ClientState → Past → Past → Type 0
 TakesTurn honest true c next before after = TurnsOnce honest c next before after
 TakesTurn honest false c next before after = Rests honest c next before after

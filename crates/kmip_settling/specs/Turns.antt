@@ -35,6 +35,6 @@ abbrev pub known_then : List Key → Question → Option (List ℕ) → List Kno
 known_then keys question None knowns = lost_each keys question.parts knowns
 known_then keys question (Some bytes) knowns = taught_by keys question.parts knowns (hear keys knowns bytes)
 
--- Private: what a client is then
+-- what a client is then
 abbrev pub taught : Question → Option (List ℕ) → ClientState → ClientState
 taught question answer c = record c { knowns = known_then c.keys question answer c.knowns }
