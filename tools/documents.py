@@ -3,6 +3,7 @@ import pathlib
 import re
 
 from message_rows import check_messages
+from mistakes import check_mistakes
 from sources import CRATES, roots_of
 
 DEFINITIONS = pathlib.Path('docs/DEFINITIONS.md')
@@ -14,7 +15,7 @@ NAME = re.compile(r'`((?:\w+::)*[A-Za-z]+(?:_\w+|[a-z0-9][A-Z]\w*))`')
 def check(repository):
     """Prints what does not fit, and returns the exit status: 1 where there is something."""
     faults = check_definitions(repository) + check_proved(repository) + check_links() + check_names()
-    faults += check_messages()
+    faults += check_messages() + check_mistakes()
     print(f'{faults} places to look at' if faults else 'nothing to look at')
     return 1 if faults else 0
 

@@ -1,7 +1,10 @@
 -- Each advance is one more.
-use Rattle.std.proofs.Common.{Some, inr, sym, subst}
+use Rattle.std.proofs.Common.{Some, inr, rules, sym, subst}
 use Rattle.kmip_commands.proofs.AdvancingLemmas.{HasAdvanced, advanced_more, advanced_all}
 use Rattle.kmip_commands.proofs.streaming.StreamerRespond.respond.Goals as goal
+
+pub loop-self-init : goal.loop-self-init
+loop-self-init c = search rules
 
 pub loop-self-preserved : goal.loop-self-preserved
 loop-self-preserved c =
