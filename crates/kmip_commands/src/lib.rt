@@ -4,8 +4,8 @@
 //! `answer`, `answer_stream` and `show_lines` do the work of their commands and return a fault as a
 //! value; `run_answer`, `run_answer_stream` and `run_show` also print the fault and say how the
 //! program ends. `answer_bytes`, `answer_stream_bytes` and `show_bytes` do the same work in memory,
-//! where nothing but memory can fail. `finished`, `push_text` and `send` are for the commands of
-//! other crates.
+//! where nothing but memory can fail. `finished`, `push_text` and `send`, and what a text is printed
+//! on, a `Printer`, are for the commands of other crates.
 #![tactic(auto)]
 
 mod answering;
@@ -14,6 +14,7 @@ mod fault;
 mod finishing;
 mod judging;
 mod lines;
+mod printer;
 mod replies;
 mod responding;
 mod showing;
@@ -23,6 +24,7 @@ pub use answering::{answer, answer_bytes, run_answer};
 pub use exit_status::ExitStatus;
 pub use fault::CommandFault;
 pub use finishing::finished;
+pub use printer::{Printed, Printer};
 pub use replies::{push_text, send};
 pub use showing::{Form, run_show, show_bytes, show_lines};
 pub use streaming::{

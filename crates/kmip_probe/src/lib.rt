@@ -1,5 +1,5 @@
 //! The command `probe`: the questions of a probe over any link, and what their answers say of a server
-//! in words, over any writer.
+//! in words, over any writer or in memory.
 #![tactic(auto)]
 
 mod premise;
@@ -7,5 +7,5 @@ mod running;
 mod wording;
 
 pub use premise::{PREMISES, Premise, finding_of};
-pub use running::run_probe;
+pub use running::{probe_bytes, run_probe};
 pub use wording::{are_all_kept, report};

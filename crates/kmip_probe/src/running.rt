@@ -1,7 +1,7 @@
 //! The command `probe`: whether a server keeps what the theorem asks of it.
-ghost use Rattle.std.specs.Prelude.{◌≡◌, ◌≤◌, ◌+◌, [], length, false, true, string_bytes, IfErr, IfOk, IsTrue, option_map};
+ghost use Rattle.std.specs.Prelude.{◌≡◌, ◌≤◌, ◌+◌, ◌++◌, [], length, false, true, string_bytes, Some, IfErr, IfOk, OnErr, IsTrue, option_map};
 ghost use Rattle.std.specs.Io.KnownBytes.{Appends};
-ghost use Rattle.kmip_commands.specs.Printing.{IfFailed, IfWhole, UnlessOutput, fault_line};
+ghost use Rattle.kmip_commands.specs.Printing.{Fails, IfFailed, IfWhole, UnlessOutput, fault_line};
 ghost use Rattle.kmip_schedule.specs.Past.{Names};
 ghost use Rattle.kmip_premises.specs.Inquiries.{is_prefix, name_of};
 ghost use Rattle.kmip_premises.specs.Serving.{IsUnprobed};
@@ -18,7 +18,7 @@ ghost use Rattle.kmip_probe.specs.ProbeText.{
 };
 
 use crate::wording::{are_all_kept, report};
-use kmip_commands::{CommandFault, ExitStatus, finished, send};
+use kmip_commands::{CommandFault, ExitStatus, Printed, Printer, finished};
 use kmip_messages::Outcome;
 use kmip_premises::laws::the_profile_keeps_all;
 use kmip_premises::{
@@ -28,6 +28,7 @@ use kmip_schedule::Link;
 use kmip_ttlv::{NoMemory, plain_text};
 use std::alloc::Global;
 use std::io::Write;
+use std::mem;
 
 /// The line of a prefix that can't begin names.
 const UNFIT_PREFIX: &str =
@@ -61,56 +62,146 @@ pub fn run_probe<L: Link, W: Write>(
         → IsUnprobed prefix.now (L.past link.old) → IfWhole result (λ r. (r ≡ false)
         × Appends (W.contents writer.old) (W.contents writer.new) kept_text) }
 {
-    let ended = if is_prefix(prefix) {
-        tell(alloc, prefix, link, writer)
-    } else {
-        refuse_prefix(writer)
-    };
+    let ended = write_probe(alloc, prefix, link, writer);
     finished(ended, writer)
 }
 
-/// Writes that the prefix can't begin names; that is refused.
-///
-/// # Errors
-///
-/// `Output` where the writer fails.
-fn refuse_prefix<W: Write>(writer: &mut W) -> Result<bool, CommandFault>
-    ensures text { IfOk result (λ r. (r ≡ true)
-        × Appends (W.contents writer.old) (W.contents writer.new) unfit_text) }
-    ensures broken { IfErr result (λ fault. UnlessOutput fault
-        (Appends (W.contents writer.old) (W.contents writer.new) [])) }
-{
-    send(UNFIT_PREFIX.as_bytes(), false, writer)?;
-    Ok(true)
-}
-
-/// Asks the questions of a probe, and writes what their answers tell. Says whether a premise is not
-/// seen to be kept. Nothing is written before all is asked.
+/// Probes, and writes what came of it. Says whether the prefix was refused, or a premise is not seen to
+/// be kept. Nothing is written before all is asked.
 ///
 /// # Errors
 ///
 /// `Output` where the writer fails, and `NoMemory`: nothing is written then.
-fn tell<L: Link, W: Write>(
+fn write_probe<L: Link, W: Write>(
     alloc: Global,
     prefix: &str,
     link: &mut L,
     writer: &mut W,
 ) -> Result<bool, CommandFault>
-    requires { IsTrue (is_prefix prefix.now) }
-    ensures text { IfOk result (λ r. WritesProbe L.past L.honest prefix.now link.old link.new r
+    ensures text { IsTrue (is_prefix prefix.now) → IfOk result (λ r. WritesProbe
+        L.past L.honest prefix.now link.old link.new r
         (W.contents writer.old) (W.contents writer.new)) }
+    ensures unfit { is_prefix prefix.now ≡ false → (link.new ≡ link.old) × IfOk result
+        (λ r. (r ≡ true) × Appends (W.contents writer.old) (W.contents writer.new) unfit_text) }
     ensures broken { IfErr result (λ fault. UnlessOutput fault
         (Appends (W.contents writer.old) (W.contents writer.new) [])) }
     ensures few { (names : Names) → L.honest link.old names
         → length (L.past link.new).sent ≤ length (L.past link.old).sent + QUESTIONS }
-    ensures kept { (names : Names) → L.calm link.old names
+    ensures kept { IsTrue (is_prefix prefix.now) → (names : Names) → L.calm link.old names
         → IsUnprobed prefix.now (L.past link.old) → IfOk result (λ r. (r ≡ false)
         × Appends (W.contents writer.old) (W.contents writer.new) kept_text) }
+{
+    probe_to(alloc, prefix, link, writer)
+}
+
+/// Probes in memory: appends what `run_probe` writes to `output`, and says whether the prefix was
+/// refused, or a premise is not seen to be kept.
+///
+/// # Errors
+///
+/// Where there is no memory; then nothing is appended.
+pub fn probe_bytes<L: Link>(
+    alloc: Global,
+    prefix: &str,
+    link: &mut L,
+    output: &mut Vec<u8>,
+) -> Result<bool, NoMemory>
+    ensures text { IsTrue (is_prefix prefix.now) → IfOk result (λ r. WritesProbe
+        L.past L.honest prefix.now link.old link.new r
+        (Some output.old.items) (Some output.new.items)) }
+    ensures unfit { is_prefix prefix.now ≡ false → (link.new ≡ link.old) × IfOk result
+        (λ r. (r ≡ true) × (output.new.items ≡ output.old.items ++ unfit_text)) }
+    ensures broken { OnErr result (output.new.items ≡ output.old.items) }
+    ensures few { (names : Names) → L.honest link.old names
+        → length (L.past link.new).sent ≤ length (L.past link.old).sent + QUESTIONS }
+    ensures kept { IsTrue (is_prefix prefix.now) → (names : Names) → L.calm link.old names
+        → IsUnprobed prefix.now (L.past link.old) → IfOk result (λ r. (r ≡ false)
+        × (output.new.items ≡ output.old.items ++ kept_text)) }
+{
+    let mut printed = Printed {
+        text: mem::replace(output, Vec::new(alloc)),
+    };
+    let ended = probe_to(alloc, prefix, link, &mut printed);
+    *output = printed.text;
+    match ended {
+        Ok(refused) => Ok(refused),
+        Err(_) => Err(NoMemory),
+    }
+}
+
+/// Probes, and tells on any printer what came of it.
+///
+/// # Errors
+///
+/// `NoMemory`, and the fault of the printer.
+fn probe_to<L: Link, P: Printer>(
+    alloc: Global,
+    prefix: &str,
+    link: &mut L,
+    printer: &mut P,
+) -> Result<bool, CommandFault>
+    ensures text { IsTrue (is_prefix prefix.now) → IfOk result (λ r. WritesProbe
+        L.past L.honest prefix.now link.old link.new r
+        (P.contents printer.old) (P.contents printer.new)) }
+    ensures unfit { is_prefix prefix.now ≡ false → (link.new ≡ link.old) × IfOk result
+        (λ r. (r ≡ true) × Appends (P.contents printer.old) (P.contents printer.new) unfit_text) }
+    ensures broken { IfErr result (λ fault. Fails fault P.own_fault P.IsWhole
+        (P.contents printer.old) (P.contents printer.new)) }
+    ensures few { (names : Names) → L.honest link.old names
+        → length (L.past link.new).sent ≤ length (L.past link.old).sent + QUESTIONS }
+    ensures kept { IsTrue (is_prefix prefix.now) → (names : Names) → L.calm link.old names
+        → IsUnprobed prefix.now (L.past link.old) → IfOk result (λ r. (r ≡ false)
+        × Appends (P.contents printer.old) (P.contents printer.new) kept_text) }
+{
+    if is_prefix(prefix) {
+        tell(alloc, prefix, link, printer)
+    } else {
+        refuse_prefix(printer)
+    }
+}
+
+/// Tells that the prefix can't begin names; that is refused.
+///
+/// # Errors
+///
+/// The fault of the printer.
+fn refuse_prefix<P: Printer>(printer: &mut P) -> Result<bool, CommandFault>
+    ensures text { IfOk result (λ r. (r ≡ true)
+        × Appends (P.contents printer.old) (P.contents printer.new) unfit_text) }
+    ensures broken { IfErr result (λ fault. Fails fault P.own_fault P.IsWhole
+        (P.contents printer.old) (P.contents printer.new)) }
+{
+    printer.print(UNFIT_PREFIX.as_bytes())?;
+    Ok(true)
+}
+
+/// Asks the questions of a probe, and tells what their answers say. Says whether a premise is not
+/// seen to be kept. Nothing is printed before all is asked.
+///
+/// # Errors
+///
+/// `NoMemory`, and the fault of the printer.
+fn tell<L: Link, P: Printer>(
+    alloc: Global,
+    prefix: &str,
+    link: &mut L,
+    printer: &mut P,
+) -> Result<bool, CommandFault>
+    requires { IsTrue (is_prefix prefix.now) }
+    ensures text { IfOk result (λ r. WritesProbe L.past L.honest prefix.now link.old link.new r
+        (P.contents printer.old) (P.contents printer.new)) }
+    ensures broken { IfErr result (λ fault. Fails fault P.own_fault P.IsWhole
+        (P.contents printer.old) (P.contents printer.new)) }
+    ensures few { (names : Names) → L.honest link.old names
+        → length (L.past link.new).sent ≤ length (L.past link.old).sent + QUESTIONS }
+    ensures kept { (names : Names) → L.calm link.old names
+        → IsUnprobed prefix.now (L.past link.old) → IfOk result (λ r. (r ≡ false)
+        × Appends (P.contents printer.old) (P.contents printer.new) kept_text) }
 {
     the_profile_keeps_all();
     let answers = probe(alloc, prefix, link)?;
     let told = told_of(alloc, prefix, answers.as_slice())?;
-    send(told.text.as_str().as_bytes(), false, writer)?;
+    printer.print(told.text.as_str().as_bytes())?;
     Ok(told.refused)
 }
 

@@ -12,8 +12,10 @@ use Rattle.kmip_session.specs.Losing.{IsEnough}
 use Rattle.kmip_session.specs.declared.stop.Stop.{Stop}
 use Rattle.kmip_session.specs.declared.stop.Stop.TheVariants as stops
 use Rattle.kmip_progress.specs.declared.fault.ProgressFault.{ProgressFault}
+use Rattle.kmip_running.specs.Refusals.{HasRisen}
 use Rattle.kmip_running.specs.Saved.{AreSaved, IsInMemory, IsWhole, Moment, moment}
 use Rattle.kmip_running.specs.declared.keeper.SaveFault.{SaveFault}
+use Rattle.kmip_running.specs.declared.keeper.SaveFault.TheVariants as faults
 use Rattle.kmip_run.specs.Course.{AreUntouched, Came, IsGoodStart, IsTrueText}
 use Rattle.kmip_run.specs.RunText.{Outcome, TellsEither, TellsRunFrom}
 
@@ -27,7 +29,7 @@ no_stop : (fault : SaveFault) (stop : Stop) → ended (Err fault) ≡ ended (Ok 
 no_stop fault stop e = absurd cc
 
 -- what carrying out a plan promises, where memory did not run out
-came : {L K : Type 0} (past : L → Past) (honest calm : L → Names → Type 0) (disturbances : L → Disturbances) (keeps : K → Type 0) (saved : K → List (List ℕ)) (limit : ℕ) (a b : ClientState) (x y : L) (i j : K) (r : Result Stop SaveFault) (made : ℕ)
+came : {L K : Type 0} (past : L → Past) (honest calm : L → Names → Type 0) (disturbances : L → Disturbances) (keeps : K → Type 0) (saved : K → List (List ℕ)) (refusals : K → ℕ) (limit : ℕ) (a b : ClientState) (x y : L) (i j : K) (r : Result Stop SaveFault) (made : ℕ)
     → IsInMemory r
     → (honest x (is_planned a.keys) → honest y (is_planned a.keys) × (IsInMemory r → Learnt a.keys a.batch (past x) (past y) a.knowns b.knowns made))
     → Keeps a b
@@ -35,19 +37,21 @@ came : {L K : Type 0} (past : L → Past) (honest calm : L → Names → Type 0)
     → (IsSettling past calm a x → bound a.keys ≤ limit → IsWhole r
     → (r ≡ Ok stops.AllFinished) × (made ≤ need a (past x)) × (AsksOne a → made ≡ need a (past x)) × (made ≤ bound a.keys))
     → (IsGood past honest a x → IsWhole r → IsEnough a.keys limit (disturbances x) (disturbances y) → r ≡ Ok stops.AllFinished)
-    → Came past honest calm disturbances keeps saved limit a.batch (λ keys. IsGood past honest a x) x y i j a.keys a.knowns b.knowns r made
-came past honest calm disturbances keeps saved limit a b x y i j r made whole known kept saved_are settles outlasts =
+    → (r ≡ Err faults.Output → HasRisen (refusals i) (refusals j))
+    → Came past honest calm disturbances keeps saved refusals limit a.batch (λ keys. IsGood past honest a x) x y i j a.keys a.knowns b.knowns r made
+came past honest calm disturbances keeps saved refusals limit a b x y i j r made whole known kept saved_are settles outlasts unwritten =
     record {
       kept = kept.kept;
       learnt = λ h. (known h).1 whole;
       saved_are = saved_are;
       settles = λ quiet ready within all.
           let s = settles (record { calm_for = quiet; ready = ready }) within all in (s.0, s.3);
+      unwritten = unwritten;
       outlasts = outlasts;
     }
 
 -- where it stopped so
-pub came_stop : {L K : Type 0} (past : L → Past) (honest calm : L → Names → Type 0) (disturbances : L → Disturbances) (keeps : K → Type 0) (saved : K → List (List ℕ)) (limit : ℕ) (a b : ClientState) (x y : L) (i j : K) (r : Result Stop SaveFault) (stop : Stop) (made : ℕ)
+pub came_stop : {L K : Type 0} (past : L → Past) (honest calm : L → Names → Type 0) (disturbances : L → Disturbances) (keeps : K → Type 0) (saved : K → List (List ℕ)) (refusals : K → ℕ) (limit : ℕ) (a b : ClientState) (x y : L) (i j : K) (r : Result Stop SaveFault) (stop : Stop) (made : ℕ)
     → r ≡ Ok stop → stop ≢ stops.NoMemory
     → (honest x (is_planned a.keys) → honest y (is_planned a.keys) × (IsInMemory r → Learnt a.keys a.batch (past x) (past y) a.knowns b.knowns made))
     → Keeps a b
@@ -55,14 +59,15 @@ pub came_stop : {L K : Type 0} (past : L → Past) (honest calm : L → Names �
     → (IsSettling past calm a x → bound a.keys ≤ limit → IsWhole r
     → (r ≡ Ok stops.AllFinished) × (made ≤ need a (past x)) × (AsksOne a → made ≡ need a (past x)) × (made ≤ bound a.keys))
     → (IsGood past honest a x → IsWhole r → IsEnough a.keys limit (disturbances x) (disturbances y) → r ≡ Ok stops.AllFinished)
-    → Came past honest calm disturbances keeps saved limit a.batch (λ keys. IsGood past honest a x) x y i j a.keys a.knowns b.knowns (Ok stop) made
-came_stop past honest calm disturbances keeps saved limit a b x y i j r stop made is other known kept saved_are settles outlasts =
-    let P : Result Stop SaveFault → Type 0 = λ r. Came past honest calm disturbances keeps saved limit a.batch (λ keys. IsGood past honest a x) x y i j a.keys a.knowns b.knowns r made in
+    → (r ≡ Err faults.Output → HasRisen (refusals i) (refusals j))
+    → Came past honest calm disturbances keeps saved refusals limit a.batch (λ keys. IsGood past honest a x) x y i j a.keys a.knowns b.knowns (Ok stop) made
+came_stop past honest calm disturbances keeps saved refusals limit a b x y i j r stop made is other known kept saved_are settles outlasts unwritten =
+    let P : Result Stop SaveFault → Type 0 = λ r. Came past honest calm disturbances keeps saved refusals limit a.batch (λ keys. IsGood past honest a x) x y i j a.keys a.knowns b.knowns r made in
     let whole : IsInMemory r = λ e. other (same_stop stop stops.NoMemory (sym is ∙ e)) in
-    subst P is (came past honest calm disturbances keeps saved limit a b x y i j r made whole known kept saved_are settles outlasts)
+    subst P is (came past honest calm disturbances keeps saved refusals limit a b x y i j r made whole known kept saved_are settles outlasts unwritten)
 
 -- where the last text was not saved
-pub came_unsaved : {L K : Type 0} (past : L → Past) (honest calm : L → Names → Type 0) (disturbances : L → Disturbances) (keeps : K → Type 0) (saved : K → List (List ℕ)) (limit : ℕ) (a b : ClientState) (x y : L) (i j : K) (r : Result Stop SaveFault) (fault same : SaveFault) (made : ℕ)
+pub came_unsaved : {L K : Type 0} (past : L → Past) (honest calm : L → Names → Type 0) (disturbances : L → Disturbances) (keeps : K → Type 0) (saved : K → List (List ℕ)) (refusals : K → ℕ) (limit : ℕ) (a b : ClientState) (x y : L) (i j : K) (r : Result Stop SaveFault) (fault same : SaveFault) (made : ℕ)
     → r ≡ Err fault → fault ≡ same
     → (honest x (is_planned a.keys) → honest y (is_planned a.keys) × (IsInMemory r → Learnt a.keys a.batch (past x) (past y) a.knowns b.knowns made))
     → Keeps a b
@@ -70,11 +75,12 @@ pub came_unsaved : {L K : Type 0} (past : L → Past) (honest calm : L → Names
     → (IsSettling past calm a x → bound a.keys ≤ limit → IsWhole r
     → (r ≡ Ok stops.AllFinished) × (made ≤ need a (past x)) × (AsksOne a → made ≡ need a (past x)) × (made ≤ bound a.keys))
     → (IsGood past honest a x → IsWhole r → IsEnough a.keys limit (disturbances x) (disturbances y) → r ≡ Ok stops.AllFinished)
-    → Came past honest calm disturbances keeps saved limit a.batch (λ keys. IsGood past honest a x) x y i j a.keys a.knowns b.knowns (Err same) made
-came_unsaved past honest calm disturbances keeps saved limit a b x y i j r fault same made is alike known kept saved_are settles outlasts =
-    let P : Result Stop SaveFault → Type 0 = λ r. Came past honest calm disturbances keeps saved limit a.batch (λ keys. IsGood past honest a x) x y i j a.keys a.knowns b.knowns r made in
+    → (r ≡ Err faults.Output → HasRisen (refusals i) (refusals j))
+    → Came past honest calm disturbances keeps saved refusals limit a.batch (λ keys. IsGood past honest a x) x y i j a.keys a.knowns b.knowns (Err same) made
+came_unsaved past honest calm disturbances keeps saved refusals limit a b x y i j r fault same made is alike known kept saved_are settles outlasts unwritten =
+    let P : Result Stop SaveFault → Type 0 = λ r. Came past honest calm disturbances keeps saved refusals limit a.batch (λ keys. IsGood past honest a x) x y i j a.keys a.knowns b.knowns r made in
     let whole : IsInMemory r = λ e. no_stop fault stops.NoMemory (sym is ∙ e) in
-    subst (λ f. P (Err f)) alike (subst P is (came past honest calm disturbances keeps saved limit a b x y i j r made whole known kept saved_are settles outlasts))
+    subst (λ f. P (Err f)) alike (subst P is (came past honest calm disturbances keeps saved refusals limit a b x y i j r made whole known kept saved_are settles outlasts unwritten))
 
 saved_for : (keys : List Key) (most : ℕ) (good other honest : Type 0) (a b : Moment) (r : Result Stop SaveFault) (made : ℕ) (old new : List (List ℕ))
     → (other → good) → AreSaved keys most good honest a b r made old new → AreSaved keys most other honest a b r made old new
@@ -89,16 +95,17 @@ saved_for keys most good other honest a b r made old new f s = record {
   last_is = s.last_is;
 }
 
-came_for : {L K : Type 0} (past : L → Past) (honest calm : L → Names → Type 0) (disturbances : L → Disturbances) (keeps : K → Type 0) (saved : K → List (List ℕ)) (limit most : ℕ) (good other : List Key → Type 0) (x y : L) (i j : K) (keys : List Key) (knowns nexts : List Knowledge) (r : Result Stop SaveFault) (made : ℕ)
+came_for : {L K : Type 0} (past : L → Past) (honest calm : L → Names → Type 0) (disturbances : L → Disturbances) (keeps : K → Type 0) (saved : K → List (List ℕ)) (refusals : K → ℕ) (limit most : ℕ) (good other : List Key → Type 0) (x y : L) (i j : K) (keys : List Key) (knowns nexts : List Knowledge) (r : Result Stop SaveFault) (made : ℕ)
     → (other keys → good keys)
-    → Came past honest calm disturbances keeps saved limit most good x y i j keys knowns nexts r made
-    → Came past honest calm disturbances keeps saved limit most other x y i j keys knowns nexts r made
-came_for past honest calm disturbances keeps saved limit most good other x y i j keys knowns nexts r made f c =
+    → Came past honest calm disturbances keeps saved refusals limit most good x y i j keys knowns nexts r made
+    → Came past honest calm disturbances keeps saved refusals limit most other x y i j keys knowns nexts r made
+came_for past honest calm disturbances keeps saved refusals limit most good other x y i j keys knowns nexts r made f c =
     record {
       kept = c.kept;
       learnt = c.learnt;
       saved_are = λ k. ((c.saved_are k).0, saved_for keys most (good keys) (other keys) _ _ _ r made _ _ f (c.saved_are k).1);
       settles = c.settles;
+      unwritten = c.unwritten;
       outlasts = λ o. c.outlasts (f o);
     }
 
@@ -132,17 +139,17 @@ good_start : {L : Type 0} (past : L → Past) (honest : L → Names → Type 0) 
 good_start past honest a x text held g = record { honest_for = g.0.honest_for; sound = g.0.sound; held = held g.1 }
 
 -- from what a progress says, what is told has come of the exchanges
-pub tells_start : {L K : Type 0} (past : L → Past) (honest calm : L → Names → Type 0) (disturbances : L → Disturbances) (keeps : K → Type 0) (saved : K → List (List ℕ)) (a : ClientState) (x y : L) (i j : K) (keys : List Key) (text : Option (List ℕ)) (path : List ℕ) (limit : ℕ) (read : Result (List Knowledge) ProgressFault) (refused : Bool) (told : List ℕ)
+pub tells_start : {L K : Type 0} (past : L → Past) (honest calm : L → Names → Type 0) (disturbances : L → Disturbances) (keeps : K → Type 0) (saved : K → List (List ℕ)) (refusals : K → ℕ) (a : ClientState) (x y : L) (i j : K) (keys : List Key) (text : Option (List ℕ)) (path : List ℕ) (limit : ℕ) (read : Result (List Knowledge) ProgressFault) (refused : Bool) (told : List ℕ)
     → a.keys ≡ keys → read ≡ Ok a.knowns
     → (IsTrueText (past x).objects keys text → Held (past x).objects a.keys a.knowns)
-    → TellsEither (Came past honest calm disturbances keeps saved limit a.batch (λ keys. IsGood past honest a x) x y i j a.keys a.knowns) a.keys path limit refused told
-    → TellsRunFrom (AreUntouched x y i j) (Came past honest calm disturbances keeps saved limit a.batch (IsGoodStart past honest text x) x y i j keys) keys path limit read refused told
-tells_start past honest calm disturbances keeps saved a x y i j keys text path limit read refused told same is held t =
+    → TellsEither (Came past honest calm disturbances keeps saved refusals limit a.batch (λ keys. IsGood past honest a x) x y i j a.keys a.knowns) a.keys path limit refused told
+    → TellsRunFrom (AreUntouched x y i j) (Came past honest calm disturbances keeps saved refusals limit a.batch (IsGoodStart past honest text x) x y i j keys) keys path limit read refused told
+tells_start past honest calm disturbances keeps saved refusals a x y i j keys text path limit read refused told same is held t =
     let H : List Key → Type 0 = λ keys. IsTrueText (past x).objects keys text → Held (past x).objects a.keys a.knowns in
-    let came : Outcome = Came past honest calm disturbances keeps saved limit a.batch (λ keys. IsGood past honest a x) x y i j a.keys a.knowns in
-    let other : Outcome = Came past honest calm disturbances keeps saved limit a.batch (IsGoodStart past honest text x) x y i j a.keys a.knowns in
-    let P : List Key → Type 0 = λ keys. TellsRunFrom (AreUntouched x y i j) (Came past honest calm disturbances keeps saved limit a.batch (IsGoodStart past honest text x) x y i j keys) keys path limit read refused told in
-    let Q : Result (List Knowledge) ProgressFault → Type 0 = λ read. TellsRunFrom (AreUntouched x y i j) (Came past honest calm disturbances keeps saved limit a.batch (IsGoodStart past honest text x) x y i j a.keys) a.keys path limit read refused told in
+    let came : Outcome = Came past honest calm disturbances keeps saved refusals limit a.batch (λ keys. IsGood past honest a x) x y i j a.keys a.knowns in
+    let other : Outcome = Came past honest calm disturbances keeps saved refusals limit a.batch (IsGoodStart past honest text x) x y i j a.keys a.knowns in
+    let P : List Key → Type 0 = λ keys. TellsRunFrom (AreUntouched x y i j) (Came past honest calm disturbances keeps saved refusals limit a.batch (IsGoodStart past honest text x) x y i j keys) keys path limit read refused told in
+    let Q : Result (List Knowledge) ProgressFault → Type 0 = λ read. TellsRunFrom (AreUntouched x y i j) (Came past honest calm disturbances keeps saved refusals limit a.batch (IsGoodStart past honest text x) x y i j a.keys) a.keys path limit read refused told in
     let f : (knowns : List Knowledge) (r : Result Stop SaveFault) (made : ℕ) → came knowns r made → other knowns r made =
-    λ knowns r made c. came_for past honest calm disturbances keeps saved limit a.batch (λ keys. IsGood past honest a x) (IsGoodStart past honest text x) x y i j a.keys a.knowns knowns r made (good_start past honest a x text (subst H (sym same) held)) c in
+    λ knowns r made c. came_for past honest calm disturbances keeps saved refusals limit a.batch (λ keys. IsGood past honest a x) (IsGoodStart past honest text x) x y i j a.keys a.knowns knowns r made (good_start past honest a x text (subst H (sym same) held)) c in
     subst P same (subst Q (sym is) (tells_for came other a.keys path limit refused told f t))

@@ -1,10 +1,10 @@
 //! The command `run`: a plan is carried out over a link, and what is known is kept after each exchange.
-ghost use Rattle.std.specs.Prelude.{◌≡◌, ◌≢◌, List, [], Ok, IfErr, IfOk, IsTrue, option_map};
+ghost use Rattle.std.specs.Prelude.{◌≡◌, ◌≢◌, List, [], Ok, Some, IfErr, IfOk, OnErr, IsTrue, option_map};
 ghost use Rattle.std.specs.Io.KnownBytes.{Appends};
 ghost use Rattle.kmip_batches.specs.Members.{may_have};
 ghost use Rattle.kmip_plan.specs.Reading.{plan_read};
 ghost use Rattle.kmip_chains.specs.declared.key.Key.{Key};
-ghost use Rattle.kmip_commands.specs.Printing.{IfFailed, IfWhole, UnlessOutput, fault_line};
+ghost use Rattle.kmip_commands.specs.Printing.{Fails, IfFailed, IfWhole, UnlessOutput, fault_line};
 ghost use Rattle.kmip_schedule.specs.Past.{is_planned};
 ghost use Rattle.kmip_session.specs.Campaign.{GoodLink};
 ghost use Rattle.kmip_session.specs.Driving.{IsGood};
@@ -16,7 +16,7 @@ use crate::telling::{progress_refusal_text, run_text, unwritten_text};
 use kmip_check::push_refusal;
 use kmip_client::Client;
 use kmip_client::laws::onward_is_an_order;
-use kmip_commands::{CommandFault, ExitStatus, finished, send};
+use kmip_commands::{CommandFault, ExitStatus, Printed, Printer, finished};
 use kmip_plan::{Plan, read_plan};
 use kmip_progress::ProgressFault;
 use kmip_running::{Keeper, SaveFault, carry_out};
@@ -25,6 +25,7 @@ use kmip_session::Stop;
 use kmip_ttlv::NoMemory;
 use std::alloc::Global;
 use std::io::Write;
+use std::mem;
 
 /// What a run is given.
 #[derive(Clone, Copy, Debug)]
@@ -58,7 +59,7 @@ pub fn run_run<L: Link, K: Keeper, W: Write>(
     requires { IsTrue (may_have input.now.batch) }
     ensures text { IfWhole result (λ r. WritesRun
         (AreUntouched link.old link.new keeper.old keeper.new)
-        (Came L.past L.honest L.calm L.disturbances K.keeps K.saved
+        (Came L.past L.honest L.calm L.disturbances K.keeps K.saved K.refusals
         input.now.limit input.now.batch
         (IsGoodStart L.past L.honest (option_map (λ text. text.now) saved.entry) link.old)
         link.old link.new keeper.old keeper.new)
@@ -105,7 +106,7 @@ pub fn run<L: Link, K: Keeper, W: Write>(
     requires { IsTrue (may_have input.now.batch) }
     ensures text { IfOk result (λ r. WritesRun
         (AreUntouched link.old link.new keeper.old keeper.new)
-        (Came L.past L.honest L.calm L.disturbances K.keeps K.saved
+        (Came L.past L.honest L.calm L.disturbances K.keeps K.saved K.refusals
         input.now.limit input.now.batch
         (IsGoodStart L.past L.honest (option_map (λ text. text.now) saved.entry) link.old)
         link.old link.new keeper.old keeper.new)
@@ -123,8 +124,87 @@ pub fn run<L: Link, K: Keeper, W: Write>(
         → L.honest link.old (is_planned keys) → IfOk result (λ r. AsksFew keys input.now.batch
         (L.past link.old) (L.past link.new)) }
 {
+    run_to(alloc, input, saved, link, keeper, writer)
+}
+
+/// Does the same in memory: appends what is written to `output`.
+///
+/// # Errors
+///
+/// Where there is no memory; then nothing is appended. What the keeper was given stays.
+pub fn run_bytes<L: Link, K: Keeper>(
+    alloc: Global,
+    input: &RunInput<'_>,
+    saved: Option<&str>,
+    link: &mut L,
+    keeper: &mut K,
+    output: &mut Vec<u8>,
+) -> Result<bool, NoMemory>
+    requires { IsTrue (may_have input.now.batch) }
+    ensures text { IfOk result (λ r. WritesRun
+        (AreUntouched link.old link.new keeper.old keeper.new)
+        (Came L.past L.honest L.calm L.disturbances K.keeps K.saved K.refusals
+        input.now.limit input.now.batch
+        (IsGoodStart L.past L.honest (option_map (λ text. text.now) saved.entry) link.old)
+        link.old link.new keeper.old keeper.new)
+        (plan_read input.now.plan.now) (option_map (λ text. text.now) saved.entry)
+        input.now.path.now input.now.limit r (Some output.old.items) (Some output.new.items)) }
+    ensures broken { OnErr result (output.new.items ≡ output.old.items) }
+    ensures safe { (keys : List Key) → plan_read input.now.plan.now ≡ Ok keys
+        → GoodLink L.past L.honest keys link.old
+        → IsTrueText (L.past link.old).objects keys
+        (option_map (λ text. text.now) saved.entry)
+        → KeepsSafe L.past L.honest keys link.old link.new }
+    ensures few { (keys : List Key) → plan_read input.now.plan.now ≡ Ok keys
+        → L.honest link.old (is_planned keys) → IfOk result (λ r. AsksFew keys input.now.batch
+        (L.past link.old) (L.past link.new)) }
+{
+    let mut printed = Printed {
+        text: mem::replace(output, Vec::new(alloc)),
+    };
+    let ended = run_to(alloc, input, saved, link, keeper, &mut printed);
+    *output = printed.text;
+    match ended {
+        Ok(refused) => Ok(refused),
+        Err(_) => Err(NoMemory),
+    }
+}
+
+/// Does it on any printer.
+///
+/// # Errors
+///
+/// `NoMemory`, and the fault of the printer.
+fn run_to<L: Link, K: Keeper, P: Printer>(
+    alloc: Global,
+    input: &RunInput<'_>,
+    saved: Option<&str>,
+    link: &mut L,
+    keeper: &mut K,
+    printer: &mut P,
+) -> Result<bool, CommandFault>
+    requires { IsTrue (may_have input.now.batch) }
+    ensures text { IfOk result (λ r. WritesRun
+        (AreUntouched link.old link.new keeper.old keeper.new)
+        (Came L.past L.honest L.calm L.disturbances K.keeps K.saved K.refusals
+        input.now.limit input.now.batch
+        (IsGoodStart L.past L.honest (option_map (λ text. text.now) saved.entry) link.old)
+        link.old link.new keeper.old keeper.new)
+        (plan_read input.now.plan.now) (option_map (λ text. text.now) saved.entry)
+        input.now.path.now input.now.limit r (P.contents printer.old) (P.contents printer.new)) }
+    ensures broken { IfErr result (λ fault. Fails fault P.own_fault P.IsWhole
+        (P.contents printer.old) (P.contents printer.new)) }
+    ensures safe { (keys : List Key) → plan_read input.now.plan.now ≡ Ok keys
+        → GoodLink L.past L.honest keys link.old
+        → IsTrueText (L.past link.old).objects keys
+        (option_map (λ text. text.now) saved.entry)
+        → KeepsSafe L.past L.honest keys link.old link.new }
+    ensures few { (keys : List Key) → plan_read input.now.plan.now ≡ Ok keys
+        → L.honest link.old (is_planned keys) → IfOk result (λ r. AsksFew keys input.now.batch
+        (L.past link.old) (L.past link.new)) }
+{
     let told = told_of(alloc, input, saved, link, keeper)?;
-    send(told.text.as_slice(), false, writer)?;
+    printer.print(told.text.as_slice())?;
     Ok(told.refused)
 }
 
@@ -142,7 +222,7 @@ fn told_of<L: Link, K: Keeper>(
     requires { IsTrue (may_have input.now.batch) }
     ensures text { IfOk result (λ told. TellsRun
         (AreUntouched link.old link.new keeper.old keeper.new)
-        (Came L.past L.honest L.calm L.disturbances K.keeps K.saved
+        (Came L.past L.honest L.calm L.disturbances K.keeps K.saved K.refusals
         input.now.limit input.now.batch
         (IsGoodStart L.past L.honest (option_map (λ text. text.now) saved.entry) link.old)
         link.old link.new keeper.old keeper.new)
@@ -186,7 +266,7 @@ fn told_of_plan<L: Link, K: Keeper>(
     requires { IsTrue (may_have input.now.batch) }
     ensures text { IfOk result (λ told. TellsRunFrom
         (AreUntouched link.old link.new keeper.old keeper.new)
-        (Came L.past L.honest L.calm L.disturbances K.keeps K.saved
+        (Came L.past L.honest L.calm L.disturbances K.keeps K.saved K.refusals
         input.now.limit input.now.batch
         (IsGoodStart L.past L.honest (option_map (λ text. text.now) saved.entry) link.old)
         link.old link.new keeper.old keeper.new plan.now)
@@ -231,7 +311,7 @@ fn told_of_exchanges<L: Link, K: Keeper>(
     keeper: &mut K,
 ) -> Result<Told, NoMemory>
     ensures text { IfOk result (λ told. TellsEither
-        (Came L.past L.honest L.calm L.disturbances K.keeps K.saved
+        (Came L.past L.honest L.calm L.disturbances K.keeps K.saved K.refusals
         input.now.limit client.old.batch
         (λ keys. IsGood L.past L.honest client.old link.old)
         link.old link.new keeper.old keeper.new client.old.keys client.old.knowns)

@@ -4,3 +4,4 @@ pub mod CarryLemmas
 pub mod EndingLemmas
 pub mod LosingLemmas
 pub mod WaitLemmas
+pub mod RefusalLemmas

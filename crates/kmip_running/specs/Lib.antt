@@ -1,3 +1,4 @@
+pub mod Refusals
 pub mod Saved
 pub mod Carried
 pub mod Waits

@@ -1,5 +1,5 @@
 //! A plan carried out over a link, and saved after each exchange.
-ghost use Rattle.std.specs.Prelude.{◌≡◌, ◌≢◌, ◌≤◌, ◌+◌, ◌++◌, ◌∷◌, ◌⊎◌, [], ℕ, length, Ok, IfOk, IsTrue, OnErr, OnOk, false};
+ghost use Rattle.std.specs.Prelude.{◌≡◌, ◌≢◌, ◌≤◌, ◌+◌, ◌++◌, ◌∷◌, ◌⊎◌, [], ℕ, length, Ok, Err, IfOk, IfErr, IsTrue, OnErr, OnOk, false};
 ghost use Rattle.kmip_client.specs.Clients.{SomeWorks};
 ghost use Rattle.kmip_client.specs.Saving.{progress};
 ghost use Rattle.kmip_chains.specs.Chains.{bound};
@@ -9,6 +9,7 @@ ghost use Rattle.kmip_schedule.specs.Past.{Names, is_planned};
 ghost use Rattle.kmip_session.specs.Driving.{AsksOne, IsGood, IsSettling, Nearer, need, WentOn, Learnt, Grown, Keeps, Stands};
 ghost use Rattle.kmip_session.specs.Losing.{ArePaid, IsEnough, left_for};
 ghost use Rattle.kmip_running.specs.Carried.{Carried, CarryingLaws};
+ghost use Rattle.kmip_running.specs.Refusals.{HasRisen};
 ghost use Rattle.kmip_running.specs.Saved.{AreSaved, IsInMemory, IsWhole, moment};
 
 use crate::keeper::{Keeper, SaveFault};
@@ -61,6 +62,9 @@ pub fn carry_out<L: Link, K: Keeper>(
         (L.honest link.old (is_planned client.old.keys))
         (moment L.past client.old link.old) (moment L.past client.new link.new)
         result.0 result.1 (K.saved keeper.old) (K.saved keeper.new) }
+    ensures counted { K.refusals keeper.old ≤ K.refusals keeper.new }
+    ensures output { result.0 ≡ Err SaveFault.Output
+        → HasRisen (K.refusals keeper.old) (K.refusals keeper.new) }
     ensures stands { IfOk result.0 (λ stop. Stands stop client.new.keys client.new.knowns) }
     ensures limit { result.0 ≡ Ok Stop.Limit → result.1 ≡ limit }
     ensures within { result.1 ≤ limit }
@@ -124,6 +128,9 @@ fn exchange_to_the_end<L: Link, K: Keeper>(
 ) -> (Result<Stop, SaveFault>, usize)
     ensures carried { Carried L.past L.honest L.calm K.keeps K.saved client.old client.new
         link.old link.new keeper.old keeper.new result.0 result.1 }
+    ensures counted { K.refusals keeper.old ≤ K.refusals keeper.new }
+    ensures output { result.0 ≡ Err SaveFault.Output
+        → HasRisen (K.refusals keeper.old) (K.refusals keeper.new) }
     ensures stands { IfOk result.0 (λ stop. Stands stop client.new.keys client.new.knowns) }
     ensures limit { result.0 ≡ Ok Stop.Limit → result.1 ≡ limit }
     ensures within { result.1 ≤ limit }
@@ -159,6 +166,9 @@ fn exchange_in_turn<L: Link, K: Keeper>(
 ) -> (Result<Stop, SaveFault>, usize)
     ensures carried { Carried L.past L.honest L.calm K.keeps K.saved client.old client.new
         link.old link.new keeper.old keeper.new result.0 result.1 }
+    ensures counted { K.refusals keeper.old ≤ K.refusals keeper.new }
+    ensures output { result.0 ≡ Err SaveFault.Output
+        → HasRisen (K.refusals keeper.old) (K.refusals keeper.new) }
     ensures stands { IfOk result.0 (λ stop. Stands stop client.new.keys client.new.knowns) }
     ensures limit { result.0 ≡ Ok Stop.Limit → result.1 ≡ limit }
     ensures within { result.1 ≤ limit }
@@ -196,6 +206,9 @@ fn exchange_once<L: Link, K: Keeper>(
 ) -> (Result<Stop, SaveFault>, usize)
     ensures carried { Carried L.past L.honest L.calm K.keeps K.saved client.old client.new
         link.old link.new keeper.old keeper.new result.0 result.1 }
+    ensures counted { K.refusals keeper.old ≤ K.refusals keeper.new }
+    ensures output { result.0 ≡ Err SaveFault.Output
+        → HasRisen (K.refusals keeper.old) (K.refusals keeper.new) }
     ensures stands { IfOk result.0 (λ stop. Stands stop client.new.keys client.new.knowns) }
     ensures limit { result.0 ≡ Ok Stop.Limit → result.1 ≡ 1 }
     ensures within { result.1 ≤ 1 }
@@ -229,10 +242,13 @@ fn save_progress<K: Keeper>(
     client: &Client<'_>,
     keeper: &mut K,
 ) -> Result<(), SaveFault>
-    ensures { K.keeps keeper.old → K.keeps keeper.new
+    ensures kept { K.keeps keeper.old → K.keeps keeper.new
         × OnOk result (K.saved keeper.new ≡ K.saved keeper.old
         ++ progress_text client.now.keys (progress client.now) ∷ [])
         × OnErr result (K.saved keeper.new ≡ K.saved keeper.old) }
+    ensures counted { K.refusals keeper.old ≤ K.refusals keeper.new }
+    ensures output { IfErr result (λ fault. fault ≡ SaveFault.Output
+        → HasRisen (K.refusals keeper.old) (K.refusals keeper.new)) }
 {
     let progress = client.progress(alloc)?;
     let text = progress.write_text(alloc, client.plan())?;

@@ -1,5 +1,5 @@
 -- What one read adds to what is held.
-use Rattle.std.proofs.Common.{◌≡◌, ℕ, ◌+◌, ◌≤◌, List, [], ◌++◌, length, take, Option, Err, inl, inr, refl, sym, ap, subst, ◌∙◌, arith}
+use Rattle.std.proofs.Common.{◌≡◌, ◌≢◌, ℕ, ◌+◌, ◌≤◌, ◌<◌, List, [], ◌++◌, length, take, Option, Result, Ok, Err, inl, inr, refl, sym, ap, subst, ◌∙◌, arith}
 use Rattle.std.specs.Io.KnownBytes.{Consumes, Keeps}
 use Rattle.std.proofs.KnownBytes.{Consumes-nil, Consumes-trans, Consumes-kept}
 use Rattle.std.proofs.lemmas.Bool.{cases_lt}
@@ -9,8 +9,8 @@ use Rattle.kmip_ttlv.specs.Limits.{head_size}
 use Rattle.kmip_frames.specs.Framing.{size_needed, wants, held_after, count_taken}
 use Rattle.kmip_frames.specs.Laws.{ShortBytesLackAHead, SizesAreBounded, MoreChangesNothing}
 use Rattle.kmip_schedule.specs.declared.link.LinkFault.{LinkFault}
-use Rattle.kmip_schedule.specs.declared.link.LinkFault.TheVariants.{Io}
-use Rattle.kmip_transport.specs.Receiving.{Takes, IsUnfinished, Receives}
+use Rattle.kmip_schedule.specs.declared.link.LinkFault.TheVariants.{Io, Frame, NoMemory}
+use Rattle.kmip_transport.specs.Receiving.{Takes, IsUnfinished, IsHandedOver, Receives}
 
 -- a piece that is no longer than what is lacking is taken whole
 pub whole_piece : ShortBytesLackAHead → SizesAreBounded → MoreChangesNothing
@@ -78,3 +78,18 @@ received_no_more bytes fault a b c d x y z one unfinished two (io, kept) =
 -- room for no more than is wanted
 pub fits : (size own most said : ℕ) (room : List ℕ) → size ≡ min own most → own ≡ said → length (take size room) ≤ said
 fits size own most said room is same = omega (arith, length-take size room)
+
+-- a piece of some bytes makes what is held longer
+pub grows : ShortBytesLackAHead → SizesAreBounded → MoreChangesNothing
+    → (held new piece : List ℕ) → length piece ≤ wants held → new ≡ held_after held piece → 0 < length piece → length held < length new
+grows short bounds more held new piece fits is some =
+    let size : length new ≡ length held + length piece = ap length (is ∙ piece_held short bounds more held piece fits) ∙ length-append held piece in
+    omega arith
+
+-- what is handed over, or why nothing is, is no failure
+pub handed_is_no_io : {M : Type 0} (bytes : M → List ℕ) (result : Result (Option M) LinkFault) (old new : List ℕ) → IsHandedOver bytes result old new
+    → result ≢ Err Io
+handed_is_no_io bytes (Ok answer) old new handed is = absurd cc
+handed_is_no_io bytes (Err Io) old new handed is = absurd handed
+handed_is_no_io bytes (Err Frame) old new handed is = absurd cc
+handed_is_no_io bytes (Err NoMemory) old new handed is = absurd cc

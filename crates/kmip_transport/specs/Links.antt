@@ -1,6 +1,6 @@
 -- What a contract sees of a link over streams, and what happens to it.
 -- Source: own. Nothing is known of what goes over a network: no clause speaks of its bytes.
-use Rattle.std.specs.Prelude.{ℕ, ◌+◌, Bool, true, false, ◌&&◌, not, [], Option, Some, None, Result, Ok, Err}
+use Rattle.std.specs.Prelude.{ℕ, ◌+◌, List, Bool, true, false, ◌&&◌, not, [], Option, Some, None, Result, Ok, Err}
 use Rattle.kmip_schedule.specs.Clean.{Disturbances}
 use Rattle.kmip_schedule.specs.Past.{Past}
 use Rattle.kmip_schedule.specs.declared.link.LinkFault.{LinkFault}
@@ -49,3 +49,7 @@ unknown_past = record { room = 0; objects = []; requests = []; replies = []; eff
 -- Private: and no exchange is counted, clean or disturbed
 abbrev pub none_counted : Disturbances
 none_counted = record { disturbed = 0; requests = 0; strange = 0 }
+
+-- Private: and no end of a run is noted
+abbrev pub none_ended : List ℕ
+none_ended = []

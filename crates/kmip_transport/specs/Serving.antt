@@ -1,12 +1,12 @@
 -- What a server does to a stream of messages, and how that ends.
 -- Source: own, over KMIP 2.1, Message Structure.
-use Rattle.std.specs.Prelude.{◌≡◌, ◌<◌, ◌⊎◌, ℕ, ℤ, List, [], ◌∷◌, ◌++◌, length, codes, Option, Some, IfSome}
+use Rattle.std.specs.Prelude.{◌≡◌, ◌<◌, ◌⊎◌, ℕ, ℤ, List, [], ◌∷◌, ◌++◌, length, codes, Option, Some, None, IfSome}
 use Rattle.std.specs.Io.KnownBytes.{Consumes, Appends, IsAtEnd}
 use Rattle.std.specs.List.{AllByRecursion}
 use Rattle.kmip_batches.specs.Items.{parts_in, stops_in}
 use Rattle.kmip_frames.specs.declared.fault.FrameFault.{FrameFault}
 use Rattle.kmip_frames.specs.Framing.{fault_in}
-use Rattle.kmip_frames.specs.Streams.{IsMessage, BeginsWithNoMessage, joined}
+use Rattle.kmip_frames.specs.Streams.{IsMessage, BeginsWithNoMessage, Stream, joined}
 use Rattle.kmip_schedule.specs.declared.link.LinkFault.{LinkFault}
 use Rattle.kmip_schedule.specs.declared.link.LinkFault.TheVariants as faults
 use Rattle.kmip_server.specs.Batching.{batch_reply, stock_after_batch, AreBegun}
@@ -46,13 +46,17 @@ EndsWith (Frame fault) rest left = (fault_in rest ≡ Some fault) × BeginsWithN
 EndsWith Io rest left = IsUnfinished rest
 EndsWith NoMemory rest left = (rest ≡ []) ⊎ IsMessage rest
 
+-- some of the first questions of the message were served, and not all of them
+abbrev pub IsBegun : List ℕ → Stock → Stock → Type 0
+IsBegun message s new = (effects : List Effect) × AreBegun (stops_in message) (parts_in message) effects s new
+
 -- The records after the messages that were answered. Where there is no memory some of the first questions of the rest may have been
 -- served, and not all of them.
 abbrev pub IsLeft : StreamEnd → List ℕ → Stock → Stock → Type 0
 IsLeft (Ended size) rest s new = new ≡ s
 IsLeft (Frame fault) rest s new = new ≡ s
 IsLeft Io rest s new = new ≡ s
-IsLeft NoMemory rest s new = (new ≡ s) ⊎ ((effects : List Effect) × AreBegun (stops_in rest) (parts_in rest) effects s new)
+IsLeft NoMemory rest s new = (new ≡ s) ⊎ (IsMessage rest × IsBegun rest s new)
 
 -- The replies to the messages were written. A writer that failed may have taken anything, but failed at a reply.
 abbrev pub IsWritten : StreamEnd → List (List ℕ) → Type 0 → Type 0
@@ -72,6 +76,38 @@ pub record Serves (now : ℤ) (end : StreamEnd) (old new : Stock) (unread left b
   pub records : IsLeft end rest (stock_after_messages old messages) new
   pub written : IsWritten end messages (Appends before after (replies_to now old messages))
 
+-- How a stream in memory ends, by the rest behind its messages: an unfinished one, or a head that is no message's.
+abbrev pub EndsAt : StreamEnd → List ℕ → Type 0
+EndsAt (Ended size) rest = (fault_in rest ≡ None) × (size ≡ length rest)
+EndsAt (Frame fault) rest = fault_in rest ≡ Some fault
+EndsAt Io rest = ⊥
+EndsAt NoMemory rest = ⊥
+
+-- The messages of the stream that the input is were served in turn at a time, and the replies to them appended.
+pub record ServesAll (now : ℤ) (end : StreamEnd) (old new : Stock) (input before after : List ℕ) : Type 0 where
+  pub messages : List (List ℕ)
+  pub rest : List ℕ
+  pub stream : Stream input messages rest
+  pub ends : EndsAt end rest
+  pub records : new ≡ stock_after_messages old messages
+  pub written : after ≡ before ++ replies_to now old messages
+
+-- the message was served, or some of its first questions
+pub record IsUnanswered (message : List ℕ) (s new : Stock) : Type 0 where
+  pub is : IsMessage message
+  pub served : (new ≡ stock_after_batch s message) ⊎ IsBegun message s new
+
+-- Some first messages of the input were served in turn at a time, and the replies to them appended. The message that stands next has no
+-- reply, and may have been served.
+pub record BreaksOff (now : ℤ) (old new : Stock) (input before after : List ℕ) : Type 0 where
+  pub messages : List (List ℕ)
+  pub next : List ℕ
+  pub rest : List ℕ
+  pub read : input ≡ joined messages ++ next ++ rest
+  pub each : AllByRecursion IsMessage messages
+  pub records : (new ≡ stock_after_messages old messages) ⊎ IsUnanswered next (stock_after_messages old messages) new
+  pub written : after ≡ before ++ replies_to now old messages
+
 -- Private: one message was read and served, and its reply written
 pub record ServesOne (now : ℤ) (old new : Stock) (unread left before after : Option (List ℕ)) : Type 0 where
   pub message : List ℕ
@@ -79,6 +115,16 @@ pub record ServesOne (now : ℤ) (old new : Stock) (unread left before after : O
   pub is : IsMessage message
   pub records : new ≡ stock_after_batch old message
   pub written : Appends before after (batch_reply old message now)
+
+-- Private: messages were served in turn, and the reply to the last one was not written. What takes all or nothing holds the others.
+pub record LosesReply (now : ℤ) (IsWhole : Type 0) (old new : Stock) (unread left before after : Option (List ℕ)) : Type 0 where
+  pub messages : List (List ℕ)
+  pub last : List ℕ
+  pub read : Consumes unread left (joined messages ++ last)
+  pub each : AllByRecursion IsMessage messages
+  pub is : IsMessage last
+  pub records : new ≡ stock_after_batch (stock_after_messages old messages) last
+  pub written : IsWhole → Appends before after (replies_to now old messages)
 
 -- Private: how a stream ends by the fault of a call that receives, and by that of the head that is held
 abbrev pub EndsBy : LinkFault → Option FrameFault → StreamEnd → Type 0

@@ -1,4 +1,13 @@
 //! The links over streams as links. Nothing is claimed of what a network does.
+ghost use Rattle.std.specs.Prelude.{◌≡◌, ◌≤◌, ◌<◌, length, Ok, None, IfErr};
+ghost use Rattle.kmip_schedule.specs.Calm.{CalmlyExchanged, CalmlyEnded};
+ghost use Rattle.kmip_schedule.specs.Clean.{Counted, IsRoomy};
+ghost use Rattle.kmip_schedule.specs.Ending.{Ended};
+ghost use Rattle.kmip_schedule.specs.Exchanges.{Exchanged, answer_in};
+ghost use Rattle.kmip_schedule.specs.Faults.{most_failures};
+ghost use Rattle.kmip_schedule.specs.Moves.{Delivered};
+ghost use Rattle.kmip_schedule.specs.Past.{Names};
+ghost use Rattle.kmip_transport.specs.Links.{closed, link_after, none_counted, none_ended, opened, unknown_past};
 
 use crate::dial::Dial;
 use crate::stream_link::StreamLink;
@@ -7,8 +16,7 @@ use std::alloc::Global;
 
 /// Never known to be honest or calm: a network may do anything.
 impl<D: Dial + Drop> Link for StreamLink<D> {
-    ghost use Rattle.std.specs.Prelude.{[]};
-    ghost use Rattle.kmip_transport.specs.Links.{none_counted, unknown_past};
+    ghost use Rattle.kmip_transport.specs.Links.{none_counted, none_ended, unknown_past};
 
     ghost past = { λ link. unknown_past };
 
@@ -18,18 +26,50 @@ impl<D: Dial + Drop> Link for StreamLink<D> {
 
     ghost failures = { λ link. link.failures };
 
-    ghost ended = { λ link. [] };
+    ghost ended = { λ link. none_ended };
 
     ghost disturbances = { λ link. none_counted };
 
-    fn exchange(&mut self, alloc: Global, request: &[u8]) -> Result<Option<Vec<u8>>, LinkFault> {
+    /// The request is sent once, and once a reply received.
+    fn exchange(&mut self, alloc: Global, request: &[u8]) -> Result<Option<Vec<u8>>, LinkFault>
+        ensures honest { (names : Names) → ⊥ → ⊥ × Exchanged names unknown_past request.now
+            (answer_in (λ v. v.items) result) unknown_past }
+        ensures calm { (names : Names) → ⊥ → ⊥ × CalmlyExchanged names unknown_past request.now
+            (answer_in (λ v. v.items) result) unknown_past }
+        ensures counted { self.old.failures ≤ self.new.failures }
+        ensures io { IfErr result (λ fault. fault ≡ LinkFault.Io
+            → self.old.failures < self.new.failures) }
+        ensures spent { self.old.failures ≡ most_failures
+            → answer_in (λ v. v.items) result ≡ Ok None }
+        ensures disturbed { (names : Names) → ⊥ → Counted names unknown_past request.now
+            (answer_in (λ v. v.items) result) unknown_past none_counted none_counted }
+        ensures undisturbed { (names : Names) → ⊥ → IsRoomy (answer_in (λ v. v.items) result)
+            → none_counted ≡ none_counted }
+        ensures ended { (names : Names) → ⊥ → none_ended ≡ none_ended }
+        ensures one { self.old.failures < most_failures
+            → self.new ≡ link_after result (opened self.old) }
+        ensures at_last { self.old.failures ≡ most_failures → self.new ≡ closed self.old }
+    {
         match self.send(request) {
             Ok(()) => self.receive(alloc),
             Err(fault) => Err(fault),
         }
     }
 
-    fn end_run(&mut self, _alloc: Global) -> Result<(), LinkFault> {
+    /// The stream is closed, if one is open.
+    fn end_run(&mut self, _alloc: Global) -> Result<(), LinkFault>
+        ensures honest { (names : Names) → ⊥ → ⊥ × Delivered names unknown_past unknown_past }
+        ensures calm { (names : Names) → ⊥
+            → ⊥ × CalmlyEnded names result unknown_past unknown_past }
+        ensures counted { self.old.failures ≤ self.new.failures }
+        ensures io { IfErr result (λ fault. fault ≡ LinkFault.Io
+            → self.old.failures < self.new.failures) }
+        ensures spent { self.old.failures ≡ most_failures → result ≡ Ok tt }
+        ensures undisturbed { (names : Names) → ⊥ → none_counted ≡ none_counted }
+        ensures ended { (names : Names) → ⊥
+            → Ended result (length unknown_past.sent) none_ended none_ended }
+        ensures closed { self.new ≡ closed self.old }
+    {
         self.close();
         Ok(())
     }

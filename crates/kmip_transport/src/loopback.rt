@@ -1,5 +1,5 @@
 //! A link to a server of this process, over TCP on this machine.
-ghost use Rattle.std.specs.Prelude.{◌≡◌, false, Ok};
+ghost use Rattle.std.specs.Prelude.{◌≡◌, ◌↔◌, false, Ok, IsErr};
 
 use crate::dial::Tcp;
 use crate::receiving::receive_message;
@@ -15,7 +15,8 @@ use std::time::{Clock, Duration};
 
 /// A link to a server of its own, over TCP on 127.0.0.1 and a port that the system picks: client and
 /// server take turns in one thread. The Time Stamp of each reply is 0. An exchange in which the server
-/// has no memory ends with that fault, and the request was not served.
+/// has no memory ends with that fault: of the questions of the request some first ones may have been
+/// served, and not all of them, so of a single one nothing has happened.
 #[derive(Drop)]
 pub struct Loopback<R: Net + Clock + Drop, S: Records + Drop> {
     link: TcpLink<R>,
@@ -68,10 +69,7 @@ impl<R: Net + Clock + Drop, S: Records + Drop> Loopback<R, S> {
             Ok(()) => Ok(()),
             Err(fault) => {
                 self.link.close();
-                if fault == LinkFault::NoMemory {
-                    return Err(NoMemory);
-                }
-                Ok(())
+                unless_lost(fault)
             }
         }
     }
@@ -132,6 +130,19 @@ impl<R: Net + Clock + Drop, S: Records + Drop> Loopback<R, S> {
             Ok(reply) => Ok(reply),
             Err(NoMemory) => Err(LinkFault::NoMemory),
         }
+    }
+}
+
+/// Why a reply was not sent, where it is not just lost.
+///
+/// # Errors
+/// Where there is no memory.
+fn unless_lost(fault: LinkFault) -> Result<(), NoMemory>
+    ensures { IsErr result ↔ (fault ≡ LinkFault.NoMemory) }
+{
+    match fault {
+        LinkFault::NoMemory => Err(NoMemory),
+        LinkFault::Io | LinkFault::Frame => Ok(()),
     }
 }
 

@@ -1,10 +1,12 @@
 //! One message from a stream.
-ghost use Rattle.std.specs.Prelude.{◌≡◌, ◌<◌, ◌≤◌, length, true, false, Ok, None, IfOk, IfErr};
+ghost use Rattle.std.specs.Prelude.{◌≡◌, ◌≢◌, ◌<◌, ◌≤◌, length, true, false, Ok, Err, None, Some, IfOk, IfErr, IsOk};
 ghost use Rattle.std.specs.Io.KnownBytes.{IsAtEnd};
+ghost use Rattle.std.specs.IoError.{error_kind};
 ghost use Rattle.kmip_frames.specs.Framing.{fault_in, wants};
 ghost use Rattle.kmip_frames.specs.Streams.{BeginsWithNoMessage};
 ghost use Rattle.kmip_transport.specs.Receiving.{Takes, Receives, IsHandedOver};
 
+use crate::source::{InMemory, Source};
 use kmip_frames::laws::sizes;
 use kmip_frames::{FrameFault, Framer};
 use kmip_schedule::LinkFault;
@@ -32,7 +34,41 @@ pub fn receive_message<R: Read>(
     ensures { Receives (λ message. message.items) result framer.old framer.new
         (R.remaining reader.old) (R.remaining reader.new) }
 {
-    for _ in 0..u64::MAX {
+    receive(alloc, reader, framer)
+}
+
+/// Does the same in memory: takes the bytes of the message from the front of `input`. Memory does
+/// not fail, so it never answers `Io`.
+///
+/// # Errors
+/// `Frame` where the next eight bytes are no head of a message: so it is from then on. `NoMemory`:
+/// the message waits in the framer.
+pub fn receive_from_bytes(
+    alloc: Global,
+    input: &mut &[u8],
+    framer: &mut Framer,
+) -> Result<Option<Vec<u8>>, LinkFault>
+    ensures received { Receives (λ message. message.items) result framer.old framer.new
+        (Some input.old.now) (Some input.new.now) }
+    ensures memory { result ≢ Err LinkFault.Io }
+{
+    let mut source = InMemory { rest: *input };
+    let received = receive(alloc, &mut source, framer);
+    *input = source.rest;
+    received
+}
+
+/// Reads one message from any source, as `receive_message` says. A source that is sure never fails.
+pub(crate) fn receive<R: Source>(
+    alloc: Global,
+    reader: &mut R,
+    framer: &mut Framer,
+) -> Result<Option<Vec<u8>>, LinkFault>
+    ensures received { Receives (λ message. message.items) result framer.old framer.new
+        (R.remaining reader.old) (R.remaining reader.new) }
+    ensures sure { R.IsSure → result ≢ Err LinkFault.Io }
+{
+    for _turn in 0..u64::MAX {
         match hand_over(alloc, framer) {
             Ok(None) => {}
             answer => return answer,
@@ -43,6 +79,7 @@ pub fn receive_message<R: Read>(
             Err(fault) => return Err(fault),
         }
     }
+    let _held = framer.pending();
     match hand_over(alloc, framer) {
         Ok(None) => Err(LinkFault::Io),
         answer => answer,
@@ -63,7 +100,7 @@ fn hand_over(alloc: Global, framer: &mut Framer) -> Result<Option<Vec<u8>>, Link
 
 /// Reads once, at most what the framer lacks, and says whether the stream goes on. A head that is no
 /// message's stays in the framer.
-fn take_piece<R: Read>(reader: &mut R, framer: &mut Framer) -> Result<bool, LinkFault>
+fn take_piece<R: Source>(reader: &mut R, framer: &mut Framer) -> Result<bool, LinkFault>
     requires lawful { fault_in framer.old ≡ None }
     requires begun { BeginsWithNoMessage framer.old }
     ensures taken { Takes framer.old framer.new
@@ -72,6 +109,8 @@ fn take_piece<R: Read>(reader: &mut R, framer: &mut Framer) -> Result<bool, Link
         → (framer.new ≡ framer.old) × IsAtEnd (R.remaining reader.new) }
     ensures refused { IfErr result (λ fault.
         (fault ≡ LinkFault.Io) × (framer.new ≡ framer.old)) }
+    ensures sure { R.IsSure → IsOk result }
+    ensures grown { R.IsSure → result ≡ Ok true → length framer.old < length framer.new }
 {
     sizes();
     let _held = framer.pending();
@@ -81,7 +120,7 @@ fn take_piece<R: Read>(reader: &mut R, framer: &mut Framer) -> Result<bool, Link
 }
 
 /// The same, over room for the piece that is read.
-fn read_into<R: Read>(
+fn read_into<R: Source>(
     reader: &mut R,
     framer: &mut Framer,
     room: &mut [u8],
@@ -94,9 +133,11 @@ fn read_into<R: Read>(
         → (framer.new ≡ framer.old) × IsAtEnd (R.remaining reader.new) }
     ensures refused { IfErr result (λ fault.
         (fault ≡ LinkFault.Io) × (framer.new ≡ framer.old)) }
+    ensures sure { R.IsSure → IsOk result }
+    ensures grown { R.IsSure → result ≡ Ok true → length framer.old < length framer.new }
 {
     sizes();
-    match reader.read(room) {
+    match reader.read_once(room) {
         Ok(0) => Ok(false),
         Ok(count) => {
             // A fault of the head stays in the framer, which answers it when it is asked next.
@@ -109,7 +150,8 @@ fn read_into<R: Read>(
 
 /// A read that was interrupted is tried again: the stream goes on.
 fn after_failure(error: &Error) -> Result<bool, LinkFault>
-    ensures interrupted { IfOk result (λ goes_on. goes_on ≡ true) }
+    ensures interrupted { error_kind error.now ≡ ErrorKind.Interrupted → IsOk result }
+    ensures goes_on { IfOk result (λ goes_on. goes_on ≡ true) }
     ensures refused { IfErr result (λ fault. fault ≡ LinkFault.Io) }
 {
     if error.kind() == ErrorKind::Interrupted {

@@ -1,7 +1,8 @@
 //! A message onto a stream.
-ghost use Rattle.std.specs.Prelude.{◌≡◌, OnOk, IfErr};
+ghost use Rattle.std.specs.Prelude.{◌≡◌, OnOk, OnErr, IfErr};
 ghost use Rattle.std.specs.Io.KnownBytes.{Appends, Keeps};
 
+use crate::sink::Sink;
 use kmip_schedule::LinkFault;
 use std::io::Write;
 
@@ -14,19 +15,22 @@ pub fn send_message<W: Write>(writer: &mut W, message: &[u8]) -> Result<(), Link
         (Appends (W.contents writer.old) (W.contents writer.new) message.now) }
     ensures refused { IfErr result (λ fault. fault ≡ LinkFault.Io) }
 {
-    match writer.write_all(message) {
-        Ok(()) => send_on(writer),
-        Err(_) => Err(LinkFault::Io),
-    }
+    send(writer, message)
 }
 
-/// Sends on what the writer holds back.
-fn send_on<W: Write>(writer: &mut W) -> Result<(), LinkFault>
-    ensures unwritten { Keeps (W.contents writer.old) (W.contents writer.new) }
-    ensures refused { IfErr result (λ fault. fault ≡ LinkFault.Io) }
+/// The same, to any sink: it fails only where the sink does.
+///
+/// # Errors
+/// The fault of the sink: what takes all or nothing is as it was then.
+pub(crate) fn send<W: Sink>(writer: &mut W, message: &[u8]) -> Result<(), LinkFault>
+    ensures sent { OnOk result
+        (Appends (W.contents writer.old) (W.contents writer.new) message.now) }
+    ensures refused { IfErr result (λ fault. fault ≡ W.fault) }
+    ensures kept { W.IsWhole
+        → OnErr result (Keeps (W.contents writer.old) (W.contents writer.new)) }
 {
-    match writer.flush() {
-        Ok(()) => Ok(()),
-        Err(_) => Err(LinkFault::Io),
+    match writer.put(message) {
+        Ok(()) => writer.send_on(),
+        Err(fault) => Err(fault),
     }
 }

@@ -1,16 +1,19 @@
 //! A stream of messages, answered by a server.
-ghost use Rattle.std.specs.Prelude.{◌≡◌, [], IfSome, IfNone, IsSome};
+ghost use Rattle.std.specs.Prelude.{◌≡◌, ◌≢◌, [], Ok, Some, IfSome, IfNone, IsSome, IfOk, IfErr, OnErr};
 ghost use Rattle.kmip_frames.specs.Framing.{fault_in};
-ghost use Rattle.kmip_transport.specs.Serving.{stream_end_number, stream_end_name, Serves, ServesOne, EndsBy};
+ghost use Rattle.kmip_transport.specs.Serving.{stream_end_number, stream_end_name, Serves, ServesAll, BreaksOff, ServesOne, LosesReply, EndsBy};
 
-use crate::receiving::receive_message;
-use crate::sending::send_message;
-use kmip_frames::laws::sizes;
+use crate::receiving::receive;
+use crate::sending::send;
+use crate::sink::{Gathered, Sink};
+use crate::source::{InMemory, Source};
+use kmip_frames::laws::{sizes, stream_laws};
 use kmip_frames::{FrameFault, Framer};
 use kmip_schedule::LinkFault;
 use kmip_server::{Records, Server};
 use std::alloc::Global;
 use std::io::{Read, Write};
+use std::mem;
 
 /// How a stream of messages that was served came to its end.
 #[derive(Clone, Copy, Debug)]
@@ -55,7 +58,8 @@ impl StreamEnd {
 /// message before its reply is written, and says how the stream ended.
 ///
 /// Where the writer fails, the last message has been served, and any part of its reply written. Where
-/// memory runs out, a message that was read may be lost: it was not served.
+/// memory runs out, a message that was read may be lost, and has no reply: of its questions some first
+/// ones may have been served, and not all of them; so of a single one nothing has happened.
 pub fn serve_stream<S: Records, R: Read, W: Write>(
     server: &mut Server<S>,
     alloc: Global,
@@ -67,48 +71,116 @@ pub fn serve_stream<S: Records, R: Read, W: Write>(
         (R.remaining reader.new) (W.contents writer.old) (W.contents writer.new) }
 {
     sizes();
-    let Ok(mut framer) = Framer::new(alloc) else {
-        return StreamEnd::NoMemory;
+    match serve_in_turn(server, alloc, now, reader, writer) {
+        Ok(end) => end,
+        Err(_) => StreamEnd::Io,
+    }
+}
+
+/// Does the same in memory: answers the messages of `input`, and appends their replies to `output`.
+/// Memory does not fail, so it ends by `Ended` or `Frame` where all messages are answered, and by
+/// `NoMemory` where there is none. Then the replies to some first messages were appended, each whole;
+/// the next one may have been served in part or as a whole, and has no reply.
+pub fn serve_bytes<S: Records>(
+    server: &mut Server<S>,
+    alloc: Global,
+    now: i64,
+    input: &[u8],
+    output: &mut Vec<u8>,
+) -> StreamEnd
+    ensures all { result ≢ StreamEnd.NoMemory → ServesAll now result server.old server.new
+        input.now output.old.items output.new.items }
+    ensures broken { result ≡ StreamEnd.NoMemory → BreaksOff now server.old server.new
+        input.now output.old.items output.new.items }
+{
+    stream_laws();
+    let mut source = InMemory { rest: input };
+    let mut sink = Gathered {
+        bytes: mem::replace(output, Vec::new(alloc)),
     };
-    for _ in 0..u64::MAX {
+    let served = serve_in_turn(server, alloc, now, &mut source, &mut sink);
+    *output = sink.bytes;
+    match served {
+        Ok(end) => end,
+        Err(_) => StreamEnd::NoMemory,
+    }
+}
+
+/// Answers the messages of any source, as `serve_stream` says. A source that is sure does not end the
+/// stream by `Io`.
+///
+/// # Errors
+/// The fault of the sink: the last message has been served, and has no reply.
+fn serve_in_turn<S: Records, R: Source, W: Sink>(
+    server: &mut Server<S>,
+    alloc: Global,
+    now: i64,
+    reader: &mut R,
+    writer: &mut W,
+) -> Result<StreamEnd, LinkFault>
+    ensures served { IfOk result (λ end. Serves now end server.old server.new
+        (R.remaining reader.old) (R.remaining reader.new)
+        (W.contents writer.old) (W.contents writer.new)) }
+    ensures lost { OnErr result (LosesReply now W.IsWhole server.old server.new
+        (R.remaining reader.old) (R.remaining reader.new)
+        (W.contents writer.old) (W.contents writer.new)) }
+    ensures refused { IfErr result (λ fault. fault ≡ W.fault) }
+    ensures sure { R.IsSure → result ≢ Ok StreamEnd.Io }
+{
+    sizes();
+    reader.is_bounded();
+    let Ok(mut framer) = Framer::new(alloc) else {
+        return Ok(StreamEnd::NoMemory);
+    };
+    for _turn in 0..u64::MAX {
         match serve_message(server, alloc, now, &mut framer, reader, writer) {
-            None => {}
-            Some(end) => return end,
+            Ok(None) => {}
+            Ok(Some(end)) => return Ok(end),
+            Err(fault) => return Err(fault),
         }
     }
-    StreamEnd::Io
+    Ok(StreamEnd::Io)
 }
 
 /// Answers the next message. `None` where its reply is written: then nothing is held.
-fn serve_message<S: Records, R: Read, W: Write>(
+///
+/// # Errors
+/// The fault of the sink: the message has been served, and has no reply.
+fn serve_message<S: Records, R: Source, W: Sink>(
     server: &mut Server<S>,
     alloc: Global,
     now: i64,
     framer: &mut Framer,
     reader: &mut R,
     writer: &mut W,
-) -> Option<StreamEnd>
+) -> Result<Option<StreamEnd>, LinkFault>
     requires { framer.old ≡ [] }
-    ensures one { IfNone result (ServesOne now server.old server.new (R.remaining reader.old)
-        (R.remaining reader.new) (W.contents writer.old) (W.contents writer.new)) }
-    ensures empty { IfNone result (framer.new ≡ []) }
-    ensures ended { IfSome result (λ end. Serves now end server.old server.new
+    ensures one { IfOk result (λ ended. IfNone ended (ServesOne now server.old server.new
+        (R.remaining reader.old) (R.remaining reader.new)
+        (W.contents writer.old) (W.contents writer.new))) }
+    ensures empty { IfOk result (λ ended. IfNone ended (framer.new ≡ [])) }
+    ensures ended { IfOk result (λ ended. IfSome ended (λ end. Serves now end server.old server.new
+        (R.remaining reader.old) (R.remaining reader.new)
+        (W.contents writer.old) (W.contents writer.new))) }
+    ensures lost { OnErr result (LosesReply now W.IsWhole server.old server.new
         (R.remaining reader.old) (R.remaining reader.new)
         (W.contents writer.old) (W.contents writer.new)) }
+    ensures refused { IfErr result (λ fault. fault ≡ W.fault) }
+    ensures sure { R.IsSure → result ≢ Ok (Some StreamEnd.Io) }
 {
     sizes();
-    let message = match receive_message(alloc, reader, framer) {
+    let message = match receive(alloc, reader, framer) {
         Ok(Some(message)) => message,
-        Ok(None) => return Some(StreamEnd::Ended(framer.pending())),
-        Err(fault) => return Some(end_by(fault, framer)),
+        Ok(None) => return Ok(Some(StreamEnd::Ended(framer.pending()))),
+        Err(fault) => return Ok(Some(end_by(fault, framer))),
     };
     let mut effects = Vec::new(alloc);
     let Ok(reply) = server.handle_batch(alloc, message.as_slice(), now, &mut effects) else {
-        return Some(StreamEnd::NoMemory);
+        return Ok(Some(StreamEnd::NoMemory));
     };
-    match send_message(writer, reply.as_slice()) {
-        Ok(()) => None,
-        Err(_) => Some(StreamEnd::Io),
+    match send(writer, reply.as_slice()) {
+        Ok(()) => Ok(None),
+        Err(fault) => Err(fault),
     }
 }
 

@@ -12,6 +12,6 @@ returns-clause-kept g c = λ names calm free.
     (string_bytes c.in_ok-told.told.text) is
     (subst (λ xs. TellsProbe c.args.prefix.now xs c.in_ok-told.told.refused (string_bytes c.in_ok-told.told.text)) c.as_slice.ensures.value c.in_ok-told.ensures) in (
       refused,
-      subst (Appends (g.W.Write.contents c.args.writer.now) (g.W.Write.contents c.send.new.writer))
-          (c.as_bytes.ensures.value ∙ c.as_str.ensures.value ∙ text) c.in_ok-send.ensures.text,
+      subst (Appends (g.P.Printer.contents c.args.printer.now) (g.P.Printer.contents c.print.new.self))
+          (c.as_bytes.ensures.value ∙ c.as_str.ensures.value ∙ text) c.in_ok-print.ensures.text,
     )

@@ -4,6 +4,7 @@ use Rattle.kmip_schedule.specs.Past.{is_planned}
 use Rattle.kmip_session.specs.Losing.{left_for}
 use Rattle.kmip_session.specs.declared.stop.Stop.TheVariants as stops
 use Rattle.kmip_running.proofs.CarryLemmas.{carried_none, carried_then, carrying_more, carrying_none, drove}
+use Rattle.kmip_running.proofs.RefusalLemmas.{rises_from}
 use Rattle.kmip_running.proofs.LosingLemmas.{limit_in_memory, paid_none}
 use Rattle.kmip_running.proofs.carrying.exchange_in_turn.Goals as goal
 
@@ -23,6 +24,7 @@ pub loop-made-init : goal.loop-made-init
 loop-made-init g c = record {
   carrying =
       carrying_none g.L.Link.past g.L.Link.honest g.L.Link.calm g.K.Keeper.keeps g.K.Keeper.saved c.laws_below.ensures c.args.client.now c.args.link.now c.args.keeper.now;
+  counted = omega arith;
   ended = λ honest. refl;
   paid = λ good. paid_none (left_for c.args.client.now (g.L.Link.past c.args.link.now)) (g.L.Link.disturbances c.args.link.now);
 }
@@ -43,6 +45,7 @@ loop-made-preserved g c =
           carrying_more g.L.Link.past g.L.Link.honest g.L.Link.calm g.K.Keeper.keeps g.K.Keeper.saved c.laws_below.ensures c.args.client.now c.loop-made.client
           step.new.client c.args.link.now c.loop-made.link step.new.link c.args.keeper.now c.loop-made.keeper step.new.keeper step.result.0 c.loop-made.made step.result.1
           c.plan-plan.ensures.lawful c.loop-made.invariant.carrying step.ensures.carried limit (step.ensures.limit limit) step.ensures.stands;
+      counted = omega (arith, c.loop-made.invariant.counted, step.ensures.counted);
       ended = λ honest.
           let still = (c.loop-made.invariant.carrying.carried.went.known honest).0 in
           step.ensures.ended (is_planned c.args.client.now.keys) still ∙ c.loop-made.invariant.ended honest;
@@ -76,3 +79,7 @@ returns-clause-losing g c = λ good memory.
     let made : c.loop-made.made ≡ c.args.limit = omega (arith, c.loop-made-test.false, c.loop-made.auto.made-end) in
     let paid = c.loop-made.invariant.paid good in
     omega (arith, made, paid)
+
+pub returns-then-not-is_at_limit-clause-output : goal.returns-then-not-is_at_limit-clause-output
+returns-then-not-is_at_limit-clause-output g c = λ is.
+    rises_from _ _ _ c.loop-made.invariant.counted (c.exchange_once-carried.ensures.output is)

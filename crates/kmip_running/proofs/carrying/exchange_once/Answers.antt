@@ -35,7 +35,7 @@ returns-in-Ok-clause-carried g c =
     let one : c.drive-stop.result.1 ≡ 1 = omega (arith, e.within, c.if-exchanges-eq0.false) in
     carried_one past honest calm g.K.Keeper.keeps g.K.Keeper.saved c.args.client.now c.drive-stop.new.client c.args.link.now c.drive-stop.new.link
     c.args.keeper.now c.save_progress.new.keeper c.drive-stop.result one (c.if-is_no_memory.ensures.not refl)
-    (λ keeping. let so = c.in-Ok.ensures keeping in (so.0, so.1))
+    (λ keeping. let so = c.in-Ok.ensures.kept keeping in (so.0, so.1))
     (drove past honest calm c.args.client.now c.drive-stop.new.client c.args.link.now c.drive-stop.new.link c.drive-stop.result e.good e.goes e.known e.grown e.kept
     e.calm)
 
@@ -48,7 +48,7 @@ returns-in-Err-clause-carried g c =
     let one : c.drive-stop.result.1 ≡ 1 = omega (arith, e.within, c.if-exchanges-eq0.false) in
     carried_not past honest calm g.K.Keeper.keeps g.K.Keeper.saved c.args.client.now c.drive-stop.new.client c.args.link.now c.drive-stop.new.link
     c.args.keeper.now c.save_progress.new.keeper c.drive-stop.result c.in-Err.fault one (c.if-is_no_memory.ensures.not refl)
-    (λ keeping. let so = c.in-Err.ensures keeping in (so.0, so.2))
+    (λ keeping. let so = c.in-Err.ensures.kept keeping in (so.0, so.2))
     (drove past honest calm c.args.client.now c.drive-stop.new.client c.args.link.now c.drive-stop.new.link c.drive-stop.result e.good e.goes e.known e.grown e.kept
     e.calm)
 

@@ -6,6 +6,7 @@ use Rattle.kmip_session.specs.Losing.{left_for}
 use Rattle.kmip_running.proofs.CarryLemmas.{carried_closed, limit_last, memory_before, stands_last}
 use Rattle.kmip_running.proofs.EndingLemmas.{ended_once, ended_whole}
 use Rattle.kmip_running.proofs.LosingLemmas.{paid_closed}
+use Rattle.kmip_running.proofs.RefusalLemmas.{output_before}
 use Rattle.kmip_running.proofs.carrying.exchange_to_the_end.Goals as goal
 
 pub returns-clause-carried : goal.returns-clause-carried
@@ -61,3 +62,9 @@ returns-clause-losing g c = λ good memory.
     (left_for c.args.client.now (past c.args.link.now)) (counts c.args.link.now)
     (subst IsLawful (sym went.keeps.keys_stay) c.plan-plan.ensures.lawful) (went.good good) c.close_run-closed.ensures.honest c.close_run-closed.ensures.undisturbed
     (done.ensures.losing good (memory_before c.close_run-closed.result done.result.0 c.after_close.result end.whole end.stop end.fault memory))
+
+pub returns-clause-output : goal.returns-clause-output
+returns-clause-output g c = λ is.
+    let done = c.exchange_in_turn-carried in
+    let end = c.after_close.ensures in
+    done.ensures.output (output_before c.close_run-closed.result done.result.0 c.after_close.result end.whole end.stop end.fault is)

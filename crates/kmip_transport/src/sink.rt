@@ -1,0 +1,91 @@
+//! Where bytes go: a writer, or memory, which fails only where there is none.
+ghost use Rattle.std.specs.Prelude.{◌≡◌, ℕ, List, Option, OnOk, OnErr, IfErr, IsOk};
+ghost use Rattle.std.specs.Io.KnownBytes.{Appends, Keeps};
+ghost use Rattle.kmip_schedule.specs.declared.link.LinkFault.{LinkFault};
+
+use kmip_schedule::LinkFault;
+use std::io::Write;
+
+/// What bytes are written to.
+pub(crate) trait Sink {
+    /// The bytes that were written, where they are known.
+    ghost contents: { Self → Option (List ℕ) };
+
+    /// The only fault that it has. Who writes to any sink cannot name it, so it fails only where the
+    /// sink does.
+    ghost fault: { LinkFault };
+
+    /// It takes all that it is given, or nothing.
+    ghost IsWhole: { Type 0 };
+
+    /// Writes all of the bytes.
+    ///
+    /// # Errors
+    /// The fault of the sink.
+    fn put(&mut self, bytes: &[u8]) -> Result<(), LinkFault>
+        ensures sent { OnOk result (Appends (contents self.old) (contents self.new) bytes.now) }
+        ensures refused { IfErr result (λ e. e ≡ fault) }
+        ensures kept { IsWhole → OnErr result (Keeps (contents self.old) (contents self.new)) };
+
+    /// Sends on what the sink holds back.
+    ///
+    /// # Errors
+    /// The fault of the sink, but none where it takes all or nothing.
+    fn send_on(&mut self) -> Result<(), LinkFault>
+        ensures unwritten { Keeps (contents self.old) (contents self.new) }
+        ensures refused { IfErr result (λ e. e ≡ fault) }
+        ensures kept { IsWhole → IsOk result };
+}
+
+/// Every writer. It fails by `Io`, and may have taken any part.
+impl<W: Write> Sink for W {
+    ghost use Rattle.kmip_schedule.specs.declared.link.LinkFault.TheVariants.{Io};
+
+    ghost contents = { λ writer. W.contents writer };
+
+    ghost fault = { Io };
+
+    ghost IsWhole = { ⊥ };
+
+    fn put(&mut self, bytes: &[u8]) -> Result<(), LinkFault> {
+        match self.write_all(bytes) {
+            Ok(()) => Ok(()),
+            Err(_) => Err(LinkFault::Io),
+        }
+    }
+
+    fn send_on(&mut self) -> Result<(), LinkFault> {
+        match self.flush() {
+            Ok(()) => Ok(()),
+            Err(_) => Err(LinkFault::Io),
+        }
+    }
+}
+
+/// Bytes in memory, which grow at their end. It fails by `NoMemory`, and is as it was then.
+#[derive(Drop)]
+pub(crate) struct Gathered {
+    pub(crate) bytes: Vec<u8>,
+}
+
+impl Sink for Gathered {
+    ghost use Rattle.std.specs.Prelude.{Some};
+    ghost use Rattle.kmip_schedule.specs.declared.link.LinkFault.TheVariants.{NoMemory};
+
+    ghost contents = { λ sink. Some sink.bytes.items };
+
+    ghost fault = { NoMemory };
+
+    ghost IsWhole = { Unit {0} };
+
+    fn put(&mut self, bytes: &[u8]) -> Result<(), LinkFault> {
+        match self.bytes.extend_from_slice(bytes) {
+            Ok(()) => Ok(()),
+            Err(_) => Err(LinkFault::NoMemory),
+        }
+    }
+
+    fn send_on(&mut self) -> Result<(), LinkFault> {
+        Ok(())
+    }
+}
