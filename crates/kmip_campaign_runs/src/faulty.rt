@@ -207,7 +207,7 @@ fn written(alloc: Global, members: &[Reply]) -> Result<Option<Vec<u8>>, LinkFaul
 /// Neither honest nor calm, and its past is empty: nothing is claimed of it but that its failures
 /// are counted.
 impl<S: Records> Link for Faulty<S> {
-    ghost use Rattle.std.specs.Prelude.{[]};
+    ghost use Rattle.std.specs.Prelude.{[], ⊤};
 
     ghost past = { λ link. record {
       room = 0;
@@ -228,6 +228,8 @@ impl<S: Records> Link for Faulty<S> {
     ghost ended = { λ link. [] };
 
     ghost disturbances = { λ link. record { disturbed = 0; requests = 0; strange = 0 } };
+
+    ghost follows = { λ link next. ⊤ };
 
     fn exchange(&mut self, alloc: Global, request: &[u8]) -> Result<Option<Vec<u8>>, LinkFault> {
         if self.failures == u64::MAX {

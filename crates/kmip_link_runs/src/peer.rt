@@ -34,7 +34,7 @@ impl Peer {
 /// Neither honest nor calm, and its past is empty: nothing is claimed of it. What can't be answered is
 /// lost.
 impl Link for Peer {
-    ghost use Rattle.std.specs.Prelude.{[]};
+    ghost use Rattle.std.specs.Prelude.{[], ⊤};
 
     ghost past = { λ link. record {
       room = 0;
@@ -55,6 +55,8 @@ impl Link for Peer {
     ghost ended = { λ link. [] };
 
     ghost disturbances = { λ link. record { disturbed = 0; requests = 0; strange = 0 } };
+
+    ghost follows = { λ link next. ⊤ };
 
     fn exchange(&mut self, alloc: Global, request: &[u8]) -> Result<Option<Vec<u8>>, LinkFault> {
         Ok(self.reply_to(alloc, request))

@@ -58,6 +58,8 @@ impl<L: Link, O: Observer> Link for Observed<L, O> {
 
     ghost disturbances = { λ observed. L.disturbances observed.link };
 
+    ghost follows = { λ observed next. L.follows observed.link next.link };
+
     fn exchange(&mut self, alloc: Global, request: &[u8]) -> Result<Option<Vec<u8>>, LinkFault> {
         let answered = self.link.exchange(alloc, request);
         match &answered {

@@ -5,6 +5,7 @@ ghost use Rattle.kmip_schedule.specs.Calm.{CalmlyExchanged};
 ghost use Rattle.kmip_schedule.specs.Clean.{Counted, IsRoomy};
 ghost use Rattle.kmip_schedule.specs.Exchanges.{Exchanged, answer_in};
 ghost use Rattle.kmip_schedule.specs.Faults.{most_failures};
+ghost use Rattle.kmip_schedule.specs.Losses.{IsInMemory};
 ghost use Rattle.kmip_schedule.specs.Past.{Names};
 
 use kmip_schedule::{Link, LinkFault};
@@ -97,6 +98,8 @@ impl<L: Link, C: Clock> Link for Paced<L, C> {
 
     ghost disturbances = { λ paced. L.disturbances paced.link };
 
+    ghost follows = { λ paced next. L.follows paced.link next.link };
+
     fn exchange(&mut self, alloc: Global, request: &[u8]) -> Result<Option<Vec<u8>>, LinkFault>
         ensures honest { (names : Names) → L.honest self.old.link names
             → L.honest self.new.link names × Exchanged names (L.past self.old.link) request.now
@@ -118,6 +121,8 @@ impl<L: Link, C: Clock> Link for Paced<L, C> {
         ensures undisturbed { (names : Names) → L.calm self.old.link names
             → IsRoomy (answer_in (λ v. v.items) result)
             → L.disturbances self.new.link ≡ L.disturbances self.old.link }
+        ensures followed { IsInMemory (answer_in (λ v. v.items) result)
+            → L.follows self.old.link self.new.link }
         ensures first { self.new.first ≡ self.old.first }
         ensures replied { IsTrue (has_reply result)
             → self.new.wait ≡ wait_after self.old.first 0 }

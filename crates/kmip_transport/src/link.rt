@@ -1,10 +1,11 @@
 //! The links over streams as links. Nothing is claimed of what a network does.
-ghost use Rattle.std.specs.Prelude.{◌≡◌, ◌≤◌, ◌<◌, length, Ok, None, IfErr};
+ghost use Rattle.std.specs.Prelude.{◌≡◌, ◌≤◌, ◌<◌, ⊤, length, Ok, Err, None, IfErr};
 ghost use Rattle.kmip_schedule.specs.Calm.{CalmlyExchanged, CalmlyEnded};
 ghost use Rattle.kmip_schedule.specs.Clean.{Counted, IsRoomy};
 ghost use Rattle.kmip_schedule.specs.Ending.{Ended};
 ghost use Rattle.kmip_schedule.specs.Exchanges.{Exchanged, answer_in};
 ghost use Rattle.kmip_schedule.specs.Faults.{most_failures};
+ghost use Rattle.kmip_schedule.specs.Losses.{IsInMemory};
 ghost use Rattle.kmip_schedule.specs.Moves.{Delivered};
 ghost use Rattle.kmip_schedule.specs.Past.{Names};
 ghost use Rattle.kmip_transport.specs.Links.{closed, link_after, none_counted, none_ended, opened, unknown_past};
@@ -16,6 +17,7 @@ use std::alloc::Global;
 
 /// Never known to be honest or calm: a network may do anything.
 impl<D: Dial + Drop> Link for StreamLink<D> {
+    ghost use Rattle.std.specs.Prelude.{⊤};
     ghost use Rattle.kmip_transport.specs.Links.{none_counted, none_ended, unknown_past};
 
     ghost past = { λ link. unknown_past };
@@ -29,6 +31,8 @@ impl<D: Dial + Drop> Link for StreamLink<D> {
     ghost ended = { λ link. none_ended };
 
     ghost disturbances = { λ link. none_counted };
+
+    ghost follows = { λ link next. ⊤ };
 
     /// The request is sent once, and once a reply received.
     fn exchange(&mut self, alloc: Global, request: &[u8]) -> Result<Option<Vec<u8>>, LinkFault>
@@ -46,6 +50,7 @@ impl<D: Dial + Drop> Link for StreamLink<D> {
         ensures undisturbed { (names : Names) → ⊥ → IsRoomy (answer_in (λ v. v.items) result)
             → none_counted ≡ none_counted }
         ensures ended { (names : Names) → ⊥ → none_ended ≡ none_ended }
+        ensures followed { IsInMemory (answer_in (λ v. v.items) result) → ⊤ }
         ensures one { self.old.failures < most_failures
             → self.new ≡ link_after result (opened self.old) }
         ensures at_last { self.old.failures ≡ most_failures → self.new ≡ closed self.old }
@@ -68,6 +73,9 @@ impl<D: Dial + Drop> Link for StreamLink<D> {
         ensures undisturbed { (names : Names) → ⊥ → none_counted ≡ none_counted }
         ensures ended { (names : Names) → ⊥
             → Ended result (length unknown_past.sent) none_ended none_ended }
+        ensures followed { IsInMemory result → ⊤ }
+        ensures wanting { result ≡ Err LinkFault.NoMemory
+            → self.new.failures ≡ self.old.failures }
         ensures closed { self.new ≡ closed self.old }
     {
         self.close();

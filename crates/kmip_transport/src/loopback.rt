@@ -148,7 +148,7 @@ fn unless_lost(fault: LinkFault) -> Result<(), NoMemory>
 
 /// Never known to be honest or calm: a network may do anything.
 impl<R: Net + Clock + Drop, S: Records + Drop> Link for Loopback<R, S> {
-    ghost use Rattle.std.specs.Prelude.{[]};
+    ghost use Rattle.std.specs.Prelude.{[], ⊤};
     ghost use Rattle.kmip_transport.specs.Links.{none_counted, unknown_past};
 
     ghost past = { λ loopback. unknown_past };
@@ -162,6 +162,8 @@ impl<R: Net + Clock + Drop, S: Records + Drop> Link for Loopback<R, S> {
     ghost ended = { λ loopback. [] };
 
     ghost disturbances = { λ loopback. none_counted };
+
+    ghost follows = { λ loopback next. ⊤ };
 
     fn exchange(&mut self, alloc: Global, request: &[u8]) -> Result<Option<Vec<u8>>, LinkFault> {
         let is_new = !self.link.is_connected();
