@@ -22,7 +22,7 @@ GROWTHS = 'crates/kmip_growths/out/kmip_growths'
 LOGS = 'out/gate'
 COUNTS = re.compile(r'^(\d+) passed, (\d+) failed')
 
-# The name, the command, and what each of the alternatives in a row of words names: a program that it needs.
+# The name, the command, and the programs that it needs: of each inner list one.
 TRIALS = [
     ('refuse', ['python3', 'bench/refuse.py', PROGRAM, GROWTHS, 'out/refuse'], [['cc']]),
     ('peers', ['python3', 'bench/peers.py', PROGRAM, 'out/peers'], []),
