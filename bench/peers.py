@@ -226,6 +226,15 @@ class Peers:
         self.look('a server of no connections', (done.returncode == 0, done.returncode),
                   (said == 'listening' and is_port, done.stdout))
 
+    def taken_port(self):
+        with socket.socket() as taken:
+            taken.bind(('127.0.0.1', 0))
+            taken.listen()
+            words = [self.program, 'serve', '--port', str(taken.getsockname()[1]), '--connections', '1']
+            done = subprocess.run(words, capture_output=True, text=True, timeout=10)
+        self.look('a port where somebody listens already', (done.returncode == 1, done.returncode),
+                  (done.stdout == 'cannot listen\n', done.stdout))
+
     def bad_clients(self):
         self.forget()
         server, port = self.serve('--connections', '1000000', '--timeout', '1')
@@ -263,6 +272,7 @@ def main():
     peers.probes()
     peers.files()
     peers.no_client()
+    peers.taken_port()
     peers.bad_clients()
     return 1 if peers.wrong else 0
 
