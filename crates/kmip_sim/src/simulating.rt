@@ -113,7 +113,7 @@ pub fn sim_bytes(
         (option_map (λ text. plan_read text.now) further.entry) script.now r
         (Some output.old.items) (Some output.new.items)) }
     ensures broken { OnErr result (BreaksOffSim detail batch (plan_read plan.now)
-        (option_map (λ text. plan_read text.now) further.entry) []
+        (option_map (λ text. plan_read text.now) further.entry) script.now []
         (Some output.old.items) (Some output.new.items)) }
 {
     let told = told_of(alloc, detail, batch, plan, further, script)?;
