@@ -12,7 +12,7 @@ use Rattle.std.proofs.lemmas.List.Sums.{prefix_len-le-length}
 use Rattle.std.proofs.lemmas.Slice.Eq.{bytes_eq-Decides}
 use Rattle.indexmap.specs.IndexMap.{IndexMap, get_by_text}
 use Rattle.kmip_store.specs.declared.row.Row.{Row}
-use Rattle.kmip_store.specs.Indexing.{LeadsOn, LeadsTo}
+use Rattle.kmip_store.specs.Indexing.{Notes, LeadsTo}
 use Rattle.kmip_store.specs.Stock.{IsKept, identifier_at}
 use Rattle.kmip_store.proofs.KeptLemmas.{apart_back, next_free}
 use Rattle.kmip_store.proofs.PlaceLemmas.{any_map, any_none}
@@ -56,7 +56,7 @@ position_before test xs x fails =
 
 -- a map with one text more leads to it behind all others
 pub leads_more : {A S : Type 0} (old new : IndexMap (String A) ℕ S) (texts : List (List ℕ)) (text : List ℕ) (place : ℕ) → LeadsTo old texts
-    → list_any (pointwise nat_eq text) texts ≡ false → place ≡ length texts → LeadsOn old new text place
+    → list_any (pointwise nat_eq text) texts ≡ false → place ≡ length texts → Notes old new text place
     → LeadsTo new (texts ++ text ∷ [])
 leads_more old new texts text place leads free is on other = elim (cases_Bool (pointwise nat_eq text other)) [
   | inl same ↦
@@ -72,7 +72,7 @@ leads_more old new texts text place leads free is on other = elim (cases_Bool (p
 
 -- and to the row that is added, by its text
 pub leads_row : {A S : Type 0} (own : Row → List ℕ) (old new : IndexMap (String A) ℕ S) (rows more : List Row) (row : Row) (text : List ℕ) (place : ℕ)
-    → LeadsTo old (map own rows) → list_any (λ r. pointwise nat_eq text (own r)) rows ≡ false → place ≡ length rows → LeadsOn old new text place
+    → LeadsTo old (map own rows) → list_any (λ r. pointwise nat_eq text (own r)) rows ≡ false → place ≡ length rows → Notes old new text place
     → text ≡ own row → more ≡ rows ++ row ∷ []
     → LeadsTo new (map own more)
 leads_row own old new rows more row text place leads free is on same pushed =

@@ -19,7 +19,7 @@ uids_of rows = map (λ r. r.uid) rows
 abbrev pub LeadsTo : {A S : Type 0} → IndexMap (String A) ℕ S → List (List ℕ) → Type 0
 LeadsTo places texts = (text : List ℕ) → get_by_text places text ≡ position (pointwise nat_eq text) texts
 
--- the map leads from this text to the place, and from each other text where it led
-abbrev pub LeadsOn : {A S : Type 0} → IndexMap (String A) ℕ S → IndexMap (String A) ℕ S → List ℕ → ℕ → Type 0
-LeadsOn old new text place =
+-- a text was noted: the map leads from it to the place, and from each other text where it led
+abbrev pub Notes : {A S : Type 0} → IndexMap (String A) ℕ S → IndexMap (String A) ℕ S → List ℕ → ℕ → Type 0
+Notes old new text place =
     (other : List ℕ) → get_by_text new other ≡ (if pointwise nat_eq text other then Some place else get_by_text old other)

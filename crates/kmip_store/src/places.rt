@@ -2,7 +2,7 @@
 //! stand.
 ghost use Rattle.std.specs.Prelude.{◌≡◌, ◌-◌, ◌++◌, [], ◌∷◌, length, take, OnErr, OnOk, string_bytes, is_some, None};
 ghost use Rattle.indexmap.specs.IndexMap.{get_by_text};
-ghost use Rattle.kmip_store.specs.Indexing.{LeadsOn};
+ghost use Rattle.kmip_store.specs.Indexing.{Notes};
 
 use indexmap::IndexMap;
 use std::alloc::AllocError;
@@ -37,8 +37,8 @@ pub(crate) fn note_both(
 ) -> Result<(), AllocError>
     requires name { get_by_text names.old (string_bytes name) ≡ None }
     requires uid { get_by_text uids.old (string_bytes uid) ≡ None }
-    ensures names { OnOk result (LeadsOn names.old names.new (string_bytes name) place) }
-    ensures uids { OnOk result (LeadsOn uids.old uids.new (string_bytes uid) place) }
+    ensures names { OnOk result (Notes names.old names.new (string_bytes name) place) }
+    ensures uids { OnOk result (Notes uids.old uids.new (string_bytes uid) place) }
     ensures err { OnErr result ((names.new.entries ≡ names.old.entries)
         × (uids.new.entries ≡ uids.old.entries)) }
 {
@@ -56,7 +56,7 @@ pub(crate) fn note_both(
 /// Where there is no memory; the map is then as it was.
 fn note(places: &mut Places, text: String, place: usize) -> Result<(), AllocError>
     requires { get_by_text places.old (string_bytes text) ≡ None }
-    ensures leads { OnOk result (LeadsOn places.old places.new (string_bytes text) place) }
+    ensures leads { OnOk result (Notes places.old places.new (string_bytes text) place) }
     ensures last { OnOk result (places.new.entries ≡ places.old.entries ++ (text, place) ∷ []) }
     ensures err { OnErr result (places.new.entries ≡ places.old.entries) }
 {
