@@ -5,7 +5,8 @@ use kmip_commands::{CommandFault, ExitStatus};
 use kmip_server::{IndexedStore, Server};
 use kmip_store::{MOST_ROOM, SEED};
 use kmip_transport::{StreamEnd, serve_stream};
-use std::io;
+use std::fmt::Display;
+use std::io::{self, Write};
 use std::net::{Ipv4Addr, Net, OpenListener, OpenStream, SocketAddr, SocketAddrV4};
 use std::time::Duration;
 
@@ -18,35 +19,40 @@ pub(crate) fn new_server(rt: &HostRuntime) -> Server<IndexedStore> {
 }
 
 /// The command `serve`: connections one after the other, as many as are asked for. One that could
-/// not be accepted does not count.
+/// not be accepted does not count. Each line is sent on once it is written.
 ///
 /// # Errors
-/// Where there is no memory, or standard output takes nothing; all else is printed.
-pub fn serve(rt: &HostRuntime, options: &ServeOptions) -> io::Result<ExitStatus> {
+/// Where there is no memory, or the writer takes nothing; all else is written.
+pub fn serve<W: Write>(
+    rt: &HostRuntime,
+    options: &ServeOptions,
+    writer: &mut W,
+) -> io::Result<ExitStatus> {
     let address = SocketAddr::V4(SocketAddrV4::new(Ipv4Addr::LOCALHOST, options.port));
     let Some((listener, port)) = listening(rt, address) else {
-        rt.println("cannot listen")?;
+        write_line(writer, "cannot listen")?;
         return Ok(ExitStatus::Refused);
     };
-    serve_connections(rt, options, &listener, port)
+    serve_connections(rt, options, &listener, port, writer)
 }
 
 /// Serves the connections of what listens at this port.
-fn serve_connections(
+fn serve_connections<W: Write>(
     rt: &HostRuntime,
     options: &ServeOptions,
     listener: &<HostRuntime as Net>::Listener,
     port: u16,
+    writer: &mut W,
 ) -> io::Result<ExitStatus> {
-    rt.println(format_args!("listening {port}"))?;
+    write_line(writer, format_args!("listening {port}"))?;
     let mut server = new_server(rt);
     for _ in 0..options.connections {
         let Some(stream) = next_stream(listener) else {
-            return told_failures(rt, port);
+            return told_failures(port, writer);
         };
         let ended = serve_connection(rt, options, &mut server, stream);
         if matches!(ended, StreamEnd::NoMemory) {
-            rt.println(CommandFault::NoMemory.text())?;
+            write_line(writer, CommandFault::NoMemory.text())?;
             return Ok(ExitStatus::Failed(CommandFault::NoMemory));
         }
     }
@@ -54,11 +60,18 @@ fn serve_connections(
 }
 
 /// Tells that no connection could be accepted.
-fn told_failures(rt: &HostRuntime, port: u16) -> io::Result<ExitStatus> {
-    rt.println(format_args!(
-        "cannot accept a connection on port {port}: {MOST_FAILURES} failures in turn"
-    ))?;
+fn told_failures<W: Write>(port: u16, writer: &mut W) -> io::Result<ExitStatus> {
+    write_line(
+        writer,
+        format_args!("cannot accept a connection on port {port}: {MOST_FAILURES} failures in turn"),
+    )?;
     Ok(ExitStatus::Refused)
+}
+
+/// Writes a line, and sends it on.
+fn write_line<W: Write, D: Display + Drop>(writer: &mut W, text: D) -> io::Result<()> {
+    writeln!(writer, "{text}")?;
+    writer.flush()
 }
 
 /// What listens at this address, and the port that it has; none where the system gives none.

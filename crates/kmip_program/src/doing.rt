@@ -32,7 +32,7 @@ pub(crate) fn carry_out(rt: &HostRuntime, choice: Choice) -> io::Result<ExitStat
         } => simulate_files(rt, detail, batch, plan.as_str(), further, script.as_str()),
         Choice::Run(options) => run_plan(rt, &options),
         Choice::Probe(options) => probe_server(rt, &options),
-        Choice::Serve(options) => serve(rt, &options),
+        Choice::Serve(options) => serve(rt, &options, &mut io::writer(rt)),
     }
 }
 

@@ -7,6 +7,8 @@
 //!     # WORDS              a remark
 //!     file NAME            the lines behind it, up to a line `end`, are the file
 //!     $ kmipctl WORDS      a command line, in which `%20` is a space of a word
+//!     taken kmipctl WORDS  a command line, in which `PORT` is a port that is taken meanwhile
+//!     serve kmipctl WORDS  the command `serve`: what it writes, with `PORT` in the place of its port
 //!     ? kmipctl WORDS      the same, of which no more is done than to say what it asks for
 //!     < kmipctl WORDS      the same of `answer`, `show`, `check` and `sim`, whose input are the lines
 //!                          behind it, up to a line `end`, and a file `-` too. It is carried out as the
@@ -43,6 +45,7 @@ mod commands;
 mod forms;
 mod readers;
 mod repeating;
+mod serving;
 mod transcript;
 mod ways;
 mod wording;

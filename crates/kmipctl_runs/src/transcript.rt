@@ -1,6 +1,7 @@
 //! Commands and the files that they name.
 
 use crate::forms::take_input;
+use crate::serving::{run_at_taken_port, run_serve};
 use crate::wording::tell_exchanges;
 use kmip_command_line::chosen;
 use kmip_commands::ExitStatus;
@@ -35,8 +36,16 @@ impl Transcript for Commands {
 }
 
 /// A line is printed, and a command in it carried out or told.
-fn take_command(rt: &HostRuntime, line: &str) -> io::Result<()> {
+fn take_command(rt: &HostRuntime, line: &str) -> Result<(), Fail> {
     rt.println(line)?;
+    if let Some(words) = line.strip_prefix("serve ") {
+        let status = run_serve(rt, words)?;
+        print_status(rt, status)?;
+    }
+    if let Some(words) = line.strip_prefix("taken ") {
+        let status = run_at_taken_port(rt, words)?;
+        print_status(rt, status)?;
+    }
     if let Some(words) = line.strip_prefix("$ ") {
         let words = words_of(rt, words)?;
         let status = run_words(rt, words.as_slice());
@@ -77,7 +86,7 @@ fn print_choice(rt: &HostRuntime, words: &[String]) -> io::Result<()> {
 }
 
 /// The words of a command line, the program's name first; `%20` in one is a space.
-fn words_of(rt: &HostRuntime, line: &str) -> io::Result<Vec<String>> {
+pub(crate) fn words_of(rt: &HostRuntime, line: &str) -> io::Result<Vec<String>> {
     let mut words = Vec::new(rt.alloc());
     for word in line.split(' ') {
         words.push(word.replace(rt.alloc(), "%20", " ")?)?;
