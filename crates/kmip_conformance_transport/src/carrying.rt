@@ -1,10 +1,11 @@
 //! One message from a stream, and one onto it.
 
-use crate::asserting::{assert_bytes, assert_number, assert_sent, assert_true};
+use crate::asserting::{assert_bytes, assert_number, assert_received, assert_sent, assert_true};
 use crate::streams::{ByteReader, ShortWriter};
 use kmip_frames::Framer;
-use kmip_transport::{LinkFault, receive_message, send_message};
+use kmip_transport::{LinkFault, receive_from_bytes, receive_message, send_message};
 use kmip_vectors::{LOCATE_K1, LOCATE_K1_NONE};
+use std::alloc::Global;
 use std::process::Abort;
 use std::test::Fail;
 
@@ -133,4 +134,33 @@ fn fails_where_a_write_fails(rt: HostRuntime) -> Result<(), Fail> {
     assert_sent(&rt, sent, Ok(()), "room for it");
     assert_number(&rt, writer.room, 0, "room for it");
     Ok(())
+}
+
+/// The longest message there is: 8,192 bytes, its head among them, behind which one byte stands.
+fn longest(alloc: Global) -> Result<Vec<u8>, Fail> {
+    let mut bytes = hex::decode(alloc, "4200780100001ff8")?;
+    bytes.resize(8193, 0)?;
+    Ok(bytes)
+}
+
+/// The longest message is received through a reader, one byte a read and all at once, and in memory.
+fn give_longest(rt: &(impl Abort + AllocGlobal), bytes: &[u8]) -> Result<(), Fail> {
+    let (message, _) = bytes.split_at(bytes.len().min(8192));
+    let mut framer = Framer::new(rt.alloc())?;
+    assert_gives(rt, &mut ByteReader::ending(bytes), &mut framer, message, 1)?;
+    let mut rest = bytes;
+    let received = receive_message(rt.alloc(), &mut rest, &mut framer);
+    assert_received(rt, &received, Ok(Some(message)), "at once");
+    assert_number(rt, rest.len(), 1, "at once");
+    let mut rest = bytes;
+    let received = receive_from_bytes(rt.alloc(), &mut rest, &mut framer);
+    assert_received(rt, &received, Ok(Some(message)), "in memory");
+    assert_number(rt, rest.len(), 1, "in memory");
+    Ok(())
+}
+
+#[test]
+fn gives_the_longest_message(rt: HostRuntime) -> Result<(), Fail> {
+    let bytes = longest(rt.alloc())?;
+    give_longest(&rt, bytes.as_slice())
 }

@@ -14,6 +14,8 @@ mod cut_replies;
 #[cfg(test)]
 mod cut_requests;
 #[cfg(test)]
+mod dripping;
+#[cfg(test)]
 mod linking;
 #[cfg(test)]
 mod serving;

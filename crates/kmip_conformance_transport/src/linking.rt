@@ -1,10 +1,12 @@
 //! Links over TCP and a Unix socket, with the peer in the same process.
 
 use crate::asserting::{assert_link, assert_number, assert_received};
+use crate::dripping::Dripping;
 use crate::serving::new_server;
 use kmip_server::{ListStore, Records};
 use kmip_transport::{Dial, Link, LinkFault, Loopback, StreamLink, Tcp, TcpLink, Unix, UnixLink};
 use kmip_vectors::{CREATE_K1, CREATE_K1_REPLY, LOCATE_K1, LOCATE_K1_NONE};
+use std::cell::Cell;
 use std::io::{self, Read, Write};
 use std::net::{Ipv4Addr, Net, OpenListener, SocketAddr, SocketAddrV4};
 use std::os::unix::net;
@@ -249,4 +251,59 @@ fn waits_no_longer_than_its_limit(rt: HostRuntime) -> Result<(), Fail> {
     let (_listener, mut link) = listening(&rt, Duration::from_millis(50))?;
     assert_fails(&rt, &mut link, 1, "a silent peer");
     Ok(())
+}
+
+/// One exchange with a peer that answers one byte a second, within so many seconds: this comes of it.
+/// The request of seven bytes is sent once.
+fn assert_drips(
+    rt: &(impl Abort + AllocGlobal),
+    reply: &[u8],
+    seconds: u64,
+    wanted: Result<Option<&[u8]>, LinkFault>,
+    case: &str,
+) {
+    let sent = Cell::new(0);
+    let mut link = StreamLink::new(Dripping::new(reply, &sent), Duration::from_secs(seconds));
+    let received = link.exchange(rt.alloc(), b"request");
+    assert_received(rt, &received, wanted, case);
+    assert_number(rt, sent.get(), 7, case);
+}
+
+/// A reply of 152 bytes, one a second: its last byte has to come within the time of the exchange.
+fn drip(rt: &(impl Abort + AllocGlobal), reply: &[u8]) {
+    assert_drips(rt, reply, 200, Ok(Some(reply)), "in time");
+    assert_drips(rt, reply, 100, Err(LinkFault::Io), "too late");
+}
+
+#[test]
+fn has_one_limit_for_the_whole_exchange(rt: HostRuntime) -> Result<(), Fail> {
+    let reply = hex::decode(rt.alloc(), LOCATE_K1_NONE)?;
+    drip(&rt, reply.as_slice());
+    Ok(())
+}
+
+#[test]
+fn sends_once_where_the_reply_is_lost(rt: HostRuntime) {
+    assert_drips(&rt, b"", 200, Ok(None), "no reply");
+}
+
+/// A reply comes, and the stream is open until the run ends.
+fn end_behind_a_reply(
+    rt: &(impl Abort + AllocGlobal),
+    listener: &<HostRuntime as Net>::Listener,
+    link: &mut TcpLink<HostRuntime>,
+    reply: &[u8],
+) -> Result<(), Fail> {
+    answer_and_close(listener, link, reply)?;
+    assert_receives(rt, link, Ok(Some(reply)), true, 0, "a reply");
+    link.end_run(rt.alloc())?;
+    assert_link(rt, link, false, 0, "the end of the run");
+    Ok(())
+}
+
+#[test]
+fn closes_at_the_end_of_a_run(rt: HostRuntime) -> Result<(), Fail> {
+    let reply = hex::decode(rt.alloc(), LOCATE_K1_NONE)?;
+    let (listener, mut link) = listening(&rt, Duration::from_secs(10))?;
+    end_behind_a_reply(&rt, &listener, &mut link, reply.as_slice())
 }

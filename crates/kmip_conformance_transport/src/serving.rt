@@ -6,9 +6,10 @@ use crate::streams::{ByteReader, ShortWriter};
 use kmip_frames::FrameFault;
 use kmip_server::Server;
 use kmip_store::ListStore;
-use kmip_transport::{StreamEnd, serve_stream};
+use kmip_transport::{StreamEnd, serve_bytes, serve_stream};
 use kmip_vectors::{CREATE_K1, CREATE_K1_REPLY, LOCATE_K1, LOCATE_K1_NONE};
 use std::alloc::Global;
+use std::process::Abort;
 use std::test::Fail;
 
 /// A server without rows.
@@ -67,4 +68,33 @@ fn stops_where_a_stream_fails(rt: HostRuntime) -> Result<(), Fail> {
     assert_end(&rt, end, StreamEnd::Io, 3, "Io");
     assert_end(&rt, StreamEnd::NoMemory, StreamEnd::NoMemory, 4, "NoMemory");
     Ok(())
+}
+
+/// So many messages, each with this reply, are all answered, through a reader and in memory.
+fn serve_many(
+    rt: &(impl Abort + AllocGlobal),
+    message: &[u8],
+    reply: &[u8],
+    count: usize,
+) -> Result<(), Fail> {
+    let input = message.repeat(rt.alloc(), count)?;
+    let wanted = reply.repeat(rt.alloc(), count)?;
+    let mut server = new_server(rt.alloc());
+    let mut reader = ByteReader::ending(input.as_slice());
+    let mut output = Vec::new(rt.alloc());
+    let end = serve_stream(&mut server, rt.alloc(), 0, &mut reader, &mut output);
+    assert_end(rt, end, StreamEnd::Ended(0), 1, "Ended");
+    assert_bytes(rt, output.as_slice(), wanted.as_slice(), "many replies");
+    output.clear();
+    let end = serve_bytes(&mut server, rt.alloc(), 0, input.as_slice(), &mut output);
+    assert_end(rt, end, StreamEnd::Ended(0), 1, "Ended");
+    assert_bytes(rt, output.as_slice(), wanted.as_slice(), "in memory");
+    Ok(())
+}
+
+#[test]
+fn answers_two_hundred_messages(rt: HostRuntime) -> Result<(), Fail> {
+    let message = hex::decode(rt.alloc(), LOCATE_K1)?;
+    let reply = hex::decode(rt.alloc(), LOCATE_K1_NONE)?;
+    serve_many(&rt, message.as_slice(), reply.as_slice(), 200)
 }

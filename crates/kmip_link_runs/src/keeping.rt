@@ -4,6 +4,7 @@ ghost use Rattle.kmip_batches.specs.Members.{may_have};
 
 use crate::settings::Settings;
 use crate::shelf::Shelf;
+use crate::short::{Tally, print_short};
 use crate::watching::{Count, Stopped};
 use kmip_client::Client;
 use kmip_commands::ExitStatus;
@@ -158,13 +159,16 @@ fn run(
 ) -> Result<(), Fail> {
     let settings = Settings::of(words)?;
     let plan = fs::read_to_string(rt, settings.plan.unwrap_or(case.file))?;
-    let mut shelf = Shelf::new(rt.alloc(), settings.room);
     let input = RunInput {
         plan: plan.as_str(),
         path: "over there",
         limit: settings.limit,
         batch: settings.batch,
     };
+    if settings.is_short {
+        return run_in_short(rt, &input, saved, &mut case.link);
+    }
+    let mut shelf = Shelf::new(rt.alloc(), settings.room);
     let status = run_over(
         rt,
         &input,
@@ -175,6 +179,24 @@ fn run(
     )?;
     rt.println(format_args!("exit status {}, {status:?}", status.code()))?;
     shelf.print(rt)
+}
+
+/// Runs `run`, and prints how much it writes and keeps, with the ends of that.
+fn run_in_short(
+    rt: &HostRuntime,
+    input: &RunInput<'_>,
+    saved: Option<&str>,
+    link: &mut Watched<'_>,
+) -> Result<(), Fail> {
+    if !(1..=8).contains(&input.batch) {
+        return Err(Fail::new("a message asks about one to eight keys"));
+    }
+    let mut tally = Tally::new(rt.alloc());
+    let mut written = Vec::new(rt.alloc());
+    let status = run_run(rt.alloc(), input, saved, link, &mut tally, &mut written);
+    print_short(rt, "written", written.as_slice())?;
+    rt.println(format_args!("exit status {}, {status:?}", status.code()))?;
+    tally.print(rt)
 }
 
 /// Runs `run`, and prints what it writes where its writer is not one with room for so many bytes.

@@ -36,7 +36,8 @@
 //!
 //! A setting is `of PLAN`, the file of another plan; `limit NUMBER` of exchanges, else 10,000; `about
 //! NUMBER`, how many keys a message asks about at most, else 1; `room NUMBER`, how many texts can be kept,
-//! else 10; or `writer NUMBER`, a writer with room for so many bytes, of which nothing is printed.
+//! else 10; `writer NUMBER`, a writer with room for so many bytes, of which nothing is printed; or `in short`:
+//! of what is written and of the texts that are kept the count is printed, with a checksum, and the last lines.
 #![tactic(auto)]
 
 mod alone;
@@ -47,6 +48,7 @@ mod probing;
 mod repeating_peer;
 mod settings;
 mod shelf;
+mod short;
 mod watching;
 
 pub use keeping::hold_runs;

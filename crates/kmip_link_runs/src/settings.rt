@@ -15,6 +15,8 @@ pub(crate) struct Settings<'w> {
     pub(crate) room: usize,
     /// How many bytes have room with its writer, if it is not standard output.
     pub(crate) writer: Option<usize>,
+    /// Whether no more is printed than how much it wrote and kept, and the ends of that.
+    pub(crate) is_short: bool,
 }
 
 impl<'w> Settings<'w> {
@@ -26,6 +28,7 @@ impl<'w> Settings<'w> {
             batch: 1,
             room: 10,
             writer: None,
+            is_short: false,
         };
         for setting in words.split(", ") {
             let (word, given) = setting.split_once(' ').unwrap_or((setting, ""));
@@ -42,6 +45,7 @@ impl<'w> Settings<'w> {
             "about" => self.batch = given.parse()?,
             "room" => self.room = given.parse()?,
             "writer" => self.writer = Some(given.parse()?),
+            "in" => self.is_short = given == "short",
             _ => return Err(Fail::new("no setting of a run")),
         }
         Ok(())

@@ -12,6 +12,8 @@ use std::test::Fail;
 pub(crate) struct Shelf {
     texts: Vec<Bytes>,
     room: usize,
+    /// How often a text had no room.
+    refusals: u64,
 }
 
 impl Shelf {
@@ -20,6 +22,7 @@ impl Shelf {
         Shelf {
             texts: Vec::new(alloc),
             room,
+            refusals: 0,
         }
     }
 
@@ -45,8 +48,11 @@ impl Keeper for Shelf {
 
     ghost keeps = { λ shelf. ⊤ };
 
+    ghost refusals = { λ shelf. shelf.refusals };
+
     fn save(&mut self, alloc: Global, text: &[u8]) -> Result<(), SaveFault> {
         if self.texts.len() >= self.room {
+            self.refusals = self.refusals.saturating_add(1);
             return Err(SaveFault::Output);
         }
         let Ok(copy) = Bytes::copied(alloc, text) else {

@@ -1,0 +1,53 @@
+#!/usr/bin/env python3
+"""The lines that the stored run of kmipctl_runs has to print of its long run.
+
+A plan of so many keys with names of 64 characters, each to be created, is carried out over a link that
+loses nothing, and each message asks about one key: so each is looked for in turn, and then made in turn.
+The server names its objects by their numbers from 1 on. After each exchange the text of what is known is
+kept. `run in short` prints how much was written and kept, a checksum of it, and the last two lines.
+
+    tools/long_run.py 1000
+
+prints these lines, to be put into crates/kmipctl_runs/stdout. Nothing of the project is read.
+"""
+import sys
+
+PREFIX = 'a' * 60
+
+
+def checksum(text):
+    total = 0
+    for byte in text.encode():
+        total = (total * 31 + byte) % 2 ** 64
+    return total
+
+
+def short(name, text):
+    lines = text.splitlines()
+    print(f'{name}: {len(lines)} lines, {len(text)} bytes, checksum {checksum(text)}')
+    for line in lines[-2:]:
+        print(line)
+
+
+def progress(names, made):
+    """What is known once so many of the keys are made, in format 2."""
+    lines = ['kmip-progress 2']
+    for number, name in enumerate(names, 1):
+        known = f'1 {str(number).encode().hex()}' if number <= made else '0 -'
+        lines.append(f'{name} created - {known}')
+    return '\n'.join(lines + [f'end {len(names)}', ''])
+
+
+def main():
+    count = int(sys.argv[1])
+    names = [f'{PREFIX}{number}' for number in range(1000, 1000 + count)]
+    report = [f'{name} created 1/1 finished' for name in names]
+    report += [f'finished {count} of {count}', f'stop AllFinished {2 * count}', '']
+    short('written', '\n'.join(report))
+    print('exit status 0, Done')
+    kept = [progress(names, 0)] * count + [progress(names, made) for made in range(1, count + 1)]
+    print(f'kept {len(kept)} texts of {sum(len(text) for text in kept)} bytes')
+    short('last text', kept[-1])
+
+
+main()
