@@ -353,6 +353,19 @@ fn is_read_up_to_its_limit(rt: HostRuntime) -> Result<(), Fail> {
     Ok(())
 }
 
+/// The bytes of the longest progress: of 1,000 keys, whose names and identifiers take 64 bytes each.
+const LONGEST_PROGRESS: usize = 208_025;
+
+#[test]
+fn holds_the_longest_progress(rt: HostRuntime) -> Result<(), Fail> {
+    let path = file_for(&rt, "longest")?;
+    let path = path.as_str();
+    put_long(&rt, path, LONGEST_PROGRESS)?;
+    let is_whole = length_of(&rt, path)? == LONGEST_PROGRESS;
+    assert_true(&rt, is_whole, "it is read whole");
+    Ok(())
+}
+
 /// How many bytes the text of the file has.
 fn length_of(rt: &HostRuntime, path: &str) -> io::Result<usize> {
     match text_in(rt, path)? {

@@ -22,6 +22,8 @@ use std::time::Duration;
 struct FileKeeper<'a> {
     file: ProgressFile<'a, HostRuntime>,
     standing: &'a Standing<'a>,
+    /// How often the file could not be written.
+    refusals: u64,
 }
 
 impl<'a> Keeper for FileKeeper<'a> {
@@ -31,13 +33,18 @@ impl<'a> Keeper for FileKeeper<'a> {
 
     ghost keeps = { λ keeper. ⊥ };
 
+    ghost refusals = { λ keeper. keeper.refusals };
+
     fn save(&mut self, _alloc: Global, text: &[u8]) -> Result<(), SaveFault> {
         let written = self.file.write(text);
         self.standing.show(text);
         match written {
             Ok(()) => Ok(()),
             Err(error) if error.kind() == ErrorKind::OutOfMemory => Err(SaveFault::NoMemory),
-            Err(_) => Err(SaveFault::Output),
+            Err(_) => {
+                self.refusals = self.refusals.saturating_add(1);
+                Err(SaveFault::Output)
+            }
         }
     }
 }
@@ -77,6 +84,7 @@ pub fn run_plan(rt: &HostRuntime, options: &RunOptions) -> io::Result<ExitStatus
     let mut keeper = FileKeeper {
         file,
         standing: &standing,
+        refusals: 0,
     };
     let status = run_with(rt, options, &input, saved, &mut keeper);
     drop(lock);
