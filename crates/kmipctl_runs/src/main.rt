@@ -30,7 +30,7 @@
 //!     telling its outcome           what became of the stream is printed too
 //!     telling when it is sent on    how much was written at each flush is printed too
 //!
-//! A line of the input of a command stands for itself, in which `%0D` is a carriage return, or is one of
+//! A line of a file or of the input of a command stands for itself, in which `%0D` is a carriage return, or is one of
 //!
 //!     times COUNT: TEXT           so many times this text, in which `/` is a line feed; none stands behind it
 //!     numbers FROM..TO: TEXT      the same for each of these numbers, which stands in the place of `#`, or in

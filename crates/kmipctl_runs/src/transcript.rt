@@ -1,6 +1,7 @@
 //! Commands and the files that they name.
 
 use crate::forms::take_input;
+use crate::repeating::text_of;
 use crate::wording::tell_exchanges;
 use kmip_command_line::chosen;
 use kmip_commands::ExitStatus;
@@ -52,8 +53,7 @@ fn take_command(rt: &HostRuntime, line: &str) -> io::Result<()> {
 /// A file is written, or a command carried out whose input these lines are.
 fn take_text(rt: &HostRuntime, head: &str, lines: &str) -> Result<(), Fail> {
     if let Some(name) = head.strip_prefix("file ") {
-        fs::write(rt, name, lines)?;
-        return Ok(());
+        return write_file(rt, name, lines);
     }
     rt.println(head)?;
     let Some(words) = head.strip_prefix("< ") else {
@@ -62,6 +62,13 @@ fn take_text(rt: &HostRuntime, head: &str, lines: &str) -> Result<(), Fail> {
     let (words, way) = words.split_once(" | ").unwrap_or((words, ""));
     let words = words_of(rt, words)?;
     take_input(rt, words.as_slice(), way, lines)
+}
+
+/// A file of these lines, as a block has them.
+fn write_file(rt: &HostRuntime, name: &str, lines: &str) -> Result<(), Fail> {
+    let text = text_of(rt.alloc(), lines)?;
+    fs::write(rt, name, text.as_str())?;
+    Ok(())
 }
 
 fn print_status(rt: &HostRuntime, status: ExitStatus) -> io::Result<()> {
