@@ -2,11 +2,11 @@
 """The lines that the stored run of kmipctl_runs has to print of its long run.
 
 A plan of so many keys with names of 64 characters, each to be created, is carried out over a link that
-loses nothing, and each message asks about one key: so each is looked for in turn, and then made in turn.
-The server names its objects by their numbers from 1 on. After each exchange the text of what is known is
-kept. `run in short` prints how much was written and kept, a checksum of it, and the last two lines.
+loses nothing, and each message asks about so many keys: each key is looked for in turn, and then made in
+turn. The server names its objects by their numbers from 1 on. After each exchange the text of what is known
+is kept. `in short` prints how much was written and kept, a checksum of it, and the last two lines.
 
-    tools/long_run.py 1000
+    tools/long_run.py 1000 3
 
 prints these lines, to be put into crates/kmipctl_runs/stdout. Nothing of the project is read.
 """
@@ -39,13 +39,15 @@ def progress(names, made):
 
 
 def main():
-    count = int(sys.argv[1])
+    count, batch = int(sys.argv[1]), int(sys.argv[2])
+    exchanges = -(-2 * count // batch)
     names = [f'{PREFIX}{number}' for number in range(1000, 1000 + count)]
     report = [f'{name} created 1/1 finished' for name in names]
-    report += [f'finished {count} of {count}', f'stop AllFinished {2 * count}', '']
+    report += [f'finished {count} of {count}', f'stop AllFinished {exchanges}', '']
     short('written', '\n'.join(report))
     print('exit status 0, Done')
-    kept = [progress(names, 0)] * count + [progress(names, made) for made in range(1, count + 1)]
+    answered = [min(batch * (exchange + 1), 2 * count) for exchange in range(exchanges)]
+    kept = [progress(names, max(0, questions - count)) for questions in answered]
     print(f'kept {len(kept)} texts of {sum(len(text) for text in kept)} bytes')
     short('last text', kept[-1])
 
