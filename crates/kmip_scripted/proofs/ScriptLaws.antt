@@ -167,9 +167,9 @@ bad_here number line behind amiss =
     elim (cases_Bool (nat_lt most_lines number)) [
       | inl over ↦ rw over refl
       | inr not ↦ elim amiss [
-          | inl bad ↦ no_word_here number line behind (not_beyond number not) bad
-          | inr many ↦ let few = not_beyond number not in absurd (omega (arith, few, many))
-        ]
+        | inl bad ↦ no_word_here number line behind (not_beyond number not) bad
+        | inr many ↦ let few = not_beyond number not in absurd (omega (arith, few, many))
+      ]
     ]
   where
     no_word_here : (number : ℕ) (line : List ℕ) (behind : List (List ℕ)) → number ≤ most_lines → IsNoWord line → words_from number (line ∷ behind) ≡ Err (Line number)
