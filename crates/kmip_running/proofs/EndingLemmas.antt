@@ -32,6 +32,10 @@ ended_whole keys most old mid knowns nexts closed result last made before noted 
     let long = sent_long keys most old mid knowns nexts made (learnt (in_memory result both.0)) in
     both.1 close ∙ ap (λ ns. ns ++ length mid.sent ∷ []) none ∙ ap (λ n. before ++ n ∷ []) long
 
+pub one_of_both : {V E P Q : Type 0} (closed : Result V E) → OnOk closed P → OnErr closed Q → P ⊎ Q
+one_of_both (Ok v) ok err = inl ok
+one_of_both (Err fault) ok err = inr err
+
 -- or not
 pub ended_once : (mid new : Past) (before noted after : List ℕ) → new.sent ≡ mid.sent → noted ≡ before → EndedAt (length mid.sent) noted after ⊎ (after ≡ noted)
     → EndedAt (length new.sent) before after ⊎ (after ≡ before)

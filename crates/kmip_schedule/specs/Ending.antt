@@ -1,6 +1,6 @@
 -- Where the runs ended that were ended over a link: how many messages had been sent over it then.
 -- Source: own: a run is no part of the standard.
-use Rattle.std.specs.Prelude.{◌≡◌, ◌⊎◌, ℕ, List, [], ◌∷◌, ◌++◌, Result, Ok, Err}
+use Rattle.std.specs.Prelude.{◌≡◌, ℕ, List, [], ◌∷◌, ◌++◌, Result, Ok, Err}
 use Rattle.kmip_schedule.specs.declared.link.LinkFault.{LinkFault}
 use Rattle.kmip_schedule.specs.declared.link.LinkFault.TheVariants.{Io, Frame, NoMemory}
 
@@ -8,9 +8,9 @@ use Rattle.kmip_schedule.specs.declared.link.LinkFault.TheVariants.{Io, Frame, N
 abbrev pub EndedAt : ℕ → List ℕ → List ℕ → Type 0
 EndedAt sent old new = new ≡ old ++ sent ∷ []
 
--- what the end of a run notes over an honest link; where memory runs out, it or nothing
+-- what the end of a run notes over an honest link; where memory runs out, nothing
 abbrev pub Ended : {V : Type 0} → Result V LinkFault → ℕ → List ℕ → List ℕ → Type 0
 Ended (Ok done) sent old new = EndedAt sent old new
 Ended (Err Io) sent old new = EndedAt sent old new
 Ended (Err Frame) sent old new = EndedAt sent old new
-Ended (Err NoMemory) sent old new = EndedAt sent old new ⊎ (new ≡ old)
+Ended (Err NoMemory) sent old new = new ≡ old

@@ -72,8 +72,8 @@ pub trait Link {
     /// A run has ended, which is noted: what is under way over the link may still arrive, or never.
     ///
     /// # Errors
-    /// `Io` and `Frame` as of an exchange, and `NoMemory`: the end is then noted or not, and no
-    /// failure of the network was met.
+    /// `Io` and `Frame` as of an exchange. `NoMemory`: then the end is not noted, and no failure of
+    /// the network was met.
     fn end_run(&mut self, alloc: Global) -> Result<(), LinkFault>
         ensures honest { (names : Names) → honest self.old names → honest self.new names
             × Delivered names (past self.old) (past self.new) }

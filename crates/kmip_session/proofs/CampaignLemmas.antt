@@ -1,5 +1,5 @@
 -- What is noted at the ends of runs was reached, and stays so.
-use Rattle.std.proofs.Common.{◌≡◌, ◌≢◌, ◌≤◌, ◌<◌, ℕ, zero, suc, List, [], ◌∷◌, ◌++◌, map, take, flat_map, slice_get, Some, None, nat_le, sym, subst, refl, ◌∙◌, inl, inr, arith}
+use Rattle.std.proofs.Common.{◌≡◌, ◌≢◌, ◌≤◌, ◌<◌, ℕ, zero, suc, List, [], ◌∷◌, ◌++◌, map, take, flat_map, slice_get, Option, Some, None, IfSome, nat_le, sym, subst, refl, ◌∙◌, inl, inr, arith}
 use Rattle.std.specs.Prelude.{⊤}
 use Rattle.std.specs.List.{All, AllZip}
 use Rattle.std.proofs.lemmas.Bool.{cases_Bool}
@@ -23,9 +23,12 @@ use Rattle.kmip_schedule.specs.Past.{Names, Past, is_planned}
 use Rattle.kmip_schedule.specs.Sound.{Sound}
 use Rattle.kmip_server.specs.declared.effect.Effect.{Effect}
 use Rattle.kmip_session.specs.Campaign.{GoodLink, HasNoConflict, IsNoClash, reported, reported_by, steps_counted}
-use Rattle.kmip_session.specs.CampaignParts.{CampaignLaws, Campaigned, IsEndOf, Noted, Reaches, Standing}
+use Rattle.kmip_session.specs.CampaignParts.{AreSame, CampaignLaws, Campaigned, IsEndOf, IsEnding, Noted, Reaches, Standing, saved_with}
 use Rattle.kmip_session.specs.Driving.{IsGood, WentOn}
+use Rattle.kmip_session.specs.declared.campaigning.CampaignEnd.{CampaignEnd}
+use Rattle.kmip_session.specs.declared.campaigning.Run.{Run}
 use Rattle.kmip_session.specs.declared.campaigning.RunEnd.{RunEnd}
+use Rattle.kmip_session.specs.declared.ending.Ending.{Ending}
 use Rattle.kmip_session.specs.declared.stop.Stop.{Stop}
 use Rattle.kmip_session.specs.declared.stop.Stop.TheVariants as stops
 
@@ -173,13 +176,29 @@ noted_end objects keys knowns stop exchanges end ends saved is none held noted =
   true_saved = noted.true_saved;
 }
 
-pub noted_saved : (objects : List Object) (keys : List Key) (progress : List Known) (ends : List RunEnd) (saved : List (List Known)) → TrueProgress objects keys progress
-    → Noted objects keys ends saved → Noted objects keys ends (saved ++ progress ∷ [])
-noted_saved objects keys progress ends saved holds noted = record {
-  reached = noted.reached;
-  no_conflict = noted.no_conflict;
-  true_saved = All-push (TrueProgress objects keys) saved progress noted.true_saved holds;
-}
+-- what holds of what was saved, and of what a run adds, holds of both
+pub all_saved : (P : List Known → Type 0) (saved : Option (List Known)) (old : List (List Known)) → All P old → IfSome saved P → All P (saved_with saved old)
+all_saved P None old all one = all
+all_saved P (Some progress) old all one = All-push P old progress all one
+
+-- what was made of a run is noted
+pub noted_ending : (objects : List Object) (keys : List Key) (run : Run) (knowns : List Knowledge) (driven : Stop × ℕ) (ending : Ending) (old new : CampaignEnd)
+    → IsEnding keys run knowns driven ending → (Held objects keys knowns → IfSome ending.saved (TrueProgress objects keys))
+    → new.runs.items ≡ old.runs.items ++ ending.run ∷ [] → new.saved.items ≡ saved_with ending.saved old.saved.items → driven.0 ≢ stops.Conflict
+    → Held objects keys knowns → Noted objects keys old.runs.items old.saved.items → Noted objects keys new.runs.items new.saved.items
+noted_ending objects keys run knowns driven ending old new is holds joined saved none held noted =
+    let ended = noted_end objects keys knowns driven.0 driven.1 ending.run old.runs.items old.saved.items is.end_is none held noted in
+    rw (joined, saved)
+    (record {
+      reached = ended.reached;
+      no_conflict = ended.no_conflict;
+      true_saved = all_saved (TrueProgress objects keys) ending.saved old.saved.items ended.true_saved (holds held);
+    })
+
+-- nothing is noted
+pub noted_still : (objects : List Object) (keys : List Key) (old new : CampaignEnd) → AreSame old new → Noted objects keys old.runs.items old.saved.items
+    → Noted objects keys new.runs.items new.saved.items
+noted_still objects keys old new same noted = rw (same.same_runs, same.same_saved) noted
 
 pub noted_none : (objects : List Object) (keys : List Key) (ends : List RunEnd) (saved : List (List Known)) → ends ≡ [] → saved ≡ [] → Noted objects keys ends saved
 noted_none objects keys ends saved no_end none_saved =

@@ -1,5 +1,5 @@
 -- Where the runs of a campaign were ended, run by run.
-use Rattle.std.proofs.Common.{◌≡◌, ◌⊎◌, ℕ, ◌+◌, List, [], ◌∷◌, ◌++◌, length, refl, sym, ap, ◌∙◌, inl, inr, append_assoc, append-nil, arith}
+use Rattle.std.proofs.Common.{◌≡◌, ℕ, ◌+◌, List, [], ◌∷◌, ◌++◌, length, sym, ap, ◌∙◌, append_assoc, append-nil, arith}
 use Rattle.kmip_chains.specs.declared.key.Key.{Key}
 use Rattle.kmip_knowledge.specs.declared.knowledge.Knowledge.{Knowledge}
 use Rattle.kmip_schedule.specs.Ending.{EndedAt}
@@ -35,32 +35,15 @@ ended_both ends more sent later old mid new many first second =
     second ∙ ap (λ ns. ns ++ ended_at later more) first ∙ append_assoc old (ended_at sent ends) (ended_at later more)
     ∙ ap (λ ns. old ++ ns) (ap (λ n. ended_at sent ends ++ ended_at n more) many ∙ sym (ended_append sent ends more))
 
-ended_then : (ends more : List RunEnd) (first whole : Type 0) (sent later : ℕ) (old mid new : List ℕ) → first → later ≡ sent + exchanges_in ends
-    → AreEnded ends first sent old mid → AreEnded more whole later mid new → AreEnded (ends ++ more) whole sent old new
-ended_then ends more first whole sent later old mid new is many before after = record {
-  all = λ holds. ended_both ends more sent later old mid new many (before.all is) (after.all holds);
-  ended = elim after.ended [
-    | inl all ↦ inl (ended_both ends more sent later old mid new many (before.all is) all)
-    | inr but ↦
-        inr (record {
-          before = ends ++ but.before;
-          last = but.last;
-          ends_are = ap (λ es. ends ++ es) but.ends_are ∙ sym (append_assoc ends but.before (but.last ∷ []));
-          ended_are = ended_both ends but.before sent later old mid new many (before.all is) but.ended_are;
-        })
-  ];
-}
-
 -- ---- more ends join those that were noted
 
 pub join_none : (ends nexts : List RunEnd) (whole : Type 0) (sent later : ℕ) (ended after : List ℕ) → nexts ≡ ends → after ≡ ended → (whole → later ≡ sent)
     → EndsJoin ends nexts whole sent later ended after
 join_none ends nexts whole sent later ended after same still many =
-    let none : after ≡ ended ++ [] = still ∙ sym (append-nil ended) in
     record {
       ends = [];
       joined = same ∙ sym (append-nil ends);
-      are_ended = record { all = λ holds. none; ended = inl none };
+      are_ended = still ∙ sym (append-nil ended);
       made = λ holds. let is = many holds in omega (arith, is);
     }
 
@@ -69,7 +52,7 @@ pub join_then : (a b c : List RunEnd) (first whole : Type 0) (sent later last : 
 join_then a b c first whole sent later last old mid new is before after = record {
   ends = before.ends ++ after.ends;
   joined = after.joined ∙ ap (λ es. es ++ after.ends) before.joined ∙ append_assoc a before.ends after.ends;
-  are_ended = ended_then before.ends after.ends first whole sent later old mid new is (before.made is) before.are_ended after.are_ended;
+  are_ended = ended_both before.ends after.ends sent later old mid new (before.made is) before.are_ended after.are_ended;
   made = λ holds.
       let one = before.made is in
       let two = after.made holds in
@@ -82,7 +65,7 @@ pub join_if : (a b : List RunEnd) (whole other : Type 0) (sent later : ℕ) (old
 join_if a b whole other sent later old new to joins = record {
   ends = joins.ends;
   joined = joins.joined;
-  are_ended = record { all = λ holds. joins.are_ended.all (to holds); ended = joins.are_ended.ended };
+  are_ended = joins.are_ended;
   made = λ holds. joins.made (to holds);
 }
 
@@ -104,7 +87,7 @@ join_part a part b whole other sent later old new is to joins =
 
 -- all that was noted joined
 pub all_joined : (ends : List RunEnd) (whole : Type 0) (sent later : ℕ) (old new : List ℕ) → EndsJoin [] ends whole sent later old new
-    → AreEnded ends whole sent old new
+    → AreEnded ends sent old new
 all_joined ends whole sent later old new joins =
     let are = joins.are_ended in
     let same : ends ≡ joins.ends = joins.joined in
@@ -113,30 +96,21 @@ all_joined ends whole sent later old new joins =
 -- ---- one run
 
 join_one : (end : RunEnd) (ends nexts : List RunEnd) (whole : Type 0) (sent made later last : ℕ) (old mid new : List ℕ) → nexts ≡ ends ++ end ∷ []
-    → end.exchanges ≡ made → later ≡ sent + made → last ≡ later → mid ≡ old → (whole → EndedAt later mid new) → EndedAt later mid new ⊎ (new ≡ mid)
-    → EndsJoin ends nexts whole sent last old new
-join_one end ends nexts whole sent made later last old mid new joined exchanges many still same closed once =
+    → end.exchanges ≡ made → later ≡ sent + made → last ≡ later → mid ≡ old → EndedAt later mid new → EndsJoin ends nexts whole sent last old new
+join_one end ends nexts whole sent made later last old mid new joined exchanges many still same closed =
     let behind : later ≡ sent + end.exchanges = omega (arith, exchanges, many) in
-    let at = λ (is : EndedAt later mid new). is ∙ ap (λ ns. ns ++ later ∷ []) same ∙ ap (λ n. old ++ n ∷ []) behind in
     record {
       ends = end ∷ [];
       joined = joined;
-      are_ended = record {
-        all = λ holds. at (closed holds);
-        ended = elim once [
-          | inl is ↦ inl (at is)
-          | inr none ↦ inr (record { before = []; last = end; ends_are = refl; ended_are = none ∙ same ∙ sym (append-nil old) })
-        ];
-      };
+      are_ended = closed ∙ ap (λ ns. ns ++ later ∷ []) same ∙ ap (λ n. old ++ n ∷ []) behind;
       made = λ holds. omega (arith, behind, still);
     }
 
--- a run was driven, noted and ended
+-- a run was driven, ended and noted
 pub join_run : (keys planned : List Key) (most : ℕ) (names : Names) (run : Run) (knowns nexts known : List Knowledge) (driven : Stop × ℕ) (x y z : Past) (old new : CampaignEnd) (whole : Type 0)
     (ended mid after : List ℕ) → HasEnded planned run known driven old new → Learnt keys most x y knowns nexts driven.1 → Delivered names y z → mid ≡ ended
-    → (whole → EndedAt (length y.sent) mid after) → EndedAt (length y.sent) mid after ⊎ (after ≡ mid)
-    → EndsJoin old.runs.items new.runs.items whole (length x.sent) (length z.sent) ended after
-join_run keys planned most names run knowns nexts known driven x y z old new whole ended mid after noted learnt delivered same closed once =
+    → EndedAt (length y.sent) mid after → EndsJoin old.runs.items new.runs.items whole (length x.sent) (length z.sent) ended after
+join_run keys planned most names run knowns nexts known driven x y z old new whole ended mid after noted learnt delivered same closed =
     let n = noted.noted in
     join_one n.end old.runs.items new.runs.items whole (length x.sent) driven.1 (length y.sent) (length z.sent) ended mid after n.joined n.exchanges_is
-    (learnt_long keys most x y knowns nexts driven.1 learnt) (ap length (delivered_stays names y z delivered).sent_stays) same closed once
+    (learnt_long keys most x y knowns nexts driven.1 learnt) (ap length (delivered_stays names y z delivered).sent_stays) same closed

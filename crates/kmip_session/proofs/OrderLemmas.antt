@@ -1,5 +1,5 @@
 -- The ends of runs, one for each run in turn.
-use Rattle.std.proofs.Common.{◌≡◌, ◌≢◌, ◌≤◌, ◌<◌, ℕ, zero, suc, ◌+◌, List, [], ◌∷◌, ◌++◌, take, filter, length, map, slice_get, Some, None, if◌then◌else◌, sym, ap, subst, refl, ◌∙◌, inl, inr, arith}
+use Rattle.std.proofs.Common.{◌≡◌, ◌≢◌, ◌≤◌, ◌<◌, ℕ, zero, suc, ◌+◌, List, [], ◌∷◌, ◌++◌, take, filter, length, map, slice_get, Option, Some, None, if◌then◌else◌, sym, ap, subst, refl, ◌∙◌, inl, inr, arith}
 use Rattle.std.specs.List.{All, AllZip, Contains}
 use Rattle.std.proofs.lemmas.Bool.{cases_Bool}
 use Rattle.std.proofs.lemmas.List.{length-append}
@@ -14,11 +14,13 @@ use Rattle.kmip_knowledge.specs.declared.knowledge.Knowledge.{Knowledge}
 use Rattle.kmip_knowledge.specs.declared.knowledge.Verdict.{Verdict}
 use Rattle.kmip_knowledge.specs.declared.knowledge.Verdict.TheVariants.{Working, Finished, Conflict}
 use Rattle.kmip_session.specs.Campaign.{AreFull, IsEnd, IsFull, StopsSo, saves}
-use Rattle.kmip_session.specs.CampaignParts.{IsEndOf, IsNoted}
+use Rattle.kmip_session.specs.CampaignParts.{HasEnded, IsEndOf, IsEnding, IsNoted, saved_with}
 use Rattle.kmip_session.specs.Driving.{Stands}
 use Rattle.kmip_session.specs.Remembering.{saved_after}
+use Rattle.kmip_session.specs.declared.campaigning.CampaignEnd.{CampaignEnd}
 use Rattle.kmip_session.specs.declared.campaigning.Run.{Run}
 use Rattle.kmip_session.specs.declared.campaigning.RunEnd.{RunEnd}
+use Rattle.kmip_session.specs.declared.ending.Ending.{Ending}
 use Rattle.kmip_session.specs.declared.stop.Stop.{Stop}
 use Rattle.kmip_session.specs.declared.stop.Stop.TheVariants as stops
 use Rattle.kmip_session.proofs.CompleteLemmas.{done_finished, finished_done}
@@ -92,28 +94,21 @@ is_noted keys knowns run driven end old new is stands limit within joined = reco
   exchanges_is = is.exchanges_is;
 }
 
-pub saved_more : (run : Run) (knowns : List Knowledge) (progress : List Known) (old new : List (List Known))
-    → Some progress ≡ (if run.save then Some (map known_of knowns) else None) → new ≡ old ++ progress ∷ [] → new ≡ saved_after run knowns old
-saved_more run knowns progress old new is joined = elim (cases_Bool run.save) [
-  | inl save ↦ let same : progress ≡ map known_of knowns = the_one (rw save at is) in rw save (joined ∙ ap (λ p. old ++ p ∷ []) same)
-  | inr none ↦ absurd_some (rw none at is)
+pub saved_noted : (run : Run) (knowns : List Knowledge) (saved : Option (List Known)) (old new : List (List Known))
+    → saved ≡ (if run.save then Some (map known_of knowns) else None) → new ≡ saved_with saved old → new ≡ saved_after run knowns old
+saved_noted run knowns saved old new is joined = elim (cases_Bool run.save) [
+  | inl save ↦ rw save (joined ∙ ap (λ s. saved_with s old) (rw save at is))
+  | inr none ↦ rw none (joined ∙ ap (λ s. saved_with s old) (rw none at is))
 ]
-  where
-    the_one : Some progress ≡ Some (map known_of knowns) → progress ≡ map known_of knowns
-    the_one so = cc
 
-    absurd_some : {X : Type 0} → Some progress ≡ None → X
-    absurd_some so = absurd cc
-
-pub saved_still : (run : Run) (knowns : List Knowledge) (old new : List (List Known))
-    → None ≡ (if run.save then Some (map known_of knowns) else None) → new ≡ old → new ≡ saved_after run knowns old
-saved_still run knowns old new is same = elim (cases_Bool run.save) [
-  | inl save ↦ absurd_none (rw save at is)
-  | inr none ↦ rw none same
-]
-  where
-    absurd_none : {X : Type 0} → None ≡ Some (map known_of knowns) → X
-    absurd_none so = absurd cc
+-- what was made of a run is noted
+pub has_ended : (keys : List Key) (knowns : List Knowledge) (run : Run) (driven : Stop × ℕ) (ending : Ending) (old new : CampaignEnd)
+    → IsEnding keys run knowns driven ending → Stands driven.0 keys knowns → (driven.0 ≡ stops.Limit → driven.1 ≡ run.limit) → driven.1 ≤ run.limit
+    → new.runs.items ≡ old.runs.items ++ ending.run ∷ [] → new.saved.items ≡ saved_with ending.saved old.saved.items → HasEnded keys run knowns driven old new
+has_ended keys knowns run driven ending old new is stands limit within joined saved = record {
+  noted = is_noted keys knowns run driven ending.run old.runs.items new.runs.items is.end_is stands limit within joined;
+  saved_are = saved_noted run knowns ending.saved old.saved.items new.saved.items is.saved_is saved;
+}
 
 pub saved_long : (run : Run) (knowns : List Knowledge) (old new : List (List Known)) → new ≡ saved_after run knowns old → length new ≡ length old + one_if (saves run)
 saved_long run knowns old new is = elim (cases_Bool run.save) [

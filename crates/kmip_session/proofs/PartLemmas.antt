@@ -1,11 +1,11 @@
 -- Plans in turn, and what was noted on each of them.
-use Rattle.std.proofs.Common.{◌≡◌, ◌≢◌, ◌⊎◌, ℕ, zero, suc, List, [], ◌∷◌, ◌++◌, length, map, take, flat_map, slice_get, Some, sym, ap, subst, refl, ◌∙◌, inl, inr, append_assoc, append-nil, arith}
+use Rattle.std.proofs.Common.{◌≡◌, ◌≢◌, ◌<◌, ◌⊎◌, ℕ, zero, suc, List, [], ◌∷◌, ◌++◌, length, map, take, flat_map, slice_get, Some, sym, ap, subst, refl, ◌∙◌, inl, inr, append_assoc, append-nil, arith}
 use Rattle.std.specs.Prelude.{⊤}
 use Rattle.kmip_plan.specs.Prolonging.{Prolongs}
 use Rattle.kmip_chains.specs.declared.key.Key.{Key}
 use Rattle.kmip_progress.specs.declared.known.Known.{Known}
 use Rattle.kmip_schedule.specs.Past.{Past}
-use Rattle.kmip_session.specs.Campaigns.{AreParts, AreProlonged, IsPart, Part, carried_over, first_plan, last_plan, part_saved}
+use Rattle.kmip_session.specs.Campaigns.{AreParts, AreProlonged, IsPart, LastIsShort, Part, carried_over, first_plan, last_plan, part_saved}
 use Rattle.kmip_session.specs.CampaignsParts.{PlansLaws}
 use Rattle.kmip_session.specs.declared.campaigning.Run.{Run}
 use Rattle.kmip_session.proofs.RunLemmas.{known_if}
@@ -139,3 +139,21 @@ module _ (honest calm : Type 0) where
     parts_more plans lists (saved ++ p.saved) parts place keys list part whole before.0 between new is so before.2
         (subst (λ s. IsPart keys (map (carried_over keys) s) list part honest calm whole between new) (sym (append_assoc saved p.saved (flat_map part_saved parts))) more),
   )
+
+  -- as many parts as plans, where the runs on each were made
+  pub parts_long : (plans : List (List Key)) (runs : List (List Run)) (saved : List (List Known)) (parts : List Part) (old new : Past)
+      → AreParts plans runs saved parts honest calm ⊤ old new → length parts ≡ length plans
+  parts_long plans runs saved [] old new are = ap length (sym (are.0 tt))
+  parts_long [] runs saved (p ∷ parts) old new are = absurd are
+  parts_long (keys ∷ plans) [] saved (p ∷ parts) old new are = absurd are
+  parts_long (keys ∷ plans) (list ∷ runs) saved (p ∷ parts) old new are = ap (λ n. suc n) (parts_long plans runs (saved ++ p.saved) parts are.0 new are.2)
+
+-- one more part is the last
+pub last_short : (runs : List (List Run)) (parts : List Part) (part : Part) (place : ℕ) (list : List Run) → length parts ≡ place → slice_get runs place ≡ Some list
+    → length part.ends < length list → LastIsShort runs (parts ++ part ∷ [])
+last_short [] parts part place list long is short = absurd cc
+last_short (first ∷ runs) [] part zero list long is short = subst (λ (l : List Run). length part.ends < length l) (sym (same_list first list is)) short
+last_short (first ∷ runs) [] part (suc place) list long is short = absurd cc
+last_short (first ∷ runs) (p ∷ parts) part zero list long is short = absurd cc
+last_short (first ∷ runs) (p ∷ []) part (suc place) list long is short = last_short runs [] part place list (omega (arith, long)) is short
+last_short (first ∷ runs) (p ∷ q ∷ parts) part (suc place) list long is short = last_short runs (q ∷ parts) part place list (omega (arith, long)) is short

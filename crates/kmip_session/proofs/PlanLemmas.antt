@@ -1,5 +1,5 @@
 -- What holds between the runs on two plans.
-use Rattle.std.proofs.Common.{◌≡◌, ◌≤◌, ℕ, zero, suc, List, [], ◌∷◌, ◌++◌, ◌+◌, drop, flat_map, length, map, take, slice_get, get_or, is_some, true, Some, None, Ok, Err, Option, option_map, IfOk, IfSome, IsTrue, Result, refl, sym, ap, subst, ◌∙◌, inl, inr, append-nil, arith}
+use Rattle.std.proofs.Common.{◌≡◌, ◌≢◌, ◌≤◌, ◌<◌, ◌⊎◌, ℕ, zero, suc, List, [], ◌∷◌, ◌++◌, ◌+◌, drop, flat_map, length, map, take, slice_get, get_or, is_some, true, Some, None, Ok, Err, Option, option_map, IfOk, IfSome, IsTrue, Result, refl, sym, ap, subst, ◌∙◌, inl, inr, append-nil, arith}
 use Rattle.std.specs.Prelude.{⊤}
 use Rattle.std.specs.List.{All, AllZip}
 use Rattle.std.proofs.Math.Dec.{ltb}
@@ -24,8 +24,8 @@ use Rattle.kmip_schedule.specs.Past.{AreAmong, Names, Past, is_planned}
 use Rattle.kmip_schedule.specs.Sound.{Sound}
 use Rattle.kmip_session.specs.Campaign.{CalmLink, GoodLink}
 use Rattle.kmip_session.specs.CampaignParts.{AreSame, CampaignLaws, HasRunAll}
-use Rattle.kmip_session.specs.Campaigns.{AreInTurn, AreParts, AreProlonged, CalmStart, GoodStart, IsPart, IsTrueFor, Part, carried_over, first_plan, last_plan, part_ends, part_saved}
-use Rattle.kmip_session.specs.CampaignsParts.{HasRunPart, HasRunPlans, HasRunWhole, IsGoodFor, IsReadFor, PlansLaws}
+use Rattle.kmip_session.specs.Campaigns.{AreInTurn, AreParts, AreProlonged, CalmStart, GoodStart, IsPart, IsTrueFor, LastIsShort, Part, carried_over, first_plan, last_plan, part_ends, part_saved}
+use Rattle.kmip_session.specs.CampaignsParts.{HasRunBroken, HasRunPart, HasRunPlans, HasRunWhole, IsGoodFor, IsReadFor, PlansLaws}
 use Rattle.kmip_session.specs.Remembering.{AreKnownFrom, Shows, saved_after, saved_from}
 use Rattle.kmip_session.specs.declared.campaigning.CampaignEnd.{CampaignEnd}
 use Rattle.kmip_session.specs.declared.campaigning.Run.{Run}
@@ -34,7 +34,7 @@ use Rattle.kmip_session.proofs.CampaignLemmas.{true_onward}
 use Rattle.kmip_session.proofs.LastLemmas.{noted_for_both, noted_for_none, noted_for_onward, noted_over, true_over}
 use Rattle.kmip_session.proofs.RememberLemmas.{flat_push}
 use Rattle.kmip_session.proofs.RunLemmas.{known_if}
-use Rattle.kmip_session.proofs.PartLemmas.{first_is, last_prolongs, next_prolongs, parts_all, parts_broken, parts_if, parts_more, take_none}
+use Rattle.kmip_session.proofs.PartLemmas.{first_is, last_prolongs, last_short, next_prolongs, parts_all, parts_broken, parts_if, parts_long, parts_more, take_none}
 
 -- ---- what was saved, read for the next plan
 
@@ -135,6 +135,21 @@ over_both keys next old more new carried few is joined =
 
 if_some : {A : Type 0} (P : A → Type 0) (o : Option A) (a : A) → o ≡ Some a → IfSome o P → P a
 if_some P o a is holds = subst (λ option. IfSome option P) is holds
+
+-- ---- places that there are
+
+some_none : {A X : Type 0} (a : A) → Some a ≡ None → X
+some_none a is = absurd cc
+
+there_is : {A : Type 0} (xs : List A) (place : ℕ) → slice_get xs place ≢ None → place < length xs
+there_is [] place some = absurd (some refl)
+there_is (x ∷ xs) zero some = omega arith
+there_is (x ∷ xs) (suc place) some = let below = there_is xs place some in omega (arith, below)
+
+take_long : {A : Type 0} (xs : List A) (place : ℕ) (x : A) → slice_get xs place ≡ Some x → length (take place xs) ≡ place
+take_long [] place x is = absurd cc
+take_long (y ∷ xs) zero x is = refl
+take_long (y ∷ xs) (suc place) x is = ap (λ n. suc n) (take_long xs place x is)
 
 -- all that stands before the runs on the plan at a place
 module _ {L : Type 0} (past : L → Past) (honest calm : L → Names → Type 0) (plans : List (List Key)) (runs : List (List Run)) where
@@ -240,7 +255,7 @@ module _ {L : Type 0} (past : L → Past) (honest calm : L → Names → Type 0)
         }
 
     -- the runs on the plan at a place were made
-    pub turned : (start x y : L) (place : ℕ) (keys : List Key) (list : List Run) (old new : CampaignEnd) (carried : List (List Known)) (whole : Type 0) → IsLawful keys
+    turned : (start x y : L) (place : ℕ) (keys : List Key) (list : List Run) (old new : CampaignEnd) (carried : List (List Known)) (whole : Type 0) → IsLawful keys
         → slice_get plans place ≡ Some keys → slice_get runs place ≡ Some list → Turning start x place old carried
         → (ran : HasRunPart past honest calm keys carried list x y old new) → (whole → ran.part.fault ≡ None) → Turned start y place new whole
     turned start x y place keys list old new carried whole lawful_keys is so before ran to =
@@ -317,10 +332,28 @@ module _ {L : Type 0} (past : L → Past) (honest calm : L → Names → Type 0)
               kept.calmly ran.whole (last_plan plans) lawful (last_prolongs l plans place keys prolonged is) (before.calmly begun);
         }
 
+    -- or one of them has no end, or nothing was carried over to the next plan
+    broken_of : (start x y : L) (place : ℕ) (keys : List Key) (next : Option (List Key)) (list : List Run) (old new : CampaignEnd) (carried : List (List Known))
+        → slice_get plans place ≡ Some keys → slice_get runs place ≡ Some list → next ≡ slice_get plans (suc place) → (before : Turning start x place old carried)
+        → (broken : HasRunBroken past honest calm keys next carried list x y old new)
+        → (length (before.parts ++ record { ends = broken.ran.part.runs.items; saved = broken.ran.part.saved.items } ∷ []) < length plans)
+        ⊎ LastIsShort runs (before.parts ++ record { ends = broken.ran.part.runs.items; saved = broken.ran.part.saved.items } ∷ [])
+    broken_of start x y place keys next list old new carried is so next_is before broken =
+        let part : Part = record { ends = broken.ran.part.runs.items; saved = broken.ran.part.saved.items } in
+        let long : length before.parts ≡ place =
+        parts_long (honest start (is_planned (last_plan plans))) (CalmStart past calm plans start) (take place plans) (take place runs) [] before.parts (past start) (past x) before.each
+        ∙ take_long plans place keys is in
+        elim broken.why [
+          | inl short ↦ inr (last_short runs before.parts part place list long so short)
+          | inr some ↦
+              let below = there_is plans (suc place) (λ none. some (next_is ∙ none)) in
+              inl (omega (arith, below, long, length-append before.parts (part ∷ [])))
+        ]
+
     -- or the runs on it were broken off, or none was made
-    pub plans_broken : (start y : L) (place : ℕ) (end : CampaignEnd) (whole : Type 0) → (whole → ⊥) → Turned start y place end whole
-        → HasRunPlans past honest calm plans runs whole start y end
-    plans_broken start y place end whole none turned = record {
+    plans_broken : (start y : L) (place : ℕ) (end : CampaignEnd) (whole : Type 0) → (whole → ⊥) → (turned : Turned start y place end whole)
+        → (length turned.parts < length plans) ⊎ LastIsShort runs turned.parts → HasRunPlans past honest calm plans runs whole start y end
+    plans_broken start y place end whole none turned broken = record {
       good = turned.good;
       in_turn = record {
         parts = turned.parts;
@@ -328,12 +361,22 @@ module _ {L : Type 0} (past : L → Past) (honest calm : L → Names → Type 0)
         saved_are = turned.saved_are;
         each = parts_broken (honest start (is_planned (last_plan plans))) (CalmStart past calm plans start) plans runs [] turned.parts (suc place) whole (past start) (past y)
             none turned.each;
+        broken = λ but. broken;
       };
     }
 
-    pub plans_left : (start x : L) (place : ℕ) (old new : CampaignEnd) (carried : List (List Known)) (whole : Type 0) → (whole → ⊥) → Turning start x place old carried
-        → AreSame old new → HasRunPlans past honest calm plans runs whole start x new
-    plans_left start x place old new carried whole none before same = record {
+    pub run_broken : (start x y : L) (place : ℕ) (keys : List Key) (next : Option (List Key)) (list : List Run) (old new : CampaignEnd) (carried : List (List Known)) (whole : Type 0)
+        → (whole → ⊥) → IsLawful keys → slice_get plans place ≡ Some keys → slice_get runs place ≡ Some list → next ≡ slice_get plans (suc place)
+        → Turning start x place old carried → HasRunBroken past honest calm keys next carried list x y old new → HasRunPlans past honest calm plans runs whole start y new
+    unfolding turned
+    run_broken start x y place keys next list old new carried whole none lawful_keys is so next_is before broken =
+        plans_broken start y place new whole none
+        (turned start x y place keys list old new carried whole lawful_keys is so before broken.ran (λ holds. absurd (none holds)))
+        (broken_of start x y place keys next list old new carried is so next_is before broken)
+
+    pub plans_left : (start x : L) (place : ℕ) (keys : List Key) (old new : CampaignEnd) (carried : List (List Known)) (whole : Type 0) → (whole → ⊥)
+        → slice_get plans place ≡ Some keys → Turning start x place old carried → AreSame old new → HasRunPlans past honest calm plans runs whole start x new
+    plans_left start x place keys old new carried whole none is before same = record {
       good = λ begun.
           subst (λ ends. IsGoodFor past honest (last_plan plans) start x ends new.saved.items) (sym same.same_runs)
           (subst (λ saved. IsGoodFor past honest (last_plan plans) start x old.runs.items saved) (sym same.same_saved) (before.stands begun).good);
@@ -344,13 +387,19 @@ module _ {L : Type 0} (past : L → Past) (honest calm : L → Names → Type 0)
         each = parts_broken (honest start (is_planned (last_plan plans))) (CalmStart past calm plans start) plans runs [] before.parts place whole (past start) (past x) none
             (parts_if (honest start (is_planned (last_plan plans))) (CalmStart past calm plans start) (take place plans) (take place runs) [] before.parts ⊤ whole (past start)
             (past x) (λ holds. tt) before.each);
+        broken = λ but.
+            let below = there_is plans place (λ no. some_none keys (sym is ∙ no)) in
+            let long =
+            parts_long (honest start (is_planned (last_plan plans))) (CalmStart past calm plans start) (take place plans) (take place runs) [] before.parts (past start) (past x) before.each
+            ∙ take_long plans place keys is in
+            inl (omega (arith, below, long));
       };
     }
 
     -- the runs on all plans were made
-    pub plans_all : (start x : L) (place : ℕ) (end : CampaignEnd) (carried : List (List Known)) (whole : Type 0) → place ≡ length plans → length runs ≡ length plans
+    pub plans_all : (start x : L) (place : ℕ) (end : CampaignEnd) (carried : List (List Known)) (whole : Type 0) → whole → place ≡ length plans → length runs ≡ length plans
         → Turning start x place end carried → HasRunPlans past honest calm plans runs whole start x end
-    plans_all start x place end carried whole all as_many before = record {
+    plans_all start x place end carried whole is all as_many before = record {
       good = λ begun. (before.stands begun).good;
       in_turn = record {
         parts = before.parts;
@@ -358,16 +407,18 @@ module _ {L : Type 0} (past : L → Past) (honest calm : L → Names → Type 0)
         saved_are = before.saved_are;
         each = parts_all (honest start (is_planned (last_plan plans))) (CalmStart past calm plans start) plans runs [] before.parts place whole (past start) (past x) all as_many
             before.each;
+        broken = λ but. absurd (but is);
       };
     }
 
 pub in_turn_if : (plans : List (List Key)) (runs : List (List Run)) (ends : List RunEnd) (saved : List (List Known)) (honest calm whole other : Type 0) (old new : Past)
-    → (other → whole) → AreInTurn plans runs ends saved honest calm whole old new → AreInTurn plans runs ends saved honest calm other old new
-in_turn_if plans runs ends saved honest calm whole other old new to are = record {
+    → (other → whole) → (whole → other) → AreInTurn plans runs ends saved honest calm whole old new → AreInTurn plans runs ends saved honest calm other old new
+in_turn_if plans runs ends saved honest calm whole other old new to back are = record {
   parts = are.parts;
   ends_are = are.ends_are;
   saved_are = are.saved_are;
   each = parts_if honest calm plans runs [] are.parts whole other old new to are.each;
+  broken = λ but. are.broken (λ is. but (back is));
 }
 
 -- ---- what stands at a place
@@ -377,6 +428,10 @@ pub list_at : {V A : Type 0} (items : V → List A) (lists : List V) (place : �
 list_at items [] place v list is same = absurd cc
 list_at items (first ∷ lists) zero v list is same = let one : first ≡ v = cc in ap (λ w. Some (items w)) one ∙ ap Some (sym same)
 list_at items (first ∷ lists) (suc place) v list is same = list_at items lists place v list is same
+
+pub some_not : {A : Type 0} (o : Option A) → is_some o ≡ true → o ≢ None
+some_not None is = λ none. absurd cc
+some_not (Some a) is = λ none. absurd cc
 
 pub if_next : {R : Type 0} (view : R → List Key) (plans : List (List Key)) (place : ℕ) (keys : List Key) (after : Option R) → AreProlonged plans
     → slice_get plans place ≡ Some keys → option_map view after ≡ slice_get plans (suc place) → IfSome after (λ next. Prolongs (view next) keys)

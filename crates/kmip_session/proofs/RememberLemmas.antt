@@ -21,7 +21,7 @@ use Rattle.kmip_session.specs.declared.campaigning.CampaignEnd.{CampaignEnd}
 use Rattle.kmip_session.specs.declared.campaigning.Run.{Run}
 use Rattle.kmip_session.specs.declared.campaigning.RunEnd.{RunEnd}
 use Rattle.kmip_session.specs.declared.stop.Stop.{Stop}
-use Rattle.kmip_session.proofs.KnownLemmas.{delivered_stays, grown_itself, joined, learnt_still}
+use Rattle.kmip_session.proofs.KnownLemmas.{delivered_grown, delivered_stays, grown_itself, grown_then, joined, learnt_still}
 use Rattle.kmip_session.proofs.OrderLemmas.{zip_push}
 
 -- what is known at the end of the last of them
@@ -267,3 +267,19 @@ module _ {L : Type 0} (past : L → Past) (honest : L → Names → Type 0) (key
     grown = λ holds. grown (subst (λ ks. honest x (is_planned ks)) (sym b_keys) holds);
     few = λ holds. few (subst (λ ks. honest x (is_planned ks)) (sym b_keys) holds);
   }
+
+  -- or begun and driven, and broken off where it was to be ended over the link
+  pub broken_closed : (b : ClientState) (x y z : L) (run : Run) (old new : CampaignEnd) → b.keys ≡ keys → (honest x (is_planned b.keys) → Grown (past x) (past y))
+      → (honest x (is_planned b.keys) → length (past y).sent ≤ length (past x).sent + run.limit) → ((names : Names) → honest x names → honest y names)
+      → ((names : Names) → honest y names → honest z names × Delivered names (past y) (past z)) → AreSame old new → IsBroken past honest keys run x z old new
+  broken_closed b x y z run old new b_keys grown few still closes same =
+      let off = broken_off b x y run old new b_keys grown few same in
+      record {
+        same = same;
+        grown = λ holds.
+            let close = closes (is_planned keys) (still (is_planned keys) holds) in
+            grown_then (past x) (past y) (past z) (off.grown holds) (delivered_grown (is_planned keys) (past y) (past z) close.1);
+        few = λ holds.
+            let close = closes (is_planned keys) (still (is_planned keys) holds) in
+            subst (λ sent. length sent ≤ length (past x).sent + run.limit) (sym (delivered_stays (is_planned keys) (past y) (past z) close.1).sent_stays) (off.few holds);
+      }

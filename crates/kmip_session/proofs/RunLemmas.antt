@@ -1,5 +1,5 @@
 -- Private: what holds between two runs of a campaign.
-use Rattle.std.proofs.Common.{◌≡◌, ◌≢◌, ℕ, suc, Option, None, Result, Ok, Err, OnOk, ◌+◌, List, [], ◌∷◌, ◌++◌, length, filter, take, slice_get, Some, sym, ap, subst, refl, ◌∙◌, arith}
+use Rattle.std.proofs.Common.{◌≡◌, ◌≢◌, ℕ, suc, Option, None, Result, Ok, Err, OnErr, OnOk, ◌+◌, List, [], ◌∷◌, ◌++◌, length, filter, take, slice_get, Some, sym, ap, subst, refl, ◌∙◌, arith}
 use Rattle.std.specs.Prelude.{⊤}
 use Rattle.std.proofs.lemmas.List.{length-append}
 use Rattle.std.proofs.lemmas.List.Elements.{All-nil}
@@ -167,9 +167,21 @@ pub if_ok : {E P : Type 0} (r : Result (Unit {0}) E) → r ≡ Ok tt → OnOk r 
 if_ok (Ok tt) is holds = holds
 if_ok (Err e) is holds = absurd cc
 
+pub no_runs : (runs : List Run) → length runs ≡ 0 → runs ≡ []
+no_runs [] none = refl
+no_runs (run ∷ runs) none = absurd (omega (arith, none))
+
 pub ok_of : {E : Type 0} (r : Result (Unit {0}) E) (fault : Option E) → fault ≡ result_err r → fault ≡ None → r ≡ Ok tt
 ok_of (Ok tt) fault is none = refl
 ok_of (Err e) fault is none = let both : Some e ≡ None = sym is ∙ none in absurd cc
+
+pub of_ok : {E : Type 0} (r : Result (Unit {0}) E) (fault : Option E) → fault ≡ result_err r → r ≡ Ok tt → fault ≡ None
+of_ok (Ok tt) fault is ok = is
+of_ok (Err e) fault is ok = absurd cc
+
+pub if_fault : {E P : Type 0} (r : Result (Unit {0}) E) (fault : Option E) → fault ≡ result_err r → fault ≢ None → OnErr r P → P
+if_fault (Ok tt) fault is some holds = absurd (some is)
+if_fault (Err e) fault is some holds = holds
 
 pub known_if : (keys : List Key) (carried : List (List Known)) (runs : List Run) (ends : List RunEnd) (saved : List (List Known)) (honest whole other : Type 0) (old new : Past)
     → (other → whole) → AreKnownFrom keys carried runs ends saved honest whole old new → AreKnownFrom keys carried runs ends saved honest other old new

@@ -1,6 +1,6 @@
 -- Private: what the parts of a campaign keep.
 -- Source: own.
-use Rattle.std.specs.Prelude.{◌≡◌, ◌≢◌, ◌≤◌, ℕ, ◌+◌, List, [], ◌∷◌, ◌++◌, filter, length, None, string_bytes, take}
+use Rattle.std.specs.Prelude.{◌≡◌, ◌≢◌, ◌≤◌, ◌<◌, ℕ, ◌+◌, List, [], ◌∷◌, ◌++◌, filter, length, map, Option, Some, None, string_bytes, take, if◌then◌else◌, vec_capacity, vec_len}
 use Rattle.std.specs.List.{All, AllZip}
 use Rattle.kmip_objects.specs.Objects.{Object}
 use Rattle.kmip_plan.specs.Laws.{KeysAreFound}
@@ -12,6 +12,7 @@ use Rattle.kmip_client.specs.Clients.{ClientState}
 use Rattle.kmip_client.specs.Held.{TrueProgress}
 use Rattle.kmip_client.specs.Laws.{OnwardToItself, OnwardTwice, HeldForGood}
 use Rattle.kmip_client.specs.Places.{position}
+use Rattle.kmip_client.specs.Saving.{known_of}
 use Rattle.kmip_client.specs.Shapes.{IsKept}
 use Rattle.kmip_client.specs.Standing.{AreWithin, counts_of, verdicts_of}
 use Rattle.kmip_knowledge.specs.declared.knowledge.Knowledge.{Knowledge}
@@ -25,6 +26,7 @@ use Rattle.kmip_session.specs.Reporting.{report_text}
 use Rattle.kmip_session.specs.declared.campaigning.CampaignEnd.{CampaignEnd}
 use Rattle.kmip_session.specs.declared.campaigning.Run.{Run}
 use Rattle.kmip_session.specs.declared.campaigning.RunEnd.{RunEnd}
+use Rattle.kmip_session.specs.declared.ending.Ending.{Ending}
 use Rattle.kmip_session.specs.declared.stop.Stop.{Stop}
 use Rattle.kmip_session.specs.declared.stop.Stop.TheVariants as stops
 
@@ -72,6 +74,21 @@ pub record IsEndOf (keys : List Key) (knowns : List Knowledge) (stop : Stop) (ex
   pub few : AreWithin keys end.counts.items
   pub report_is : string_bytes end.report ≡ report_text keys end.counts.items end.verdicts.items
   pub in_memory : stop ≢ stops.NoMemory
+
+-- how a run ended that knows so much at its end, and what is saved of it
+pub record IsEnding (keys : List Key) (run : Run) (knowns : List Knowledge) (driven : Stop × ℕ) (ending : Ending) : Type 0 where
+  pub end_is : IsEndOf keys knowns driven.0 driven.1 ending.run
+  pub saved_is : ending.saved ≡ (if run.save then Some (map known_of knowns) else None)
+
+-- one more end can be noted, and what is saved of it, without memory
+pub record HasRoom (end : CampaignEnd) : Type 0 where
+  pub room_for_run : vec_len end.runs < vec_capacity end.runs
+  pub room_for_save : vec_len end.saved < vec_capacity end.saved
+
+-- what is saved, with what a run adds
+abbrev pub saved_with : Option (List Known) → List (List Known) → List (List Known)
+saved_with None saved = saved
+saved_with (Some progress) saved = saved ++ progress ∷ []
 
 -- One more end is noted, of this run, that shows what is known.
 pub record IsNoted (keys : List Key) (run : Run) (knowns : List Knowledge) (driven : Stop × ℕ) (old new : List RunEnd) : Type 0 where
@@ -124,6 +141,7 @@ pub record HasRunAll {L : Type 0} (past : L → Past) (honest calm : L → Names
       → Campaigned past honest keys old new end.runs.items end.saved.items × KeepsFurther past honest calm keys (end.fault ≡ None) old new
   pub order : AllZip (IsEnd keys) (take (length end.runs.items) runs) end.runs.items
   pub complete : end.fault ≡ None → AllZip (IsEnd keys) runs end.runs.items × (length end.saved.items ≡ length (filter saves runs))
+  pub fewer : end.fault ≢ None → length end.runs.items < length runs
   pub known : AreKnownFrom keys carried runs end.runs.items end.saved.items (honest old (is_planned keys)) (end.fault ≡ None) (past old) (past new)
   pub settles : CalmLink past calm keys old → All (TrueProgress (past old).objects keys) carried → end.fault ≡ None
       → AllZip (Settles keys) runs end.runs.items × CalmLink past calm keys new

@@ -1,6 +1,6 @@
 -- Runs on plans of which each prolongs the one before, the plans in turn.
 -- Source: own.
-use Rattle.std.specs.Prelude.{◌≡◌, ◌≢◌, ◌⊎◌, ◌≤◌, ⊤, List, [], ◌∷◌, ◌++◌, ◌+◌, drop, filter, flat_map, length, map, take}
+use Rattle.std.specs.Prelude.{◌≡◌, ◌≢◌, ◌⊎◌, ◌≤◌, ◌<◌, ⊤, List, [], ◌∷◌, ◌++◌, ◌+◌, drop, filter, flat_map, length, map, take}
 use Rattle.std.specs.List.{AllZip}
 use Rattle.kmip_objects.specs.Objects.{Object}
 use Rattle.kmip_plan.specs.Prolonging.{Prolongs}
@@ -82,9 +82,18 @@ AreParts (keys ∷ plans) (list ∷ runs) saved (part ∷ parts) honest calm who
     (between : Past) × IsPart keys (map (carried_over keys) saved) list part honest calm (whole ⊎ (parts ≢ [])) old between
     × AreParts plans runs (saved ++ part.saved) parts honest calm whole between new
 
--- What is noted is what the runs on the plans noted, one plan after the other.
+-- the last of these parts has fewer ends than its list has runs
+abbrev pub LastIsShort : List (List Run) → List Part → Type 0
+LastIsShort runs [] = ⊥
+LastIsShort [] (part ∷ parts) = ⊥
+LastIsShort (list ∷ runs) (part ∷ []) = length part.ends < length list
+LastIsShort (list ∷ runs) (part ∷ next ∷ parts) = LastIsShort runs (next ∷ parts)
+
+-- What is noted is what the runs on the plans noted, one plan after the other. Where memory ran out, the last part lacks an end, or what
+-- was saved could not be carried over to a further plan.
 pub record AreInTurn (plans : List (List Key)) (runs : List (List Run)) (ends : List RunEnd) (saved : List (List Known)) (honest calm whole : Type 0) (old new : Past) : Type 0 where
   pub parts : List Part
   pub ends_are : ends ≡ flat_map part_ends parts
   pub saved_are : saved ≡ flat_map part_saved parts
   pub each : AreParts plans runs [] parts honest calm whole old new
+  pub broken : (whole → ⊥) → (length parts < length plans) ⊎ LastIsShort runs parts

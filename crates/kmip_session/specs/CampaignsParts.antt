@@ -1,6 +1,6 @@
 -- Private: what the parts of a campaign on several plans keep.
 -- Source: own.
-use Rattle.std.specs.Prelude.{◌≡◌, List, ◌++◌, flat_map, map, None, Option, IfSome}
+use Rattle.std.specs.Prelude.{◌≡◌, ◌≢◌, ◌<◌, ◌⊎◌, List, ◌++◌, flat_map, length, map, None, Option, IfSome}
 use Rattle.std.specs.List.{All}
 use Rattle.kmip_plan.specs.Laws.{NewPlansAreNoShorter, PlansProlongAgain, PlansProlongThemselves}
 use Rattle.kmip_chains.specs.declared.key.Key.{Key}
@@ -43,6 +43,11 @@ pub record HasRunPart {L : Type 0} (past : L → Past) (honest calm : L → Name
   pub all : HasRunAll past honest calm keys carried runs part x y
   pub runs_are : new.runs.items ≡ old.runs.items ++ part.runs.items
   pub saved_are : new.saved.items ≡ old.saved.items ++ part.saved.items
+
+-- The runs of one more plan were made, and either one of them has no end, or there is a plan to which nothing was carried over.
+pub record HasRunBroken {L : Type 0} (past : L → Past) (honest calm : L → Names → Type 0) (keys : List Key) (next : Option (List Key)) (carried : List (List Known)) (runs : List Run) (x y : L) (old new : CampaignEnd) : Type 0 where
+  pub ran : HasRunPart past honest calm keys carried runs x y old new
+  pub why : (length ran.part.runs.items < length runs) ⊎ (next ≢ None)
 
 -- this was saved so far, as it is read for the next plan, where there is one
 abbrev pub IsReadFor : Option (List Key) → List (List Known) → List (List Known) → Type 0

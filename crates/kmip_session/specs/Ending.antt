@@ -1,6 +1,6 @@
 -- Where the runs of a campaign were ended over their link: how many messages had been sent then.
 -- Source: own: a run is no part of the standard.
-use Rattle.std.specs.Prelude.{◌≡◌, ◌⊎◌, ℕ, ◌+◌, List, [], ◌∷◌, ◌++◌}
+use Rattle.std.specs.Prelude.{◌≡◌, ℕ, ◌+◌, List, [], ◌∷◌, ◌++◌}
 use Rattle.kmip_session.specs.declared.campaigning.RunEnd.{RunEnd}
 
 -- where runs end that make so many exchanges each, the first of them from so many messages on
@@ -8,27 +8,18 @@ abbrev pub ended_at : ℕ → List RunEnd → List ℕ
 ended_at sent [] = []
 ended_at sent (end ∷ ends) = (sent + end.exchanges) ∷ ended_at (sent + end.exchanges) ends
 
--- The runs with these ends but the last were ended over the link, each right behind its last exchange, and no other run was.
-pub record AllButLastEnded (ends : List RunEnd) (sent : ℕ) (old new : List ℕ) : Type 0 where
-  pub before : List RunEnd
-  pub last : RunEnd
-  pub ends_are : ends ≡ before ++ last ∷ []
-  pub ended_are : new ≡ old ++ ended_at sent before
-
--- The runs with these ends were ended over the link, each right behind its last exchange, and no other run was; where memory ran out
--- the last of them need not be.
-pub record AreEnded (ends : List RunEnd) (whole : Type 0) (sent : ℕ) (old new : List ℕ) : Type 0 where
-  pub all : whole → new ≡ old ++ ended_at sent ends
-  pub ended : (new ≡ old ++ ended_at sent ends) ⊎ AllButLastEnded ends sent old new
+-- The runs with these ends were ended over the link, each right behind its last exchange, and no other run was.
+abbrev pub AreEnded : List RunEnd → ℕ → List ℕ → List ℕ → Type 0
+AreEnded ends sent old new = new ≡ old ++ ended_at sent ends
 
 -- Private: how many exchanges runs with these ends made.
 abbrev pub exchanges_in : List RunEnd → ℕ
 exchanges_in [] = 0
 exchanges_in (end ∷ ends) = end.exchanges + exchanges_in ends
 
--- Private: more ends were noted, their runs were ended over the link, and where all were, so many more messages were sent.
+-- Private: more ends were noted, their runs were ended over the link and no other was; where all went well so many more messages were sent.
 pub record EndsJoin (old new : List RunEnd) (whole : Type 0) (sent later : ℕ) (ended after : List ℕ) : Type 0 where
   pub ends : List RunEnd
   pub joined : new ≡ old ++ ends
-  pub are_ended : AreEnded ends whole sent ended after
+  pub are_ended : AreEnded ends sent ended after
   pub made : whole → later ≡ sent + exchanges_in ends

@@ -1,39 +1,32 @@
 //! Runs in turn over one link, each from nothing, from the run before it or from a saved progress.
-ghost use Rattle.std.specs.Prelude.{◌≡◌, ◌≢◌, ◌≤◌, ◌⊎◌, ℕ, List, [], ◌++◌, length, filter, map, take, Some, None, Ok, IfOk, OnErr, OnOk, IfSome, option_map, false, IsTrue, if◌then◌else◌};
+ghost use Rattle.std.specs.Prelude.{◌≡◌, ◌≢◌, ◌≤◌, ◌<◌, ◌⊎◌, ℕ, List, [], ◌++◌, length, filter, take, Some, None, Ok, IfOk, OnErr, OnOk, IfSome, option_map, IsTrue};
 ghost use Rattle.std.specs.List.{All, AllZip, Contains};
 ghost use Rattle.kmip_objects.specs.Objects.{Object};
 ghost use Rattle.kmip_batches.specs.Members.{may_have};
 ghost use Rattle.kmip_client.specs.Held.{Held, TrueProgress};
 ghost use Rattle.kmip_progress.specs.Suiting.{Suits};
-ghost use Rattle.kmip_schedule.specs.Ending.{EndedAt};
 ghost use Rattle.kmip_schedule.specs.Machine.{IsMirrored};
-ghost use Rattle.kmip_schedule.specs.Moves.{Delivered};
-ghost use Rattle.kmip_client.specs.Saving.{known_of};
-ghost use Rattle.kmip_schedule.specs.Past.{Past, Names, is_planned};
+ghost use Rattle.kmip_schedule.specs.Past.{Names, is_planned};
 ghost use Rattle.kmip_schedule.specs.Safe.{Safe};
 ghost use Rattle.kmip_schedule.specs.Sound.{Opening};
 ghost use Rattle.kmip_session.specs.Campaign.{CalmLink, GoodLink, HasNoConflict, IsEnd, MayBatch, Settles, reported, saves};
 ghost use Rattle.kmip_session.specs.CampaignParts.{
-  AreSame,
   CampaignLaws,
   Campaigned,
-  HasEnded,
   HasRun,
   HasRunAll,
   HasSettled,
   IsBroken,
-  IsEndOf,
-  Noted,
   Standing,
 };
-ghost use Rattle.kmip_session.specs.Driving.{KeepsFurther, Stands, WentOn};
+ghost use Rattle.kmip_session.specs.Driving.{KeepsFurther, WentOn};
 ghost use Rattle.kmip_session.specs.Ending.{AreEnded, EndsJoin};
 ghost use Rattle.kmip_session.specs.Losing.{AllOutlast, HasOutlasted};
 ghost use Rattle.kmip_session.specs.Remembering.{AreKnown, AreKnownFrom, resumed, saved_numbered, start_knowns};
 ghost use Rattle.kmip_session.specs.TurnedRuns.{AreTurnedFrom, RanTurned, begin_client, resumed_client};
 
 use crate::driving::drive;
-use crate::reporting::report_of;
+use crate::ending::{close_run, ending_of, note};
 use crate::stop::Stop;
 use kmip_chains::laws::steps_have_places;
 use kmip_client::laws::{onward_is_an_order, truth_is_for_good};
@@ -41,10 +34,10 @@ use kmip_client::{Client, Verdict};
 use kmip_plan::Plan;
 use kmip_plan::laws::keys_have_names;
 use kmip_progress::Progress;
+use kmip_schedule::Link;
 use kmip_schedule::laws::{
     deliveries_keep_sound, objects_go_onward, opening_is_mirrored, sound_is_safe, the_image_is_kept,
 };
-use kmip_schedule::{Link, LinkFault};
 use kmip_settling::laws::sound_is_ready;
 use kmip_ttlv::NoMemory;
 use std::alloc::Global;
@@ -128,9 +121,9 @@ pub fn campaign<L: Link>(alloc: Global, plan: &Plan, link: &mut L, runs: &[Run])
     ensures outlasts { GoodLink L.past L.honest plan.now link.old → result.fault ≡ None
         → AllOutlast plan.now runs.now result.runs.items (L.disturbances link.old)
         (L.disturbances link.new) }
+    ensures fewer { result.fault ≢ None → length result.runs.items < length runs.now }
     ensures ended { L.honest link.old (is_planned plan.now) → AreEnded result.runs.items
-        (result.fault ≡ None) (length (L.past link.old).sent)
-        (L.ended link.old) (L.ended link.new) }
+        (length (L.past link.old).sent) (L.ended link.old) (L.ended link.new) }
     ensures followed { result.fault ≡ None → L.follows link.old link.new }
 {
     laws_of_runs();
@@ -231,6 +224,7 @@ fn run_each<L: Link>(
         → All (TrueProgress (L.past link.old).objects plan.now) carried.now
         → OnOk result (AllOutlast plan.now runs.now end.new.runs.items
         (L.disturbances link.old) (L.disturbances link.new)) }
+    ensures fewer { OnErr result (length end.new.runs.items < length runs.now) }
     ensures ended { L.honest link.old (is_planned plan.now) → EndsJoin [] end.new.runs.items
         (result ≡ Ok tt) (length (L.past link.old).sent) (length (L.past link.new).sent)
         (L.ended link.old) (L.ended link.new) }
@@ -239,6 +233,9 @@ fn run_each<L: Link>(
     laws_of_runs();
     L::calm_laws();
     plan.keys();
+    if runs.is_empty() {
+        return Ok(());
+    }
     let mut client = Client::fresh(alloc, plan)?;
     for place in 0..runs.len() {
         one_run(alloc, plan, &mut client, link, runs[place], carried, end)?;
@@ -282,11 +279,7 @@ fn one_run<'p, L: Link>(
         (L.honest link.old (is_planned plan.now)) (L.past link.old) (L.past link.new)
         end.old.runs.items end.new.runs.items) }
     ensures broken { OnErr result (IsBroken L.past L.honest plan.now run link.old link.new
-        end.old end.new ⊎ (HasRun L.past L.honest plan.now carried.now run client.old client.new
-        link.old link.new end.old end.new × RanTurned plan.now
-        (begin_client plan.now run client.old (carried.now ++ end.old.saved.items)) client.new
-        (L.honest link.old (is_planned plan.now)) (L.past link.old) (L.past link.new)
-        end.old.runs.items end.new.runs.items)) }
+        end.old end.new) }
     ensures settles { Standing L.past L.honest plan.now client.old link.old end.old.runs.items
         end.old.saved.items
         → All (TrueProgress (L.past link.old).objects plan.now) carried.now
@@ -308,8 +301,10 @@ fn one_run<'p, L: Link>(
     plan.keys();
     begin(alloc, plan, client, carried, end.saved.as_slice(), run)?;
     let driven = drive(alloc, client, link, run.limit);
-    finish(alloc, client, run, driven, end)?;
-    close_run(alloc, link)
+    let ending = ending_of(alloc, client, run, driven, end)?;
+    close_run(alloc, link)?;
+    note(ending, end);
+    Ok(())
 }
 
 /// Gives the client what its run begins with, and how many keys it is to ask about at once.
@@ -399,108 +394,5 @@ fn client_from<'p>(
     match saved_at(carried, saved, number) {
         Some(progress) => Client::resume(alloc, plan, progress),
         None => Client::fresh(alloc, plan),
-    }
-}
-
-/// Notes how a run has ended, and saves what is known where the run says so.
-///
-/// # Errors
-/// Where there is no memory, or was none in the run; nothing is then noted.
-fn finish(
-    alloc: Global,
-    client: &Client<'_>,
-    run: Run,
-    driven: (Stop, usize),
-    end: &mut CampaignEnd,
-) -> Result<(), NoMemory>
-    requires stands { Stands driven.0 client.now.keys client.now.knowns }
-    requires limit { driven.0 ≡ Stop.Limit → driven.1 ≡ run.limit }
-    requires within { driven.1 ≤ run.limit }
-    requires suits { All (Suits client.now.keys) end.old.saved.items }
-    ensures suits { All (Suits client.now.keys) end.new.saved.items }
-    ensures true_of { (objects : List Object) → driven.0 ≢ Stop.Conflict
-        → Held objects client.now.keys client.now.knowns
-        → Noted objects client.now.keys end.old.runs.items end.old.saved.items
-        → Noted objects client.now.keys end.new.runs.items end.new.saved.items }
-    ensures ended { OnOk result (HasEnded client.now.keys run client.now.knowns driven
-        end.old end.new × (driven.0 ≢ Stop.NoMemory)) }
-    ensures same { OnErr result (AreSame end.old end.new) }
-{
-    let run_end = end_of(alloc, client, driven)?;
-    let saved = saved_of(alloc, client, run.save)?;
-    end.runs.reserve(1)?;
-    end.saved.reserve(1)?;
-    end.runs.push_reserved(run_end);
-    let Some(progress) = saved else {
-        return Ok(());
-    };
-    end.saved.push_reserved(progress);
-    Ok(())
-}
-
-/// What is known, where it is to be saved.
-///
-/// # Errors
-/// Where there is no memory for it.
-fn saved_of(alloc: Global, client: &Client<'_>, save: bool) -> Result<Option<Progress>, NoMemory>
-    ensures saved { IfOk result (λ saved. saved
-        ≡ (if save then Some (map known_of client.now.knowns) else None)) }
-    ensures suits { IfOk result (λ saved. IfSome saved (Suits client.now.keys)) }
-    ensures held { (objects : List Object) → Held objects client.now.keys client.now.knowns
-        → IfOk result (λ saved. IfSome saved (TrueProgress objects client.now.keys)) }
-{
-    if !save {
-        return Ok(None);
-    }
-    let progress = client.progress(alloc)?;
-    Ok(Some(progress))
-}
-
-/// How a run has ended.
-///
-/// # Errors
-/// Where there is no memory, or was none in the run.
-fn end_of(alloc: Global, client: &Client<'_>, driven: (Stop, usize)) -> Result<RunEnd, NoMemory>
-    ensures { IfOk result (IsEndOf client.now.keys client.now.knowns driven.0 driven.1) }
-{
-    let (stop, exchanges) = driven;
-    if stop.is_no_memory() {
-        return Err(NoMemory);
-    }
-    let counts = client.counts(alloc)?;
-    let verdicts = client.verdicts(alloc)?;
-    let keys = client.plan().keys();
-    let report = report_of(alloc, keys, counts.as_slice(), verdicts.as_slice())?;
-    Ok(RunEnd {
-        stop,
-        exchanges,
-        counts,
-        verdicts,
-        report,
-    })
-}
-
-/// Ends a run over the link; a failure of the network is passed over.
-///
-/// # Errors
-/// Where there is no memory; no failure of the network was met then.
-pub fn close_run<L: Link>(alloc: Global, link: &mut L) -> Result<(), NoMemory>
-    ensures honest { (names : Names) → L.honest link.old names → L.honest link.new names
-        × Delivered names (L.past link.old) (L.past link.new) }
-    ensures calm { (names : Names) → L.calm link.old names → L.calm link.new names
-        × OnOk result (L.past link.new ≡ L.past link.old) }
-    ensures undisturbed { (names : Names) → L.honest link.old names
-        → L.disturbances link.new ≡ L.disturbances link.old }
-    ensures ended { (names : Names) → L.honest link.old names → OnOk result (
-        EndedAt (length (L.past link.old).sent) (L.ended link.old) (L.ended link.new)) }
-    ensures once { (names : Names) → L.honest link.old names
-        → EndedAt (length (L.past link.old).sent) (L.ended link.old) (L.ended link.new)
-        ⊎ (L.ended link.new ≡ L.ended link.old) }
-    ensures followed { OnOk result (L.follows link.old link.new) }
-    ensures wanting { OnErr result (L.failures link.new ≡ L.failures link.old) }
-{
-    match link.end_run(alloc) {
-        Ok(()) | Err(LinkFault::Io) | Err(LinkFault::Frame) => Ok(()),
-        Err(LinkFault::NoMemory) => Err(NoMemory),
     }
 }

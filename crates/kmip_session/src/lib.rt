@@ -3,13 +3,15 @@
 
 mod campaigning;
 mod driving;
+mod ending;
 mod prolonging;
 mod reporting;
 mod stop;
 mod turn_fault;
 
-pub use campaigning::{CampaignEnd, Run, RunEnd, Start, campaign, close_run};
+pub use campaigning::{CampaignEnd, Run, RunEnd, Start, campaign};
 pub use driving::drive;
+pub use ending::close_run;
 pub use kmip_schedule::{Link, LinkFault};
 pub use prolonging::campaigns;
 pub use reporting::{finished_count, report};

@@ -1,5 +1,5 @@
 //! Runs on plans of which each prolongs the one before, the plans in turn.
-ghost use Rattle.std.specs.Prelude.{◌≡◌, ◌≤◌, ◌++◌, ◌⊎◌, [], length, map, None, Ok, IfOk, IsOk, IfSome, OnErr, OnOk, option_map};
+ghost use Rattle.std.specs.Prelude.{◌≡◌, ◌≢◌, ◌≤◌, ◌++◌, ◌⊎◌, [], length, map, None, Ok, IfOk, IsOk, IfSome, OnErr, OnOk, option_map};
 ghost use Rattle.std.specs.List.{All};
 ghost use Rattle.kmip_plan.specs.Prolonging.{Prolongs};
 ghost use Rattle.kmip_progress.specs.Suiting.{Suits};
@@ -18,7 +18,7 @@ ghost use Rattle.kmip_session.specs.Campaigns.{
   carried_over,
   last_plan,
 };
-ghost use Rattle.kmip_session.specs.CampaignsParts.{HasRunPart, HasRunPlans, HasRunWhole, IsReadFor, PlansLaws};
+ghost use Rattle.kmip_session.specs.CampaignsParts.{HasRunBroken, HasRunPlans, HasRunWhole, IsReadFor, PlansLaws};
 ghost use Rattle.kmip_session.specs.Driving.{WentOn};
 ghost use Rattle.kmip_session.specs.Ending.{AreEnded, EndsJoin};
 
@@ -70,7 +70,7 @@ pub fn campaigns<L: Link>(
         (CalmStart L.past L.calm plans.now link.old) (result.fault ≡ None)
         (L.past link.old) (L.past link.new) }
     ensures ended { L.honest link.old (is_planned (last_plan plans.now))
-        → AreEnded result.runs.items (result.fault ≡ None) (length (L.past link.old).sent)
+        → AreEnded result.runs.items (length (L.past link.old).sent)
         (L.ended link.old) (L.ended link.new) }
     ensures followed { result.fault ≡ None → L.follows link.old link.new }
 {
@@ -159,8 +159,8 @@ fn run_part<L: Link>(
         (option_map (λ next. next.now) next.entry) carried.now runs.now link.old link.new
         end.old end.new read.items) }
     ensures broken { OnErr result ((AreSame end.old end.new × (link.new ≡ link.old))
-        ⊎ HasRunPart L.past L.honest L.calm plan.now carried.now runs.now link.old link.new
-        end.old end.new) }
+        ⊎ HasRunBroken L.past L.honest L.calm plan.now (option_map (λ next. next.now) next.entry)
+        carried.now runs.now link.old link.new end.old end.new) }
     ensures ended { L.honest link.old (is_planned plan.now) → EndsJoin end.old.runs.items
         end.new.runs.items (IsOk result) (length (L.past link.old).sent)
         (length (L.past link.new).sent) (L.ended link.old) (L.ended link.new) }
@@ -192,8 +192,9 @@ fn carry_over(
     requires carried { All (Suits plan.now) carried.now }
     requires saved { All (Suits plan.now) saved.now }
     requires prolongs { IfSome next (λ next. Prolongs next.now plan.now) }
-    ensures { IfOk result (λ read. IsReadFor (option_map (λ next. next.now) next.entry)
+    ensures read { IfOk result (λ read. IsReadFor (option_map (λ next. next.now) next.entry)
         (carried.now ++ saved.now) read.items) }
+    ensures needed { OnErr result (option_map (λ next. next.now) next.entry ≢ None) }
 {
     let Some(next) = next else {
         return Ok(Vec::new(alloc));

@@ -56,7 +56,7 @@ pub record IsCarriedOut (keys : List Key) (runs : List Run) (end : CampaignEnd) 
   pub settles : CalmLink past_in HasNoWord keys before → end.fault ≡ None
       → AllZip (Settles keys) runs end.runs.items × CalmLink past_in HasNoWord keys after
   pub outlasts : end.fault ≡ None → AllOutlast keys runs end.runs.items (disturbances_in before) (disturbances_in after)
-  pub ended : AreEnded end.runs.items (end.fault ≡ None) (length before.sent) before.ended after.ended
+  pub ended : AreEnded end.runs.items (length before.sent) before.ended after.ended
   pub followed : end.fault ≡ None → Follows before after
 
 -- The runs of a script were made for a plan, with so many keys asked about at once, over the link to a new server that follows the
@@ -86,5 +86,5 @@ pub record AreSimulated (plans : List (List Key)) (batch : ℕ) (words : List Wo
   pub opening : (keys : List Key) → Opening keys (past_in (first_scene words))
   pub in_turn : AreInTurn plans (map (in_batches batch) (lists_of (last_plan plans) words)) end.runs.items end.saved.items ⊤
       (CalmStart past_in HasNoWord plans (first_scene words)) (end.fault ≡ None) (past_in (first_scene words)) (past_in link)
-  pub ended : AreEnded end.runs.items (end.fault ≡ None) 0 [] link.ended
+  pub ended : AreEnded end.runs.items 0 [] link.ended
   pub followed : end.fault ≡ None → Follows (first_scene words) link

@@ -4,7 +4,7 @@ use Rattle.kmip_plan.specs.Plans.{IsLawful}
 use Rattle.kmip_schedule.specs.Past.{is_planned}
 use Rattle.kmip_session.specs.Losing.{left_for}
 use Rattle.kmip_running.proofs.CarryLemmas.{carried_closed, limit_last, memory_before, stands_last}
-use Rattle.kmip_running.proofs.EndingLemmas.{ended_once, ended_whole}
+use Rattle.kmip_running.proofs.EndingLemmas.{ended_once, ended_whole, one_of_both}
 use Rattle.kmip_running.proofs.LosingLemmas.{paid_closed}
 use Rattle.kmip_running.proofs.RefusalLemmas.{output_before}
 use Rattle.kmip_running.proofs.carrying.exchange_to_the_end.Goals as goal
@@ -49,7 +49,8 @@ returns-clause-once g c = λ honest.
     ended_once (past done.new.link) (past c.close_run-closed.new.link) (g.L.Link.ended c.args.link.now) (g.L.Link.ended done.new.link)
     (g.L.Link.ended c.close_run-closed.new.link)
     (c.laws_below.ensures.requests names (past done.new.link) (past c.close_run-closed.new.link) (c.close_run-closed.ensures.honest names still).1).sent
-    (done.ensures.ended honest) (c.close_run-closed.ensures.once names still)
+    (done.ensures.ended honest)
+    (one_of_both c.close_run-closed.result (c.close_run-closed.ensures.ended names still) (c.close_run-closed.ensures.unended names still))
 
 pub returns-clause-losing : goal.returns-clause-losing
 returns-clause-losing g c = λ good memory.

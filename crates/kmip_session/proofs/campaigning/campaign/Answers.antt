@@ -37,6 +37,7 @@ returns g c =
       goes = λ good. (all.stands good nothing).0.on;
       order = all.order;
       complete = all.complete;
+      fewer = all.fewer;
       known = all.known;
       turned =
           subst

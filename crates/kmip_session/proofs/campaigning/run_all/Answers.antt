@@ -2,7 +2,7 @@
 use Rattle.std.proofs.Common.{[]}
 use Rattle.kmip_session.proofs.DriveLemmas.{further_if}
 use Rattle.kmip_session.proofs.EndingLemmas.{join_if}
-use Rattle.kmip_session.proofs.RunLemmas.{if_ok, known_if, ok_of}
+use Rattle.kmip_session.proofs.RunLemmas.{if_fault, if_ok, known_if, ok_of}
 use Rattle.kmip_session.proofs.TurnedRunLemmas.{turned_if}
 use Rattle.kmip_session.proofs.campaigning.run_all.Goals as goal
 
@@ -23,6 +23,7 @@ returns g c =
             );
         order = c.run_each.ensures.order;
         complete = λ is. if_ok c.run_each.result (whole is) c.run_each.ensures.complete;
+        fewer = λ fault. if_fault c.run_each.result c.err-fault.result c.err-fault.ensures.value fault c.run_each.ensures.fewer;
         known = known_if keys c.args.carried.now c.args.runs.now end.runs.items end.saved.items _ _ _ (past c.args.link.now) (past c.run_each.new.link) whole
             c.run_each.ensures.known;
         settles = λ calmly carried is. if_ok c.run_each.result (whole is) (c.run_each.ensures.settles calmly carried);

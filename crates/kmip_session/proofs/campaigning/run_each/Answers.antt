@@ -1,5 +1,5 @@
 -- Run by run.
-use Rattle.std.proofs.Common.{◌<◌, ◌+◌, ◌≡◌, [], arith, Result, Ok, Err, IsErr, OnOk, filter, length, suc, rules, refl, inl, inr, subst, sym, take}
+use Rattle.std.proofs.Common.{◌<◌, ◌+◌, ◌≡◌, [], arith, Result, Ok, Err, IsErr, OnOk, ap, filter, length, suc, rules, refl, subst, sym, take}
 use Rattle.std.proofs.Math.Seq.{take_all}
 use Rattle.std.specs.List.{AllZip}
 use Rattle.std.specs.Prelude.{⊤}
@@ -14,9 +14,10 @@ use Rattle.kmip_session.proofs.DriveLemmas.{further_if}
 use Rattle.kmip_session.proofs.EndingLemmas.{join_if, join_none, join_then}
 use Rattle.kmip_session.specs.Losing.{AllOutlast}
 use Rattle.kmip_session.proofs.OutlastLemmas.{outlast_more, outlast_none}
-use Rattle.kmip_session.proofs.OrderLemmas.{ends_all, ends_more, ends_same}
-use Rattle.kmip_session.proofs.RememberLemmas.{broken_known, no_ok, recalled_known, recalled_more, recalled_none}
-use Rattle.kmip_session.proofs.RunLemmas.{carried_on, ran_nothing, ran_off, running_more, running_none}
+use Rattle.kmip_session.proofs.OrderLemmas.{ends_all, ends_same}
+use Rattle.kmip_session.proofs.RememberLemmas.{broken_known, no_ok, recalled_known, recalled_none}
+use Rattle.kmip_session.proofs.KnownLemmas.{always_err}
+use Rattle.kmip_session.proofs.RunLemmas.{carried_on, no_runs, ran_nothing, ran_off, running_more, running_none}
 use Rattle.kmip_session.proofs.TurnedRunLemmas.{all_turned, more_turned, none_turned, nothing_turned}
 use Rattle.kmip_session.proofs.campaigning.run_each.Goals as goal
 
@@ -28,6 +29,49 @@ returns-in_err-client-clause-known g c =
     let end = c.args.end.now in
     recalled_known past honest keys c.args.carried.now c.args.runs.now (fresh keys) c.args.link.now c.args.link.now end.runs.items end.saved.items _
     (recalled_none past honest keys c.args.carried.now c.args.runs.now (fresh keys) c.args.link.now end.runs.items end.saved.items refl c.requires.no_end c.requires.none_saved)
+
+-- where there is no run nothing is made
+pub returns-then-is_empty-clause-complete : goal.returns-then-is_empty-clause-complete
+returns-then-is_empty-clause-complete g c =
+    let none = no_runs c.args.runs.now (search rules) in
+    rw (none, c.requires.no_end, c.requires.none_saved) (tt, refl)
+
+pub returns-then-is_empty-clause-known : goal.returns-then-is_empty-clause-known
+returns-then-is_empty-clause-known g c =
+    let keys = c.args.plan.now in
+    let end = c.args.end.now in
+    recalled_known g.L.Link.past g.L.Link.honest keys c.args.carried.now c.args.runs.now (fresh keys) c.args.link.now c.args.link.now end.runs.items end.saved.items _
+    (recalled_none g.L.Link.past g.L.Link.honest keys c.args.carried.now c.args.runs.now (fresh keys) c.args.link.now end.runs.items end.saved.items refl c.requires.no_end
+    c.requires.none_saved)
+
+pub returns-then-is_empty-clause-stands : goal.returns-then-is_empty-clause-stands
+returns-then-is_empty-clause-stands g c = λ good carried.
+    ran_nothing g.L.Link.past g.L.Link.honest g.L.Link.calm c.args.plan.now c.args.carried.now c.laws_of_runs.ensures c.args.link.now _ c.args.end.now.runs.items
+    c.args.end.now.saved.items c.requires.no_end c.requires.none_saved good
+
+pub returns-then-is_empty-clause-settles : goal.returns-then-is_empty-clause-settles
+returns-then-is_empty-clause-settles g c = λ calmly holds.
+    let none = no_runs c.args.runs.now (search rules) in
+    (rw (none, c.requires.no_end) tt, calmly)
+
+pub returns-then-is_empty-clause-outlasts : goal.returns-then-is_empty-clause-outlasts
+returns-then-is_empty-clause-outlasts g c = λ good holds.
+    let none = no_runs c.args.runs.now (search rules) in
+    subst (λ rs. AllOutlast c.args.plan.now rs c.args.end.now.runs.items (g.L.Link.disturbances c.args.link.now) (g.L.Link.disturbances c.args.link.now)) (sym none)
+    (outlast_none c.args.plan.now [] c.args.end.now.runs.items _ _ c.requires.no_end refl)
+
+pub returns-then-is_empty-clause-ended : goal.returns-then-is_empty-clause-ended
+returns-then-is_empty-clause-ended g c = λ honest. join_none [] c.args.end.now.runs.items _ _ _ _ _ c.requires.no_end refl (λ is. refl)
+
+pub returns-then-is_empty-clause-turned : goal.returns-then-is_empty-clause-turned
+returns-then-is_empty-clause-turned g c =
+    nothing_turned c.args.plan.now c.args.carried.now c.args.runs.now _ _ (g.L.Link.past c.args.link.now) c.args.end.now.runs.items c.requires.no_end
+
+pub returns-then-is_empty-clause-suits : goal.returns-then-is_empty-clause-suits
+returns-then-is_empty-clause-suits g c = rw c.requires.none_saved (All-nil (Suits c.args.plan.now))
+
+pub returns-then-is_empty-clause-followed : goal.returns-then-is_empty-clause-followed
+returns-then-is_empty-clause-followed g c = c.calm_laws.ensures.itself c.args.link.now
 
 pub loop-place-init : goal.loop-place-init
 loop-place-init g c = record {
@@ -43,36 +87,23 @@ loop-place-init g c = record {
 
 pub returns-in_err-one_run-clause-order : goal.returns-in_err-one_run-clause-order
 returns-in_err-one_run-clause-order g c =
+    ends_same c.args.plan.now c.args.runs.now c.loop-place.place c.loop-place.end.runs.items c.one_run.new.end.runs.items c.in_err-one_run.ensures.broken.same.same_runs
+    c.loop-place.invariant.running.each
+
+pub returns-in_err-one_run-clause-fewer : goal.returns-in_err-one_run-clause-fewer
+returns-in_err-one_run-clause-fewer g c =
     let below : c.loop-place.place < length c.args.runs.now = search rules in
-    let keys = c.args.plan.now in
-    let runs = c.args.runs.now in
-    let before = c.loop-place.invariant.running in
-    elim c.in_err-one_run.ensures.broken [
-      | inl broken ↦
-          ends_same keys runs c.loop-place.place c.loop-place.end.runs.items c.one_run.new.end.runs.items broken.same.same_runs before.each
-      | inr ran ↦
-          ends_all keys runs (suc c.loop-place.place) c.one_run.new.end.runs.items
-          (ends_more keys runs c.loop-place.place _ c.loop-place.end.runs.items c.one_run.new.end.runs.items
-          (slice_get-get_or runs c.loop-place.place _ below) before.each c.one_run.new.client.knowns ran.0.driven ran.0.ended.noted)
-    ]
+    let same = ap length c.in_err-one_run.ensures.broken.same.same_runs in
+    always_err c.from_residual-in_err-one_run.result (omega (arith, below, same, c.loop-place.invariant.running.as_many_ends))
 
 pub returns-in_err-one_run-clause-known : goal.returns-in_err-one_run-clause-known
 returns-in_err-one_run-clause-known g c =
     let below : c.loop-place.place < length c.args.runs.now = search rules in
-    let past = g.L.Link.past in
-    let honest = g.L.Link.honest in
-    let keys = c.args.plan.now in
     let runs = c.args.runs.now in
     let before = c.loop-place.invariant.running in
-    elim c.in_err-one_run.ensures.broken [
-      | inl broken ↦
-          broken_known past honest keys c.args.carried.now runs c.loop-place.client c.args.link.now c.loop-place.link c.one_run.new.link _ c.loop-place.end c.one_run.new.end
-          c.loop-place.place _ (slice_get-get_or runs c.loop-place.place _ below) before.as_many_ends (λ is. no_ok c.from_residual-in_err-one_run.result tt c.from_residual-in_err-one_run.ensures.0 is) before.recalled broken
-      | inr ran ↦
-          recalled_known past honest keys c.args.carried.now runs c.one_run.new.client c.args.link.now c.one_run.new.link c.one_run.new.end.runs.items c.one_run.new.end.saved.items _
-          (recalled_more past honest keys c.args.carried.now runs c.loop-place.client c.one_run.new.client c.args.link.now c.loop-place.link c.one_run.new.link _ c.loop-place.end
-          c.one_run.new.end c.loop-place.place (slice_get-get_or runs c.loop-place.place _ below) before.as_many_ends before.recalled ran.0)
-    ]
+    broken_known g.L.Link.past g.L.Link.honest c.args.plan.now c.args.carried.now runs c.loop-place.client c.args.link.now c.loop-place.link c.one_run.new.link _
+    c.loop-place.end c.one_run.new.end c.loop-place.place _ (slice_get-get_or runs c.loop-place.place _ below) before.as_many_ends
+    (λ is. no_ok c.from_residual-in_err-one_run.result tt c.from_residual-in_err-one_run.ensures.0 is) before.recalled c.in_err-one_run.ensures.broken
 
 pub loop-place-preserved : goal.loop-place-preserved
 loop-place-preserved g c =
@@ -225,26 +256,10 @@ returns-in_err-client-clause-turned g c =
 pub returns-in_err-one_run-clause-turned : goal.returns-in_err-one_run-clause-turned
 returns-in_err-one_run-clause-turned g c =
     let past = g.L.Link.past in
-    let keys = c.args.plan.now in
-    let carried = c.args.carried.now in
-    let runs = c.args.runs.now in
-    let first = past c.args.link.now in
     let before = c.loop-place.end in
-    let after = c.one_run.new.end in
     let none : c.from_residual-in_err-one_run.result ≡ Ok tt → ⊥ = λ is. no_ok c.from_residual-in_err-one_run.result tt c.from_residual-in_err-one_run.ensures.0 is in
-    let below : c.loop-place.place < length runs = search rules in
-    elim c.in_err-one_run.ensures.broken [
-      | inl broken ↦
-          all_turned keys carried runs c.loop-place.client _ _ first (past c.loop-place.link) (past c.one_run.new.link) before.runs.items after.runs.items before.saved.items
-          broken.same.same_runs (λ is. absurd (none is)) c.loop-place.invariant.turned
-      | inr ran ↦
-          all_turned keys carried runs c.one_run.new.client _ _ first (past c.one_run.new.link) (past c.one_run.new.link) after.runs.items after.runs.items after.saved.items refl
-          (λ is. refl)
-          (more_turned keys carried runs c.loop-place.client c.one_run.new.client _ _ first (past c.loop-place.link) (past c.one_run.new.link) _ before.runs.items after.runs.items
-          before.saved.items after.saved.items c.loop-place.place (slice_get-get_or runs c.loop-place.place _ below) c.loop-place.invariant.running.as_many_ends
-          (c.loop-place.invariant.running.honest_still (is_planned keys)) c.loop-place.invariant.turned ran.1
-          ran.0.ended.saved_are)
-    ]
+    all_turned c.args.plan.now c.args.carried.now c.args.runs.now c.loop-place.client _ _ (past c.args.link.now) (past c.loop-place.link) (past c.one_run.new.link)
+    before.runs.items c.one_run.new.end.runs.items before.saved.items c.in_err-one_run.ensures.broken.same.same_runs (λ is. absurd (none is)) c.loop-place.invariant.turned
 
 pub returns-clause-turned : goal.returns-clause-turned
 returns-clause-turned g c =

@@ -6,7 +6,7 @@ use Rattle.kmip_session.specs.Campaign.{reported, reported_by}
 use Rattle.kmip_session.specs.Campaigns.{last_plan}
 use Rattle.kmip_session.proofs.EndingLemmas.{all_joined, join_if}
 use Rattle.kmip_session.proofs.PlanLemmas.{in_turn_if}
-use Rattle.kmip_session.proofs.RunLemmas.{if_ok, ok_of}
+use Rattle.kmip_session.proofs.RunLemmas.{if_ok, of_ok, ok_of}
 use Rattle.kmip_session.proofs.prolonging.campaigns.Goals as goal
 
 pub returns : goal.returns
@@ -33,7 +33,7 @@ returns g c =
       true_saved = λ begun. (all.good begun).noted.true_saved;
       goes = λ begun. (all.good begun).went;
       in_turn = in_turn_if plans (map (λ list. list.items) c.args.runs.now) end.runs.items end.saved.items _ _ _ _ old new
-          (ok_of c.run_plans.result c.err-fault.result c.err-fault.ensures.value) all.in_turn;
+          (ok_of c.run_plans.result c.err-fault.result c.err-fault.ensures.value) (of_ok c.run_plans.result c.err-fault.result c.err-fault.ensures.value) all.in_turn;
       ended = λ honest.
           all_joined end.runs.items _ _ _ _ _
           (join_if [] end.runs.items _ _ _ _ _ _ (ok_of c.run_plans.result c.err-fault.result c.err-fault.ensures.value) (c.run_plans.ensures.ended honest));

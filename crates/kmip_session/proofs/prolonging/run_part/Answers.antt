@@ -1,9 +1,9 @@
 -- There was room for what was noted; and it is noted behind what was there.
-use Rattle.std.proofs.Common.{◌≡◌, ◌++◌, ◌∙◌, None, ap, inr, refl, rules, arith}
+use Rattle.std.proofs.Common.{◌≡◌, ◌++◌, ◌∙◌, None, ap, inl, inr, refl, rules, arith}
 use Rattle.kmip_session.specs.Campaign.{IsEnd}
 use Rattle.kmip_session.proofs.EndingLemmas.{join_none, join_part}
-use Rattle.kmip_session.proofs.KnownLemmas.{always_err}
-use Rattle.kmip_session.proofs.PlanLemmas.{few_ends, few_saved, if_ok_more, read_for}
+use Rattle.kmip_session.proofs.KnownLemmas.{on_err}
+use Rattle.kmip_session.proofs.PlanLemmas.{few_ends, few_saved, if_ok_more, read_for, some_not}
 use Rattle.kmip_session.proofs.RememberLemmas.{always_ok}
 use Rattle.kmip_session.proofs.prolonging.run_part.Goals as goal
 
@@ -25,22 +25,29 @@ pub returns-then-is_some-clause-broken : goal.returns-then-is_some-clause-broken
 returns-then-is_some-clause-broken g c =
     let part = c.run_all-part.result in
     inr (record {
-      part = part;
-      all = c.run_all-part.ensures.all;
-      runs_are = c.in_ok-append.ensures.items ∙ ap (λ ends. ends ++ part.runs.items) c.in_ok-reserve.ensures.items;
-      saved_are = c.in_ok-append-2.ensures.items ∙ ap (λ saved. saved ++ part.saved.items) c.in_ok-reserve-2.ensures.items;
+      ran = record {
+        part = part;
+        all = c.run_all-part.ensures.all;
+        runs_are = c.in_ok-append.ensures.items ∙ ap (λ ends. ends ++ part.runs.items) c.in_ok-reserve.ensures.items;
+        saved_are = c.in_ok-append-2.ensures.items ∙ ap (λ saved. saved ++ part.saved.items) c.in_ok-reserve-2.ensures.items;
+      };
+      why = inl (c.run_all-part.ensures.all.fewer (some_not part.fault (search rules)));
     })
 
 pub returns-clause-broken : goal.returns-clause-broken
 returns-clause-broken g c =
     let part = c.run_all-part.result in
-    always_err c.carry_over-read.result
-    (inr (record {
-      part = part;
-      all = c.run_all-part.ensures.all;
-      runs_are = c.in_ok-append.ensures.items ∙ ap (λ ends. ends ++ part.runs.items) c.in_ok-reserve.ensures.items;
-      saved_are = c.in_ok-append-2.ensures.items ∙ ap (λ saved. saved ++ part.saved.items) c.in_ok-reserve-2.ensures.items;
+    on_err c.carry_over-read.result
+    (λ needed. inr (record {
+      ran = record {
+        part = part;
+        all = c.run_all-part.ensures.all;
+        runs_are = c.in_ok-append.ensures.items ∙ ap (λ ends. ends ++ part.runs.items) c.in_ok-reserve.ensures.items;
+        saved_are = c.in_ok-append-2.ensures.items ∙ ap (λ saved. saved ++ part.saved.items) c.in_ok-reserve-2.ensures.items;
+      };
+      why = inr needed;
     }))
+    c.carry_over-read.ensures.needed
 
 pub returns-clause-ran : goal.returns-clause-ran
 returns-clause-ran g c =
@@ -57,7 +64,7 @@ returns-clause-ran g c =
       whole = whole;
       read_is = read_for _ c.args.carried.now part.saved.items c.as_slice.result.now read.items c.as_slice.ensures.value is;
     })
-    c.carry_over-read.ensures
+    c.carry_over-read.ensures.read
 
 pub returns-in_err-reserve-clause-ended : goal.returns-in_err-reserve-clause-ended
 returns-in_err-reserve-clause-ended g c = λ honest.

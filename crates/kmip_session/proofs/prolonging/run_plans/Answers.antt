@@ -8,10 +8,10 @@ use Rattle.kmip_plan.specs.Plans.{IsLawful}
 use Rattle.kmip_progress.specs.Suiting.{Suits}
 use Rattle.kmip_schedule.specs.Past.{is_planned}
 use Rattle.kmip_session.specs.Campaigns.{last_plan}
-use Rattle.kmip_session.specs.CampaignsParts.{HasRunPart, HasRunWhole}
+use Rattle.kmip_session.specs.CampaignsParts.{HasRunBroken, HasRunWhole}
 use Rattle.kmip_session.proofs.EndingLemmas.{join_if, join_none, join_then}
 use Rattle.kmip_session.proofs.PartLemmas.{first_is, last_is, last_prolongs}
-use Rattle.kmip_session.proofs.PlanLemmas.{Turning, if_next, list_at, lookup_is, plans_all, plans_broken, plans_left, turned, turning_more, turning_none}
+use Rattle.kmip_session.proofs.PlanLemmas.{Turning, if_next, list_at, lookup_is, plans_all, plans_left, run_broken, turning_more, turning_none}
 use Rattle.kmip_session.proofs.RememberLemmas.{no_ok}
 use Rattle.kmip_session.proofs.prolonging.run_plans.Goals as goal
 
@@ -64,19 +64,26 @@ returns-in_err-carried-clause-ran g c =
     let most = slice_get_read plans (length plans) (length plans - 1) c.index-plans-plans.result refl (omega (arith, c.requires.some)) c.index-plans-plans.is in
     let lawful = subst (λ ks. IsLawful ks) (sym (last_is plans (length plans - 1) c.index-plans-plans.result (omega (arith, c.requires.some)) most)) c.keys-2.ensures.lawful in
     let none : c.from_residual.result ≡ Ok tt → ⊥ = λ is. no_ok c.from_residual.result tt c.from_residual.ensures.0 is in
+    let further : place + 1 ≡ suc place = omega arith in
+    let found = lookup_is (λ next. next.now) plans (place + 1) c.get-next.result c.get-next.ensures.lookup.0 c.get-next.ensures.lookup.1 in
+    let next_is = found ∙ ap (λ n. slice_get plans n) further in
+    let r = c.laws_below.ensures.runs in
+    let l = c.laws_below.ensures.plans in
+    let start = c.args.link.now in
+    let now = c.run_part.new.link in
+    let keys = c.index-plans-place.result in
+    let before = c.loop-place.invariant.turning in
     elim c.in_err-carried.ensures.broken [
       | inl left ↦
-          plans_left past honest calm plans runs c.laws_below.ensures.runs c.laws_below.ensures.plans c.requires.prolong lawful c.calm_laws.ensures.honest
-          c.calm_laws.ensures.fewer c.args.link.now c.run_part.new.link place c.loop-place.end c.run_part.new.end c.loop-place.carried.items _ none
-          (subst (λ link. Turning past honest calm plans runs c.args.link.now link place c.loop-place.end c.loop-place.carried.items) (sym left.1) c.loop-place.invariant.turning) left.0
-      | inr ran ↦
-          plans_broken past honest calm plans runs c.laws_below.ensures.runs c.laws_below.ensures.plans c.requires.prolong lawful c.calm_laws.ensures.honest
-          c.calm_laws.ensures.fewer c.args.link.now c.run_part.new.link place c.run_part.new.end _ none
-          (turned past honest calm plans runs c.laws_below.ensures.runs c.laws_below.ensures.plans c.requires.prolong lawful c.calm_laws.ensures.honest
-          c.calm_laws.ensures.fewer c.args.link.now c.loop-place.link c.run_part.new.link place c.index-plans-place.result c.as_slice-list.result.now c.loop-place.end
-          c.run_part.new.end c.loop-place.carried.items _ c.keys-in-loop-place.ensures.lawful at so c.loop-place.invariant.turning
-          (subst (λ saved. HasRunPart past honest calm c.index-plans-place.result saved c.as_slice-list.result.now c.loop-place.link c.run_part.new.link c.loop-place.end
-          c.run_part.new.end) c.as_slice.ensures.value ran) (λ is. absurd (none is)))
+          plans_left past honest calm plans runs r l c.requires.prolong lawful c.calm_laws.ensures.honest c.calm_laws.ensures.fewer start now place keys c.loop-place.end
+          c.run_part.new.end c.loop-place.carried.items _ none at
+          (subst (λ link. Turning past honest calm plans runs start link place c.loop-place.end c.loop-place.carried.items) (sym left.1) before) left.0
+      | inr broken ↦
+          let is = subst (λ saved. HasRunBroken past honest calm keys (option_map (λ next. next.now) c.get-next.result) saved c.as_slice-list.result.now c.loop-place.link now
+          c.loop-place.end c.run_part.new.end) c.as_slice.ensures.value broken in
+          run_broken past honest calm plans runs r l c.requires.prolong lawful c.calm_laws.ensures.honest c.calm_laws.ensures.fewer start c.loop-place.link now place keys
+          (option_map (λ next. next.now) c.get-next.result) c.as_slice-list.result.now c.loop-place.end c.run_part.new.end c.loop-place.carried.items _ none
+          c.keys-in-loop-place.ensures.lawful at so next_is before is
     ]
 
 pub loop-place-preserved : goal.loop-place-preserved
@@ -122,7 +129,7 @@ returns-clause-ran g c =
     let lawful = subst (λ ks. IsLawful ks) (sym (last_is plans (length plans - 1) c.index-plans-plans.result (omega (arith, c.requires.some)) most)) c.keys-2.ensures.lawful in
     let all : c.loop-place.place ≡ length plans = omega (arith, c.loop-place-test.false, c.loop-place.auto.place-end) in
     plans_all g.L.Link.past g.L.Link.honest g.L.Link.calm plans runs c.laws_below.ensures.runs c.laws_below.ensures.plans c.requires.prolong lawful c.calm_laws.ensures.honest
-    c.calm_laws.ensures.fewer c.args.link.now c.loop-place.link c.loop-place.place c.loop-place.end c.loop-place.carried.items _ all
+    c.calm_laws.ensures.fewer c.args.link.now c.loop-place.link c.loop-place.place c.loop-place.end c.loop-place.carried.items _ (search rules) all
     (length-map c.args.runs.now (λ list. list.items) ∙ c.requires.as_many) c.loop-place.invariant.turning
 
 pub returns-in_err-carried-clause-ended : goal.returns-in_err-carried-clause-ended

@@ -49,7 +49,7 @@ returns c =
           (subst
           (λ rs. AreInTurn plans rs end.runs.items end.saved.items ⊤ (CalmStart past_in HasNoWord plans link) (end.fault ≡ None) (past_in link) (past_in after)) runs
           c.campaigns-end.ensures.in_turn);
-      ended = subst (λ (s : Scene). AreEnded end.runs.items (end.fault ≡ None) (length s.sent) s.ended after.ended) first (c.campaigns-end.ensures.ended tt);
+      ended = subst (λ (s : Scene). AreEnded end.runs.items (length s.sent) s.ended after.ended) first (c.campaigns-end.ensures.ended tt);
       followed = λ is. subst (λ s. Follows s after) first (c.campaigns-end.ensures.followed is);
     }
 

@@ -1,6 +1,6 @@
 -- What a run ended with is what the client tells of it.
 use Rattle.std.proofs.Common.{refl, rules}
-use Rattle.kmip_session.proofs.campaigning.end_of.Goals as goal
+use Rattle.kmip_session.proofs.ending.end_of.Goals as goal
 
 pub returns : goal.returns
 returns c = record {
