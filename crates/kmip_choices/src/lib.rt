@@ -8,4 +8,4 @@ mod options;
 
 pub use choice::{Choice, answer_of, check_of, detail_of, form_of, simulation_of};
 pub use detail::Detail;
-pub use options::{Peer, ProbeOptions, RunOptions, ServeOptions};
+pub use options::{Peer, ProbeOptions, RunOptions, ServeOptions, Trust};

@@ -15,12 +15,25 @@ pub struct RunOptions {
     pub batch: u64,
     /// Where the server is.
     pub peer: Peer,
+    /// Which progress it begins with.
+    pub trust: Trust,
     /// How long an exchange may take, in seconds.
     pub timeout: u64,
     /// How long to wait after an exchange without a reply, in milliseconds.
     pub wait: u64,
     /// Whether each exchange is told on standard error.
     pub is_verbose: bool,
+}
+
+/// Which progress a run begins with.
+#[derive(Clone, Copy, Debug, PartialEq, Eq)]
+pub enum Trust {
+    /// What the file says, unless it was kept against another server.
+    Checked,
+    /// What the file says: the server is the one that it was kept against, under another name.
+    Believe,
+    /// None: the file is put aside.
+    Afresh,
 }
 
 /// What `probe` is to do.

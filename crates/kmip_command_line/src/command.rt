@@ -24,6 +24,8 @@ pub(crate) struct Subcommand {
     options: &'static [CommandOption],
     /// Whether one of three options has to say where the server is.
     asks_a_server: bool,
+    /// Whether one of two options may say which progress it begins with.
+    keeps_progress: bool,
 }
 
 const ANSWER_COMMAND: Subcommand = Subcommand {
@@ -32,6 +34,7 @@ const ANSWER_COMMAND: Subcommand = Subcommand {
     long_about: ANSWER_LONG,
     options: &ANSWER_OPTIONS,
     asks_a_server: false,
+    keeps_progress: false,
 };
 
 const SHOW_COMMAND: Subcommand = Subcommand {
@@ -40,6 +43,7 @@ const SHOW_COMMAND: Subcommand = Subcommand {
     long_about: SHOW_LONG,
     options: &SHOW_OPTIONS,
     asks_a_server: false,
+    keeps_progress: false,
 };
 
 const CHECK_COMMAND: Subcommand = Subcommand {
@@ -48,6 +52,7 @@ const CHECK_COMMAND: Subcommand = Subcommand {
     long_about: CHECK_LONG,
     options: &CHECK_OPTIONS,
     asks_a_server: false,
+    keeps_progress: false,
 };
 
 const SIM_COMMAND: Subcommand = Subcommand {
@@ -56,6 +61,7 @@ const SIM_COMMAND: Subcommand = Subcommand {
     long_about: SIM_LONG,
     options: &SIM_OPTIONS,
     asks_a_server: false,
+    keeps_progress: false,
 };
 
 pub(crate) const RUN_COMMAND: Subcommand = Subcommand {
@@ -64,6 +70,7 @@ pub(crate) const RUN_COMMAND: Subcommand = Subcommand {
     long_about: RUN_LONG,
     options: &RUN_OPTIONS,
     asks_a_server: true,
+    keeps_progress: true,
 };
 
 pub(crate) const PROBE_COMMAND: Subcommand = Subcommand {
@@ -72,6 +79,7 @@ pub(crate) const PROBE_COMMAND: Subcommand = Subcommand {
     long_about: PROBE_LONG,
     options: &PROBE_OPTIONS,
     asks_a_server: true,
+    keeps_progress: false,
 };
 
 const SERVE_COMMAND: Subcommand = Subcommand {
@@ -80,6 +88,7 @@ const SERVE_COMMAND: Subcommand = Subcommand {
     long_about: SERVE_LONG,
     options: &SERVE_OPTIONS,
     asks_a_server: false,
+    keeps_progress: false,
 };
 
 const COMMANDS: [Subcommand; 7] = [
@@ -132,9 +141,18 @@ pub(crate) fn command_of<'a>(
         made = made.arg(arg_of(alloc, option))?;
     }
     if command.asks_a_server {
-        return with_server(alloc, made);
+        made = with_server(alloc, made)?;
+    }
+    if command.keeps_progress {
+        made = with_trust(alloc, made)?;
     }
     Ok(made)
+}
+
+/// The command, in which at most one of two options says which progress it begins with.
+fn with_trust<'a>(alloc: Global, command: Command<'a>) -> Result<Command<'a>, AllocError> {
+    let trust = ArgGroup::new(alloc, "trust").arg("believe")?.arg("afresh")?;
+    command.group(trust)
 }
 
 /// The command, in which one of three options has to say where the server is.

@@ -184,6 +184,13 @@ the program is stopped, and after a stop of the machine as far as its disk keeps
 write. Where the file is there, it goes on from it; where it is lost or older, nothing is lost: it
 looks first. Two runs on one progress file do not meet: the second prints `progress in use: PATH`.
 
+Beside the progress file stands PATH.origin: the server that the file was kept against, and the
+attributes of the plan's keys. At another server the file is not believed: the run prints `progress of
+another server: PATH`, and asks nothing. With `--believe` the server is the one of before under another
+name. With `--afresh` the run begins from nothing, and keeps the file as PATH.before. A file that was
+kept with `--loopback` is of a server that is gone. Where a key of the plan has other attributes than
+the file was kept for, the run prints `progress refused: 3 OtherPlan`.
+
 At the end it prints the report, a line for each key and one that counts the finished ones, and why it
 stopped after how many exchanges:
   k1 active 2/2 finished
@@ -255,6 +262,11 @@ framing of messages or waits longer than the timeout; then the next one is. A po
 prints `cannot listen`.";
 
 pub(crate) const PROGRESS: &str = "The file that what is known is kept in";
+
+pub(crate) const BELIEVE: &str =
+    "Believe a progress file of another server: this one is the same under another name";
+
+pub(crate) const AFRESH: &str = "Begin from nothing, and keep the progress file as PATH.before";
 
 pub(crate) const CONNECT: &str = "The server's IPv4 address and port, as 127.0.0.1:5696";
 

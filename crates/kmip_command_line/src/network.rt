@@ -5,7 +5,7 @@ use crate::help::{WRONG_ADDRESS, WRONG_PREFIX};
 use crate::option::{MOST_COUNT, MOST_SECONDS};
 use clap::error::ErrorKind;
 use clap::{ArgMatches, Error};
-use kmip_choices::{Choice, Peer, ProbeOptions, RunOptions, ServeOptions};
+use kmip_choices::{Choice, Peer, ProbeOptions, RunOptions, ServeOptions, Trust};
 use kmip_premises::is_prefix;
 use std::alloc::{AllocError, Global};
 use std::net::SocketAddrV4;
@@ -68,10 +68,22 @@ fn run_options(
         limit: options.get_one::<u64>("limit").unwrap_or(MOST_COUNT),
         batch: options.get_one::<u64>("batch").unwrap_or(1),
         peer,
+        trust: trust_of(options),
         timeout: options.get_one::<u64>("timeout").unwrap_or(MOST_SECONDS),
         wait: options.get_one::<u64>("wait").unwrap_or(0),
         is_verbose: options.get_flag("verbose"),
     }))
+}
+
+/// Which progress a run begins with, by the one of two words that is there, if any.
+fn trust_of(options: &ArgMatches<'_>) -> Trust {
+    if options.get_flag("believe") {
+        Trust::Believe
+    } else if options.get_flag("afresh") {
+        Trust::Afresh
+    } else {
+        Trust::Checked
+    }
 }
 
 /// Where the server is, by the one of three words that is there; none where the address is none.

@@ -1,8 +1,9 @@
 //! The options of the commands, and what stands behind them.
 
 use crate::help::{
-    AFTER, BATCH, CANON, CONNECT, CONNECTIONS, LIMIT, LOOPBACK, NAME_PREFIX, NOW, PLAN, PORT,
-    PROGRESS, SCRIPT, SERVE_TIMEOUT, SOCKET, STREAM, THEN, TIMEOUT, TRACE, VERBOSE, WAIT,
+    AFRESH, AFTER, BATCH, BELIEVE, CANON, CONNECT, CONNECTIONS, LIMIT, LOOPBACK, NAME_PREFIX, NOW,
+    PLAN, PORT, PROGRESS, SCRIPT, SERVE_TIMEOUT, SOCKET, STREAM, THEN, TIMEOUT, TRACE, VERBOSE,
+    WAIT,
 };
 use Absent::{Fine, Means, Wrong};
 use Value::{Flag, Number, Text};
@@ -65,6 +66,10 @@ const SCRIPT_OPTION: CommandOption = CommandOption("script", Text("PATH"), Wrong
 const TRACE_OPTION: CommandOption = CommandOption("trace", Flag, Fine, TRACE);
 
 const PROGRESS_OPTION: CommandOption = CommandOption("progress", Text("PATH"), Wrong, PROGRESS);
+
+const BELIEVE_OPTION: CommandOption = CommandOption("believe", Flag, Fine, BELIEVE);
+
+const AFRESH_OPTION: CommandOption = CommandOption("afresh", Flag, Fine, AFRESH);
 
 const CONNECT_OPTION: CommandOption = CommandOption("connect", Text("ADDRESS"), Fine, CONNECT);
 
@@ -146,9 +151,11 @@ pub(crate) const SIM_OPTIONS: [CommandOption; 5] = [
     TRACE_OPTION,
 ];
 
-pub(crate) const RUN_OPTIONS: [CommandOption; 10] = [
+pub(crate) const RUN_OPTIONS: [CommandOption; 12] = [
     PLAN_OPTION,
     PROGRESS_OPTION,
+    BELIEVE_OPTION,
+    AFRESH_OPTION,
     CONNECT_OPTION,
     SOCKET_OPTION,
     LOOPBACK_OPTION,

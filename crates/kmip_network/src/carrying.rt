@@ -2,19 +2,21 @@
 ghost use Rattle.std.specs.Prelude.{IsTrue};
 ghost use Rattle.kmip_batches.specs.Members.{may_have};
 
+use crate::believing::progress_to_begin_with;
 use crate::linking::{loopback, refused, tcp_link, unix_link};
-use crate::reading::{refusal_of, text_or_why_not, unread};
+use crate::reading::{refusal_of, text_or_why_not};
 use crate::showing::Standing;
 use crate::telling::Teller;
 use kmip_choices::{Peer, RunOptions};
 use kmip_commands::ExitStatus;
-use kmip_progress_file::{LockFault, MOST_PROGRESS_BYTES, ProgressFile, ProgressLock};
+use kmip_plan::read_plan;
+use kmip_progress_file::{LockFault, ProgressFile, ProgressLock};
 use kmip_run::{RunInput, batch_of, run_run};
 use kmip_running::{Keeper, Observed, Paced, SaveFault};
 use kmip_schedule::Link;
 use std::alloc::Global;
 use std::io;
-use std::io::{BufWriter, ErrorKind};
+use std::io::{BufWriter, Error, ErrorKind};
 use std::time::Duration;
 
 /// Keeps what is known in a file, and shows how far the run is. No clause speaks of a file's bytes.
@@ -62,17 +64,31 @@ pub fn run_plan(rt: &HostRuntime, options: &RunOptions) -> io::Result<ExitStatus
     if let Some(status) = refusal_of(rt, plan_path, plan.as_str())? {
         return Ok(status);
     }
-    let path = options.progress.as_str();
-    let Some((file, lock)) = locked(rt, path)? else {
+    let Some((file, lock)) = locked(rt, options.progress.as_str())? else {
         return Ok(ExitStatus::Refused);
     };
-    let saved = match file.read() {
+    let status = run_on(rt, options, plan.as_str(), file);
+    drop(lock);
+    status
+}
+
+/// Carries out the plan of this text, which is one, with what is kept in the file.
+fn run_on(
+    rt: &HostRuntime,
+    options: &RunOptions,
+    text: &str,
+    file: ProgressFile<'_, HostRuntime>,
+) -> io::Result<ExitStatus> {
+    let Ok(plan) = read_plan(rt.alloc(), text) else {
+        return Err(Error::from(ErrorKind::OutOfMemory));
+    };
+    let saved = match progress_to_begin_with(rt, options, &plan, &file)? {
         Ok(saved) => saved,
-        Err(error) => return unread(rt, error, path, MOST_PROGRESS_BYTES),
+        Err(status) => return Ok(status),
     };
     let input = RunInput {
-        plan: plan.as_str(),
-        path,
+        plan: text,
+        path: options.progress.as_str(),
         limit: options.limit as usize,
         batch: batch_of(options.batch),
     };
@@ -80,15 +96,13 @@ pub fn run_plan(rt: &HostRuntime, options: &RunOptions) -> io::Result<ExitStatus
         Some(text) => Some(text.as_str()),
         None => None,
     };
-    let standing = Standing::new(rt, plan.as_str(), options.is_verbose);
+    let standing = Standing::new(rt, text, options.is_verbose);
     let mut keeper = FileKeeper {
         file,
         standing: &standing,
         refusals: 0,
     };
-    let status = run_with(rt, options, &input, saved, &mut keeper);
-    drop(lock);
-    status
+    run_with(rt, options, &input, saved, &mut keeper)
 }
 
 /// The file at this path, of this run alone; where it cannot be, that is printed.

@@ -2,9 +2,11 @@
 //! machine, and the texts of files.
 #![tactic(auto)]
 
+mod believing;
 mod carrying;
 mod dialing;
 mod linking;
+mod origin;
 mod probing;
 mod reading;
 mod serving;

@@ -48,11 +48,18 @@ impl<'a, R: Files + AllocGlobal> ProgressFile<'a, R> {
     /// Where it cannot be read or is no UTF-8, and `FileTooLarge` where it is longer than
     /// `MOST_PROGRESS_BYTES`.
     pub fn read(&self) -> io::Result<Option<String>> {
-        match text_of(self.rt, self.path.as_str(), MOST_PROGRESS_BYTES) {
-            Ok(text) => Ok(Some(text)),
-            Err(error) if error.kind() == ErrorKind::NotFound => Ok(None),
-            Err(error) => Err(error),
-        }
+        self.text_at(self.path.as_str())
+    }
+
+    /// The text of the file beside this one that says where this one was kept; `None` where there is
+    /// none.
+    ///
+    /// # Errors
+    ///
+    /// As of `read`.
+    pub fn read_origin(&self) -> io::Result<Option<String>> {
+        let path = self.origin_path()?;
+        self.text_at(path.as_str())
     }
 
     /// Gives the file this text, and returns once it is on the disk.
@@ -62,12 +69,53 @@ impl<'a, R: Files + AllocGlobal> ProgressFile<'a, R> {
     /// Where it cannot be written: the file is as it was before, or, where only the folder could not
     /// be brought to the disk, has the new text. Nothing stays beside it, if that can be removed.
     pub fn write(&self, text: &[u8]) -> io::Result<()> {
-        let beside = format!(in self.rt.alloc(); "{}.new", self.path)?;
-        if let Err(error) = self.replace_by(beside.as_str(), text) {
-            let _ = fs::remove_file(self.rt, beside.as_str());
-            return Err(error);
+        self.write_at(self.path.as_str(), text)
+    }
+
+    /// Gives the file beside this one that says where this one was kept this text, and returns once it
+    /// is on the disk.
+    ///
+    /// # Errors
+    ///
+    /// As of `write`.
+    pub fn write_origin(&self, text: &[u8]) -> io::Result<()> {
+        let path = self.origin_path()?;
+        self.write_at(path.as_str(), text)
+    }
+
+    /// Gives the file the path of `before_path`, in the place of one that stands there, and returns
+    /// once that is on the disk. Does nothing where there is no file.
+    ///
+    /// # Errors
+    ///
+    /// Where that cannot be done.
+    pub fn put_aside(&self) -> io::Result<()> {
+        let before = self.before_path()?;
+        match fs::rename(self.rt, self.path.as_str(), before.as_str()) {
+            Ok(()) => self.sync_folder(),
+            Err(error) if error.kind() == ErrorKind::NotFound => Ok(()),
+            Err(error) => Err(error),
         }
-        fs::open(self.rt, folder_of(self.path.as_str()))?.sync_all()
+    }
+
+    /// The path of the file beside this one that says where this one was kept.
+    ///
+    /// # Errors
+    ///
+    /// Where there is no memory.
+    pub fn origin_path(&self) -> io::Result<String> {
+        let path = format!(in self.rt.alloc(); "{}.origin", self.path)?;
+        Ok(path)
+    }
+
+    /// The path that the file gets where it is put aside.
+    ///
+    /// # Errors
+    ///
+    /// Where there is no memory.
+    pub fn before_path(&self) -> io::Result<String> {
+        let path = format!(in self.rt.alloc(); "{}.before", self.path)?;
+        Ok(path)
     }
 
     /// The path of the file that is locked, which lies beside this one.
@@ -80,10 +128,34 @@ impl<'a, R: Files + AllocGlobal> ProgressFile<'a, R> {
         Ok(path)
     }
 
-    /// Writes the text to a new file at this path, which then takes the place of the file.
-    fn replace_by(&self, path: &str, text: &[u8]) -> io::Result<()> {
-        self.write_beside(path, text)?;
-        fs::rename(self.rt, path, self.path.as_str())
+    /// The text of the file at this path; `None` where there is no file.
+    fn text_at(&self, path: &str) -> io::Result<Option<String>> {
+        match text_of(self.rt, path, MOST_PROGRESS_BYTES) {
+            Ok(text) => Ok(Some(text)),
+            Err(error) if error.kind() == ErrorKind::NotFound => Ok(None),
+            Err(error) => Err(error),
+        }
+    }
+
+    /// Gives the file at this path this text, and returns once it is on the disk.
+    fn write_at(&self, path: &str, text: &[u8]) -> io::Result<()> {
+        let beside = format!(in self.rt.alloc(); "{path}.new")?;
+        if let Err(error) = self.replace_by(path, beside.as_str(), text) {
+            let _ = fs::remove_file(self.rt, beside.as_str());
+            return Err(error);
+        }
+        self.sync_folder()
+    }
+
+    /// Returns once the folder is on the disk.
+    fn sync_folder(&self) -> io::Result<()> {
+        fs::open(self.rt, folder_of(self.path.as_str()))?.sync_all()
+    }
+
+    /// Writes the text to a new file beside the file at this path, whose place it then takes.
+    fn replace_by(&self, path: &str, beside: &str, text: &[u8]) -> io::Result<()> {
+        self.write_beside(beside, text)?;
+        fs::rename(self.rt, beside, path)
     }
 
     /// Writes the text to a new file at this path, and brings it to the disk.

@@ -1,0 +1,217 @@
+#!/usr/bin/env python3
+"""Runs `kmipctl run` on progress files that were kept elsewhere: against other servers, for other keys, or by
+a version that did not note where.
+
+    bench/origin.py PROGRAM FOLDER
+
+Each row prints what it looks at and `ok`, or what went wrong. Sockets on 127.0.0.1 and in the folder only.
+The exit status is 0 where all is as it has to be.
+"""
+
+import os
+import shutil
+import subprocess
+import sys
+
+KEY = '''[[key]]
+name = "{}"
+algorithm = "{}"
+length = {}
+usage = [{}]
+target = "{}"
+'''
+PLAN = KEY.format('k1', 'AES', 256, '"encrypt", "decrypt"', 'active')
+FINISHED = 'k1 active 2/2 finished\nfinished 1 of 1\nstop AllFinished {}\n'
+ALONE = '1 of 1 finished by {} alone, kept {} against {}; --afresh looks\n'
+GONE = 'a server in the process of its run (--loopback)'
+WAYS = ('--believe: that is the same server under another name; '
+        '--afresh: begin from nothing, and keep {0} as {0}.before\n')
+
+
+class Origins:
+    def __init__(self, program, folder):
+        self.program, self.folder, self.wrong = program, folder, 0
+        self.plan, self.progress = os.path.join(folder, 'plan.toml'), os.path.join(folder, 'progress')
+        self.servers = []
+
+    def begin(self, text=PLAN):
+        """An empty folder but for a plan."""
+        shutil.rmtree(self.folder, ignore_errors=True)
+        os.makedirs(self.folder)
+        self.write('plan.toml', text)
+
+    def write(self, name, text):
+        with open(os.path.join(self.folder, name), 'w') as file:
+            file.write(text)
+
+    def read(self, name):
+        path = os.path.join(self.folder, name)
+        if not os.path.exists(path):
+            return None
+        with open(path) as file:
+            return file.read()
+
+    def run(self, *more, plan=None):
+        words = [self.program, 'run', '--plan', plan or self.plan, '--progress', self.progress, '--wait', '0', *more]
+        done = subprocess.run(words, capture_output=True, text=True)
+        return done.returncode, done.stdout, done.stderr
+
+    def serve(self):
+        """The port of a new server."""
+        words = [self.program, 'serve', '--port', '0', '--connections', '1000']
+        server = subprocess.Popen(words, stdout=subprocess.PIPE, text=True)
+        self.servers.append(server)
+        return int(server.stdout.readline().split()[1])
+
+    def look(self, what, said, wanted):
+        is_right = said == wanted
+        print(f'{what}: ' + ('ok' if is_right else 'wrong'))
+        if not is_right:
+            print(f'    said   {said!r}\n    wanted {wanted!r}')
+        self.wrong += not is_right
+
+    def refused(self, before, now, more=''):
+        """What a run prints at another server."""
+        told = f'{self.progress} was kept against {before}; this run is to ask {now}\n' + WAYS.format(self.progress) + more
+        return 1, f'progress of another server: {self.progress}\n', told
+
+    def rehearsal(self):
+        self.begin()
+        self.look('a rehearsal', self.run('--loopback'), (0, FINISHED.format(3), ''))
+        known = self.read('progress')
+        port = self.serve()
+        where = ('--connect', f'127.0.0.1:{port}')
+        self.look('its file at a server', self.run(*where), self.refused(GONE, f'127.0.0.1:{port}'))
+        self.look('its file at one more rehearsal', self.run('--loopback'), self.refused(GONE, GONE))
+        self.look('nothing was changed', (self.read('progress'), self.read('progress.before')), (known, None))
+        self.look('from nothing', self.run(*where, '--afresh'), (0, FINISHED.format(3), ''))
+        self.look('the file of before is kept', self.read('progress.before'), known)
+        self.look('all is known to be done', self.run(*where),
+                  (0, FINISHED.format(0), ALONE.format(self.progress, '0 seconds ago', f'127.0.0.1:{port}')))
+        self.look('and looked at once more', self.run(*where, '--afresh'), (0, FINISHED.format(2), ''))
+
+    def other_port(self):
+        self.begin()
+        first, second = self.serve(), self.serve()
+        self.look('a run', self.run('--connect', f'127.0.0.1:{first}'), (0, FINISHED.format(3), ''))
+        where = ('--connect', f'127.0.0.1:{second}')
+        self.look('its file at another port', self.run(*where),
+                  self.refused(f'127.0.0.1:{first}', f'127.0.0.1:{second}'))
+        self.look('believed there', self.run(*where, '--believe'),
+                  (0, FINISHED.format(0), ALONE.format(self.progress, '0 seconds ago', f'127.0.0.1:{first}')))
+
+    def other_attributes(self):
+        self.begin()
+        where = ('--connect', f'127.0.0.1:{self.serve()}')
+        self.look('a run of a plan', self.run(*where, '--limit', '2'), (1, 'k1 active 1/2 working\nfinished 0 of 1\nstop Limit 2\n', ''))
+        for field, now, was, key in [
+                ('length', '128', '256', KEY.format('k1', 'AES', 128, '"encrypt", "decrypt"', 'active')),
+                ('usage', '00000004', '0000000c', KEY.format('k1', 'AES', 256, '"encrypt"', 'active')),
+                ('algorithm', 'HMAC-SHA256', 'AES', KEY.format('k1', 'HMAC-SHA256', 256, '"mac-generate"', 'active'))]:
+            self.write('other.toml', key)
+            told = (f'{self.progress} was kept for another plan: key "k1": the {field} is {now}, and was {was}; '
+                    'an object keeps what it was made with: give the key its old attributes, or another name\n')
+            for more in ((), ('--believe',)):
+                self.look(f'another {field} {" ".join(more)}'.strip(),
+                          self.run(*where, *more, plan=os.path.join(self.folder, 'other.toml')),
+                          (1, 'progress refused: 3 OtherPlan\n', told))
+        self.write('longer.toml', PLAN + KEY.format('k2', 'AES', 128, '"encrypt"', 'created'))
+        self.look('a plan that prolongs it', self.run(*where, plan=os.path.join(self.folder, 'longer.toml')),
+                  (0, 'k1 active 2/2 finished\nk2 created 1/1 finished\nfinished 2 of 2\nstop AllFinished 4\n', ''))
+
+    def destroyed(self):
+        self.begin(KEY.format('k1', 'AES', 256, '"encrypt"', 'discarded'))
+        finished = 'k1 discarded 2/2 finished\nfinished 1 of 1\nstop AllFinished {}\n'
+        first, second = self.serve(), self.serve()
+        self.look('a key is made and destroyed', self.run('--connect', f'127.0.0.1:{first}'), (0, finished.format(3), ''))
+        more = 'k1 is known to be destroyed: with --afresh a server that forgets destroyed objects would make it again\n'
+        self.look('at another server it would be made again', self.run('--connect', f'127.0.0.1:{second}'),
+                  self.refused(f'127.0.0.1:{first}', f'127.0.0.1:{second}', more))
+
+    def taken_further(self):
+        """Another client destroys a key."""
+        self.begin()
+        where = ('--connect', f'127.0.0.1:{self.serve()}')
+        self.look('a key is made', self.run(*where), (0, FINISHED.format(3), ''))
+        self.write('other.toml', PLAN.replace('"active"', '"destroyed"'))
+        done = subprocess.run([self.program, 'run', '--plan', os.path.join(self.folder, 'other.toml'), '--progress',
+                               os.path.join(self.folder, 'other'), *where], capture_output=True, text=True)
+        self.look('another client destroys it', done.stdout, 'k1 destroyed 4/4 finished\nfinished 1 of 1\nstop AllFinished 4\n')
+        self.look('a look from nothing finds that', self.run(*where, '--afresh'),
+                  (1, 'k1 active 0/2 conflict state\nfinished 0 of 1\nstop Conflict 2\n', ''))
+
+    def unknown_origin(self):
+        self.begin()
+        where = ('--connect', f'127.0.0.1:{self.serve()}')
+        self.run(*where, '--limit', '2')
+        os.remove(os.path.join(self.folder, 'progress.origin'))
+        self.look('a file of which nothing is told goes on', self.run(*where), (0, FINISHED.format(2), ''))
+        lines = (self.read('progress.origin') or '').splitlines()
+        self.look('and where it is kept is told', (lines[0:2], lines[3:]),
+                  (['kmipctl origin 1', f'server tcp {where[1]}'], ['key k1 AES 256 0000000c']))
+        os.remove(os.path.join(self.folder, 'progress.origin'))
+        self.look('all done, by a file of which nothing is told', self.run(*where),
+                  (0, FINISHED.format(0), f'1 of 1 finished by {self.progress} alone; --afresh looks\n'))
+        self.write('progress.origin', 'something else\n')
+        status, printed, _ = self.run(*where)
+        self.look('an origin that is none', (status, printed), (1, f'cannot read {self.progress}.origin\n'))
+        self.look('believed all the same', self.run(*where, '--believe')[:2], (0, FINISHED.format(0)))
+
+    def refused_progress(self):
+        """A file that is no progress is refused, wherever it was kept."""
+        self.begin()
+        self.run('--loopback')
+        for text, why in (('', '2 Cut'), ('nothing\n', '1 BadText')):
+            for more in ((), ('--believe',)):
+                self.write('progress', text)
+                status, printed, _ = self.run('--loopback', *more)
+                self.look(f'{why} {" ".join(more)}'.strip(), (status, printed, self.read('progress')),
+                          (1, f'progress refused: {why}\n', text))
+        self.look('but from nothing', self.run('--loopback', '--afresh')[:2], (0, FINISHED.format(3)))
+        self.look('it is kept', self.read('progress.before'), 'nothing\n')
+
+    def killed(self):
+        """What a kill leaves between two files: the old one put aside, and where it was kept still told."""
+        self.begin()
+        first, second = self.serve(), self.serve()
+        self.run('--connect', f'127.0.0.1:{first}')
+        known = self.read('progress')
+        os.rename(self.progress, self.progress + '.before')
+        self.look('killed behind putting aside', self.run('--connect', f'127.0.0.1:{second}'), (0, FINISHED.format(3), ''))
+        self.look('the old one stands', self.read('progress.before'), known)
+
+    def socket_links(self):
+        """A Unix socket is one server by all paths to it."""
+        self.begin()
+        path = os.path.join(self.folder, 'socket')
+        status, printed, told = self.run('--socket', path, '--limit', '1')
+        self.look('a socket that is not there', (status, printed), (1, 'k1 active 0/2 working\nfinished 0 of 1\nstop Limit 1\n'))
+        lines = (self.read('progress.origin') or '').splitlines()
+        self.look('is told by its path', lines[1:2], [f'server unix {path}'])
+
+    def no_room(self):
+        """Where it can't be told where the file is kept, nothing is asked."""
+        self.begin()
+        os.mkdir(self.progress + '.origin.new')
+        status, printed, _ = self.run('--loopback')
+        self.look('an origin that cannot be written', (status, printed, self.read('progress')),
+                  (1, f'cannot write {self.progress}.origin\n', None))
+
+    def all(self):
+        for case in (self.rehearsal, self.other_port, self.other_attributes, self.destroyed, self.taken_further,
+                     self.unknown_origin, self.refused_progress, self.killed, self.socket_links, self.no_room):
+            case()
+        for server in self.servers:
+            server.kill()
+            server.wait()
+        print(f'{self.wrong} wrong')
+        return 1 if self.wrong else 0
+
+
+def main():
+    program, folder = sys.argv[1:]
+    return Origins(os.path.realpath(program), os.path.realpath(folder)).all()
+
+
+if __name__ == '__main__':
+    sys.exit(main())

@@ -1,0 +1,227 @@
+//! Where, when and for which keys a progress was kept: the text of a file beside it.
+
+use kmip_chains::Key;
+use kmip_choices::Peer;
+use kmip_plan::algorithm_word;
+use kmip_ttlv::{NoMemory, plain_text};
+use std::alloc::{AllocError, Global};
+use std::time::{SystemTime, UNIX_EPOCH};
+use std::{fs, io};
+
+/// The first line of the text.
+const HEAD: &str = "kmipctl origin 1";
+
+/// The server of a run with `--loopback`, as it stands in the text.
+const LOOPBACK: &str = "loopback";
+
+const MINUTE: u64 = 60;
+
+const HOUR: u64 = 60 * MINUTE;
+
+const DAY: u64 = 24 * HOUR;
+
+/// Where, when and for which keys a progress was kept.
+#[derive(Drop)]
+pub(crate) struct Origin {
+    /// The server, as `server_of` has it.
+    server: String,
+    /// When, in seconds since the start of 1970.
+    kept: u64,
+    /// The keys, as `key_words` has them, in the order of the plan.
+    keys: Vec<String>,
+}
+
+impl Origin {
+    /// What a text says; none where it is no text of an origin.
+    ///
+    /// # Errors
+    /// Where there is no memory.
+    pub(crate) fn read(alloc: Global, text: &str) -> Result<Option<Origin>, AllocError> {
+        let mut lines = text.lines();
+        if lines.next() != Some(HEAD) {
+            return Ok(None);
+        }
+        let Some(server) = behind(lines.next(), "server ") else {
+            return Ok(None);
+        };
+        let Some(Ok(kept)) = behind(lines.next(), "kept ").map(|time| time.parse::<u64>()) else {
+            return Ok(None);
+        };
+        let mut keys = Vec::new(alloc);
+        for line in lines {
+            let Some(words) = line.strip_prefix("key ") else {
+                return Ok(None);
+            };
+            keys.push(String::from_str(alloc, words)?)?;
+        }
+        let server = String::from_str(alloc, server)?;
+        Ok(Some(Origin { server, kept, keys }))
+    }
+
+    /// The text of an origin: this server, now, and these keys.
+    ///
+    /// # Errors
+    /// Where there is no memory, or no clock.
+    pub(crate) fn text(rt: &HostRuntime, server: &str, keys: &[Key]) -> io::Result<String> {
+        let kept = now(rt)?;
+        let mut text = format!(in rt.alloc(); "{HEAD}\nserver {server}\nkept {kept}\n")?;
+        for key in keys {
+            let words = key_words(rt.alloc(), key)?;
+            text.push_str("key ")?;
+            text.push_str(words.as_str())?;
+            text.push('\n')?;
+        }
+        Ok(text)
+    }
+
+    /// Whether the progress was kept against this server. No server of a run with `--loopback` is that
+    /// of another run.
+    pub(crate) fn is_of(&self, server: &str) -> bool {
+        self.server.as_str() == server && server != LOOPBACK
+    }
+
+    /// The server, as it is told.
+    ///
+    /// # Errors
+    /// Where there is no memory.
+    pub(crate) fn server_text(&self, alloc: Global) -> Result<String, AllocError> {
+        server_text(alloc, self.server.as_str())
+    }
+
+    /// The first key with other attributes than the progress was kept for, as `key 3 "b": the length is
+    /// 128, and was 256`. Keys that only the plan has are none.
+    ///
+    /// # Errors
+    /// Where there is no memory.
+    pub(crate) fn difference(
+        &self,
+        alloc: Global,
+        keys: &[Key],
+    ) -> Result<Option<String>, AllocError> {
+        let mut left = self.keys.as_slice();
+        for key in keys {
+            let Some((kept, behind)) = left.split_first() else {
+                return Ok(None);
+            };
+            let words = key_words(alloc, key)?;
+            if let Some(told) = difference_of(alloc, words.as_str(), kept.as_str())? {
+                return Ok(Some(told));
+            }
+            left = behind;
+        }
+        Ok(None)
+    }
+
+    /// How long ago the progress was kept, as `3 days ago`; none where the clock says that it was not
+    /// yet.
+    ///
+    /// # Errors
+    /// Where there is no memory, or no clock.
+    pub(crate) fn age_text(&self, rt: &HostRuntime) -> io::Result<Option<String>> {
+        match now(rt)?.checked_sub(self.kept) {
+            Some(seconds) => Ok(Some(ago(rt.alloc(), seconds)?)),
+            None => Ok(None),
+        }
+    }
+}
+
+/// What stands in a line behind these words; none where they do not stand there.
+fn behind<'t>(line: Option<&'t str>, words: &str) -> Option<&'t str> {
+    line?.strip_prefix(words)
+}
+
+/// The seconds since the start of 1970.
+fn now(rt: &HostRuntime) -> io::Result<u64> {
+    match SystemTime::now(rt)?.duration_since(UNIX_EPOCH) {
+        Ok(since) => Ok(since.as_secs()),
+        Err(_) => Ok(0),
+    }
+}
+
+/// So many seconds ago, in whole days, hours or minutes.
+fn ago(alloc: Global, seconds: u64) -> Result<String, AllocError> {
+    let (count, unit) = if seconds >= DAY {
+        (seconds / DAY, "day")
+    } else if seconds >= HOUR {
+        (seconds / HOUR, "hour")
+    } else if seconds >= MINUTE {
+        (seconds / MINUTE, "minute")
+    } else {
+        (seconds, "second")
+    };
+    let ending = if count == 1 { "" } else { "s" };
+    let text = format!(in alloc; "{count} {unit}{ending} ago")?;
+    Ok(text)
+}
+
+/// The server of a run, as it stands in the text of an origin. A Unix socket has the path that all links
+/// to it lead to.
+///
+/// # Errors
+/// Where there is no memory.
+pub(crate) fn server_of(rt: &HostRuntime, peer: &Peer) -> Result<String, NoMemory> {
+    let alloc = rt.alloc();
+    let server = match peer {
+        Peer::Tcp(address) => format!(in alloc; "tcp {address}")?,
+        Peer::Unix(path) => {
+            let path = socket_path(rt, path.as_str())?;
+            format!(in alloc; "unix {path}")?
+        }
+        Peer::Loopback => String::from_str(alloc, LOOPBACK)?,
+    };
+    Ok(server)
+}
+
+/// The path that all links to this path lead to, in plain characters; this path where that can't be
+/// told.
+fn socket_path(rt: &HostRuntime, path: &str) -> Result<String, NoMemory> {
+    match fs::canonicalize(rt, path) {
+        Ok(there) => plain_text(rt.alloc(), there.as_str()),
+        Err(_) => plain_text(rt.alloc(), path),
+    }
+}
+
+/// A server, as it is told.
+///
+/// # Errors
+/// Where there is no memory.
+pub(crate) fn server_text(alloc: Global, server: &str) -> Result<String, AllocError> {
+    if let Some(address) = server.strip_prefix("tcp ") {
+        return String::from_str(alloc, address);
+    }
+    if let Some(path) = server.strip_prefix("unix ") {
+        let text = format!(in alloc; "the socket {path}")?;
+        return Ok(text);
+    }
+    String::from_str(alloc, "a server in the process of its run (--loopback)")
+}
+
+/// The name of a key and its attributes, as `k1 AES 256 0000000c`.
+fn key_words(alloc: Global, key: &Key) -> Result<String, AllocError> {
+    let name = key.attrs.name.as_str();
+    let algorithm = algorithm_word(key.attrs.algorithm).unwrap_or("");
+    let length = key.attrs.length;
+    let mask = hex::encode(alloc, &key.attrs.usage.to_be_bytes())?;
+    let words = format!(in alloc; "{name} {algorithm} {length} {mask}")?;
+    Ok(words)
+}
+
+/// Which attribute a key has now another of, as `"b": the length is 128, and was 256`; none where it has
+/// none, and where the names differ, which is a fault of the progress itself.
+fn difference_of(alloc: Global, now: &str, kept: &str) -> Result<Option<String>, AllocError> {
+    let mut words = now.split_whitespace();
+    let mut others = kept.split_whitespace();
+    let name = words.next().unwrap_or("");
+    if others.next() != Some(name) {
+        return Ok(None);
+    }
+    for field in ["algorithm", "length", "usage"] {
+        let word = words.next().unwrap_or("");
+        let other = others.next().unwrap_or("");
+        if word != other {
+            let told = format!(in alloc; "\"{name}\": the {field} is {word}, and was {other}")?;
+            return Ok(Some(told));
+        }
+    }
+    Ok(None)
+}
