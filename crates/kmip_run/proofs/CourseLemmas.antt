@@ -87,6 +87,8 @@ saved_for : (keys : List Key) (most : ℕ) (good other honest : Type 0) (a b : M
 saved_for keys most good other honest a b r made old new f s = record {
   moments = s.moments;
   texts_are = s.texts_are;
+  unsaved = s.unsaved;
+  are_unsaved = s.are_unsaved;
   as_many = s.as_many;
   kept = s.kept;
   taught = s.taught;

@@ -1,5 +1,5 @@
 -- Carrying out a plan: exchanges, what is saved of them, and the end.
-use Rattle.std.proofs.Common.{Option, Some, None, ◌++◌, ◌≡◌, ◌≢◌, ◌≤◌, ℕ, suc, ◌+◌, nat_le, ◌<◌, List, [], ◌∷◌, Result, Ok, Err, IfOk, OnErr, OnOk, false, sym, ap, subst, refl, ◌∙◌, inl, inr, arith}
+use Rattle.std.proofs.Common.{Option, Some, None, ◌++◌, ◌≡◌, ◌≢◌, ◌≤◌, ◌⊎◌, ℕ, suc, ◌+◌, nat_le, ◌<◌, List, [], ◌∷◌, Result, Ok, Err, IfOk, OnErr, OnOk, false, sym, ap, subst, refl, ◌∙◌, inl, inr, arith}
 use Rattle.std.proofs.lemmas.Bool.{cases_Bool, le-ltb, leb-true}
 use Rattle.kmip_objects.specs.Objects.{Object}
 use Rattle.kmip_chains.specs.Chains.{bound}
@@ -16,28 +16,44 @@ use Rattle.kmip_schedule.specs.Past.{Names, Past, is_planned}
 use Rattle.kmip_client.specs.Saving.{progress}
 use Rattle.kmip_progress.specs.Texts.{progress_text}
 use Rattle.kmip_schedule.specs.Sound.{Sound}
-use Rattle.kmip_session.specs.Driving.{AreFinished, AsksOne, Grown, IsGood, IsSettling, Keeps, Learnt, Nearer, Stands, WentOn, need}
+use Rattle.kmip_session.specs.Driving.{AreFinished, AsksOne, Grown, IsGood, IsSettling, Keeps, Learnt, LearntUntil, Nearer, Stands, WentOn, need}
 use Rattle.kmip_session.specs.declared.stop.Stop.{Stop}
 use Rattle.kmip_session.specs.declared.stop.Stop.TheVariants as stops
 use Rattle.kmip_running.specs.Carried.{Carried, CarryingLaws, Went}
-use Rattle.kmip_running.specs.Saved.{AreSaved, IsInMemory, IsWhole, Moment, moment, unsaved}
+use Rattle.kmip_running.specs.Saved.{AreSaved, IsInMemory, AreUnsaved, IsWhole, Moment, moment}
 use Rattle.kmip_running.specs.declared.keeper.SaveFault.{SaveFault}
-use Rattle.kmip_running.proofs.SavedLemmas.{saved_closed, saved_none, saved_not, saved_one, saved_then}
+use Rattle.kmip_running.proofs.SavedLemmas.{saved_broken, saved_closed, saved_none, saved_not, saved_one, saved_then}
 use Rattle.kmip_running.proofs.WentLemmas.{kept_itself, learnt_delivered, stop_is, went_closed, went_nowhere, went_then}
 
 -- ---- how the end of the run changes the answer
 
-pub same_unsaved : {V E : Type 0} (closed : Result V E) (result last : Result Stop SaveFault) → OnOk closed (last ≡ result) → OnErr closed (OnOk result (last ≡ Ok stops.NoMemory))
-    → OnErr result (last ≡ result) → unsaved last ≡ unsaved result
-same_unsaved (Ok v) result last same stop fault = ap unsaved same
-same_unsaved (Err e) (Ok s) last same stop fault = ap unsaved stop
-same_unsaved (Err e) (Err f) last same stop fault = ap unsaved fault
+at_most_one : (stop : Stop) (count : ℕ) → AreUnsaved (Ok stop) count → count ≤ 1
+at_most_one stops.AllFinished count are = omega (arith, are)
+at_most_one stops.Limit count are = omega (arith, are)
+at_most_one stops.Conflict count are = omega (arith, are)
+at_most_one stops.NoMemory count are = are
+
+still_unsaved : {V E : Type 0} (closed : Result V E) (result last : Result Stop SaveFault) → OnOk closed (last ≡ result) → OnErr closed (OnOk result (last ≡ Ok stops.NoMemory))
+    → OnErr result (last ≡ result) → (count : ℕ) → AreUnsaved result count → AreUnsaved last count
+still_unsaved (Ok v) result last same stop fault count are = subst (λ r. AreUnsaved r count) (sym same) are
+still_unsaved (Err e) (Ok s) last same stop fault count are = subst (λ r. AreUnsaved r count) (sym stop) (at_most_one s count are)
+still_unsaved (Err e) (Err f) last same stop fault count are = subst (λ r. AreUnsaved r count) (sym fault) are
 
 pub memory_before : {V E : Type 0} (closed : Result V E) (result last : Result Stop SaveFault) → OnOk closed (last ≡ result) → OnErr closed (OnOk result (last ≡ Ok stops.NoMemory))
     → OnErr result (last ≡ result) → IsInMemory last → IsInMemory result
 memory_before (Ok v) result last same stop fault memory = λ is. memory (same ∙ is)
 memory_before (Err e) (Ok s) last same stop fault memory = absurd (memory stop)
 memory_before (Err e) (Err f) last same stop fault memory = λ is. memory (fault ∙ is)
+
+-- where memory ran out at the end, it did before, or only there
+pub cut_before : {V E : Type 0} (closed : Result V E) (result last : Result Stop SaveFault) → OnOk closed (last ≡ result) → OnErr closed (OnOk result (last ≡ Ok stops.NoMemory))
+    → OnErr result (last ≡ result) → last ≡ Ok stops.NoMemory → (result ≡ Ok stops.NoMemory) ⊎ IsInMemory result
+cut_before (Ok v) result last same stop fault is = inl (sym same ∙ is)
+cut_before (Err e) (Ok stops.AllFinished) last same stop fault is = inr (λ so. absurd cc)
+cut_before (Err e) (Ok stops.Limit) last same stop fault is = inr (λ so. absurd cc)
+cut_before (Err e) (Ok stops.Conflict) last same stop fault is = inr (λ so. absurd cc)
+cut_before (Err e) (Ok stops.NoMemory) last same stop fault is = inl refl
+cut_before (Err e) (Err f) last same stop fault is = inr (λ so. absurd cc)
 
 pub whole_before : {V E P : Type 0} (closed : Result V E) (result last : Result Stop SaveFault) → OnOk closed (last ≡ result) → OnErr closed (OnOk result (last ≡ Ok stops.NoMemory))
     → OnErr result (last ≡ result) → IsWhole last → IsWhole result × (OnOk closed P → P)
@@ -75,6 +91,8 @@ saved_from_start : (keys : List Key) (most : ℕ) (good better holds then : Type
 saved_from_start keys most good better holds then begun ended result n old new betters gives a = record {
   moments = a.moments;
   texts_are = a.texts_are;
+  unsaved = a.unsaved;
+  are_unsaved = a.are_unsaved;
   as_many = a.as_many;
   kept = a.kept;
   taught = λ h. a.taught (gives h);
@@ -90,27 +108,18 @@ module _ {L : Type 0} (past : L → Past) (honest calm : L → Names → Type 0)
   pub drove : (a b : ClientState) (x y : L) (driven : Stop × ℕ) → (IsGood past honest a x → IsGood past honest b y)
       → (IsGood past honest a x → WentOn a.keys (past x) (past y))
       → (honest x (is_planned a.keys) → honest y (is_planned a.keys) × (driven.0 ≢ stops.NoMemory → Learnt a.keys a.batch (past x) (past y) a.knowns b.knowns driven.1))
+      → (honest x (is_planned a.keys) → driven.0 ≡ stops.NoMemory → LearntUntil a.keys a.batch (past x) (past y) a.knowns b.knowns driven.1)
       → (honest x (is_planned a.keys) → Grown (past x) (past y)) → Keeps a b
       → (IsSettling past calm a x → driven.0 ≢ stops.NoMemory → Nearer past calm a b x y driven.1)
       → Went past honest calm a b x y (Ok driven.0) driven.1
-  drove a b x y driven good goes known grown keeps near = record {
+  drove a b x y driven good goes known broken grown keeps near = record {
     good = good;
     goes = goes;
     known = λ holds. let learnt = known holds in (learnt.0, λ memory. learnt.1 (λ is. memory (ap Ok is)));
+    broken = λ holds is. broken holds (stop_is driven.0 stops.NoMemory is);
     grown = grown;
     keeps = keeps;
     near = near;
-  }
-
-  -- where memory ran out
-  without : (a b : ClientState) (x y : L) (stop : Stop) (n : ℕ) → Went past honest calm a b x y (Ok stop) n → Went past honest calm a b x y (Ok stops.NoMemory) 0
-  without a b x y stop n went = record {
-    good = went.good;
-    goes = went.goes;
-    known = λ holds. ((went.known holds).0, λ memory. absurd (memory refl));
-    grown = went.grown;
-    keeps = went.keeps;
-    near = λ settling whole. absurd (whole refl);
   }
 
   -- where it was not saved
@@ -120,6 +129,7 @@ module _ {L : Type 0} (past : L → Past) (honest calm : L → Names → Type 0)
     good = went.good;
     goes = went.goes;
     known = λ holds. let learnt = went.known holds in (learnt.0, λ memory. learnt.1 (λ is. in_memory (stop_is stop stops.NoMemory is)));
+    broken = λ holds is. absurd cc;
     grown = went.grown;
     keeps = went.keeps;
     near = λ settling whole. absurd whole;
@@ -130,17 +140,21 @@ module _ {L : Type 0} (past : L → Past) (honest calm : L → Names → Type 0)
   learns a b x y stop n in_memory went holds = (went.known holds).1 (λ is. in_memory (stop_is stop stops.NoMemory is))
 
   module _ {K : Type 0} (keeps : K → Type 0) (saved : K → List (List ℕ)) where
-    pub carried_without : (a b : ClientState) (x y : L) (i : K) (driven : Stop × ℕ) → Went past honest calm a b x y (Ok driven.0) driven.1
-        → Carried past honest calm keeps saved a b x y i i (Ok stops.NoMemory) 0
-    carried_without a b x y i driven went = record {
-      went = without a b x y driven.0 driven.1 went;
+    -- where memory ran out
+    pub carried_without : (a b : ClientState) (x y : L) (i : K) (driven : Stop × ℕ) → driven.0 ≡ stops.NoMemory → driven.1 ≤ 1
+        → Went past honest calm a b x y (Ok driven.0) driven.1 → Carried past honest calm keeps saved a b x y i i (Ok driven.0) driven.1
+    carried_without a b x y i driven memory few went = record {
+      went = went;
       kept = λ keeping. (
         keeping,
-        saved_none a.keys a.batch (IsGood past honest a x) (honest x (is_planned a.keys)) (moment past a x) (moment past b y) stops.NoMemory (saved i) went.keeps.kept
-            (λ holds memory. absurd (memory refl)),
+        subst
+            (λ stop. AreSaved a.keys a.batch (IsGood past honest a x) (honest x (is_planned a.keys)) (moment past a x) (moment past b y) (Ok stop) driven.1 (saved i) (saved i))
+            (sym memory)
+            (saved_broken a.keys a.batch (IsGood past honest a x) (honest x (is_planned a.keys)) (moment past a x) (moment past b y) driven.1 (saved i) went.keeps.kept few),
       );
     }
 
+    -- where no exchange was made
     pub carried_none : (a b : ClientState) (x y : L) (i : K) (driven : Stop × ℕ) → driven.1 ≡ 0 → Went past honest calm a b x y (Ok driven.0) driven.1
         → Carried past honest calm keeps saved a b x y i i (Ok driven.0) 0
     carried_none a b x y i driven none went =
@@ -190,8 +204,8 @@ module _ {L : Type 0} (past : L → Past) (honest calm : L → Names → Type 0)
 
     carried_itself : CarryingLaws → (c : ClientState) (x : L) (i : K) → Carried past honest calm keeps saved c c x x i i (Ok stops.Limit) 0
     carried_itself l c x i =
-        let went = went_nowhere past honest calm l c x (Ok stops.Limit) in
         let memory : stops.Limit ≢ stops.NoMemory = λ is. absurd cc in
+        let went = went_nowhere past honest calm l c x (Ok stops.Limit) (λ is. absurd cc) in
         record {
           went = went;
           kept = λ keeping. (
@@ -255,7 +269,7 @@ module _ {L : Type 0} (past : L → Past) (honest calm : L → Names → Type 0)
         let memory = memory_before closed result ended same stop fault in
         let whole = whole_before {P = past z ≡ past y} closed result ended same stop fault in
         record {
-          went = went_closed past honest calm l a b x y z result ended closed m lawful delivers calms memory whole first.went;
+          went = went_closed past honest calm l a b x y z result ended closed m lawful delivers calms memory (λ is. cut_before closed result ended same stop fault is) whole first.went;
           kept = λ keeping.
               let before = first.kept keeping in (
                 before.0,
@@ -264,7 +278,7 @@ module _ {L : Type 0} (past : L → Past) (honest calm : L → Names → Type 0)
                     (λ holds.
                     learnt_delivered l.requests a.keys a.batch (is_planned a.keys) (past y) (past z) b.knowns
                     (delivers (is_planned a.keys) (first.went.known holds).0).1)
-                    (same_unsaved closed result ended same stop fault) memory (λ done. (whole done).0)
+                    (still_unsaved closed result ended same stop fault) memory (λ done. (whole done).0)
                     (λ good knowns.
                     l.known_for_good a.keys knowns (past y).objects (past z).objects lawful
                     (l.onward a.keys (past y) (past z) (subst (λ ks. Sound ks (past y)) first.went.keeps.keys_stay (first.went.good good).sound)

@@ -1,5 +1,5 @@
 -- What is saved after exchanges, one after the other.
-use Rattle.std.proofs.Common.{◌≡◌, ◌≢◌, ℕ, ◌+◌, List, [], ◌∷◌, ◌++◌, length, map, Result, Ok, Err, sym, ap, subst, refl, ◌∙◌, append_assoc, append-nil, arith}
+use Rattle.std.proofs.Common.{◌≡◌, ◌≢◌, ◌≤◌, ℕ, ◌+◌, List, [], ◌∷◌, ◌++◌, length, map, Result, Ok, Err, sym, ap, subst, refl, ◌∙◌, append_assoc, append-nil, arith}
 use Rattle.std.proofs.lemmas.List.{length-append, map-append}
 use Rattle.std.proofs.lemmas.List.Elements.{All-append, All-cons, All-nil, All-weaker}
 use Rattle.std.specs.List.{All, AllZip}
@@ -15,7 +15,7 @@ use Rattle.kmip_knowledge.specs.declared.knowledge.Knowledge.{Knowledge}
 use Rattle.kmip_session.specs.Driving.{Learnt}
 use Rattle.kmip_session.specs.declared.stop.Stop.{Stop}
 use Rattle.kmip_session.specs.declared.stop.Stop.TheVariants as stops
-use Rattle.kmip_running.specs.Saved.{AreKept, AreSaved, AreInTurn, IsInMemory, IsWhole, Moment, last_moment, text_at, unsaved}
+use Rattle.kmip_running.specs.Saved.{AreKept, AreSaved, AreInTurn, IsInMemory, IsWhole, Moment, AreUnsaved, last_moment, text_at}
 use Rattle.kmip_running.specs.declared.keeper.SaveFault.{SaveFault}
 use Rattle.kmip_running.proofs.WentLemmas.{joined, kept_itself, kept_then, learnt_nothing, learnt_then, stop_is}
 
@@ -95,12 +95,27 @@ still_true keys good mid ended moments stays holds all =
 
 -- ---- what is saved
 
+-- where memory sufficed no exchange lacks its text
+none_unsaved : (stop : Stop) → AreUnsaved (Ok stop) 0
+none_unsaved stops.AllFinished = refl
+none_unsaved stops.Limit = refl
+none_unsaved stops.Conflict = refl
+none_unsaved stops.NoMemory = omega arith
+
+unsaved_none : (stop : Stop) (count : ℕ) → stop ≢ stops.NoMemory → AreUnsaved (Ok stop) count → count ≡ 0
+unsaved_none stops.AllFinished count memory are = are
+unsaved_none stops.Limit count memory are = are
+unsaved_none stops.Conflict count memory are = are
+unsaved_none stops.NoMemory count memory are = absurd (memory refl)
+
 -- nothing, where no exchange was made
 pub saved_none : (keys : List Key) (most : ℕ) (good honest : Type 0) (begun ended : Moment) (stop : Stop) (texts : List (List ℕ)) → AllZip IsKept begun.knowns ended.knowns
     → (honest → stop ≢ stops.NoMemory → Learnt keys most begun.past ended.past begun.knowns ended.knowns 0) → AreSaved keys most good honest begun ended (Ok stop) 0 texts texts
 saved_none keys most good honest begun ended stop texts kept learnt = record {
   moments = [];
   texts_are = sym (append-nil texts);
+  unsaved = 0;
+  are_unsaved = none_unsaved stop;
   as_many = refl;
   kept = (kept, tt);
   taught = λ holds. tt;
@@ -116,6 +131,8 @@ pub saved_one : (keys : List Key) (most : ℕ) (good honest : Type 0) (begun end
 saved_one keys most good honest begun ended stop old new kept learnt is held = record {
   moments = ended ∷ [];
   texts_are = is;
+  unsaved = 0;
+  are_unsaved = none_unsaved stop;
   as_many = refl;
   kept = (kept, (kept_itself ended.knowns, tt));
   taught = λ holds. (learnt holds, tt);
@@ -132,6 +149,8 @@ pub saved_not : (keys : List Key) (most : ℕ) (good honest : Type 0) (begun end
 saved_not keys most good honest begun ended fault old new kept learnt same = record {
   moments = [];
   texts_are = same ∙ sym (append-nil old);
+  unsaved = 1;
+  are_unsaved = refl;
   as_many = refl;
   kept = (kept, tt);
   taught = λ holds. tt;
@@ -140,20 +159,41 @@ saved_not keys most good honest begun ended fault old new kept learnt same = rec
   last_is = λ holds whole. absurd whole;
 }
 
+-- or where memory ran out in it
+pub saved_broken : (keys : List Key) (most : ℕ) (good honest : Type 0) (begun ended : Moment) (made : ℕ) (texts : List (List ℕ)) → AllZip IsKept begun.knowns ended.knowns
+    → made ≤ 1 → AreSaved keys most good honest begun ended (Ok stops.NoMemory) made texts texts
+saved_broken keys most good honest begun ended made texts kept few = record {
+  moments = [];
+  texts_are = sym (append-nil texts);
+  unsaved = made;
+  are_unsaved = few;
+  as_many = omega arith;
+  kept = (kept, tt);
+  taught = λ holds. tt;
+  rest = λ holds memory. absurd (memory refl);
+  true_of = λ holds. All-nil (λ (m : Moment). Held ended.past.objects keys m.knowns);
+  last_is = λ holds whole. absurd (whole refl);
+}
+
 pub saved_then : HearingIsBlind → (keys : List Key) (most : ℕ) (good honest : Type 0) (begun mid ended : Moment) (stop : Stop) (result : Result Stop SaveFault) (m n : ℕ)
     (old between new : List (List ℕ)) → stop ≢ stops.NoMemory → StaysTrue keys good mid ended → AreSaved keys most good honest begun mid (Ok stop) m old between
     → AreSaved keys most good honest mid ended result n between new → AreSaved keys most good honest begun ended result (m + n) old new
 saved_then blind keys most good honest begun mid ended stop result m n old between new memory stays a b =
     let in_memory : IsInMemory (Ok stop) = λ is. memory (stop_is stop stops.NoMemory is) in
+    let none = unsaved_none stop a.unsaved memory a.are_unsaved in
+    let last = last_moment begun a.moments in
+    let rests = λ (holds : honest). subst (λ count. Learnt keys most last.past mid.past last.knowns mid.knowns count) none (a.rest holds in_memory) in
     record {
       moments = a.moments ++ b.moments;
       texts_are = joined old between new (map (text_at keys) a.moments) (map (text_at keys) b.moments) a.texts_are b.texts_are
           ∙ ap (λ ts. old ++ ts) (sym (map-append (text_at keys) a.moments b.moments));
-      as_many = let long = length-append a.moments b.moments in omega (arith, long, a.as_many, b.as_many);
+      unsaved = b.unsaved;
+      are_unsaved = b.are_unsaved;
+      as_many = let long = length-append a.moments b.moments in omega (arith, long, none, a.as_many, b.as_many);
       kept = subst (λ ms. AreKept begun.knowns ms) (sym (append_assoc a.moments b.moments (ended ∷ [])))
           (kept_joined begun.knowns a.moments mid (b.moments ++ ended ∷ []) a.kept b.kept);
-      taught = λ holds. taught_joined blind keys most begun a.moments mid b.moments (a.taught holds) (a.rest holds in_memory) (b.taught holds);
-      rest = λ holds whole. rest_joined blind keys most begun a.moments mid b.moments ended (unsaved result) (a.rest holds in_memory) (b.rest holds whole);
+      taught = λ holds. taught_joined blind keys most begun a.moments mid b.moments (a.taught holds) (rests holds) (b.taught holds);
+      rest = λ holds whole. rest_joined blind keys most begun a.moments mid b.moments ended b.unsaved (rests holds) (b.rest holds whole);
       true_of = λ holds.
           All-append (λ (m : Moment). Held ended.past.objects keys m.knowns) a.moments b.moments
           (still_true keys good mid ended a.moments stays holds (a.true_of holds)) (b.true_of holds);
@@ -162,20 +202,22 @@ saved_then blind keys most good honest begun mid ended stop result m n old betwe
 
 -- the end of the run saves nothing
 pub saved_closed : HearingIsBlind → (keys : List Key) (most : ℕ) (good honest : Type 0) (begun mid ended : Moment) (result last : Result Stop SaveFault) (m : ℕ) (old new : List (List ℕ))
-    → mid.knowns ≡ ended.knowns → (honest → Learnt keys most mid.past ended.past mid.knowns ended.knowns 0) → unsaved last ≡ unsaved result
+    → mid.knowns ≡ ended.knowns → (honest → Learnt keys most mid.past ended.past mid.knowns ended.knowns 0) → ((count : ℕ) → AreUnsaved result count → AreUnsaved last count)
     → (IsInMemory last → IsInMemory result) → (IsWhole last → IsWhole result) → StaysTrue keys good mid ended → AreSaved keys most good honest begun mid result m old new
     → AreSaved keys most good honest begun ended last m old new
-saved_closed blind keys most good honest begun mid ended result last m old new same learnt as_many memory whole stays a = record {
+saved_closed blind keys most good honest begun mid ended result last m old new same learnt still memory whole stays a = record {
   moments = a.moments;
   texts_are = a.texts_are;
-  as_many = omega (arith, as_many, a.as_many);
+  unsaved = a.unsaved;
+  are_unsaved = still a.unsaved a.are_unsaved;
+  as_many = a.as_many;
   kept = kept_joined begun.knowns a.moments mid (ended ∷ []) a.kept (subst (λ ks. AllZip IsKept mid.knowns ks) same (kept_itself mid.knowns), tt);
   taught = a.taught;
   rest = λ holds in_memory.
       let before = last_moment begun a.moments in
-      let none : unsaved result + 0 ≡ unsaved last = omega (arith, as_many) in
+      let none : a.unsaved + 0 ≡ a.unsaved = omega arith in
       subst (λ n. Learnt keys most before.past ended.past before.knowns ended.knowns n) none
-      (learnt_then blind keys most before.past mid.past ended.past before.knowns mid.knowns ended.knowns (unsaved result) 0 (a.rest holds (memory in_memory)) (learnt holds));
+      (learnt_then blind keys most before.past mid.past ended.past before.knowns mid.knowns ended.knowns a.unsaved 0 (a.rest holds (memory in_memory)) (learnt holds));
   true_of = λ holds. still_true keys good mid ended a.moments stays holds (a.true_of holds);
   last_is = λ holds done. same_text keys most mid ended (learnt holds) ∙ a.last_is holds (whole done);
 }

@@ -1,5 +1,5 @@
 -- What exchanges keep and teach, one after the other.
-use Rattle.std.proofs.Common.{◌≡◌, ◌≢◌, ℕ, ◌+◌, List, [], ◌∷◌, ◌++◌, length, flat_map, Option, Result, Ok, OnOk, sym, ap, subst, refl, inl, inr, ◌≤◌, ◌∙◌, append_assoc, append-nil, arith}
+use Rattle.std.proofs.Common.{◌≡◌, ◌≢◌, ℕ, ◌+◌, List, [], ◌∷◌, ◌++◌, length, flat_map, Option, Result, Ok, OnOk, sym, ap, subst, refl, inl, inr, ◌⊎◌, ◌≤◌, ◌∙◌, append_assoc, append-nil, arith}
 use Rattle.std.proofs.lemmas.List.{length-append}
 use Rattle.std.proofs.lemmas.List.Concat.{flat_map-append}
 use Rattle.std.proofs.lemmas.List.Elements.{All-append, All-nil}
@@ -16,7 +16,7 @@ use Rattle.kmip_schedule.specs.Laws.{DeliveriesKeepTheRequests}
 use Rattle.kmip_schedule.specs.Moves.{Delivered}
 use Rattle.kmip_schedule.specs.Past.{Names, Past, is_planned}
 use Rattle.kmip_settling.specs.Ready.{IsReady}
-use Rattle.kmip_session.specs.Driving.{AsksOne, Grown, IsGood, IsQuestion, Keeps, Learnt, WentOn, need}
+use Rattle.kmip_session.specs.Driving.{AsksOne, Grown, IsGood, IsQuestion, Keeps, Learnt, LearntUntil, WentOn, need}
 use Rattle.kmip_session.specs.declared.stop.Stop.{Stop}
 use Rattle.kmip_session.specs.declared.stop.Stop.TheVariants as stops
 use Rattle.kmip_running.specs.Carried.{CarryingLaws, Went}
@@ -120,6 +120,71 @@ learnt_delivered requests keys most names old new knowns done =
       known_is = refl;
     }
 
+-- ---- until memory ran out
+
+-- exchanges, and then those until memory ran out
+pub until_then : HearingIsBlind → (keys : List Key) (most : ℕ) (old between new : Past) (knowns known nexts : List Knowledge) (m n : ℕ) → Learnt keys most old between knowns known m
+    → LearntUntil keys most between new known nexts n → LearntUntil keys most old new knowns nexts (m + n)
+until_then blind keys most old between new knowns known nexts m n a b = record {
+  between = b.between;
+  heard = m + b.heard;
+  learnt = learnt_then blind keys most old between b.between knowns known nexts m b.heard a b.learnt;
+  broken = elim b.broken [
+    | inl unmade ↦ inl (omega (arith, unmade.0), unmade.1)
+    | inr unheard ↦ inr (omega (arith, unheard.0), unheard.1)
+  ];
+}
+
+-- and what happens behind them
+pub until_delivered : DeliveriesKeepTheRequests → (keys : List Key) (most : ℕ) (names : Names) (old mid new : Past) (knowns nexts : List Knowledge) (n : ℕ) → Delivered names mid new
+    → LearntUntil keys most old mid knowns nexts n → LearntUntil keys most old new knowns nexts n
+until_delivered requests keys most names old mid new knowns nexts n done a =
+    let grows = requests names mid new done in
+    record {
+      between = a.between;
+      heard = a.heard;
+      learnt = a.learnt;
+      broken = elim a.broken [
+        | inl unmade ↦
+            inl (
+              unmade.0,
+              record {
+                asked = elim unmade.1.asked [
+                  | inl none ↦ inl (grows.requests ∙ none)
+                  | inr more ↦ inr (record { question = more.question; is_question = more.is_question; requests_are = grows.requests ∙ more.requests_are })
+                ];
+                sent_stays = grows.sent ∙ unmade.1.sent_stays;
+                handed_stays = grows.handed ∙ unmade.1.handed_stays;
+              },
+            )
+        | inr unheard ↦
+            let u = unheard.1 in
+            inr (
+              unheard.0,
+              record {
+                question = u.question;
+                reply = u.reply;
+                is_question = u.is_question;
+                requests_are = grows.requests ∙ u.requests_are;
+                sent_are = grows.sent ∙ u.sent_are;
+                handed_are = grows.handed ∙ u.handed_are;
+              },
+            )
+      ];
+    }
+
+-- memory ran out only behind them
+pub until_behind : DeliveriesKeepTheRequests → (keys : List Key) (most : ℕ) (names : Names) (old mid new : Past) (knowns nexts : List Knowledge) (n : ℕ) → Delivered names mid new
+    → Learnt keys most old mid knowns nexts n → LearntUntil keys most old new knowns nexts n
+until_behind requests keys most names old mid new knowns nexts n done a =
+    let grows = requests names mid new done in
+    record {
+      between = mid;
+      heard = n;
+      learnt = a;
+      broken = inl (refl, record { asked = inl grows.requests; sent_stays = grows.sent; handed_stays = grows.handed });
+    }
+
 -- ---- nothing that was asked is taken back
 
 grown_by : {A : Type 0} (old between new : List A) → (xs : List A) × (between ≡ old ++ xs) → (ys : List A) × (new ≡ between ++ ys) → (zs : List A) × (new ≡ old ++ zs)
@@ -158,11 +223,12 @@ stop_is s t is = cc
 -- ---- exchanges, one after the other
 
 module _ {L : Type 0} (past : L → Past) (honest calm : L → Names → Type 0) where
-  pub went_nowhere : CarryingLaws → (c : ClientState) (x : L) (result : Result Stop SaveFault) → Went past honest calm c c x x result 0
-  went_nowhere l c x result = record {
+  pub went_nowhere : CarryingLaws → (c : ClientState) (x : L) (result : Result Stop SaveFault) → IsInMemory result → Went past honest calm c c x x result 0
+  went_nowhere l c x result memory = record {
     good = λ good. good;
     goes = λ good. record { onward = l.itself c.keys (past x).objects; mirrored = λ image. image };
-    known = λ holds. (holds, λ memory. learnt_nothing c.keys c.batch (past x) c.knowns);
+    known = λ holds. (holds, λ in_memory. learnt_nothing c.keys c.batch (past x) c.knowns);
+    broken = λ holds is. absurd (memory is);
     grown = λ holds. grown_itself (past x);
     keeps = keeps_itself c;
     near = λ settling whole. record { settling = settling; nearer = omega arith; exactly = λ one. omega arith };
@@ -191,6 +257,12 @@ module _ {L : Type 0} (past : L → Past) (honest calm : L → Names → Type 0)
                   (subst (λ ks. Learnt ks a.batch (past y) (past z) b.knowns c.knowns n) keys
                   (subst (λ most. Learnt b.keys most (past y) (past z) b.knowns c.knowns n) first.keeps.batch_stays (after.1 whole))),
             );
+        broken = λ holds is.
+            let before = first.known holds in
+            let after = second.broken (subst (λ ks. honest y (is_planned ks)) (sym keys) before.0) is in
+            until_then l.blind a.keys a.batch (past x) (past y) (past z) a.knowns b.knowns c.knowns m n (before.1 in_memory)
+            (subst (λ ks. LearntUntil ks a.batch (past y) (past z) b.knowns c.knowns n) keys
+            (subst (λ most. LearntUntil b.keys most (past y) (past z) b.knowns c.knowns n) first.keeps.batch_stays after));
         grown = λ holds.
             grown_then (past x) (past y) (past z) (first.grown holds) (second.grown (subst (λ ks. honest y (is_planned ks)) (sym keys) (first.known holds).0));
         keeps = keeps_then a b c first.keeps second.keeps;
@@ -208,8 +280,9 @@ module _ {L : Type 0} (past : L → Past) (honest calm : L → Names → Type 0)
   pub went_closed : {V E : Type 0} → CarryingLaws → (a b : ClientState) (x y z : L) (result ended : Result Stop SaveFault) (closed : Result V E) (m : ℕ) → IsLawful a.keys
       → ((names : Names) → honest y names → honest z names × Delivered names (past y) (past z))
       → ((names : Names) → calm y names → calm z names × OnOk closed (past z ≡ past y)) → (IsInMemory ended → IsInMemory result)
+      → (ended ≡ Ok stops.NoMemory → (result ≡ Ok stops.NoMemory) ⊎ IsInMemory result)
       → (IsWhole ended → IsWhole result × (OnOk closed (past z ≡ past y) → past z ≡ past y)) → Went past honest calm a b x y result m → Went past honest calm a b x z ended m
-  went_closed l a b x y z result ended closed m lawful delivers calms memory whole first =
+  went_closed l a b x y z result ended closed m lawful delivers calms memory cut whole first =
       let keys = first.keeps.keys_stay in
       record {
         good = λ good. (good_closed (first.good good)).0;
@@ -230,6 +303,13 @@ module _ {L : Type 0} (past : L → Past) (honest calm : L → Names → Type 0)
                   (learnt_then l.blind a.keys a.batch (past x) (past y) (past z) a.knowns b.knowns b.knowns m 0 (before.1 (memory in_memory))
                   (learnt_delivered l.requests a.keys a.batch (is_planned a.keys) (past y) (past z) b.knowns step.1)),
             );
+        broken = λ holds is.
+            let before = first.known holds in
+            let step = delivers (is_planned a.keys) before.0 in
+            elim (cut is) [
+              | inl so ↦ until_delivered l.requests a.keys a.batch (is_planned a.keys) (past x) (past y) (past z) a.knowns b.knowns m step.1 (first.broken holds so)
+              | inr in_memory ↦ until_behind l.requests a.keys a.batch (is_planned a.keys) (past x) (past y) (past z) a.knowns b.knowns m step.1 (before.1 in_memory)
+            ];
         grown = λ holds.
             let step = delivers (is_planned a.keys) (first.known holds).0 in
             grown_then (past x) (past y) (past z) (first.grown holds) (grown_delivered l.requests (is_planned a.keys) (past y) (past z) step.1);

@@ -1,14 +1,15 @@
 -- Private: what the parts of carrying out a plan keep.
 -- Source: own.
-use Rattle.std.specs.Prelude.{ℕ, List, Result}
+use Rattle.std.specs.Prelude.{◌≡◌, ℕ, List, Result, Ok}
 use Rattle.kmip_client.specs.Clients.{ClientState}
 use Rattle.kmip_client.specs.Laws.{OnwardToItself, OnwardTwice, HeldForGood, HeldIsNoConflict, HearingIsBlind}
 use Rattle.kmip_schedule.specs.Laws.{DeliveriesKeepSound, DeliveriesKeepTheImage, DeliveriesKeepTheRequests, ObjectsGoOnward}
 use Rattle.kmip_schedule.specs.Past.{Past, Names, is_planned}
 use Rattle.kmip_settling.specs.Laws.{NeedsAreBounded, WhoIsSettledNeedsNothing, WhoNeedsNothingIsFinished}
 use Rattle.kmip_settling.specs.LosingLaws.{LateArrivalsAddNothing, LeftIsBounded, NeedsAreLeft}
-use Rattle.kmip_session.specs.Driving.{Grown, IsGood, IsSettling, Keeps, Learnt, Nearer, WentOn}
+use Rattle.kmip_session.specs.Driving.{Grown, IsGood, IsSettling, Keeps, Learnt, LearntUntil, Nearer, WentOn}
 use Rattle.kmip_session.specs.declared.stop.Stop.{Stop}
+use Rattle.kmip_session.specs.declared.stop.Stop.TheVariants as stops
 use Rattle.kmip_running.specs.Saved.{AreSaved, IsInMemory, IsWhole, moment}
 use Rattle.kmip_running.specs.declared.keeper.SaveFault.{SaveFault}
 
@@ -36,6 +37,7 @@ pub record Went {L : Type 0} (past : L → Past) (honest calm : L → Names → 
   pub goes : IsGood past honest a x → WentOn a.keys (past x) (past y)
   pub known : honest x (is_planned a.keys)
       → honest y (is_planned a.keys) × (IsInMemory result → Learnt a.keys a.batch (past x) (past y) a.knowns b.knowns made)
+  pub broken : honest x (is_planned a.keys) → result ≡ Ok stops.NoMemory → LearntUntil a.keys a.batch (past x) (past y) a.knowns b.knowns made
   pub grown : honest x (is_planned a.keys) → Grown (past x) (past y)
   pub keeps : Keeps a b
   pub near : IsSettling past calm a x → IsWhole result → Nearer past calm a b x y made

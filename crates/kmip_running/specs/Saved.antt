@@ -1,6 +1,6 @@
 -- What is saved while a plan is carried out: after each exchange a text of what is then known.
 -- Source: own.
-use Rattle.std.specs.Prelude.{◌≡◌, ◌≢◌, ◌+◌, ℕ, ⊤, List, [], ◌∷◌, ◌++◌, length, map, Result, Ok, Err}
+use Rattle.std.specs.Prelude.{◌≡◌, ◌≢◌, ◌≤◌, ◌+◌, ℕ, ⊤, List, [], ◌∷◌, ◌++◌, length, map, Result, Ok, Err}
 use Rattle.std.specs.List.{All, AllZip}
 use Rattle.kmip_chains.specs.declared.key.Key.{Key}
 use Rattle.kmip_progress.specs.Texts.{progress_text}
@@ -53,10 +53,13 @@ abbrev pub IsWhole : Result Stop SaveFault → Type 0
 IsWhole (Ok stop) = stop ≢ stops.NoMemory
 IsWhole (Err fault) = ⊥
 
--- how many exchanges have no text: the last one, where its text was not saved
-abbrev pub unsaved : Result Stop SaveFault → ℕ
-unsaved (Ok stop) = 0
-unsaved (Err fault) = 1
+-- how many exchanges have no text: the last one, where its text was not saved; where memory ran out at most one
+abbrev pub AreUnsaved : Result Stop SaveFault → ℕ → Type 0
+AreUnsaved (Ok stops.AllFinished) count = count ≡ 0
+AreUnsaved (Ok stops.Limit) count = count ≡ 0
+AreUnsaved (Ok stops.Conflict) count = count ≡ 0
+AreUnsaved (Ok stops.NoMemory) count = count ≤ 1
+AreUnsaved (Err fault) count = count ≡ 1
 
 -- Between two moments these texts were saved: one after each exchange, of what was then known. Over an honest link each of them has
 -- what the one before it had and what one more answer taught, and the last one says all that is known at the end. Where all was good at
@@ -64,10 +67,12 @@ unsaved (Err fault) = 1
 pub record AreSaved (keys : List Key) (most : ℕ) (good honest : Type 0) (begun ended : Moment) (result : Result Stop SaveFault) (exchanges : ℕ) (old new : List (List ℕ)) : Type 0 where
   pub moments : List Moment
   pub texts_are : new ≡ old ++ map (text_at keys) moments
-  pub as_many : length moments + unsaved result ≡ exchanges
+  pub unsaved : ℕ
+  pub are_unsaved : AreUnsaved result unsaved
+  pub as_many : length moments + unsaved ≡ exchanges
   pub kept : AreKept begun.knowns (moments ++ ended ∷ [])
   pub taught : honest → AreInTurn keys most begun moments
   pub rest : honest → IsInMemory result
-      → Learnt keys most (last_moment begun moments).past ended.past (last_moment begun moments).knowns ended.knowns (unsaved result)
+      → Learnt keys most (last_moment begun moments).past ended.past (last_moment begun moments).knowns ended.knowns unsaved
   pub true_of : good → All (λ (moment : Moment). Held ended.past.objects keys moment.knowns) moments
   pub last_is : honest → IsWhole result → text_at keys ended ≡ text_at keys (last_moment begun moments)

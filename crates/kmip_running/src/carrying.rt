@@ -6,7 +6,7 @@ ghost use Rattle.kmip_chains.specs.Chains.{bound};
 ghost use Rattle.kmip_progress.specs.Texts.{progress_text};
 ghost use Rattle.kmip_schedule.specs.Ending.{EndedAt};
 ghost use Rattle.kmip_schedule.specs.Past.{Names, is_planned};
-ghost use Rattle.kmip_session.specs.Driving.{AsksOne, IsGood, IsSettling, Nearer, need, WentOn, Learnt, Grown, Keeps, Stands};
+ghost use Rattle.kmip_session.specs.Driving.{AsksOne, IsGood, IsSettling, Nearer, need, WentOn, Learnt, LearntUntil, Grown, Keeps, Stands};
 ghost use Rattle.kmip_session.specs.Losing.{ArePaid, IsEnough, left_for};
 ghost use Rattle.kmip_running.specs.Carried.{Carried, CarryingLaws};
 ghost use Rattle.kmip_running.specs.Refusals.{HasRisen};
@@ -34,7 +34,8 @@ use std::alloc::Global;
 /// passed over. Where memory ran out, or the text of the last exchange was not saved, the run may not
 /// be ended.
 ///
-/// Answers why it stopped, and how many exchanges were made.
+/// Answers why it stopped, and how many exchanges were made: one counts too where there was no memory
+/// to learn from its reply.
 ///
 /// # Errors
 /// Why the text of the last exchange was not saved; no further exchange is then made. Want of
@@ -54,6 +55,9 @@ pub fn carry_out<L: Link, K: Keeper>(
         → L.honest link.new (is_planned client.old.keys)
         × (IsInMemory result.0 → Learnt client.old.keys client.old.batch (L.past link.old)
         (L.past link.new) client.old.knowns client.new.knowns result.1) }
+    ensures broken { L.honest link.old (is_planned client.old.keys)
+        → result.0 ≡ Ok Stop.NoMemory → LearntUntil client.old.keys client.old.batch
+        (L.past link.old) (L.past link.new) client.old.knowns client.new.knowns result.1 }
     ensures grown { L.honest link.old (is_planned client.old.keys)
         → Grown (L.past link.old) (L.past link.new) }
     ensures kept { Keeps client.old client.new }
@@ -222,7 +226,7 @@ fn exchange_once<L: Link, K: Keeper>(
     laws_below();
     let (stop, exchanges) = drive(alloc, client, link, 1);
     if stop.is_no_memory() {
-        return (Ok(Stop::NoMemory), 0);
+        return (Ok(stop), exchanges);
     }
     if exchanges == 0 {
         return (Ok(stop), 0);

@@ -17,7 +17,7 @@ returns-then-limit-eq0-clause-carried g c =
     let none : c.drive-stop.result.1 ≡ 0 = omega (arith, e.within) in
     carried_none past honest calm g.K.Keeper.keeps g.K.Keeper.saved c.args.client.now c.drive-stop.new.client c.args.link.now c.drive-stop.new.link
     c.args.keeper.now c.drive-stop.result none
-    (drove past honest calm c.args.client.now c.drive-stop.new.client c.args.link.now c.drive-stop.new.link c.drive-stop.result e.good e.goes e.known e.grown e.kept
+    (drove past honest calm c.args.client.now c.drive-stop.new.client c.args.link.now c.drive-stop.new.link c.drive-stop.result e.good e.goes e.known e.broken e.grown e.kept
     e.calm)
 
 pub loop-made-init : goal.loop-made-init
