@@ -3,6 +3,7 @@
 # make test       the gate: every proof, the wrong bodies, the tests and the stored runs, and then all trials but bench
 # make bench      compares the program with a baseline in plain Rust, and times simulations (needs rustc)
 # make refuse     refuses each growth of memory of the program and of kmip_growths in turn (needs cc, python3)
+# make faults     gives the program plans with each fault, and wants the line that says where and why (needs python3)
 # make hostile    gives the program lines of ten megabytes, under limits of memory
 # make storm      carries 200 plans over a network that loses and cuts messages, kills the runs, and probes (needs rustc)
 # make peers      runs it against peers that answer nothing, rubbish or too late (needs python3)
@@ -16,7 +17,7 @@ program := crates/kmipctl/out/kmipctl
 growths := crates/kmip_growths/out/kmip_growths
 sources := crates.txt $(shell find crates -name out -prune -o \( -name '*.rt' -o -name '*.antt' \) -print)
 
-.PHONY: all demo test bench refuse hostile storm peers origin tls reading documents help
+.PHONY: all demo test bench refuse faults hostile storm peers origin tls reading documents help
 
 all: $(program)
 
@@ -41,6 +42,9 @@ bench: $(program)
 
 refuse: $(program) $(growths)
 	@python3 bench/refuse.py $(program) $(growths) out/refuse
+
+faults: $(program)
+	@python3 bench/plan_faults.py $(program) out/faults
 
 hostile: $(program)
 	@bench/hostile.sh $(program)

@@ -27,6 +27,7 @@ TRIALS = [
     ('refuse', ['python3', 'bench/refuse.py', PROGRAM, GROWTHS, 'out/refuse'], [['cc']]),
     ('peers', ['python3', 'bench/peers.py', PROGRAM, 'out/peers'], []),
     ('origin', ['python3', 'bench/origin.py', PROGRAM, 'out/origin'], []),
+    ('faults', ['python3', 'bench/plan_faults.py', PROGRAM, 'out/faults'], []),
     ('hostile', ['bench/hostile.sh', PROGRAM], []),
     ('tls', ['examples/tls/tls.sh', PROGRAM], [['openssl'], ['stunnel4', 'stunnel']]),
     ('storm', ['bench/storm.sh', PROGRAM, '40'], [['rustc']]),

@@ -1,15 +1,13 @@
 //! The texts of files, and of plans among them.
 
 use crate::linking::refused;
+use crate::refusing::tell_refusal;
 use kmip_check::{check_bytes, run_check};
 use kmip_commands::ExitStatus;
 use kmip_progress_file::{MOST_FILE_BYTES, text_of};
 use kmip_ttlv::NoMemory;
 use std::io;
 use std::io::{BufWriter, Error, ErrorKind};
-
-/// What the reader of TOML says before `line L, column C`.
-const BEFORE_A_PLACE: &str = "TOML parse error at ";
 
 /// How the program ends where the text of the file at this path is no plan, which is printed; none
 /// where it is one.
@@ -22,37 +20,8 @@ pub fn refusal_of(rt: &HostRuntime, path: &str, plan: &str) -> io::Result<Option
     }
     let mut writer = BufWriter::new(rt.alloc(), io::writer(rt))?;
     let status = run_check(rt.alloc(), plan, &mut writer);
-    tell_place(rt, path, plan);
+    tell_refusal(rt, path, plan);
     Ok(Some(status))
-}
-
-/// Tells on standard error where the text of the file at this path is no TOML, and why, in one
-/// line: `plan refused: 1 Toml` on standard output has no place. Tells nothing where it is TOML, or
-/// where there is no memory.
-pub fn tell_place(rt: &HostRuntime, path: &str, plan: &str) {
-    let Err(fault) = toml::table_from_str(rt.alloc(), plan) else {
-        return;
-    };
-    if fault.is_memory() {
-        return;
-    }
-    if let Ok(told) = format!(in rt.alloc(); "{fault}") {
-        let place = place_in(told.as_str());
-        let why = fault.message();
-        let _ = rt.eprintln(format_args!("{path}: {place}: {why}"));
-    }
-}
-
-/// The place in what the reader of TOML tells of a fault, as `line 3, column 8`.
-fn place_in(told: &str) -> &str {
-    let line = match told.split_once('\n') {
-        Some((line, _)) => line,
-        None => told,
-    };
-    match line.strip_prefix(BEFORE_A_PLACE) {
-        Some(place) => place,
-        None => line,
-    }
 }
 
 /// Whether a text is no plan.

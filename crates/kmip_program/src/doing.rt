@@ -4,7 +4,8 @@ use kmip_check::{check_after_bytes, run_check, run_check_after};
 use kmip_choices::{Choice, Detail};
 use kmip_commands::{ExitStatus, Form, run_answer, run_answer_stream, run_show};
 use kmip_network::{
-    batch_of, probe_server, refusal_of, run_plan, serve, tell_place, text_or_why_not,
+    batch_of, probe_server, refusal_of, run_plan, serve, tell_prolonging, tell_refusal,
+    text_or_why_not,
 };
 use kmip_sim::run_sim;
 use std::io;
@@ -65,7 +66,7 @@ fn check_plan(rt: &HostRuntime, path: &str) -> io::Result<ExitStatus> {
     let mut writer = BufWriter::new(rt.alloc(), io::writer(rt))?;
     let status = run_check(rt.alloc(), plan.as_str(), &mut writer);
     if status == ExitStatus::Refused {
-        tell_place(rt, path, plan.as_str());
+        tell_refusal(rt, path, plan.as_str());
     }
     Ok(status)
 }
@@ -79,7 +80,7 @@ fn check_plan_after(rt: &HostRuntime, path: &str, earlier_path: &str) -> io::Res
     let mut writer = BufWriter::new(rt.alloc(), io::writer(rt))?;
     let status = run_check_after(rt.alloc(), plan.as_str(), earlier.as_str(), &mut writer);
     if status == ExitStatus::Refused {
-        tell_place(rt, earlier_path, earlier.as_str());
+        tell_prolonging(rt, path, plan.as_str(), earlier_path, earlier.as_str());
     }
     Ok(status)
 }
@@ -132,7 +133,8 @@ fn simulate_plans(
     };
     if is_refused_after(rt, further.as_str(), plan.as_str())? {
         let status = simulate(rt, detail, batch, plan.as_str(), Some(further.as_str()), "")?;
-        tell_place(rt, further_path, further.as_str());
+        tell_refusal(rt, further_path, further.as_str());
+        tell_prolonging(rt, further_path, further.as_str(), path, plan.as_str());
         return Ok(status);
     }
     let Some(script) = text_or_why_not(rt, script_path)? else {
