@@ -3,6 +3,7 @@
 #![tactic(auto)]
 
 mod carrying;
+mod causes;
 mod dialing;
 mod linking;
 mod probing;
@@ -10,9 +11,11 @@ mod reading;
 mod serving;
 mod showing;
 mod telling;
+mod told;
 
 pub use carrying::run_plan;
 pub use kmip_run::batch_of;
 pub use probing::probe_server;
 pub use reading::{refusal_of, tell_place, text_or_why_not};
 pub use serving::serve;
+pub use told::{Told, standard_input, standard_output, tell_output};
