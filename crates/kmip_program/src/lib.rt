@@ -4,5 +4,6 @@
 
 mod doing;
 mod running;
+mod streams;
 
 pub use running::{run, run_words};

@@ -1,6 +1,7 @@
 //! The program: what its command line asks for, done.
 
 use crate::doing::carry_out;
+use crate::streams::open_closed_streams;
 use kmip_command_line::{chosen, status_of};
 use kmip_commands::{CommandFault, ExitStatus};
 use std::io::{Error, ErrorKind};
@@ -12,6 +13,7 @@ use std::{env, io};
 /// on standard output; on standard error stands only what `run` shows while it works, where a plan
 /// is no TOML, and that the command line is no text.
 pub fn run(rt: &HostRuntime) -> ExitCode {
+    open_closed_streams(rt);
     let status = match own_words(rt) {
         Ok(words) => run_words(rt, words.as_slice()),
         Err(error) if error.kind() == ErrorKind::InvalidData => without_words(rt),
