@@ -2,6 +2,7 @@
 //! input, files, sockets and standard output.
 #![tactic(auto)]
 
+mod address;
 mod doing;
 mod running;
 mod streams;
