@@ -1,5 +1,6 @@
 //! Whether a progress is believed: not at another server than it was kept against, nor for other keys.
 
+use crate::causes::{Cannot, tell_why};
 use crate::linking::refused;
 use crate::origin::{Origin, server_of, server_text};
 use crate::reading::unread;
@@ -59,7 +60,7 @@ impl<'a> Kept<'a> {
     fn afresh(&self) -> io::Result<Result<Option<String>, ExitStatus>> {
         if let Err(error) = self.file.put_aside() {
             let before = self.file.before_path()?;
-            let status = refused(self.rt, error, "cannot write", before.as_str())?;
+            let status = refused(self.rt, error, Cannot::Begin, before.as_str())?;
             return Ok(Err(status));
         }
         self.begins(None)
@@ -100,20 +101,30 @@ impl<'a> Kept<'a> {
     /// Where the file was kept; none where that is not told. Where it can't be read, that is printed, but
     /// for a run that believes the file anyway.
     fn origin(&self) -> io::Result<Result<Option<Origin>, ExitStatus>> {
-        let error = match self.file.read_origin() {
+        let is_believed = self.options.trust == Trust::Believe;
+        match self.file.read_origin() {
+            Ok(None) => Ok(Ok(None)),
             Ok(Some(text)) => match Origin::read(self.rt.alloc(), text.as_str())? {
-                Some(origin) => return Ok(Ok(Some(origin))),
-                None => Error::from(ErrorKind::InvalidData),
+                None if !is_believed => self.is_no_origin(),
+                origin => Ok(Ok(origin)),
             },
-            Ok(None) => return Ok(Ok(None)),
-            Err(error) => error,
-        };
-        if self.options.trust == Trust::Believe && error.kind() != ErrorKind::OutOfMemory {
-            return Ok(Ok(None));
+            Err(error) if is_believed && error.kind() != ErrorKind::OutOfMemory => Ok(Ok(None)),
+            Err(error) => {
+                let path = self.file.origin_path()?;
+                let status = unread(self.rt, error, path.as_str(), MOST_PROGRESS_BYTES)?;
+                Ok(Err(status))
+            }
         }
+    }
+
+    /// Prints that the text that is to say where the file was kept does not say it.
+    fn is_no_origin(&self) -> io::Result<Result<Option<Origin>, ExitStatus>> {
         let path = self.file.origin_path()?;
-        let status = unread(self.rt, error, path.as_str(), MOST_PROGRESS_BYTES)?;
-        Ok(Err(status))
+        let why = "it does not say where a progress was kept; see what stands there";
+        tell_why(self.rt, path.as_str(), why);
+        self.rt
+            .println(format_args!("{} {path}", Cannot::Read.text()))?;
+        Ok(Err(ExitStatus::Refused))
     }
 
     /// How the program ends where the file was kept against another server, or for other attributes,
@@ -206,7 +217,7 @@ impl<'a> Kept<'a> {
         let text = Origin::text(self.rt, self.server.as_str(), self.plan.keys())?;
         if let Err(error) = self.file.write_origin(text.as_bytes()) {
             let path = self.file.origin_path()?;
-            let status = refused(self.rt, error, "cannot write", path.as_str())?;
+            let status = refused(self.rt, error, Cannot::Begin, path.as_str())?;
             return Ok(Err(status));
         }
         Ok(Ok(saved))

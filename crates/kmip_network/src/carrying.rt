@@ -3,6 +3,7 @@ ghost use Rattle.std.specs.Prelude.{IsTrue};
 ghost use Rattle.kmip_batches.specs.Members.{may_have};
 
 use crate::believing::progress_to_begin_with;
+use crate::causes::{Cannot, tell_cause};
 use crate::linking::{loopback, refused, tcp_link, unix_link};
 use crate::reading::{refusal_of, text_or_why_not};
 use crate::showing::Standing;
@@ -43,7 +44,14 @@ impl<'a> Keeper for FileKeeper<'a> {
         match written {
             Ok(()) => Ok(()),
             Err(error) if error.kind() == ErrorKind::OutOfMemory => Err(SaveFault::NoMemory),
-            Err(_) => {
+            Err(error) => {
+                self.standing.end();
+                tell_cause(
+                    self.file.system(),
+                    self.file.given_path(),
+                    Cannot::Save,
+                    &error,
+                );
                 self.refusals = self.refusals.saturating_add(1);
                 Err(SaveFault::Output)
             }
@@ -108,12 +116,12 @@ fn run_on(
 /// The file at this path, of this run alone; where it cannot be, that is printed.
 fn locked<'a>(
     rt: &'a HostRuntime,
-    path: &str,
+    path: &'a str,
 ) -> io::Result<Option<(ProgressFile<'a, HostRuntime>, ProgressLock)>> {
     let file = match ProgressFile::at(rt, path) {
         Ok(file) => file,
         Err(error) => {
-            refused(rt, error, "cannot read", path)?;
+            refused(rt, error, Cannot::Read, path)?;
             return Ok(None);
         }
     };
@@ -125,7 +133,7 @@ fn locked<'a>(
         }
         Err(LockFault::Io(error)) => {
             let beside = file.lock_path()?;
-            refused(rt, error, "cannot write", beside.as_str())?;
+            refused(rt, error, Cannot::Begin, beside.as_str())?;
             Ok(None)
         }
     }

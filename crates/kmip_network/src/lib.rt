@@ -4,24 +4,20 @@
 
 mod believing;
 mod carrying;
-mod comparing;
+mod causes;
 mod dialing;
-mod lawful;
 mod linking;
 mod origin;
-mod placing;
 mod probing;
 mod reading;
-mod refusing;
 mod serving;
 mod showing;
 mod telling;
-mod valuing;
+mod told;
 
 pub use carrying::run_plan;
-pub use comparing::tell_prolonging;
 pub use kmip_run::batch_of;
 pub use probing::probe_server;
 pub use reading::{refusal_of, text_or_why_not};
-pub use refusing::tell_refusal;
 pub use serving::serve;
+pub use told::{Told, standard_input, standard_output, tell_output};

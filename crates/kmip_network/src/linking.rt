@@ -1,5 +1,6 @@
 //! Links to the server that was named, and why there is none.
 
+use crate::causes::{Cannot, tell_cause, tell_why};
 use crate::dialing::Telling;
 use crate::serving::new_server;
 use crate::showing::Standing;
@@ -8,7 +9,7 @@ use kmip_server::IndexedStore;
 use kmip_transport::{Loopback, StreamLink, Tcp, Unix};
 use std::io;
 use std::io::{Error, ErrorKind};
-use std::net::{SocketAddr, SocketAddrV4};
+use std::net::{Ipv4Addr, Net, SocketAddr, SocketAddrV4};
 use std::os::unix::net;
 use std::time::Duration;
 
@@ -36,7 +37,7 @@ pub(crate) fn unix_link<'a>(
             Ok(Some(StreamLink::new(dial, limit)))
         }
         Err(error) => {
-            refused(rt, error, "cannot connect", path)?;
+            refused(rt, error, Cannot::Connect, path)?;
             Ok(None)
         }
     }
@@ -50,22 +51,34 @@ pub(crate) fn loopback<'a>(
     match Loopback::new(rt, new_server(rt), limit) {
         Ok(link) => Ok(Some(link)),
         Err(_) => {
+            tell_why_no_port(rt);
             rt.println("cannot listen")?;
             Ok(None)
         }
     }
 }
 
-/// Prints what cannot be done with a file or a socket, unless there is no memory.
+/// Tells on standard error why no port is free. The system is asked once more, as a link keeps no word
+/// of it.
+fn tell_why_no_port(rt: &HostRuntime) {
+    let any_port = SocketAddr::V4(SocketAddrV4::new(Ipv4Addr::LOCALHOST, 0));
+    if let Err(error) = rt.bind(any_port) {
+        tell_why(rt, any_port, error);
+    }
+}
+
+/// Prints what cannot be done with a file or a socket, and tells on standard error why, unless there is
+/// no memory.
 pub(crate) fn refused(
     rt: &HostRuntime,
     error: Error,
-    what: &str,
+    cannot: Cannot,
     path: &str,
 ) -> io::Result<ExitStatus> {
     if error.kind() == ErrorKind::OutOfMemory {
         return Err(error);
     }
-    rt.println(format_args!("{what} {path}"))?;
+    tell_cause(rt, path, cannot, &error);
+    rt.println(format_args!("{} {path}", cannot.text()))?;
     Ok(ExitStatus::Refused)
 }

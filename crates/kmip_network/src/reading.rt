@@ -1,9 +1,11 @@
 //! The texts of files, and of plans among them.
 
+use crate::causes::{Cannot, tell_why};
 use crate::linking::refused;
-use crate::refusing::tell_refusal;
+use crate::told::standard_output;
 use kmip_check::{check_bytes, run_check};
 use kmip_commands::ExitStatus;
+use kmip_explaining::tell_refusal;
 use kmip_progress_file::{MOST_FILE_BYTES, text_of};
 use kmip_ttlv::NoMemory;
 use std::io;
@@ -18,7 +20,7 @@ pub fn refusal_of(rt: &HostRuntime, path: &str, plan: &str) -> io::Result<Option
     if !is_refused(rt, plan)? {
         return Ok(None);
     }
-    let mut writer = BufWriter::new(rt.alloc(), io::writer(rt))?;
+    let mut writer = BufWriter::new(rt.alloc(), standard_output(rt))?;
     let status = run_check(rt.alloc(), plan, &mut writer);
     tell_refusal(rt, path, plan);
     Ok(Some(status))
@@ -47,17 +49,25 @@ pub fn text_or_why_not(rt: &HostRuntime, path: &str) -> io::Result<Option<String
     }
 }
 
-/// Prints why a file is not read that may have so many bytes, unless there is no memory: it is
-/// longer, or else it cannot be read.
+/// Prints that a file is not read that may have so many bytes, and tells on standard error why, unless
+/// there is no memory: it is longer, or else it cannot be read.
 pub(crate) fn unread(
     rt: &HostRuntime,
     error: Error,
     path: &str,
     most_bytes: u64,
 ) -> io::Result<ExitStatus> {
-    if error.kind() == ErrorKind::FileTooLarge {
-        rt.println(format_args!("longer than {most_bytes} bytes: {path}"))?;
-        return Ok(ExitStatus::Refused);
+    match error.kind() {
+        ErrorKind::FileTooLarge => {
+            let why = format_args!("it has more than {most_bytes} bytes; see what stands there");
+            tell_why(rt, path, why);
+            rt.println(format_args!("longer than {most_bytes} bytes: {path}"))?;
+        }
+        ErrorKind::InvalidData => {
+            tell_why(rt, path, "it is no UTF-8 text");
+            rt.println(format_args!("{} {path}", Cannot::Read.text()))?;
+        }
+        _ => return refused(rt, error, Cannot::Read, path),
     }
-    refused(rt, error, "cannot read", path)
+    Ok(ExitStatus::Refused)
 }

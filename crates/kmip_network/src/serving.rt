@@ -1,12 +1,13 @@
 //! The program `serve`, over sockets.
 
+use crate::causes::tell_why;
 use kmip_choices::ServeOptions;
 use kmip_commands::{CommandFault, ExitStatus};
 use kmip_server::{IndexedStore, Server};
 use kmip_store::{MOST_ROOM, SEED};
 use kmip_transport::{StreamEnd, serve_stream};
 use std::fmt::Display;
-use std::io::{self, Write};
+use std::io::{self, Error, Write};
 use std::net::{Ipv4Addr, Net, OpenListener, OpenStream, SocketAddr, SocketAddrV4};
 use std::time::Duration;
 
@@ -29,11 +30,14 @@ pub fn serve<W: Write>(
     writer: &mut W,
 ) -> io::Result<ExitStatus> {
     let address = SocketAddr::V4(SocketAddrV4::new(Ipv4Addr::LOCALHOST, options.port));
-    let Some((listener, port)) = listening(rt, address) else {
-        write_line(writer, "cannot listen")?;
-        return Ok(ExitStatus::Refused);
-    };
-    serve_connections(rt, options, &listener, port, writer)
+    match listening(rt, address) {
+        Ok((listener, port)) => serve_connections(rt, options, &listener, port, writer),
+        Err(error) => {
+            tell_why(rt, address, error);
+            write_line(writer, "cannot listen")?;
+            Ok(ExitStatus::Refused)
+        }
+    }
 }
 
 /// Serves the connections of what listens at this port.
@@ -47,8 +51,9 @@ fn serve_connections<W: Write>(
     write_line(writer, format_args!("listening {port}"))?;
     let mut server = new_server(rt);
     for _ in 0..options.connections {
-        let Some(stream) = next_stream(listener) else {
-            return told_failures(port, writer);
+        let stream = match next_stream(listener) {
+            Ok(stream) => stream,
+            Err(error) => return told_failures(rt, port, error, writer),
         };
         let ended = serve_connection(rt, options, &mut server, stream);
         if matches!(ended, StreamEnd::NoMemory) {
@@ -59,8 +64,14 @@ fn serve_connections<W: Write>(
     Ok(ExitStatus::Done)
 }
 
-/// Tells that no connection could be accepted.
-fn told_failures<W: Write>(port: u16, writer: &mut W) -> io::Result<ExitStatus> {
+/// Tells that no connection could be accepted, and on standard error why the last one could not.
+fn told_failures<W: Write>(
+    rt: &HostRuntime,
+    port: u16,
+    error: Error,
+    writer: &mut W,
+) -> io::Result<ExitStatus> {
+    tell_why(rt, SocketAddrV4::new(Ipv4Addr::LOCALHOST, port), error);
     write_line(
         writer,
         format_args!("cannot accept a connection on port {port}: {MOST_FAILURES} failures in turn"),
@@ -74,25 +85,33 @@ fn write_line<W: Write, D: Display + Drop>(writer: &mut W, text: D) -> io::Resul
     writer.flush()
 }
 
-/// What listens at this address, and the port that it has; none where the system gives none.
+/// What listens at this address, and the port that it has.
+///
+/// # Errors
+/// Where the system gives none.
 fn listening(
     rt: &HostRuntime,
     address: SocketAddr,
-) -> Option<(<HostRuntime as Net>::Listener, u16)> {
-    let listener = rt.bind(address).ok()?;
-    let port = listener.local_addr().ok()?.port();
-    Some((listener, port))
+) -> io::Result<(<HostRuntime as Net>::Listener, u16)> {
+    let listener = rt.bind(address)?;
+    let port = listener.local_addr()?.port();
+    Ok((listener, port))
 }
 
-/// The stream of the next connection; none where none could be accepted, `MOST_FAILURES` times in
-/// turn.
-fn next_stream(listener: &<HostRuntime as Net>::Listener) -> Option<<HostRuntime as Net>::Stream> {
-    for _ in 0..MOST_FAILURES {
+/// The stream of the next connection.
+///
+/// # Errors
+/// Where none could be accepted, `MOST_FAILURES` times in turn: why the last one could not.
+fn next_stream(
+    listener: &<HostRuntime as Net>::Listener,
+) -> io::Result<<HostRuntime as Net>::Stream> {
+    for _ in 1..MOST_FAILURES {
         if let Ok((stream, _)) = listener.accept() {
-            return Some(stream);
+            return Ok(stream);
         }
     }
-    None
+    let (stream, _) = listener.accept()?;
+    Ok(stream)
 }
 
 /// Serves one connection until it ends.

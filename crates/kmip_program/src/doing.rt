@@ -3,13 +3,14 @@
 use kmip_check::{check_after_bytes, run_check, run_check_after};
 use kmip_choices::{Choice, Detail};
 use kmip_commands::{ExitStatus, Form, run_answer, run_answer_stream, run_show};
+use kmip_explaining::{tell_prolonging, tell_refusal};
 use kmip_network::{
-    batch_of, probe_server, refusal_of, run_plan, serve, tell_prolonging, tell_refusal,
+    batch_of, probe_server, refusal_of, run_plan, serve, standard_input, standard_output,
     text_or_why_not,
 };
 use kmip_sim::run_sim;
 use std::io;
-use std::io::{BufReader, BufWriter, Error, ErrorKind};
+use std::io::{BufReader, BufWriter, Error, ErrorKind, IsTerminal};
 
 /// Does what is asked for, and says how the program ends.
 ///
@@ -37,24 +38,37 @@ pub(crate) fn carry_out(rt: &HostRuntime, choice: Choice) -> io::Result<ExitStat
     }
 }
 
+/// Tells on standard error what is to be typed, where standard input is a terminal.
+fn tell_of_terminal(rt: &HostRuntime, what: &str) {
+    if rt.stdin().is_terminal() {
+        let _ = rt.eprintln(format_args!("reading from the terminal: {what}; end with Ctrl-D"));
+    }
+}
+
 /// The command `answer` from standard input to standard output.
 fn answer_input(rt: &HostRuntime) -> io::Result<ExitStatus> {
-    let mut reader = BufReader::new(rt.alloc(), rt.reader())?;
-    let mut writer = BufWriter::new(rt.alloc(), io::writer(rt))?;
+    tell_of_terminal(rt, "one request in hexadecimal a line");
+    let mut reader = BufReader::new(rt.alloc(), standard_input(rt))?;
+    let mut writer = BufWriter::new(rt.alloc(), standard_output(rt))?;
     Ok(run_answer(rt.alloc(), &mut reader, &mut writer))
 }
 
 /// The command `answer --stream` from standard input to standard output.
 fn answer_stream_input(rt: &HostRuntime) -> io::Result<ExitStatus> {
-    let mut reader = BufReader::new(rt.alloc(), rt.reader())?;
-    let mut writer = BufWriter::new(rt.alloc(), io::writer(rt))?;
+    tell_of_terminal(
+        rt,
+        "a stream of requests in hexadecimal, in lines cut anywhere",
+    );
+    let mut reader = BufReader::new(rt.alloc(), standard_input(rt))?;
+    let mut writer = BufWriter::new(rt.alloc(), standard_output(rt))?;
     Ok(run_answer_stream(rt.alloc(), &mut reader, &mut writer))
 }
 
 /// The command `show` from standard input to standard output.
 fn show_input(rt: &HostRuntime, form: Form) -> io::Result<ExitStatus> {
-    let mut reader = BufReader::new(rt.alloc(), rt.reader())?;
-    let mut writer = BufWriter::new(rt.alloc(), io::writer(rt))?;
+    tell_of_terminal(rt, "one item in hexadecimal a line");
+    let mut reader = BufReader::new(rt.alloc(), standard_input(rt))?;
+    let mut writer = BufWriter::new(rt.alloc(), standard_output(rt))?;
     Ok(run_show(rt.alloc(), form, &mut reader, &mut writer))
 }
 
@@ -63,7 +77,7 @@ fn check_plan(rt: &HostRuntime, path: &str) -> io::Result<ExitStatus> {
     let Some(plan) = text_or_why_not(rt, path)? else {
         return Ok(ExitStatus::Refused);
     };
-    let mut writer = BufWriter::new(rt.alloc(), io::writer(rt))?;
+    let mut writer = BufWriter::new(rt.alloc(), standard_output(rt))?;
     let status = run_check(rt.alloc(), plan.as_str(), &mut writer);
     if status == ExitStatus::Refused {
         tell_refusal(rt, path, plan.as_str());
@@ -77,7 +91,7 @@ fn check_plan_after(rt: &HostRuntime, path: &str, earlier_path: &str) -> io::Res
         Ok(texts) => texts,
         Err(status) => return Ok(status),
     };
-    let mut writer = BufWriter::new(rt.alloc(), io::writer(rt))?;
+    let mut writer = BufWriter::new(rt.alloc(), standard_output(rt))?;
     let status = run_check_after(rt.alloc(), plan.as_str(), earlier.as_str(), &mut writer);
     if status == ExitStatus::Refused {
         tell_prolonging(rt, path, plan.as_str(), earlier_path, earlier.as_str());
@@ -168,7 +182,7 @@ fn simulate(
     further: Option<&str>,
     script: &str,
 ) -> io::Result<ExitStatus> {
-    let mut writer = BufWriter::new(rt.alloc(), io::writer(rt))?;
+    let mut writer = BufWriter::new(rt.alloc(), standard_output(rt))?;
     let batch = batch_of(batch);
     Ok(run_sim(
         rt.alloc(),

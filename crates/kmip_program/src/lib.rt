@@ -2,7 +2,9 @@
 //! input, files, sockets and standard output.
 #![tactic(auto)]
 
+mod address;
 mod doing;
 mod running;
+mod streams;
 
 pub use running::{run, run_words};

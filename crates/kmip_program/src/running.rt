@@ -1,21 +1,26 @@
 //! The program: what its command line asks for, done.
 
+use crate::address::WrongAddress;
 use crate::doing::carry_out;
+use crate::streams::open_closed_streams;
 use kmip_command_line::{chosen, status_of};
 use kmip_commands::{CommandFault, ExitStatus};
+use kmip_network::tell_output;
 use std::io::{Error, ErrorKind};
 use std::process::ExitCode;
 use std::{env, io};
 
 /// Runs the program: reads its command line, does what that asks for over standard streams, files
 /// and sockets, and answers the code to end with. Results, faults, help and usage faults are printed
-/// on standard output; on standard error stands only what `run` shows while it works, where a plan
-/// is no TOML, and that the command line is no text.
+/// on standard output. Standard error has what `run` shows while it works, why a file, a socket or a
+/// stream fails, where a plan is no TOML, what to give for a wrong address, what a terminal is asked for,
+/// and that the command line is no text.
 pub fn run(rt: &HostRuntime) -> ExitCode {
+    open_closed_streams(rt);
     let status = match own_words(rt) {
         Ok(words) => run_words(rt, words.as_slice()),
         Err(error) if error.kind() == ErrorKind::InvalidData => without_words(rt),
-        Err(error) => failed(rt, &error),
+        Err(error) => failed(rt, error),
     };
     ExitCode::from(status.code())
 }
@@ -24,7 +29,7 @@ pub fn run(rt: &HostRuntime) -> ExitCode {
 pub fn run_words(rt: &HostRuntime, words: &[String]) -> ExitStatus {
     match run_command(rt, words) {
         Ok(status) => status,
-        Err(error) => failed(rt, &error),
+        Err(error) => failed(rt, error),
     }
 }
 
@@ -34,11 +39,16 @@ fn without_words(rt: &HostRuntime) -> ExitStatus {
     ExitStatus::Usage
 }
 
-/// Says an error outside the commands, where it is want of memory.
-fn failed(rt: &HostRuntime, error: &Error) -> ExitStatus {
-    let fault = fault_of(error);
-    if fault == CommandFault::NoMemory {
-        let _ = rt.println(fault.text());
+/// Says an error outside the commands: want of memory on standard output, and else, as it is one of
+/// that, on standard error.
+fn failed(rt: &HostRuntime, error: Error) -> ExitStatus {
+    let fault = fault_of(&error);
+    let said = match fault {
+        CommandFault::NoMemory => rt.println(fault.text()),
+        CommandFault::Input | CommandFault::Output => Err(error),
+    };
+    if let Err(error) = said {
+        tell_output(rt, &error);
     }
     ExitStatus::Failed(fault)
 }
@@ -70,8 +80,19 @@ fn run_command(rt: &HostRuntime, words: &[String]) -> io::Result<ExitStatus> {
             if status == ExitStatus::Failed(CommandFault::NoMemory) {
                 return Err(Error::from(ErrorKind::OutOfMemory));
             }
+            if status == ExitStatus::Usage {
+                tell_address(rt, words);
+            }
             rt.print(&error)?;
             Ok(status)
         }
+    }
+}
+
+/// Tells on standard error what is wrong with the address among the words of a wrong command line, if
+/// it is wrong.
+fn tell_address(rt: &HostRuntime, words: &[String]) {
+    if let Some(address) = WrongAddress::among(words) {
+        let _ = rt.eprintln(address);
     }
 }

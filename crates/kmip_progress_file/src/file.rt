@@ -26,6 +26,7 @@ pub const MOST_PROGRESS_BYTES: u64 = 1_048_576;
 #[derive(Drop)]
 pub struct ProgressFile<'a, R> {
     rt: &'a R,
+    given_path: &'a str,
     path: String,
 }
 
@@ -36,9 +37,23 @@ impl<'a, R: Files + AllocGlobal> ProgressFile<'a, R> {
     /// # Errors
     ///
     /// Where there is no memory, a link cannot be read, or the links lead in a circle.
-    pub fn at(rt: &'a R, path: &str) -> io::Result<Self> {
-        let path = file_behind(rt, path)?;
-        Ok(ProgressFile { rt, path })
+    pub fn at(rt: &'a R, given_path: &'a str) -> io::Result<Self> {
+        let path = file_behind(rt, given_path)?;
+        Ok(ProgressFile {
+            rt,
+            given_path,
+            path,
+        })
+    }
+
+    /// The system that has the file.
+    pub fn system(&self) -> &'a R {
+        self.rt
+    }
+
+    /// The path that it was named by, also where a symbolic link stands there.
+    pub fn given_path(&self) -> &'a str {
+        self.given_path
     }
 
     /// The text of the file; `None` where there is no file.

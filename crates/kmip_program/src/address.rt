@@ -1,0 +1,115 @@
+//! What `--connect` wants, where it was given something else.
+
+use std::fmt::{self, Display, Formatter};
+use std::net::{Ipv4Addr, Ipv6Addr, SocketAddrV4};
+
+/// The option that says at which address and port the server is.
+const CONNECT: &str = "--connect";
+
+/// The same with a value in one word.
+const CONNECT_WITH_VALUE: &str = "--connect=";
+
+/// What a value has in the place of an IPv4 address and a port.
+#[derive(Clone, Copy)]
+enum Instead {
+    Name,
+    Version6,
+    NoPort,
+    SomethingElse,
+}
+
+impl Instead {
+    /// What this value has.
+    fn of(value: &str) -> Instead {
+        if value.starts_with('[') || value.parse::<Ipv6Addr>().is_ok() {
+            Instead::Version6
+        } else if value.parse::<Ipv4Addr>().is_ok() {
+            Instead::NoPort
+        } else if is_name(host_of(value)) {
+            Instead::Name
+        } else {
+            Instead::SomethingElse
+        }
+    }
+
+    /// What it is, and what to give for it.
+    fn text(self) -> &'static str {
+        match self {
+            Instead::Name => "has a name: look it up first, or name a tunnel's --socket",
+            Instead::Version6 => {
+                "is of IPv6: give the server's IPv4 address, or name a tunnel's --socket"
+            }
+            Instead::NoPort => "has no port: add one, as :5696",
+            Instead::SomethingElse => "is no such address",
+        }
+    }
+}
+
+/// What stands before the port, if there is one.
+fn host_of(value: &str) -> &str {
+    match value.rsplit_once(':') {
+        Some((host, _)) => host,
+        None => value,
+    }
+}
+
+/// Whether a host is a name: it has a letter.
+fn is_name(host: &str) -> bool {
+    host.bytes()
+        .any(|byte| byte.is_ascii_alphabetic() || !byte.is_ascii())
+}
+
+/// A value of `--connect` that is no IPv4 address and port.
+#[derive(Clone, Copy)]
+pub(crate) struct WrongAddress<'a> {
+    value: &'a str,
+}
+
+impl<'a> WrongAddress<'a> {
+    /// That of a command line, if it has one.
+    pub(crate) fn among(words: &'a [String]) -> Option<Self> {
+        let value = connect_value(words)?;
+        match value.parse::<SocketAddrV4>() {
+            Ok(_) => None,
+            Err(_) => Some(WrongAddress { value }),
+        }
+    }
+}
+
+impl<'a> Display for WrongAddress<'a> {
+    fn fmt<W: fmt::Write>(&self, f: &mut Formatter<W>) -> fmt::Result {
+        let value = self.value;
+        let instead = Instead::of(value).text();
+        write!(
+            f,
+            "{CONNECT} wants an IPv4 address and a port, as 192.0.2.7:5696; {value:?} {instead}"
+        )
+    }
+}
+
+/// What stands behind `--connect` in a command line of `run` or `probe`.
+fn connect_value(words: &[String]) -> Option<&str> {
+    if !asks_a_server(words) {
+        return None;
+    }
+    let mut is_value = false;
+    for word in words {
+        let word = word.as_str();
+        if is_value {
+            return Some(word);
+        }
+        if let Some(value) = word.strip_prefix(CONNECT_WITH_VALUE) {
+            return Some(value);
+        }
+        is_value = word == CONNECT;
+    }
+    None
+}
+
+/// Whether the command is one that asks a server.
+fn asks_a_server(words: &[String]) -> bool {
+    match words.get(1) {
+        Some(command) => matches!(command.as_str(), "run" | "probe"),
+        None => false,
+    }
+}
