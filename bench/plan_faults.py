@@ -53,7 +53,8 @@ B = key(name='"b"')
 
 # The name of the row, the plan, what stands behind `plan refused: `, and what stands behind the path.
 REFUSED = [
-    ('a text without its end', '[[key]]\n# a name\nname = "b\n', '1 Toml', ':3:8: invalid string'),
+    # The line feed is the first character that cannot stand in the string.
+    ('a string without its end', '[[key]]\n# a name\nname = "b\n', '1 Toml', ':3:10: invalid string'),
     ('a field twice', '[[key]]\nname = "b"\nname = "c"\n', '1 Toml', ':3:1: duplicate key'),
     ('an empty plan', '', '2 NoKeys', f': there is no key: {ONE}'),
     ('only a comment', '# nothing\n', '2 NoKeys', f': there is no key: {ONE}'),
@@ -187,6 +188,23 @@ PROLONGS_NOT = [
      f':8: key 2 "a": it was key 1 in OLD: {STAYS}'),
 ]
 
+# The name of the row, the plan, what the lines of a progress say of its keys, and what stands behind the plan's path.
+OF_ANOTHER_PLAN = [
+    ('a progress of a further target', plan(key(target='"created"')), ['a active - 2 31'],
+     ':6: key 1 "a": the target is "created", and was "active" in OLD: "active" does not lead to it'),
+    ('a progress of another reason', plan(key(target='"revoked"', reason='"superseded"')), ['a revoked 4 3 31'],
+     ':7: key 1 "a": the reason is "superseded", and was "affiliation-changed" in OLD: it may not change'),
+    ('a progress of a reason, and none is given', plan(key(target='"revoked"')), ['a revoked 7 3 31'],
+     ':1: key 1 "a": the reason is "unspecified", and was "privilege-withdrawn" in OLD: it may not change'),
+    ('a progress in another order', plan(B, key()), ['a active - 0 -', 'b active - 0 -'],
+     f':8: key 2 "a": it was key 1 in OLD: {STAYS}'),
+    ('a progress of another key', plan(key()), ['c active - 0 -'], f': "c" of OLD is not there: {STAYS}'),
+    ('a progress of more keys', plan(key()), ['a active - 0 -', 'b active - 0 -'],
+     f': "b" of OLD is not there: {STAYS}'),
+    ('a progress of too many steps', plan(key()), ['a created - 2 31'],
+     ':6: key 1 "a": 2 of its steps are done in OLD: there are not as many to "created"'),
+]
+
 # A fault, for the commands beside `check`.
 FAULTY = plan(key(length='129'))
 FAULT = '7 BadLength at key 1'
@@ -226,6 +244,17 @@ class Trial:
             why = why.replace('OLD', old)
             self.look(row, ['check', '--plan', new, '--after', old], f'{printed_keys}prolongs not\n', f'{new}{why}\n')
 
+    def progresses(self):
+        for row, text, lines, why in OF_ANOTHER_PLAN:
+            path = self.written('plan.toml', text)
+            for number in (2, 1) if ' - ' in lines[0] else (2,):
+                # Format 1 has no reasons.
+                said = lines if number == 2 else [line.replace(' - ', ' ', 1) for line in lines]
+                known = '\n'.join([f'kmip-progress {number}', *said, f'end {len(said)}', ''])
+                progress = self.written('plan.progress', known)
+                self.look(f'{row}, format {number}', ['run', '--plan', path, '--progress', progress, '--loopback'],
+                          'progress refused: 3 OtherPlan\n', f'{path}{why.replace("OLD", progress)}\n')
+
     def commands(self):
         """The same line comes from each command that reads a plan, and from none where nothing is wrong."""
         sound, faulty = self.written('sound.toml', plan(key())), self.written('faulty.toml', FAULTY)
@@ -256,6 +285,7 @@ def main():
     trial = Trial(program, folder)
     trial.faults()
     trial.prolongings()
+    trial.progresses()
     trial.commands()
     shutil.rmtree(folder)
     print(f'{trial.rows} rows, {trial.wrong} wrong')

@@ -7,6 +7,7 @@ use crate::reading::unread;
 use kmip_choices::{RunOptions, Trust};
 use kmip_client::Client;
 use kmip_commands::ExitStatus;
+use kmip_explaining::tell_other_plan;
 use kmip_plan::{Plan, Step, chain};
 use kmip_progress::ProgressFault;
 use kmip_progress_file::{MOST_PROGRESS_BYTES, ProgressFile};
@@ -19,6 +20,8 @@ use std::io::{Error, ErrorKind};
 struct Kept<'a> {
     rt: &'a HostRuntime,
     options: &'a RunOptions,
+    /// The text of the plan.
+    text: &'a str,
     plan: &'a Plan,
     file: &'a ProgressFile<'a, HostRuntime>,
     /// The server of this run.
@@ -36,6 +39,7 @@ struct Kept<'a> {
 pub(crate) fn progress_to_begin_with(
     rt: &HostRuntime,
     options: &RunOptions,
+    text: &str,
     plan: &Plan,
     file: &ProgressFile<'_, HostRuntime>,
 ) -> io::Result<Result<Option<String>, ExitStatus>> {
@@ -45,6 +49,7 @@ pub(crate) fn progress_to_begin_with(
     let kept = Kept {
         rt,
         options,
+        text,
         plan,
         file,
         server,
@@ -82,7 +87,10 @@ impl<'a> Kept<'a> {
         let client = match begin(self.rt.alloc(), self.plan, Some(text.as_str())) {
             Ok(client) => client,
             Err(ProgressFault::NoMemory) => return Err(Error::from(ErrorKind::OutOfMemory)),
-            Err(_) => return Ok(Ok(saved)), // the run refuses it
+            Err(_) => {
+                self.tell_other_plan(text.as_str());
+                return Ok(Ok(saved)); // the run refuses it
+            }
         };
         let origin = match self.origin()? {
             Ok(origin) => origin,
@@ -96,6 +104,13 @@ impl<'a> Kept<'a> {
             return Ok(Ok(saved));
         }
         self.begins(saved)
+    }
+
+    /// Tells at which key the file is of another plan, if that is why it is refused.
+    fn tell_other_plan(&self, saved: &str) {
+        let options = self.options;
+        let (path, progress_path) = (options.plan.as_str(), options.progress.as_str());
+        tell_other_plan(self.rt, path, self.text, progress_path, saved);
     }
 
     /// Where the file was kept; none where that is not told. Where it can't be read, that is printed, but

@@ -90,7 +90,7 @@ fn run_on(
     let Ok(plan) = read_plan(rt.alloc(), text) else {
         return Err(Error::from(ErrorKind::OutOfMemory));
     };
-    let saved = match progress_to_begin_with(rt, options, &plan, &file)? {
+    let saved = match progress_to_begin_with(rt, options, text, &plan, &file)? {
         Ok(saved) => saved,
         Err(status) => return Ok(status),
     };
