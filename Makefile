@@ -6,6 +6,7 @@
 # make hostile    gives the program lines of ten megabytes, under limits of memory
 # make storm      carries 200 plans over a network that loses and cuts messages, kills the runs, and probes (needs rustc)
 # make peers      runs it against peers that answer nothing, rubbish or too late (needs python3)
+# make causes     runs it where files, sockets and standard streams fail, and compares what it tells (needs python3)
 # make tls        carries a plan out over TLS between two tunnels, with client certificates (needs openssl, stunnel)
 # make reading    lists the public functions; with FUNCTION=crate::name, what its contract rests on (needs python3)
 # make documents  compares the documents with the code (needs python3)
@@ -15,7 +16,7 @@ program := crates/kmipctl/out/kmipctl
 growths := crates/kmip_growths/out/kmip_growths
 sources := crates.txt $(shell find crates -name out -prune -o \( -name '*.rt' -o -name '*.antt' \) -print)
 
-.PHONY: all demo test bench refuse hostile storm peers tls reading documents help
+.PHONY: all demo test bench refuse hostile storm peers causes tls reading documents help
 
 all: $(program)
 
@@ -49,6 +50,9 @@ storm: $(program)
 
 peers: $(program)
 	@python3 bench/peers.py $(program) out/peers
+
+causes: $(program)
+	@python3 bench/causes.py $(program) out/causes
 
 tls: $(program)
 	@examples/tls/tls.sh $(program)

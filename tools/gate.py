@@ -26,6 +26,7 @@ COUNTS = re.compile(r'^(\d+) passed, (\d+) failed')
 TRIALS = [
     ('refuse', ['python3', 'bench/refuse.py', PROGRAM, GROWTHS, 'out/refuse'], [['cc']]),
     ('peers', ['python3', 'bench/peers.py', PROGRAM, 'out/peers'], []),
+    ('causes', ['python3', 'bench/causes.py', PROGRAM, 'out/causes'], []),
     ('hostile', ['bench/hostile.sh', PROGRAM], []),
     ('tls', ['examples/tls/tls.sh', PROGRAM], [['openssl'], ['stunnel4', 'stunnel']]),
     ('storm', ['bench/storm.sh', PROGRAM, '40'], [['rustc']]),
