@@ -8,6 +8,7 @@
 # make storm      carries 200 plans over a network that loses and cuts messages, kills the runs, and probes (needs rustc)
 # make peers      runs it against peers that answer nothing, rubbish or too late (needs python3)
 # make origin     runs it on progress files that were kept against other servers, or for other keys (needs python3)
+# make causes     runs it where files, sockets and standard streams fail, and compares what it tells (needs python3)
 # make tls        carries a plan out over TLS between two tunnels, with client certificates (needs openssl, stunnel)
 # make reading    lists the public functions; with FUNCTION=crate::name, what its contract rests on (needs python3)
 # make documents  compares the documents with the code (needs python3)
@@ -17,7 +18,7 @@ program := crates/kmipctl/out/kmipctl
 growths := crates/kmip_growths/out/kmip_growths
 sources := crates.txt $(shell find crates -name out -prune -o \( -name '*.rt' -o -name '*.antt' \) -print)
 
-.PHONY: all demo test bench refuse faults hostile storm peers origin tls reading documents help
+.PHONY: all demo test bench refuse faults hostile storm peers origin causes tls reading documents help
 
 all: $(program)
 
@@ -57,6 +58,9 @@ peers: $(program)
 
 origin: $(program)
 	@python3 bench/origin.py $(program) out/origin
+
+causes: $(program)
+	@python3 bench/causes.py $(program) out/causes
 
 tls: $(program)
 	@examples/tls/tls.sh $(program)

@@ -28,6 +28,7 @@ TRIALS = [
     ('peers', ['python3', 'bench/peers.py', PROGRAM, 'out/peers'], []),
     ('origin', ['python3', 'bench/origin.py', PROGRAM, 'out/origin'], []),
     ('faults', ['python3', 'bench/plan_faults.py', PROGRAM, 'out/faults'], []),
+    ('causes', ['python3', 'bench/causes.py', PROGRAM, 'out/causes'], []),
     ('hostile', ['bench/hostile.sh', PROGRAM], []),
     ('tls', ['examples/tls/tls.sh', PROGRAM], [['openssl'], ['stunnel4', 'stunnel']]),
     ('storm', ['bench/storm.sh', PROGRAM, '40'], [['rustc']]),

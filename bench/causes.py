@@ -1,0 +1,322 @@
+#!/usr/bin/env python3
+"""Runs `kmipctl` where files, sockets and standard streams fail, and compares what it prints and tells.
+
+    bench/causes.py PROGRAM FOLDER
+
+Of each case standard output, standard error and the exit status are compared with what is written here.
+Each row has a case and `ok`, or what went wrong, or what the machine lacks where the case is skipped. The
+last line has `0 wrong`, and the exit status is 0, where all is as it has to be. Sockets on 127.0.0.1 only.
+"""
+
+import os
+import pty
+import resource
+import shutil
+import socket
+import subprocess
+import sys
+
+PLAN = '''[[key]]
+name = "k1"
+algorithm = "AES"
+length = 256
+usage = ["encrypt", "decrypt"]
+target = "active"
+'''
+CHECKED = 'k1 AES 256 0000000c active: Create Activate\n'
+FINISHED = 'k1 active 2/2 finished\nfinished 1 of 1\nstop AllFinished 3\n'
+ALL_KNOWN = 'kmip-progress 2\nk1 active - 2 31\nend 1\n'
+# A Structure with nothing in it.
+ITEM = '4200080100000000\n'
+
+MISSING = 'No such file or directory (os error 2)'
+FOLDER = 'Is a directory (os error 21)'
+FULL = 'No space left on device (os error 28)'
+READ_ONLY = 'Read-only file system (os error 30)'
+NO_READER = 'Broken pipe (os error 32)'
+CIRCLE = 'Too many levels of symbolic links (os error 40)'
+TAKEN = 'Address already in use (os error 98)'
+NO_FILE_LEFT = 'Too many open files (os error 24)'
+UNKNOWN_EFFECT = 'what was asked last may have taken effect'
+
+CHECK = ('check', '--plan', 'plan.toml')
+CHECK_AFTER = (*CHECK, '--after', 'plan.toml')
+SIM = ('sim', '--plan', 'plan.toml', '--script', 'empty.script')
+SIM_THEN = (*SIM, '--then', 'plan.toml')
+RUN = ('run', '--plan', 'plan.toml', '--loopback')
+PROBE = ('probe', '--name-prefix', 'p', '--loopback')
+SERVE = ('serve', '--port', '0', '--connections', '0')
+
+WANTED = '--connect wants an IPv4 address and a port, as 192.0.2.7:5696; '
+NO_ADDRESS_AND_PORT = "error: the value of '--connect <ADDRESS>' is no IPv4 address and port, as 127.0.0.1:5696\n"
+SERVERS = '<--connect <ADDRESS>|--socket <PATH>|--loopback>'
+HELP = "\nFor more information, try '--help'.\n"
+RUN_USAGE = f'\nUsage: kmipctl run [OPTIONS] --plan <PATH> --progress <PATH> {SERVERS}\n{HELP}'
+PROBE_USAGE = f'\nUsage: kmipctl probe [OPTIONS] --name-prefix <PREFIX> {SERVERS}\n{HELP}'
+
+
+class Causes:
+    def __init__(self, program, folder):
+        self.program, self.folder = program, folder
+        self.cases, self.wrong, self.skipped = 0, 0, 0
+
+    def path(self, name):
+        return os.path.join(self.folder, name)
+
+    def put(self, name, text):
+        with open(self.path(name), 'wb') as file:
+            file.write(text.encode() if isinstance(text, str) else text)
+
+    def text(self, name):
+        with open(self.path(name)) as file:
+            return file.read()
+
+    def start(self):
+        """A folder with the plan and an empty script, and nothing else."""
+        shutil.rmtree(self.folder, ignore_errors=True)
+        os.makedirs(self.folder)
+        self.put('plan.toml', PLAN)
+        self.put('empty.script', '')
+
+    def look(self, what, *facts):
+        """Prints the row of a case; a fact is what was found, and what has to be."""
+        wrong = [(found, wanted) for found, wanted in facts if found != wanted]
+        print(f'{what}: ' + ('wrong' if wrong else 'ok'))
+        for found, wanted in wrong:
+            print(f'    {found!r}\n    in the place of {wanted!r}')
+        self.cases += 1
+        self.wrong += bool(wrong)
+
+    def skip(self, what, lacking):
+        print(f'{what}: skipped, {lacking}')
+        self.skipped += 1
+
+    def run(self, words, **more):
+        return subprocess.run([self.program, *words], cwd=self.folder, text=True, timeout=30,
+                              stdin=more.pop('stdin', subprocess.DEVNULL), **more)
+
+    def case(self, what, words, printed, told, status=1, **more):
+        """Standard output is a pipe unless it is given; what is told are whole lines."""
+        printing = {} if 'stdout' in more else {'stdout': subprocess.PIPE}
+        done = self.run(words, stderr=subprocess.PIPE, **printing, **more)
+        self.look(what, (done.returncode, status), (done.stdout, printed),
+                  (done.stderr, ''.join(f'{line}\n' for line in told)))
+
+    def unread_plans(self):
+        missing = f'plan.toml: {MISSING}'
+        os.remove(self.path('plan.toml'))
+        for words in (CHECK, CHECK_AFTER, SIM, SIM_THEN, (*RUN, '--progress', 'p')):
+            self.case(f'{" ".join(words)}, of which the plan is missing', words, 'cannot read plan.toml\n', [missing])
+        os.mkdir(self.path('plan.toml'))
+        self.case('a folder for a plan', CHECK, 'cannot read plan.toml\n', [f'plan.toml: {FOLDER}'])
+        self.start()
+        self.put('plan.toml', b'# \xff\n')
+        self.case('a plan that is no text', CHECK, 'cannot read plan.toml\n', ['plan.toml: it is no UTF-8 text'])
+        os.truncate(self.path('plan.toml'), 16_777_217)
+        self.case('a plan that is too long', CHECK, 'longer than 16777216 bytes: plan.toml\n',
+                  ['plan.toml: it has more than 16777216 bytes; see what stands there'])
+        self.start()
+        words = (*CHECK, '--after', 'earlier.toml')
+        self.case('an earlier plan that is missing', words, 'cannot read earlier.toml\n', [f'earlier.toml: {MISSING}'])
+        words = (*SIM, '--then', 'further.toml')
+        self.case('a further plan that is missing', words, 'cannot read further.toml\n', [f'further.toml: {MISSING}'])
+        os.remove(self.path('empty.script'))
+        for words in (SIM, SIM_THEN):
+            self.case(f'{" ".join(words)}, of which the script is missing', words, 'cannot read empty.script\n',
+                      [f'empty.script: {MISSING}'])
+        self.start()
+        self.case('a plan that is read', CHECK, CHECKED, [], status=0)
+
+    def progress(self, what, printed, told, path='plan.progress', **more):
+        self.case(what, (*RUN, '--progress', path), printed, [f'{path}{told}'], **more)
+
+    def unread_progress(self):
+        unread = 'cannot read plan.progress\n'
+        self.put('plan.progress', b'\xff')
+        self.progress('a progress that is no text', unread, ': it is no UTF-8 text')
+        os.truncate(self.path('plan.progress'), 1_048_577)
+        self.progress('a progress that is too long', 'longer than 1048576 bytes: plan.progress\n',
+                      ': it has more than 1048576 bytes; see what stands there')
+        self.start()
+        os.mkdir(self.path('plan.progress'))
+        self.progress('a folder for a progress', unread, f': {FOLDER}')
+        self.start()
+        os.symlink('plan.progress', self.path('plan.progress'))
+        self.progress('a progress whose link leads to itself', unread, f': {CIRCLE}')
+
+    def unwritten_progress(self):
+        self.start()
+        self.progress('a progress whose folder is missing', 'cannot write missing/plan.progress.lock\n',
+                      f'.lock: {MISSING}; see whether its folder is there and run again', 'missing/plan.progress')
+        os.mkdir(self.path('plan.progress.lock'))
+        self.progress('a folder for a lock', 'cannot write plan.progress.lock\n', f'.lock: {FOLDER}')
+        self.start()
+        os.mkdir(self.path('plan.progress.new'))
+        self.progress('a folder in the way of a progress', 'cannot write plan.progress\n',
+                      f': {FOLDER}; {UNKNOWN_EFFECT}: run again')
+        self.start()
+        os.symlink('there', self.path('plan.progress'))
+        os.mkdir(self.path('there.new'))
+        self.progress('a folder in the way of a progress behind a link', 'cannot write plan.progress\n',
+                      f': {FOLDER}; {UNKNOWN_EFFECT}: run again')
+        self.start()
+
+    def on_disk(self, what, options, fill, printed, told):
+        """A case whose progress lies on a small disk, which is filled before where that is asked for."""
+        disk = self.path('disk')
+        os.mkdir(disk)
+        mounting = ['mount', '-t', 'tmpfs', '-o', options, 'tmpfs', disk]
+        if not shutil.which('mount') or subprocess.run(mounting, capture_output=True).returncode:
+            self.skip(what, 'as no disk can be mounted')
+        else:
+            try:
+                if fill:
+                    with open('/dev/zero', 'rb') as zeros, open(f'{disk}/zeros', 'wb', buffering=0) as file:
+                        fill_up(zeros, file)
+                self.progress(what, printed, told, 'disk/plan.progress')
+            finally:
+                subprocess.run(['umount', disk], check=True)
+        os.rmdir(disk)
+
+    def disks(self):
+        self.on_disk('a progress on a full disk', 'size=16k', True, 'cannot write disk/plan.progress\n',
+                     f': {FULL}; {UNKNOWN_EFFECT}: make room and run again')
+        self.on_disk('a lock on a disk with no file left', 'nr_inodes=1', False,
+                     'cannot write disk/plan.progress.lock\n', f'.lock: {FULL}; make room and run again')
+        self.on_disk('a lock on a disk that is not to be written', 'ro', False,
+                     'cannot write disk/plan.progress.lock\n', f'.lock: {READ_ONLY}; mend the rights and run again')
+
+    def sockets(self):
+        path = 's' * 108
+        for words in ((*RUN[:-1], '--progress', 'p'), PROBE[:-1]):
+            self.case(f'{words[0]} with a path that is too long for a socket', (*words, '--socket', path),
+                      f'cannot connect {path}\n', [f'{path}: path must be shorter than SUN_LEN; give a shorter path'])
+        with socket.socket() as taken:
+            taken.bind(('127.0.0.1', 0))
+            taken.listen()
+            port = taken.getsockname()[1]
+            self.case('a port where somebody listens', ('serve', '--port', str(port), '--connections', '1'),
+                      'cannot listen\n', [f'127.0.0.1:{port}: {TAKEN}'])
+        self.few_files()
+
+    def few_files(self):
+        """The only file that may be opened beside the standard streams is what listens."""
+        def limit():
+            resource.setrlimit(resource.RLIMIT_NOFILE, (4, 4))
+
+        done = self.run(('serve', '--port', '0', '--connections', '1'), capture_output=True, preexec_fn=limit)
+        listening, _, rest = done.stdout.partition('\n')
+        port = listening.removeprefix('listening ')
+        self.look('a server that can open no connection', (done.returncode, 1),
+                  (rest, f'cannot accept a connection on port {port}: 100 failures in turn\n'),
+                  (done.stderr, f'127.0.0.1:{port}: {NO_FILE_LEFT}\n'))
+
+    def outputs(self):
+        """Each command where standard output takes nothing."""
+        self.start()
+        self.put('item', ITEM)
+        commands = [
+            ('answer',), ('answer', '--stream'), ('show',), ('show', '--canon'), CHECK, CHECK_AFTER, SIM, SIM_THEN,
+            SERVE, ('--help',), ('run', '--help'), ('--version',),
+        ]
+        for words in commands:
+            self.on_full(words)
+        self.on_full(('nothing',))
+        self.on_full(('check', '--plan', 'missing.toml'), f'missing.toml: {MISSING}')
+        self.put('bad.toml', '[[key]]\n')
+        self.on_full(('run', '--plan', 'bad.toml', '--progress', 'p', '--loopback'))
+        reading, writing = os.pipe()
+        os.close(reading)
+        with os.fdopen(writing) as pipe:
+            self.case('check into a closed pipe', CHECK, None, [f'standard output: {NO_READER}'], stdout=pipe)
+
+    def on_full(self, words, *told):
+        with open('/dev/full', 'w') as full, open(self.path('item')) as item:
+            self.case(f'{" ".join(words)} on a full disk', words, None, [*told, f'standard output: {FULL}'],
+                      stdin=item, stdout=full)
+
+    def inputs(self):
+        for words in (('answer',), ('answer', '--stream'), ('show',)):
+            folder = os.open(self.folder, os.O_RDONLY)
+            self.case(f'{" ".join(words)} from a folder', words, 'cannot read input\n',
+                      [f'standard input: {FOLDER}'], stdin=folder)
+            os.close(folder)
+
+    def closed_streams(self):
+        """Nothing that is printed may land in a file that is opened."""
+        for what in ('0<&-', '1>&-', '2>&-', '0<&- 1>&- 2>&-'):
+            self.start()
+            command = f'exec "$0" run --plan plan.toml --progress p --loopback --verbose {what}'
+            done = subprocess.run(['sh', '-c', command, self.program], cwd=self.folder, text=True, timeout=30,
+                                  stdin=subprocess.DEVNULL, capture_output=True)
+            self.look(f'run with {what}', (done.returncode, 0), (self.text('p.lock'), ''), (self.text('p'), ALL_KNOWN),
+                      (done.stdout, '' if '1>' in what else FINISHED),
+                      (len(done.stderr.splitlines()), 0 if '2>' in what else 3))
+
+    def addresses(self):
+        self.start()
+        rows = [
+            ('kms.example.org:5696', "has a name: look it up first, or name a tunnel's --socket"),
+            ('localhost', "has a name: look it up first, or name a tunnel's --socket"),
+            ('[2001:db8::7]:5696', "is of IPv6: give the server's IPv4 address, or name a tunnel's --socket"),
+            ('2001:db8::7', "is of IPv6: give the server's IPv4 address, or name a tunnel's --socket"),
+            ('192.0.2.7', 'has no port: add one, as :5696'),
+            ('192.0.2.7:99999', 'is no such address'),
+            ('', 'is no such address'),
+        ]
+        run = ('run', '--plan', 'plan.toml', '--progress', 'p')
+        for value, why in rows:
+            for words in ((*run, '--connect', value), (*run, f'--connect={value}')):
+                self.case(' '.join(words), words, NO_ADDRESS_AND_PORT + RUN_USAGE,
+                          [f'{WANTED}"{value}" {why}'], status=2)
+        value, why = rows[0]
+        words = ('probe', '--name-prefix', 'p', '--connect', value)
+        self.case(' '.join(words), words, NO_ADDRESS_AND_PORT + PROBE_USAGE, [f'{WANTED}"{value}" {why}'], status=2)
+
+    def terminals(self):
+        """What a command that reads from a terminal says before it does."""
+        rows = [
+            ((), 'one request in hexadecimal a line'),
+            (('answer',), 'one request in hexadecimal a line'),
+            (('answer', '--stream'), 'a stream of requests in hexadecimal, in lines cut anywhere'),
+            (('show',), 'one item in hexadecimal a line'),
+            (('show', '--canon'), 'one item in hexadecimal a line'),
+        ]
+        for words, what in rows:
+            master, slave = pty.openpty()
+            # Ctrl-D at the beginning of a line.
+            os.write(master, b'\x04')
+            with os.fdopen(slave) as terminal:
+                self.case(f'{" ".join(words) or "no word"} at a terminal', words, '',
+                          [f'reading from the terminal: {what}; end with Ctrl-D'], status=0, stdin=terminal)
+            os.close(master)
+
+
+def fill_up(zeros, file):
+    """Writes until the disk is full."""
+    while True:
+        try:
+            file.write(zeros.read(1024))
+        except OSError:
+            return
+
+
+def main():
+    causes = Causes(os.path.realpath(sys.argv[1]), os.path.realpath(sys.argv[2]))
+    causes.start()
+    causes.unread_plans()
+    causes.unread_progress()
+    causes.unwritten_progress()
+    causes.disks()
+    causes.sockets()
+    causes.outputs()
+    causes.inputs()
+    causes.closed_streams()
+    causes.addresses()
+    causes.terminals()
+    print(f'{causes.cases} cases: {causes.wrong} wrong, {causes.skipped} skipped')
+    return 1 if causes.wrong else 0
+
+
+if __name__ == '__main__':
+    sys.exit(main())
