@@ -161,8 +161,8 @@ class Causes:
                       f': {FOLDER}; {UNKNOWN_EFFECT}: run again')
         self.start()
 
-    def on_disk(self, what, options, fill, printed, told):
-        """A case whose progress lies on a small disk, which is filled before where that is asked for."""
+    def on_disk(self, what, options, left, printed, told):
+        """A case whose progress lies on a small disk, on which so many bytes are left, where that is asked for."""
         disk = self.path('disk')
         os.mkdir(disk)
         mounting = ['mount', '-t', 'tmpfs', '-o', options, 'tmpfs', disk]
@@ -170,20 +170,23 @@ class Causes:
             self.skip(what, 'as no disk can be mounted')
         else:
             try:
-                if fill:
+                if left is not None:
                     with open('/dev/zero', 'rb') as zeros, open(f'{disk}/zeros', 'wb', buffering=0) as file:
                         fill_up(zeros, file)
+                    os.truncate(f'{disk}/zeros', os.path.getsize(f'{disk}/zeros') - left)
                 self.progress(what, printed, told, 'disk/plan.progress')
             finally:
                 subprocess.run(['umount', disk], check=True)
         os.rmdir(disk)
 
     def disks(self):
-        self.on_disk('a progress on a full disk', 'size=16k', True, 'cannot write disk/plan.progress\n',
-                     f': {FULL}; {UNKNOWN_EFFECT}: make room and run again')
-        self.on_disk('a lock on a disk with no file left', 'nr_inodes=1', False,
+        self.on_disk('a full disk, where nothing is asked', 'size=16k', 0, 'cannot write disk/plan.progress.origin\n',
+                     f'.origin: {FULL}; make room and run again')
+        self.on_disk('a progress on a disk with room for its origin alone', 'size=16k', 4096,
+                     'cannot write disk/plan.progress\n', f': {FULL}; {UNKNOWN_EFFECT}: make room and run again')
+        self.on_disk('a lock on a disk with no file left', 'nr_inodes=1', None,
                      'cannot write disk/plan.progress.lock\n', f'.lock: {FULL}; make room and run again')
-        self.on_disk('a lock on a disk that is not to be written', 'ro', False,
+        self.on_disk('a lock on a disk that is not to be written', 'ro', None,
                      'cannot write disk/plan.progress.lock\n', f'.lock: {READ_ONLY}; mend the rights and run again')
 
     def sockets(self):
@@ -217,7 +220,7 @@ class Causes:
         self.put('item', ITEM)
         commands = [
             ('answer',), ('answer', '--stream'), ('show',), ('show', '--canon'), CHECK, CHECK_AFTER, SIM, SIM_THEN,
-            SERVE, ('--help',), ('run', '--help'), ('--version',),
+            (*RUN, '--progress', 'p'), PROBE, SERVE, ('--help',), ('run', '--help'), ('--version',),
         ]
         for words in commands:
             self.on_full(words)

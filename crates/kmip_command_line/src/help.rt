@@ -10,7 +10,8 @@ machine, or in lines of hexadecimal digits; messages can be shown as text.";
 pub(crate) const AFTER_HELP: &str = "\
 Without words it does `answer`. Everything is printed on standard output, faults of the command line too,
 but for this, which goes to standard error: what `run` tells while it works, why a server can't be reached,
-where a plan's file is no TOML, and that a command line is no UTF-8.
+where and why a plan or a progress is refused, why a file, a socket or a stream fails, what to give in the
+place of a wrong address, what a terminal is asked for, and that a command line is no UTF-8.
 
 Exit status:
   0  nothing was refused, a run, or the last one of a simulation, finished all keys, and a server that was

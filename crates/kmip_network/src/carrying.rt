@@ -8,6 +8,7 @@ use crate::linking::{loopback, refused, tcp_link, unix_link};
 use crate::reading::{refusal_of, text_or_why_not};
 use crate::showing::Standing;
 use crate::telling::Teller;
+use crate::told::standard_output;
 use kmip_choices::{Peer, RunOptions};
 use kmip_commands::ExitStatus;
 use kmip_plan::read_plan;
@@ -179,6 +180,6 @@ fn run_over<L: Link + Drop>(
 {
     let told = Observed::new(link, Teller::new(rt, keeper.standing, options.is_verbose));
     let mut link = Paced::new(told, rt, options.wait);
-    let mut writer = BufWriter::new(rt.alloc(), io::writer(rt))?;
+    let mut writer = BufWriter::new(rt.alloc(), standard_output(rt))?;
     Ok(run_run(rt.alloc(), input, saved, &mut link, keeper, &mut writer))
 }

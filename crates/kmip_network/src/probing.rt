@@ -1,6 +1,7 @@
 //! The program `probe`, over sockets.
 
 use crate::linking::{loopback, tcp_link, unix_link};
+use crate::told::standard_output;
 use kmip_choices::{Peer, ProbeOptions};
 use kmip_commands::ExitStatus;
 use kmip_probe::run_probe;
@@ -42,6 +43,6 @@ pub fn probe_server(rt: &HostRuntime, options: &ProbeOptions) -> io::Result<Exit
 /// Asks the server behind this link.
 fn probe_over<L: Link + Drop>(rt: &HostRuntime, prefix: &str, link: L) -> io::Result<ExitStatus> {
     let mut link = link;
-    let mut writer = BufWriter::new(rt.alloc(), io::writer(rt))?;
+    let mut writer = BufWriter::new(rt.alloc(), standard_output(rt))?;
     Ok(run_probe(rt.alloc(), prefix, &mut link, &mut writer))
 }
