@@ -227,7 +227,10 @@ class Causes:
         self.on_full(('nothing',))
         self.on_full(('check', '--plan', 'missing.toml'), f'missing.toml: {MISSING}')
         self.put('bad.toml', '[[key]]\n')
-        self.on_full(('run', '--plan', 'bad.toml', '--progress', 'p', '--loopback'))
+        missing = 'bad.toml:1: key 1: there is no name: a key needs name, algorithm, length, usage and target'
+        with open('/dev/full', 'w') as full:
+            words = ('run', '--plan', 'bad.toml', '--progress', 'p', '--loopback')
+            self.case(f'{" ".join(words)} on a full disk', words, None, [f'standard output: {FULL}', missing], stdout=full)
         reading, writing = os.pipe()
         os.close(reading)
         with os.fdopen(writing) as pipe:

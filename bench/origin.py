@@ -161,14 +161,15 @@ class Origins:
         """A file that is no progress is refused, wherever it was kept."""
         self.begin()
         self.run('--loopback')
-        for text, why in (('', '2 Cut'), ('nothing\n', '1 BadText')):
+        none = 'kmip-progress 2\nk1 active - many 31\nend 1\n'
+        for text, why in (('', '2 Cut'), (none, '1 BadText')):
             for more in ((), ('--believe',)):
                 self.write('progress', text)
                 status, printed, _ = self.run('--loopback', *more)
                 self.look(f'{why} {" ".join(more)}'.strip(), (status, printed, self.read('progress')),
                           (1, f'progress refused: {why}\n', text))
         self.look('but from nothing', self.run('--loopback', '--afresh')[:2], (0, FINISHED.format(3)))
-        self.look('it is kept', self.read('progress.before'), 'nothing\n')
+        self.look('it is kept', self.read('progress.before'), none)
 
     def killed(self):
         """What a kill leaves between two files: the old one put aside, and where it was kept still told."""

@@ -242,6 +242,7 @@ class Carrying(Command):
         words = [self.tools.program, *self.words, "--progress", file, *more]
         run = Process(self.tools.shim, words, refusal).end()
         run.left = file.read_text() if file.exists() else None
+        run.errors = run.errors.replace(str(file), "plan.progress")
         shutil.rmtree(folder)
         return run
 
