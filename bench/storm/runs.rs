@@ -66,6 +66,7 @@ fn start(
         .args(["--limit", &limit.to_string(), "--batch", &batch.to_string()])
         .args(["--timeout", "2", "--wait", "1"])
         .stdout(Stdio::piped())
+        .stderr(Stdio::null())
         .spawn()
 }
 
