@@ -187,8 +187,20 @@ class Origins:
         path = os.path.join(self.folder, 'socket')
         status, printed, told = self.run('--socket', path, '--limit', '1')
         self.look('a socket that is not there', (status, printed), (1, 'k1 active 0/2 working\nfinished 0 of 1\nstop Limit 1\n'))
-        lines = (self.read('progress.origin') or '').splitlines()
-        self.look('is told by its path', lines[1:2], [f'server unix {path}'])
+        told = self.read('progress.origin').splitlines()[1]
+        self.look('is told by its path', told, f'server unix {path}')
+        link = os.path.join(self.folder, 'link')
+        os.symlink('.', link)
+        self.run('--socket', os.path.join(link, 'socket'), '--limit', '1')
+        self.look('also behind a link', self.read('progress.origin').splitlines()[1], told)
+
+    def nothing_known(self):
+        """A file that knows no object is no other server's."""
+        self.begin()
+        first, second = self.serve(), self.serve()
+        self.look('a run that finds nothing', self.run('--connect', f'127.0.0.1:{first}', '--limit', '1'),
+                  (1, 'k1 active 0/2 working\nfinished 0 of 1\nstop Limit 1\n', ''))
+        self.look('goes on elsewhere', self.run('--connect', f'127.0.0.1:{second}'), (0, FINISHED.format(3), ''))
 
     def no_room(self):
         """Where it can't be told where the file is kept, nothing is asked."""
@@ -200,7 +212,8 @@ class Origins:
 
     def all(self):
         for case in (self.rehearsal, self.other_port, self.other_attributes, self.destroyed, self.taken_further,
-                     self.unknown_origin, self.refused_progress, self.killed, self.socket_links, self.no_room):
+                     self.unknown_origin, self.refused_progress, self.killed, self.socket_links, self.nothing_known,
+                     self.no_room):
             case()
         for server in self.servers:
             server.kill()

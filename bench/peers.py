@@ -148,7 +148,7 @@ class Peers:
                       (status == 1, status), (printed == WORKING, printed), (took < 3.5, took),
                       (self.known() == NOTHING_KNOWN, self.known()))
         server, port = self.serve('--connections', '1')
-        status, printed, _ = self.run(('--connect', f'127.0.0.1:{port}'), '--believe')
+        status, printed, _ = self.run(('--connect', f'127.0.0.1:{port}'))
         self.look('a server behind them', (status == 0, status), (printed == FINISHED.format(3), printed),
                   (self.known() == ALL_KNOWN, self.known()), (server.wait() == 0, server.returncode))
 

@@ -142,8 +142,8 @@ impl<'a> Kept<'a> {
         Ok(Err(ExitStatus::Refused))
     }
 
-    /// How the program ends where the file was kept against another server, or for other attributes,
-    /// which is printed; none where it was not.
+    /// How the program ends where the file was kept against another server and knows anything, or for
+    /// other attributes, which is printed; none where it was not.
     fn refusal(
         &self,
         origin: Option<&Origin>,
@@ -152,7 +152,8 @@ impl<'a> Kept<'a> {
         let Some(origin) = origin else {
             return Ok(None);
         };
-        if self.options.trust == Trust::Checked && !origin.is_of(self.server.as_str()) {
+        let is_here = self.options.trust == Trust::Believe || origin.is_of(self.server.as_str());
+        if !is_here && knows_anything(client) {
             self.tell_another_server(origin, client)?;
             return Ok(Some(ExitStatus::Refused));
         }
@@ -249,4 +250,15 @@ fn destroyed_key<'c>(client: &'c Client<'_>) -> Option<&'c str> {
         }
     }
     None
+}
+
+/// Whether an object of some key is known.
+fn knows_anything(client: &Client<'_>) -> bool {
+    let count = client.plan().count();
+    for place in 0..count {
+        if client.identifier(place).is_some() {
+            return true;
+        }
+    }
+    false
 }

@@ -172,11 +172,22 @@ pub(crate) fn server_of(rt: &HostRuntime, peer: &Peer) -> Result<String, NoMemor
     Ok(server)
 }
 
-/// The path that all links to this path lead to, in plain characters; this path where that can't be
-/// told.
+/// The path that all links to this path lead to, in plain characters. Where nothing stands there yet, as
+/// before a tunnel is up, it is that of its folder and its name; and this path where there is no folder.
 fn socket_path(rt: &HostRuntime, path: &str) -> Result<String, NoMemory> {
-    match fs::canonicalize(rt, path) {
-        Ok(there) => plain_text(rt.alloc(), there.as_str()),
+    if let Ok(there) = fs::canonicalize(rt, path) {
+        return plain_text(rt.alloc(), there.as_str());
+    }
+    let (folder, name) = match path.rsplit_once('/') {
+        Some(("", name)) => ("/", name),
+        Some((folder, name)) => (folder, name),
+        None => (".", path),
+    };
+    match fs::canonicalize(rt, folder) {
+        Ok(folder) => {
+            let path = format!(in rt.alloc(); "{}/{name}", folder.as_str().trim_end_matches('/'))?;
+            plain_text(rt.alloc(), path.as_str())
+        }
         Err(_) => plain_text(rt.alloc(), path),
     }
 }
