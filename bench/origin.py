@@ -9,9 +9,11 @@ The exit status is 0 where all is as it has to be.
 """
 
 import os
+import re
 import shutil
 import subprocess
 import sys
+import time
 
 KEY = '''[[key]]
 name = "{}"
@@ -54,7 +56,7 @@ class Origins:
     def run(self, *more, plan=None):
         words = [self.program, 'run', '--plan', plan or self.plan, '--progress', self.progress, '--wait', '0', *more]
         done = subprocess.run(words, capture_output=True, text=True)
-        return done.returncode, done.stdout, done.stderr
+        return done.returncode, done.stdout, re.sub(r'kept \d+ seconds? ago', 'kept a moment ago', done.stderr)
 
     def serve(self):
         """The port of a new server."""
@@ -87,7 +89,11 @@ class Origins:
         self.look('from nothing', self.run(*where, '--afresh'), (0, FINISHED.format(3), ''))
         self.look('the file of before is kept', self.read('progress.before'), known)
         self.look('all is known to be done', self.run(*where),
-                  (0, FINISHED.format(0), ALONE.format(self.progress, '0 seconds ago', f'127.0.0.1:{port}')))
+                  (0, FINISHED.format(0), ALONE.format(self.progress, 'a moment ago', f'127.0.0.1:{port}')))
+        origin = self.read('progress.origin')
+        for seconds, age in ((61, '1 minute ago'), (2 * 3600 + 5, '2 hours ago'), (3 * 86400 + 5, '3 days ago')):
+            self.write('progress.origin', re.sub(r'kept \d+', f'kept {int(time.time()) - seconds}', origin))
+            self.look(age, self.run(*where), (0, FINISHED.format(0), ALONE.format(self.progress, age, f'127.0.0.1:{port}')))
         self.look('and looked at once more', self.run(*where, '--afresh'), (0, FINISHED.format(2), ''))
 
     def other_port(self):
@@ -98,7 +104,11 @@ class Origins:
         self.look('its file at another port', self.run(*where),
                   self.refused(f'127.0.0.1:{first}', f'127.0.0.1:{second}'))
         self.look('believed there', self.run(*where, '--believe'),
-                  (0, FINISHED.format(0), ALONE.format(self.progress, '0 seconds ago', f'127.0.0.1:{first}')))
+                  (0, FINISHED.format(0), ALONE.format(self.progress, 'a moment ago', f'127.0.0.1:{first}')))
+        self.look('and from then on', self.run(*where),
+                  (0, FINISHED.format(0), ALONE.format(self.progress, 'a moment ago', f'127.0.0.1:{second}')))
+        self.look('but not where it was before', self.run('--connect', f'127.0.0.1:{first}'),
+                  self.refused(f'127.0.0.1:{second}', f'127.0.0.1:{first}'))
 
     def other_attributes(self):
         self.begin()

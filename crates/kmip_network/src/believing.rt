@@ -99,11 +99,14 @@ impl<'a> Kept<'a> {
         if let Some(status) = self.refusal(origin.as_ref(), &client)? {
             return Ok(Err(status));
         }
-        if client.working() == 0 {
-            self.tell_all_finished(origin.as_ref())?;
-            return Ok(Ok(saved));
+        if client.working() > 0 {
+            return self.begins(saved);
         }
-        self.begins(saved)
+        self.tell_all_finished(origin.as_ref())?;
+        match self.options.trust {
+            Trust::Believe => self.noted(saved, origin.as_ref()),
+            Trust::Checked | Trust::Afresh => Ok(Ok(saved)),
+        }
     }
 
     /// Tells at which key the file is of another plan, if that is why it is refused.
@@ -230,7 +233,17 @@ impl<'a> Kept<'a> {
         if self.options.limit == 0 {
             return Ok(Ok(saved));
         }
-        let text = Origin::text(self.rt, self.server.as_str(), self.plan.keys())?;
+        self.noted(saved, None)
+    }
+
+    /// Gives this text, once it is on the disk that the file is kept against this server: since now, or
+    /// since this origin says.
+    fn noted(
+        &self,
+        saved: Option<String>,
+        before: Option<&Origin>,
+    ) -> io::Result<Result<Option<String>, ExitStatus>> {
+        let text = Origin::text(self.rt, self.server.as_str(), before, self.plan.keys())?;
         if let Err(error) = self.file.write_origin(text.as_bytes()) {
             let path = self.file.origin_path()?;
             let status = refused(self.rt, error, Cannot::Begin, path.as_str())?;

@@ -58,12 +58,20 @@ impl Origin {
         Ok(Some(Origin { server, kept, keys }))
     }
 
-    /// The text of an origin: this server, now, and these keys.
+    /// The text of an origin: this server, the time of the origin before or else now, and these keys.
     ///
     /// # Errors
     /// Where there is no memory, or no clock.
-    pub(crate) fn text(rt: &HostRuntime, server: &str, keys: &[Key]) -> io::Result<String> {
-        let kept = now(rt)?;
+    pub(crate) fn text(
+        rt: &HostRuntime,
+        server: &str,
+        before: Option<&Origin>,
+        keys: &[Key],
+    ) -> io::Result<String> {
+        let kept = match before {
+            Some(before) => before.kept,
+            None => now(rt)?,
+        };
         let mut text = format!(in rt.alloc(); "{HEAD}\nserver {server}\nkept {kept}\n")?;
         for key in keys {
             let words = key_words(rt.alloc(), key)?;
