@@ -5,6 +5,8 @@ use Rattle.std.specs.List.{AllZip}
 use Rattle.std.specs.Option.{option_map_or, option_and_then}
 use Rattle.kmip_chains.specs.declared.key.Key.{Key}
 use Rattle.kmip_knowledge.specs.declared.knowledge.Knowledge.{Knowledge}
+use Rattle.kmip_knowledge.specs.declared.knowledge.Phase.{Phase}
+use Rattle.kmip_knowledge.specs.declared.knowledge.Phase.TheVariants.{Look, Make, Check, Go}
 use Rattle.kmip_knowledge.specs.declared.knowledge.Verdict.{Verdict}
 use Rattle.kmip_knowledge.specs.declared.knowledge.Verdict.TheVariants.{Working}
 use Rattle.kmip_knowledge.specs.Knowledge.{fresh_knowledge, lose, is_working, verdict_of}
@@ -31,6 +33,16 @@ identifier_at knowns place = option_and_then (λ known. known.identifier) (slice
 abbrev pub verdict_at : List Key → List Knowledge → ℕ → Verdict
 verdict_at keys knowns place =
     option_map_or (λ key. option_map_or (λ known. verdict_of key known) (slice_get knowns place) Working) (slice_get keys place) Working
+
+-- it is known how a key stands, so that its next step may be asked for: it has no object, or its object was told of last
+abbrev pub tells : Phase → Bool
+tells Look = false
+tells Make = true
+tells Check = false
+tells Go = true
+
+abbrev pub is_told_at : List Knowledge → ℕ → Bool
+is_told_at knowns place = option_map_or (λ known. tells known.phase) (slice_get knowns place) false
 
 -- the answer about the key at a place did not come: where it is worked on it is looked at again
 abbrev pub lost_working : Key → Knowledge → Knowledge

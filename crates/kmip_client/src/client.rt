@@ -10,6 +10,7 @@ ghost use Rattle.kmip_client.specs.Clients.{
   fresh,
   done_at,
   identifier_at,
+  is_told_at,
   verdict_at,
   lost_working,
   changed_at,
@@ -36,7 +37,7 @@ use crate::bounding::most_left;
 use crate::hearing::{Heard, hear_message};
 use crate::question::Question;
 use crate::saving::{all_knowledge, all_known, count_working};
-use crate::standing::{all_counts, all_verdicts, verdict_of};
+use crate::standing::{all_counts, all_verdicts, tells, verdict_of};
 use kmip_chains::Key;
 use kmip_chains::laws::{states_have_places, steps_have_places};
 use kmip_knowledge::{HearFault, Knowledge, Verdict};
@@ -232,6 +233,18 @@ impl<'p> Client<'p> {
         match self.knowns.get(key) {
             Some(known) => known.identifier.as_ref(),
             None => None,
+        }
+    }
+
+    /// Whether the last answer about the key at a place from 0 told how it stands: that it has no
+    /// object, or what its object is. Else it is looked at before its next step. Takes no memory.
+    pub fn is_told(&self, key: usize) -> bool
+        requires { key < length self.now.keys }
+        ensures { result ≡ is_told_at self.now.knowns key }
+    {
+        match self.knowns.get(key) {
+            Some(known) => tells(known.phase),
+            None => false,
         }
     }
 

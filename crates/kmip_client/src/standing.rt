@@ -1,10 +1,10 @@
 //! How it stands with the keys of a plan.
 ghost use Rattle.std.specs.Prelude.{◌≡◌, length, IfOk};
-ghost use Rattle.kmip_client.specs.Clients.{verdict_at};
+ghost use Rattle.kmip_client.specs.Clients.{tells, verdict_at};
 ghost use Rattle.kmip_client.specs.Standing.{counts_of, verdicts_of};
 
 use kmip_chains::Key;
-use kmip_knowledge::{Knowledge, Verdict};
+use kmip_knowledge::{Knowledge, Phase, Verdict};
 use kmip_ttlv::NoMemory;
 use std::alloc::Global;
 
@@ -46,4 +46,14 @@ pub(crate) fn verdict_of(keys: &[Key], knowns: &[Knowledge], place: usize) -> Ve
         return Verdict::Working;
     };
     known.verdict(key)
+}
+
+/// Whether it is known how a key in this phase stands.
+pub(crate) fn tells(phase: Phase) -> bool
+    ensures { result ≡ tells phase }
+{
+    match phase {
+        Phase::Make | Phase::Go => true,
+        Phase::Look | Phase::Check => false,
+    }
 }
