@@ -1,6 +1,6 @@
 -- What is saved while a plan is carried out: after each exchange a text of what is then known.
 -- Source: own.
-use Rattle.std.specs.Prelude.{◌≡◌, ◌≢◌, ◌≤◌, ◌+◌, ℕ, ⊤, List, [], ◌∷◌, ◌++◌, length, map, Result, Ok, Err}
+use Rattle.std.specs.Prelude.{◌≡◌, ◌≢◌, ◌≤◌, ◌+◌, ◌⊎◌, ℕ, ⊤, List, [], ◌∷◌, ◌++◌, length, map, Result, Ok, Err}
 use Rattle.std.specs.List.{All, AllZip}
 use Rattle.kmip_chains.specs.declared.key.Key.{Key}
 use Rattle.kmip_progress.specs.Texts.{progress_text}
@@ -52,6 +52,10 @@ IsInMemory result = result ≢ Ok stops.NoMemory
 abbrev pub IsWhole : Result Stop SaveFault → Type 0
 IsWhole (Ok stop) = stop ≢ stops.NoMemory
 IsWhole (Err fault) = ⊥
+
+-- it was left, with keys that are worked on; memory may have run out at the end of the run
+abbrev pub IsLeft : Result Stop SaveFault → Type 0
+IsLeft result = (result ≡ Ok stops.Limit) ⊎ (result ≡ Ok stops.NoMemory)
 
 -- how many exchanges have no text: the last one, where its text was not saved; where memory ran out at most one
 abbrev pub AreUnsaved : Result Stop SaveFault → ℕ → Type 0

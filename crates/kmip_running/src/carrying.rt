@@ -1,5 +1,5 @@
 //! A plan carried out over a link, and saved after each exchange.
-ghost use Rattle.std.specs.Prelude.{◌≡◌, ◌≢◌, ◌≤◌, ◌+◌, ◌++◌, ◌∷◌, ◌⊎◌, [], ℕ, length, Ok, Err, IfOk, IfErr, IsTrue, OnErr, OnOk, false};
+ghost use Rattle.std.specs.Prelude.{◌≡◌, ◌≢◌, ◌≤◌, ◌<◌, ◌+◌, ◌++◌, ◌∷◌, ◌⊎◌, [], ℕ, length, Ok, Err, IfOk, IfErr, IsTrue, OnErr, OnOk, false};
 ghost use Rattle.kmip_client.specs.Clients.{SomeWorks};
 ghost use Rattle.kmip_client.specs.Saving.{progress};
 ghost use Rattle.kmip_chains.specs.Chains.{bound};
@@ -10,9 +10,11 @@ ghost use Rattle.kmip_session.specs.Driving.{AsksOne, IsGood, IsSettling, Nearer
 ghost use Rattle.kmip_session.specs.Losing.{ArePaid, IsEnough, left_for};
 ghost use Rattle.kmip_running.specs.Carried.{Carried, CarryingLaws};
 ghost use Rattle.kmip_running.specs.Refusals.{HasRisen};
-ghost use Rattle.kmip_running.specs.Saved.{AreSaved, IsInMemory, IsWhole, moment};
+ghost use Rattle.kmip_running.specs.Saved.{AreSaved, IsInMemory, IsLeft, IsWhole, moment};
 
 use crate::keeper::{Keeper, SaveFault};
+use crate::patience::Patience;
+use crate::sight::Sights;
 use kmip_client::Client;
 use kmip_client::laws::{
     onward_is_an_order, truth_is_for_good, what_is_known_was_heard, what_is_true_is_no_conflict,
@@ -29,7 +31,9 @@ use std::alloc::Global;
 
 /// Sends one message after the other over the link and learns from what comes back, until no key
 /// of the plan is worked on any more, or `limit` exchanges were made; after each exchange the
-/// keeper is given the text of what is then known. Where no exchange is made nothing is saved. Then
+/// keeper is given the text of what is then known. Where no exchange is made nothing is saved.
+/// `patience` is told of each exchange, and asked before each but the first whether to go on: where
+/// it gives up, no other is made, and the reason to stop is `Stop::Limit`. Then
 /// the run is ended over the link, once and right behind its last exchange; failures of the link are
 /// passed over. Where memory ran out, or the text of the last exchange was not saved, the run may not
 /// be ended.
@@ -40,11 +44,12 @@ use std::alloc::Global;
 /// # Errors
 /// Why the text of the last exchange was not saved; no further exchange is then made. Want of
 /// memory in an exchange, or at the end of the run, is the reason to stop `Stop::NoMemory`.
-pub fn carry_out<L: Link, K: Keeper>(
+pub fn carry_out<L: Link, K: Keeper, P: Patience>(
     alloc: Global,
     client: &mut Client<'_>,
     link: &mut L,
     keeper: &mut K,
+    patience: &mut P,
     limit: usize,
 ) -> (Result<Stop, SaveFault>, usize)
     ensures good { IsGood L.past L.honest client.old link.old
@@ -70,13 +75,16 @@ pub fn carry_out<L: Link, K: Keeper>(
     ensures output { result.0 ≡ Err SaveFault.Output
         → HasRisen (K.refusals keeper.old) (K.refusals keeper.new) }
     ensures stands { IfOk result.0 (λ stop. Stands stop client.new.keys client.new.knowns) }
-    ensures limit { result.0 ≡ Ok Stop.Limit → result.1 ≡ limit }
+    ensures limit { result.0 ≡ Ok Stop.Limit
+        → (result.1 ≡ limit) ⊎ IsTrue (P.has_given_up patience.new) }
+    ensures given_up { P.has_given_up patience.old ≡ false
+        → IsTrue (P.has_given_up patience.new) → IsLeft result.0 × (result.1 < limit) }
     ensures within { result.1 ≤ limit }
     ensures calm { IsSettling L.past L.calm client.old link.old → IsWhole result.0
         → Nearer L.past L.calm client.old client.new link.old link.new result.1 }
     ensures settles { IsSettling L.past L.calm client.old link.old
-        → bound client.old.keys ≤ limit → IsWhole result.0
-        → (result.0 ≡ Ok Stop.AllFinished)
+        → bound client.old.keys ≤ limit → P.has_given_up patience.new ≡ false
+        → IsWhole result.0 → (result.0 ≡ Ok Stop.AllFinished)
         × (result.1 ≤ need client.old (L.past link.old))
         × (AsksOne client.old → result.1 ≡ need client.old (L.past link.old))
         × (result.1 ≤ bound client.old.keys) }
@@ -84,7 +92,8 @@ pub fn carry_out<L: Link, K: Keeper>(
         → ArePaid result.1 (left_for client.old (L.past link.old))
         (left_for client.new (L.past link.new)) (L.disturbances link.old)
         (L.disturbances link.new) }
-    ensures outlasts { IsGood L.past L.honest client.old link.old → IsWhole result.0
+    ensures outlasts { IsGood L.past L.honest client.old link.old
+        → P.has_given_up patience.new ≡ false → IsWhole result.0
         → IsEnough client.old.keys limit (L.disturbances link.old) (L.disturbances link.new)
         → result.0 ≡ Ok Stop.AllFinished }
     ensures no_conflict { IsGood L.past L.honest client.old link.old
@@ -98,7 +107,7 @@ pub fn carry_out<L: Link, K: Keeper>(
 {
     laws_below();
     let _plan = client.plan();
-    exchange_to_the_end(alloc, client, link, keeper, limit)
+    exchange_to_the_end(alloc, client, link, keeper, patience, limit)
 }
 
 /// The laws of the crates below.
@@ -123,11 +132,12 @@ fn laws_below()
 ///
 /// # Errors
 /// Why the text of the last exchange was not saved.
-fn exchange_to_the_end<L: Link, K: Keeper>(
+fn exchange_to_the_end<L: Link, K: Keeper, P: Patience>(
     alloc: Global,
     client: &mut Client<'_>,
     link: &mut L,
     keeper: &mut K,
+    patience: &mut P,
     limit: usize,
 ) -> (Result<Stop, SaveFault>, usize)
     ensures carried { Carried L.past L.honest L.calm K.keeps K.saved client.old client.new
@@ -136,7 +146,10 @@ fn exchange_to_the_end<L: Link, K: Keeper>(
     ensures output { result.0 ≡ Err SaveFault.Output
         → HasRisen (K.refusals keeper.old) (K.refusals keeper.new) }
     ensures stands { IfOk result.0 (λ stop. Stands stop client.new.keys client.new.knowns) }
-    ensures limit { result.0 ≡ Ok Stop.Limit → result.1 ≡ limit }
+    ensures limit { result.0 ≡ Ok Stop.Limit
+        → (result.1 ≡ limit) ⊎ IsTrue (P.has_given_up patience.new) }
+    ensures given_up { P.has_given_up patience.old ≡ false
+        → IsTrue (P.has_given_up patience.new) → IsLeft result.0 × (result.1 < limit) }
     ensures within { result.1 ≤ limit }
     ensures losing { IsGood L.past L.honest client.old link.old → IsInMemory result.0
         → ArePaid result.1 (left_for client.old (L.past link.old))
@@ -151,21 +164,22 @@ fn exchange_to_the_end<L: Link, K: Keeper>(
 {
     laws_below();
     let _plan = client.plan();
-    let (carried, made) = exchange_in_turn(alloc, client, link, keeper, limit);
+    let (carried, made) = exchange_in_turn(alloc, client, link, keeper, patience, limit);
     let closed = close_run(alloc, link);
     (after_close(carried, closed), made)
 }
 
-/// Makes exchanges and saves what is known after each, until no key is worked on any more or
-/// `limit` were made.
+/// Makes exchanges and saves what is known after each, until no key is worked on any more, `limit`
+/// were made, or `patience` gives up.
 ///
 /// # Errors
 /// Why the text of the last exchange was not saved.
-fn exchange_in_turn<L: Link, K: Keeper>(
+fn exchange_in_turn<L: Link, K: Keeper, P: Patience>(
     alloc: Global,
     client: &mut Client<'_>,
     link: &mut L,
     keeper: &mut K,
+    patience: &mut P,
     limit: usize,
 ) -> (Result<Stop, SaveFault>, usize)
     ensures carried { Carried L.past L.honest L.calm K.keeps K.saved client.old client.new
@@ -174,7 +188,10 @@ fn exchange_in_turn<L: Link, K: Keeper>(
     ensures output { result.0 ≡ Err SaveFault.Output
         → HasRisen (K.refusals keeper.old) (K.refusals keeper.new) }
     ensures stands { IfOk result.0 (λ stop. Stands stop client.new.keys client.new.knowns) }
-    ensures limit { result.0 ≡ Ok Stop.Limit → result.1 ≡ limit }
+    ensures limit { result.0 ≡ Ok Stop.Limit
+        → (result.1 ≡ limit) ⊎ IsTrue (P.has_given_up patience.new) }
+    ensures given_up { P.has_given_up patience.old ≡ false
+        → IsTrue (P.has_given_up patience.new) → IsLeft result.0 × (result.1 < limit) }
     ensures within { result.1 ≤ limit }
     ensures losing { IsGood L.past L.honest client.old link.old → IsInMemory result.0
         → ArePaid result.1 (left_for client.old (L.past link.old))
@@ -189,10 +206,17 @@ fn exchange_in_turn<L: Link, K: Keeper>(
         let (stop, _) = drive(alloc, client, link, 0);
         return (Ok(stop), 0);
     }
+    let Ok(mut sights) = Sights::of(alloc, client) else {
+        return (Ok(Stop::NoMemory), 0);
+    };
     for made in 0..limit {
         let (carried, exchanges) = exchange_once(alloc, client, link, keeper);
+        tell(client, &mut sights, patience, exchanges);
         if !is_at_limit(&carried) {
             return (carried, made + exchanges);
+        }
+        if made + 1 < limit && !patience.go_on() {
+            return (Ok(Stop::Limit), made + 1);
         }
     }
     (Ok(Stop::Limit), limit)
@@ -234,6 +258,23 @@ fn exchange_once<L: Link, K: Keeper>(
     match save_progress(alloc, client, keeper) {
         Ok(()) => (Ok(stop), 1),
         Err(fault) => (Err(fault), 1),
+    }
+}
+
+/// Tells of one exchange, where one was made, whether the client got on by it.
+fn tell<P: Patience>(
+    client: &Client<'_>,
+    sights: &mut Sights,
+    patience: &mut P,
+    exchanges: usize,
+)
+    requires { length sights.old.items.items ≡ length client.now.keys }
+    ensures stays { P.has_given_up patience.new ≡ P.has_given_up patience.old }
+    ensures as_many { length sights.new.items.items ≡ length sights.old.items.items }
+{
+    if exchanges > 0 {
+        let got_on = sights.take(client);
+        patience.exchanged(client, got_on);
     }
 }
 

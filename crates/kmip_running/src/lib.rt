@@ -5,9 +5,12 @@
 mod carrying;
 mod keeper;
 mod observing;
+mod patience;
+mod sight;
 mod waiting;
 
 pub use carrying::carry_out;
 pub use keeper::{Keeper, SaveFault};
 pub use observing::{Observed, Observer};
-pub use waiting::{Paced, next_wait};
+pub use patience::{Patience, Tireless};
+pub use waiting::{Pace, next_wait};

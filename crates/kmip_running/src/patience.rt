@@ -1,0 +1,37 @@
+//! How long a run goes on that gets nowhere.
+ghost use Rattle.std.specs.Prelude.{◌≡◌, Bool, not, false, true, IsTrue};
+
+use kmip_client::Client;
+
+/// Is told of each exchange of a run, waits before the next one, and says whether it is made.
+pub trait Patience {
+    /// Whether it has given up.
+    ghost has_given_up: { Self → Bool };
+
+    /// An exchange was made, and what is known after it was saved: what the client knows now, and
+    /// whether it got on by that exchange.
+    fn exchanged(&mut self, client: &Client<'_>, got_on: bool)
+        ensures { has_given_up self.new ≡ has_given_up self.old };
+
+    /// Another exchange could be made: waits for it as long as it is to, and says whether it is
+    /// made. False is to give up; who has given up never goes on.
+    fn go_on(&mut self) -> bool
+        ensures says { result ≡ not (has_given_up self.new) }
+        ensures for_good { IsTrue (has_given_up self.old) → IsTrue (has_given_up self.new) };
+}
+
+/// Never waits, and never gives up.
+#[derive(Clone, Copy)]
+pub struct Tireless;
+
+impl Patience for Tireless {
+    ghost use Rattle.std.specs.Prelude.{false};
+
+    ghost has_given_up = { λ patience. false };
+
+    fn exchanged(&mut self, _client: &Client<'_>, _got_on: bool) {}
+
+    fn go_on(&mut self) -> bool {
+        true
+    }
+}
