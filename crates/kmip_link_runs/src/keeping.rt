@@ -5,12 +5,12 @@ ghost use Rattle.kmip_batches.specs.Members.{may_have};
 use crate::settings::Settings;
 use crate::shelf::Shelf;
 use crate::short::{Tally, print_short};
-use crate::watching::{Count, Stopped};
+use crate::watching::{Count, Patient, Stopped};
 use kmip_client::Client;
 use kmip_commands::ExitStatus;
 use kmip_plan::{Plan, read_plan};
 use kmip_run::{RunInput, run_run, standing_line};
-use kmip_running::{Observed, Paced, SaveFault, carry_out, next_wait};
+use kmip_running::{Observed, Pace, SaveFault, carry_out, next_wait};
 use kmip_scripted::{Scripted, read_script};
 use kmip_server::{ListStore, Server};
 use kmip_session::Stop;
@@ -20,9 +20,8 @@ use std::fs;
 use std::io::{self, BufWriter};
 use std::test::Fail;
 
-/// A link to a server in memory that follows a script, waits by a clock that stands still, and tells
-/// who counts.
-type Watched<'c> = Observed<Paced<Scripted<ListStore>, &'c Stopped>, Count>;
+/// A link to a server in memory that follows a script, and tells who counts.
+type Watched = Observed<Scripted<ListStore>, Count>;
 
 /// What the first line of a block names.
 #[derive(Clone, Copy)]
@@ -31,8 +30,10 @@ struct Heading<'h> {
     plan: &'h str,
     /// The words of the script, with `/` between them.
     words: &'h str,
-    /// How long the link waits first behind an exchange without a reply, in milliseconds.
+    /// How long a run waits first after an exchange by which it did not get on, in milliseconds.
     wait: u64,
+    /// After how many seconds it gives up; 0 for never.
+    give_up: u64,
 }
 
 /// A client of a plan, and its link.
@@ -42,7 +43,8 @@ struct Case<'c> {
     file: &'c str,
     client: Client<'c>,
     clock: &'c Stopped,
-    link: Watched<'c>,
+    link: Watched,
+    patience: Patient<'c>,
 }
 
 /// Does what the lines of a block `runs of` say, whose first line names a plan, and what its link does.
@@ -66,10 +68,15 @@ fn plan_in(rt: &HostRuntime, path: &str) -> Result<Plan, Fail> {
 
 fn heading_of(head: &str) -> Result<Heading<'_>, Fail> {
     let head = head.strip_prefix("runs of ").unwrap_or(head);
+    let (head, give_up) = head.split_once(" giving up ").unwrap_or((head, "0"));
     let (head, wait) = head.split_once(" waiting ").unwrap_or((head, "0"));
     let (plan, words) = head.split_once(" over ").unwrap_or((head, ""));
-    let wait = wait.parse()?;
-    Ok(Heading { plan, words, wait })
+    Ok(Heading {
+        plan,
+        words,
+        wait: wait.parse()?,
+        give_up: give_up.parse()?,
+    })
 }
 
 /// A client that knows nothing of the plan, and a link, for these lines.
@@ -82,13 +89,14 @@ fn take_lines(
     let clock = Stopped {
         slept: Cell::new(0),
     };
-    let link = link_of(rt.alloc(), heading, &clock)?;
+    let link = link_of(rt.alloc(), heading)?;
     let client = Client::fresh(rt.alloc(), plan)?;
     let mut case = Case {
         file: heading.plan,
         client,
         clock: &clock,
         link,
+        patience: Patient::new(Pace::new(&clock, heading.wait, heading.give_up)),
     };
     take_turns(rt, &mut case, lines)
 }
@@ -102,15 +110,11 @@ fn take_turns(rt: &HostRuntime, case: &mut Case<'_>, lines: &str) -> Result<(), 
 }
 
 /// A link to an empty server.
-fn link_of<'c>(
-    alloc: Global,
-    heading: &Heading<'_>,
-    clock: &'c Stopped,
-) -> Result<Watched<'c>, Fail> {
+fn link_of(alloc: Global, heading: &Heading<'_>) -> Result<Watched, Fail> {
     let words = heading.words.replace(alloc, "/", "\n")?;
     let script = read_script(alloc, words.as_str())?;
     let server = Server::new(ListStore::new(alloc, [0; 32], 10_000));
-    let link = Paced::new(Scripted::new(alloc, server, script), clock, heading.wait);
+    let link = Scripted::new(alloc, server, script);
     let count = Count {
         replies: 0,
         losses: 0,
@@ -138,6 +142,7 @@ fn turn(rt: &HostRuntime, case: &mut Case<'_>, line: &str) -> Result<(), Fail> {
         "standing" => standing(rt, case, words, text),
         "waits" => print_waits(rt, words.parse()?),
         "told" => print_told(rt, case),
+        "patience" => print_patience(rt, &case.patience),
         _ => Err(Fail::new("no line of runs")),
     }
 }
@@ -166,17 +171,10 @@ fn run(
         batch: settings.batch,
     };
     if settings.is_short {
-        return run_in_short(rt, &input, saved, &mut case.link);
+        return run_in_short(rt, &input, saved, case);
     }
     let mut shelf = Shelf::new(rt.alloc(), settings.room);
-    let status = run_over(
-        rt,
-        &input,
-        saved,
-        &mut case.link,
-        &mut shelf,
-        settings.writer,
-    )?;
+    let status = run_over(rt, &input, saved, case, &mut shelf, settings.writer)?;
     rt.println(format_args!("exit status {}, {status:?}", status.code()))?;
     shelf.print(rt)
 }
@@ -186,14 +184,22 @@ fn run_in_short(
     rt: &HostRuntime,
     input: &RunInput<'_>,
     saved: Option<&str>,
-    link: &mut Watched<'_>,
+    case: &mut Case<'_>,
 ) -> Result<(), Fail> {
     if !(1..=8).contains(&input.batch) {
         return Err(Fail::new("a message asks about one to eight keys"));
     }
     let mut tally = Tally::new(rt.alloc());
     let mut written = Vec::new(rt.alloc());
-    let status = run_run(rt.alloc(), input, saved, link, &mut tally, &mut written);
+    let status = run_run(
+        rt.alloc(),
+        input,
+        saved,
+        &mut case.link,
+        &mut tally,
+        &mut case.patience,
+        &mut written,
+    );
     print_short(rt, "written", written.as_slice())?;
     rt.println(format_args!("exit status {}, {status:?}", status.code()))?;
     tally.print(rt)
@@ -204,7 +210,7 @@ fn run_over(
     rt: &HostRuntime,
     input: &RunInput<'_>,
     saved: Option<&str>,
-    link: &mut Watched<'_>,
+    case: &mut Case<'_>,
     shelf: &mut Shelf,
     writer: Option<usize>,
 ) -> Result<ExitStatus, Fail> {
@@ -212,10 +218,11 @@ fn run_over(
         return Err(Fail::new("a message asks about one to eight keys"));
     }
     if let Some(size) = writer {
-        return run_in_room(rt.alloc(), input, saved, link, shelf, size);
+        return run_in_room(rt.alloc(), input, saved, case, shelf, size);
     }
     let mut writer = BufWriter::new(rt.alloc(), io::writer(rt))?;
-    Ok(run_run(rt.alloc(), input, saved, link, shelf, &mut writer))
+    let (link, patience) = (&mut case.link, &mut case.patience);
+    Ok(run_run(rt.alloc(), input, saved, link, shelf, patience, &mut writer))
 }
 
 /// Runs `run` with a writer that has room for so many bytes.
@@ -223,7 +230,7 @@ fn run_in_room(
     alloc: Global,
     input: &RunInput<'_>,
     saved: Option<&str>,
-    link: &mut Watched<'_>,
+    case: &mut Case<'_>,
     shelf: &mut Shelf,
     size: usize,
 ) -> Result<ExitStatus, Fail>
@@ -231,7 +238,8 @@ fn run_in_room(
 {
     let mut room = vec![in alloc; 0u8; size]?;
     let mut writer = room.as_mut_slice();
-    Ok(run_run(alloc, input, saved, link, shelf, &mut writer))
+    let (link, patience) = (&mut case.link, &mut case.patience);
+    Ok(run_run(alloc, input, saved, link, shelf, patience, &mut writer))
 }
 
 /// The client goes on over the link.
@@ -243,6 +251,7 @@ fn carry(rt: &HostRuntime, case: &mut Case<'_>, words: &str) -> Result<(), Fail>
         &mut case.client,
         &mut case.link,
         &mut shelf,
+        &mut case.patience,
         settings.limit,
     );
     print_carried(rt, carried, made)?;
@@ -283,7 +292,8 @@ fn numbers_of(words: &str) -> Result<(usize, usize), Fail> {
     Ok((first.parse()?, second.parse()?))
 }
 
-/// The waits behind nine exchanges without a reply, and the one behind a reply, from this first wait.
+/// The waits after nine exchanges by which a run did not get on, and the one after it did, from this first
+/// wait.
 fn print_waits(rt: &HostRuntime, first: u64) -> Result<(), Fail> {
     let mut wait = 0;
     for _ in 0..9 {
@@ -295,14 +305,28 @@ fn print_waits(rt: &HostRuntime, first: u64) -> Result<(), Fail> {
     Ok(())
 }
 
-/// How many messages were sent, what was told of them, and for how long the link slept.
+/// How many messages were sent, what was told of them, and for how long it was slept.
 fn print_told(rt: &HostRuntime, case: &Case<'_>) -> Result<(), Fail> {
-    let paced = case.link.link();
-    print_count(rt, sent_over(paced.link()), case.link.observer())?;
+    print_count(rt, sent_over(case.link.link()), case.link.observer())?;
     rt.println(format_args!(
         "slept {} ms, to wait {} ms",
         case.clock.slept.get(),
-        paced.wait()
+        case.patience.pace().wait()
+    ))?;
+    Ok(())
+}
+
+/// By how many exchanges the runs got on, of how many, and whether patience gave up.
+fn print_patience(rt: &HostRuntime, patience: &Patient<'_>) -> Result<(), Fail> {
+    let end = if patience.pace().has_given_up() {
+        "gave up"
+    } else {
+        "did not give up"
+    };
+    rt.println(format_args!(
+        "got on by {} of {} exchanges, {end}",
+        patience.got_on(),
+        patience.exchanges()
     ))?;
     Ok(())
 }

@@ -1,6 +1,6 @@
 -- What comes of a run: what its exchanges taught, what was kept of it, and what stays safe.
 -- Source: own.
-use Rattle.std.specs.Prelude.{◌≡◌, ◌≤◌, ⊤, ℕ, List, ◌++◌, Option, Some, None, Result, Ok, Err}
+use Rattle.std.specs.Prelude.{◌≡◌, ◌≤◌, ◌<◌, ◌⊎◌, ⊤, ℕ, Bool, true, false, List, ◌++◌, Option, Some, None, Result, Ok, Err}
 use Rattle.std.specs.List.{All, AllZip}
 use Rattle.kmip_objects.specs.Objects.{Object}
 use Rattle.kmip_chains.specs.Chains.{bound}
@@ -19,7 +19,7 @@ use Rattle.kmip_session.specs.declared.stop.Stop.{Stop}
 use Rattle.kmip_session.specs.Losing.{IsEnough}
 use Rattle.kmip_session.specs.declared.stop.Stop.TheVariants as stops
 use Rattle.kmip_running.specs.Refusals.{HasRisen}
-use Rattle.kmip_running.specs.Saved.{AreSaved, IsWhole}
+use Rattle.kmip_running.specs.Saved.{AreSaved, IsLeft, IsWhole}
 use Rattle.kmip_running.specs.declared.keeper.SaveFault.{SaveFault}
 use Rattle.kmip_running.specs.declared.keeper.SaveFault.TheVariants as faults
 
@@ -30,17 +30,21 @@ AreUntouched old new old_keeper new_keeper = (new ≡ old) × (new_keeper ≡ ol
 -- So many exchanges were made over the link from what was known at first, about at most so many keys in a message; what is known then, and
 -- why no more were made. No identifier or count is taken back. Over an honest link what is known then is what was known at first and
 -- what the exchanges handed over; and where the keeper keeps what it is given, the text of what was known after each was kept, but
--- that of the last one where it could not be written, as the keeper counts. Where it could: over a calm link, with a client that is ready to settle, the plan's bound
--- of exchanges is enough for every key; and over any honest link on which all was good, the bound and what the link counts.
-pub record Came {L K : Type 0} (past : L → Past) (honest calm : L → Names → Type 0) (disturbances : L → Disturbances) (keeps : K → Type 0) (saved : K → List (List ℕ)) (refusals : K → ℕ) (limit most : ℕ) (good : List Key → Type 0) (old new : L) (old_keeper new_keeper : K) (keys : List Key) (knowns nexts : List Knowledge) (result : Result Stop SaveFault) (exchanges : ℕ) : Type 0 where
+-- that of the last one where it could not be written, as the keeper counts. Where it could, and who is asked whether to go on did not
+-- give up: over a calm link, with a client that is ready to settle, the plan's bound of exchanges is enough for every key; and over any
+-- honest link on which all was good, the bound and what the link counts. Fewer exchanges than may be, with keys left, are made only where
+-- it gave up; and where it gives up no more are made.
+pub record Came {L K : Type 0} (past : L → Past) (honest calm : L → Names → Type 0) (disturbances : L → Disturbances) (keeps : K → Type 0) (saved : K → List (List ℕ)) (refusals : K → ℕ) (limit most : ℕ) (was_tired is_tired : Bool) (good : List Key → Type 0) (old new : L) (old_keeper new_keeper : K) (keys : List Key) (knowns nexts : List Knowledge) (result : Result Stop SaveFault) (exchanges : ℕ) : Type 0 where
   pub kept : AllZip IsKept knowns nexts
   pub learnt : honest old (is_planned keys) → Learnt keys most (past old) (past new) knowns nexts exchanges
   pub saved_are : keeps old_keeper → keeps new_keeper
       × AreSaved keys most (good keys) (honest old (is_planned keys)) (record { knowns = knowns; past = past old }) (record { knowns = nexts; past = past new }) result exchanges (saved old_keeper) (saved new_keeper)
-  pub settles : calm old (is_planned keys) → IsReady (past old).room keys (past old).objects knowns → bound keys ≤ limit → IsWhole result
+  pub settles : calm old (is_planned keys) → IsReady (past old).room keys (past old).objects knowns → bound keys ≤ limit → is_tired ≡ false → IsWhole result
       → (result ≡ Ok stops.AllFinished) × (exchanges ≤ bound keys)
+  pub at_limit : result ≡ Ok stops.Limit → (exchanges ≡ limit) ⊎ (is_tired ≡ true)
+  pub given_up : was_tired ≡ false → is_tired ≡ true → IsLeft result × (exchanges < limit)
   pub unwritten : result ≡ Err faults.Output → HasRisen (refusals old_keeper) (refusals new_keeper)
-  pub outlasts : good keys → IsWhole result → IsEnough keys limit (disturbances old) (disturbances new) → result ≡ Ok stops.AllFinished
+  pub outlasts : good keys → is_tired ≡ false → IsWhole result → IsEnough keys limit (disturbances old) (disturbances new) → result ≡ Ok stops.AllFinished
 
 -- the text of a progress, where there is one, says what is true of these objects
 abbrev pub IsTrueText : List Object → List Key → Option (List ℕ) → Type 0

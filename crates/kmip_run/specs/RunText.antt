@@ -59,7 +59,6 @@ pub record TellsExchanges (came : Outcome) (keys : List Key) (limit : ℕ) (refu
   pub in_memory : stop ≢ stops.NoMemory
   pub stands : Stands stop keys knowns
   pub within : exchanges ≤ limit
-  pub at_limit : stop ≡ stops.Limit → exchanges ≡ limit
   pub refused_is : refused ≡ not (is_all_finished stop)
   pub text_is : text ≡ report_text keys (counts_of knowns) (verdicts_of keys knowns) ++ stop_line stop exchanges
 

@@ -19,7 +19,7 @@ use kmip_client::laws::onward_is_an_order;
 use kmip_commands::{CommandFault, ExitStatus, Printed, Printer, finished};
 use kmip_plan::{Plan, read_plan};
 use kmip_progress::ProgressFault;
-use kmip_running::{Keeper, SaveFault, carry_out};
+use kmip_running::{Keeper, Patience, SaveFault, carry_out};
 use kmip_schedule::Link;
 use kmip_session::Stop;
 use kmip_ttlv::NoMemory;
@@ -48,12 +48,13 @@ struct Told {
 }
 
 /// Runs `run`, and prints a line for want of memory.
-pub fn run_run<L: Link, K: Keeper, W: Write>(
+pub fn run_run<L: Link, K: Keeper, E: Patience, W: Write>(
     alloc: Global,
     input: &RunInput<'_>,
     saved: Option<&str>,
     link: &mut L,
     keeper: &mut K,
+    patience: &mut E,
     writer: &mut W,
 ) -> ExitStatus
     requires { IsTrue (may_have input.now.batch) }
@@ -61,6 +62,7 @@ pub fn run_run<L: Link, K: Keeper, W: Write>(
         (AreUntouched link.old link.new keeper.old keeper.new)
         (Came L.past L.honest L.calm L.disturbances K.keeps K.saved K.refusals
         input.now.limit input.now.batch
+        (E.has_given_up patience.old) (E.has_given_up patience.new)
         (IsGoodStart L.past L.honest (option_map (λ text. text.now) saved.entry) link.old)
         link.old link.new keeper.old keeper.new)
         (plan_read input.now.plan.now) (option_map (λ text. text.now) saved.entry)
@@ -76,13 +78,13 @@ pub fn run_run<L: Link, K: Keeper, W: Write>(
         → L.honest link.old (is_planned keys) → IfWhole result (λ r. AsksFew keys input.now.batch
         (L.past link.old) (L.past link.new)) }
 {
-    let ended = run(alloc, input, saved, link, keeper, writer);
+    let ended = run(alloc, input, saved, link, keeper, patience, writer);
     finished(ended, writer)
 }
 
 /// Carries out the text of a plan over the link, from nothing or from what the text of a saved
-/// progress says, and gives the keeper the text of what is known after each exchange. Writes the report of the
-/// keys and a line that says why it stopped and after how many exchanges; or one line where the plan
+/// progress says, and gives the keeper the text of what is known after each exchange. `patience` waits
+/// before each further exchange, and says whether it is made. Writes the report of the keys and a line that says why it stopped and after how many exchanges; or one line where the plan
 /// is refused, else where the progress is, and one where what is known could not be kept. Says whether
 /// something was refused, not kept, or left unfinished. Nothing is written before the run has ended.
 /// Each message asks about at most as many keys as the input says.
@@ -95,12 +97,13 @@ pub fn run_run<L: Link, K: Keeper, W: Write>(
 ///
 /// `Output` where the writer fails, and `NoMemory`: nothing is written then. What the keeper was
 /// given stays.
-pub fn run<L: Link, K: Keeper, W: Write>(
+pub fn run<L: Link, K: Keeper, E: Patience, W: Write>(
     alloc: Global,
     input: &RunInput<'_>,
     saved: Option<&str>,
     link: &mut L,
     keeper: &mut K,
+    patience: &mut E,
     writer: &mut W,
 ) -> Result<bool, CommandFault>
     requires { IsTrue (may_have input.now.batch) }
@@ -108,6 +111,7 @@ pub fn run<L: Link, K: Keeper, W: Write>(
         (AreUntouched link.old link.new keeper.old keeper.new)
         (Came L.past L.honest L.calm L.disturbances K.keeps K.saved K.refusals
         input.now.limit input.now.batch
+        (E.has_given_up patience.old) (E.has_given_up patience.new)
         (IsGoodStart L.past L.honest (option_map (λ text. text.now) saved.entry) link.old)
         link.old link.new keeper.old keeper.new)
         (plan_read input.now.plan.now) (option_map (λ text. text.now) saved.entry)
@@ -124,7 +128,7 @@ pub fn run<L: Link, K: Keeper, W: Write>(
         → L.honest link.old (is_planned keys) → IfOk result (λ r. AsksFew keys input.now.batch
         (L.past link.old) (L.past link.new)) }
 {
-    run_to(alloc, input, saved, link, keeper, writer)
+    run_to(alloc, input, saved, link, keeper, patience, writer)
 }
 
 /// Does the same in memory: appends what is written to `output`.
@@ -132,12 +136,13 @@ pub fn run<L: Link, K: Keeper, W: Write>(
 /// # Errors
 ///
 /// Where there is no memory; then nothing is appended. What the keeper was given stays.
-pub fn run_bytes<L: Link, K: Keeper>(
+pub fn run_bytes<L: Link, K: Keeper, E: Patience>(
     alloc: Global,
     input: &RunInput<'_>,
     saved: Option<&str>,
     link: &mut L,
     keeper: &mut K,
+    patience: &mut E,
     output: &mut Vec<u8>,
 ) -> Result<bool, NoMemory>
     requires { IsTrue (may_have input.now.batch) }
@@ -145,6 +150,7 @@ pub fn run_bytes<L: Link, K: Keeper>(
         (AreUntouched link.old link.new keeper.old keeper.new)
         (Came L.past L.honest L.calm L.disturbances K.keeps K.saved K.refusals
         input.now.limit input.now.batch
+        (E.has_given_up patience.old) (E.has_given_up patience.new)
         (IsGoodStart L.past L.honest (option_map (λ text. text.now) saved.entry) link.old)
         link.old link.new keeper.old keeper.new)
         (plan_read input.now.plan.now) (option_map (λ text. text.now) saved.entry)
@@ -162,7 +168,7 @@ pub fn run_bytes<L: Link, K: Keeper>(
     let mut printed = Printed {
         text: mem::replace(output, Vec::new(alloc)),
     };
-    let ended = run_to(alloc, input, saved, link, keeper, &mut printed);
+    let ended = run_to(alloc, input, saved, link, keeper, patience, &mut printed);
     *output = printed.text;
     match ended {
         Ok(refused) => Ok(refused),
@@ -175,12 +181,13 @@ pub fn run_bytes<L: Link, K: Keeper>(
 /// # Errors
 ///
 /// `NoMemory`, and the fault of the printer.
-fn run_to<L: Link, K: Keeper, P: Printer>(
+fn run_to<L: Link, K: Keeper, E: Patience, P: Printer>(
     alloc: Global,
     input: &RunInput<'_>,
     saved: Option<&str>,
     link: &mut L,
     keeper: &mut K,
+    patience: &mut E,
     printer: &mut P,
 ) -> Result<bool, CommandFault>
     requires { IsTrue (may_have input.now.batch) }
@@ -188,6 +195,7 @@ fn run_to<L: Link, K: Keeper, P: Printer>(
         (AreUntouched link.old link.new keeper.old keeper.new)
         (Came L.past L.honest L.calm L.disturbances K.keeps K.saved K.refusals
         input.now.limit input.now.batch
+        (E.has_given_up patience.old) (E.has_given_up patience.new)
         (IsGoodStart L.past L.honest (option_map (λ text. text.now) saved.entry) link.old)
         link.old link.new keeper.old keeper.new)
         (plan_read input.now.plan.now) (option_map (λ text. text.now) saved.entry)
@@ -203,7 +211,7 @@ fn run_to<L: Link, K: Keeper, P: Printer>(
         → L.honest link.old (is_planned keys) → IfOk result (λ r. AsksFew keys input.now.batch
         (L.past link.old) (L.past link.new)) }
 {
-    let told = told_of(alloc, input, saved, link, keeper)?;
+    let told = told_of(alloc, input, saved, link, keeper, patience)?;
     printer.print(told.text.as_slice())?;
     Ok(told.refused)
 }
@@ -212,18 +220,20 @@ fn run_to<L: Link, K: Keeper, P: Printer>(
 ///
 /// # Errors
 /// Where there is no memory.
-fn told_of<L: Link, K: Keeper>(
+fn told_of<L: Link, K: Keeper, E: Patience>(
     alloc: Global,
     input: &RunInput<'_>,
     saved: Option<&str>,
     link: &mut L,
     keeper: &mut K,
+    patience: &mut E,
 ) -> Result<Told, NoMemory>
     requires { IsTrue (may_have input.now.batch) }
     ensures text { IfOk result (λ told. TellsRun
         (AreUntouched link.old link.new keeper.old keeper.new)
         (Came L.past L.honest L.calm L.disturbances K.keeps K.saved K.refusals
         input.now.limit input.now.batch
+        (E.has_given_up patience.old) (E.has_given_up patience.new)
         (IsGoodStart L.past L.honest (option_map (λ text. text.now) saved.entry) link.old)
         link.old link.new keeper.old keeper.new)
         (plan_read input.now.plan.now) (option_map (λ text. text.now) saved.entry)
@@ -239,7 +249,7 @@ fn told_of<L: Link, K: Keeper>(
 {
     onward_is_an_order();
     match read_plan(alloc, input.plan) {
-        Ok(plan) => told_of_plan(alloc, &plan, input, saved, link, keeper),
+        Ok(plan) => told_of_plan(alloc, &plan, input, saved, link, keeper, patience),
         Err(fault) => {
             let mut text = Vec::new(alloc);
             push_refusal(alloc, &fault, &mut text)?;
@@ -255,19 +265,21 @@ fn told_of<L: Link, K: Keeper>(
 ///
 /// # Errors
 /// Where there is no memory.
-fn told_of_plan<L: Link, K: Keeper>(
+fn told_of_plan<L: Link, K: Keeper, E: Patience>(
     alloc: Global,
     plan: &Plan,
     input: &RunInput<'_>,
     saved: Option<&str>,
     link: &mut L,
     keeper: &mut K,
+    patience: &mut E,
 ) -> Result<Told, NoMemory>
     requires { IsTrue (may_have input.now.batch) }
     ensures text { IfOk result (λ told. TellsRunFrom
         (AreUntouched link.old link.new keeper.old keeper.new)
         (Came L.past L.honest L.calm L.disturbances K.keeps K.saved K.refusals
         input.now.limit input.now.batch
+        (E.has_given_up patience.old) (E.has_given_up patience.new)
         (IsGoodStart L.past L.honest (option_map (λ text. text.now) saved.entry) link.old)
         link.old link.new keeper.old keeper.new plan.now)
         plan.now input.now.path.now input.now.limit
@@ -285,7 +297,7 @@ fn told_of_plan<L: Link, K: Keeper>(
         Ok(client) => {
             let mut client = client;
             client.set_batch(input.batch);
-            let told = told_of_exchanges(alloc, &mut client, input, link, keeper)?;
+            let told = told_of_exchanges(alloc, &mut client, input, link, keeper, patience)?;
             Ok(told)
         }
         Err(ProgressFault::NoMemory) => Err(NoMemory),
@@ -303,16 +315,18 @@ fn told_of_plan<L: Link, K: Keeper>(
 ///
 /// # Errors
 /// Where there is no memory.
-fn told_of_exchanges<L: Link, K: Keeper>(
+fn told_of_exchanges<L: Link, K: Keeper, E: Patience>(
     alloc: Global,
     client: &mut Client<'_>,
     input: &RunInput<'_>,
     link: &mut L,
     keeper: &mut K,
+    patience: &mut E,
 ) -> Result<Told, NoMemory>
     ensures text { IfOk result (λ told. TellsEither
         (Came L.past L.honest L.calm L.disturbances K.keeps K.saved K.refusals
         input.now.limit client.old.batch
+        (E.has_given_up patience.old) (E.has_given_up patience.new)
         (λ keys. IsGood L.past L.honest client.old link.old)
         link.old link.new keeper.old keeper.new client.old.keys client.old.knowns)
         client.old.keys input.now.path.now input.now.limit told.refused told.text.items) }
@@ -321,7 +335,7 @@ fn told_of_exchanges<L: Link, K: Keeper>(
     ensures few { L.honest link.old (is_planned client.old.keys) → IfOk result (λ r. AsksFew
         client.old.keys client.old.batch (L.past link.old) (L.past link.new)) }
 {
-    let (ended, exchanges) = carry_out(alloc, client, link, keeper, input.limit);
+    let (ended, exchanges) = carry_out(alloc, client, link, keeper, patience, input.limit);
     match ended {
         Ok(Stop::NoMemory) | Err(SaveFault::NoMemory) => Err(NoMemory),
         Ok(stop) => {
