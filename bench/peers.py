@@ -181,6 +181,28 @@ class Peers:
                   (self.known() == NOTHING_KNOWN, self.known()),
                   (self.told == 'cannot connect: Connection refused (os error 111)\n', self.told))
 
+    def full_socket(self):
+        """A Unix socket that nobody takes a connection from, with no room for one more that waits."""
+        self.forget()
+        path = os.path.join(self.folder, 'full')
+        waiting = []
+        with socket.socket(socket.AF_UNIX) as listener:
+            listener.bind(path)
+            listener.listen(0)
+            try:
+                for _ in range(100):
+                    one = socket.socket(socket.AF_UNIX)
+                    one.setblocking(False)
+                    waiting.append(one)
+                    one.connect(path)
+            except BlockingIOError:
+                pass
+            status, printed, took = self.run(('--socket', path), '--limit', '3', '--timeout', '1')
+            for one in waiting:
+                one.close()
+        self.look('a Unix socket with no room for one more', (status == 1, status), (printed == WORKING, printed),
+                  (len(waiting) < 100, len(waiting)), (2.9 < took < 4.5, took))
+
     def probes(self):
         for behaviour in (silent, dripping, talking_rubbish, closing_in_the_middle):
             words = [self.program, 'probe', '--name-prefix', 'p', '--timeout', '1']
@@ -269,6 +291,7 @@ def main():
     peers.bad_peers()
     peers.closing_peer()
     peers.no_peer()
+    peers.full_socket()
     peers.probes()
     peers.files()
     peers.no_client()

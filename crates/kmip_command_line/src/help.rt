@@ -280,8 +280,7 @@ pub(crate) const LIMIT: &str = "How many exchanges are made at most";
 
 pub(crate) const BATCH: &str = "How many keys a message asks about at most, 1 to 8";
 
-pub(crate) const TIMEOUT: &str = "\
-The longest that an exchange takes, with connecting (connecting to a Unix socket is not limited)";
+pub(crate) const TIMEOUT: &str = "The longest that an exchange takes, with connecting";
 
 pub(crate) const WAIT: &str =
     "The wait after an exchange without a reply, twice as long each time up to 10 seconds; 0 for none";

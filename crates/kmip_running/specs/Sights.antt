@@ -1,4 +1,4 @@
--- What a run sees of the keys, and when it gets on.
+-- Private: what a run sees of the keys, and when it gets on by an exchange.
 -- Source: own.
 use Rattle.std.specs.Prelude.{◌≡◌, ◌<◌, ℕ, Bool, true, false, ◌&&◌, ◌||◌, not, nat_lt, List, length, Some, slice_get}
 use Rattle.std.specs.Option.{is_some}

@@ -206,9 +206,10 @@ fn exchange_in_turn<L: Link, K: Keeper, P: Patience>(
         let (stop, _) = drive(alloc, client, link, 0);
         return (Ok(stop), 0);
     }
-    let Ok(mut sights) = Sights::of(alloc, client) else {
+    let Ok(begun) = Sights::of(alloc, client) else {
         return (Ok(Stop::NoMemory), 0);
     };
+    let mut sights = begun;
     for made in 0..limit {
         let (carried, exchanges) = exchange_once(alloc, client, link, keeper);
         tell(client, &mut sights, patience, exchanges);
@@ -262,12 +263,7 @@ fn exchange_once<L: Link, K: Keeper>(
 }
 
 /// Tells of one exchange, where one was made, whether the client got on by it.
-fn tell<P: Patience>(
-    client: &Client<'_>,
-    sights: &mut Sights,
-    patience: &mut P,
-    exchanges: usize,
-)
+fn tell<P: Patience>(client: &Client<'_>, sights: &mut Sights, patience: &mut P, exchanges: usize)
     requires { length sights.old.items.items ≡ length client.now.keys }
     ensures stays { P.has_given_up patience.new ≡ P.has_given_up patience.old }
     ensures as_many { length sights.new.items.items ≡ length sights.old.items.items }

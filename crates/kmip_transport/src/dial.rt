@@ -1,11 +1,15 @@
 //! How streams to one server are opened.
 
 use std::io;
-use std::io::{Read, Write};
+use std::io::{Error, ErrorKind, Read, Write};
 use std::net::{Net, OpenStream, SocketAddr};
 use std::os::unix::net;
 use std::os::unix::net::UnixStream;
+use std::thread;
 use std::time::{Clock, Duration, Instant};
+
+/// How long to wait before a server that takes no more connections for now is tried again.
+const PAUSE: Duration = Duration::from_millis(20);
 
 /// Opens streams to one server, and limits how long they wait.
 pub trait Dial {
@@ -17,7 +21,7 @@ pub trait Dial {
     /// Those of the clock.
     fn now(&self) -> io::Result<Instant>;
 
-    /// A new stream to the server, in this time where that can be limited.
+    /// A new stream to the server, in this time.
     ///
     /// # Errors
     /// Those of the network.
@@ -61,7 +65,7 @@ impl<R: Net + Clock + Drop> Dial for Tcp<R> {
     }
 }
 
-/// A server behind a Unix socket. How long it takes to connect is not limited.
+/// A server behind a Unix socket.
 #[derive(Drop)]
 pub struct Unix<R: Net + Clock + Drop> {
     rt: R,
@@ -73,6 +77,17 @@ impl<R: Net + Clock + Drop> Unix<R> {
     pub fn new(rt: R, address: net::SocketAddr) -> Self {
         Unix { rt, address }
     }
+
+    /// A new stream to the server, at once.
+    ///
+    /// # Errors
+    /// Those of the network; `WouldBlock` where the server takes no more connections for now.
+    fn connect(&self) -> io::Result<UnixStream> {
+        let stream = mio::net::UnixStream::connect_addr(&self.rt, &self.address)?;
+        let stream = UnixStream::from(stream);
+        stream.set_nonblocking(false)?;
+        Ok(stream)
+    }
 }
 
 impl<R: Net + Clock + Drop> Dial for Unix<R> {
@@ -82,8 +97,21 @@ impl<R: Net + Clock + Drop> Dial for Unix<R> {
         Instant::now(&self.rt)
     }
 
-    fn dial(&self, _left: Duration) -> io::Result<UnixStream> {
-        UnixStream::connect_addr(&self.rt, &self.address)
+    fn dial(&self, left: Duration) -> io::Result<UnixStream> {
+        for _ in 0..left.as_millis() / PAUSE.as_millis() {
+            match self.connect() {
+                Err(error) if error.kind() == ErrorKind::WouldBlock => {
+                    thread::sleep(&self.rt, PAUSE);
+                }
+                opened => return opened,
+            }
+        }
+        match self.connect() {
+            Err(error) if error.kind() == ErrorKind::WouldBlock => {
+                Err(Error::from(ErrorKind::TimedOut))
+            }
+            opened => opened,
+        }
     }
 
     fn limit(&self, stream: &UnixStream, left: Duration) -> io::Result<()> {
