@@ -1,24 +1,22 @@
 //! The program `run`, over sockets and a file.
-ghost use Rattle.std.specs.Prelude.{IsTrue};
-ghost use Rattle.kmip_batches.specs.Members.{may_have};
 
 use crate::believing::progress_to_begin_with;
 use crate::causes::{Cannot, tell_cause};
-use crate::linking::{loopback, refused, tcp_link, unix_link};
-use crate::reading::{refusal_of, text_or_why_not};
+use crate::linking::{loopback, tcp_link, unix_link};
+use crate::reading::{PlanFile, plan_at};
 use crate::showing::Standing;
 use crate::telling::Teller;
 use crate::told::standard_output;
+use crate::trouble::Trouble;
 use kmip_choices::{Peer, RunOptions};
 use kmip_commands::ExitStatus;
-use kmip_plan::read_plan;
+use kmip_plan::Plan;
 use kmip_progress_file::{LockFault, ProgressFile, ProgressLock};
-use kmip_run::{RunInput, batch_of, run_run};
-use kmip_running::{Keeper, Observed, Paced, SaveFault};
+use kmip_run::{RunInput, batch_of};
+use kmip_running::{Keeper, Observed, Pace, SaveFault};
 use kmip_schedule::Link;
 use std::alloc::Global;
-use std::io;
-use std::io::{BufWriter, Error, ErrorKind};
+use std::io::{BufWriter, ErrorKind};
 use std::time::Duration;
 
 /// Keeps what is known in a file, and shows how far the run is. No clause speaks of a file's bytes.
@@ -64,106 +62,82 @@ impl<'a> Keeper for FileKeeper<'a> {
 /// server asked.
 ///
 /// # Errors
-/// Where there is no memory, or standard output takes nothing; all else is printed.
-pub fn run_plan(rt: &HostRuntime, options: &RunOptions) -> io::Result<ExitStatus> {
-    let plan_path = options.plan.as_str();
-    let Some(plan) = text_or_why_not(rt, plan_path)? else {
-        return Ok(ExitStatus::Refused);
-    };
-    if let Some(status) = refusal_of(rt, plan_path, plan.as_str())? {
-        return Ok(status);
-    }
-    let Some((file, lock)) = locked(rt, options.progress.as_str())? else {
-        return Ok(ExitStatus::Refused);
-    };
-    let status = run_on(rt, options, plan.as_str(), file);
+/// What ends it before anything is asked.
+pub fn run_plan(rt: &HostRuntime, options: &RunOptions) -> Result<ExitStatus, Trouble> {
+    let plan = plan_at(rt, options.plan.as_str())?;
+    let (progress, lock) = locked(rt, options.progress.as_str())?;
+    let status = run_on(rt, options, &plan, progress);
     drop(lock);
     status
 }
 
-/// Carries out the plan of this text, which is one, with what is kept in the file.
+/// The file at this path, of this run alone.
+///
+/// # Errors
+/// Where it cannot be had.
+fn locked<'a>(
+    rt: &'a HostRuntime,
+    path: &'a str,
+) -> Result<(ProgressFile<'a, HostRuntime>, ProgressLock), Trouble> {
+    let file = ProgressFile::at(rt, path).map_err(|error| Trouble::at(
+        rt,
+        Cannot::Read,
+        path,
+        error,
+    ))?;
+    match file.lock() {
+        Ok(lock) => Ok((file, lock)),
+        Err(LockFault::InUse) => Err(Trouble::about(rt, path, Trouble::InUse)),
+        Err(LockFault::Io(error)) => {
+            let beside = file.lock_path()?;
+            Err(Trouble::at(rt, Cannot::Begin, beside.as_str(), error))
+        }
+    }
+}
+
+/// Carries out the plan, with what is kept in the progress file.
 fn run_on(
     rt: &HostRuntime,
     options: &RunOptions,
-    text: &str,
-    file: ProgressFile<'_, HostRuntime>,
-) -> io::Result<ExitStatus> {
-    let Ok(plan) = read_plan(rt.alloc(), text) else {
-        return Err(Error::from(ErrorKind::OutOfMemory));
-    };
-    let saved = match progress_to_begin_with(rt, options, text, &plan, &file)? {
-        Ok(saved) => saved,
-        Err(status) => return Ok(status),
-    };
-    let input = RunInput {
-        plan: text,
-        path: options.progress.as_str(),
-        limit: options.limit as usize,
-        batch: batch_of(options.batch),
-    };
+    plan: &PlanFile,
+    progress: ProgressFile<'_, HostRuntime>,
+) -> Result<ExitStatus, Trouble> {
+    let saved = progress_to_begin_with(rt, options, plan, &progress)?;
     let saved = match &saved {
         Some(text) => Some(text.as_str()),
         None => None,
     };
-    let standing = Standing::new(rt, text, options.is_verbose);
+    let standing = Standing::new(rt, plan.text.as_str(), options.is_verbose);
     let mut keeper = FileKeeper {
-        file,
+        file: progress,
         standing: &standing,
         refusals: 0,
     };
-    run_with(rt, options, &input, saved, &mut keeper)
-}
-
-/// The file at this path, of this run alone; where it cannot be, that is printed.
-fn locked<'a>(
-    rt: &'a HostRuntime,
-    path: &'a str,
-) -> io::Result<Option<(ProgressFile<'a, HostRuntime>, ProgressLock)>> {
-    let file = match ProgressFile::at(rt, path) {
-        Ok(file) => file,
-        Err(error) => {
-            refused(rt, error, Cannot::Read, path)?;
-            return Ok(None);
-        }
-    };
-    match file.lock() {
-        Ok(lock) => Ok(Some((file, lock))),
-        Err(LockFault::InUse) => {
-            rt.println(format_args!("progress in use: {path}"))?;
-            Ok(None)
-        }
-        Err(LockFault::Io(error)) => {
-            let beside = file.lock_path()?;
-            refused(rt, error, Cannot::Begin, beside.as_str())?;
-            Ok(None)
-        }
-    }
+    run_with(rt, options, &plan.plan, saved, &mut keeper)
 }
 
 /// Carries out the plan over the link to the server that was named.
 fn run_with(
     rt: &HostRuntime,
     options: &RunOptions,
-    input: &RunInput<'_>,
+    plan: &Plan,
     saved: Option<&str>,
     keeper: &mut FileKeeper<'_>,
-) -> io::Result<ExitStatus>
-    requires { IsTrue (may_have input.now.batch) }
-{
+) -> Result<ExitStatus, Trouble> {
     let limit = Duration::from_secs(options.timeout);
     match &options.peer {
         Peer::Tcp(address) => {
             let link = tcp_link(rt, *address, limit, Some(keeper.standing));
-            run_over(rt, options, input, saved, keeper, link)
+            run_over(rt, options, plan, saved, keeper, link)
         }
-        Peer::Unix(path) => match unix_link(rt, path.as_str(), limit, Some(keeper.standing))? {
-            Some(link) => run_over(rt, options, input, saved, keeper, link),
-            None => Ok(ExitStatus::Refused),
-        },
-        Peer::Loopback => match loopback(rt, limit)? {
-            Some(link) => run_over(rt, options, input, saved, keeper, link),
-            None => Ok(ExitStatus::Refused),
-        },
+        Peer::Unix(path) => {
+            let link = unix_link(rt, path.as_str(), limit, Some(keeper.standing))?;
+            run_over(rt, options, plan, saved, keeper, link)
+        }
+        Peer::Loopback => {
+            let link = loopback(rt, limit)?;
+            run_over(rt, options, plan, saved, keeper, link)
+        }
     }
 }
 
@@ -171,15 +145,27 @@ fn run_with(
 fn run_over<L: Link + Drop>(
     rt: &HostRuntime,
     options: &RunOptions,
-    input: &RunInput<'_>,
+    plan: &Plan,
     saved: Option<&str>,
     keeper: &mut FileKeeper<'_>,
     link: L,
-) -> io::Result<ExitStatus>
-    requires { IsTrue (may_have input.now.batch) }
-{
-    let told = Observed::new(link, Teller::new(rt, keeper.standing, options.is_verbose));
-    let mut link = Paced::new(told, rt, options.wait);
+) -> Result<ExitStatus, Trouble> {
+    let input = RunInput {
+        path: options.progress.as_str(),
+        limit: options.limit as usize,
+        batch: batch_of(options.batch),
+    };
+    let mut link = Observed::new(link, Teller::new(rt, keeper.standing, options.is_verbose));
+    let mut pace = Pace::new(rt, options.wait, 0);
     let mut writer = BufWriter::new(rt.alloc(), standard_output(rt))?;
-    Ok(run_run(rt.alloc(), input, saved, &mut link, keeper, &mut writer))
+    Ok(kmip_run::run_plan(
+        rt.alloc(),
+        plan,
+        &input,
+        saved,
+        &mut link,
+        keeper,
+        &mut pace,
+        &mut writer,
+    ))
 }

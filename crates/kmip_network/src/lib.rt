@@ -14,10 +14,12 @@ mod serving;
 mod showing;
 mod telling;
 mod told;
+mod trouble;
 
 pub use carrying::run_plan;
 pub use kmip_run::batch_of;
 pub use probing::probe_server;
-pub use reading::{refusal_of, text_or_why_not};
+pub use reading::{PlanFile, plan_at, text_at};
 pub use serving::serve;
 pub use told::{Told, standard_input, standard_output, tell_output};
+pub use trouble::Trouble;
