@@ -66,7 +66,7 @@ tls: $(program)
 	@examples/tls/tls.sh $(program)
 
 reading:
-	@python3 tools/reading.py $(FUNCTION)
+	@python3 tools/reading.py $(FUNCTION) $(CLAUSE)
 
 documents:
 	@python3 tools/reading.py --check

@@ -3,7 +3,13 @@
 
     tools/reading.py                            lists the public functions
     tools/reading.py kmip_server::handle        prints the definitions that one of them rests on
+    tools/reading.py kmip_session::campaign safe
+                                                prints the definitions that this one clause rests on
     tools/reading.py --check                    compares the documents with the code
+
+Definitions stand in the order in which to read them: what is built on comes first. Where a clause speaks of a
+ghost of a trait (`L.honest`), the trait's clauses that speak of it follow, and their definitions too. A clause
+without a name is called `requires` or `ensures`.
 
 Run it at the top of the repository (`make reading` does). It reads the sources alone, and proves nothing.
 """
@@ -16,6 +22,7 @@ signal.signal(signal.SIGPIPE, signal.SIG_DFL)
 
 from documents import check
 from sources import CRATES, Definition, Repository, roots_of
+from traits import Spoken
 
 
 def find(repository, wanted):
@@ -38,11 +45,66 @@ def print_function(repository, function):
     print(f'{function.path}, of {function.file}')
     for line in function.docs:
         print(f'    {line}'.rstrip())
-    for kind, name, body, comment in function.clauses:
-        if comment:
-            print(f'  {comment}')
-        print(f'  {kind} {name + " " if name else ""}{{ {body} }}')
-    things = repository.behind(roots_of(repository, function))
+    for clause in function.clauses:
+        print_clause(clause)
+    print_definitions(repository, repository.behind(roots_of(repository, function)))
+
+
+def print_clause(clause):
+    kind, name, body, comment = clause
+    if comment:
+        print(f'  {comment}')
+    print(f'  {kind} {name + " " if name else ""}{{ {body} }}')
+
+
+def print_one(repository, function, wanted):
+    """Prints what one clause rests on, and returns the exit status: 1 where there is no such clause."""
+    chosen = [clause for clause in function.clauses if (clause[1] or clause[0]) == wanted]
+    if not chosen:
+        names = ', '.join(clause[1] or clause[0] for clause in function.clauses)
+        print(f'{function.path} has no clause {wanted}; its clauses: {names or "none"}')
+        return 1
+    print(f'{function.path}, of {function.file}:{function.line}')
+    for line in function.docs:
+        print(f'    {line}'.rstrip())
+    things = set()
+    for clause in [one for one in function.clauses if one[0] == 'requires' and one not in chosen]:
+        print('  (asked of the caller; its definitions are left out)')
+        print_clause(clause)
+    for clause in chosen:
+        print_clause(clause)
+        spoken = Spoken(repository, function, clause)
+        things |= spoken.roots
+        for group in spoken.groups:
+            print_ghosts(*group)
+    print_definitions(repository, repository.behind(things))
+    return 0
+
+
+def print_ghosts(trait, ghosts, beside, promises):
+    """The ghosts of a trait that a clause names, and what the methods of the trait promise of them."""
+    print(f'\n{trait.path}: it speaks of these ghosts of {trait.name}')
+    for ghost in ghosts:
+        print_ghost(ghost)
+    print(f'What the methods of {trait.name} promise of them:')
+    for promise in promises:
+        if promise.comment:
+            print(f'  {promise.comment}')
+        name = f'{promise.kind} {promise.name}'.strip()
+        print(f'  {promise.method}, {name} {{ {promise.body} }}  (line {promise.line})')
+    if beside:
+        print('These name other ghosts too, of which nothing more is printed:')
+    for ghost in beside:
+        print_ghost(ghost)
+
+
+def print_ghost(ghost):
+    print(f'  {ghost.name} : {ghost.text}  (line {ghost.line})')
+    for line in ghost.docs:
+        print(f'      {line}')
+
+
+def print_definitions(repository, things):
     ordered = repository.in_order(things)
     print(f'\nIt rests on so many definitions of specs/, each below those that it is made of: {len(ordered)}')
     file = None
@@ -83,6 +145,8 @@ def main(words):
         print_list(repository)
         return 0
     found = find(repository, words[0])
+    if len(found) == 1 and len(words) > 1:
+        return print_one(repository, found[0], words[1])
     if len(found) == 1:
         print_function(repository, found[0])
         return 0

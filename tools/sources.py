@@ -137,7 +137,7 @@ class Repository:
     """All crates: their definitions, and their public functions."""
 
     def __init__(self):
-        self.files, self.functions, self.models = {}, [], {}
+        self.files, self.functions, self.models, self.traits = {}, [], {}, None
         self.crates = [line.split(':')[0].strip() for line in pathlib.Path('crates.txt').read_text().splitlines()
                        if ':' in line and not line.startswith('#')]
         for crate in self.crates:
@@ -203,11 +203,12 @@ class Repository:
 
 
 class Function:
-    """A public function, its clauses, and what they name."""
+    """A public function, its clauses, and what they name; its line, and the block that it stands in."""
 
     def __init__(self, path, file, docs, clauses, roots, types):
         self.path, self.file, self.docs = path, file, docs
         self.clauses, self.roots, self.types = clauses, roots, types
+        self.signature, self.imports, self.owner, self.header, self.line = '', {}, '', '', 0
 
 
 class Crate:
@@ -237,16 +238,16 @@ class Crate:
             local = dict(imports, **imports_of(body, 'ghost '))
             seen = ' '.join(re.findall(r'ghost (?:Value|view) = (\{.*?\});', body, re.S))
             self.repository.models[header] = self.repository.resolve(seen, local)
-        number, docs, owner, is_trait, ghosts = 0, [], None, False, ''
+        number, docs, owner, is_trait, ghosts, self.header = 0, [], None, False, '', ''
         while number < len(lines):
             line = lines[number]
             opened = re.match(r'(impl|pub trait|pub\(crate\) trait|trait)\b(.*)\{$', line)
             if opened:
                 is_trait = 'trait' in opened.group(1)
                 owner = self.owner_of(opened, module, is_trait)
-                ghosts = ''
+                ghosts, self.header = '', line
             elif line == '}':
-                owner, is_trait, ghosts = None, False, ''
+                owner, is_trait, ghosts, self.header = None, False, '', ''
             if re.match(r'\s*///', line):
                 docs.append(line.strip()[3:].strip())
             elif re.match(r'\s*ghost \w+:', line) and is_trait:
@@ -257,6 +258,7 @@ class Crate:
                     gives = line.split(' = ', 1)[1].strip('{}; ')
                     self.add(conversion, path, docs, [('ensures', 'from_gives', gives, '')], imports, '')
             start = re.match(r'(\s*)(pub )?(?:pub\(crate\) )?(?:const )?fn (\w+)', line)
+            self.line = number + 1
             if start:
                 number, signature, clauses = self.contract(lines, number)
                 public = start.group(2) or (is_trait and owner)
@@ -319,7 +321,10 @@ class Crate:
         if 'stock:' in signature or ': Records' in signature:
             roots |= self.repository.resolve('Stock', imports)
         types = set(re.findall(r'\w+', signature)) | {owner}
-        self.functions.append(Function(f'{self.name}::{name}', path, list(docs), clauses, roots, types))
+        function = Function(f'{self.name}::{name}', path, list(docs), clauses, roots, types)
+        function.signature, function.imports, function.owner = signature, imports, owner
+        function.header, function.line = self.header, self.line
+        self.functions.append(function)
 
 
 def roots_of(repository, function):

@@ -1,0 +1,68 @@
+"""What `make reading` prints of made-up crates."""
+import unittest
+
+from scratch import Scratch, printed
+from made_up import CRATES
+
+import reading
+
+
+class Reading(Scratch):
+    def setUp(self):
+        super().setUp()
+        self.write(CRATES)
+
+    def names(self, lines):
+        """The definitions that are printed, in their order."""
+        return [line.split()[0] for line in lines if line.startswith('  ') and '  (line ' in line
+                and ' : ' not in line and 'ensures' not in line]
+
+    def test_a_list_of_functions(self):
+        status, lines = printed(reading.main, [])
+        self.assertEqual(status, 0)
+        self.assertEqual(lines, [
+            'low::Carrier::carry  (careful, quick, worn)', 'low::Carrier::bare  (no clause)',
+            'low::Load::undocumented  (no clause)', 'high::send  (requires, safe, told)'])
+
+    def test_a_function_rests_on_all_its_clauses(self):
+        status, lines = printed(reading.main, ['high::send'])
+        self.assertEqual(status, 0)
+        self.assertEqual(self.names(lines), ['History', 'IsLight', 'Sent', 'IsTold'])
+
+    def test_a_clause_rests_on_less(self):
+        status, lines = printed(reading.main, ['high::send', 'told'])
+        self.assertEqual(status, 0)
+        self.assertEqual(self.names(lines), ['IsTold'])
+        self.assertNotIn('Carrier', ' '.join(lines))
+
+    def test_the_ghosts_of_a_trait_are_followed(self):
+        status, lines = printed(reading.main, ['high::send', 'safe'])
+        self.assertEqual(status, 0)
+        self.assertEqual(self.names(lines), ['History', 'Carried', 'Worn', 'Sent'])
+        self.assertIn('  careful : Self → Type 0  (line 30)', lines)
+        self.assertIn('      It drops nothing.', lines)
+        self.assertIn('  A careful one stays so.', lines)
+        self.assertIn('  carry, ensures worn { careful self.old → Worn (wear self.old) (wear self.new) }  (line 44)', lines)
+        self.assertIn('  wear : Self → ℕ  (line 36)', lines)
+        self.assertNotIn('quick', ' '.join(lines))
+
+    def test_a_method_of_the_trait_names_its_ghosts_bare(self):
+        status, lines = printed(reading.main, ['low::Carrier::carry', 'quick'])
+        self.assertEqual(status, 0)
+        self.assertEqual(self.names(lines), ['History', 'Quick'])
+
+    def test_a_clause_without_a_name(self):
+        status, lines = printed(reading.main, ['high::send', 'requires'])
+        self.assertEqual((status, self.names(lines)), (0, ['IsLight']))
+
+    def test_an_unknown_clause(self):
+        self.assertEqual(printed(reading.main, ['high::send', 'sound']),
+                         (1, ['high::send has no clause sound; its clauses: requires, safe, told']))
+
+    def test_an_unknown_function(self):
+        status, lines = printed(reading.main, ['high::nothing'])
+        self.assertEqual((status, len(lines)), (1, 1))
+
+
+if __name__ == '__main__':
+    unittest.main()

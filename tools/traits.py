@@ -1,0 +1,170 @@
+"""The ghosts of the traits: what a clause such as `L.honest` speaks of, and what the trait promises of it."""
+import re
+
+from sources import CRATES, Crate, Definition, WORD, imports_of
+
+TRAIT = re.compile(r'^(?:pub |pub\(crate\) )?trait (\w+)[^\n]*\{\n(.*?)^\}', re.M | re.S)
+GHOST = re.compile(r'^((?: *///[^\n]*\n)*) *ghost (\w+): \{ *(.*?) *\};', re.M | re.S)
+BOUND = re.compile(r'\b([A-Z]\w*)\s*:\s*([A-Z]\w*(?:\s*\+\s*[A-Z]\w*)*)')
+PROJECTION = re.compile(r'(?<![\w.])([A-Z]\w*)\.([A-Za-z]\w*)')
+
+
+class Ghost:
+    """A ghost of a trait: its type, its docstring and its line."""
+
+    def __init__(self, trait, name, text, docs, line):
+        self.trait, self.name, self.text, self.docs, self.line = trait, name, text, docs, line
+
+    def is_predicate(self):
+        return re.search(r'\bType\b[^→]*$', self.text) is not None
+
+
+class Promise:
+    """A clause of a method of a trait."""
+
+    def __init__(self, method, kind, name, body, comment, line):
+        self.method, self.kind, self.name, self.body = method, kind, name, body
+        self.comment, self.line = comment, line
+
+    def words(self):
+        return set(WORD.findall(self.body))
+
+
+class Trait:
+    """A trait: its ghosts by name, and the clauses of its methods."""
+
+    def __init__(self, path, name, text, first, imports):
+        self.path, self.name, self.imports = path, name, imports
+        self.ghosts, self.promises = {}, []
+        for found in GHOST.finditer(text):
+            docs = [line.strip()[3:].strip() for line in found.group(1).splitlines()]
+            line = first + text[:found.start(2)].count('\n')
+            body = ' '.join(found.group(3).split())
+            self.ghosts[found.group(2)] = Ghost(self, found.group(2), body, docs, line)
+        lines, number = text.splitlines(), 0
+        while number < len(lines):
+            start = re.match(r'\s*fn (\w+)', lines[number])
+            if start:
+                begun = number
+                number, _, clauses = Crate.contract(lines, number)
+                self.add(start.group(1), clauses, lines[begun:number + 1], first + begun)
+            number += 1
+
+    def add(self, method, clauses, lines, first):
+        places = [first + number for number, line in enumerate(lines)
+                  if re.match(r'\s*(requires|ensures)\b', line)]
+        for (kind, name, body, comment), line in zip(clauses, places):
+            self.promises.append(Promise(method, kind, name, body, comment, line))
+
+    def named_in(self, words):
+        return [ghost for name, ghost in self.ghosts.items() if name in words]
+
+    def promised_of(self, ghosts):
+        """The clauses that speak of one of these: of a value, those alone that speak of no other predicate.
+
+        So what is promised of a calm link says nothing of what has happened over one that is honest.
+        """
+        predicates = [ghost for ghost in ghosts if ghost.is_predicate()]
+        chosen = []
+        for promise in self.promises:
+            spoken = self.named_in(promise.words())
+            others = [ghost for ghost in spoken if ghost.is_predicate() and ghost not in predicates]
+            if any(ghost in predicates for ghost in spoken) or \
+                    any(ghost in ghosts for ghost in spoken) and not others:
+                chosen.append(promise)
+        return chosen
+
+
+def traits_of(repository):
+    """All traits of the crates, each by its name; they are read once."""
+    if repository.traits is None:
+        repository.traits = {}
+        for crate in repository.crates:
+            for path in sorted((CRATES / crate / 'src').glob('*.rt')):
+                for trait in traits_in(path):
+                    repository.traits.setdefault(trait.name, trait)
+    return repository.traits
+
+
+def traits_in(path):
+    text = path.read_text()
+    for found in TRAIT.finditer(text):
+        first = text[:found.start(2)].count('\n') + 1
+        yield Trait(path, found.group(1), found.group(2), first, imports_of(text, 'ghost '))
+
+
+class Spoken:
+    """What one clause of a function speaks of: its roots, and the ghosts of traits with what is promised of them."""
+
+    def __init__(self, repository, function, clause):
+        self.repository, self.function, self.clause = repository, function, clause
+        body = clause[2]
+        self.roots = repository.resolve(body, function.imports) | types_seen(repository, function, body)
+        self.groups = []
+        traits = traits_of(repository)
+        for trait, names in ghosts_in(function, body, traits).items():
+            self.follow(traits[trait], [traits[trait].ghosts[name] for name in names])
+
+    def follow(self, trait, ghosts):
+        promises = trait.promised_of(ghosts)
+        texts = [promise.body for promise in promises]
+        spoken = set().union(*(promise.words() for promise in promises)) if promises else set()
+        beside = [ghost for ghost in trait.named_in(spoken) if ghost not in ghosts]
+        for text in texts + [ghost.text for ghost in ghosts + beside]:
+            self.roots |= self.repository.resolve(text, trait.imports)
+        self.groups.append((trait, ghosts, beside, promises))
+
+    def definitions(self):
+        things = self.repository.behind(self.roots)
+        return self.repository.in_order([thing for thing in things if isinstance(thing, Definition)])
+
+
+def ghosts_in(function, body, traits):
+    """The ghosts that the clause names, by trait: as `L.honest` for an `L` that is a `Link`, or bare in the trait."""
+    found, bounds = {}, {}
+    for parameter, names in BOUND.findall(function.header + ' ' + generics_of(function.signature)):
+        bounds.setdefault(parameter, []).extend(re.findall(r'\w+', names))
+    for parameter, ghost in PROJECTION.findall(body):
+        for name in bounds.get(parameter, []):
+            if name in traits and ghost in traits[name].ghosts:
+                found.setdefault(name, []).append(ghost)
+    if function.owner in traits:
+        for ghost in traits[function.owner].named_in(set(WORD.findall(body))):
+            found.setdefault(function.owner, []).append(ghost.name)
+    return {name: list(dict.fromkeys(ghosts)) for name, ghosts in found.items()}
+
+
+def balanced(text, start, signs):
+    """The text between the sign at this place and the one that closes it."""
+    depth = 0
+    for place in range(start, len(text)):
+        if text[place] == signs[0]:
+            depth += 1
+        elif text[place] == signs[1] and text[place - 1] != '-':
+            depth -= 1
+            if not depth:
+                return text[start + 1:place]
+    return text[start + 1:]
+
+
+def generics_of(signature):
+    named = re.search(r'\bfn \w+', signature)
+    return balanced(signature, named.end(), '<>') if named and signature[named.end():named.end() + 1] == '<' else ''
+
+
+def types_seen(repository, function, body):
+    """How the types are seen of those parameters that the clause names, and of the result where it names it."""
+    named = re.search(r'\bfn \w+', function.signature)
+    if not named:
+        return set()
+    start = function.signature.index('(', named.end() + len(generics_of(function.signature)))
+    inside = balanced(function.signature, start, '()')
+    words, seen = set(WORD.findall(re.sub(r'\.\w+', '', body))), set()
+    for name, kind in re.findall(r'(\w+)\s*:\s*(.*?)(?=,\s*\w+\s*:|$)', inside):
+        if name in words:
+            seen |= set(re.findall(r'\w+', kind))
+    if 'self' in words:
+        seen.add(function.owner)
+    if 'result' in words:
+        seen |= set(re.findall(r'\w+', function.signature[start + len(inside):]))
+    return set().union(*(repository.models.get(name, set()) for name in seen)) if seen else set()
