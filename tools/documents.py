@@ -1,21 +1,22 @@
-"""Compares the documents with the code: the names in them, and where their links lead."""
+"""Compares the documents with the code: the names in them, where their links lead, and how long they are."""
 import pathlib
 import re
 
+from links import check_links
 from message_rows import check_messages
 from mistakes import check_mistakes
+from prose import check_prose, documents
 from sources import CRATES, roots_of
 
 DEFINITIONS = pathlib.Path('docs/DEFINITIONS.md')
 PROVED = pathlib.Path('docs/PROVED.md')
-DOCUMENTS = sorted(pathlib.Path().glob('*.md')) + sorted(pathlib.Path('docs').glob('*.md'))
 NAME = re.compile(r'`((?:\w+::)*[A-Za-z]+(?:_\w+|[a-z0-9][A-Z]\w*))`')
 
 
 def check(repository):
     """Prints what does not fit, and returns the exit status: 1 where there is something."""
     faults = check_definitions(repository) + check_proved(repository) + check_links() + check_names()
-    faults += check_messages() + check_mistakes()
+    faults += check_messages() + check_mistakes() + check_prose()
     print(f'{faults} places to look at' if faults else 'nothing to look at')
     return 1 if faults else 0
 
@@ -91,26 +92,6 @@ def check_rows(repository, sections):
     return faults
 
 
-def check_links():
-    """The links and the paths of the documents that lead nowhere."""
-    faults = 0
-    for document in DOCUMENTS:
-        text = document.read_text()
-        for link in re.findall(r'\]\(([^)\s]+)\)', text):
-            path, _, heading = link.partition('#')
-            target = document.parent / path if path else document
-            heads = re.findall(r'^#+ (.*)$', target.read_text(), re.M) if target.is_file() and heading else []
-            slugs = [re.sub(r'[^\w -]', '', head.lower()).replace(' ', '-') for head in heads]
-            if not target.exists() or (heading and heading not in slugs):
-                faults += 1
-                print(f'leads nowhere: {link} in {document}')
-        for path in re.findall(r'`((?:crates|docs|bench|examples|tools)/[\w./-]+)`', text):
-            if not pathlib.Path(path).exists() and '/out/' not in path and 'NAME' not in path:
-                faults += 1
-                print(f'leads nowhere: {path} in {document}')
-    return faults
-
-
 def check_names():
     """The names of several words in the documents that stand nowhere in the code, and of a crate's those that it does not have."""
     known, faults = {}, 0
@@ -119,7 +100,7 @@ def check_names():
             words = known.setdefault(path.parts[1], {path.parts[1]})
             words.update(re.findall(r'\w+', path.read_text()), [path.stem])
     every = set().union(*known.values())
-    for document in DOCUMENTS:
+    for document in documents():
         for name in sorted(set(NAME.findall(document.read_text()))):
             words = name.split('::')
             if not known.get(words[0], every).issuperset(words):
