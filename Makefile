@@ -10,15 +10,18 @@
 # make origin     runs it on progress files that were kept against other servers, or for other keys (needs python3)
 # make causes     runs it where files, sockets and standard streams fail, and compares what it tells (needs python3)
 # make tls        carries a plan out over TLS between two tunnels, with client certificates (needs openssl, stunnel)
-# make reading    lists the public functions; with FUNCTION=crate::name, what its contract rests on (needs python3)
-# make documents  compares the documents with the code (needs python3)
+# make reading    lists the public functions; with FUNCTION=crate::name [CLAUSE=name], what they rest on (needs python3)
+# make reference  writes a page for each crate to out/reference, from the sources (needs python3)
+# make examples   runs each example of README.md and docs/ with the program that is built (needs python3)
+# make documents  compares the documents with the code, and looks at links, sentences and sizes (needs python3)
+# make tools      runs the tests of the tools (needs python3)
 # make help       prints these lines
 
 program := crates/kmipctl/out/kmipctl
 growths := crates/kmip_growths/out/kmip_growths
 sources := crates.txt $(shell find crates -name out -prune -o \( -name '*.rt' -o -name '*.antt' \) -print)
 
-.PHONY: all demo test bench refuse faults hostile storm peers origin causes tls reading documents help
+.PHONY: all demo test bench refuse faults hostile storm peers origin causes tls reading reference examples documents tools help
 
 all: $(program)
 
@@ -68,8 +71,17 @@ tls: $(program)
 reading:
 	@python3 tools/reading.py $(FUNCTION) $(CLAUSE)
 
+reference:
+	@python3 tools/reference.py
+
+examples: $(program)
+	@python3 tools/examples.py $(program)
+
 documents:
 	@python3 tools/reading.py --check
+
+tools:
+	@python3 -B -m unittest discover tools/tests
 
 help:
 	@sed -n 's/^# make/make/p' Makefile

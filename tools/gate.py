@@ -33,6 +33,7 @@ TRIALS = [
     ('tls', ['examples/tls/tls.sh', PROGRAM], [['openssl'], ['stunnel4', 'stunnel']]),
     ('storm', ['bench/storm.sh', PROGRAM, '40'], [['rustc']]),
     ('documents', ['python3', 'tools/reading.py', '--check'], []),
+    ('tools', ['python3', '-B', '-m', 'unittest', 'discover', 'tools/tests'], []),
 ]
 
 

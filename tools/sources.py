@@ -137,7 +137,7 @@ class Repository:
     """All crates: their definitions, and their public functions."""
 
     def __init__(self):
-        self.files, self.functions, self.models, self.traits = {}, [], {}, None
+        self.files, self.functions, self.models, self.traits, self.parts = {}, [], {}, None, {}
         self.crates = [line.split(':')[0].strip() for line in pathlib.Path('crates.txt').read_text().splitlines()
                        if ':' in line and not line.startswith('#')]
         for crate in self.crates:
@@ -149,7 +149,8 @@ class Repository:
             for definition in file.definitions:
                 definition.uses = self.resolve(definition.text, file.imports, file) - {definition}
         for crate in self.crates:
-            self.functions += Crate(crate, self).functions
+            self.parts[crate] = Crate(crate, self)
+            self.functions += self.parts[crate].functions
 
     def files_in_order(self):
         """The files of specs/, each after those that it uses."""
@@ -169,19 +170,16 @@ class Repository:
 
     def resolve(self, text, imports, file=None):
         """What the names of a text stand for: definitions, and names from elsewhere."""
-        found = set()
         own = {} if file is None else file.by_name
-        for name in words_of(text, list(own) + list(imports)):
-            if name in own:
-                found.add(own[name])
-            else:
-                module, original = imports[name]
-                home = self.files.get(module)
-                if home and original in home.by_name:
-                    found.add(home.by_name[original])
-                else:
-                    found.add((module, original or ''))
-        return found
+        return {self.meaning(name, imports, own) for name in words_of(text, list(own) + list(imports))}
+
+    def meaning(self, name, imports, own):
+        """What a name stands for that is the file's own or that its `use` lines bring in."""
+        if name in own:
+            return own[name]
+        module, original = imports[name]
+        home = self.files.get(module)
+        return home.by_name[original] if home and original in home.by_name else (module, original or '')
 
     def behind(self, roots):
         """All that the roots are made of, the roots included."""
@@ -216,12 +214,13 @@ class Crate:
 
     def __init__(self, name, repository):
         self.name, self.repository, self.functions = name, repository, []
+        self.exported, self.open_modules = set(), set()
         source = CRATES / name / 'src'
         root = source / 'lib.rt'
         if not root.exists():
             return
         text = root.read_text()
-        self.exported, self.open_modules = set(), set(re.findall(r'^pub mod (\w+);', text, re.M))
+        self.open_modules = set(re.findall(r'^pub mod (\w+);', text, re.M))
         for module, names in re.findall(r'^pub use (\w+)::(\{[^}]*\}|\w+);', text, re.M):
             self.exported |= {(module, one) for one in re.findall(r'\w+', names)}
         for path in sorted(source.glob('*.rt')):
@@ -263,7 +262,7 @@ class Crate:
                 number, signature, clauses = self.contract(lines, number)
                 public = start.group(2) or (is_trait and owner)
                 if owner and owner[1] is None and public:
-                    self.add(f'{owner[0]}::{start.group(3)}', path, docs, clauses, imports, signature + ghosts, owner[0])
+                    self.add(f'{owner[0]}::{start.group(3)}', path, docs, clauses, imports, signature, owner[0], ghosts)
                 elif not start.group(1) and public and self.is_public(module, start.group(3)):
                     within = f'{module}::' if module in self.open_modules and module != 'lib' else ''
                     self.add(within + start.group(3), path, docs, clauses, imports, signature)
@@ -315,12 +314,12 @@ class Crate:
             number += 1
         return (number if number > first else first), signature, clauses
 
-    def add(self, name, path, docs, clauses, imports, signature, owner=''):
-        text = ' '.join(body for _, _, body, _ in clauses)
+    def add(self, name, path, docs, clauses, imports, signature, owner='', ghosts=''):
+        text, seen = ' '.join(body for _, _, body, _ in clauses), signature + ghosts
         roots = self.repository.resolve(text, imports)
-        if 'stock:' in signature or ': Records' in signature:
+        if 'stock:' in seen or ': Records' in seen:
             roots |= self.repository.resolve('Stock', imports)
-        types = set(re.findall(r'\w+', signature)) | {owner}
+        types = set(re.findall(r'\w+', seen)) | {owner}
         function = Function(f'{self.name}::{name}', path, list(docs), clauses, roots, types)
         function.signature, function.imports, function.owner = signature, imports, owner
         function.header, function.line = self.header, self.line
