@@ -39,13 +39,13 @@ TRIALS = [
 
 def prove():
     """Runs `rt ci`, prints what it prints, and returns how many passed and how many failed."""
-    running = subprocess.Popen(['rt', 'ci'], stdout=subprocess.PIPE, text=True, errors='replace')
     counts = None
-    for line in running.stdout:
-        counts = COUNTS.match(line) or counts
-        print(line, end='', flush=True)
+    with subprocess.Popen(['rt', 'ci'], stdout=subprocess.PIPE, text=True, errors='replace') as running:
+        for line in running.stdout:
+            counts = COUNTS.match(line) or counts
+            print(line, end='', flush=True)
     passed, failed = map(int, counts.groups()) if counts else (0, 1)
-    return passed, max(failed, 1 if running.wait() else 0)
+    return passed, max(failed, 1 if running.returncode else 0)
 
 
 def lacks(needs):

@@ -52,4 +52,5 @@ def main():
     short('last text', kept[-1])
 
 
-main()
+if __name__ == '__main__':
+    main()
