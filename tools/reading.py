@@ -77,6 +77,8 @@ def print_one(repository, function, wanted):
         things |= spoken.roots
         for group in spoken.groups:
             print_ghosts(*group)
+        if spoken.elsewhere:
+            print(f'\nGhosts of traits from elsewhere: {", ".join(spoken.elsewhere)}')
     print_definitions(repository, repository.behind(things))
     return 0
 

@@ -137,7 +137,8 @@ class Repository:
     """All crates: their definitions, and their public functions."""
 
     def __init__(self):
-        self.files, self.functions, self.models, self.traits, self.parts = {}, [], {}, None, {}
+        self.files, self.functions, self.models, self.views = {}, [], {}, {}
+        self.traits, self.parts = None, {}
         self.crates = [line.split(':')[0].strip() for line in pathlib.Path('crates.txt').read_text().splitlines()
                        if ':' in line and not line.startswith('#')]
         for crate in self.crates:
@@ -233,10 +234,11 @@ class Crate:
         text, module = path.read_text(), path.stem
         imports = imports_of(text, 'ghost ')
         lines = text.splitlines()
-        for header, body in re.findall(r'^impl[^\n]* Model for (\w+)[^\n]*\{\n(.*?)^\}', text, re.M | re.S):
+        for header, name, body in re.findall(r'^(impl[^\n]* Model for (\w+)[^\n]*)\{\n(.*?)^\}', text, re.M | re.S):
             local = dict(imports, **imports_of(body, 'ghost '))
             seen = ' '.join(re.findall(r'ghost (?:Value|view) = (\{.*?\});', body, re.S))
-            self.repository.models[header] = self.repository.resolve(seen, local)
+            self.repository.models[name] = self.repository.resolve(seen, local)
+            self.repository.views[name] = header, seen
         number, docs, owner, is_trait, ghosts, self.header = 0, [], None, False, '', ''
         while number < len(lines):
             line = lines[number]

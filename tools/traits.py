@@ -60,15 +60,16 @@ class Trait:
         return [ghost for name, ghost in self.ghosts.items() if name in words]
 
     def promised_of(self, ghosts):
-        """The clauses that speak of one of these: of a value, those alone that speak of no other predicate.
+        """The clauses that speak of one of these.
 
-        So what is promised of a calm link says nothing of what has happened over one that is honest.
+        Where a predicate is among them, those are left out that speak of the values under another predicate alone:
+        what is promised of a calm link is not needed for what has happened over one that is honest.
         """
         predicates = [ghost for ghost in ghosts if ghost.is_predicate()]
         chosen = []
         for promise in self.promises:
             spoken = self.named_in(promise.words())
-            others = [ghost for ghost in spoken if ghost.is_predicate() and ghost not in predicates]
+            others = predicates and [ghost for ghost in spoken if ghost.is_predicate() and ghost not in predicates]
             if any(ghost in predicates for ghost in spoken) or \
                     any(ghost in ghosts for ghost in spoken) and not others:
                 chosen.append(promise)
@@ -97,20 +98,38 @@ class Spoken:
     """What one clause of a function speaks of: its roots, and the ghosts of traits with what is promised of them."""
 
     def __init__(self, repository, function, clause):
-        self.repository, self.function, self.clause = repository, function, clause
-        body = clause[2]
-        self.roots = repository.resolve(body, function.imports) | types_seen(repository, function, body)
-        self.groups = []
-        traits = traits_of(repository)
-        for trait, names in ghosts_in(function, body, traits).items():
+        self.repository, self.groups, self.elsewhere = repository, [], []
+        body, types = clause[2], types_seen(function, clause[2])
+        self.roots = repository.resolve(body, function.imports)
+        for name in types:
+            self.roots |= repository.models.get(name, set())
+        traits, texts = traits_of(repository), [(function.header + ' ' + generics_of(function.signature), body)]
+        texts += [repository.views[name] for name in sorted(types) if name in repository.views]
+        for trait, names in self.ghosts_in(function, texts, traits).items():
             self.follow(traits[trait], [traits[trait].ghosts[name] for name in names])
+
+    def ghosts_in(self, function, texts, traits):
+        """The ghosts that these texts name, by trait: as `L.honest` for an `L` that is a `Link`, or bare in the trait."""
+        found = {}
+        for header, text in texts:
+            bounds = bounds_of(header)
+            for parameter, ghost in PROJECTION.findall(text):
+                homes = [name for name in bounds.get(parameter, []) if name in traits and ghost in traits[name].ghosts]
+                for name in homes:
+                    found.setdefault(name, {})[ghost] = True
+                if parameter in bounds and not homes:
+                    self.elsewhere.append(f'{parameter}.{ghost} of {" + ".join(bounds[parameter])}')
+        if function.owner in traits:
+            for ghost in traits[function.owner].named_in(set(WORD.findall(texts[0][1]))):
+                found.setdefault(function.owner, {})[ghost.name] = True
+        self.elsewhere = sorted(set(self.elsewhere))
+        return found
 
     def follow(self, trait, ghosts):
         promises = trait.promised_of(ghosts)
-        texts = [promise.body for promise in promises]
         spoken = set().union(*(promise.words() for promise in promises)) if promises else set()
         beside = [ghost for ghost in trait.named_in(spoken) if ghost not in ghosts]
-        for text in texts + [ghost.text for ghost in ghosts + beside]:
+        for text in [promise.body for promise in promises] + [ghost.text for ghost in ghosts + beside]:
             self.roots |= self.repository.resolve(text, trait.imports)
         self.groups.append((trait, ghosts, beside, promises))
 
@@ -119,19 +138,12 @@ class Spoken:
         return self.repository.in_order([thing for thing in things if isinstance(thing, Definition)])
 
 
-def ghosts_in(function, body, traits):
-    """The ghosts that the clause names, by trait: as `L.honest` for an `L` that is a `Link`, or bare in the trait."""
-    found, bounds = {}, {}
-    for parameter, names in BOUND.findall(function.header + ' ' + generics_of(function.signature)):
+def bounds_of(header):
+    """The traits of each type parameter."""
+    bounds = {}
+    for parameter, names in BOUND.findall(header):
         bounds.setdefault(parameter, []).extend(re.findall(r'\w+', names))
-    for parameter, ghost in PROJECTION.findall(body):
-        for name in bounds.get(parameter, []):
-            if name in traits and ghost in traits[name].ghosts:
-                found.setdefault(name, []).append(ghost)
-    if function.owner in traits:
-        for ghost in traits[function.owner].named_in(set(WORD.findall(body))):
-            found.setdefault(function.owner, []).append(ghost.name)
-    return {name: list(dict.fromkeys(ghosts)) for name, ghosts in found.items()}
+    return bounds
 
 
 def balanced(text, start, signs):
@@ -152,8 +164,8 @@ def generics_of(signature):
     return balanced(signature, named.end(), '<>') if named and signature[named.end():named.end() + 1] == '<' else ''
 
 
-def types_seen(repository, function, body):
-    """How the types are seen of those parameters that the clause names, and of the result where it names it."""
+def types_seen(function, body):
+    """The types of those parameters that the clause names, and of the result where it names it."""
     named = re.search(r'\bfn \w+', function.signature)
     if not named:
         return set()
@@ -167,4 +179,6 @@ def types_seen(repository, function, body):
         seen.add(function.owner)
     if 'result' in words:
         seen |= set(re.findall(r'\w+', function.signature[start + len(inside):]))
-    return set().union(*(repository.models.get(name, set()) for name in seen)) if seen else set()
+    if 'Self' in seen:
+        seen.add(function.owner)
+    return seen

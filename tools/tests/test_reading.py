@@ -51,6 +51,18 @@ class Reading(Scratch):
         self.assertEqual(status, 0)
         self.assertEqual(self.names(lines), ['History', 'Quick'])
 
+    def test_the_view_of_a_type_leads_to_a_ghost_too(self):
+        self.write({'crates/high/src/lib.rt': '//! A.\nmod holding;\npub use holding::Holder;\n', 'crates/high/src/holding.rt': (
+            'ghost use Rattle.high.specs.Calls.{IsTold};\n\npub struct Holder<C> {\n    carrier: C,\n}\n\n'
+            'impl<C: Carrier> Model for Holder<C> {\n    ghost view = { λ h. C.wear h.carrier };\n}\n\n'
+            'impl<C: Carrier, W: Write> Holder<C> {\n    /// Holds.\n    pub fn hold(&self, out: W) -> bool\n'
+            '        ensures held { self.now ≡ W.contents out }\n        ensures told { IsTold result }\n    {\n    }\n}\n')})
+        status, lines = printed(reading.main, ['high::Holder::hold', 'held'])
+        self.assertEqual((status, self.names(lines)), (0, ['Worn']))
+        self.assertIn('  wear : Self → ℕ  (line 36)', lines)
+        self.assertIn('Ghosts of traits from elsewhere: W.contents of Write', lines)
+        self.assertNotIn('ghosts of Carrier', ' '.join(printed(reading.main, ['high::Holder::hold', 'told'])[1]))
+
     def test_a_clause_without_a_name(self):
         status, lines = printed(reading.main, ['high::send', 'requires'])
         self.assertEqual((status, self.names(lines)), (0, ['IsLight']))
