@@ -7,6 +7,7 @@ from message_rows import check_messages
 from mistakes import check_mistakes
 from prose import check_prose, documents
 from sources import CRATES, roots_of
+from ways import check_ways
 
 DEFINITIONS = pathlib.Path('docs/DEFINITIONS.md')
 PROVED = pathlib.Path('docs/PROVED.md')
@@ -16,7 +17,7 @@ NAME = re.compile(r'`((?:\w+::)*[A-Za-z]+(?:_\w+|[a-z0-9][A-Z]\w*))`')
 def check(repository):
     """Prints what does not fit, and returns the exit status: 1 where there is something."""
     faults = check_definitions(repository) + check_proved(repository) + check_links() + check_names()
-    faults += check_messages() + check_mistakes() + check_prose()
+    faults += check_messages() + check_mistakes() + check_ways() + check_prose()
     print(f'{faults} places to look at' if faults else 'nothing to look at')
     return 1 if faults else 0
 

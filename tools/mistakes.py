@@ -10,11 +10,12 @@ OWNER = re.compile(r'(?:impl|(?:pub(?:\(crate\))? )?trait)\b.*?(\w+)(?:<[^{]*>)?
 
 
 class Known:
-    """A function of a crate, public or private: the names of its clauses, and whether it has a loop."""
+    """A function of a crate, public or private: the names of its clauses, its lines, and whether it has a loop."""
 
     def __init__(self, clauses, body):
         self.named = {name for _, name, _, _ in clauses if name}
         self.ensured = [name for kind, name, _, _ in clauses if kind == 'ensures']
+        self.body = body
         self.has_loop = bool(re.search(r'^\s*(?:while|for|loop)\b.*\{$', body, re.M))
 
 
