@@ -10,7 +10,7 @@ class Ways(Scratch):
     def check(self, text):
         self.write({
             'crates/low/src/lib.rt': 'pub struct Line;\n\nimpl Line {\n    pub fn carry(&self) {\n        // carry and lose\n        weigh::<u8>(self);\n    }\n}\n',
-            'crates/low/src/weighing.rt': 'pub fn weigh(load: u8) {\n    check_all(load, is_light);\n}\n\nfn is_light() {\n}\n\nfn lose() {\n}\n',
+            'crates/low/src/weighing.rt': 'pub fn weigh(load: u8) {\n    check_all(load);\n}\n\nfn check_all(load: u8) {\n    test(load, is_light);\n}\n\nfn is_light() {\n}\n\nfn lose() {\n}\n',
             'crates/high/src/lib.rt': 'pub fn send(line: Line) {\n    line.carry();\n}\n', 'docs/A.md': text})
         return printed(ways.check_ways)
 
@@ -19,9 +19,12 @@ class Ways(Scratch):
             '## The way of a load\n\n1. `high::send` takes it.\n2. `low::Line::carry` carries it.\n'
             '3. `low::weigh` weighs it,\n   and is slow.\n4. `low::is_light`\n'), (0, []))
 
-    def test_a_step_that_is_called_by_none_above(self):
+    def test_a_step_that_a_function_between_calls(self):
+        self.assertEqual(self.check('## The way of a load\n\n- `low::Line::carry`\n- `low::check_all`\n- `low::is_light`\n'), (0, []))
+
+    def test_a_step_that_is_reached_from_none_above(self):
         self.assertEqual(self.check('## The way of a load\n\n- `high::send`\n- `low::weigh`\n- `low::lose`\n'), (2, [
-            'docs/A.md:4: no step above it calls low::weigh', 'docs/A.md:5: no step above it calls low::lose']))
+            'docs/A.md:4: no step above it reaches low::weigh', 'docs/A.md:5: no step above it reaches low::lose']))
 
     def test_what_a_comment_names_is_not_called(self):
         self.assertEqual(self.check('## The way\n\n- `low::Line::carry`\n- `low::lose`\n')[0], 1)
