@@ -57,6 +57,15 @@ impl Load {
     pub fn undocumented(self) -> u32 {
         self.weight
     }
+
+    /// Whether it weighs nothing.
+    pub fn is_nothing(self) -> bool {
+        self.weight == 0
+    }
+}
+
+impl Carrier for Load {
+    ghost wear = { λ load. load.weight };
 }
 ''',
     'crates/low/specs/Lib.antt': '-- what there is at the start\npub mod Start\npub mod Carried\n',
@@ -104,6 +113,8 @@ pub fn send<C: Carrier>(carrier: &mut C, load: u32) -> bool
 -- Source: own.
 use Rattle.std.specs.Prelude.{◌≤◌, ℕ, Bool, IsTrue}
 use Rattle.low.specs.Start.{History}
+use Rattle.low.specs.declared.carrying.Load.{Load}
+use Rattle.low.specs.declared.carrying.TheConstants.{LIMIT}
 
 -- the load is light
 abbrev pub IsLight : ℕ → Type 0
@@ -116,5 +127,9 @@ pub record Sent (old : History) (new : History) : Type 0 where
 -- it was told
 abbrev pub IsTold : Bool → Type 0
 IsTold told = IsTrue told
+
+-- no load is heavier
+abbrev pub IsFull : Load → Type 0
+IsFull load = load.weight ≡ LIMIT
 ''',
 }

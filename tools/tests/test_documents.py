@@ -35,8 +35,9 @@ class Documents(Scratch):
             'not named in docs/DEFINITIONS.md: crates/low/specs/Carried.antt: Quick',
             'not named in docs/DEFINITIONS.md: crates/high/specs/Calls.antt: IsTold',
             'named in docs/DEFINITIONS.md, and not in crates/low/specs: Gone',
+            'no public contract rests on, and not marked private: crates/high/specs/Calls.antt: IsFull',
             'in docs/DEFINITIONS.md under another file: low: Gone'])
-        self.assertEqual(faults, 4)
+        self.assertEqual(faults, 5)
 
     def test_rows_of_mistakes(self):
         self.write({'crates/low/must-fail/late.edit': 'file: a\n', 'docs/MISTAKES.md': (

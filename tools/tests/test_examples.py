@@ -47,6 +47,10 @@ class Examples(Scratch):
         self.assertEqual(self.run_on('    $ kmipctl say c\n    ...\n    c\n    ...\n')[0], 0)
         self.assertEqual(self.run_on('    $ kmipctl say a b c\n    ...\n    b\n')[0], 1)
 
+    def test_a_block_ends_with_the_next_paragraph(self):
+        self.assertEqual(self.run_on('    $ kmipctl say a\n    a\n\nText.\n\n    no output\n')[0], 0)
+        self.assertEqual(self.run_on('    $ kmipctl say a "" b\n    a\n\n    b\n\nText.\n')[0], 0)
+
     def test_exit_statuses(self):
         self.assertEqual(self.run_on('    $ kmipctl warn\n    said\n    exit status 1\n')[0], 0)
         self.assertEqual(self.run_on('    $ kmipctl warn\n    said\n')[0], 0)

@@ -22,7 +22,7 @@ class Reading(Scratch):
         self.assertEqual(status, 0)
         self.assertEqual(lines, [
             'low::Carrier::carry  (careful, quick, worn)', 'low::Carrier::bare  (no clause)',
-            'low::Load::undocumented  (no clause)', 'high::send  (requires, safe, told)'])
+            'low::Load::undocumented  (no clause)', 'low::Load::is_nothing  (no clause)', 'high::send  (requires, safe, told)'])
 
     def test_a_function_rests_on_all_its_clauses(self):
         status, lines = printed(reading.main, ['high::send'])
@@ -45,6 +45,7 @@ class Reading(Scratch):
         self.assertIn('  carry, ensures worn { careful self.old → Worn (wear self.old) (wear self.new) }  (line 44)', lines)
         self.assertIn('  wear : Self → ℕ  (line 36)', lines)
         self.assertNotIn('quick', ' '.join(lines))
+        self.assertEqual(lines[5:7], ['  (asked of the caller; its definitions are left out)', '  requires { IsLight load.now }'])
 
     def test_a_method_of_the_trait_names_its_ghosts_bare(self):
         status, lines = printed(reading.main, ['low::Carrier::carry', 'quick'])
@@ -63,9 +64,20 @@ class Reading(Scratch):
         self.assertIn('Ghosts of traits from elsewhere: W.contents of Write', lines)
         self.assertNotIn('ghosts of Carrier', ' '.join(printed(reading.main, ['high::Holder::hold', 'told'])[1]))
 
+    def test_types_are_seen_where_the_clause_names_them(self):
+        self.write({'crates/high/src/lib.rt': '//! A.\nmod seeing;\npub use seeing::see;\n', 'crates/high/src/seeing.rt': (
+            'impl Model for Held {\n    ghost use Rattle.high.specs.Calls.{IsTold};\n\n    ghost view = { λ h. IsTold h.told };\n}\n\n'
+            'impl Model for Given {\n    ghost use Rattle.high.specs.Calls.{IsLight};\n\n    ghost view = { λ g. IsLight g.load };\n}\n\n'
+            'pub fn see(held: &Held, count: u32) -> Given\n    ensures first { held.now ≡ count }\n'
+            '    ensures second { count ≡ result }\n    ensures third { count ≡ x.held }\n{\n}\n')})
+        for clause, wanted in ('first', ['IsTold']), ('second', ['IsLight']), ('third', []):
+            status, lines = printed(reading.main, ['high::see', clause])
+            self.assertEqual((status, self.names(lines)), (0, wanted))
+
     def test_a_clause_without_a_name(self):
         status, lines = printed(reading.main, ['high::send', 'requires'])
         self.assertEqual((status, self.names(lines)), (0, ['IsLight']))
+        self.assertNotIn('asked of the caller', ' '.join(lines))
 
     def test_an_unknown_clause(self):
         self.assertEqual(printed(reading.main, ['high::send', 'sound']),

@@ -58,9 +58,11 @@ class Reference(Scratch):
             '<p>Sends a load, and says whether it came.</p>\n<p><b>Errors</b></p>\n<p>None.</p>\n'))
 
     def test_types(self):
-        self.assertIn('pub weight: u32,\n    <span class="comment">// private fields</span>\n}</pre>\n<p>A load.</p>\n'
-                      '<p class="rests">Derives Clone, Copy</p>', self.page('low'))
+        self.assertIn('pub weight: u32,\n    <span class="comment">// private fields</span>\n}</pre>\n<p>A load.</p>\n', self.page('low'))
         self.assertNotIn('hidden', self.page('low'))
+        self.assertIn('<h3 id="Load">struct Load<small>low/src/carrying.rt:11</small></h3>\n<pre>pub struct Load {\n', self.page('low'))
+        self.assertIn('<p class="rests">Implements <a href="#Carrier">Carrier</a></p>\n'
+                      '<p class="rests">Derives Clone, Copy</p>', self.page('low'))
         self.assertIn('<pre>pub const LIMIT: u32 = 8;</pre>\n<p>The most that a load may be.</p>', self.page('low'))
         self.assertIn('<pre>careful : Self → Type 0</pre>\n<p>It drops nothing.</p>', self.page('low'))
 
@@ -71,6 +73,15 @@ class Reference(Scratch):
             '<h4 id="Carried.Carried">Carried<small>low/specs/Carried.antt:7</small></h4>\n<p>The load is at the end.</p>\n'
             '<pre>abbrev pub Carried : ℕ → <a href="#Start.History">History</a> → <a href="#Start.History">History</a> → Type 0\n'
             'Carried load old new = new ≡ old ++ load ∷ []</pre>\n'))
+
+    def test_types_and_constants_of_the_code_in_definitions(self):
+        self.assertIn('<pre>abbrev pub IsFull : <a href="low.html#Load">Load</a> → Type 0\n'
+                      'IsFull load = load.weight ≡ <a href="low.html#LIMIT">LIMIT</a></pre>', self.page('high'))
+
+    def test_a_list_of_the_code(self):
+        self.assertIn('<p>Code: <a href="#LIMIT">LIMIT</a>, <a href="#Load">Load</a>, <a href="#Wear">Wear</a>, '
+                      '<a href="#Carrier">Carrier</a></p>', self.page('low'))
+        self.assertIn('<p>Code: <a href="#send">send</a></p>\n', self.page('high'))
 
     def test_the_files_stand_in_the_order_of_their_list(self):
         text = self.page('low')
