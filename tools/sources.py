@@ -234,11 +234,7 @@ class Crate:
         text, module = path.read_text(), path.stem
         imports = imports_of(text, 'ghost ')
         lines = text.splitlines()
-        for header, name, body in re.findall(r'^(impl[^\n]* Model for (\w+)[^\n]*)\{\n(.*?)^\}', text, re.M | re.S):
-            local = dict(imports, **imports_of(body, 'ghost '))
-            seen = ' '.join(re.findall(r'ghost (?:Value|view) = (\{.*?\});', body, re.S))
-            self.repository.models[name] = self.repository.resolve(seen, local)
-            self.repository.views[name] = header, seen
+        self.read_models(text, imports)
         number, docs, owner, is_trait, ghosts, self.header = 0, [], None, False, '', ''
         while number < len(lines):
             line = lines[number]
@@ -271,6 +267,14 @@ class Crate:
             if not re.match(r'\s*(///|#\[)', line):
                 docs = []
             number += 1
+
+    def read_models(self, text, imports):
+        """Reads how clauses see the values of the types."""
+        for header, name, body in re.findall(r'^(impl[^\n]* Model for (\w+)[^\n]*)\{\n(.*?)^\}', text, re.M | re.S):
+            local = dict(imports, **imports_of(body, 'ghost '))
+            seen = ' '.join(re.findall(r'ghost (?:Value|view) = (\{.*?\});', body, re.S))
+            self.repository.models[name] = self.repository.resolve(seen, local)
+            self.repository.views[name] = header, seen
 
     def owner_of(self, opened, module, is_trait):
         """The type or trait that a block belongs to, and what it converts from; none if it is not public."""
