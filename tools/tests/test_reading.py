@@ -28,6 +28,9 @@ class Reading(Scratch):
         status, lines = printed(reading.main, ['high::send'])
         self.assertEqual(status, 0)
         self.assertEqual(self.names(lines), ['History', 'IsLight', 'Sent', 'IsTold'])
+        self.assertEqual([line for line in lines if line.startswith('crates/')], [
+            'crates/low/specs/Start.antt: The start.', 'crates/high/specs/Calls.antt: What a call is.'])
+        self.assertIn('  std.specs.Prelude: Bool, IsTrue, List, ◌≤◌', lines)
 
     def test_a_clause_rests_on_less(self):
         status, lines = printed(reading.main, ['high::send', 'told'])
