@@ -2,30 +2,31 @@
 ghost use Rattle.std.specs.Prelude.{IsTrue};
 ghost use Rattle.kmip_batches.specs.Members.{may_have};
 
+use crate::account::Account;
 use crate::believing::progress_to_begin_with;
 use crate::causes::{Cannot, tell_cause};
 use crate::linking::{loopback, refused, tcp_link, unix_link};
 use crate::reading::{refusal_of, text_or_why_not};
-use crate::showing::Standing;
 use crate::telling::Teller;
 use crate::told::standard_output;
+use crate::watch::Watch;
 use kmip_choices::{Peer, RunOptions};
 use kmip_commands::ExitStatus;
 use kmip_plan::read_plan;
 use kmip_progress_file::{LockFault, ProgressFile, ProgressLock};
 use kmip_run::{RunInput, batch_of, run_run};
-use kmip_running::{Keeper, Observed, Paced, SaveFault};
+use kmip_running::{Keeper, Observed, SaveFault};
 use kmip_schedule::Link;
 use std::alloc::Global;
 use std::io;
 use std::io::{BufWriter, Error, ErrorKind};
 use std::time::Duration;
 
-/// Keeps what is known in a file, and shows how far the run is. No clause speaks of a file's bytes.
+/// Keeps what is known in a file. No clause speaks of a file's bytes.
 #[derive(Drop)]
 struct FileKeeper<'a> {
     file: ProgressFile<'a, HostRuntime>,
-    standing: &'a Standing<'a>,
+    account: &'a Account<'a>,
     /// How often the file could not be written.
     refusals: u64,
 }
@@ -40,13 +41,11 @@ impl<'a> Keeper for FileKeeper<'a> {
     ghost refusals = { λ keeper. keeper.refusals };
 
     fn save(&mut self, _alloc: Global, text: &[u8]) -> Result<(), SaveFault> {
-        let written = self.file.write(text);
-        self.standing.show(text);
-        match written {
+        match self.file.write(text) {
             Ok(()) => Ok(()),
             Err(error) if error.kind() == ErrorKind::OutOfMemory => Err(SaveFault::NoMemory),
             Err(error) => {
-                self.standing.end();
+                self.account.end_line();
                 tell_cause(
                     self.file.system(),
                     self.file.given_path(),
@@ -105,10 +104,13 @@ fn run_on(
         Some(text) => Some(text.as_str()),
         None => None,
     };
-    let standing = Standing::new(rt, text, options.is_verbose);
+    let Ok(account) = Account::new(rt, options, &plan) else {
+        return Err(Error::from(ErrorKind::OutOfMemory));
+    };
+    account.show_start(saved);
     let mut keeper = FileKeeper {
         file,
-        standing: &standing,
+        account: &account,
         refusals: 0,
     };
     run_with(rt, options, &input, saved, &mut keeper)
@@ -153,10 +155,10 @@ fn run_with(
     let limit = Duration::from_secs(options.timeout);
     match &options.peer {
         Peer::Tcp(address) => {
-            let link = tcp_link(rt, *address, limit, Some(keeper.standing));
+            let link = tcp_link(rt, *address, limit, Some(keeper.account.wire()));
             run_over(rt, options, input, saved, keeper, link)
         }
-        Peer::Unix(path) => match unix_link(rt, path.as_str(), limit, Some(keeper.standing))? {
+        Peer::Unix(path) => match unix_link(rt, path.as_str(), limit, Some(keeper.account.wire()))? {
             Some(link) => run_over(rt, options, input, saved, keeper, link),
             None => Ok(ExitStatus::Refused),
         },
@@ -178,8 +180,24 @@ fn run_over<L: Link + Drop>(
 ) -> io::Result<ExitStatus>
     requires { IsTrue (may_have input.now.batch) }
 {
-    let told = Observed::new(link, Teller::new(rt, keeper.standing, options.is_verbose));
-    let mut link = Paced::new(told, rt, options.wait);
+    let account = keeper.account;
+    let mut link = Observed::new(link, Teller::new(account));
+    let mut watch = Watch::new(account, first_wait(options), options.give_up);
     let mut writer = BufWriter::new(rt.alloc(), standard_output(rt))?;
-    Ok(run_run(rt.alloc(), input, saved, &mut link, keeper, &mut writer))
+    let (alloc, patience) = (rt.alloc(), &mut watch);
+    let status = run_run(alloc, input, saved, &mut link, keeper, patience, &mut writer);
+    let _ = account.tell_unfinished();
+    if watch.has_given_up() {
+        account.tell_given_up();
+    }
+    Ok(status)
+}
+
+/// How long the run waits first where it does not get on, in milliseconds. A server in this process is not
+/// waited for.
+fn first_wait(options: &RunOptions) -> u64 {
+    match options.peer {
+        Peer::Loopback => 0,
+        Peer::Tcp(_) | Peer::Unix(_) => options.wait,
+    }
 }

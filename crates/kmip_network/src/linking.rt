@@ -3,7 +3,7 @@
 use crate::causes::{Cannot, tell_cause, tell_why};
 use crate::dialing::Telling;
 use crate::serving::new_server;
-use crate::showing::Standing;
+use crate::wire::Wire;
 use kmip_commands::ExitStatus;
 use kmip_server::IndexedStore;
 use kmip_transport::{Loopback, StreamLink, Tcp, Unix};
@@ -18,10 +18,10 @@ pub(crate) fn tcp_link<'a>(
     rt: &'a HostRuntime,
     address: SocketAddrV4,
     limit: Duration,
-    standing: Option<&'a Standing<'a>>,
+    wire: Option<&'a Wire>,
 ) -> StreamLink<Telling<'a, Tcp<&'a HostRuntime>>> {
     let dial = Tcp::new(rt, SocketAddr::V4(address));
-    StreamLink::new(Telling::new(rt, dial, standing), limit)
+    StreamLink::new(Telling::new(rt, dial, wire), limit)
 }
 
 /// A link to the server behind the Unix socket at a path; where it can be none, that is printed.
@@ -29,11 +29,11 @@ pub(crate) fn unix_link<'a>(
     rt: &'a HostRuntime,
     path: &str,
     limit: Duration,
-    standing: Option<&'a Standing<'a>>,
+    wire: Option<&'a Wire>,
 ) -> io::Result<Option<StreamLink<Telling<'a, Unix<&'a HostRuntime>>>>> {
     match net::SocketAddr::from_pathname(path) {
         Ok(address) => {
-            let dial = Telling::new(rt, Unix::new(rt, address), standing);
+            let dial = Telling::new(rt, Unix::new(rt, address), wire);
             Ok(Some(StreamLink::new(dial, limit)))
         }
         Err(error) => {
