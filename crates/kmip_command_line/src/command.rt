@@ -91,14 +91,15 @@ const SERVE_COMMAND: Subcommand = Subcommand {
     keeps_progress: false,
 };
 
+/// The commands, in the order in which a person needs them.
 const COMMANDS: [Subcommand; 7] = [
-    ANSWER_COMMAND,
-    SHOW_COMMAND,
     CHECK_COMMAND,
     SIM_COMMAND,
-    RUN_COMMAND,
     PROBE_COMMAND,
+    RUN_COMMAND,
     SERVE_COMMAND,
+    ANSWER_COMMAND,
+    SHOW_COMMAND,
 ];
 
 /// The program with its commands.

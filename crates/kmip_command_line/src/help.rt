@@ -1,65 +1,61 @@
 //! The texts of the help.
 
 pub(crate) const ABOUT: &str = "\
-Brings the keys of a plan to a key server over the Key Management Interoperability Protocol (KMIP) 2.1, so
-that no key is ever made twice or destroyed too early, also where replies are lost. Plans are checked before
-anything is asked of a server, and can be carried out over a simulated network, which loses, repeats and
-delays messages as a script says. A test server that holds its keys in memory answers over a port of this
-machine, or in lines of hexadecimal digits; messages can be shown as text.";
+Brings the keys of a plan to a key server, over KMIP 2.1 (Key Management Interoperability Protocol).
+No key is ever made twice or destroyed too early, also where replies are lost.";
 
 pub(crate) const AFTER_HELP: &str = "\
-Without words it does `answer`. Everything is printed on standard output, faults of the command line too,
-but for this, which goes to standard error: what `run` tells while it works, why a server can't be reached,
-where and why a plan or a progress is refused, why a file, a socket or a stream fails, what to give in the
-place of a wrong address, what a terminal is asked for, and that a command line is no UTF-8.
+A first look, with a server in the same process:
+  kmipctl check --plan plan.toml
+  kmipctl run --plan plan.toml --progress plan.progress --loopback
+
+Results stand on standard output, and so do faults of the command line. Standard error says why
+something fails, and what `run` does meanwhile. Without a command, kmipctl does `answer`.
 
 Exit status:
-  0  nothing was refused, a run, or the last one of a simulation, finished all keys, and a server that was
-     probed keeps every rule
-  1  a line, a stream, a plan, a progress or a script was refused, a plan does not prolong the earlier one,
-     a run left keys unfinished, a rule is not seen to be kept, or reading, writing, listening or memory
-     failed
-  2  the command line is wrong
+  0  all is done: nothing was refused, and all keys are finished; of a probed server, that it keeps
+     every rule
+  1  something was refused, failed, is not finished, or is not seen to be kept
+  2  the command line is wrong";
 
-Examples, a plan carried out against a server in the same process, and bytes that are no message with the
-reply Invalid Message as text:
-  kmipctl run --plan plan.toml --progress plan.progress --loopback
-  echo 00 | kmipctl answer | kmipctl show";
-
-pub(crate) const ANSWER: &str = "Replies to messages: a line of hexadecimal digits in, a line out";
+pub(crate) const ANSWER: &str = "Answers requests: a line of hexadecimal digits in, a line out";
 
 pub(crate) const ANSWER_LONG: &str = "\
-Replies to each line of standard input, a message in hexadecimal digits of either case, by a line of
-standard output, the reply in lower-case digits. One server replies to all of them in turn: it starts
-with no object, has room for 10,000, and tells the time 0.
+Answers each request on standard input by a reply on standard output. A request is a line of
+hexadecimal digits of either case. A reply is a line of lower-case digits. One test server answers
+them all in turn. It starts with no object, has room for 10,000, and tells the time 0.
 
-An empty line is skipped. A line of more than 16,384 digits prints `refused: length`, and one that is
-no hexadecimal prints `refused: hex`; neither ends the command. The last line may lack its line feed.
-Where reading fails it prints `cannot read input`, and where there is no memory `no memory`, and ends.
+An empty line is skipped. These lines are refused, and the command goes on:
+  refused: length   the line has more than 16,384 digits
+  refused: hex      the line is no hexadecimal
+The last line may lack its line feed. The command ends with `cannot read input` where reading fails,
+and with `no memory` where memory runs out.
 
-With --stream the lines are pieces of one stream of messages, cut anywhere, and each message is answered
-as soon as it is whole; a line that is refused adds nothing. Eight bytes that should begin a message and
-do not print `stream refused: 1 BadHead`, with the fault's number and name, and end the command; where the
-stream ends inside a message, `stream cut: 100` says how many bytes of it came.";
+With --stream the lines are pieces of one stream of requests, cut anywhere. Each request is answered
+as soon as it is whole. A line that is refused adds nothing. These lines end the command:
+  stream refused: 1 BadHead   eight bytes that should begin a request do not: the fault's number and
+                              name
+  stream cut: 100             the stream ended inside a request, of which 100 bytes came";
 
-pub(crate) const STREAM: &str = "Take the lines as pieces of one stream of messages";
+pub(crate) const STREAM: &str = "Take the lines as pieces of one stream of requests";
 
-pub(crate) const SHOW: &str = "Shows items: a line of hexadecimal digits in, lines of text out";
+pub(crate) const SHOW: &str =
+    "Shows messages as text: a line of hexadecimal digits in, lines of text out";
 
 pub(crate) const SHOW_LONG: &str = "\
-Shows the item that each line of standard input spells in hexadecimal digits of either case: a line
-for the item with its tag, its type and its value, and below a Structure's line those of its items,
-two spaces further to the right.
+Shows the item (a message, or a part of one) that each line of standard input spells. A line has
+hexadecimal digits of either case. The item gets a line with its tag, its type and its value. The
+items in a Structure follow, two spaces further to the right.
 
-A line that spells no item prints its first fault, as `refused: 1 Short at 0`, with the fault's number,
-its name and the offset of the item at fault; bytes after the item print `refused: extra at 16`. Empty,
-long and wrong lines are treated as by `answer`.";
+A line that spells no item prints its first fault, as `refused: 1 Short at 0`. That is the fault's
+number, its name, and the offset of the item at fault. Bytes after the item print `refused: extra at
+16`. Empty, long and wrong lines are treated as by `answer`.";
 
-pub(crate) const CHECK: &str = "Judges a plan of keys, and prints a line for each key";
+pub(crate) const CHECK: &str = "Checks a plan, and prints what it says of each key";
 
 pub(crate) const CHECK_LONG: &str = "\
-Judges the plan in a file, and prints for each of its keys the name, the algorithm, the length in bits,
-the usage mask in hexadecimal, the target, and the steps that lead there:
+Checks the plan in a file. For each key it prints the name, the algorithm, the length in bits, the
+usage mask in hexadecimal, the target, and the steps to the target:
   k1 AES 256 0000000c active: Create Activate
 
 A plan is TOML with 1 to 1,000 tables `[[key]]`:
@@ -70,78 +66,76 @@ A plan is TOML with 1 to 1,000 tables `[[key]]`:
   usage = [\"encrypt\", \"decrypt\"]
   target = \"active\"
 
-A usage is sign, verify, encrypt, decrypt, wrap-key, unwrap-key, mac-generate or mac-verify. A target is
-created, active, revoked, destroyed or discarded. A key that is revoked or destroyed may have a `reason`:
-unspecified, affiliation-changed, superseded, cessation-of-operation or privilege-withdrawn.
+  usage   sign, verify, encrypt, decrypt, wrap-key, unwrap-key, mac-generate, mac-verify
+  target  created, active, revoked, destroyed, discarded
+  reason  where the target is revoked or destroyed: unspecified, affiliation-changed, superseded,
+          cessation-of-operation, privilege-withdrawn
 
-The whole plan is judged before anything is printed. One with a fault prints its first one alone, as
-`plan refused: 4 Missing length at key 1`: the fault's number, its name, the field where there is one,
-and the place of the key, where 0 is beside the keys. Of a field that plans do not have, a byte that is
-no plain character is printed as a backslash and two digits. A file that cannot be read as text prints
-`cannot read PATH`, and one of more than 16,777,216 bytes `longer than 16777216 bytes: PATH`.
+The whole plan is checked before anything is printed. A plan with a fault prints its first fault
+alone, as `plan refused: 4 Missing length at key 1`. That is the fault's number, its name, the field
+where there is one, and the place of the key (0 is beside the keys). Standard error says where it is
+and what may stand there. In a field that plans do not have, a byte that is no plain character is
+printed as a backslash and two digits. These lines say that there is no text to check:
+  cannot read PATH                  the file cannot be read, or is no UTF-8
+  longer than 16777216 bytes: PATH  the file is too long
 
-With --after it also says whether the plan prolongs an earlier one, so that all that was done by the
-earlier plan is a beginning of what this one wants. The keys of the earlier plan have to come first, in
-the same order, and each with the same algorithm, length and usage, a target whose steps begin with the
-steps to its earlier target, and, where a Revoke was among those, the same reason. New keys come after
-them. Below the lines of the keys stands `prolongs`, or `prolongs not` with the exit status 1. This plan
-is read and judged first, then the earlier one, before anything is printed: the first fault is printed
-alone.";
+With --after it also says whether the plan prolongs an earlier one: `prolongs`, or `prolongs not`
+with exit status 1. A plan prolongs an earlier one where
+  - the keys of the earlier plan come first, in their order,
+  - each has the algorithm, length and usage of before,
+  - the steps to its earlier target are the first steps to its new one,
+  - and where a Revoke is among these, its reason is the one of before.
+This plan is checked first, then the earlier one. The first fault is printed alone.";
 
-pub(crate) const SIM: &str = "Carries out a plan over a simulated network that follows a script";
+pub(crate) const SIM: &str =
+    "Plays a plan against a test server, over a network that follows a script";
 
 pub(crate) const SIM_LONG: &str = "\
-Carries out the plan in a file (see `check --help`) against a test server in this program, which starts
-with no object and has room for 10,000, over a network that does to each message what the script says.
-It prints for each run `run I STOP EXCHANGES` and its report, a line for each key and one that counts the
-finished ones; then `ask N OPERATION NAME` for each request that was asked, and `record UID NAME STATE` for
-each object of the server:
-  run 1 AllFinished 3
-  k1 active 2/2 finished
-  finished 1 of 1
-  ask 1 Locate k1
+Carries out the plan in a file (see `check --help`) against a test server in this program. The server
+starts with no object, and has room for 10,000. The network does to each message what the script says.
+  run 1 AllFinished 3          each run: why it stopped, after how many exchanges
+  k1 active 2/2 finished       its report: a line a key
+  finished 1 of 1              and how many keys are finished
+  ask 1 Locate k1              then each request, in order
   ask 2 Create k1
   ask 3 Activate k1
-  record 1 k1 Active
+  record 1 k1 Active           and each object of the server: identifier, name, state
 
-A script has a word a line, at most 10,000 lines. A line ends in a line feed alone (no carriage
-return), and an empty one is skipped. For one exchange each:
+A script has a word a line, and at most 10,000 lines. A line ends in a line feed alone (no carriage
+return). An empty line is skipped. For one exchange each:
   pass          the request is delivered, and its reply handed over
   lose-request  the request is lost
   lose-reply    the request is delivered, and its reply lost
   cut N         only the first N bytes of the request arrive
-  stale N       the request is lost, and the reply of number N is handed over, an old one perhaps
+  stale N       the request is lost, and the reply of number N is handed over instead
 Before an exchange:
   again N       the request of number N is delivered again, and its reply kept back
 To end a run:
   save          what is known is saved, and the next run goes on from there
   restart N     the next run starts from the save of number N
   restart none  the next run starts from nothing
-  prolong       with --then alone: what is known is saved, and the runs behind it are of the further plan
-A run makes as many exchanges as it has words for them. The last one goes on, with a network that loses
-nothing, for as many as the plan can need then: two more for each key than its target has steps. STOP is
-AllFinished, Limit or Conflict. Where there is no memory the runs that were made are printed, and then
-`no memory`.
+  prolong       with --then alone: what is known is saved, and the runs after it are of the further plan
+A run makes as many exchanges as it has words for them. The last run goes on after its words, over a
+network that loses nothing. It makes as many exchanges as the plan can need then: two more for each key
+than its target has steps. STOP is AllFinished, Limit or Conflict. Where memory runs out, the runs that
+were made are printed, and then `no memory`.
 
-With --trace a line for each exchange comes before all else, `exchange N OPERATION NAME, WORD: OUTCOME`:
-what was asked, the word of the script that the exchange followed, and what came back. Where that is the
-reply to another question, the outcome begins with `answers OPERATION NAME`:
+With --trace each exchange is printed first: what was asked, the word that the exchange followed, and
+what came back. Where that is the reply to another question it begins with `answers OPERATION NAME`:
   exchange 1 Locate k1, pass: found none
   exchange 2 Create k1, lose-reply: no reply
-Where there is no memory in a run, no exchange is printed.
+Where memory runs out in a run, no exchange is printed.
 
-With --batch B a message asks about up to B keys, and its reply answers all that it asks; what a run asks
-together stands in one line, with `, ` between:
+With --batch B a message asks about up to B keys, and its reply answers all of them:
   ask 1 Locate k1, Locate k2
-The script is of messages then: a word is for one exchange, whatever it asks, and its bytes that a `cut`
-leaves are those of the whole message. The last run goes on for as many exchanges as with one key a
-message, and needs fewer where nothing is lost.
+A word of the script is for one message then, and `cut N` leaves N bytes of the whole message. The last
+run may make as many exchanges as with one key a message; it needs fewer where nothing is lost.
 
-With --then the keys are brought further while the network goes on as it does: the runs before the one
-word `prolong` are of the plan, and those behind it of the further plan, which has to prolong it as `check
---help` says. The server and all that is under way stay, so a request of before can still arrive, and its
-reply too. The run that `prolong` ends is saved, and the first run of the further plan goes on from there;
-each run prints the report of its own plan. Say one plan makes k1 and the other discards it:
+With --then a further plan takes over while the network goes on. The script has one word `prolong`: the
+runs before it are of the plan, those after it of the further plan. The further plan has to prolong the
+plan, as `check --help` says. The server stays, and what is under way can still arrive. The run that
+`prolong` ends is saved, and the next run goes on from there. Each run prints the report of its own plan.
+Say one plan makes k1, and the other discards it:
   kmipctl sim --plan created.toml --then discarded.toml --script network.script
 With a script of the words pass, pass, prolong, pass, pass and again 2 it prints
   run 1 AllFinished 2
@@ -150,26 +144,25 @@ With a script of the words pass, pass, prolong, pass, pass and again 2 it prints
   run 2 AllFinished 2
   k1 discarded 2/2 finished
   finished 1 of 1
-and then what was asked, Locate and Create, and GetAttributes and Destroy under the further plan.
+and then what was asked: Locate and Create, then GetAttributes and Destroy.
 
-The plan is read and judged first, then the further plan, then the script; the first fault is printed
-alone: a plan's as by `check`, one that does not prolong the plan as `plan refused: prolongs not`, the
-script's as `script refused: line 3`, where line 0 means that `prolong` does not stand as often as it has
-to, once with --then and else never.";
+The plan is checked first, then the further plan, then the script. The first fault is printed alone:
+  plan refused: 4 Missing length at key 1   as by `check`
+  plan refused: prolongs not                the further plan does not prolong the plan
+  script refused: line 3                    line 0 means that `prolong` stands too often, or is missing";
 
 pub(crate) const PLAN: &str = "The file of the plan";
 
 pub(crate) const SCRIPT: &str = "The file of the script: what the network does, a word a line";
 
 pub(crate) const THEN: &str =
-    "The file of a further plan, which prolongs the plan and is carried out behind `prolong`";
+    "The file of a further plan, which prolongs the plan and takes over at `prolong`";
 
 pub(crate) const TRACE: &str = "Print each exchange first: what was asked, and what came back";
 
 pub(crate) const AFTER: &str = "The file of an earlier plan, which the plan is to prolong";
 
-pub(crate) const CANON: &str =
-    "Print the item's one written form, the padding zero, in lower-case digits";
+pub(crate) const CANON: &str = "Print the one written form of each item, in lower-case digits";
 
 pub(crate) const RUN: &str =
     "Carries out a plan against a server, and keeps what is known in a file";
@@ -204,11 +197,20 @@ The plan is read and judged first (its first fault is printed as by `check`), th
 (`progress refused: 2 Cut`), before anything is asked. A progress file that cannot be written prints
 `cannot write PATH`: what was asked last may have taken effect, and a later run finds it.
 
-While it works, it shows on standard error how far it is, in one line that is written again after each
-exchange, where that is a terminal and `--verbose` does not tell each exchange there:
-  1 of 3 keys finished, at most 9 more exchanges if nothing more is lost; 8 made, 2 without a reply
-Why the server can't be reached stands there too, once for each time:
-  cannot connect: Connection refused (os error 111)
+A run gets on where it learns more of some key. After an exchange by which it does not it waits, longer
+each time (`--wait`). Where it did not get on for some time (`--give-up`) it ends as at a limit, and standard
+error says so. It never waits for a server in this process.
+
+On standard error it says why no reply comes, once for each reason, and when the server answers again. At
+the end it says of each key that is not finished what was heard last:
+  no reply from 192.0.2.7:5696: the connection was refused; trying again
+  192.0.2.7:5696 answers again after 41 s
+  backup-seal: Create refused 27 times, last reason 7 (Invalid Field)
+  gave up: nothing was learnt for 300 s
+With `--verbose` it tells each exchange there, with the seconds since the start and what it took:
+  12.310 Create k1: created as 12 (6 ms)
+Else, where standard error is a terminal, one line there says how far the run is:
+  6 of 50 keys, 12 lost, 27 refused, 120 exchanges, 37 s
 
 With `--batch B` a message asks about up to B keys, each once, and the server answers them in turn: a plan
 of many keys takes about B times fewer exchanges. What is promised is the same; where a reply is lost, B
@@ -276,25 +278,31 @@ pub(crate) const SOCKET: &str =
 
 pub(crate) const LOOPBACK: &str = "Have a new server in this process, over a port of this machine";
 
-pub(crate) const LIMIT: &str = "How many exchanges are made at most";
+pub(crate) const LIMIT: &str = "How many exchanges are made at most, 0 to 4294967295";
 
 pub(crate) const BATCH: &str = "How many keys a message asks about at most, 1 to 8";
 
-pub(crate) const TIMEOUT: &str = "The longest that an exchange takes, with connecting";
+pub(crate) const TIMEOUT: &str =
+    "The longest that an exchange takes, with connecting: 1 to 3600 seconds";
 
-pub(crate) const WAIT: &str =
-    "The wait after an exchange without a reply, twice as long each time up to 10 seconds; 0 for none";
+pub(crate) const WAIT: &str = "\
+The first wait after an exchange that did not get the run on, twice as long each time up to 10 seconds: 0 to
+60000 milliseconds, 0 for no wait";
 
-pub(crate) const VERBOSE: &str = "Tell each exchange on standard error";
+pub(crate) const GIVE_UP: &str = "\
+The seconds without getting on after which the run ends: 0 to 86400, 0 for never";
 
-pub(crate) const PORT: &str = "The port, or 0 for one that the system picks";
+pub(crate) const VERBOSE: &str = "Tell each exchange on standard error, a line for each key";
 
-pub(crate) const CONNECTIONS: &str = "How many connections are served";
+pub(crate) const PORT: &str = "The port, 1 to 65535; 0 for one that the system picks";
+
+pub(crate) const CONNECTIONS: &str = "How many connections are served, 0 to 4294967295";
 
 pub(crate) const NOW: &str =
     "What the replies give as the time, in seconds since the start of 1970";
 
-pub(crate) const SERVE_TIMEOUT: &str = "The longest that a read or a write of a connection waits";
+pub(crate) const SERVE_TIMEOUT: &str =
+    "The longest that a read or a write of a connection waits: 1 to 3600 seconds";
 
 pub(crate) const WRONG_ADDRESS: &str =
     "the value of '--connect <ADDRESS>' is no IPv4 address and port, as 127.0.0.1:5696";

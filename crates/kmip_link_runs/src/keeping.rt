@@ -165,16 +165,23 @@ fn run(
     let settings = Settings::of(words)?;
     let plan = fs::read_to_string(rt, settings.plan.unwrap_or(case.file))?;
     let input = RunInput {
-        plan: plan.as_str(),
         path: "over there",
         limit: settings.limit,
         batch: settings.batch,
     };
     if settings.is_short {
-        return run_in_short(rt, &input, saved, case);
+        return run_in_short(rt, plan.as_str(), &input, saved, case);
     }
     let mut shelf = Shelf::new(rt.alloc(), settings.room);
-    let status = run_over(rt, &input, saved, case, &mut shelf, settings.writer)?;
+    let status = run_over(
+        rt,
+        plan.as_str(),
+        &input,
+        saved,
+        case,
+        &mut shelf,
+        settings.writer,
+    )?;
     rt.println(format_args!("exit status {}, {status:?}", status.code()))?;
     shelf.print(rt)
 }
@@ -182,6 +189,7 @@ fn run(
 /// Runs `run`, and prints how much it writes and keeps, with the ends of that.
 fn run_in_short(
     rt: &HostRuntime,
+    plan: &str,
     input: &RunInput<'_>,
     saved: Option<&str>,
     case: &mut Case<'_>,
@@ -193,6 +201,7 @@ fn run_in_short(
     let mut written = Vec::new(rt.alloc());
     let status = run_run(
         rt.alloc(),
+        plan,
         input,
         saved,
         &mut case.link,
@@ -208,6 +217,7 @@ fn run_in_short(
 /// Runs `run`, and prints what it writes where its writer is not one with room for so many bytes.
 fn run_over(
     rt: &HostRuntime,
+    plan: &str,
     input: &RunInput<'_>,
     saved: Option<&str>,
     case: &mut Case<'_>,
@@ -218,16 +228,26 @@ fn run_over(
         return Err(Fail::new("a message asks about one to eight keys"));
     }
     if let Some(size) = writer {
-        return run_in_room(rt.alloc(), input, saved, case, shelf, size);
+        return run_in_room(rt.alloc(), plan, input, saved, case, shelf, size);
     }
     let mut writer = BufWriter::new(rt.alloc(), io::writer(rt))?;
     let (link, patience) = (&mut case.link, &mut case.patience);
-    Ok(run_run(rt.alloc(), input, saved, link, shelf, patience, &mut writer))
+    Ok(run_run(
+        rt.alloc(),
+        plan,
+        input,
+        saved,
+        link,
+        shelf,
+        patience,
+        &mut writer,
+    ))
 }
 
 /// Runs `run` with a writer that has room for so many bytes.
 fn run_in_room(
     alloc: Global,
+    plan: &str,
     input: &RunInput<'_>,
     saved: Option<&str>,
     case: &mut Case<'_>,
@@ -239,7 +259,16 @@ fn run_in_room(
     let mut room = vec![in alloc; 0u8; size]?;
     let mut writer = room.as_mut_slice();
     let (link, patience) = (&mut case.link, &mut case.patience);
-    Ok(run_run(alloc, input, saved, link, shelf, patience, &mut writer))
+    Ok(run_run(
+        alloc,
+        plan,
+        input,
+        saved,
+        link,
+        shelf,
+        patience,
+        &mut writer,
+    ))
 }
 
 /// The client goes on over the link.

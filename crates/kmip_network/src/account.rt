@@ -82,6 +82,11 @@ impl<'a> Account<'a> {
         self.rt
     }
 
+    /// The plan of the run.
+    pub(crate) fn plan(&self) -> &'a Plan {
+        self.plan
+    }
+
     /// What is noted of the streams of an exchange.
     pub(crate) fn wire(&self) -> &Wire {
         &self.wire

@@ -14,7 +14,7 @@ use kmip_choices::{Peer, RunOptions};
 use kmip_commands::ExitStatus;
 use kmip_plan::read_plan;
 use kmip_progress_file::{LockFault, ProgressFile, ProgressLock};
-use kmip_run::{RunInput, batch_of, run_run};
+use kmip_run::{RunInput, batch_of};
 use kmip_running::{Keeper, Observed, SaveFault};
 use kmip_schedule::Link;
 use std::alloc::Global;
@@ -95,7 +95,6 @@ fn run_on(
         Err(status) => return Ok(status),
     };
     let input = RunInput {
-        plan: text,
         path: options.progress.as_str(),
         limit: options.limit as usize,
         batch: batch_of(options.batch),
@@ -185,7 +184,16 @@ fn run_over<L: Link + Drop>(
     let mut watch = Watch::new(account, first_wait(options), options.give_up);
     let mut writer = BufWriter::new(rt.alloc(), standard_output(rt))?;
     let (alloc, patience) = (rt.alloc(), &mut watch);
-    let status = run_run(alloc, input, saved, &mut link, keeper, patience, &mut writer);
+    let status = kmip_run::run_plan(
+        alloc,
+        account.plan(),
+        input,
+        saved,
+        &mut link,
+        keeper,
+        patience,
+        &mut writer,
+    );
     let _ = account.tell_unfinished();
     if watch.has_given_up() {
         account.tell_given_up();

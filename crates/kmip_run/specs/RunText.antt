@@ -90,3 +90,9 @@ pub record WritesRun (untouched : Type 0) (came : List Key → List Knowledge �
   pub text : List ℕ
   pub tells : TellsRun untouched came read saved path limit refused text
   pub written : Appends old new text
+
+-- so it was for a plan that was read before
+pub record WritesPlanRun (untouched : Type 0) (came : List Knowledge → Outcome) (keys : List Key) (saved : Option (List ℕ)) (path : List ℕ) (limit : ℕ) (refused : Bool) (old new : Option (List ℕ)) : Type 0 where
+  pub text : List ℕ
+  pub tells : TellsRunFrom untouched came keys path limit (begin_knowns keys saved) refused text
+  pub written : Appends old new text

@@ -10,6 +10,6 @@ mod telling;
 
 pub use batch::batch_of;
 pub use beginning::begin;
-pub use running::{RunInput, run, run_bytes, run_run};
+pub use running::{RunInput, run, run_bytes, run_plan, run_run};
 pub use spent::Spent;
 pub use standing::standing_line;

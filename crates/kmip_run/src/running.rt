@@ -9,7 +9,7 @@ ghost use Rattle.kmip_schedule.specs.Past.{is_planned};
 ghost use Rattle.kmip_session.specs.Campaign.{GoodLink};
 ghost use Rattle.kmip_session.specs.Driving.{IsGood};
 ghost use Rattle.kmip_run.specs.Course.{AreUntouched, AsksFew, Came, IsGoodStart, IsTrueText, KeepsSafe};
-ghost use Rattle.kmip_run.specs.RunText.{TellsEither, TellsRun, TellsRunFrom, WritesRun, begin_knowns};
+ghost use Rattle.kmip_run.specs.RunText.{TellsEither, TellsRun, TellsRunFrom, WritesPlanRun, WritesRun, begin_knowns};
 
 use crate::beginning::begin;
 use crate::telling::{progress_refusal_text, run_text, unwritten_text};
@@ -30,8 +30,6 @@ use std::mem;
 /// What a run is given.
 #[derive(Clone, Copy, Debug)]
 pub struct RunInput<'a> {
-    /// The text of the plan.
-    pub plan: &'a str,
     /// Where what is known is kept, as it is named where it cannot be written.
     pub path: &'a str,
     /// How many exchanges may be made at most.
@@ -50,6 +48,7 @@ struct Told {
 /// Runs `run`, and prints a line for want of memory.
 pub fn run_run<L: Link, K: Keeper, E: Patience, W: Write>(
     alloc: Global,
+    plan: &str,
     input: &RunInput<'_>,
     saved: Option<&str>,
     link: &mut L,
@@ -65,21 +64,108 @@ pub fn run_run<L: Link, K: Keeper, E: Patience, W: Write>(
         (E.has_given_up patience.old) (E.has_given_up patience.new)
         (IsGoodStart L.past L.honest (option_map (λ text. text.now) saved.entry) link.old)
         link.old link.new keeper.old keeper.new)
-        (plan_read input.now.plan.now) (option_map (λ text. text.now) saved.entry)
+        (plan_read plan.now) (option_map (λ text. text.now) saved.entry)
         input.now.path.now input.now.limit r (W.contents writer.old) (W.contents writer.new)) }
     ensures broken { IfFailed result (λ fault. UnlessOutput fault
         (Appends (W.contents writer.old) (W.contents writer.new) (fault_line fault))) }
-    ensures safe { (keys : List Key) → plan_read input.now.plan.now ≡ Ok keys
+    ensures safe { (keys : List Key) → plan_read plan.now ≡ Ok keys
         → GoodLink L.past L.honest keys link.old
         → IsTrueText (L.past link.old).objects keys
         (option_map (λ text. text.now) saved.entry)
         → KeepsSafe L.past L.honest keys link.old link.new }
-    ensures few { (keys : List Key) → plan_read input.now.plan.now ≡ Ok keys
+    ensures few { (keys : List Key) → plan_read plan.now ≡ Ok keys
         → L.honest link.old (is_planned keys) → IfWhole result (λ r. AsksFew keys input.now.batch
         (L.past link.old) (L.past link.new)) }
 {
-    let ended = run(alloc, input, saved, link, keeper, patience, writer);
+    let ended = run(alloc, plan, input, saved, link, keeper, patience, writer);
     finished(ended, writer)
+}
+
+/// Runs `run` for a plan that was read before, and prints a line for want of memory.
+pub fn run_plan<L: Link, K: Keeper, E: Patience, W: Write>(
+    alloc: Global,
+    plan: &Plan,
+    input: &RunInput<'_>,
+    saved: Option<&str>,
+    link: &mut L,
+    keeper: &mut K,
+    patience: &mut E,
+    writer: &mut W,
+) -> ExitStatus
+    requires { IsTrue (may_have input.now.batch) }
+    ensures text { IfWhole result (λ r. WritesPlanRun
+        (AreUntouched link.old link.new keeper.old keeper.new)
+        (Came L.past L.honest L.calm L.disturbances K.keeps K.saved K.refusals
+        input.now.limit input.now.batch
+        (E.has_given_up patience.old) (E.has_given_up patience.new)
+        (IsGoodStart L.past L.honest (option_map (λ text. text.now) saved.entry) link.old)
+        link.old link.new keeper.old keeper.new plan.now)
+        plan.now (option_map (λ text. text.now) saved.entry)
+        input.now.path.now input.now.limit r (W.contents writer.old) (W.contents writer.new)) }
+    ensures broken { IfFailed result (λ fault. UnlessOutput fault
+        (Appends (W.contents writer.old) (W.contents writer.new) (fault_line fault))) }
+    ensures safe { GoodLink L.past L.honest plan.now link.old
+        → IsTrueText (L.past link.old).objects plan.now
+        (option_map (λ text. text.now) saved.entry)
+        → KeepsSafe L.past L.honest plan.now link.old link.new }
+    ensures few { L.honest link.old (is_planned plan.now) → IfWhole result (λ r. AsksFew plan.now
+        input.now.batch (L.past link.old) (L.past link.new)) }
+{
+    let ended = write_plan_run(alloc, plan, input, saved, link, keeper, patience, writer);
+    finished(ended, writer)
+}
+
+/// Carries out a plan, and writes what is told of it.
+///
+/// # Errors
+/// `Output` where the writer fails, and `NoMemory`: nothing is written then.
+fn write_plan_run<L: Link, K: Keeper, E: Patience, W: Write>(
+    alloc: Global,
+    plan: &Plan,
+    input: &RunInput<'_>,
+    saved: Option<&str>,
+    link: &mut L,
+    keeper: &mut K,
+    patience: &mut E,
+    writer: &mut W,
+) -> Result<bool, CommandFault>
+    requires { IsTrue (may_have input.now.batch) }
+    ensures text { IfOk result (λ r. WritesPlanRun
+        (AreUntouched link.old link.new keeper.old keeper.new)
+        (Came L.past L.honest L.calm L.disturbances K.keeps K.saved K.refusals
+        input.now.limit input.now.batch
+        (E.has_given_up patience.old) (E.has_given_up patience.new)
+        (IsGoodStart L.past L.honest (option_map (λ text. text.now) saved.entry) link.old)
+        link.old link.new keeper.old keeper.new plan.now)
+        plan.now (option_map (λ text. text.now) saved.entry)
+        input.now.path.now input.now.limit r (W.contents writer.old) (W.contents writer.new)) }
+    ensures broken { IfErr result (λ fault. UnlessOutput fault
+        (Appends (W.contents writer.old) (W.contents writer.new) [])) }
+    ensures no_input { IfErr result (λ fault. fault ≢ CommandFault.Input) }
+    ensures safe { GoodLink L.past L.honest plan.now link.old
+        → IsTrueText (L.past link.old).objects plan.now
+        (option_map (λ text. text.now) saved.entry)
+        → KeepsSafe L.past L.honest plan.now link.old link.new }
+    ensures few { L.honest link.old (is_planned plan.now) → IfOk result (λ r. AsksFew plan.now
+        input.now.batch (L.past link.old) (L.past link.new)) }
+{
+    let told = told_of_plan(alloc, plan, input, saved, link, keeper, patience)?;
+    print_told(&told, writer)
+}
+
+/// Prints what is told of a run, and says whether something was refused, not written or left
+/// unfinished.
+///
+/// # Errors
+/// The fault of the printer.
+fn print_told<P: Printer>(told: &Told, printer: &mut P) -> Result<bool, CommandFault>
+    ensures text { IfOk result (λ r. (r ≡ told.now.refused)
+        × Appends (P.contents printer.old) (P.contents printer.new) told.now.text.items) }
+    ensures broken { IfErr result (λ fault. Fails fault P.own_fault P.IsWhole
+        (P.contents printer.old) (P.contents printer.new)) }
+{
+    printer.print(told.text.as_slice())?;
+    Ok(told.refused)
 }
 
 /// Carries out the text of a plan over the link, from nothing or from what the text of a saved
@@ -99,6 +185,7 @@ pub fn run_run<L: Link, K: Keeper, E: Patience, W: Write>(
 /// given stays.
 pub fn run<L: Link, K: Keeper, E: Patience, W: Write>(
     alloc: Global,
+    plan: &str,
     input: &RunInput<'_>,
     saved: Option<&str>,
     link: &mut L,
@@ -114,21 +201,21 @@ pub fn run<L: Link, K: Keeper, E: Patience, W: Write>(
         (E.has_given_up patience.old) (E.has_given_up patience.new)
         (IsGoodStart L.past L.honest (option_map (λ text. text.now) saved.entry) link.old)
         link.old link.new keeper.old keeper.new)
-        (plan_read input.now.plan.now) (option_map (λ text. text.now) saved.entry)
+        (plan_read plan.now) (option_map (λ text. text.now) saved.entry)
         input.now.path.now input.now.limit r (W.contents writer.old) (W.contents writer.new)) }
     ensures broken { IfErr result (λ fault. UnlessOutput fault
         (Appends (W.contents writer.old) (W.contents writer.new) [])) }
     ensures no_input { IfErr result (λ fault. fault ≢ CommandFault.Input) }
-    ensures safe { (keys : List Key) → plan_read input.now.plan.now ≡ Ok keys
+    ensures safe { (keys : List Key) → plan_read plan.now ≡ Ok keys
         → GoodLink L.past L.honest keys link.old
         → IsTrueText (L.past link.old).objects keys
         (option_map (λ text. text.now) saved.entry)
         → KeepsSafe L.past L.honest keys link.old link.new }
-    ensures few { (keys : List Key) → plan_read input.now.plan.now ≡ Ok keys
+    ensures few { (keys : List Key) → plan_read plan.now ≡ Ok keys
         → L.honest link.old (is_planned keys) → IfOk result (λ r. AsksFew keys input.now.batch
         (L.past link.old) (L.past link.new)) }
 {
-    run_to(alloc, input, saved, link, keeper, patience, writer)
+    run_to(alloc, plan, input, saved, link, keeper, patience, writer)
 }
 
 /// Does the same in memory: appends what is written to `output`.
@@ -138,6 +225,7 @@ pub fn run<L: Link, K: Keeper, E: Patience, W: Write>(
 /// Where there is no memory; then nothing is appended. What the keeper was given stays.
 pub fn run_bytes<L: Link, K: Keeper, E: Patience>(
     alloc: Global,
+    plan: &str,
     input: &RunInput<'_>,
     saved: Option<&str>,
     link: &mut L,
@@ -153,22 +241,31 @@ pub fn run_bytes<L: Link, K: Keeper, E: Patience>(
         (E.has_given_up patience.old) (E.has_given_up patience.new)
         (IsGoodStart L.past L.honest (option_map (λ text. text.now) saved.entry) link.old)
         link.old link.new keeper.old keeper.new)
-        (plan_read input.now.plan.now) (option_map (λ text. text.now) saved.entry)
+        (plan_read plan.now) (option_map (λ text. text.now) saved.entry)
         input.now.path.now input.now.limit r (Some output.old.items) (Some output.new.items)) }
     ensures broken { OnErr result (output.new.items ≡ output.old.items) }
-    ensures safe { (keys : List Key) → plan_read input.now.plan.now ≡ Ok keys
+    ensures safe { (keys : List Key) → plan_read plan.now ≡ Ok keys
         → GoodLink L.past L.honest keys link.old
         → IsTrueText (L.past link.old).objects keys
         (option_map (λ text. text.now) saved.entry)
         → KeepsSafe L.past L.honest keys link.old link.new }
-    ensures few { (keys : List Key) → plan_read input.now.plan.now ≡ Ok keys
+    ensures few { (keys : List Key) → plan_read plan.now ≡ Ok keys
         → L.honest link.old (is_planned keys) → IfOk result (λ r. AsksFew keys input.now.batch
         (L.past link.old) (L.past link.new)) }
 {
     let mut printed = Printed {
         text: mem::replace(output, Vec::new(alloc)),
     };
-    let ended = run_to(alloc, input, saved, link, keeper, patience, &mut printed);
+    let ended = run_to(
+        alloc,
+        plan,
+        input,
+        saved,
+        link,
+        keeper,
+        patience,
+        &mut printed,
+    );
     *output = printed.text;
     match ended {
         Ok(refused) => Ok(refused),
@@ -183,6 +280,7 @@ pub fn run_bytes<L: Link, K: Keeper, E: Patience>(
 /// `NoMemory`, and the fault of the printer.
 fn run_to<L: Link, K: Keeper, E: Patience, P: Printer>(
     alloc: Global,
+    plan: &str,
     input: &RunInput<'_>,
     saved: Option<&str>,
     link: &mut L,
@@ -198,22 +296,21 @@ fn run_to<L: Link, K: Keeper, E: Patience, P: Printer>(
         (E.has_given_up patience.old) (E.has_given_up patience.new)
         (IsGoodStart L.past L.honest (option_map (λ text. text.now) saved.entry) link.old)
         link.old link.new keeper.old keeper.new)
-        (plan_read input.now.plan.now) (option_map (λ text. text.now) saved.entry)
+        (plan_read plan.now) (option_map (λ text. text.now) saved.entry)
         input.now.path.now input.now.limit r (P.contents printer.old) (P.contents printer.new)) }
     ensures broken { IfErr result (λ fault. Fails fault P.own_fault P.IsWhole
         (P.contents printer.old) (P.contents printer.new)) }
-    ensures safe { (keys : List Key) → plan_read input.now.plan.now ≡ Ok keys
+    ensures safe { (keys : List Key) → plan_read plan.now ≡ Ok keys
         → GoodLink L.past L.honest keys link.old
         → IsTrueText (L.past link.old).objects keys
         (option_map (λ text. text.now) saved.entry)
         → KeepsSafe L.past L.honest keys link.old link.new }
-    ensures few { (keys : List Key) → plan_read input.now.plan.now ≡ Ok keys
+    ensures few { (keys : List Key) → plan_read plan.now ≡ Ok keys
         → L.honest link.old (is_planned keys) → IfOk result (λ r. AsksFew keys input.now.batch
         (L.past link.old) (L.past link.new)) }
 {
-    let told = told_of(alloc, input, saved, link, keeper, patience)?;
-    printer.print(told.text.as_slice())?;
-    Ok(told.refused)
+    let told = told_of(alloc, plan, input, saved, link, keeper, patience)?;
+    print_told(&told, printer)
 }
 
 /// What is told of a run of the text of a plan.
@@ -222,6 +319,7 @@ fn run_to<L: Link, K: Keeper, E: Patience, P: Printer>(
 /// Where there is no memory.
 fn told_of<L: Link, K: Keeper, E: Patience>(
     alloc: Global,
+    plan: &str,
     input: &RunInput<'_>,
     saved: Option<&str>,
     link: &mut L,
@@ -236,19 +334,19 @@ fn told_of<L: Link, K: Keeper, E: Patience>(
         (E.has_given_up patience.old) (E.has_given_up patience.new)
         (IsGoodStart L.past L.honest (option_map (λ text. text.now) saved.entry) link.old)
         link.old link.new keeper.old keeper.new)
-        (plan_read input.now.plan.now) (option_map (λ text. text.now) saved.entry)
+        (plan_read plan.now) (option_map (λ text. text.now) saved.entry)
         input.now.path.now input.now.limit told.refused told.text.items) }
-    ensures safe { (keys : List Key) → plan_read input.now.plan.now ≡ Ok keys
+    ensures safe { (keys : List Key) → plan_read plan.now ≡ Ok keys
         → GoodLink L.past L.honest keys link.old
         → IsTrueText (L.past link.old).objects keys
         (option_map (λ text. text.now) saved.entry)
         → KeepsSafe L.past L.honest keys link.old link.new }
-    ensures few { (keys : List Key) → plan_read input.now.plan.now ≡ Ok keys
+    ensures few { (keys : List Key) → plan_read plan.now ≡ Ok keys
         → L.honest link.old (is_planned keys) → IfOk result (λ r. AsksFew keys input.now.batch
         (L.past link.old) (L.past link.new)) }
 {
     onward_is_an_order();
-    match read_plan(alloc, input.plan) {
+    match read_plan(alloc, plan) {
         Ok(plan) => told_of_plan(alloc, &plan, input, saved, link, keeper, patience),
         Err(fault) => {
             let mut text = Vec::new(alloc);

@@ -1,5 +1,5 @@
 -- Carrying out a plan: exchanges, what is saved of them, and the end.
-use Rattle.std.proofs.Common.{Option, Some, None, ◌++◌, ◌≡◌, ◌≢◌, ◌≤◌, ◌⊎◌, ℕ, suc, ◌+◌, nat_le, ◌<◌, List, [], ◌∷◌, Result, Ok, Err, IfOk, OnErr, OnOk, false, sym, ap, subst, refl, ◌∙◌, inl, inr, arith}
+use Rattle.std.proofs.Common.{Option, Some, None, Bool, true, ◌++◌, ◌≡◌, ◌≢◌, ◌≤◌, ◌⊎◌, ℕ, suc, ◌+◌, nat_le, ◌<◌, List, [], ◌∷◌, Result, Ok, Err, IfOk, OnErr, OnOk, false, sym, ap, subst, refl, ◌∙◌, inl, inr, arith}
 use Rattle.std.proofs.lemmas.Bool.{cases_Bool, le-ltb, leb-true}
 use Rattle.kmip_objects.specs.Objects.{Object}
 use Rattle.kmip_chains.specs.Chains.{bound}
@@ -20,10 +20,10 @@ use Rattle.kmip_session.specs.Driving.{AreFinished, AsksOne, Grown, IsGood, IsSe
 use Rattle.kmip_session.specs.declared.stop.Stop.{Stop}
 use Rattle.kmip_session.specs.declared.stop.Stop.TheVariants as stops
 use Rattle.kmip_running.specs.Carried.{Carried, CarryingLaws, Went}
-use Rattle.kmip_running.specs.Saved.{AreSaved, IsInMemory, AreUnsaved, IsWhole, Moment, moment}
+use Rattle.kmip_running.specs.Saved.{AreSaved, IsInMemory, AreUnsaved, IsLeft, IsWhole, Moment, moment}
 use Rattle.kmip_running.specs.declared.keeper.SaveFault.{SaveFault}
 use Rattle.kmip_running.proofs.SavedLemmas.{saved_broken, saved_closed, saved_none, saved_not, saved_one, saved_then}
-use Rattle.kmip_running.proofs.WentLemmas.{kept_itself, learnt_delivered, stop_is, went_closed, went_nowhere, went_then}
+use Rattle.kmip_running.proofs.WentLemmas.{kept_itself, learnt_delivered, stop_is, went_closed, went_nowhere, went_then, went_unbegun}
 
 -- ---- how the end of the run changes the answer
 
@@ -168,6 +168,16 @@ module _ {L : Type 0} (past : L → Past) (honest calm : L → Names → Type 0)
           );
         }
 
+    -- where there was no memory to begin with
+    pub carried_unbegun : CarryingLaws → (c : ClientState) (x : L) (i : K) → Carried past honest calm keeps saved c c x x i i (Ok stops.NoMemory) 0
+    carried_unbegun l c x i = record {
+      went = went_unbegun past honest calm l c x;
+      kept = λ keeping. (
+        keeping,
+        saved_broken c.keys c.batch (IsGood past honest c x) (honest x (is_planned c.keys)) (moment past c x) (moment past c x) 0 (saved i) (kept_itself c.knowns) (omega arith),
+      );
+    }
+
     pub carried_one : (a b : ClientState) (x y : L) (i j : K) (driven : Stop × ℕ) → driven.1 ≡ 1 → driven.0 ≢ stops.NoMemory
         → (keeps i → keeps j × (saved j ≡ saved i ++ progress_text b.keys (progress b) ∷ [])) → Went past honest calm a b x y (Ok driven.0) driven.1
         → Carried past honest calm keeps saved a b x y i j (Ok driven.0) 1
@@ -302,6 +312,19 @@ pub limit_last : {V E : Type 0} (closed : Result V E) (result last : Result Stop
 limit_last (Ok v) result last same stop fault is = sym same ∙ is
 limit_last (Err e) (Ok s) last same stop fault is = let both = stop_is stops.NoMemory stops.Limit (sym stop ∙ is) in absurd cc
 limit_last (Err e) (Err f) last same stop fault is = sym fault ∙ is
+
+-- where it was left, it is once the run has ended
+pub left_last : {V E : Type 0} (closed : Result V E) (result last : Result Stop SaveFault) → OnOk closed (last ≡ result) → OnErr closed (OnOk result (last ≡ Ok stops.NoMemory))
+    → OnErr result (last ≡ result) → IsLeft result → IsLeft last
+left_last (Ok v) result last same stop fault left = subst IsLeft (sym same) left
+left_last (Err e) (Ok s) last same stop fault left = inr stop
+left_last (Err e) (Err f) last same stop fault (inl is) = absurd cc
+left_last (Err e) (Err f) last same stop fault (inr is) = absurd cc
+
+-- as many exchanges were made as may be, where it was not given up
+pub unless_given_up : (result : Result Stop SaveFault) (made limit : ℕ) (tired : Bool) → (result ≡ Ok stops.Limit → (made ≡ limit) ⊎ (tired ≡ true))
+    → tired ≡ false → result ≡ Ok stops.Limit → made ≡ limit
+unless_given_up result made limit tired at fresh is = elim (at is) [ | inl all ↦ all | inr gave ↦ absurd cc ]
 
 module _ {L : Type 0} (past : L → Past) (honest calm : L → Names → Type 0) where
   -- over a calm link, with as many exchanges as the plan is bounded by, all keys are finished

@@ -234,6 +234,23 @@ module _ {L : Type 0} (past : L → Past) (honest calm : L → Names → Type 0)
     near = λ settling whole. record { settling = settling; nearer = omega arith; exactly = λ one. omega arith };
   }
 
+  -- where there was no memory to begin with
+  pub went_unbegun : CarryingLaws → (c : ClientState) (x : L) → Went past honest calm c c x x (Ok stops.NoMemory) 0
+  went_unbegun l c x = record {
+    good = λ good. good;
+    goes = λ good. record { onward = l.itself c.keys (past x).objects; mirrored = λ image. image };
+    known = λ holds. (holds, λ memory. absurd (memory refl));
+    broken = λ holds is. record {
+      between = past x;
+      heard = 0;
+      learnt = learnt_nothing c.keys c.batch (past x) c.knowns;
+      broken = inl (refl, record { asked = inl refl; sent_stays = refl; handed_stays = refl });
+    };
+    grown = λ holds. grown_itself (past x);
+    keeps = keeps_itself c;
+    near = λ settling whole. absurd (whole refl);
+  }
+
   pub went_then : CarryingLaws → (a b c : ClientState) (x y z : L) (stop : Stop) (result : Result Stop SaveFault) (m n : ℕ) → stop ≢ stops.NoMemory
       → Went past honest calm a b x y (Ok stop) m → Went past honest calm b c y z result n → Went past honest calm a c x z result (m + n)
   went_then l a b c x y z stop result m n memory first second =

@@ -1,5 +1,5 @@
--- So many exchanges were made, and are paid for, and what was known after each is saved; no run was ended.
-use Rattle.std.proofs.Common.{◌≡◌, ◌≤◌}
+-- So many exchanges were made, and are paid for, and what was known after each is saved; no run was ended. It was not given up meanwhile.
+use Rattle.std.proofs.Common.{◌≡◌, ◌≤◌, length}
 use Rattle.kmip_schedule.specs.Past.{is_planned}
 use Rattle.kmip_session.specs.Driving.{IsGood}
 use Rattle.kmip_session.specs.Losing.{ArePaid, left_for}
@@ -9,6 +9,8 @@ use Rattle.kmip_running.proofs.carrying.exchange_in_turn.Given as goal
 abbrev pub invariant-loop-made : goal.invariant-loop-made
 invariant-loop-made g l = record {
   carrying : Carrying g.L.Link.past g.L.Link.honest g.L.Link.calm g.K.Keeper.keeps g.K.Keeper.saved l.fn.client l.client l.fn.link l.link l.fn.keeper l.keeper l.made;
+  as_many : length l.sights.items.items ≡ length l.client.keys;
+  patient : g.P.Patience.has_given_up l.patience ≡ g.P.Patience.has_given_up l.fn.patience;
   counted : g.K.Keeper.refusals l.fn.keeper ≤ g.K.Keeper.refusals l.keeper;
   ended : g.L.Link.honest l.fn.link (is_planned l.fn.client.keys) → g.L.Link.ended l.link ≡ g.L.Link.ended l.fn.link;
   paid : IsGood g.L.Link.past g.L.Link.honest l.fn.client l.fn.link

@@ -3,7 +3,7 @@ use Rattle.std.proofs.Common.{subst, sym}
 use Rattle.kmip_plan.specs.Plans.{IsLawful}
 use Rattle.kmip_schedule.specs.Past.{is_planned}
 use Rattle.kmip_session.specs.Losing.{left_for}
-use Rattle.kmip_running.proofs.CarryLemmas.{carried_closed, limit_last, memory_before, stands_last}
+use Rattle.kmip_running.proofs.CarryLemmas.{carried_closed, left_last, limit_last, memory_before, stands_last}
 use Rattle.kmip_running.proofs.EndingLemmas.{ended_once, ended_whole, one_of_both}
 use Rattle.kmip_running.proofs.LosingLemmas.{paid_closed}
 use Rattle.kmip_running.proofs.RefusalLemmas.{output_before}
@@ -28,6 +28,13 @@ returns-clause-limit g c = λ is.
     let done = c.exchange_in_turn-carried in
     let end = c.after_close.ensures in
     done.ensures.limit (limit_last c.close_run-closed.result done.result.0 c.after_close.result end.whole end.stop end.fault is)
+
+pub returns-clause-given_up : goal.returns-clause-given_up
+returns-clause-given_up g c = λ fresh gave.
+    let done = c.exchange_in_turn-carried in
+    let end = c.after_close.ensures in
+    let left = done.ensures.given_up fresh gave in
+    (left_last c.close_run-closed.result done.result.0 c.after_close.result end.whole end.stop end.fault left.0, left.1)
 
 pub returns-clause-ended : goal.returns-clause-ended
 returns-clause-ended g c = λ honest.
