@@ -168,6 +168,7 @@ impl<'a> Account<'a> {
             return Ok(());
         };
         match silence {
+            Some(Silence::NoMemory) => Ok(()), // the run ends
             None => match reach.answer() {
                 Some(then) => self.tell_answers(since(then, now)),
                 None => Ok(()),
@@ -207,7 +208,13 @@ impl<'a> Account<'a> {
         };
         let stories = stories.as_mut_slice();
         for request in &exchange.requests {
-            keep_request(self.rt.alloc(), self.plan.keys(), stories, exchange, request)?;
+            keep_request(
+                self.rt.alloc(),
+                self.plan.keys(),
+                stories,
+                exchange,
+                request,
+            )?;
         }
         Ok(())
     }
@@ -240,7 +247,10 @@ impl<'a> Account<'a> {
             (None, None) => line.push_str("no answer in the reply")?,
         }
         let took = since(self.exchange_began.get(), now);
-        let took = took.as_secs().saturating_mul(1000).saturating_add(u64::from(took.subsec_millis()));
+        let took = took
+            .as_secs()
+            .saturating_mul(1000)
+            .saturating_add(u64::from(took.subsec_millis()));
         let took = format!(in alloc; " ({took} ms)")?;
         line.push_str(took.as_str())?;
         Ok(line)
@@ -279,7 +289,10 @@ impl<'a> Account<'a> {
             return Ok(());
         }
         if spent.lost >= exchanges {
-            let line = format!(in self.rt.alloc(); "no key was answered in {exchanges} exchanges")?;
+            let ending = if exchanges == 1 { "" } else { "s" };
+            let line = format!(in self.rt.alloc();
+                "no key was answered in {exchanges} exchange{ending}"
+            )?;
             self.tell(line.as_str());
             return Ok(());
         }
@@ -321,9 +334,7 @@ impl<'a> Account<'a> {
     /// Tells that the run was given up.
     pub(crate) fn tell_given_up(&self) {
         let seconds = self.options.give_up;
-        let _ = self.rt.eprintln(format_args!(
-            "gave up: nothing was learnt for {seconds} s"
-        ));
+        let _ = self.rt.eprintln(format_args!("gave up: nothing was learnt for {seconds} s"));
     }
 }
 

@@ -157,7 +157,12 @@ fn run_with(
             let link = tcp_link(rt, *address, limit, Some(keeper.account.wire()));
             run_over(rt, options, input, saved, keeper, link)
         }
-        Peer::Unix(path) => match unix_link(rt, path.as_str(), limit, Some(keeper.account.wire()))? {
+        Peer::Unix(path) => match unix_link(
+            rt,
+            path.as_str(),
+            limit,
+            Some(keeper.account.wire()),
+        )? {
             Some(link) => run_over(rt, options, input, saved, keeper, link),
             None => Ok(ExitStatus::Refused),
         },
@@ -194,11 +199,19 @@ fn run_over<L: Link + Drop>(
         patience,
         &mut writer,
     );
-    let _ = account.tell_unfinished();
-    if watch.has_given_up() {
-        account.tell_given_up();
+    if keeper.refusals == 0 && !matches!(status, ExitStatus::Failed(_)) {
+        tell_end(account, watch.has_given_up());
     }
     Ok(status)
+}
+
+/// Tells why keys are not finished, and that the run was given up, where it was. What there is no memory
+/// for is not told.
+fn tell_end(account: &Account<'_>, has_given_up: bool) {
+    let _ = account.tell_unfinished();
+    if has_given_up {
+        account.tell_given_up();
+    }
 }
 
 /// How long the run waits first where it does not get on, in milliseconds. A server in this process is not

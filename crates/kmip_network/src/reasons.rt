@@ -103,11 +103,7 @@ fn reason_name(reason: u32) -> Option<&'static str> {
 ///
 /// # Errors
 /// Where there is no memory.
-pub(crate) fn push_reason(
-    alloc: Global,
-    reason: u32,
-    text: &mut String,
-) -> Result<(), AllocError> {
+pub(crate) fn push_reason(alloc: Global, reason: u32, text: &mut String) -> Result<(), AllocError> {
     let number = format!(in alloc; "reason {reason}")?;
     text.push_str(number.as_str())?;
     if let Some(name) = reason_name(reason) {

@@ -35,7 +35,7 @@ impl Silence {
                 Ok(text)
             }
             Silence::Unreadable(fault, version) => unreadable_text(alloc, fault, version),
-            Silence::NoMemory => copied(alloc, "there is no memory for it"),
+            Silence::NoMemory => copied(alloc, "no memory"),
         }
     }
 }

@@ -32,15 +32,15 @@ with_trouble_narrow line after count narrow =
 trouble_narrow : (finished keys : ℕ) (spent : Spent) → IsNarrow (trouble_text finished keys spent)
 trouble_narrow finished keys spent =
     with_trouble_narrow _ (codes " refused") spent.refused
-      (with_trouble_narrow _ (codes " lost") spent.lost (with_part_narrow [] (keys_part finished keys) (lit≤ tt)))
+    (with_trouble_narrow _ (codes " lost") spent.lost (with_part_narrow [] (keys_part finished keys) (lit≤ tt)))
 
 with_most_narrow : (line : List ℕ) (spent : Spent) (most : ℕ) → IsNarrow line → IsNarrow (with_most line spent most)
 with_most_narrow line spent most narrow =
     choice_narrow ((spent.lost == 0) && (spent.refused == 0)) _ line
-      (with_part_narrow line (count_part (codes ", at most ") most (codes " more")) narrow) narrow
+    (with_part_narrow line (count_part (codes ", at most ") most (codes " more")) narrow) narrow
 
 pub standing_narrow : (finished keys : ℕ) (spent : Spent) (most : ℕ) → length (standing_text finished keys spent most) ≤ most_columns
 standing_narrow finished keys spent most =
     with_part_narrow _ (count_part (codes ", ") spent.seconds (codes " s"))
-      (with_most_narrow _ spent most
-        (with_part_narrow _ (count_part (codes ", ") spent.exchanges (exchanges_word spent.exchanges)) (trouble_narrow finished keys spent)))
+    (with_most_narrow _ spent most
+    (with_part_narrow _ (count_part (codes ", ") spent.exchanges (exchanges_word spent.exchanges)) (trouble_narrow finished keys spent)))

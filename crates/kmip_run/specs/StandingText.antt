@@ -42,7 +42,7 @@ trouble_text finished keys spent =
 abbrev pub standing_text : ℕ → ℕ → Spent → ℕ → List ℕ
 standing_text finished keys spent most =
     with_part
-      (with_most
-        (with_part (trouble_text finished keys spent) (count_part (codes ", ") spent.exchanges (exchanges_word spent.exchanges)))
-        spent most)
-      (count_part (codes ", ") spent.seconds (codes " s"))
+    (with_most
+    (with_part (trouble_text finished keys spent) (count_part (codes ", ") spent.exchanges (exchanges_word spent.exchanges)))
+    spent most)
+    (count_part (codes ", ") spent.seconds (codes " s"))

@@ -32,11 +32,7 @@ const MOST_COLUMNS: usize = 60;
 ///
 /// # Errors
 /// Where there is no memory.
-pub fn standing_line(
-    alloc: Global,
-    client: &Client<'_>,
-    spent: Spent,
-) -> Result<String, NoMemory>
+pub fn standing_line(alloc: Global, client: &Client<'_>, spent: Spent) -> Result<String, NoMemory>
     ensures text { IfOk result (λ line. string_bytes line ≡ standing_text
         (finished_count (verdicts_of client.now.keys client.now.knowns)) (length client.now.keys)
         spent (most_left client.now.keys client.now.knowns)) }
@@ -98,16 +94,15 @@ fn keys_part(alloc: Global, finished: usize, keys: usize) -> Result<String, NoMe
 fn exchanges_word(count: usize) -> &'static str
     ensures { result.now ≡ exchanges_word count }
 {
-    if count == 1 { " exchange" } else { " exchanges" }
+    if count == 1 {
+        " exchange"
+    } else {
+        " exchanges"
+    }
 }
 
 /// Appends how often something went wrong, where it did.
-fn push_trouble(
-    alloc: Global,
-    line: &mut String,
-    count: usize,
-    after: &str,
-) -> Result<(), NoMemory>
+fn push_trouble(alloc: Global, line: &mut String, count: usize, after: &str) -> Result<(), NoMemory>
     ensures { OnOk result (string_bytes line.new
         ≡ with_trouble (string_bytes line.old) count after.now) }
 {
@@ -118,12 +113,7 @@ fn push_trouble(
 }
 
 /// Appends how many more exchanges may come at most, as long as nothing was lost or refused.
-fn push_most(
-    alloc: Global,
-    line: &mut String,
-    spent: Spent,
-    most: usize,
-) -> Result<(), NoMemory>
+fn push_most(alloc: Global, line: &mut String, spent: Spent, most: usize) -> Result<(), NoMemory>
     ensures { OnOk result (string_bytes line.new
         ≡ with_most (string_bytes line.old) spent most) }
 {
