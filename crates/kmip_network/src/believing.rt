@@ -1,19 +1,20 @@
 //! Whether a progress is believed: not at another server than it was kept against, nor for other keys.
 
-use crate::causes::{Cannot, tell_why};
-use crate::linking::refused;
+use crate::causes::Cannot;
 use crate::origin::{Origin, server_of, server_text};
-use crate::reading::unread;
+use crate::reading::PlanFile;
+use crate::trouble::{AnotherServer, Trouble};
 use kmip_choices::{RunOptions, Trust};
 use kmip_client::Client;
-use kmip_commands::ExitStatus;
 use kmip_explaining::tell_other_plan;
 use kmip_plan::{Plan, Step, chain};
 use kmip_progress::ProgressFault;
 use kmip_progress_file::{MOST_PROGRESS_BYTES, ProgressFile};
 use kmip_run::begin;
+use kmip_ttlv::NoMemory;
+use std::alloc::AllocError;
 use std::io;
-use std::io::{Error, ErrorKind};
+use std::io::ErrorKind;
 
 /// What a run has of its progress.
 #[derive(Drop)]
@@ -28,31 +29,26 @@ struct Kept<'a> {
     server: String,
 }
 
-/// The text of the progress that a run begins with, none where it begins from nothing. Where it is not
-/// to begin, that is printed, and the answer is how the program ends.
+/// The text of the progress that a run begins with, none where it begins from nothing.
 ///
 /// Once the run is to ask anything, it is on the disk against which server the file is kept, when, and
 /// with which attributes.
 ///
 /// # Errors
-/// Where there is no memory, or standard output takes nothing; all else is printed.
+/// Why it is not to begin.
 pub(crate) fn progress_to_begin_with(
     rt: &HostRuntime,
     options: &RunOptions,
-    text: &str,
-    plan: &Plan,
-    file: &ProgressFile<'_, HostRuntime>,
-) -> io::Result<Result<Option<String>, ExitStatus>> {
-    let Ok(server) = server_of(rt, &options.peer) else {
-        return Err(Error::from(ErrorKind::OutOfMemory));
-    };
+    file: &PlanFile,
+    progress: &ProgressFile<'_, HostRuntime>,
+) -> Result<Option<String>, Trouble> {
     let kept = Kept {
         rt,
         options,
-        text,
-        plan,
-        file,
-        server,
+        text: file.text.as_str(),
+        plan: &file.plan,
+        file: progress,
+        server: server_of(rt, &options.peer)?,
     };
     match options.trust {
         Trust::Afresh => kept.afresh(),
@@ -62,50 +58,43 @@ pub(crate) fn progress_to_begin_with(
 
 impl<'a> Kept<'a> {
     /// From nothing: the file is put aside first.
-    fn afresh(&self) -> io::Result<Result<Option<String>, ExitStatus>> {
+    fn afresh(&self) -> Result<Option<String>, Trouble> {
         if let Err(error) = self.file.put_aside() {
             let before = self.file.before_path()?;
-            let status = refused(self.rt, error, Cannot::Begin, before.as_str())?;
-            return Ok(Err(status));
+            return Err(Trouble::at(self.rt, Cannot::Begin, before.as_str(), error));
         }
         self.begins(None)
     }
 
     /// From what the file says, unless it was kept elsewhere or for other keys.
-    fn begun(&self) -> io::Result<Result<Option<String>, ExitStatus>> {
-        let saved = match self.file.read() {
-            Ok(saved) => saved,
-            Err(error) => {
-                let path = self.options.progress.as_str();
-                let status = unread(self.rt, error, path, MOST_PROGRESS_BYTES)?;
-                return Ok(Err(status));
-            }
-        };
+    fn begun(&self) -> Result<Option<String>, Trouble> {
+        let path = self.options.progress.as_str();
+        let saved = self.file.read().map_err(|error| Trouble::unread(
+            self.rt,
+            path,
+            MOST_PROGRESS_BYTES,
+            error,
+        ))?;
         let Some(text) = &saved else {
             return self.begins(None);
         };
         let client = match begin(self.rt.alloc(), self.plan, Some(text.as_str())) {
             Ok(client) => client,
-            Err(ProgressFault::NoMemory) => return Err(Error::from(ErrorKind::OutOfMemory)),
+            Err(ProgressFault::NoMemory) => return Err(Trouble::from(NoMemory)),
             Err(_) => {
                 self.tell_other_plan(text.as_str());
-                return Ok(Ok(saved)); // the run refuses it
+                return Ok(saved); // the run refuses it
             }
         };
-        let origin = match self.origin()? {
-            Ok(origin) => origin,
-            Err(status) => return Ok(Err(status)),
-        };
-        if let Some(status) = self.refusal(origin.as_ref(), &client)? {
-            return Ok(Err(status));
-        }
+        let origin = self.origin()?;
+        self.judge(origin.as_ref(), &client)?;
         if client.working() > 0 {
             return self.begins(saved);
         }
         self.tell_all_finished(origin.as_ref())?;
         match self.options.trust {
             Trust::Believe => self.noted(saved, origin.as_ref()),
-            Trust::Checked | Trust::Afresh => Ok(Ok(saved)),
+            Trust::Checked | Trust::Afresh => Ok(saved),
         }
     }
 
@@ -116,90 +105,61 @@ impl<'a> Kept<'a> {
         tell_other_plan(self.rt, path, self.text, progress_path, saved);
     }
 
-    /// Where the file was kept; none where that is not told. Where it can't be read, that is printed, but
-    /// for a run that believes the file anyway.
-    fn origin(&self) -> io::Result<Result<Option<Origin>, ExitStatus>> {
-        let is_believed = self.options.trust == Trust::Believe;
+    /// Where the file was kept; none where that is not told.
+    ///
+    /// # Errors
+    /// Why what says it can't be read, but for a run that believes the file anyway.
+    fn origin(&self) -> Result<Option<Origin>, Trouble> {
+        let (rt, is_believed) = (self.rt, self.options.trust == Trust::Believe);
         match self.file.read_origin() {
-            Ok(None) => Ok(Ok(None)),
-            Ok(Some(text)) => match Origin::read(self.rt.alloc(), text.as_str())? {
-                None if !is_believed => self.is_no_origin(),
-                origin => Ok(Ok(origin)),
+            Ok(None) => Ok(None),
+            Ok(Some(text)) => match Origin::read(rt.alloc(), text.as_str())? {
+                None if !is_believed => Err(Trouble::NoOrigin(self.file.origin_path()?)),
+                origin => Ok(origin),
             },
-            Err(error) if is_believed && error.kind() != ErrorKind::OutOfMemory => Ok(Ok(None)),
+            Err(error) if is_believed && error.kind() != ErrorKind::OutOfMemory => Ok(None),
             Err(error) => {
                 let path = self.file.origin_path()?;
-                let status = unread(self.rt, error, path.as_str(), MOST_PROGRESS_BYTES)?;
-                Ok(Err(status))
+                Err(Trouble::unread(rt, path.as_str(), MOST_PROGRESS_BYTES, error))
             }
         }
     }
 
-    /// Prints that the text that is to say where the file was kept does not say it.
-    fn is_no_origin(&self) -> io::Result<Result<Option<Origin>, ExitStatus>> {
-        let path = self.file.origin_path()?;
-        let why = "it does not say where a progress was kept; see what stands there";
-        tell_why(self.rt, path.as_str(), why);
-        self.rt
-            .println(format_args!("{} {path}", Cannot::Read.text()))?;
-        Ok(Err(ExitStatus::Refused))
-    }
-
-    /// How the program ends where the file was kept against another server and knows anything, or for
-    /// other attributes, which is printed; none where it was not.
-    fn refusal(
-        &self,
-        origin: Option<&Origin>,
-        client: &Client<'_>,
-    ) -> io::Result<Option<ExitStatus>> {
+    /// Whether the file was kept against this server, unless it knows nothing, and for these attributes.
+    ///
+    /// # Errors
+    /// Where it was not.
+    fn judge(&self, origin: Option<&Origin>, client: &Client<'_>) -> Result<(), Trouble> {
         let Some(origin) = origin else {
-            return Ok(None);
+            return Ok(());
         };
         let is_here = self.options.trust == Trust::Believe || origin.is_of(self.server.as_str());
         if !is_here && knows_anything(client) {
-            self.tell_another_server(origin, client)?;
-            return Ok(Some(ExitStatus::Refused));
+            return Err(self.another_server(origin, client)?);
         }
         match origin.difference(self.rt.alloc(), self.plan.keys())? {
-            Some(difference) => {
-                self.tell_other_attributes(difference.as_str())?;
-                Ok(Some(ExitStatus::Refused))
-            }
-            None => Ok(None),
+            Some(difference) => Err(Trouble::about(
+                self.rt,
+                self.options.progress.as_str(),
+                |path| Trouble::OtherAttributes(path, difference),
+            )),
+            None => Ok(()),
         }
     }
 
-    /// Tells that the file was kept against another server, and the two ways on.
-    fn tell_another_server(&self, origin: &Origin, client: &Client<'_>) -> io::Result<()> {
-        let (rt, path) = (self.rt, self.options.progress.as_str());
-        rt.println(format_args!("progress of another server: {path}"))?;
-        let before = origin.server_text(rt.alloc())?;
-        let now = server_text(rt.alloc(), self.server.as_str())?;
-        let _ = rt.eprintln(format_args!(
-            "{path} was kept against {before}; this run is to ask {now}"
-        ));
-        let _ = rt.eprintln(format_args!(
-            "--believe: that is the same server under another name; --afresh: begin from nothing, and keep {path} as {path}.before"
-        ));
-        if let Some(name) = destroyed_key(client) {
-            let _ = rt.eprintln(format_args!(
-                "{name} is known to be destroyed: with --afresh a server that forgets destroyed objects would make it again"
-            ));
-        }
-        Ok(())
-    }
-
-    /// Tells that the file was kept for a key with other attributes.
-    fn tell_other_attributes(&self, difference: &str) -> io::Result<()> {
-        let fault = ProgressFault::OtherPlan;
-        let (number, name) = (fault.number(), fault.name());
-        self.rt
-            .println(format_args!("progress refused: {number} {name}"))?;
-        let path = self.options.progress.as_str();
-        let _ = self.rt.eprintln(format_args!(
-            "{path} was kept for another plan: key {difference}; an object keeps what it was made with: give the key its old attributes, or another name"
-        ));
-        Ok(())
+    /// That the file was kept against another server.
+    fn another_server(&self, origin: &Origin, client: &Client<'_>) -> Result<Trouble, AllocError> {
+        let alloc = self.rt.alloc();
+        let destroyed = match destroyed_key(client) {
+            Some(name) => Some(String::from_str(alloc, name)?),
+            None => None,
+        };
+        Ok(Trouble::AnotherServer(AnotherServer {
+            path: String::from_str(alloc, self.options.progress.as_str())?,
+            before: origin.server_text(alloc)?,
+            now: server_text(alloc, self.server.as_str())?,
+            destroyed,
+        }))
     }
 
     /// Tells that all keys are finished by the file alone, as a run asks nothing then.
@@ -229,9 +189,9 @@ impl<'a> Kept<'a> {
 
     /// Begins with this text, once it is on the disk where the file is kept. A run that may make no exchange
     /// keeps nothing.
-    fn begins(&self, saved: Option<String>) -> io::Result<Result<Option<String>, ExitStatus>> {
+    fn begins(&self, saved: Option<String>) -> Result<Option<String>, Trouble> {
         if self.options.limit == 0 {
-            return Ok(Ok(saved));
+            return Ok(saved);
         }
         self.noted(saved, None)
     }
@@ -242,14 +202,13 @@ impl<'a> Kept<'a> {
         &self,
         saved: Option<String>,
         before: Option<&Origin>,
-    ) -> io::Result<Result<Option<String>, ExitStatus>> {
+    ) -> Result<Option<String>, Trouble> {
         let text = Origin::text(self.rt, self.server.as_str(), before, self.plan.keys())?;
         if let Err(error) = self.file.write_origin(text.as_bytes()) {
             let path = self.file.origin_path()?;
-            let status = refused(self.rt, error, Cannot::Begin, path.as_str())?;
-            return Ok(Err(status));
+            return Err(Trouble::at(self.rt, Cannot::Begin, path.as_str(), error));
         }
-        Ok(Ok(saved))
+        Ok(saved)
     }
 }
 

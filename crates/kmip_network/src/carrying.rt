@@ -1,25 +1,22 @@
 //! The program `run`, over sockets and a file.
-ghost use Rattle.std.specs.Prelude.{IsTrue};
-ghost use Rattle.kmip_batches.specs.Members.{may_have};
 
 use crate::account::Account;
 use crate::believing::progress_to_begin_with;
 use crate::causes::{Cannot, tell_cause};
-use crate::linking::{loopback, refused, tcp_link, unix_link};
-use crate::reading::{refusal_of, text_or_why_not};
+use crate::linking::{loopback, tcp_link, unix_link};
+use crate::reading::{PlanFile, plan_at};
 use crate::telling::Teller;
 use crate::told::standard_output;
+use crate::trouble::Trouble;
 use crate::watch::Watch;
 use kmip_choices::{Peer, RunOptions};
 use kmip_commands::ExitStatus;
-use kmip_plan::read_plan;
 use kmip_progress_file::{LockFault, ProgressFile, ProgressLock};
 use kmip_run::{RunInput, batch_of};
 use kmip_running::{Keeper, Observed, SaveFault};
 use kmip_schedule::Link;
 use std::alloc::Global;
-use std::io;
-use std::io::{BufWriter, Error, ErrorKind};
+use std::io::{BufWriter, ErrorKind};
 use std::time::Duration;
 
 /// Keeps what is known in a file. No clause speaks of a file's bytes.
@@ -63,113 +60,82 @@ impl<'a> Keeper for FileKeeper<'a> {
 /// server asked.
 ///
 /// # Errors
-/// Where there is no memory, or standard output takes nothing; all else is printed.
-pub fn run_plan(rt: &HostRuntime, options: &RunOptions) -> io::Result<ExitStatus> {
-    let plan_path = options.plan.as_str();
-    let Some(plan) = text_or_why_not(rt, plan_path)? else {
-        return Ok(ExitStatus::Refused);
-    };
-    if let Some(status) = refusal_of(rt, plan_path, plan.as_str())? {
-        return Ok(status);
-    }
-    let Some((file, lock)) = locked(rt, options.progress.as_str())? else {
-        return Ok(ExitStatus::Refused);
-    };
-    let status = run_on(rt, options, plan.as_str(), file);
+/// What ends it before anything is asked.
+pub fn run_plan(rt: &HostRuntime, options: &RunOptions) -> Result<ExitStatus, Trouble> {
+    let plan = plan_at(rt, options.plan.as_str())?;
+    let (progress, lock) = locked(rt, options.progress.as_str())?;
+    let status = run_on(rt, options, &plan, progress);
     drop(lock);
     status
 }
 
-/// Carries out the plan of this text, which is one, with what is kept in the file.
+/// The file at this path, of this run alone.
+///
+/// # Errors
+/// Where it cannot be had.
+fn locked<'a>(
+    rt: &'a HostRuntime,
+    path: &'a str,
+) -> Result<(ProgressFile<'a, HostRuntime>, ProgressLock), Trouble> {
+    let file = ProgressFile::at(rt, path).map_err(|error| Trouble::at(
+        rt,
+        Cannot::Read,
+        path,
+        error,
+    ))?;
+    match file.lock() {
+        Ok(lock) => Ok((file, lock)),
+        Err(LockFault::InUse) => Err(Trouble::about(rt, path, Trouble::InUse)),
+        Err(LockFault::Io(error)) => {
+            let beside = file.lock_path()?;
+            Err(Trouble::at(rt, Cannot::Begin, beside.as_str(), error))
+        }
+    }
+}
+
+/// Carries out the plan, with what is kept in the progress file.
 fn run_on(
     rt: &HostRuntime,
     options: &RunOptions,
-    text: &str,
-    file: ProgressFile<'_, HostRuntime>,
-) -> io::Result<ExitStatus> {
-    let Ok(plan) = read_plan(rt.alloc(), text) else {
-        return Err(Error::from(ErrorKind::OutOfMemory));
-    };
-    let saved = match progress_to_begin_with(rt, options, text, &plan, &file)? {
-        Ok(saved) => saved,
-        Err(status) => return Ok(status),
-    };
-    let input = RunInput {
-        path: options.progress.as_str(),
-        limit: options.limit as usize,
-        batch: batch_of(options.batch),
-    };
+    plan: &PlanFile,
+    progress: ProgressFile<'_, HostRuntime>,
+) -> Result<ExitStatus, Trouble> {
+    let saved = progress_to_begin_with(rt, options, plan, &progress)?;
     let saved = match &saved {
         Some(text) => Some(text.as_str()),
         None => None,
     };
-    let Ok(account) = Account::new(rt, options, &plan) else {
-        return Err(Error::from(ErrorKind::OutOfMemory));
-    };
+    let account = Account::new(rt, options, &plan.plan)?;
     account.show_start(saved);
     let mut keeper = FileKeeper {
-        file,
+        file: progress,
         account: &account,
         refusals: 0,
     };
-    run_with(rt, options, &input, saved, &mut keeper)
-}
-
-/// The file at this path, of this run alone; where it cannot be, that is printed.
-fn locked<'a>(
-    rt: &'a HostRuntime,
-    path: &'a str,
-) -> io::Result<Option<(ProgressFile<'a, HostRuntime>, ProgressLock)>> {
-    let file = match ProgressFile::at(rt, path) {
-        Ok(file) => file,
-        Err(error) => {
-            refused(rt, error, Cannot::Read, path)?;
-            return Ok(None);
-        }
-    };
-    match file.lock() {
-        Ok(lock) => Ok(Some((file, lock))),
-        Err(LockFault::InUse) => {
-            rt.println(format_args!("progress in use: {path}"))?;
-            Ok(None)
-        }
-        Err(LockFault::Io(error)) => {
-            let beside = file.lock_path()?;
-            refused(rt, error, Cannot::Begin, beside.as_str())?;
-            Ok(None)
-        }
-    }
+    run_with(rt, options, saved, &mut keeper)
 }
 
 /// Carries out the plan over the link to the server that was named.
 fn run_with(
     rt: &HostRuntime,
     options: &RunOptions,
-    input: &RunInput<'_>,
     saved: Option<&str>,
     keeper: &mut FileKeeper<'_>,
-) -> io::Result<ExitStatus>
-    requires { IsTrue (may_have input.now.batch) }
-{
+) -> Result<ExitStatus, Trouble> {
     let limit = Duration::from_secs(options.timeout);
     match &options.peer {
         Peer::Tcp(address) => {
             let link = tcp_link(rt, *address, limit, Some(keeper.account.wire()));
-            run_over(rt, options, input, saved, keeper, link)
+            run_over(rt, options, saved, keeper, link)
         }
-        Peer::Unix(path) => match unix_link(
-            rt,
-            path.as_str(),
-            limit,
-            Some(keeper.account.wire()),
-        )? {
-            Some(link) => run_over(rt, options, input, saved, keeper, link),
-            None => Ok(ExitStatus::Refused),
-        },
-        Peer::Loopback => match loopback(rt, limit)? {
-            Some(link) => run_over(rt, options, input, saved, keeper, link),
-            None => Ok(ExitStatus::Refused),
-        },
+        Peer::Unix(path) => {
+            let link = unix_link(rt, path.as_str(), limit, Some(keeper.account.wire()))?;
+            run_over(rt, options, saved, keeper, link)
+        }
+        Peer::Loopback => {
+            let link = loopback(rt, limit)?;
+            run_over(rt, options, saved, keeper, link)
+        }
     }
 }
 
@@ -177,26 +143,27 @@ fn run_with(
 fn run_over<L: Link + Drop>(
     rt: &HostRuntime,
     options: &RunOptions,
-    input: &RunInput<'_>,
     saved: Option<&str>,
     keeper: &mut FileKeeper<'_>,
     link: L,
-) -> io::Result<ExitStatus>
-    requires { IsTrue (may_have input.now.batch) }
-{
+) -> Result<ExitStatus, Trouble> {
+    let input = RunInput {
+        path: options.progress.as_str(),
+        limit: options.limit as usize,
+        batch: batch_of(options.batch),
+    };
     let account = keeper.account;
     let mut link = Observed::new(link, Teller::new(account));
     let mut watch = Watch::new(account, first_wait(options), options.give_up);
     let mut writer = BufWriter::new(rt.alloc(), standard_output(rt))?;
-    let (alloc, patience) = (rt.alloc(), &mut watch);
     let status = kmip_run::run_plan(
-        alloc,
+        rt.alloc(),
         account.plan(),
-        input,
+        &input,
         saved,
         &mut link,
         keeper,
-        patience,
+        &mut watch,
         &mut writer,
     );
     if keeper.refusals == 0 && !matches!(status, ExitStatus::Failed(_)) {

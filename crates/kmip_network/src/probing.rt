@@ -2,11 +2,11 @@
 
 use crate::linking::{loopback, tcp_link, unix_link};
 use crate::told::standard_output;
+use crate::trouble::Trouble;
 use kmip_choices::{Peer, ProbeOptions};
 use kmip_commands::ExitStatus;
 use kmip_probe::run_probe;
 use kmip_schedule::Link;
-use std::io;
 use std::io::BufWriter;
 use std::time::Duration;
 
@@ -15,8 +15,8 @@ use std::time::Duration;
 /// reply answers all.
 ///
 /// # Errors
-/// Where there is no memory, or standard output takes nothing; all else is printed.
-pub fn probe_server(rt: &HostRuntime, options: &ProbeOptions) -> io::Result<ExitStatus> {
+/// What ends it before anything is asked.
+pub fn probe_server(rt: &HostRuntime, options: &ProbeOptions) -> Result<ExitStatus, Trouble> {
     let limit = Duration::from_secs(options.timeout);
     let prefix = options.prefix.as_str();
     match &options.peer {
@@ -25,23 +25,21 @@ pub fn probe_server(rt: &HostRuntime, options: &ProbeOptions) -> io::Result<Exit
             link.hold_none();
             probe_over(rt, prefix, link)
         }
-        Peer::Unix(path) => match unix_link(rt, path.as_str(), limit, None)? {
-            Some(link) => {
-                let mut link = link;
-                link.hold_none();
-                probe_over(rt, prefix, link)
-            }
-            None => Ok(ExitStatus::Refused),
-        },
-        Peer::Loopback => match loopback(rt, limit)? {
-            Some(link) => probe_over(rt, prefix, link),
-            None => Ok(ExitStatus::Refused),
-        },
+        Peer::Unix(path) => {
+            let mut link = unix_link(rt, path.as_str(), limit, None)?;
+            link.hold_none();
+            probe_over(rt, prefix, link)
+        }
+        Peer::Loopback => probe_over(rt, prefix, loopback(rt, limit)?),
     }
 }
 
 /// Asks the server behind this link.
-fn probe_over<L: Link + Drop>(rt: &HostRuntime, prefix: &str, link: L) -> io::Result<ExitStatus> {
+fn probe_over<L: Link + Drop>(
+    rt: &HostRuntime,
+    prefix: &str,
+    link: L,
+) -> Result<ExitStatus, Trouble> {
     let mut link = link;
     let mut writer = BufWriter::new(rt.alloc(), standard_output(rt))?;
     Ok(run_probe(rt.alloc(), prefix, &mut link, &mut writer))

@@ -11,7 +11,7 @@ use std::alloc::Global;
 
 /// Why a question about a key came to nothing.
 #[derive(Clone, Copy)]
-enum Trouble {
+enum Setback {
     /// It was refused, for this reason where one was given.
     Refused(Operation, Option<u32>),
     /// No answer came.
@@ -34,8 +34,8 @@ pub(crate) struct Story {
     stage: Stage,
     refusals: Counts,
     losses: Counts,
-    /// The last trouble.
-    trouble: Option<Trouble>,
+    /// The last setback.
+    setback: Option<Setback>,
     /// What was answered last.
     answered: Option<Operation>,
     /// The last answer, in words.
@@ -53,7 +53,7 @@ impl Story {
             },
             refusals: Counts::none(),
             losses: Counts::none(),
-            trouble: None,
+            setback: None,
             answered: None,
             told: String::new(alloc),
         }
@@ -73,11 +73,11 @@ impl Story {
         match outcome {
             None => {
                 self.losses.add(operation);
-                self.trouble = Some(Trouble::Lost(operation));
+                self.setback = Some(Setback::Lost(operation));
             }
             Some(Outcome::Failed(reason)) => {
                 self.refusals.add(operation);
-                self.trouble = Some(Trouble::Refused(operation, *reason));
+                self.setback = Some(Setback::Refused(operation, *reason));
             }
             Some(outcome) => {
                 let mut told = String::new(alloc);
@@ -89,14 +89,14 @@ impl Story {
         Ok(())
     }
 
-    /// The key is known to be so far: where that is further than before, the trouble of before is over.
+    /// The key is known to be so far: where that is further than before, the setbacks of before are over.
     pub(crate) fn reach(&mut self, stage: Stage) {
         let is_further = self.stage.done < stage.done
             || (stage.is_identified && !self.stage.is_identified);
         if is_further {
             self.refusals = Counts::none();
             self.losses = Counts::none();
-            self.trouble = None;
+            self.setback = None;
         }
         self.stage = stage;
     }
@@ -148,10 +148,10 @@ impl Story {
         }
     }
 
-    /// Appends the trouble that came last, or else what was answered last.
+    /// Appends the setback that came last, or else what was answered last.
     fn push_last(&self, alloc: Global, text: &mut String) -> Result<(), NoMemory> {
-        match (self.trouble, self.answered) {
-            (Some(trouble), _) => self.push_trouble(alloc, trouble, text)?,
+        match (self.setback, self.answered) {
+            (Some(setback), _) => self.push_setback(alloc, setback, text)?,
             (None, Some(operation)) => {
                 text.push_str(operation.word())?;
                 text.push_str(" was answered last: ")?;
@@ -162,15 +162,15 @@ impl Story {
         Ok(())
     }
 
-    /// Appends how often the trouble came.
-    fn push_trouble(
+    /// Appends how often the setback came.
+    fn push_setback(
         &self,
         alloc: Global,
-        trouble: Trouble,
+        setback: Setback,
         text: &mut String,
     ) -> Result<(), NoMemory> {
-        match trouble {
-            Trouble::Refused(operation, reason) => {
+        match setback {
+            Setback::Refused(operation, reason) => {
                 push_often(alloc, operation, "refused", self.refusals, text)?;
                 if let Some(reason) = reason {
                     text.push_str(", last ")?;
@@ -178,7 +178,7 @@ impl Story {
                 }
                 Ok(())
             }
-            Trouble::Lost(operation) => {
+            Setback::Lost(operation) => {
                 push_often(alloc, operation, "not answered", self.losses, text)
             }
         }

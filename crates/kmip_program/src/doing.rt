@@ -5,18 +5,19 @@ use kmip_choices::{Choice, Detail};
 use kmip_commands::{ExitStatus, Form, run_answer, run_answer_stream, run_show};
 use kmip_explaining::{tell_prolonging, tell_refusal};
 use kmip_network::{
-    batch_of, probe_server, refusal_of, run_plan, serve, standard_input, standard_output,
-    text_or_why_not,
+    Trouble, batch_of, plan_at, probe_server, run_plan, serve, standard_input, standard_output,
+    text_at,
 };
 use kmip_sim::run_sim;
+use kmip_ttlv::NoMemory;
 use std::io;
-use std::io::{BufReader, BufWriter, Error, ErrorKind, IsTerminal};
+use std::io::{BufReader, BufWriter, IsTerminal};
 
 /// Does what is asked for, and says how the program ends.
 ///
 /// # Errors
-/// Want of memory, or that standard output failed, where neither is the command's own.
-pub(crate) fn carry_out(rt: &HostRuntime, choice: Choice) -> io::Result<ExitStatus> {
+/// What ends the command early, where it does not print that itself.
+pub(crate) fn carry_out(rt: &HostRuntime, choice: Choice) -> Result<ExitStatus, Trouble> {
     match choice {
         Choice::Answer => answer_input(rt),
         Choice::AnswerStream => answer_stream_input(rt),
@@ -34,7 +35,7 @@ pub(crate) fn carry_out(rt: &HostRuntime, choice: Choice) -> io::Result<ExitStat
         } => simulate_files(rt, detail, batch, plan.as_str(), further, script.as_str()),
         Choice::Run(options) => run_plan(rt, &options),
         Choice::Probe(options) => probe_server(rt, &options),
-        Choice::Serve(options) => serve(rt, &options, &mut io::writer(rt)),
+        Choice::Serve(options) => Ok(serve(rt, &options, &mut io::writer(rt))?),
     }
 }
 
@@ -46,7 +47,7 @@ fn tell_of_terminal(rt: &HostRuntime, what: &str) {
 }
 
 /// The command `answer` from standard input to standard output.
-fn answer_input(rt: &HostRuntime) -> io::Result<ExitStatus> {
+fn answer_input(rt: &HostRuntime) -> Result<ExitStatus, Trouble> {
     tell_of_terminal(rt, "one request in hexadecimal a line");
     let mut reader = BufReader::new(rt.alloc(), standard_input(rt))?;
     let mut writer = BufWriter::new(rt.alloc(), standard_output(rt))?;
@@ -54,7 +55,7 @@ fn answer_input(rt: &HostRuntime) -> io::Result<ExitStatus> {
 }
 
 /// The command `answer --stream` from standard input to standard output.
-fn answer_stream_input(rt: &HostRuntime) -> io::Result<ExitStatus> {
+fn answer_stream_input(rt: &HostRuntime) -> Result<ExitStatus, Trouble> {
     tell_of_terminal(
         rt,
         "a stream of requests in hexadecimal, in lines cut anywhere",
@@ -65,7 +66,7 @@ fn answer_stream_input(rt: &HostRuntime) -> io::Result<ExitStatus> {
 }
 
 /// The command `show` from standard input to standard output.
-fn show_input(rt: &HostRuntime, form: Form) -> io::Result<ExitStatus> {
+fn show_input(rt: &HostRuntime, form: Form) -> Result<ExitStatus, Trouble> {
     tell_of_terminal(rt, "one item in hexadecimal a line");
     let mut reader = BufReader::new(rt.alloc(), standard_input(rt))?;
     let mut writer = BufWriter::new(rt.alloc(), standard_output(rt))?;
@@ -73,10 +74,8 @@ fn show_input(rt: &HostRuntime, form: Form) -> io::Result<ExitStatus> {
 }
 
 /// The command `check` from a file to standard output.
-fn check_plan(rt: &HostRuntime, path: &str) -> io::Result<ExitStatus> {
-    let Some(plan) = text_or_why_not(rt, path)? else {
-        return Ok(ExitStatus::Refused);
-    };
+fn check_plan(rt: &HostRuntime, path: &str) -> Result<ExitStatus, Trouble> {
+    let plan = text_at(rt, path)?;
     let mut writer = BufWriter::new(rt.alloc(), standard_output(rt))?;
     let status = run_check(rt.alloc(), plan.as_str(), &mut writer);
     if status == ExitStatus::Refused {
@@ -86,11 +85,13 @@ fn check_plan(rt: &HostRuntime, path: &str) -> io::Result<ExitStatus> {
 }
 
 /// The command `check --after` from two files to standard output.
-fn check_plan_after(rt: &HostRuntime, path: &str, earlier_path: &str) -> io::Result<ExitStatus> {
-    let (plan, earlier) = match plan_and_other(rt, path, earlier_path)? {
-        Ok(texts) => texts,
-        Err(status) => return Ok(status),
-    };
+fn check_plan_after(
+    rt: &HostRuntime,
+    path: &str,
+    earlier_path: &str,
+) -> Result<ExitStatus, Trouble> {
+    let plan = plan_at(rt, path)?.text;
+    let earlier = text_at(rt, earlier_path)?;
     let mut writer = BufWriter::new(rt.alloc(), standard_output(rt))?;
     let status = run_check_after(rt.alloc(), plan.as_str(), earlier.as_str(), &mut writer);
     if status == ExitStatus::Refused {
@@ -107,7 +108,7 @@ fn simulate_files(
     path: &str,
     further_path: Option<String>,
     script_path: &str,
-) -> io::Result<ExitStatus> {
+) -> Result<ExitStatus, Trouble> {
     match further_path {
         Some(further_path) => {
             simulate_plans(rt, detail, batch, path, further_path.as_str(), script_path)
@@ -123,11 +124,9 @@ fn simulate_plan(
     batch: u64,
     path: &str,
     script_path: &str,
-) -> io::Result<ExitStatus> {
-    let (plan, script) = match plan_and_other(rt, path, script_path)? {
-        Ok(texts) => texts,
-        Err(status) => return Ok(status),
-    };
+) -> Result<ExitStatus, Trouble> {
+    let plan = plan_at(rt, path)?.text;
+    let script = text_at(rt, script_path)?;
     simulate(rt, detail, batch, plan.as_str(), None, script.as_str())
 }
 
@@ -140,20 +139,16 @@ fn simulate_plans(
     path: &str,
     further_path: &str,
     script_path: &str,
-) -> io::Result<ExitStatus> {
-    let (plan, further) = match plan_and_other(rt, path, further_path)? {
-        Ok(texts) => texts,
-        Err(status) => return Ok(status),
-    };
+) -> Result<ExitStatus, Trouble> {
+    let plan = plan_at(rt, path)?.text;
+    let further = text_at(rt, further_path)?;
     if is_refused_after(rt, further.as_str(), plan.as_str())? {
         let status = simulate(rt, detail, batch, plan.as_str(), Some(further.as_str()), "")?;
         tell_refusal(rt, further_path, further.as_str());
         tell_prolonging(rt, further_path, further.as_str(), path, plan.as_str());
         return Ok(status);
     }
-    let Some(script) = text_or_why_not(rt, script_path)? else {
-        return Ok(ExitStatus::Refused);
-    };
+    let script = text_at(rt, script_path)?;
     simulate(
         rt,
         detail,
@@ -165,12 +160,9 @@ fn simulate_plans(
 }
 
 /// Whether a text is no plan, or none that prolongs an earlier one.
-fn is_refused_after(rt: &HostRuntime, plan: &str, earlier: &str) -> io::Result<bool> {
+fn is_refused_after(rt: &HostRuntime, plan: &str, earlier: &str) -> Result<bool, NoMemory> {
     let mut text = Vec::new(rt.alloc());
-    match check_after_bytes(rt.alloc(), plan, earlier, &mut text) {
-        Ok(refused) => Ok(refused),
-        Err(_) => Err(Error::from(ErrorKind::OutOfMemory)),
-    }
+    check_after_bytes(rt.alloc(), plan, earlier, &mut text)
 }
 
 /// Simulates a plan, and a further one where there is one, to standard output.
@@ -181,7 +173,7 @@ fn simulate(
     plan: &str,
     further: Option<&str>,
     script: &str,
-) -> io::Result<ExitStatus> {
+) -> Result<ExitStatus, Trouble> {
     let mut writer = BufWriter::new(rt.alloc(), standard_output(rt))?;
     let batch = batch_of(batch);
     Ok(run_sim(
@@ -193,23 +185,4 @@ fn simulate(
         script,
         &mut writer,
     ))
-}
-
-/// The texts of a plan's file and of another. Where the first is no plan, or a file has no text, that
-/// is printed, and the answer is how the program ends.
-fn plan_and_other(
-    rt: &HostRuntime,
-    path: &str,
-    other_path: &str,
-) -> io::Result<Result<(String, String), ExitStatus>> {
-    let Some(plan) = text_or_why_not(rt, path)? else {
-        return Ok(Err(ExitStatus::Refused));
-    };
-    if let Some(status) = refusal_of(rt, path, plan.as_str())? {
-        return Ok(Err(status));
-    }
-    let Some(other) = text_or_why_not(rt, other_path)? else {
-        return Ok(Err(ExitStatus::Refused));
-    };
-    Ok(Ok((plan, other)))
 }

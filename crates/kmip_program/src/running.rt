@@ -5,8 +5,9 @@ use crate::doing::carry_out;
 use crate::streams::open_closed_streams;
 use kmip_command_line::{chosen, status_of};
 use kmip_commands::{CommandFault, ExitStatus};
-use kmip_network::tell_output;
-use std::io::{Error, ErrorKind};
+use kmip_network::Trouble;
+use kmip_ttlv::NoMemory;
+use std::io::ErrorKind;
 use std::process::ExitCode;
 use std::{env, io};
 
@@ -20,7 +21,7 @@ pub fn run(rt: &HostRuntime) -> ExitCode {
     let status = match own_words(rt) {
         Ok(words) => run_words(rt, words.as_slice()),
         Err(error) if error.kind() == ErrorKind::InvalidData => without_words(rt),
-        Err(error) => failed(rt, error),
+        Err(error) => Trouble::from(error).tell(rt),
     };
     ExitCode::from(status.code())
 }
@@ -29,7 +30,7 @@ pub fn run(rt: &HostRuntime) -> ExitCode {
 pub fn run_words(rt: &HostRuntime, words: &[String]) -> ExitStatus {
     match run_command(rt, words) {
         Ok(status) => status,
-        Err(error) => failed(rt, error),
+        Err(trouble) => trouble.tell(rt),
     }
 }
 
@@ -37,29 +38,6 @@ pub fn run_words(rt: &HostRuntime, words: &[String]) -> ExitStatus {
 fn without_words(rt: &HostRuntime) -> ExitStatus {
     let _ = rt.eprintln("the command line is not UTF-8");
     ExitStatus::Usage
-}
-
-/// Says an error outside the commands: want of memory on standard output, and else, as it is one of
-/// that, on standard error.
-fn failed(rt: &HostRuntime, error: Error) -> ExitStatus {
-    let fault = fault_of(&error);
-    let said = match fault {
-        CommandFault::NoMemory => rt.println(fault.text()),
-        CommandFault::Input | CommandFault::Output => Err(error),
-    };
-    if let Err(error) = said {
-        tell_output(rt, &error);
-    }
-    ExitStatus::Failed(fault)
-}
-
-/// What an error outside the commands is: want of memory, or else one of the output.
-fn fault_of(error: &Error) -> CommandFault {
-    if error.kind() == ErrorKind::OutOfMemory {
-        CommandFault::NoMemory
-    } else {
-        CommandFault::Output
-    }
 }
 
 /// The words of the program's command line; `InvalidData` where one of them is no UTF-8.
@@ -72,13 +50,13 @@ fn own_words(rt: &HostRuntime) -> io::Result<Vec<String>> {
 }
 
 /// Does what the words ask for.
-fn run_command(rt: &HostRuntime, words: &[String]) -> io::Result<ExitStatus> {
+fn run_command(rt: &HostRuntime, words: &[String]) -> Result<ExitStatus, Trouble> {
     match chosen(rt.alloc(), words) {
         Ok(choice) => carry_out(rt, choice),
         Err(error) => {
             let status = status_of(&error);
             if status == ExitStatus::Failed(CommandFault::NoMemory) {
-                return Err(Error::from(ErrorKind::OutOfMemory));
+                return Err(Trouble::from(NoMemory));
             }
             if status == ExitStatus::Usage {
                 tell_address(rt, words);
