@@ -219,7 +219,7 @@ class Peers:
     def files(self):
         self.forget()
         words = self.words(('--connect', f'127.0.0.1:{listening(silent)}'), '--limit', '1', '--timeout', '2')
-        with subprocess.Popen(words, stdout=subprocess.DEVNULL):
+        with subprocess.Popen(words, stdout=subprocess.DEVNULL, stderr=subprocess.DEVNULL):
             time.sleep(0.5)
             status, printed, _ = self.run(('--loopback',))
         wanted = f'progress in use: {self.progress}\n'
