@@ -1,5 +1,7 @@
 -- The line that says how far a run is has at most 60 columns.
-use Rattle.std.proofs.Common.{◌≡◌, ◌≤◌, ◌-◌, ◌==◌, ℕ, nat_le, Bool, true, false, ◌&&◌, List, [], ◌++◌, length, codes, lit≤, arith, if◌then◌else◌, refl}
+use Rattle.std.proofs.Common.{◌≤◌, ◌-◌, ◌==◌, ℕ, nat_le, Bool, true, false, ◌&&◌, List, [], length, codes, inl, inr, lit≤, arith, if◌then◌else◌}
+use Rattle.std.proofs.lemmas.Bool.{cases_Bool, leb-true}
+use Rattle.std.proofs.lemmas.List.{length-append}
 use Rattle.kmip_run.specs.StandingText.{
   count_part,
   exchanges_word,
@@ -19,7 +21,11 @@ IsNarrow line = length line ≤ most_columns
 
 with_part_narrow : (line part : List ℕ) → IsNarrow line → IsNarrow (with_part line part)
 unfolding with_part
-with_part_narrow line part narrow = ?
+with_part_narrow line part narrow =
+    elim (cases_Bool (nat_le (length part) (most_columns - length line))) [
+      | inl fits ↦ rw fits (rw (length-append line part) (omega (arith, narrow, leb-true (length part) (most_columns - length line) fits)))
+      | inr full ↦ rw full narrow
+    ]
 
 choice_narrow : (b : Bool) (line other : List ℕ) → IsNarrow line → IsNarrow other → IsNarrow (if b then line else other)
 choice_narrow true line other narrow narrow' = narrow
