@@ -179,7 +179,9 @@ class Peers:
             status, printed, _ = self.run(('--connect', f'127.0.0.1:{port}'), '--limit', '3')
         self.look('a port where nobody listens', (status == 1, status), (printed == WORKING, printed),
                   (self.known() == NOTHING_KNOWN, self.known()),
-                  (self.told == 'cannot connect: Connection refused (os error 111)\n', self.told))
+                  (self.told.splitlines() == [
+                      f'no reply from 127.0.0.1:{port}: the connection was refused; trying again',
+                      'no key was answered in 3 exchanges'], self.told))
 
     def full_socket(self):
         """A Unix socket that nobody takes a connection from, with no room for one more that waits."""
@@ -217,7 +219,7 @@ class Peers:
     def files(self):
         self.forget()
         words = self.words(('--connect', f'127.0.0.1:{listening(silent)}'), '--limit', '1', '--timeout', '2')
-        with subprocess.Popen(words, stdout=subprocess.DEVNULL):
+        with subprocess.Popen(words, stdout=subprocess.DEVNULL, stderr=subprocess.DEVNULL):
             time.sleep(0.5)
             status, printed, _ = self.run(('--loopback',))
         wanted = f'progress in use: {self.progress}\n'

@@ -197,11 +197,20 @@ The plan is read and judged first (its first fault is printed as by `check`), th
 (`progress refused: 2 Cut`), before anything is asked. A progress file that cannot be written prints
 `cannot write PATH`: what was asked last may have taken effect, and a later run finds it.
 
-While it works, it shows on standard error how far it is, in one line that is written again after each
-exchange, where that is a terminal and `--verbose` does not tell each exchange there:
-  1 of 3 keys finished, at most 9 more exchanges if nothing more is lost; 8 made, 2 without a reply
-Why the server can't be reached stands there too, once for each time:
-  cannot connect: Connection refused (os error 111)
+A run gets on where it learns more of some key. After an exchange by which it does not it waits, longer
+each time (`--wait`). Where it did not get on for some time (`--give-up`) it ends as at a limit, and standard
+error says so. It never waits for a server in this process.
+
+On standard error it says why no reply comes, once for each reason, and when the server answers again. At
+the end it says of each key that is not finished what was heard last:
+  no reply from 192.0.2.7:5696: the connection was refused; trying again
+  192.0.2.7:5696 answers again after 41 s
+  backup-seal: Create refused 27 times, last reason 7 (Invalid Field)
+  gave up: nothing was learnt for 300 s
+With `--verbose` it tells each exchange there, with the seconds since the start and what it took:
+  12.310 Create k1: created as 12 (6 ms)
+Else, where standard error is a terminal, one line there says how far the run is:
+  6 of 50 keys, 12 lost, 27 refused, 120 exchanges, 37 s
 
 With `--batch B` a message asks about up to B keys, each once, and the server answers them in turn: a plan
 of many keys takes about B times fewer exchanges. What is promised is the same; where a reply is lost, B
@@ -276,10 +285,14 @@ pub(crate) const BATCH: &str = "How many keys a message asks about at most, 1 to
 pub(crate) const TIMEOUT: &str =
     "The longest that an exchange takes, with connecting: 1 to 3600 seconds";
 
-pub(crate) const WAIT: &str =
-    "The wait after an exchange without a reply, twice as long each time up to 10 seconds; 0 for none";
+pub(crate) const WAIT: &str = "\
+The first wait after an exchange that did not get the run on, twice as long each time up to 10 seconds: 0 to
+60000 milliseconds, 0 for no wait";
 
-pub(crate) const VERBOSE: &str = "Tell each exchange on standard error";
+pub(crate) const GIVE_UP: &str = "\
+The seconds without getting on after which the run ends: 0 to 86400, 0 for never";
+
+pub(crate) const VERBOSE: &str = "Tell each exchange on standard error, a line for each key";
 
 pub(crate) const PORT: &str = "The port, 1 to 65535; 0 for one that the system picks";
 

@@ -71,6 +71,7 @@ fn run_options(
         trust: trust_of(options),
         timeout: options.get_one::<u64>("timeout").unwrap_or(MOST_SECONDS),
         wait: options.get_one::<u64>("wait").unwrap_or(0),
+        give_up: options.get_one::<u64>("give-up").unwrap_or(0),
         is_verbose: options.get_flag("verbose"),
     }))
 }
