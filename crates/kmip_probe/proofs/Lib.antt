@@ -1,1 +1,2 @@
 pub mod ToldLemmas
+pub mod EndLemmas

@@ -1,5 +1,5 @@
 //! The command `probe`: whether a server keeps what the theorem asks of it.
-ghost use Rattle.std.specs.Prelude.{◌≡◌, ◌≤◌, ◌+◌, ◌++◌, [], length, false, true, string_bytes, Some, IfErr, IfOk, OnErr, IsTrue, option_map};
+ghost use Rattle.std.specs.Prelude.{◌≡◌, ◌≢◌, ◌≤◌, ◌+◌, ◌++◌, [], length, false, true, string_bytes, Some, IfErr, IfOk, OnErr, IsTrue, option_map};
 ghost use Rattle.std.specs.Io.KnownBytes.{Appends};
 ghost use Rattle.kmip_commands.specs.Printing.{Fails, IfFailed, IfWhole, UnlessOutput, fault_line};
 ghost use Rattle.kmip_schedule.specs.Past.{Names};
@@ -56,6 +56,7 @@ pub fn run_probe<L: Link, W: Write>(
         (λ r. (r ≡ true) × Appends (W.contents writer.old) (W.contents writer.new) unfit_text) }
     ensures broken { IfFailed result (λ fault. UnlessOutput fault
         (Appends (W.contents writer.old) (W.contents writer.new) (fault_line fault))) }
+    ensures no_input { IfFailed result (λ fault. fault ≢ CommandFault.Input) }
     ensures few { (names : Names) → L.honest link.old names
         → length (L.past link.new).sent ≤ length (L.past link.old).sent + QUESTIONS }
     ensures kept { IsTrue (is_prefix prefix.now) → (names : Names) → L.calm link.old names
@@ -85,6 +86,7 @@ fn write_probe<L: Link, W: Write>(
         (λ r. (r ≡ true) × Appends (W.contents writer.old) (W.contents writer.new) unfit_text) }
     ensures broken { IfErr result (λ fault. UnlessOutput fault
         (Appends (W.contents writer.old) (W.contents writer.new) [])) }
+    ensures no_input { IfErr result (λ fault. fault ≢ CommandFault.Input) }
     ensures few { (names : Names) → L.honest link.old names
         → length (L.past link.new).sent ≤ length (L.past link.old).sent + QUESTIONS }
     ensures kept { IsTrue (is_prefix prefix.now) → (names : Names) → L.calm link.old names
