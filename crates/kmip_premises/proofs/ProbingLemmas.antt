@@ -1,11 +1,13 @@
 -- One more question of a probe.
-use Rattle.std.proofs.Common.{◌≡◌, ℕ, List, [], ◌∷◌, ◌++◌, Option, Some, None, refl, sym, ap, subst, ◌∙◌}
-use Rattle.std.specs.Prelude.{option_to_list}
+use Rattle.std.proofs.Common.{◌≡◌, ◌≢◌, ◌≤◌, ◌<◌, ◌⊎◌, ℕ, Bool, true, false, List, [], ◌∷◌, ◌++◌, length, Option, Some, None, refl, sym, ap, subst, ◌∙◌, inl, inr, arith}
+use Rattle.std.specs.Prelude.{◌&&◌, option_to_list, slice_get, if◌then◌else◌}
 use Rattle.std.proofs.lemmas.List.{append_assoc, append-nil}
 use Rattle.kmip_schedule.specs.Past.{Past}
-use Rattle.kmip_premises.specs.Asking.{AreAnswers, IsNext, message_after, messages_from}
+use Rattle.kmip_premises.specs.Asking.{AreAnswers, IsNext, is_free_at, message_after, messages_from, next_inquiry}
 use Rattle.kmip_premises.specs.Putting.{AreAsked, HasAsked}
 use Rattle.kmip_premises.specs.declared.answer.Answer.{Answer}
+use Rattle.kmip_premises.specs.declared.inquiry.Inquiry.{Inquiry}
+use Rattle.kmip_premises.specs.declared.inquiry.TheConstants.{INQUIRIES}
 
 -- ---- what is sent, and what is heard
 
@@ -52,3 +54,19 @@ asked_more prefix answers answer old between new asked once = record {
   handed = once.handed ∙ ap (λ hs. hs ++ once.given) asked.handed ∙ append_assoc old.handed asked.given once.given;
   heard = answers_more prefix [] answers answer asked.given once.given asked.heard once.next;
 }
+
+-- ---- from nothing, and to the end
+
+pub nothing_asked : (prefix : List ℕ) (p : Past) → AreAsked prefix [] p p
+nothing_asked prefix p = record { sent = sym (append-nil p.sent); given = []; handed = sym (append-nil p.handed); heard = refl }
+
+none_behind : (answers : List Answer) → is_free_at answers 0 ≡ true → is_free_at answers 1 ≡ true → length answers < 25 → next_inquiry answers ≢ None
+one_behind answers first second few none =
+    let inquiry = get_or INQUIRIES (length answers) (record { _0 = First; _1 = Create }) in
+    let there : next_inquiry answers ≡ Some inquiry = rw (first, second) (slice_get-get_or INQUIRIES (length answers) (record { _0 = First; _1 = Create }) few) in
+    let both : Some inquiry ≡ None = sym there ∙ none in absurd cc
+
+pub so_many : (answers : List Answer) (most : ℕ) → is_free_at answers 0 ≡ true → is_free_at answers 1 ≡ true → length answers ≤ most → most ≤ 25
+    → (next_inquiry answers ≡ None) ⊎ (length answers ≡ most) → length answers ≡ most
+so_many answers most first second fewer few (inr all) = all
+so_many answers most first second fewer few (inl none) = grind (arith, one_behind answers first second, none, fewer, few)

@@ -272,6 +272,15 @@ goes_on prefix answers p few s none =
     let some = follows prefix s.first s.second (length answers) few in
     let t : false ≡ true = sym (ap is_some (sym (ap next_inquiry s.answers_are) ∙ none)) ∙ some in absurd cc
 
+at_end : (count : ℕ) → count ≤ 25 → (count < 25 → ⊥) → count ≡ 25
+at_end count few all = grind (arith, few, all)
+
 pub all_served : (prefix : List ℕ) (answers : List Answer) (p : Past) → length answers ≡ 25 → AreServed prefix answers p
     → (first second : List ℕ) × (answers ≡ map Told (outcomes_of prefix first second))
 all_served prefix answers p all s = (s.first, s.second, s.answers_are ∙ ap (until prefix s.first s.second) all)
+
+-- where no question follows, or there are so many, all are answered
+pub all_answered : (prefix : List ℕ) (answers : List Answer) (p : Past) → length answers ≤ 25 → (next_inquiry answers ≡ None) ⊎ (length answers ≡ 25)
+    → AreServed prefix answers p → (first second : List ℕ) × (answers ≡ map Told (outcomes_of prefix first second))
+all_answered prefix answers p few (inr all) served = all_served prefix answers p all served
+all_answered prefix answers p few (inl none) served = all_served prefix answers p (at_end (length answers) few (λ less. goes_on prefix answers p less served none)) served

@@ -4,10 +4,11 @@ ghost use Rattle.std.specs.Cmp.Lexicographic.{pointwise};
 ghost use Rattle.std.specs.List.{All};
 ghost use Rattle.kmip_messages.specs.BatchItems.{answer_fits};
 ghost use Rattle.kmip_messages.specs.Fits.{outcome_fits};
-ghost use Rattle.kmip_premises.specs.Answers.{answer_in, answer_marked, answer_to, answer_with, is_asked_for, is_marker, is_of, marker_of, outcome_in, unmarked, uids_told, without_id, IsLawful};
+ghost use Rattle.kmip_premises.specs.Answers.{answer_in, answer_marked, answer_to, answer_with, is_asked_for, is_marker, is_of, marker_of, outcome_in, unmarked, unread_in, uids_told, without_id, IsLawful};
 ghost use Rattle.kmip_premises.specs.Asking.{is_free};
 
 use crate::inquiry::{Kind, inquiry_at};
+use crate::unread::{Unread, version_in};
 use kmip_batches::read_reply;
 use kmip_messages::{Outcome, Reply};
 use kmip_ttlv::{Bytes, NoMemory, Text};
@@ -22,6 +23,8 @@ pub enum Answer {
     Told(Outcome),
     /// A success whose reply has no id, or one that is the id of no question.
     Unmarked(Outcome),
+    /// A message came that can't be read as replies.
+    Unreadable(Unread),
 }
 
 impl Answer {
@@ -30,8 +33,18 @@ impl Answer {
         ensures { option_map (λ outcome. outcome.now) result ≡ outcome_in self.now }
     {
         match self {
-            Answer::Nothing => None,
+            Answer::Nothing | Answer::Unreadable(_) => None,
             Answer::Told(outcome) | Answer::Unmarked(outcome) => Some(outcome),
+        }
+    }
+
+    /// Why the reply can't be read, where one came that can't.
+    pub fn unread(&self) -> Option<Unread>
+        ensures { result ≡ unread_in self.now }
+    {
+        match self {
+            Answer::Unreadable(unread) => Some(*unread),
+            Answer::Nothing | Answer::Told(_) | Answer::Unmarked(_) => None,
         }
     }
 
@@ -58,7 +71,7 @@ impl Answer {
 }
 
 /// What was handed over says of the question of a number, from 0: nothing, unless it is a message
-/// of one reply.
+/// of one reply, or can't be read.
 ///
 /// # Errors
 /// Where there is no memory.
@@ -81,7 +94,8 @@ pub(crate) fn answer_to(
             if fault.is_no_memory() {
                 return Err(NoMemory);
             }
-            Ok(Answer::Nothing)
+            let version = version_in(given.as_slice());
+            Ok(Answer::Unreadable(Unread { fault, version }))
         }
     }
 }
