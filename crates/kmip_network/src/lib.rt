@@ -2,18 +2,22 @@
 //! machine, and the texts of files.
 #![tactic(auto)]
 
+mod asking_again;
 mod believing;
 mod carrying;
 mod causes;
 mod dialing;
+mod exchange_line;
 mod linking;
 mod origin;
+mod overhearing;
 mod probing;
 mod reading;
 mod serving;
 mod showing;
 mod telling;
 mod told;
+mod watching;
 
 pub use carrying::run_plan;
 pub use kmip_run::batch_of;

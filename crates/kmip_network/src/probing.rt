@@ -1,48 +1,56 @@
 //! The program `probe`, over sockets.
 
+use crate::asking_again::AskingAgain;
 use crate::linking::{loopback, tcp_link, unix_link};
 use crate::told::standard_output;
+use crate::watching::Watcher;
 use kmip_choices::{Peer, ProbeOptions};
 use kmip_commands::ExitStatus;
 use kmip_probe::run_probe;
+use kmip_running::Observed;
 use kmip_schedule::Link;
 use std::io;
 use std::io::BufWriter;
 use std::time::Duration;
 
-/// The command `probe`: the server is asked, and what its answers tell is printed. As nothing is asked
-/// twice, each question goes over a stream of its own: so a server that closes the stream behind each
-/// reply answers all.
+/// The command `probe`: the server is asked, and what its answers tell is printed. Each question goes
+/// over a stream of its own, so a server that closes the stream behind each reply answers all. A Locate
+/// that brings no reply is asked again; nothing else is.
 ///
 /// # Errors
 /// Where there is no memory, or standard output takes nothing; all else is printed.
 pub fn probe_server(rt: &HostRuntime, options: &ProbeOptions) -> io::Result<ExitStatus> {
     let limit = Duration::from_secs(options.timeout);
-    let prefix = options.prefix.as_str();
     match &options.peer {
         Peer::Tcp(address) => {
             let mut link = tcp_link(rt, *address, limit, None);
             link.hold_none();
-            probe_over(rt, prefix, link)
+            probe_over(rt, options, link)
         }
         Peer::Unix(path) => match unix_link(rt, path.as_str(), limit, None)? {
             Some(link) => {
                 let mut link = link;
                 link.hold_none();
-                probe_over(rt, prefix, link)
+                probe_over(rt, options, link)
             }
             None => Ok(ExitStatus::Refused),
         },
         Peer::Loopback => match loopback(rt, limit)? {
-            Some(link) => probe_over(rt, prefix, link),
+            Some(link) => probe_over(rt, options, link),
             None => Ok(ExitStatus::Refused),
         },
     }
 }
 
-/// Asks the server behind this link.
-fn probe_over<L: Link + Drop>(rt: &HostRuntime, prefix: &str, link: L) -> io::Result<ExitStatus> {
-    let mut link = link;
+/// Asks the server behind this link. Each message that is sent is told, if it is to be.
+fn probe_over<L: Link + Drop>(
+    rt: &HostRuntime,
+    options: &ProbeOptions,
+    link: L,
+) -> io::Result<ExitStatus> {
+    let told = Observed::new(link, Watcher::new(rt, options.is_verbose));
+    let mut link = AskingAgain::new(told);
     let mut writer = BufWriter::new(rt.alloc(), standard_output(rt))?;
+    let prefix = options.prefix.as_str();
     Ok(run_probe(rt.alloc(), prefix, &mut link, &mut writer))
 }

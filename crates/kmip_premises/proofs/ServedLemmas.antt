@@ -20,6 +20,7 @@ use Rattle.kmip_premises.specs.Standing.{ProbeLaws, AreServed, AreStanding, stat
 use Rattle.kmip_premises.specs.declared.answer.Answer.{Answer}
 use Rattle.kmip_premises.specs.declared.answer.Answer.TheVariants.{Told}
 use Rattle.kmip_premises.specs.declared.inquiry.Which.TheVariants.{First, Second}
+use Rattle.kmip_premises.proofs.ProbingLemmas.{up_to}
 use Rattle.kmip_premises.proofs.StandingLemmas.{TwoStand, turned, comes, used, found, read, refused, taken}
 
 -- ---- the two names
@@ -272,9 +273,6 @@ goes_on prefix answers p few s none =
     let some = follows prefix s.first s.second (length answers) few in
     let t : false ≡ true = sym (ap is_some (sym (ap next_inquiry s.answers_are) ∙ none)) ∙ some in absurd cc
 
-at_end : (count : ℕ) → count ≤ 25 → (count < 25 → ⊥) → count ≡ 25
-at_end count few all = grind (arith, few, all)
-
 pub all_served : (prefix : List ℕ) (answers : List Answer) (p : Past) → length answers ≡ 25 → AreServed prefix answers p
     → (first second : List ℕ) × (answers ≡ map Told (outcomes_of prefix first second))
 all_served prefix answers p all s = (s.first, s.second, s.answers_are ∙ ap (until prefix s.first s.second) all)
@@ -283,4 +281,4 @@ all_served prefix answers p all s = (s.first, s.second, s.answers_are ∙ ap (un
 pub all_answered : (prefix : List ℕ) (answers : List Answer) (p : Past) → length answers ≤ 25 → (next_inquiry answers ≡ None) ⊎ (length answers ≡ 25)
     → AreServed prefix answers p → (first second : List ℕ) × (answers ≡ map Told (outcomes_of prefix first second))
 all_answered prefix answers p few (inr all) served = all_served prefix answers p all served
-all_answered prefix answers p few (inl none) served = all_served prefix answers p (at_end (length answers) few (λ less. goes_on prefix answers p less served none)) served
+all_answered prefix answers p few (inl none) served = all_served prefix answers p (up_to (length answers) 25 few (omega arith) (λ less. goes_on prefix answers p less served none)) served

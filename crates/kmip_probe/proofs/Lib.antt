@@ -1,2 +1,4 @@
 pub mod ToldLemmas
 pub mod EndLemmas
+pub mod MidwayLemmas
+pub mod StageLemmas
