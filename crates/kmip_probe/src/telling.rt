@@ -1,5 +1,5 @@
 //! What a probe tells while it asks.
-ghost use Rattle.std.specs.Prelude.{◌≡◌, ◌≤◌, ◌+◌, ◌++◌, length, false, List, flat_map, IfErr, IfOk, OnOk, IsTrue};
+ghost use Rattle.std.specs.Prelude.{◌≡◌, ◌≤◌, ◌+◌, ◌++◌, length, false, true, List, flat_map, IfErr, IfOk, OnOk, IsTrue};
 ghost use Rattle.std.specs.List.{All};
 ghost use Rattle.std.specs.Io.KnownBytes.{Appends};
 ghost use Rattle.kmip_commands.specs.Printing.{Fails};
@@ -52,10 +52,7 @@ pub(crate) fn tell<L: Link, P: Printer>(
     let mut answers = Vec::new(alloc);
     ask_on(alloc, prefix, link, LOOKS, &mut answers)?;
     match unbegun_text(alloc, prefix, answers.as_slice())? {
-        Some(text) => {
-            printer.print(text.as_str().as_bytes())?;
-            Ok(true)
-        }
+        Some(text) => print_refusal(text.as_str(), printer),
         None => tell_on(alloc, prefix, link, printer, &mut answers),
     }
 }
@@ -92,14 +89,48 @@ fn tell_on<L: Link, P: Printer>(
         → AreServed prefix.now answers.old.items (L.past link.old)
         → IfOk result (λ r. AreServed prefix.now answers.new.items (L.past link.new)) }
 {
-    let text = making_text(alloc, prefix)?;
-    printer.print(text.as_str().as_bytes())?;
+    print_making(alloc, prefix, printer)?;
     ask_on(alloc, prefix, link, EARLY_ANSWERS, answers)?;
     print_lines(alloc, prefix, answers.as_slice(), &EARLY, printer)?;
     ask_on(alloc, prefix, link, LATE_ANSWERS, answers)?;
     print_lines(alloc, prefix, answers.as_slice(), &LATE, printer)?;
     ask_on(alloc, prefix, link, QUESTIONS, answers)?;
     print_rest(alloc, prefix, answers.as_slice(), printer)
+}
+
+/// Prints why nothing was made; that is refused.
+///
+/// # Errors
+///
+/// The fault of the printer.
+fn print_refusal<P: Printer>(text: &str, printer: &mut P) -> Result<bool, CommandFault>
+    ensures text { IfOk result (λ r. (r ≡ true)
+        × Appends (P.contents printer.old) (P.contents printer.new) text.now) }
+    ensures broken { IfErr result (λ fault. Fails fault P.own_fault P.IsWhole
+        (P.contents printer.old) (P.contents printer.new)) }
+{
+    printer.print(text.as_bytes())?;
+    Ok(true)
+}
+
+/// Prints which keys are to be made.
+///
+/// # Errors
+///
+/// `NoMemory`, and the fault of the printer.
+fn print_making<P: Printer>(
+    alloc: Global,
+    prefix: &str,
+    printer: &mut P,
+) -> Result<(), CommandFault>
+    ensures text { OnOk result (Appends (P.contents printer.old) (P.contents printer.new)
+        (making_text prefix.now)) }
+    ensures broken { IfErr result (λ fault. Fails fault P.own_fault P.IsWhole
+        (P.contents printer.old) (P.contents printer.new)) }
+{
+    let text = making_text(alloc, prefix)?;
+    printer.print(text.as_str().as_bytes())?;
+    Ok(())
 }
 
 /// Prints the lines of these premises, by the answers that have come.
