@@ -9,9 +9,10 @@ machine, or in lines of hexadecimal digits; messages can be shown as text.";
 
 pub(crate) const AFTER_HELP: &str = "\
 Without words it does `answer`. Everything is printed on standard output, faults of the command line too,
-but for this, which goes to standard error: what `run` tells while it works, why a server can't be reached,
-where and why a plan or a progress is refused, why a file, a socket or a stream fails, what to give in the
-place of a wrong address, what a terminal is asked for, and that a command line is no UTF-8.
+but for this, which goes to standard error: what `run` tells while it works, and with `--verbose` also `probe`
+and `serve`, why a server can't be reached, where and why a plan or a progress is refused, why a file, a
+socket or a stream fails, what to give in the place of a wrong address, what a terminal is asked for, and
+that a command line is no UTF-8.
 
 Exit status:
   0  nothing was refused, a run, or the last one of a simulation, finished all keys, and a server that was
@@ -225,15 +226,19 @@ keeps the rules by which `run` makes no key twice and destroys none too early. R
 against a new kind of server, and after its software was changed.
 
 It looks for both names first: where one is there already, or that cannot be told, it says so and makes
-nothing; `refused, reason 12` at the head of that line is the server's refusal to look. Else it
-makes the keys, takes each step twice, searches for them before and after they are destroyed, and
-asks for their names once more. Two destroyed objects stay on the server. Where replies were lost or
+nothing. `refused, reason 12` at the head of that line is the server's refusal to look, and
+`the server's reply can't be read (Version: it answers in KMIP 1.0)` a server of another version. Else it
+names the keys, makes them, takes each step twice, searches for them before and after they are
+destroyed, and asks for their names once more. A search without a reply is asked again, three times in
+all; nothing else is. Two destroyed objects stay on the server. Where replies were lost or
 a Destroy was refused, keys of these names may stay that are not destroyed. Where a line says that a
 second object was made, that object stays and is not destroyed: destroy it by hand (its identifier
 stands in the line). They protect nothing: take another PREFIX next time.
 
-A line a rule, then the reasons of the server's refusals in decimal (they decide nothing), then what may go
-wrong where a rule is not kept, and the sum:
+First comes the line of the keys, before anything is made. Then come a line a rule, the reasons of the
+server's refusals in decimal (they decide nothing), what may go wrong where a rule is not kept, and the
+sum. Each line is printed once the answers that decide it have come:
+  making two keys: PREFIX-1 and PREFIX-2
   names are unique: yes
   names stay used after Destroy: no (a second object 3 was made)
   a step made twice changes nothing: yes
@@ -260,7 +265,10 @@ pub(crate) const SERVE_LONG: &str = "\
 Listens on 127.0.0.1, prints `listening PORT`, and serves connections one after the other by one server,
 which starts with no object and has room for 10,000. Each connection is served until it ends, breaks the
 framing of messages or waits longer than the timeout; then the next one is. A port that cannot be had
-prints `cannot listen`.";
+prints `cannot listen`.
+
+With `--verbose` standard error has a line for each message that is answered:
+  Create k1: created as 1";
 
 pub(crate) const PROGRESS: &str = "The file that what is known is kept in";
 

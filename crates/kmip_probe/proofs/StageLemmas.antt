@@ -74,19 +74,25 @@ told_stays prefix answers more all = let a = at answers more 8 (omega (arith, al
 
 -- ---- the lines
 
-pub early_stays : (prefix : List ℕ) (answers more : List Answer) → 8 ≤ length answers
-    → flat_map (line_by prefix (answers ++ more)) EARLY ≡ flat_map (line_by prefix answers) EARLY
-early_stays prefix answers more all = ap (λ finding. line_text premise.NamesAreUnique finding ++ []) (unique_stays answers more all)
+pub early_stays : (prefix : List ℕ) (answers later more : List Answer) → later ≡ answers ++ more → 8 ≤ length answers
+    → flat_map (line_by prefix later) EARLY ≡ flat_map (line_by prefix answers) EARLY
+early_stays prefix answers later more is all =
+    ap (λ xs. flat_map (line_by prefix xs) EARLY) is
+    ∙ ap (λ finding. line_text premise.NamesAreUnique finding ++ []) (unique_stays answers more all)
 
-pub late_stays : (prefix : List ℕ) (answers more : List Answer) → 23 ≤ length answers
+late_lines : (prefix : List ℕ) (answers more : List Answer) → 23 ≤ length answers
     → flat_map (line_by prefix (answers ++ more)) LATE ≡ flat_map (line_by prefix answers) LATE
-late_stays prefix answers more all =
+late_lines prefix answers more all =
     let used = used_stays answers more all in
     let once = once_stays answers more all in
     let active = active_stays answers more all in
     let found = found_stays answers more all in
     let destroyed = destroyed_found_stays answers more all in
     let told = told_stays prefix answers more all in rw (used, once, active, found, destroyed, told) refl
+
+pub late_stays : (prefix : List ℕ) (answers later more : List Answer) → later ≡ answers ++ more → 23 ≤ length answers
+    → flat_map (line_by prefix later) LATE ≡ flat_map (line_by prefix answers) LATE
+late_stays prefix answers later more is all = ap (λ xs. flat_map (line_by prefix xs) LATE) is ∙ late_lines prefix answers more all
 
 line_is : (prefix : List ℕ) (answers : List Answer) (findings : Findings) → AreFindings prefix answers findings → (p : Premise)
     → premise_line findings p ≡ line_by prefix answers p
@@ -123,14 +129,13 @@ report_in_parts findings =
     (append-nil (premise_line findings premise.IdsAreEchoed))
 
 -- what was told early, late and at last is the report
-pub report_is : (prefix : List ℕ) (early more rest : List Answer) (findings : Findings) → 8 ≤ length early → 23 ≤ length (early ++ more)
-    → AreFindings prefix (early ++ more ++ rest) findings
-    → flat_map (line_by prefix early) EARLY ++ (flat_map (line_by prefix (early ++ more)) LATE ++ rest_text findings) ≡ report_text findings
-report_is prefix early more rest findings eight most are =
-    let all = early ++ more ++ rest in
-    let first = sym (early_stays prefix early more eight)
-    ∙ sym (early_stays prefix (early ++ more) rest (omega (arith, most))) ∙ sym (lines_are prefix all findings are EARLY) in
-    let later = sym (late_stays prefix (early ++ more) rest most) ∙ sym (lines_are prefix all findings are LATE) in
-    ap (λ lines. lines ++ (flat_map (line_by prefix (early ++ more)) LATE ++ rest_text findings)) first
+pub report_is : (prefix : List ℕ) (early late all more rest : List Answer) (findings : Findings) → late ≡ early ++ more → all ≡ late ++ rest
+    → 8 ≤ length early → 23 ≤ length late → AreFindings prefix all findings
+    → flat_map (line_by prefix early) EARLY ++ (flat_map (line_by prefix late) LATE ++ rest_text findings) ≡ report_text findings
+report_is prefix early late all more rest findings is_late is_all eight most are =
+    let first = sym (early_stays prefix early late more is_late eight)
+    ∙ sym (early_stays prefix late all rest is_all (omega (arith, most))) ∙ sym (lines_are prefix all findings are EARLY) in
+    let later = sym (late_stays prefix late all rest is_all most) ∙ sym (lines_are prefix all findings are LATE) in
+    ap (λ lines. lines ++ (flat_map (line_by prefix late) LATE ++ rest_text findings)) first
     ∙ ap (λ lines. flat_map (premise_line findings) EARLY ++ (lines ++ rest_text findings)) later
     ∙ sym (report_in_parts findings)
