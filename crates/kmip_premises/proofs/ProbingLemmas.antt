@@ -58,8 +58,9 @@ asked_more prefix answers answer old between new asked once = record {
 
 -- ---- from nothing, and to the end
 
-pub nothing_asked : (prefix : List ℕ) (p : Past) → AreAsked prefix [] p p
-nothing_asked prefix p = record { sent = sym (append-nil p.sent); given = []; handed = sym (append-nil p.handed); heard = refl }
+pub nothing_asked : (prefix : List ℕ) (answers : List Answer) (p : Past) → answers ≡ [] → AreAsked prefix answers p p
+nothing_asked prefix [] p none = record { sent = sym (append-nil p.sent); given = []; handed = sym (append-nil p.handed); heard = refl }
+nothing_asked prefix (answer ∷ answers) p none = absurd cc
 
 none_behind : (free : Bool) (inquiry : Option Inquiry) → inquiry ≡ None → (if free then inquiry else None) ≡ None
 none_behind true inquiry none = none

@@ -96,7 +96,7 @@ replied_by read names old new message request number prefix answer (Ok given) ha
       step = subst (λ p. ServerStep old.room old.objects request.ask reply.outcome p.objects) (sym calmly.is)
           (subst (λ p. ServerStep old.room old.objects request.ask reply.outcome p.objects) (sym served.is) served.serves.step);
       id_is = served.serves.id_is;
-      answer_is = told ∙ ap (answer_to number prefix) (sym (same_Some given handed is) ∙ calmly.answer_is) 
+      answer_is = told ∙ ap (answer_to number prefix) (sym (same_Some given handed is) ∙ calmly.answer_is)
           ∙ ap (answer_read number prefix calmly.given) (read calmly.given reply [] only);
       room_is = ap (λ p. p.room) calmly.is ∙ ap (λ p. p.room) served.is;
     }

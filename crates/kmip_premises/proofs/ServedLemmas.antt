@@ -1,5 +1,5 @@
 -- What a server of the profile answers a probe: each question in turn moves its two objects as the profile says.
-use Rattle.std.proofs.Common.{◌≡◌, ◌≢◌, ◌<◌, ◌+◌, ℕ, zero, suc, pos, true, false, List, [], ◌∷◌, ◌++◌, map, take, drop, length, Some, None, subst, refl, sym, ap, ◌∙◌, arith}
+use Rattle.std.proofs.Common.{◌≡◌, ◌≢◌, ◌≤◌, ◌<◌, ◌⊎◌, ◌+◌, ℕ, zero, suc, pos, true, false, List, [], ◌∷◌, ◌++◌, map, take, drop, length, Some, None, subst, refl, sym, ap, ◌∙◌, inl, inr, arith}
 use Rattle.std.specs.List.{slice_get}
 use Rattle.std.specs.Option.{is_some}
 use Rattle.std.proofs.lemmas.Option.{same_Some}
@@ -276,6 +276,9 @@ goes_on prefix answers p few s none =
 pub all_served : (prefix : List ℕ) (answers : List Answer) (p : Past) → length answers ≡ 25 → AreServed prefix answers p
     → (first second : List ℕ) × (answers ≡ map Told (outcomes_of prefix first second))
 all_served prefix answers p all s = (s.first, s.second, s.answers_are ∙ ap (until prefix s.first s.second) all)
+
+pub none_served : (prefix : List ℕ) (answers : List Answer) (p : Past) → answers ≡ [] → IsUnprobed prefix p → AreServed prefix answers p
+none_served prefix answers p none free = subst (λ xs. AreServed prefix xs p) (sym none) (nothing_served prefix p free)
 
 -- where no question follows, or there are so many, all are answered
 pub all_answered : (prefix : List ℕ) (answers : List Answer) (p : Past) → length answers ≤ 25 → (next_inquiry answers ≡ None) ⊎ (length answers ≡ 25)

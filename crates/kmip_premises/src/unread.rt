@@ -1,6 +1,6 @@
 //! A message that can't be read as replies.
 ghost use Rattle.std.specs.Prelude.{◌≡◌, ◌≤◌, ◌-◌, take, drop};
-ghost use Rattle.kmip_premises.specs.Unreadable.{version_in};
+ghost use Rattle.kmip_premises.specs.Unreadable.{version_in, version_of};
 
 use kmip_fields::MessageFault;
 

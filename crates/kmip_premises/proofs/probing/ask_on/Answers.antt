@@ -12,16 +12,6 @@ use Rattle.kmip_premises.proofs.ProbingLemmas.{asked_more}
 use Rattle.kmip_premises.proofs.ServedLemmas.{one_served}
 use Rattle.kmip_premises.proofs.probing.ask_on.Goals as goal
 
-pub loop-entry : goal.loop-entry
-loop-entry g c = record {
-  count = c.answers.ok.0;
-  lawful = c.requires.lawful;
-  onward = ([], sym (append-nil c.args.answers.now.items));
-  asked = λ names honest. (honest, λ start asked. asked);
-  few = λ names honest. omega (arith, c.answers.ok.0);
-  served = λ names calm served. (calm, served);
-}
-
 pub returns-in_default-clause-few : goal.returns-in_default-clause-few
 returns-in_default-clause-few g c = λ names honest. let few = c.loop.invariant.few names honest in let end = c.loop.auto.counter-end in omega (arith, few, end)
 
