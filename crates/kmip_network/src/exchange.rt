@@ -1,10 +1,11 @@
 //! One exchange: what was asked, and what came of it.
 
 use crate::silence::Silence;
-use crate::version::Version;
 use crate::wire::Wire;
 use kmip_batches::read_reply;
+use kmip_fields::MessageFault;
 use kmip_messages::{Outcome, Reply, Request};
+use kmip_premises::{ProtocolVersion, version_in};
 use kmip_schedule::LinkFault;
 use kmip_ttlv::{Bytes, NoMemory};
 use kmip_wording::requests_in;
@@ -63,7 +64,7 @@ impl Exchange {
                 if fault.is_no_memory() {
                     return Err(NoMemory);
                 }
-                let version = Version::refused(fault, reply);
+                let version = refused_version(fault, reply);
                 let silence = Silence::Unreadable(fault, version);
                 Ok(Exchange::silent(alloc, requests, silence))
             }
@@ -112,5 +113,14 @@ pub(crate) fn name_of(request: &Request) -> &[u8] {
     match id_bytes(&request.id) {
         [_, name @ ..] => name,
         [] => &[],
+    }
+}
+
+/// The version that a reply tells, where it is unreadable for its version.
+fn refused_version(fault: MessageFault, reply: &[u8]) -> Option<ProtocolVersion> {
+    if matches!(fault, MessageFault::Version) {
+        version_in(reply)
+    } else {
+        None
     }
 }

@@ -29,7 +29,6 @@ mod story;
 mod telling;
 mod told;
 mod trouble;
-mod version;
 mod watch;
 mod watching;
 mod wire;

@@ -20,4 +20,4 @@ pub use inquiry::{
 };
 pub use judging::{findings, outcome_at, unread_at};
 pub use probing::{ask_on, is_free_at, probe};
-pub use unread::{ProtocolVersion, Unread};
+pub use unread::{ProtocolVersion, Unread, version_in};

@@ -36,7 +36,7 @@ pub const MINOR_HEAD: [u8; 15] = [0, 0, 0, 0, 0x42, 0, 0x6B, 2, 0, 0, 0, 4, 0, 0
 
 /// The Protocol Version in the header of a message: none where the bytes have none at its place, or
 /// one of its numbers is above 255.
-pub(crate) fn version_in(bytes: &[u8]) -> Option<ProtocolVersion>
+pub fn version_in(bytes: &[u8]) -> Option<ProtocolVersion>
     ensures { result ≡ version_in bytes.now }
 {
     if part_of(bytes, 16, 35) != VERSION_HEAD.as_slice()
