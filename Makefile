@@ -7,6 +7,7 @@
 # make hostile    gives the program lines of ten megabytes, under limits of memory
 # make storm      carries 200 plans over a network that loses and cuts messages, kills the runs, and probes (needs rustc)
 # make peers      runs it against peers that answer nothing, rubbish or too late (needs python3)
+# make troubles   runs it against servers that give trouble, and compares what it tells of that (needs python3)
 # make origin     runs it on progress files that were kept against other servers, or for other keys (needs python3)
 # make causes     runs it where files, sockets and standard streams fail, and compares what it tells (needs python3)
 # make tls        carries a plan out over TLS between two tunnels, with client certificates (needs openssl, stunnel)
@@ -21,7 +22,7 @@ program := crates/kmipctl/out/kmipctl
 growths := crates/kmip_growths/out/kmip_growths
 sources := crates.txt $(shell find crates -name out -prune -o \( -name '*.rt' -o -name '*.antt' \) -print)
 
-.PHONY: all demo test bench refuse faults hostile storm peers origin causes tls reading reference examples documents tools help
+.PHONY: all demo test bench refuse faults hostile storm peers troubles origin causes tls reading reference examples documents tools help
 
 all: $(program)
 
@@ -58,6 +59,9 @@ storm: $(program)
 
 peers: $(program)
 	@python3 bench/peers.py $(program) out/peers
+
+troubles: $(program)
+	@python3 bench/troubles.py $(program) out/troubles
 
 origin: $(program)
 	@python3 bench/origin.py $(program) out/origin

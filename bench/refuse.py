@@ -242,7 +242,7 @@ class Carrying(Command):
         words = [self.tools.program, *self.words, "--progress", file, *more]
         run = Process(self.tools.shim, words, refusal).end()
         run.left = file.read_text() if file.exists() else None
-        run.errors = run.errors.replace(str(file), "plan.progress")
+        run.errors = without_times(run.errors.replace(str(file), "plan.progress"))
         shutil.rmtree(folder)
         return run
 
@@ -258,7 +258,7 @@ class Carrying(Command):
         if run.left not in self.saved:
             raise Wrong(f"another progress: {run.left!r}")
         told, lines = run.errors.splitlines(), self.undisturbed.errors.splitlines()
-        if run.status and told and told[-1].endswith(": no reply (no memory)"):
+        if run.status and told and told[-1].endswith(": no reply, no memory (T ms)"):
             told.pop()
         rest = iter(lines)
         if not all(line in rest for line in told):
@@ -272,6 +272,11 @@ class Carrying(Command):
 
     def fronts(self):
         return {""}
+
+
+def without_times(errors):
+    """What `run --verbose` tells, without the seconds since the start and what each exchange took."""
+    return re.sub(r" \(\d+ ms\)$", " (T ms)", re.sub(r"^\d+\.\d{3} ", "T ", errors, flags=re.M), flags=re.M)
 
 
 class Serving(Command):

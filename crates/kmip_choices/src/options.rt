@@ -19,8 +19,11 @@ pub struct RunOptions {
     pub trust: Trust,
     /// How long an exchange may take, in seconds.
     pub timeout: u64,
-    /// How long to wait after an exchange without a reply, in milliseconds.
+    /// How long to wait first after an exchange by which the run did not get on, in milliseconds; 0 for
+    /// not at all, ever.
     pub wait: u64,
+    /// After how many seconds in which it did not get on the run gives up, up to a day; 0 for never.
+    pub give_up: u64,
     /// Whether each exchange is told on standard error.
     pub is_verbose: bool,
 }
@@ -45,6 +48,8 @@ pub struct ProbeOptions {
     pub peer: Peer,
     /// How long an exchange may take, in seconds.
     pub timeout: u64,
+    /// Whether each exchange is told on standard error.
+    pub is_verbose: bool,
 }
 
 /// Where a server is.
@@ -69,4 +74,6 @@ pub struct ServeOptions {
     pub now: i64,
     /// How long a read or a write of a connection may wait, in seconds.
     pub timeout: u64,
+    /// Whether each exchange is told on standard error.
+    pub is_verbose: bool,
 }

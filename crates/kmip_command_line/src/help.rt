@@ -197,11 +197,20 @@ The plan is read and judged first (its first fault is printed as by `check`), th
 (`progress refused: 2 Cut`), before anything is asked. A progress file that cannot be written prints
 `cannot write PATH`: what was asked last may have taken effect, and a later run finds it.
 
-While it works, it shows on standard error how far it is, in one line that is written again after each
-exchange, where that is a terminal and `--verbose` does not tell each exchange there:
-  1 of 3 keys finished, at most 9 more exchanges if nothing more is lost; 8 made, 2 without a reply
-Why the server can't be reached stands there too, once for each time:
-  cannot connect: Connection refused (os error 111)
+A run gets on where it learns more of some key. After an exchange by which it does not it waits, longer
+each time (`--wait`). Where it did not get on for some time (`--give-up`) it ends as at a limit, and standard
+error says so. It never waits for a server in this process.
+
+On standard error it says why no reply comes, once for each reason, and when the server answers again. At
+the end it says of each key that is not finished what was heard last:
+  no reply from 192.0.2.7:5696: the connection was refused; trying again
+  192.0.2.7:5696 answers again after 41 s
+  backup-seal: Create refused 27 times, last reason 7 (Invalid Field)
+  gave up: nothing was learnt for 300 s
+With `--verbose` it tells each exchange there, with the seconds since the start and what it took:
+  12.310 Create k1: created as 12 (6 ms)
+Else, where standard error is a terminal, one line there says how far the run is:
+  6 of 50 keys, 12 lost, 27 refused, 120 exchanges, 37 s
 
 With `--batch B` a message asks about up to B keys, each once, and the server answers them in turn: a plan
 of many keys takes about B times fewer exchanges. What is promised is the same; where a reply is lost, B
@@ -218,15 +227,19 @@ keeps the rules by which `run` makes no key twice and destroys none too early. R
 against a new kind of server, and after its software was changed.
 
 It looks for both names first: where one is there already, or that cannot be told, it says so and makes
-nothing; `refused, reason 12` at the head of that line is the server's refusal to look. Else it
-makes the keys, takes each step twice, searches for them before and after they are destroyed, and
-asks for their names once more. Two destroyed objects stay on the server. Where replies were lost or
+nothing. `refused, reason 12` at the head of that line is the server's refusal to look, and
+`the server's reply can't be read (Version: it answers in KMIP 1.0)` a server of another version. Else it
+names the keys, makes them, takes each step twice, searches for them before and after they are
+destroyed, and asks for their names once more. A search without a reply is asked again, three times in
+all; nothing else is. Two destroyed objects stay on the server. Where replies were lost or
 a Destroy was refused, keys of these names may stay that are not destroyed. Where a line says that a
 second object was made, that object stays and is not destroyed: destroy it by hand (its identifier
 stands in the line). They protect nothing: take another PREFIX next time.
 
-A line a rule, then the reasons of the server's refusals in decimal (they decide nothing), then what may go
-wrong where a rule is not kept, and the sum:
+First comes the line of the keys, before anything is made. Then come a line a rule, the reasons of the
+server's refusals in decimal (they decide nothing), what may go wrong where a rule is not kept, and the
+sum. Each line is printed once the answers that decide it have come:
+  making two keys: PREFIX-1 and PREFIX-2
   names are unique: yes
   names stay used after Destroy: no (a second object 3 was made)
   a step made twice changes nothing: yes
@@ -253,7 +266,10 @@ pub(crate) const SERVE_LONG: &str = "\
 Listens on 127.0.0.1, prints `listening PORT`, and serves connections one after the other by one server,
 which starts with no object and has room for 10,000. Each connection is served until it ends, breaks the
 framing of messages or waits longer than the timeout; then the next one is. A port that cannot be had
-prints `cannot listen`.";
+prints `cannot listen`.
+
+With `--verbose` standard error has a line for each message that is answered:
+  Create k1: created as 1";
 
 pub(crate) const PROGRESS: &str = "The file that what is known is kept in";
 
@@ -276,10 +292,14 @@ pub(crate) const BATCH: &str = "How many keys a message asks about at most, 1 to
 pub(crate) const TIMEOUT: &str =
     "The longest that an exchange takes, with connecting: 1 to 3600 seconds";
 
-pub(crate) const WAIT: &str =
-    "The wait after an exchange without a reply, twice as long each time up to 10 seconds; 0 for none";
+pub(crate) const WAIT: &str = "\
+The first wait after an exchange that did not get the run on, twice as long each time up to 10 seconds: 0 to
+60000 milliseconds, 0 for no wait";
 
-pub(crate) const VERBOSE: &str = "Tell each exchange on standard error";
+pub(crate) const GIVE_UP: &str = "\
+The seconds without getting on after which the run ends: 0 to 86400, 0 for never";
+
+pub(crate) const VERBOSE: &str = "Tell each exchange on standard error, a line for each key";
 
 pub(crate) const PORT: &str = "The port, 1 to 65535; 0 for one that the system picks";
 

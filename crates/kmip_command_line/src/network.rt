@@ -71,6 +71,7 @@ fn run_options(
         trust: trust_of(options),
         timeout: options.get_one::<u64>("timeout").unwrap_or(MOST_SECONDS),
         wait: options.get_one::<u64>("wait").unwrap_or(0),
+        give_up: options.get_one::<u64>("give-up").unwrap_or(0),
         is_verbose: options.get_flag("verbose"),
     }))
 }
@@ -118,6 +119,7 @@ fn probe_options(
         prefix,
         peer,
         timeout: options.get_one::<u64>("timeout").unwrap_or(MOST_SECONDS),
+        is_verbose: options.get_flag("verbose"),
     }))
 }
 
@@ -128,5 +130,6 @@ pub(crate) fn serve_options(options: &ArgMatches<'_>) -> ServeOptions {
         connections: options.get_one::<u64>("connections").unwrap_or(0),
         now: options.get_one::<i64>("now").unwrap_or(0),
         timeout: options.get_one::<u64>("timeout").unwrap_or(MOST_SECONDS),
+        is_verbose: options.get_flag("verbose"),
     }
 }

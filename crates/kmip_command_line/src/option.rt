@@ -1,9 +1,9 @@
 //! The options of the commands, and what stands behind them.
 
 use crate::help::{
-    AFRESH, AFTER, BATCH, BELIEVE, CANON, CONNECT, CONNECTIONS, LIMIT, LOOPBACK, NAME_PREFIX, NOW,
-    PLAN, PORT, PROGRESS, SCRIPT, SERVE_TIMEOUT, SOCKET, STREAM, THEN, TIMEOUT, TRACE, VERBOSE,
-    WAIT,
+    AFRESH, AFTER, BATCH, BELIEVE, CANON, CONNECT, CONNECTIONS, GIVE_UP, LIMIT, LOOPBACK,
+    NAME_PREFIX, NOW, PLAN, PORT, PROGRESS, SCRIPT, SERVE_TIMEOUT, SOCKET, STREAM, THEN, TIMEOUT,
+    TRACE, VERBOSE, WAIT,
 };
 use Absent::{Fine, Means, Wrong};
 use Value::{Flag, Number, Text};
@@ -20,6 +20,9 @@ pub(crate) const MOST_SECONDS: u64 = 3_600;
 
 /// The longest first wait, in milliseconds.
 const MOST_WAIT: u64 = 60_000;
+
+/// The longest time after which a run gives up, in seconds: a day.
+const MOST_GIVE_UP: u64 = 86_400;
 
 /// The latest time, in seconds since the start of 1970.
 const LATEST: u64 = 9_223_372_036_854_775_807;
@@ -105,6 +108,13 @@ const WAIT_OPTION: CommandOption = CommandOption(
     WAIT,
 );
 
+const GIVE_UP_OPTION: CommandOption = CommandOption(
+    "give-up",
+    Number("SECONDS", 0, MOST_GIVE_UP),
+    Means("300"),
+    GIVE_UP,
+);
+
 const VERBOSE_OPTION: CommandOption = CommandOption("verbose", Flag, Fine, VERBOSE);
 
 const NAME_PREFIX_OPTION: CommandOption = CommandOption(
@@ -151,7 +161,7 @@ pub(crate) const SIM_OPTIONS: [CommandOption; 5] = [
     TRACE_OPTION,
 ];
 
-pub(crate) const RUN_OPTIONS: [CommandOption; 12] = [
+pub(crate) const RUN_OPTIONS: [CommandOption; 13] = [
     PLAN_OPTION,
     PROGRESS_OPTION,
     BELIEVE_OPTION,
@@ -163,22 +173,25 @@ pub(crate) const RUN_OPTIONS: [CommandOption; 12] = [
     BATCH_OPTION,
     TIMEOUT_OPTION,
     WAIT_OPTION,
+    GIVE_UP_OPTION,
     VERBOSE_OPTION,
 ];
 
-pub(crate) const PROBE_OPTIONS: [CommandOption; 5] = [
+pub(crate) const PROBE_OPTIONS: [CommandOption; 6] = [
     NAME_PREFIX_OPTION,
     CONNECT_OPTION,
     SOCKET_OPTION,
     LOOPBACK_OPTION,
     TIMEOUT_OPTION,
+    VERBOSE_OPTION,
 ];
 
-pub(crate) const SERVE_OPTIONS: [CommandOption; 4] = [
+pub(crate) const SERVE_OPTIONS: [CommandOption; 5] = [
     PORT_OPTION,
     CONNECTIONS_OPTION,
     NOW_OPTION,
     SERVE_TIMEOUT_OPTION,
+    VERBOSE_OPTION,
 ];
 
 /// The option, for the parser of command lines.

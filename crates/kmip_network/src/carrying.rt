@@ -1,29 +1,29 @@
 //! The program `run`, over sockets and a file.
 
+use crate::account::Account;
 use crate::believing::progress_to_begin_with;
 use crate::causes::{Cannot, tell_cause};
 use crate::linking::{loopback, tcp_link, unix_link};
 use crate::reading::{PlanFile, plan_at};
-use crate::showing::Standing;
 use crate::telling::Teller;
 use crate::told::standard_output;
 use crate::trouble::Trouble;
+use crate::watch::Watch;
 use kmip_choices::{Peer, RunOptions};
 use kmip_commands::ExitStatus;
-use kmip_plan::Plan;
 use kmip_progress_file::{LockFault, ProgressFile, ProgressLock};
 use kmip_run::{RunInput, batch_of};
-use kmip_running::{Keeper, Observed, Pace, SaveFault};
+use kmip_running::{Keeper, Observed, SaveFault};
 use kmip_schedule::Link;
 use std::alloc::Global;
 use std::io::{BufWriter, ErrorKind};
 use std::time::Duration;
 
-/// Keeps what is known in a file, and shows how far the run is. No clause speaks of a file's bytes.
+/// Keeps what is known in a file. No clause speaks of a file's bytes.
 #[derive(Drop)]
 struct FileKeeper<'a> {
     file: ProgressFile<'a, HostRuntime>,
-    standing: &'a Standing<'a>,
+    account: &'a Account<'a>,
     /// How often the file could not be written.
     refusals: u64,
 }
@@ -38,13 +38,11 @@ impl<'a> Keeper for FileKeeper<'a> {
     ghost refusals = { λ keeper. keeper.refusals };
 
     fn save(&mut self, _alloc: Global, text: &[u8]) -> Result<(), SaveFault> {
-        let written = self.file.write(text);
-        self.standing.show(text);
-        match written {
+        match self.file.write(text) {
             Ok(()) => Ok(()),
             Err(error) if error.kind() == ErrorKind::OutOfMemory => Err(SaveFault::NoMemory),
             Err(error) => {
-                self.standing.end();
+                self.account.end_line();
                 tell_cause(
                     self.file.system(),
                     self.file.given_path(),
@@ -107,36 +105,36 @@ fn run_on(
         Some(text) => Some(text.as_str()),
         None => None,
     };
-    let standing = Standing::new(rt, plan.text.as_str(), options.is_verbose);
+    let account = Account::new(rt, options, &plan.plan)?;
+    account.show_start(saved);
     let mut keeper = FileKeeper {
         file: progress,
-        standing: &standing,
+        account: &account,
         refusals: 0,
     };
-    run_with(rt, options, &plan.plan, saved, &mut keeper)
+    run_with(rt, options, saved, &mut keeper)
 }
 
 /// Carries out the plan over the link to the server that was named.
 fn run_with(
     rt: &HostRuntime,
     options: &RunOptions,
-    plan: &Plan,
     saved: Option<&str>,
     keeper: &mut FileKeeper<'_>,
 ) -> Result<ExitStatus, Trouble> {
     let limit = Duration::from_secs(options.timeout);
     match &options.peer {
         Peer::Tcp(address) => {
-            let link = tcp_link(rt, *address, limit, Some(keeper.standing));
-            run_over(rt, options, plan, saved, keeper, link)
+            let link = tcp_link(rt, *address, limit, Some(keeper.account.wire()));
+            run_over(rt, options, saved, keeper, link)
         }
         Peer::Unix(path) => {
-            let link = unix_link(rt, path.as_str(), limit, Some(keeper.standing))?;
-            run_over(rt, options, plan, saved, keeper, link)
+            let link = unix_link(rt, path.as_str(), limit, Some(keeper.account.wire()))?;
+            run_over(rt, options, saved, keeper, link)
         }
         Peer::Loopback => {
             let link = loopback(rt, limit)?;
-            run_over(rt, options, plan, saved, keeper, link)
+            run_over(rt, options, saved, keeper, link)
         }
     }
 }
@@ -145,7 +143,6 @@ fn run_with(
 fn run_over<L: Link + Drop>(
     rt: &HostRuntime,
     options: &RunOptions,
-    plan: &Plan,
     saved: Option<&str>,
     keeper: &mut FileKeeper<'_>,
     link: L,
@@ -155,17 +152,40 @@ fn run_over<L: Link + Drop>(
         limit: options.limit as usize,
         batch: batch_of(options.batch),
     };
-    let mut link = Observed::new(link, Teller::new(rt, keeper.standing, options.is_verbose));
-    let mut pace = Pace::new(rt, options.wait, 0);
+    let account = keeper.account;
+    let mut link = Observed::new(link, Teller::new(account));
+    let mut watch = Watch::new(account, first_wait(options), options.give_up);
     let mut writer = BufWriter::new(rt.alloc(), standard_output(rt))?;
-    Ok(kmip_run::run_plan(
+    let status = kmip_run::run_plan(
         rt.alloc(),
-        plan,
+        account.plan(),
         &input,
         saved,
         &mut link,
         keeper,
-        &mut pace,
+        &mut watch,
         &mut writer,
-    ))
+    );
+    if keeper.refusals == 0 && !matches!(status, ExitStatus::Failed(_)) {
+        tell_end(account, watch.has_given_up());
+    }
+    Ok(status)
+}
+
+/// Tells why keys are not finished, and that the run was given up, where it was. What there is no memory
+/// for is not told.
+fn tell_end(account: &Account<'_>, has_given_up: bool) {
+    let _ = account.tell_unfinished();
+    if has_given_up {
+        account.tell_given_up();
+    }
+}
+
+/// How long the run waits first where it does not get on, in milliseconds. A server in this process is not
+/// waited for.
+fn first_wait(options: &RunOptions) -> u64 {
+    match options.peer {
+        Peer::Loopback => 0,
+        Peer::Tcp(_) | Peer::Unix(_) => options.wait,
+    }
 }

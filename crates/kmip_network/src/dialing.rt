@@ -1,64 +1,68 @@
 //! Streams to a server, and why one could not be opened.
 
-use crate::showing::Standing;
+use crate::noted::Noted;
+use crate::wire::Wire;
 use kmip_transport::Dial;
 use std::cell::Cell;
 use std::io;
 use std::io::Error;
 use std::time::{Duration, Instant};
 
-/// Opens streams as another does. Why one could not be opened is told on standard error, once for each
-/// time that the server can't be reached.
+/// Opens streams as another does. What comes over them, and why one could not be opened, is noted,
+/// where it is to be; else the latter is told on standard error, once for each time that the server
+/// can't be reached.
 #[derive(Drop)]
 pub(crate) struct Telling<'a, D: Dial + Drop> {
     rt: &'a HostRuntime,
     dial: D,
-    /// What is shown of a run meanwhile.
-    standing: Option<&'a Standing<'a>>,
+    /// Where it is noted.
+    wire: Option<&'a Wire>,
     /// Whether it was told why the last stream could not be opened.
     is_told: Cell<bool>,
 }
 
 impl<'a, D: Dial + Drop> Telling<'a, D> {
-    pub(crate) fn new(rt: &'a HostRuntime, dial: D, standing: Option<&'a Standing<'a>>) -> Self {
+    pub(crate) fn new(rt: &'a HostRuntime, dial: D, wire: Option<&'a Wire>) -> Self {
         Telling {
             rt,
             dial,
-            standing,
+            wire,
             is_told: Cell::new(false),
         }
     }
 
-    /// Tells of a failure, in a line of its own.
+    /// Notes or tells of a failure.
     fn tell(&self, error: &Error) {
-        if self.is_told.get() {
-            return;
+        if let Some(wire) = self.wire {
+            wire.note_failure(error);
+        } else if !self.is_told.get() {
+            let _ = self.rt.eprintln(format_args!("cannot connect: {error}"));
+            self.is_told.set(true);
         }
-        if let Some(standing) = self.standing {
-            standing.end();
-        }
-        let _ = self.rt.eprintln(format_args!("cannot connect: {error}"));
-        self.is_told.set(true);
     }
 }
 
 impl<'a, D: Dial + Drop> Dial for Telling<'a, D> {
-    type Stream = D::Stream;
+    type Stream = Noted<'a, D::Stream>;
 
     fn now(&self) -> io::Result<Instant> {
         self.dial.now()
     }
 
-    fn dial(&self, left: Duration) -> io::Result<D::Stream> {
-        let opened = self.dial.dial(left);
-        match &opened {
-            Ok(_) => self.is_told.set(false),
-            Err(error) => self.tell(error),
+    fn dial(&self, left: Duration) -> io::Result<Noted<'a, D::Stream>> {
+        match self.dial.dial(left) {
+            Ok(stream) => {
+                self.is_told.set(false);
+                Ok(Noted::new(stream, self.wire))
+            }
+            Err(error) => {
+                self.tell(&error);
+                Err(error)
+            }
         }
-        opened
     }
 
-    fn limit(&self, stream: &D::Stream, left: Duration) -> io::Result<()> {
-        self.dial.limit(stream, left)
+    fn limit(&self, stream: &Noted<'a, D::Stream>, left: Duration) -> io::Result<()> {
+        self.dial.limit(stream.stream(), left)
     }
 }

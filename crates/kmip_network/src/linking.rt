@@ -3,8 +3,8 @@
 use crate::causes::Cannot;
 use crate::dialing::Telling;
 use crate::serving::new_server;
-use crate::showing::Standing;
 use crate::trouble::Trouble;
+use crate::wire::Wire;
 use kmip_server::IndexedStore;
 use kmip_transport::{Loopback, StreamLink, Tcp, Unix};
 use std::net::{SocketAddr, SocketAddrV4};
@@ -16,10 +16,10 @@ pub(crate) fn tcp_link<'a>(
     rt: &'a HostRuntime,
     address: SocketAddrV4,
     limit: Duration,
-    standing: Option<&'a Standing<'a>>,
+    wire: Option<&'a Wire>,
 ) -> StreamLink<Telling<'a, Tcp<&'a HostRuntime>>> {
     let dial = Tcp::new(rt, SocketAddr::V4(address));
-    StreamLink::new(Telling::new(rt, dial, standing), limit)
+    StreamLink::new(Telling::new(rt, dial, wire), limit)
 }
 
 /// A link to the server behind the Unix socket at a path.
@@ -30,11 +30,11 @@ pub(crate) fn unix_link<'a>(
     rt: &'a HostRuntime,
     path: &str,
     limit: Duration,
-    standing: Option<&'a Standing<'a>>,
+    wire: Option<&'a Wire>,
 ) -> Result<StreamLink<Telling<'a, Unix<&'a HostRuntime>>>, Trouble> {
     match net::SocketAddr::from_pathname(path) {
         Ok(address) => {
-            let dial = Telling::new(rt, Unix::new(rt, address), standing);
+            let dial = Telling::new(rt, Unix::new(rt, address), wire);
             Ok(StreamLink::new(dial, limit))
         }
         Err(error) => Err(Trouble::at(rt, Cannot::Connect, path, error)),

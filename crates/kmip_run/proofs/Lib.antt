@@ -1,2 +1,3 @@
 pub mod CourseLemmas
 pub mod LineLemmas
+pub mod StandingLemmas

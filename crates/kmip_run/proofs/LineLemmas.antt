@@ -4,7 +4,6 @@ use Rattle.std.specs.Fmt.{decimal}
 use Rattle.kmip_progress.specs.Faults.{progress_fault_name, progress_fault_number}
 use Rattle.kmip_progress.specs.declared.fault.ProgressFault.{ProgressFault}
 use Rattle.kmip_run.specs.RunText.{progress_refusal_text}
-use Rattle.kmip_run.specs.StandingText.{made_text}
 
 five : (a b c d e : List ℕ) → a ++ (b ++ (c ++ (d ++ e))) ≡ a ++ b ++ c ++ d ++ e
 five a b c d e =
@@ -17,9 +16,3 @@ refusal_line fault number name p q =
     five (codes "progress refused: ") (decimal number) (codes " ") name (codes "\n")
     ∙ ap (λ x. codes "progress refused: " ++ decimal x ++ codes " " ++ name ++ codes "\n") p
     ∙ ap (λ x. codes "progress refused: " ++ decimal (progress_fault_number fault) ++ codes " " ++ x ++ codes "\n") q
-
--- how many exchanges were made, and without a reply
-pub made_parts : (exchanges silent : ℕ)
-    → codes " if nothing more is lost; " ++ (decimal exchanges ++ (codes " made, " ++ (decimal silent ++ codes " without a reply"))) ≡ made_text exchanges silent
-unfolding made_text
-made_parts exchanges silent = five (codes " if nothing more is lost; ") (decimal exchanges) (codes " made, ") (decimal silent) (codes " without a reply")

@@ -1,27 +1,48 @@
--- What `run` shows of how far it is, while it works.
+-- What `run` shows of how far it is, while it works: at most 60 columns, trouble first.
 -- Source: own: what the program shows on a terminal.
-use Rattle.std.specs.Prelude.{◌≡◌, ℕ, List, ◌++◌, length, codes, Result, Ok, Err}
+use Rattle.std.specs.Prelude.{ℕ, ◌-◌, ◌==◌, nat_le, ◌&&◌, List, [], ◌++◌, length, codes, if◌then◌else◌}
 use Rattle.std.specs.Fmt.{decimal}
-use Rattle.kmip_chains.specs.declared.key.Key.{Key}
-use Rattle.kmip_progress.specs.declared.fault.ProgressFault.{ProgressFault}
-use Rattle.kmip_client.specs.Bounding.{most_left}
-use Rattle.kmip_client.specs.Standing.{verdicts_of}
-use Rattle.kmip_knowledge.specs.declared.knowledge.Knowledge.{Knowledge}
-use Rattle.kmip_session.specs.Reporting.{finished_count}
+use Rattle.kmip_run.specs.declared.spent.Spent.{Spent}
 
--- so many of the keys are finished, and so many more exchanges are made at most
-unfoldable pub finished_text : ℕ → ℕ → ℕ → List ℕ
-finished_text finished keys most =
-    decimal finished ++ codes " of " ++ decimal keys ++ codes " keys finished, at most " ++ decimal most
-    ++ codes " more exchanges"
+-- the most columns of the line (own)
+abbrev pub most_columns : ℕ
+most_columns = 60
 
--- if no more is lost; so many were made, of which so many brought no reply
-unfoldable pub made_text : ℕ → ℕ → List ℕ
-made_text exchanges silent =
-    codes " if nothing more is lost; " ++ decimal exchanges ++ codes " made, " ++ decimal silent ++ codes " without a reply"
+-- a line, and behind it a further part where the line has room for it
+unfoldable pub with_part : List ℕ → List ℕ → List ℕ
+with_part line part = if nat_le (length part) (most_columns - length line) then line ++ part else line
 
--- for what is known of the keys: as many are finished as the report would count, and as many more are made as may be left
-abbrev pub IsStandingText : List Key → Result (List Knowledge) ProgressFault → ℕ → ℕ → List ℕ → Type 0
-IsStandingText keys (Ok knowns) exchanges silent text =
-    text ≡ finished_text (finished_count (verdicts_of keys knowns)) (length keys) (most_left keys knowns) ++ made_text exchanges silent
-IsStandingText keys (Err fault) exchanges silent text = ⊥
+-- so many of the keys are finished
+unfoldable pub keys_part : ℕ → ℕ → List ℕ
+keys_part finished keys = decimal finished ++ codes " of " ++ decimal keys ++ codes " keys"
+
+-- a number between two texts
+unfoldable pub count_part : List ℕ → ℕ → List ℕ → List ℕ
+count_part before count after = before ++ decimal count ++ after
+
+-- a line, and behind it how often something went wrong, where it did
+abbrev pub with_trouble : List ℕ → ℕ → List ℕ → List ℕ
+with_trouble line count after = if count == 0 then line else with_part line (count_part (codes ", ") count after)
+
+-- one exchange, or several
+abbrev pub exchanges_word : ℕ → List ℕ
+exchanges_word count = if count == 1 then codes " exchange" else codes " exchanges"
+
+-- a line, and behind it how many more exchanges may come at most, as long as nothing was lost or refused
+abbrev pub with_most : List ℕ → Spent → ℕ → List ℕ
+with_most line spent most =
+    if (spent.lost == 0) && (spent.refused == 0) then with_part line (count_part (codes ", at most ") most (codes " more")) else line
+
+-- how many keys are finished, and what went wrong
+abbrev pub trouble_text : ℕ → ℕ → Spent → List ℕ
+trouble_text finished keys spent =
+    with_trouble (with_trouble (with_part [] (keys_part finished keys)) spent.lost (codes " lost")) spent.refused (codes " refused")
+
+-- the whole line, for so many keys and so many more exchanges at most
+abbrev pub standing_text : ℕ → ℕ → Spent → ℕ → List ℕ
+standing_text finished keys spent most =
+    with_part
+    (with_most
+    (with_part (trouble_text finished keys spent) (count_part (codes ", ") spent.exchanges (exchanges_word spent.exchanges)))
+    spent most)
+    (count_part (codes ", ") spent.seconds (codes " s"))

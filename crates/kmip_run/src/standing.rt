@@ -1,68 +1,152 @@
 //! How far a run is, while it works.
-ghost use Rattle.std.specs.Prelude.{◌≡◌, IfErr, IfOk, Some, string_bytes};
-ghost use Rattle.kmip_progress.specs.Reading.{FailsProgress};
-ghost use Rattle.kmip_run.specs.RunText.{begin_knowns};
-ghost use Rattle.kmip_run.specs.StandingText.{IsStandingText, finished_text, made_text};
+ghost use Rattle.std.specs.Prelude.{◌≡◌, ◌≤◌, length, IfOk, OnOk, string_bytes};
+ghost use Rattle.kmip_client.specs.Bounding.{most_left};
+ghost use Rattle.kmip_client.specs.Standing.{verdicts_of};
+ghost use Rattle.kmip_session.specs.Reporting.{finished_count};
+ghost use Rattle.kmip_run.specs.StandingText.{
+  count_part,
+  exchanges_word,
+  keys_part,
+  most_columns,
+  standing_text,
+  trouble_text,
+  with_most,
+  with_part,
+  with_trouble,
+};
 
-use crate::beginning::begin;
-use kmip_plan::Plan;
-use kmip_progress::ProgressFault;
+use crate::spent::Spent;
+use kmip_client::Client;
 use kmip_session::finished_count;
-use std::alloc::{AllocError, Global};
+use kmip_ttlv::NoMemory;
+use std::alloc::Global;
 
-/// The line that says how far a run of the plan is, by the text that was kept last: how many keys are
-/// finished, how many more exchanges are made at most if no more is lost, how many were made, and
-/// how many of them brought no reply.
+/// The most columns of the line (own).
+const MOST_COLUMNS: usize = 60;
+
+/// The line that says how far a run is, by what its client knows and what it has spent: how many keys
+/// are finished, how many exchanges were lost and how many questions refused, if any, how many
+/// exchanges were made, and for how many seconds it has run. As long as nothing was lost or refused,
+/// it also says how many more exchanges are made at most. The line has at most 60 columns: what it has
+/// no room for is left out.
 ///
 /// # Errors
-///
-/// Why the text is no progress of the plan; want of memory otherwise.
-pub fn standing_line(
-    alloc: Global,
-    plan: &Plan,
-    saved: &str,
-    exchanges: usize,
-    silent: usize,
-) -> Result<String, ProgressFault>
-    ensures text { IfOk result (λ line. IsStandingText plan.now
-        (begin_knowns plan.now (Some saved.now)) exchanges silent (string_bytes line)) }
-    ensures refused { IfErr result (λ fault. FailsProgress fault
-        (begin_knowns plan.now (Some saved.now))) }
+/// Where there is no memory.
+pub fn standing_line(alloc: Global, client: &Client<'_>, spent: Spent) -> Result<String, NoMemory>
+    ensures text { IfOk result (λ line. string_bytes line ≡ standing_text
+        (finished_count (verdicts_of client.now.keys client.now.knowns)) (length client.now.keys)
+        spent (most_left client.now.keys client.now.knowns)) }
+    ensures narrow { IfOk result (λ line. length (string_bytes line) ≤ most_columns) }
 {
-    let client = begin(alloc, plan, Some(saved))?;
-    let Ok(verdicts) = client.verdicts(alloc) else {
-        return Err(ProgressFault::NoMemory);
-    };
+    let verdicts = client.verdicts(alloc)?;
     let finished = finished_count(verdicts.as_slice());
-    let mut line = finished_text(alloc, finished, plan.count(), client.most_left())?;
-    let made = made_text(alloc, exchanges, silent)?;
-    line.push_str(made.as_str())?;
-    Ok(line)
+    let most = client.most_left();
+    line_of(alloc, finished, client.plan().count(), spent, most)
 }
 
-/// How many keys are finished, and how many more exchanges are made at most.
-#[tactic(auto, unfolding(crate::specs::StandingText::finished_text))]
-fn finished_text(
+/// The line for so many keys, and so many more exchanges at most.
+fn line_of(
     alloc: Global,
     finished: usize,
     keys: usize,
+    spent: Spent,
     most: usize,
-) -> Result<String, AllocError>
-    ensures { IfOk result (λ text. string_bytes text ≡ finished_text finished keys most) }
+) -> Result<String, NoMemory>
+    ensures text { IfOk result (λ line. string_bytes line
+        ≡ standing_text finished keys spent most) }
+    ensures narrow { IfOk result (λ line. length (string_bytes line) ≤ most_columns) }
 {
-    let text = format!(in alloc;
-        "{finished} of {keys} keys finished, at most {most} more exchanges"
-    )?;
+    let mut line = trouble_text(alloc, finished, keys, spent)?;
+    let word = exchanges_word(spent.exchanges);
+    push_count(alloc, &mut line, ", ", spent.exchanges as u64, word)?;
+    push_most(alloc, &mut line, spent, most)?;
+    push_count(alloc, &mut line, ", ", spent.seconds, " s")?;
+    Ok(line)
+}
+
+/// How many keys are finished, and what went wrong.
+fn trouble_text(
+    alloc: Global,
+    finished: usize,
+    keys: usize,
+    spent: Spent,
+) -> Result<String, NoMemory>
+    ensures { IfOk result (λ line. string_bytes line ≡ trouble_text finished keys spent) }
+{
+    let mut line = String::new(alloc);
+    let part = keys_part(alloc, finished, keys)?;
+    push_part(&mut line, part.as_str())?;
+    push_trouble(alloc, &mut line, spent.lost, " lost")?;
+    push_trouble(alloc, &mut line, spent.refused, " refused")?;
+    Ok(line)
+}
+
+/// How many keys are finished.
+#[tactic(auto, unfolding(crate::specs::StandingText::keys_part))]
+fn keys_part(alloc: Global, finished: usize, keys: usize) -> Result<String, NoMemory>
+    ensures { IfOk result (λ text. string_bytes text ≡ keys_part finished keys) }
+{
+    let text = format!(in alloc; "{finished} of {keys} keys")?;
     Ok(text)
 }
 
-/// How many exchanges were made, and how many of them brought no reply.
-#[tactic(auto, unfolding(crate::specs::StandingText::made_text))]
-fn made_text(alloc: Global, exchanges: usize, silent: usize) -> Result<String, AllocError>
-    ensures { IfOk result (λ text. string_bytes text ≡ made_text exchanges silent) }
+/// One exchange, or several.
+fn exchanges_word(count: usize) -> &'static str
+    ensures { result.now ≡ exchanges_word count }
 {
-    let text = format!(in alloc;
-        " if nothing more is lost; {exchanges} made, {silent} without a reply"
-    )?;
-    Ok(text)
+    if count == 1 {
+        " exchange"
+    } else {
+        " exchanges"
+    }
+}
+
+/// Appends how often something went wrong, where it did.
+fn push_trouble(alloc: Global, line: &mut String, count: usize, after: &str) -> Result<(), NoMemory>
+    ensures { OnOk result (string_bytes line.new
+        ≡ with_trouble (string_bytes line.old) count after.now) }
+{
+    if count == 0 {
+        return Ok(());
+    }
+    push_count(alloc, line, ", ", count as u64, after)
+}
+
+/// Appends how many more exchanges may come at most, as long as nothing was lost or refused.
+fn push_most(alloc: Global, line: &mut String, spent: Spent, most: usize) -> Result<(), NoMemory>
+    ensures { OnOk result (string_bytes line.new
+        ≡ with_most (string_bytes line.old) spent most) }
+{
+    if spent.lost == 0 && spent.refused == 0 {
+        return push_count(alloc, line, ", at most ", most as u64, " more");
+    }
+    Ok(())
+}
+
+/// Appends a number between two texts, where the line has room for it.
+#[tactic(auto, unfolding(crate::specs::StandingText::count_part))]
+fn push_count(
+    alloc: Global,
+    line: &mut String,
+    before: &str,
+    count: u64,
+    after: &str,
+) -> Result<(), NoMemory>
+    ensures { OnOk result (string_bytes line.new
+        ≡ with_part (string_bytes line.old) (count_part before.now count after.now)) }
+{
+    let part = format!(in alloc; "{before}{count}{after}")?;
+    push_part(line, part.as_str())
+}
+
+/// Appends a part, where the line has room for it.
+#[tactic(auto, unfolding(crate::specs::StandingText::with_part))]
+fn push_part(line: &mut String, part: &str) -> Result<(), NoMemory>
+    ensures { OnOk result (string_bytes line.new ≡ with_part (string_bytes line.old) part.now) }
+{
+    let room = MOST_COLUMNS.saturating_sub(line.len());
+    if part.len() <= room {
+        line.push_str(part)?;
+    }
+    Ok(())
 }

@@ -1,0 +1,465 @@
+#!/usr/bin/env python3
+"""Runs `kmipctl run` against servers that give trouble, and compares what standard error says of it.
+
+    bench/troubles.py PROGRAM FOLDER
+
+The peers refuse connections, hang, close, speak TLS, HTTP or KMIP 1.0, refuse a Create, or have other objects
+of the plan's names. Of each case the lines of standard error, the last line of standard output and the exit
+status are compared with what is written here, where times are written as T. Each row has a case and `ok`, or
+what went wrong. The last line has `0 wrong`, and the exit status is 0, where all is as it has to be. Sockets
+on 127.0.0.1 and in the folder only.
+"""
+
+import os
+import pty
+import re
+import shutil
+import socket
+import subprocess
+import sys
+import threading
+import time
+
+CREATE, LOCATE = 1, 8
+RESPONSE, RESPONSE_HEADER, VERSION, MAJOR, MINOR = 0x42007b, 0x42007a, 0x420069, 0x42006a, 0x42006b
+TIME_STAMP, BATCH_COUNT, BATCH_ITEM, OPERATION, ITEM_ID = 0x420092, 0x42000d, 0x42000f, 0x42005c, 0x420093
+STATUS, REASON, PAYLOAD, UNIQUE_IDENTIFIER = 0x42007f, 0x42007e, 0x42007c, 0x420094
+STRUCTURE, INTEGER, ENUMERATION, TEXT, BYTES, DATE = 1, 2, 5, 7, 8, 9
+
+TUNNEL = ' (where a tunnel is used, its log says why)'
+TLS_ALERT = bytes.fromhex('15030300020228')
+TLS_HANDSHAKE = bytes.fromhex('160303004a0200004603036b')
+NO_KMIP = 'bytes came that are no KMIP'
+
+
+def key(name, length=256, target='active'):
+    return (f'[[key]]\nname = "{name}"\nalgorithm = "AES"\nlength = {length}\n'
+            f'usage = ["encrypt", "decrypt"]\ntarget = "{target}"\n\n')
+
+
+def item(tag, kind, value):
+    """An item of TTLV."""
+    return tag.to_bytes(3, 'big') + bytes([kind]) + len(value).to_bytes(4, 'big') + value + bytes(-len(value) % 8)
+
+
+def number(tag, kind, value):
+    return item(tag, kind, value.to_bytes(4, 'big'))
+
+
+def items_in(data):
+    """The items that some bytes are, each with its tag and its value: items too where it is a Structure."""
+    found = []
+    while data:
+        size = int.from_bytes(data[4:8], 'big')
+        value = data[8:8 + size]
+        found.append((int.from_bytes(data[:3], 'big'), items_in(value) if data[3] == STRUCTURE else value))
+        data = data[8 + size + -size % 8:]
+    return found
+
+
+def questions_in(request):
+    """The operation and the id of each question of a request."""
+    [(_, parts)] = items_in(request)
+    batch = [dict(value) for tag, value in parts if tag == BATCH_ITEM]
+    return [(int.from_bytes(part[OPERATION], 'big'), part[ITEM_ID]) for part in batch]
+
+
+def reply(items, version=(2, 1)):
+    """The bytes of a reply with these Batch Items."""
+    numbers = number(MAJOR, INTEGER, version[0]) + number(MINOR, INTEGER, version[1])
+    header = item(VERSION, STRUCTURE, numbers) + item(TIME_STAMP, DATE, bytes(8)) + number(BATCH_COUNT, INTEGER, len(items))
+    return item(RESPONSE, STRUCTURE, item(RESPONSE_HEADER, STRUCTURE, header) + b''.join(items))
+
+
+def refusal(operation, identity, reason):
+    parts = number(OPERATION, ENUMERATION, operation) + item(ITEM_ID, BYTES, identity)
+    parts += number(STATUS, ENUMERATION, 1)
+    if reason is not None:
+        parts += number(REASON, ENUMERATION, reason)
+    return item(BATCH_ITEM, STRUCTURE, parts)
+
+
+def located(identity, *uids):
+    parts = number(OPERATION, ENUMERATION, LOCATE) + item(ITEM_ID, BYTES, identity) + number(STATUS, ENUMERATION, 0)
+    found = b''.join(item(UNIQUE_IDENTIFIER, TEXT, uid.encode()) for uid in uids)
+    return item(BATCH_ITEM, STRUCTURE, parts + item(PAYLOAD, STRUCTURE, found))
+
+
+def message(stream):
+    """The next message: the last four bytes of its head say how long the rest is."""
+    head = stream.recv(8, socket.MSG_WAITALL)
+    if len(head) < 8:
+        raise OSError('the stream has ended')
+    return head + stream.recv(int.from_bytes(head[4:], 'big'), socket.MSG_WAITALL)
+
+
+def silent(peer):
+    time.sleep(60)
+
+
+def saying(words, then=None):
+    """What a peer does that says this to a request, and closes, or does something else then."""
+    def behaviour(peer):
+        message(peer)
+        if words:
+            peer.sendall(words)
+        if then:
+            then(peer)
+        peer.close()
+
+    return behaviour
+
+
+def answering(answer):
+    """What a peer does that answers each request by the replies that are made of its questions."""
+    def behaviour(peer):
+        while True:
+            peer.sendall(reply([answer(*question) for question in questions_in(message(peer))]))
+
+    return behaviour
+
+
+def of_version_one(peer):
+    while True:
+        questions = questions_in(message(peer))
+        peer.sendall(reply([located(identity) for _, identity in questions], version=(1, 0)))
+
+
+def refusing_create(reason):
+    def answer(operation, identity):
+        return refusal(operation, identity, reason) if operation == CREATE else located(identity)
+
+    return answering(answer)
+
+
+def having_two(operation, identity):
+    return located(identity, '12', '13')
+
+
+def stranger(operation, identity):
+    return located(b'\x08other')
+
+
+def handing_on(port):
+    """What a peer does that hands requests on to the server at this port."""
+    def behaviour(peer):
+        with peer, socket.create_connection(('127.0.0.1', port)) as server:
+            while True:
+                server.sendall(message(peer))
+                peer.sendall(message(server))
+
+    return behaviour
+
+
+def serving(listener, behaviour):
+    """Lets each connection that comes behave so."""
+    def behave(peer):
+        try:
+            behaviour(peer)
+        except OSError:
+            pass
+        finally:
+            peer.close()
+
+    def accept():
+        while True:
+            peer, _ = listener.accept()
+            threading.Thread(target=behave, args=(peer,), daemon=True).start()
+
+    listener.listen(50)
+    threading.Thread(target=accept, daemon=True).start()
+
+
+def bound():
+    """A port where nobody listens yet."""
+    listener = socket.socket()
+    listener.bind(('127.0.0.1', 0))
+    return listener, listener.getsockname()[1]
+
+
+def peer_with(behaviour):
+    """A port whose connections each behave so."""
+    listener, port = bound()
+    serving(listener, behaviour)
+    return port
+
+
+def without_times(line):
+    """A line of standard error without its times: seconds since the start, of silence, and of an exchange."""
+    line = re.sub(r'^\d+\.\d{3} ', 'T ', line)
+    line = re.sub(r'answers again after \d+ s$', 'answers again after T s', line)
+    return re.sub(r' \(\d+ ms\)$', ' (T ms)', line)
+
+
+class Troubles:
+    def __init__(self, program, folder):
+        self.program, self.folder = program, folder
+        self.cases, self.wrong = 0, 0
+        self.servers = []
+
+    def path(self, name):
+        return os.path.join(self.folder, name)
+
+    def put(self, name, text):
+        with open(self.path(name), 'w') as file:
+            file.write(text)
+
+    def words(self, where, more):
+        return [self.program, 'run', '--plan', 'plan.toml', '--progress', 'progress', *where, *more]
+
+    def start(self, *keys):
+        """A folder with this plan and nothing else."""
+        shutil.rmtree(self.folder, ignore_errors=True)
+        os.makedirs(self.folder)
+        self.put('plan.toml', ''.join(keys or [key('k1')]))
+
+    def look(self, what, *facts):
+        """Prints the row of a case; a fact is what was found, and what has to be."""
+        wrong = [(found, wanted) for found, wanted in facts if found != wanted]
+        print(f'{what}: ' + ('wrong' if wrong else 'ok'), flush=True)
+        for found, wanted in wrong:
+            print(f'    {found!r}\n    in the place of {wanted!r}')
+        self.cases += 1
+        self.wrong += bool(wrong)
+
+    def case(self, what, port, told, stop, *more, status=1, where=None):
+        """A run against a port; the lines that are told have PEER in the place of the address."""
+        address = f'127.0.0.1:{port}'
+        done = subprocess.run(self.words(where or ('--connect', address), more), cwd=self.folder, text=True,
+                              timeout=60, stdin=subprocess.DEVNULL, capture_output=True)
+        lines = [without_times(line.replace(address, 'PEER')) for line in done.stderr.splitlines()]
+        self.look(what, (lines, told), (done.stdout.splitlines()[-1:], [stop]), (done.returncode, status))
+
+    def no_reply(self, what, behaviour, reason, *more):
+        """A peer that never gives a reply: why is told once, and at the end that no key was answered."""
+        self.start()
+        told = [f'no reply from PEER: {reason}; trying again', 'no key was answered in 3 exchanges']
+        self.case(what, peer_with(behaviour), told, 'stop Limit 3', '--limit', '3', '--wait', '0', *more)
+
+    def serve(self):
+        server = subprocess.Popen([self.program, 'serve', '--port', '0', '--connections', '1000000'],
+                                  stdout=subprocess.PIPE, text=True)
+        self.servers.append(server)
+        return int(server.stdout.readline().split()[1])
+
+    def without_reply(self):
+        closed = f'the connection was closed before a reply{TUNNEL}'
+        self.no_reply('a peer that hangs', silent, 'timed out after 1 s', '--timeout', '1')
+        self.no_reply('a peer that closes', saying(b''), closed)
+        self.no_reply('a peer that closes within a reply', saying(bytes.fromhex('42007b010000009042007a')),
+                      'the connection was closed within a reply')
+        self.no_reply('a peer that closes behind one byte of a reply', saying(b'\x42'),
+                      'the connection was closed within a reply')
+        for what, words in [('an alert of TLS', TLS_ALERT), ('a handshake of TLS', TLS_HANDSHAKE),
+                            ('the first byte of an alert of TLS', TLS_ALERT[:1])]:
+            self.no_reply(f'a peer that says {what}', saying(words), f'{NO_KMIP}: it answers in TLS')
+        self.no_reply('a peer that says an alert of TLS and hangs', saying(TLS_ALERT, silent),
+                      f'{NO_KMIP}: it answers in TLS', '--timeout', '1')
+        for what, words in [('a reply', b'HTTP/1.1 400 Bad Request\r\n\r\n'), ('the first word', b'HTTP/')]:
+            self.no_reply(f'a peer that says {what} of HTTP', saying(words), f'{NO_KMIP}: it answers in HTTP')
+        self.no_reply('a peer that says something else', saying(b'220 mail.example.org\r\n'), NO_KMIP)
+        self.no_reply('a peer that speaks KMIP 1.0', of_version_one, 'an unreadable reply (Version: KMIP 1.0)')
+
+    def refused_connections(self):
+        listener, port = bound()
+        refused = 'no reply from PEER: the connection was refused'
+        self.start()
+        self.case('a port where nobody listens', port,
+                  [f'{refused}; trying again', 'no key was answered in 3 exchanges'], 'stop Limit 3',
+                  '--limit', '3', '--wait', '0')
+        self.start()
+        self.case('it, asked once', port, [refused, 'no key was answered in 1 exchange'], 'stop Limit 1',
+                  '--limit', '1')
+        self.start()
+        self.case('it, in many words', port,
+                  [f'{refused}; trying again', 'T Locate k1: no reply, the connection was refused (T ms)',
+                   'T Locate k1: no reply, the connection was refused (T ms)', 'no key was answered in 2 exchanges'],
+                  'stop Limit 2', '--limit', '2', '--wait', '0', '--verbose')
+        listener.close()
+        self.start()
+        missing = 'No such file or directory (os error 2)'
+        self.case('a socket that is not there', 0,
+                  [f'no reply from kms.sock: {missing}; trying again', 'no key was answered in 2 exchanges'],
+                  'stop Limit 2', '--limit', '2', '--wait', '0', where=('--socket', 'kms.sock'))
+
+    def gives_up(self):
+        """A port where nobody listens, which is given up after two seconds and not before."""
+        listener, port = bound()
+        self.start()
+        start = time.monotonic()
+        done = subprocess.run(self.words(('--connect', f'127.0.0.1:{port}'), ('--give-up', '2')), cwd=self.folder,
+                              text=True, timeout=60, stdin=subprocess.DEVNULL, capture_output=True)
+        took = time.monotonic() - start
+        found = re.fullmatch(r'k1 active 0/2 working\nfinished 0 of 1\nstop Limit (\d+)\n', done.stdout)
+        exchanges = int(found[1]) if found else 0
+        told = [f'no reply from 127.0.0.1:{port}: the connection was refused; trying again',
+                f'no key was answered in {exchanges} exchanges', 'gave up: nothing was learnt for 2 s']
+        # 100 ms, and twice as long each time: five waits go into two seconds, and what is left of the last one.
+        self.look('a run that gives up', (done.returncode, 1), (done.stderr.splitlines(), told),
+                  (3 <= exchanges <= 8, True), (1.9 <= took < 4, True))
+        listener.close()
+
+    def answers_again(self):
+        """A server that listens after a second, over a port where nobody did."""
+        listener, port = bound()
+        behind = self.serve()
+        timer = threading.Timer(1, serving, (listener, handing_on(behind)))
+        self.start()
+        timer.start()
+        told = ['no reply from PEER: the connection was refused; trying again', 'PEER answers again after T s']
+        done = subprocess.run(self.words(('--connect', f'127.0.0.1:{port}'), ()), cwd=self.folder, text=True,
+                              timeout=60, stdin=subprocess.DEVNULL, capture_output=True)
+        lines = [without_times(line.replace(f'127.0.0.1:{port}', 'PEER')) for line in done.stderr.splitlines()]
+        self.look('a server that comes late', (lines, told), (done.returncode, 0),
+                  (done.stdout.splitlines()[1:2], ['finished 1 of 1']))
+
+    def other_reasons(self):
+        """A peer that refuses connections, then speaks TLS: each reason is told."""
+        listener, port = bound()
+        timer = threading.Timer(0.5, serving, (listener, saying(TLS_ALERT)))
+        self.start()
+        timer.start()
+        told = ['no reply from PEER: the connection was refused; trying again',
+                f'no reply from PEER: {NO_KMIP}: it answers in TLS; trying again']
+        done = subprocess.run(self.words(('--connect', f'127.0.0.1:{port}'), ('--give-up', '2')), cwd=self.folder,
+                              text=True, timeout=60, stdin=subprocess.DEVNULL, capture_output=True)
+        lines = [line.replace(f'127.0.0.1:{port}', 'PEER') for line in done.stderr.splitlines()]
+        self.look('a server with one trouble after another', (lines[:2], told), (done.returncode, 1),
+                  (lines[3:], ['gave up: nothing was learnt for 2 s']))
+
+    def refused_keys(self):
+        refused = 'Create refused {}, last reason 7 (Invalid Field)'
+        self.start(key('backup-seal'))
+        self.case('a Create that is refused', peer_with(refusing_create(7)),
+                  ['backup-seal: ' + refused.format('3 times')], 'stop Limit 6', '--limit', '6', '--wait', '0')
+        self.start()
+        self.case('it, in many words', peer_with(refusing_create(7)),
+                  ['T Locate k1: found none (T ms)', 'T Create k1: refused, reason 7 (Invalid Field) (T ms)',
+                   'k1: ' + refused.format('1 time')], 'stop Limit 2', '--limit', '2', '--wait', '0', '--verbose')
+        for reason, text in [(67, ', last reason 67 (Wrong Key Lifecycle State)'), (256, ', last reason 256 (General Failure)'),
+                             (11, ', last reason 11'), (4096, ', last reason 4096'), (None, '')]:
+            self.start()
+            self.case(f'a Create that is refused for {reason}', peer_with(refusing_create(reason)),
+                      [f'k1: Create refused 1 time{text}'], 'stop Limit 2', '--limit', '2', '--wait', '0')
+        names = [f'k{place}' for place in range(1, 24)]
+        self.start(*map(key, names))
+        told = [f'{name}: ' + refused.format('1 time') for name in names[:20]]
+        self.case('23 keys, each of which is refused', peer_with(refusing_create(7)), [*told, 'and 3 more'],
+                  'stop Limit 46', '--limit', '46', '--wait', '0')
+        self.start(*map(key, names))
+        self.case('them, in few messages', peer_with(refusing_create(7)), [*told, 'and 3 more'],
+                  'stop Limit 6', '--limit', '6', '--wait', '0', '--batch', '8')
+        self.start(key('k1'), key('k2'), key('k3'))
+        self.case('a run that ends on its way', self.serve(),
+                  ['k1: Locate was answered last: found none', 'k2: Locate was answered last: found none',
+                   'k3: nothing was asked'], 'stop Limit 2', '--limit', '2')
+        self.start()
+        self.case('answers to what was not asked', peer_with(answering(stranger)), ['k1: Locate not answered 2 times'],
+                  'stop Limit 2', '--limit', '2', '--wait', '0')
+
+    def conflicts(self):
+        port = self.serve()
+        first = [key('disk-array-1'), key('disk-array-2', 128), key('disk-array-3', target='destroyed')]
+        self.start(*first)
+        self.case('a server of which all is wanted', port, [], 'stop AllFinished 11', status=0)
+        self.start(key('disk-array-1', 128), key('disk-array-2', 192), key('disk-array-3'))
+        self.case('objects that are not what the plan wants', port,
+                  ['disk-array-1: 1 is Active, AES 256 encrypt decrypt; the plan wants AES 128 encrypt decrypt',
+                   'disk-array-2: 2 is Active, AES 128 encrypt decrypt; the plan wants AES 192 encrypt decrypt',
+                   'disk-array-3: 3 is Destroyed, AES 256 encrypt decrypt; the plan wants it active'],
+                  'stop Conflict 6')
+        self.start(key('disk-array-4'))
+        self.case('two objects of a name', peer_with(answering(having_two)),
+                  ['disk-array-4: found 12 13; the plan wants one object of this name'], 'stop Conflict 1')
+
+    def many_words(self):
+        self.start()
+        self.case('a run in many words', self.serve(),
+                  ['T Locate k1: found none (T ms)', 'T Create k1: created as 1 (T ms)',
+                   'T Activate k1: activated 1 (T ms)'], 'stop AllFinished 3', '--verbose', status=0)
+        self.start()
+        self.case('a run in this process, in many words', 0,
+                  ['T Locate k1: found none (T ms)', 'T Create k1: created as 1 (T ms)',
+                   'T Activate k1: activated 1 (T ms)'], 'stop AllFinished 3', '--verbose', status=0, where=('--loopback',))
+
+    def at_terminal(self, term, *more):
+        """What a run writes to a terminal that is called so, as it comes."""
+        environment = {name: value for name, value in os.environ.items() if name != 'TERM'}
+        if term is not None:
+            environment['TERM'] = term
+        master, slave = pty.openpty()
+        running = subprocess.Popen(self.words(*more), cwd=self.folder, stdin=subprocess.DEVNULL,
+                                   stdout=subprocess.DEVNULL, stderr=slave, env=environment)
+        os.close(slave)
+        written = b''
+        while True:
+            try:
+                piece = os.read(master, 4096)
+            except OSError:
+                break
+            if not piece:
+                break
+            written += piece
+        os.close(master)
+        running.wait()
+        return re.sub(r', \d+ s\x1b', ', T s\x1b', written.decode())
+
+    def terminals(self):
+        """The line of progress: it begins at the start of a line, erases what stands behind it, and no more."""
+        wanted = ('\r0 of 1 keys, 0 exchanges, at most 5 more, T s\x1b[K'
+                  '\r0 of 1 keys, 1 exchange, at most 5 more, T s\x1b[K'
+                  '\r0 of 1 keys, 2 exchanges, at most 3 more, T s\x1b[K'
+                  '\r1 of 1 keys, 3 exchanges, at most 0 more, T s\x1b[K\r\n')
+        port = self.serve()
+        where = ('--connect', f'127.0.0.1:{port}')
+        self.start()
+        self.look('the line of progress', (self.at_terminal('xterm', where, ()), wanted))
+        self.start()
+        self.look('all is done already', (self.at_terminal('xterm', ('--connect', f'127.0.0.1:{self.serve()}'), ('--limit', '0')), ''))
+        for term in ('dumb', '', None):
+            self.start(key('k2'))
+            self.look(f'a terminal that is called {term!r}', (self.at_terminal(term, where, ()), ''))
+        self.start()
+        wanted = ('\r0 of 1 keys, 0 exchanges, at most 5 more, T s\x1b[K'
+                  '\r0 of 1 keys, 1 exchange, at most 5 more, T s\x1b[K'
+                  '\r0 of 1 keys, 1 refused, 2 exchanges, T s\x1b[K\r\n'
+                  'k1: Create refused 1 time, last reason 7 (Invalid Field)\r\n')
+        where = ('--connect', f'127.0.0.1:{peer_with(refusing_create(7))}')
+        self.look('the line of progress, of a refusal', (self.at_terminal('xterm', where, ('--limit', '2')), wanted))
+        listener, port = bound()
+        self.start()
+        wanted = ('\r0 of 1 keys, 0 exchanges, at most 5 more, T s\x1b[K\r\n'
+                  f'no reply from 127.0.0.1:{port}: the connection was refused; trying again\r\n'
+                  '\r0 of 1 keys, 1 lost, 1 exchange, T s\x1b[K'
+                  '\r0 of 1 keys, 2 lost, 2 exchanges, T s\x1b[K\r\n'
+                  'no key was answered in 2 exchanges\r\n')
+        where = ('--connect', f'127.0.0.1:{port}')
+        self.look('the line of progress, of losses', (self.at_terminal('xterm', where, ('--limit', '2')), wanted))
+        listener.close()
+
+    def end(self):
+        for server in self.servers:
+            server.kill()
+            server.wait()
+
+
+def main():
+    troubles = Troubles(os.path.realpath(sys.argv[1]), os.path.realpath(sys.argv[2]))
+    try:
+        troubles.without_reply()
+        troubles.refused_connections()
+        troubles.gives_up()
+        troubles.answers_again()
+        troubles.other_reasons()
+        troubles.refused_keys()
+        troubles.conflicts()
+        troubles.many_words()
+        troubles.terminals()
+    finally:
+        troubles.end()
+    print(f'{troubles.cases} cases: {troubles.wrong} wrong')
+    return 1 if troubles.wrong else 0
+
+
+if __name__ == '__main__':
+    sys.exit(main())

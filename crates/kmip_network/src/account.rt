@@ -1,0 +1,423 @@
+//! What `run` tells on standard error: how far it is, what goes wrong, and what was left undone.
+
+use crate::answers::push_answer_about;
+use crate::exchange::{Exchange, name_of};
+use crate::operation::Operation;
+use crate::reach::Reach;
+use crate::showing::Standing;
+use crate::silence::Silence;
+use crate::story::{Stage, Story};
+use crate::wire::Wire;
+use kmip_chains::Key;
+use kmip_choices::{Peer, RunOptions};
+use kmip_client::Client;
+use kmip_messages::Request;
+use kmip_plan::Plan;
+use kmip_run::{Spent, begin};
+use kmip_schedule::LinkFault;
+use kmip_ttlv::{NoMemory, plain_text};
+use kmip_wording::push_answer;
+use std::alloc::Global;
+use std::cell::{Cell, RefCell};
+use std::str::from_utf8;
+use std::time::{Duration, Instant};
+
+/// Of how many keys that are not finished it is told why (own).
+const MOST_TOLD: usize = 20;
+
+/// What is told of a run.
+#[derive(Drop)]
+pub(crate) struct Account<'a> {
+    rt: &'a HostRuntime,
+    options: &'a RunOptions,
+    plan: &'a Plan,
+    /// The server, as it is told.
+    peer: String,
+    wire: Wire,
+    standing: Standing<'a>,
+    /// When the run and the exchange began, by the clock.
+    began: Option<Instant>,
+    exchange_began: Cell<Option<Instant>>,
+    spent: Cell<Spent>,
+    reach: RefCell<Reach>,
+    /// What was heard of each key, in the order of the plan.
+    stories: RefCell<Vec<Story>>,
+}
+
+impl<'a> Account<'a> {
+    /// Of a run of this plan that begins now.
+    ///
+    /// # Errors
+    /// Where there is no memory.
+    pub(crate) fn new(
+        rt: &'a HostRuntime,
+        options: &'a RunOptions,
+        plan: &'a Plan,
+    ) -> Result<Self, NoMemory> {
+        let peer = peer_text(rt.alloc(), &options.peer)?;
+        let stories = stories_of(rt.alloc(), plan.count())?;
+        let now = Instant::now(rt).ok();
+        Ok(Account {
+            rt,
+            options,
+            plan,
+            peer,
+            wire: Wire::new(),
+            standing: Standing::new(rt, options.is_verbose),
+            began: now,
+            exchange_began: Cell::new(now),
+            spent: Cell::new(Spent {
+                exchanges: 0,
+                lost: 0,
+                refused: 0,
+                seconds: 0,
+            }),
+            reach: RefCell::new(Reach::new()),
+            stories: RefCell::new(stories),
+        })
+    }
+
+    /// What it is told to.
+    pub(crate) fn rt(&self) -> &'a HostRuntime {
+        self.rt
+    }
+
+    /// The plan of the run.
+    pub(crate) fn plan(&self) -> &'a Plan {
+        self.plan
+    }
+
+    /// What is noted of the streams of an exchange.
+    pub(crate) fn wire(&self) -> &Wire {
+        &self.wire
+    }
+
+    /// Shows how far the run is at its start, by the text of the progress that it begins with, where it
+    /// is to make an exchange.
+    pub(crate) fn show_start(&self, saved: Option<&str>) {
+        if !self.standing.is_shown() || self.options.limit == 0 {
+            return;
+        }
+        if let Ok(client) = begin(self.rt.alloc(), self.plan, saved) {
+            if client.working() > 0 {
+                self.standing.show(&client, self.spent.get());
+            }
+        }
+    }
+
+    /// An exchange begins.
+    pub(crate) fn begin_exchange(&self) {
+        self.wire.begin();
+        self.exchange_began.set(Instant::now(self.rt).ok());
+    }
+
+    /// An exchange was made: the bytes that were sent, and what came of it. What there is no memory for
+    /// is not told.
+    pub(crate) fn exchanged(&self, request: &[u8], answered: Result<Option<&[u8]>, LinkFault>) {
+        let now = Instant::now(self.rt).ok();
+        let alloc = self.rt.alloc();
+        match Exchange::of(alloc, request, answered, &self.wire) {
+            Ok(exchange) => {
+                self.spend(&exchange);
+                let _ = self.tell_reach(exchange.silence, now);
+                let _ = self.keep(&exchange);
+                if self.options.is_verbose {
+                    let _ = self.tell_exchange(&exchange, now);
+                    self.tell_strangers(&exchange, answered.unwrap_or(None));
+                }
+            }
+            Err(NoMemory) => {}
+        }
+    }
+
+    /// So much is known after an exchange.
+    pub(crate) fn know(&self, client: &Client<'_>) {
+        if let Ok(mut stories) = self.stories.try_borrow_mut() {
+            know_stages(client, stories.as_mut_slice());
+        }
+        self.standing.show(client, self.spent.get());
+    }
+
+    /// Ends the line that says how far the run is, where there is one.
+    pub(crate) fn end_line(&self) {
+        self.standing.end();
+    }
+
+    /// Tells a line of its own.
+    fn tell(&self, line: &str) {
+        self.standing.end();
+        let _ = self.rt.eprintln(line);
+    }
+
+    /// Counts an exchange.
+    fn spend(&self, exchange: &Exchange) {
+        let spent = self.spent.get();
+        let lost = if exchange.silence.is_some() { 1 } else { 0 };
+        self.spent.set(Spent {
+            exchanges: spent.exchanges.saturating_add(1),
+            lost: spent.lost.saturating_add(lost),
+            refused: spent.refused.saturating_add(exchange.refusals()),
+            seconds: since(self.began, Instant::now(self.rt).ok()).as_secs(),
+        });
+    }
+
+    /// Tells where the server begins or ceases to answer, and where it does not for another reason than
+    /// before.
+    fn tell_reach(&self, silence: Option<Silence>, now: Option<Instant>) -> Result<(), NoMemory> {
+        let Ok(mut reach) = self.reach.try_borrow_mut() else {
+            return Ok(());
+        };
+        match silence {
+            Some(Silence::NoMemory) => Ok(()), // the run ends
+            None => match reach.answer() {
+                Some(then) => self.tell_answers(since(then, now)),
+                None => Ok(()),
+            },
+            Some(silence) => {
+                let reason = silence.text(self.rt.alloc(), self.options.timeout)?;
+                let line = self.silence_line(reason.as_str())?;
+                if reach.lose(reason, now) {
+                    self.tell(line.as_str());
+                }
+                Ok(())
+            }
+        }
+    }
+
+    /// Tells that the server answers again after so long.
+    fn tell_answers(&self, silent: Duration) -> Result<(), NoMemory> {
+        let (peer, seconds) = (&self.peer, silent.as_secs());
+        let line = format!(in self.rt.alloc(); "{peer} answers again after {seconds} s")?;
+        self.tell(line.as_str());
+        Ok(())
+    }
+
+    /// The line that says why no reply came.
+    fn silence_line(&self, reason: &str) -> Result<String, NoMemory> {
+        let peer = &self.peer;
+        let is_last = self.spent.get().exchanges as u64 >= self.options.limit;
+        let again = if is_last { "" } else { "; trying again" };
+        let line = format!(in self.rt.alloc(); "no reply from {peer}: {reason}{again}")?;
+        Ok(line)
+    }
+
+    /// Notes what was heard of each key that was asked about.
+    fn keep(&self, exchange: &Exchange) -> Result<(), NoMemory> {
+        let Ok(mut stories) = self.stories.try_borrow_mut() else {
+            return Ok(());
+        };
+        let stories = stories.as_mut_slice();
+        for request in &exchange.requests {
+            keep_request(
+                self.rt.alloc(),
+                self.plan.keys(),
+                stories,
+                exchange,
+                request,
+            )?;
+        }
+        Ok(())
+    }
+
+    /// Tells an exchange: a line for each key that was asked about.
+    fn tell_exchange(&self, exchange: &Exchange, now: Option<Instant>) -> Result<(), NoMemory> {
+        for request in &exchange.requests {
+            let line = self.exchange_line(exchange, request, now)?;
+            self.tell(line.as_str());
+        }
+        Ok(())
+    }
+
+    /// The line of a key that was asked about in an exchange.
+    fn exchange_line(
+        &self,
+        exchange: &Exchange,
+        request: &Request,
+        now: Option<Instant>,
+    ) -> Result<String, NoMemory> {
+        let alloc = self.rt.alloc();
+        let at = since(self.began, now);
+        let (seconds, millis) = (at.as_secs(), at.subsec_millis());
+        let mut line = format!(in alloc; "{seconds}.{millis:03} ")?;
+        push_request(request, &mut line)?;
+        line.push_str(": ")?;
+        match (exchange.answer(request), exchange.silence) {
+            (Some(outcome), _) => push_answer_about(alloc, name_of(request), outcome, &mut line)?,
+            (None, Some(silence)) => self.push_silence(silence, &mut line)?,
+            (None, None) => line.push_str("no answer in the reply")?,
+        }
+        let took = since(self.exchange_began.get(), now);
+        let took = took
+            .as_secs()
+            .saturating_mul(1000)
+            .saturating_add(u64::from(took.subsec_millis()));
+        let took = format!(in alloc; " ({took} ms)")?;
+        line.push_str(took.as_str())?;
+        Ok(line)
+    }
+
+    /// Appends why no reply came that can be read.
+    fn push_silence(&self, silence: Silence, line: &mut String) -> Result<(), NoMemory> {
+        let reason = silence.text(self.rt.alloc(), self.options.timeout)?;
+        if !matches!(silence, Silence::Unreadable(_, _)) {
+            line.push_str("no reply, ")?;
+        }
+        line.push_str(reason.as_str())?;
+        Ok(())
+    }
+
+    /// Tells a reply to what was not asked.
+    fn tell_strangers(&self, exchange: &Exchange, reply: Option<&[u8]>) {
+        if !exchange.has_stranger() {
+            return;
+        }
+        let mut line = Vec::new(self.rt.alloc());
+        if push_stranger(self.rt.alloc(), reply, &mut line).is_ok() {
+            self.tell(from_utf8(line.as_slice()).unwrap_or(""));
+        }
+    }
+
+    /// Tells why the keys that are not finished are not: of the first ones each by itself, and of all
+    /// together where no reply came.
+    ///
+    /// # Errors
+    /// Where there is no memory.
+    pub(crate) fn tell_unfinished(&self) -> Result<(), NoMemory> {
+        let spent = self.spent.get();
+        let exchanges = spent.exchanges;
+        if exchanges == 0 {
+            return Ok(());
+        }
+        if spent.lost >= exchanges {
+            let ending = if exchanges == 1 { "" } else { "s" };
+            let line = format!(in self.rt.alloc();
+                "no key was answered in {exchanges} exchange{ending}"
+            )?;
+            self.tell(line.as_str());
+            return Ok(());
+        }
+        match self.stories.try_borrow() {
+            Ok(stories) => self.tell_stories(stories.as_slice()),
+            Err(_) => Ok(()),
+        }
+    }
+
+    /// Tells why the keys of these stories are not finished.
+    fn tell_stories(&self, stories: &[Story]) -> Result<(), NoMemory> {
+        let mut count = 0usize;
+        for (key, story) in self.plan.keys().iter().zip(stories) {
+            if !story.is_finished() {
+                if count < MOST_TOLD {
+                    self.tell_story(key, story)?;
+                }
+                count = count.saturating_add(1);
+            }
+        }
+        if count > MOST_TOLD {
+            let others = count - MOST_TOLD;
+            let line = format!(in self.rt.alloc(); "and {others} more")?;
+            self.tell(line.as_str());
+        }
+        Ok(())
+    }
+
+    /// Tells why a key is not finished.
+    fn tell_story(&self, key: &Key, story: &Story) -> Result<(), NoMemory> {
+        let alloc = self.rt.alloc();
+        let mut line = String::from_str(alloc, key.attrs.name.as_str())?;
+        line.push_str(": ")?;
+        story.push_why(alloc, key, &mut line)?;
+        self.tell(line.as_str());
+        Ok(())
+    }
+
+    /// Tells that the run was given up.
+    pub(crate) fn tell_given_up(&self) {
+        let seconds = self.options.give_up;
+        let _ = self.rt.eprintln(format_args!("gave up: nothing was learnt for {seconds} s"));
+    }
+}
+
+/// The server, as it is told.
+fn peer_text(alloc: Global, peer: &Peer) -> Result<String, NoMemory> {
+    match peer {
+        Peer::Tcp(address) => {
+            let text = format!(in alloc; "{address}")?;
+            Ok(text)
+        }
+        Peer::Unix(path) => plain_text(alloc, path.as_str()),
+        Peer::Loopback => {
+            let text = String::from_str(alloc, "the server in this process")?;
+            Ok(text)
+        }
+    }
+}
+
+/// So many stories of which nothing was heard.
+fn stories_of(alloc: Global, count: usize) -> Result<Vec<Story>, NoMemory> {
+    let mut stories = Vec::with_capacity(alloc, count)?;
+    for _ in 0..count {
+        stories.push(Story::new(alloc))?;
+    }
+    Ok(stories)
+}
+
+/// How long it is from one time to another, where both are known.
+fn since(then: Option<Instant>, now: Option<Instant>) -> Duration {
+    match (then, now) {
+        (Some(then), Some(now)) => now.saturating_duration_since(then),
+        _ => Duration::ZERO,
+    }
+}
+
+/// Takes what the client knows of each key for the stage of its story.
+fn know_stages(client: &Client<'_>, stories: &mut [Story]) {
+    let count = client.plan().count();
+    for place in 0..count {
+        let stage = Stage {
+            done: client.done(place),
+            is_identified: client.identifier(place).is_some(),
+            verdict: client.verdict(place),
+        };
+        if place < stories.len() {
+            stories[place].reach(stage);
+        }
+    }
+}
+
+/// Notes what was heard of the key that a request is about.
+fn keep_request(
+    alloc: Global,
+    keys: &[Key],
+    stories: &mut [Story],
+    exchange: &Exchange,
+    request: &Request,
+) -> Result<(), NoMemory> {
+    let name = name_of(request);
+    let Some(place) = keys
+        .iter()
+        .position(|key| key.attrs.name.as_str().as_bytes() == name)
+    else {
+        return Ok(());
+    };
+    if place < stories.len() {
+        let operation = Operation::of(&request.ask);
+        stories[place].hear(alloc, operation, name, exchange.answer(request))?;
+    }
+    Ok(())
+}
+
+/// Appends the operation that a request asks, and the key that it is about.
+fn push_request(request: &Request, line: &mut String) -> Result<(), NoMemory> {
+    let name = name_of(request);
+    line.push_str(Operation::of(&request.ask).word())?;
+    line.push_str(" ")?;
+    line.push_str(from_utf8(name).unwrap_or(""))?;
+    Ok(())
+}
+
+/// Appends a reply to what was not asked.
+fn push_stranger(alloc: Global, reply: Option<&[u8]>, line: &mut Vec<u8>) -> Result<(), NoMemory> {
+    line.extend_from_slice(b"a reply to what was not asked: ")?;
+    push_answer(alloc, &[], reply, line)
+}

@@ -1,0 +1,168 @@
+//! What a server answers about an object, in words.
+
+use crate::reasons::push_reason;
+use kmip_chains::Key;
+use kmip_messages::{Attrs, Outcome};
+use kmip_objects::standard::OBJECT_TYPE_SYMMETRIC_KEY;
+use kmip_plan::algorithm_word;
+use kmip_ttlv::{NoMemory, Text, plain_text};
+use kmip_wording::push_outcome;
+use std::alloc::Global;
+use std::str::from_utf8;
+
+/// The bits of a Cryptographic Usage Mask, and their words.
+///
+/// Source: KMIP 2.1, Enumerations, Cryptographic Usage Mask. That of Export is of KMIP 1.
+const USAGES: [(i32, &str); 9] = [
+    (0x1, " sign"),
+    (0x2, " verify"),
+    (0x4, " encrypt"),
+    (0x8, " decrypt"),
+    (0x10, " wrap-key"),
+    (0x20, " unwrap-key"),
+    (0x40, " export"),
+    (0x80, " mac-generate"),
+    (0x100, " mac-verify"),
+];
+
+/// The largest mask of these bits.
+const MOST_USAGES: i32 = 0x1FF;
+
+/// Appends how an operation about the key of this name went: a refusal with its reason, and that the
+/// attributes are of another name, or of none.
+///
+/// # Errors
+/// Where there is no memory.
+pub(crate) fn push_answer_about(
+    alloc: Global,
+    name: &[u8],
+    outcome: &Outcome,
+    text: &mut String,
+) -> Result<(), NoMemory> {
+    match outcome {
+        Outcome::Failed(Some(reason)) => {
+            text.push_str("refused, ")?;
+            push_reason(alloc, *reason, text)?;
+            Ok(())
+        }
+        Outcome::Attributes(_, attrs) => {
+            push_other_name(alloc, name, &attrs.name, text)?;
+            push_success(alloc, outcome, text)
+        }
+        _ => push_success(alloc, outcome, text),
+    }
+}
+
+/// Appends which name is told of an object, where it is not this one.
+fn push_other_name(
+    alloc: Global,
+    asked: &[u8],
+    name: &Option<Text>,
+    text: &mut String,
+) -> Result<(), NoMemory> {
+    let Some(name) = name else {
+        text.push_str("unnamed, ")?;
+        return Ok(());
+    };
+    if name.as_str().as_bytes() == asked {
+        return Ok(());
+    }
+    let name = plain_text(alloc, name.as_str())?;
+    text.push_str("named ")?;
+    text.push_str(name.as_str())?;
+    text.push_str(", ")?;
+    Ok(())
+}
+
+/// Appends how an operation went that has no reason to tell.
+fn push_success(alloc: Global, outcome: &Outcome, text: &mut String) -> Result<(), NoMemory> {
+    let mut words = Vec::new(alloc);
+    push_outcome(alloc, outcome, &mut words)?;
+    text.push_str(from_utf8(words.as_slice()).unwrap_or(""))?;
+    Ok(())
+}
+
+/// Appends what an object of the key of this name is, as far as it was told: how the operation went,
+/// and behind it the attributes, as `1014 is Active, AES 256 encrypt decrypt`.
+///
+/// # Errors
+/// Where there is no memory.
+pub(crate) fn push_object(
+    alloc: Global,
+    name: &[u8],
+    outcome: &Outcome,
+    text: &mut String,
+) -> Result<(), NoMemory> {
+    push_answer_about(alloc, name, outcome, text)?;
+    if let Outcome::Attributes(_, attrs) = outcome {
+        push_attributes(alloc, attrs, text)?;
+    }
+    Ok(())
+}
+
+/// Appends which attributes of a key are told.
+fn push_attributes(alloc: Global, attrs: &Attrs, text: &mut String) -> Result<(), NoMemory> {
+    match attrs.object_type {
+        Some(OBJECT_TYPE_SYMMETRIC_KEY) => text.push_str(",")?,
+        Some(_) => text.push_str(", no symmetric key,")?,
+        None => text.push_str(", no object type,")?,
+    }
+    match attrs.algorithm {
+        Some(algorithm) => push_algorithm(alloc, algorithm, text)?,
+        None => text.push_str(" no algorithm")?,
+    }
+    match attrs.length {
+        Some(length) => push_length(alloc, length, text)?,
+        None => text.push_str(" no length")?,
+    }
+    match attrs.usage {
+        Some(usage) => push_usage(alloc, usage, text)?,
+        None => text.push_str(" no usage")?,
+    }
+    Ok(())
+}
+
+/// Appends the attributes that a plan wants of a key, as ` AES 128 encrypt decrypt`.
+///
+/// # Errors
+/// Where there is no memory.
+pub(crate) fn push_wanted(alloc: Global, key: &Key, text: &mut String) -> Result<(), NoMemory> {
+    push_algorithm(alloc, key.attrs.algorithm, text)?;
+    push_length(alloc, key.attrs.length, text)?;
+    push_usage(alloc, key.attrs.usage, text)
+}
+
+fn push_algorithm(alloc: Global, algorithm: u32, text: &mut String) -> Result<(), NoMemory> {
+    match algorithm_word(algorithm) {
+        Some(word) => {
+            text.push_str(" ")?;
+            text.push_str(word)?;
+        }
+        None => {
+            let number = format!(in alloc; " algorithm {algorithm}")?;
+            text.push_str(number.as_str())?;
+        }
+    }
+    Ok(())
+}
+
+fn push_length(alloc: Global, length: i32, text: &mut String) -> Result<(), NoMemory> {
+    let length = format!(in alloc; " {length}")?;
+    text.push_str(length.as_str())?;
+    Ok(())
+}
+
+/// Appends the words of a usage mask, and the mask in hexadecimal where it has other bits.
+fn push_usage(alloc: Global, usage: i32, text: &mut String) -> Result<(), NoMemory> {
+    for (bit, word) in &USAGES {
+        if usage & *bit != 0 {
+            text.push_str(word)?;
+        }
+    }
+    if !(1..=MOST_USAGES).contains(&usage) {
+        let mask = hex::encode(alloc, &usage.to_be_bytes())?;
+        text.push_str(" of mask ")?;
+        text.push_str(mask.as_str())?;
+    }
+    Ok(())
+}

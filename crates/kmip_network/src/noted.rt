@@ -1,0 +1,50 @@
+//! Streams of which it is noted what came, and how they failed.
+
+use crate::wire::Wire;
+use std::io::{self, Read, Write};
+
+/// A stream of which the first bytes that come, and its failures, are noted.
+#[derive(Drop)]
+pub(crate) struct Noted<'a, S> {
+    stream: S,
+    wire: Option<&'a Wire>,
+}
+
+impl<'a, S> Noted<'a, S> {
+    /// This stream, noted there, if it is to be.
+    pub(crate) fn new(stream: S, wire: Option<&'a Wire>) -> Self {
+        Noted { stream, wire }
+    }
+
+    /// The stream itself.
+    pub(crate) fn stream(&self) -> &S {
+        &self.stream
+    }
+}
+
+impl<'a, S: Read> Read for Noted<'a, S> {
+    fn read(&mut self, buf: &mut [u8]) -> io::Result<usize> {
+        let done = self.stream.read(buf);
+        if let Some(wire) = self.wire {
+            match &done {
+                Ok(count) => wire.note_bytes(buf.get(..*count).unwrap_or(&[])),
+                Err(error) => wire.note_failure(error),
+            }
+        }
+        done
+    }
+}
+
+impl<'a, S: Write> Write for Noted<'a, S> {
+    fn write(&mut self, buf: &[u8]) -> io::Result<usize> {
+        let done = self.stream.write(buf);
+        if let (Some(wire), Err(error)) = (self.wire, &done) {
+            wire.note_failure(error);
+        }
+        done
+    }
+
+    fn flush(&mut self) -> io::Result<()> {
+        self.stream.flush()
+    }
+}
