@@ -166,7 +166,7 @@ class Page:
 
     def clause(self, function, name, clause, find):
         kind, own, body, comment = clause
-        self.add(f'<div class="clause" id="{anchor(f"{name}.{own or kind}")}">')
+        self.add(f'<div class="clause" id="{anchor(f"{name}.{clause_name(kind, own)}")}">')
         if comment:
             self.add(f'<p>{inline(comment)}</p>')
         shown = f'{kind} <b>{own}</b>' if own else kind
@@ -221,6 +221,11 @@ def owner_of(function):
     """The type or trait that a method, or a conversion, belongs to."""
     owner = re.match(r'\w+::([A-Z]\w*)::', function.path)
     return owner.group(1) if owner else None
+
+
+def clause_name(kind, own):
+    """A clause's name in a link; what is asked may have the name of what is promised."""
+    return own or kind if kind == 'ensures' or not own else f'{kind}.{own}'
 
 
 def plain_signature(signature):

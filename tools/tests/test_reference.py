@@ -51,6 +51,13 @@ class Reference(Scratch):
             '<a href="low.html#Carried.Carried">Carried</a>, <a href="low.html#Carried.Worn">Worn</a>, '
             '<a href="#Calls.Sent">Sent</a>'))
 
+    def test_a_premise_may_have_the_name_of_a_promise(self):
+        text = (self.top / 'crates/high/src/calling.rt').read_text()
+        self.write({'crates/high/src/calling.rt': text.replace('requires {', 'requires safe {')})
+        printed(reference.main, ['out/reference'])
+        self.assertEqual(dead_links(self.folder), [])
+        self.assertIn('id="send.requires.safe"', self.page('high'))
+
     def test_a_function(self):
         self.assertEqual(self.between('high', '<h3 id="send">', '<div'), (
             '<h3 id="send">send<small>high/src/calling.rt:9</small></h3>\n'
