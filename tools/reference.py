@@ -18,7 +18,7 @@ sys.dont_write_bytecode = True
 
 from items import items_of, reexports_of, root_docs, says_of
 from markup import anchor, docstring, inline, link, linked, page, reference
-from sources import CRATES, Definition, Repository, imports_of
+from sources import CRATES, Definition, Repository
 from traits import Spoken, traits_of
 
 FOLDER = 'out/reference'
