@@ -4,6 +4,7 @@ use crate::silence::Silence;
 use crate::version::Version;
 use crate::wire::Wire;
 use kmip_batches::read_reply;
+use kmip_fields::MessageFault;
 use kmip_messages::{Outcome, Reply, Request};
 use kmip_schedule::LinkFault;
 use kmip_ttlv::{Bytes, NoMemory};
@@ -59,14 +60,8 @@ impl Exchange {
                 replies,
                 silence: None,
             }),
-            Err(fault) => {
-                if fault.is_no_memory() {
-                    return Err(NoMemory);
-                }
-                let version = Version::refused(fault, reply);
-                let silence = Silence::Unreadable(fault, version);
-                Ok(Exchange::silent(alloc, requests, silence))
-            }
+            Err(MessageFault::NoMemory) => Err(NoMemory),
+            Err(fault) => Ok(Exchange::silent(alloc, requests, unreadable(fault, reply))),
         }
     }
 
@@ -97,6 +92,15 @@ impl Exchange {
             .iter()
             .any(|request| id_bytes(&request.id) == id)
     }
+}
+
+/// Why bytes with this fault are no reply.
+fn unreadable(fault: MessageFault, reply: &[u8]) -> Silence {
+    let version = match fault {
+        MessageFault::Version => Version::told(reply),
+        _ => None,
+    };
+    Silence::Unreadable(fault, version)
 }
 
 /// The bytes of an id; none where there is none.

@@ -1,6 +1,5 @@
 //! The version of KMIP that a message tells.
 
-use kmip_fields::MessageFault;
 use std::fmt::{self, Display, Formatter};
 
 /// Where the number of the version stands in a message, behind the heads of the items around it: that of
@@ -22,16 +21,8 @@ pub(crate) struct Version {
 }
 
 impl Version {
-    /// The version that a reply tells, where it is unreadable for its version.
-    pub(crate) fn refused(fault: MessageFault, reply: &[u8]) -> Option<Version> {
-        match fault {
-            MessageFault::Version => Version::told(reply),
-            _ => None,
-        }
-    }
-
     /// The version that a message tells where messages have it: first in its header, which is first.
-    fn told(message: &[u8]) -> Option<Version> {
+    pub(crate) fn told(message: &[u8]) -> Option<Version> {
         let major = number_behind(message, MAJOR_AT, &MAJOR_HEAD)?;
         let minor = number_behind(message, MINOR_AT, &MINOR_HEAD)?;
         Some(Version { major, minor })
