@@ -29,6 +29,20 @@ FINISHED = 'k1 active 2/2 finished\nfinished 1 of 1\nstop AllFinished {}\n'
 NOTHING_KNOWN = 'kmip-progress 2\nk1 active - 0 -\nend 1\n'
 ALL_KNOWN = 'kmip-progress 2\nk1 active - 2 31\nend 1\n'
 UNTOLD = 'no reply: whether p-1 is free could not be told; nothing was made\n'
+UNREADABLE = ("the server's reply can't be read ({}): whether p-1 is free could not be told; "
+              'nothing was made\n')
+MAKING = 'making two keys: p-1 and p-2\n'
+KEPT = MAKING + '''names are unique: yes
+names stay used after Destroy: yes
+a step made twice changes nothing: yes
+an active object is not destroyed: yes
+Locate finds objects by their names: yes
+Locate finds destroyed objects: yes
+Get Attributes tells all six attributes: yes
+the batch id is echoed: yes
+reasons seen: 53, 67
+the promise holds here: each key is made once, and its steps are made once and in order
+'''
 # The head of a reply of 144 bytes, and a Locate that found nothing of the name k2.
 HEAD = bytes.fromhex('42007b0100000090')
 OF_ANOTHER = HEAD + bytes.fromhex(
@@ -65,6 +79,17 @@ def answering_another_question(peer):
         peer.send(OF_ANOTHER)
 
 
+def answering_in_version_1_0(peer):
+    message(peer)
+    peer.sendall(OF_ANOTHER[:35] + bytes([1]) + OF_ANOTHER[36:51] + bytes([0]) + OF_ANOTHER[52:])
+
+
+def answering_without_a_count(peer):
+    """The Batch Count of the reply is that of another message: two, where one reply stands."""
+    message(peer)
+    peer.sendall(OF_ANOTHER[:83] + bytes([2]) + OF_ANOTHER[84:])
+
+
 def message(stream):
     """The next message: the last four bytes of its head say how long the rest is."""
     head = stream.recv(8, socket.MSG_WAITALL)
@@ -79,6 +104,25 @@ def closing_behind_the_reply(port):
             peer.sendall(message(server))
 
     return behaviour
+
+
+class Losing:
+    """A peer that hands each request on to the server at this port, one a connection. The replies to those of
+    these numbers, from 1, are lost; at that of the number `hangs_at` it does nothing more."""
+
+    def __init__(self, port, lost=(), hangs_at=None):
+        self.port, self.lost, self.hangs_at, self.count = port, lost, hangs_at, 0
+
+    def __call__(self, peer):
+        self.count += 1
+        number = self.count
+        if number == self.hangs_at:
+            time.sleep(60)
+        with peer, socket.create_connection(('127.0.0.1', self.port)) as server:
+            server.sendall(message(peer))
+            reply = message(server)
+            if number not in self.lost:
+                peer.sendall(reply)
 
 
 def listening(behaviour):
@@ -214,7 +258,74 @@ class Peers:
             took = time.monotonic() - start
             self.look(f'a probe of a peer that is {behaviour.__name__.replace("_", " ")}',
                       (done.returncode == 1, done.returncode), (done.stdout == UNTOLD, done.stdout),
-                      (took < 1.5, took))
+                      (took < 3.5, took))
+
+    def probe(self, where, *more):
+        """What comes of a probe: the exit status, and what is printed and told."""
+        words = [self.program, 'probe', '--name-prefix', 'p', *where, *more]
+        done = subprocess.run(words, capture_output=True, text=True, timeout=60)
+        return done.returncode, done.stdout, done.stderr
+
+    def unreadable_peers(self):
+        """A reply that can't be read is told from none, and its question is not asked again."""
+        for behaviour, why in ((answering_in_version_1_0, 'Version: it answers in KMIP 1.0'),
+                               (answering_without_a_count, 'BatchCount')):
+            status, printed, _ = self.probe(('--connect', f'127.0.0.1:{listening(behaviour)}'))
+            self.look(f'a probe of a peer that is {behaviour.__name__.replace("_", " ")}', (status == 1, status),
+                      (printed == UNREADABLE.format(why), printed))
+
+    def lost_looks(self):
+        """A lost Locate is asked up to three times, and nothing else is."""
+        for lost, count, wanted in (((1, 2), 27, KEPT), ((1, 2, 3), 3, UNTOLD)):
+            server, port = self.serve('--connections', '1000000')
+            losing = Losing(port, lost)
+            status, printed, _ = self.probe(('--connect', f'127.0.0.1:{listening(losing)}'))
+            self.look(f'a probe whose first {len(lost)} replies are lost', (status == int(wanted == UNTOLD), status),
+                      (printed == wanted, printed), (losing.count == count, losing.count))
+            server.kill()
+            server.wait()
+        server, port = self.serve('--connections', '1000000')
+        losing = Losing(port, (4, 10))
+        status, printed, _ = self.probe(('--connect', f'127.0.0.1:{listening(losing)}'))
+        self.look('a probe whose replies to a second Create and a first Activate are lost', (status == 1, status),
+                  (printed.startswith(MAKING + 'names are unique: could not be told\n'), printed),
+                  (losing.count == 25, losing.count))
+        server.kill()
+        server.wait()
+
+    def hanging_probes(self):
+        """Each line is there once it is told, while the next question waits for its reply."""
+        for number, lines in ((3, [MAKING]), (9, [MAKING, 'names are unique: yes\n'])):
+            server, port = self.serve('--connections', '1000000')
+            where = f'127.0.0.1:{listening(Losing(port, hangs_at=number))}'
+            words = [self.program, 'probe', '--name-prefix', 'p', '--timeout', '30', '--connect', where]
+            with subprocess.Popen(words, stdout=subprocess.PIPE, text=True) as probe:
+                told = [probe.stdout.readline() for _ in lines]
+                is_asking = probe.poll() is None
+                probe.kill()
+            self.look(f'a probe that hangs at its question {number}', (told == lines, told),
+                      (is_asking, 'it has ended'))
+            server.kill()
+            server.wait()
+
+    def told_exchanges(self):
+        """With --verbose, probe and serve tell each exchange in a line."""
+        status, printed, told = self.probe(('--loopback',), '--verbose')
+        lines = told.splitlines()
+        self.look('a probe that tells its exchanges', (status == 0, status), (printed == KEPT, printed),
+                  (lines[:4] == ['Locate p-1: found none', 'Locate p-2: found none', 'Create p-1: created as 1',
+                                 'Create p-1: refused, reason 53'], lines[:4]),
+                  (lines[-2:] == ['Revoke 2: revoked 2', 'Destroy 2: destroyed 2'], lines[-2:]),
+                  (len(lines) == 25, len(lines)))
+        self.forget()
+        words = [self.program, 'serve', '--port', '0', '--connections', '1', '--verbose']
+        with subprocess.Popen(words, stdout=subprocess.PIPE, stderr=subprocess.PIPE, text=True) as server:
+            port = server.stdout.readline().split()[1]
+            self.run(('--connect', f'127.0.0.1:{port}'), '--limit', '1')
+            told = server.stderr.read()
+            status = server.wait()
+        self.look('a server that tells its one exchange', (status == 0, status),
+                  (told == 'Locate k1: found none\n', told))
 
     def files(self):
         self.forget()
@@ -295,6 +406,10 @@ def main():
     peers.no_peer()
     peers.full_socket()
     peers.probes()
+    peers.unreadable_peers()
+    peers.lost_looks()
+    peers.hanging_probes()
+    peers.told_exchanges()
     peers.files()
     peers.no_client()
     peers.taken_port()

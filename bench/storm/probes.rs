@@ -35,9 +35,14 @@ fn probe(
     Ok(String::from_utf8_lossy(&output.stdout).into_owned())
 }
 
-/// What is said of each rule: the line's beginning, and what stands behind it.
+/// The first line of a probe of this prefix that makes keys.
+fn making(prefix: &str) -> String {
+    format!("making two keys: {prefix}-1 and {prefix}-2\n")
+}
+
+/// What is said of each rule, behind the line of the keys: the line's beginning, and what stands behind it.
 fn rules(text: &str) -> impl Iterator<Item = (&str, &str)> {
-    text.lines().take(8).filter_map(|line| line.split_once(": "))
+    text.lines().skip(1).take(8).filter_map(|line| line.split_once(": "))
 }
 
 /// Whether a look at a name was lost or refused, so that nothing was made.
@@ -66,9 +71,11 @@ pub fn probe_all(shared: &Shared, program: &Path, port: u16, plans: u64) -> io::
     let mut wrong = 0;
     let mut tally = Tally::default();
     for number in 0..plans {
-        let text = probe(shared, program, port, &format!("keeps{number}"), None)?;
+        let prefix = format!("keeps{number}");
+        let text = probe(shared, program, port, &prefix, None)?;
         count(&mut tally, &text);
-        if !(text.starts_with("names are unique") || is_unbegun(&text))
+        let begins = text.strip_prefix(&making(&prefix)).is_some_and(|rest| rest.starts_with("names are unique: "));
+        if !(begins || is_unbegun(&text))
             || rules(&text).any(|(_, said)| said.starts_with("no ("))
         {
             println!("wrong: a server that keeps all rules:\n{text}");

@@ -48,6 +48,8 @@ pub struct ProbeOptions {
     pub peer: Peer,
     /// How long an exchange may take, in seconds.
     pub timeout: u64,
+    /// Whether each exchange is told on standard error.
+    pub is_verbose: bool,
 }
 
 /// Where a server is.
@@ -72,4 +74,6 @@ pub struct ServeOptions {
     pub now: i64,
     /// How long a read or a write of a connection may wait, in seconds.
     pub timeout: u64,
+    /// Whether each exchange is told on standard error.
+    pub is_verbose: bool,
 }

@@ -227,15 +227,19 @@ keeps the rules by which `run` makes no key twice and destroys none too early. R
 against a new kind of server, and after its software was changed.
 
 It looks for both names first: where one is there already, or that cannot be told, it says so and makes
-nothing; `refused, reason 12` at the head of that line is the server's refusal to look. Else it
-makes the keys, takes each step twice, searches for them before and after they are destroyed, and
-asks for their names once more. Two destroyed objects stay on the server. Where replies were lost or
+nothing. `refused, reason 12` at the head of that line is the server's refusal to look, and
+`the server's reply can't be read (Version: it answers in KMIP 1.0)` a server of another version. Else it
+names the keys, makes them, takes each step twice, searches for them before and after they are
+destroyed, and asks for their names once more. A search without a reply is asked again, three times in
+all; nothing else is. Two destroyed objects stay on the server. Where replies were lost or
 a Destroy was refused, keys of these names may stay that are not destroyed. Where a line says that a
 second object was made, that object stays and is not destroyed: destroy it by hand (its identifier
 stands in the line). They protect nothing: take another PREFIX next time.
 
-A line a rule, then the reasons of the server's refusals in decimal (they decide nothing), then what may go
-wrong where a rule is not kept, and the sum:
+First comes the line of the keys, before anything is made. Then come a line a rule, the reasons of the
+server's refusals in decimal (they decide nothing), what may go wrong where a rule is not kept, and the
+sum. Each line is printed once the answers that decide it have come:
+  making two keys: PREFIX-1 and PREFIX-2
   names are unique: yes
   names stay used after Destroy: no (a second object 3 was made)
   a step made twice changes nothing: yes
@@ -262,7 +266,10 @@ pub(crate) const SERVE_LONG: &str = "\
 Listens on 127.0.0.1, prints `listening PORT`, and serves connections one after the other by one server,
 which starts with no object and has room for 10,000. Each connection is served until it ends, breaks the
 framing of messages or waits longer than the timeout; then the next one is. A port that cannot be had
-prints `cannot listen`.";
+prints `cannot listen`.
+
+With `--verbose` standard error has a line for each message that is answered:
+  Create k1: created as 1";
 
 pub(crate) const PROGRESS: &str = "The file that what is known is kept in";
 

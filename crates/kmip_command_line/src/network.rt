@@ -119,6 +119,7 @@ fn probe_options(
         prefix,
         peer,
         timeout: options.get_one::<u64>("timeout").unwrap_or(MOST_SECONDS),
+        is_verbose: options.get_flag("verbose"),
     }))
 }
 
@@ -129,5 +130,6 @@ pub(crate) fn serve_options(options: &ArgMatches<'_>) -> ServeOptions {
         connections: options.get_one::<u64>("connections").unwrap_or(0),
         now: options.get_one::<i64>("now").unwrap_or(0),
         timeout: options.get_one::<u64>("timeout").unwrap_or(MOST_SECONDS),
+        is_verbose: options.get_flag("verbose"),
     }
 }

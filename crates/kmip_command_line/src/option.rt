@@ -177,19 +177,21 @@ pub(crate) const RUN_OPTIONS: [CommandOption; 13] = [
     VERBOSE_OPTION,
 ];
 
-pub(crate) const PROBE_OPTIONS: [CommandOption; 5] = [
+pub(crate) const PROBE_OPTIONS: [CommandOption; 6] = [
     NAME_PREFIX_OPTION,
     CONNECT_OPTION,
     SOCKET_OPTION,
     LOOPBACK_OPTION,
     TIMEOUT_OPTION,
+    VERBOSE_OPTION,
 ];
 
-pub(crate) const SERVE_OPTIONS: [CommandOption; 4] = [
+pub(crate) const SERVE_OPTIONS: [CommandOption; 5] = [
     PORT_OPTION,
     CONNECTIONS_OPTION,
     NOW_OPTION,
     SERVE_TIMEOUT_OPTION,
+    VERBOSE_OPTION,
 ];
 
 /// The option, for the parser of command lines.

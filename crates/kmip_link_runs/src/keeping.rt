@@ -9,7 +9,7 @@ use crate::watching::{Count, Patient, Stopped};
 use kmip_client::Client;
 use kmip_commands::ExitStatus;
 use kmip_plan::{Plan, read_plan};
-use kmip_run::{RunInput, run_run, standing_line};
+use kmip_run::{RunInput, Spent, begin, run_run, standing_line};
 use kmip_running::{Observed, Pace, SaveFault, carry_out, next_wait};
 use kmip_scripted::{Scripted, read_script};
 use kmip_server::{ListStore, Server};
@@ -298,27 +298,32 @@ fn print_carried(
     }
 }
 
-/// The line that says how far a run is, by the text that was kept last.
+/// The line that says how far a run is that began with a text and has spent so much: exchanges, lost
+/// ones, refused questions and seconds.
 fn standing(
     rt: &HostRuntime,
     case: &Case<'_>,
     words: &str,
     saved: Option<&str>,
 ) -> Result<(), Fail> {
-    let (made, silent) = numbers_of(words)?;
-    let saved = saved.ok_or("a text")?;
-    let plan = case.client.plan();
-    match standing_line(rt.alloc(), plan, saved, made, silent) {
-        Ok(line) => rt.println(&line)?,
+    let spent = spent_of(words)?;
+    match begin(rt.alloc(), case.client.plan(), saved) {
+        Ok(client) => rt.println(&standing_line(rt.alloc(), &client, spent)?)?,
         Err(fault) => rt.println(format_args!("refused {} {}", fault.number(), fault.name()))?,
     }
     Ok(())
 }
 
-/// The two numbers that these words are.
-fn numbers_of(words: &str) -> Result<(usize, usize), Fail> {
-    let (first, second) = words.split_once(' ').ok_or("two numbers")?;
-    Ok((first.parse()?, second.parse()?))
+/// The four numbers that these words are.
+fn spent_of(words: &str) -> Result<Spent, Fail> {
+    let mut words = words.split(' ');
+    let mut next = || words.next().ok_or("four numbers");
+    Ok(Spent {
+        exchanges: next()?.parse()?,
+        lost: next()?.parse()?,
+        refused: next()?.parse()?,
+        seconds: next()?.parse()?,
+    })
 }
 
 /// The waits after nine exchanges by which a run did not get on, and the one after it did, from this first

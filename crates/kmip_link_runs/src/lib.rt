@@ -13,6 +13,8 @@
 //!                          the question (`echoed`), none (`missing`), or one of no question (`foreign`)
 //!     probe repeats ID refusing REASON after NUMBER    the same, which answers so many questions so, and
 //!                          refuses all others for this Result Reason, or `none`
+//!     probe answered HEX   a probe of a peer that answers each question by these bytes
+//!     probe lacking NUMBER a probe of an empty server, over a link that has memory for so many exchanges
 //!     runs of PLAN         a client of the plan in this file, and a link to an empty server, which loses
 //!                          nothing: what is done with them is on the lines behind, up to a line `end`.
 //!                          Behind it may stand ` over WORDS`, the script that the link follows, with `/`
@@ -43,6 +45,7 @@
 mod alone;
 mod breaking;
 mod keeping;
+mod lacking;
 mod peer;
 mod probing;
 mod repeating_peer;

@@ -1,6 +1,7 @@
 //! Probes over links to servers of the profile, to servers that break it, and to what is no server.
 
 use crate::breaking::Breaking;
+use crate::lacking::Lacking;
 use crate::peer::Peer;
 use crate::repeating_peer::Repeating;
 use kmip_probe::run_probe;
@@ -28,6 +29,11 @@ pub fn take_probe(rt: &HostRuntime, line: &str) -> Result<(), Fail> {
             print_probe(rt, &mut Peer::Breaking(server))
         }
         "repeats" => print_probe(rt, &mut Peer::Repeating(Repeating::of(words)?)),
+        "answered" => print_probe(rt, &mut Peer::Saying(hex::decode(rt.alloc(), words)?)),
+        "lacking" => {
+            let link = link_of(rt.alloc(), "")?;
+            print_probe(rt, &mut Lacking::of(link, words)?)
+        }
         _ => Err(Fail::new("no probe")),
     }
 }

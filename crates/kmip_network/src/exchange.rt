@@ -1,11 +1,11 @@
 //! One exchange: what was asked, and what came of it.
 
 use crate::silence::Silence;
-use crate::version::Version;
 use crate::wire::Wire;
 use kmip_batches::read_reply;
 use kmip_fields::MessageFault;
 use kmip_messages::{Outcome, Reply, Request};
+use kmip_premises::version_in;
 use kmip_schedule::LinkFault;
 use kmip_ttlv::{Bytes, NoMemory};
 use kmip_wording::requests_in;
@@ -97,7 +97,7 @@ impl Exchange {
 /// Why bytes with this fault are no reply.
 fn unreadable(fault: MessageFault, reply: &[u8]) -> Silence {
     let version = match fault {
-        MessageFault::Version => Version::told(reply),
+        MessageFault::Version => version_in(reply),
         _ => None,
     };
     Silence::Unreadable(fault, version)

@@ -4,16 +4,19 @@
 
 mod account;
 mod answers;
+mod asking_again;
 mod believing;
 mod carrying;
 mod causes;
 mod dialing;
 mod exchange;
+mod exchange_line;
 mod failure;
 mod linking;
 mod noted;
 mod operation;
 mod origin;
+mod overhearing;
 mod peer_talk;
 mod probing;
 mod reach;
@@ -26,8 +29,8 @@ mod story;
 mod telling;
 mod told;
 mod trouble;
-mod version;
 mod watch;
+mod watching;
 mod wire;
 
 pub use carrying::run_plan;

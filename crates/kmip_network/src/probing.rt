@@ -1,46 +1,50 @@
 //! The program `probe`, over sockets.
 
+use crate::asking_again::AskingAgain;
 use crate::linking::{loopback, tcp_link, unix_link};
 use crate::told::standard_output;
 use crate::trouble::Trouble;
+use crate::watching::Watcher;
 use kmip_choices::{Peer, ProbeOptions};
 use kmip_commands::ExitStatus;
 use kmip_probe::run_probe;
+use kmip_running::Observed;
 use kmip_schedule::Link;
 use std::io::BufWriter;
 use std::time::Duration;
 
-/// The command `probe`: the server is asked, and what its answers tell is printed. As nothing is asked
-/// twice, each question goes over a stream of its own: so a server that closes the stream behind each
-/// reply answers all.
+/// The command `probe`: the server is asked, and what its answers tell is printed. Each question goes
+/// over a stream of its own, so a server that closes the stream behind each reply answers all. A Locate
+/// that brings no reply is asked again; nothing else is.
 ///
 /// # Errors
 /// What ends it before anything is asked.
 pub fn probe_server(rt: &HostRuntime, options: &ProbeOptions) -> Result<ExitStatus, Trouble> {
     let limit = Duration::from_secs(options.timeout);
-    let prefix = options.prefix.as_str();
     match &options.peer {
         Peer::Tcp(address) => {
             let mut link = tcp_link(rt, *address, limit, None);
             link.hold_none();
-            probe_over(rt, prefix, link)
+            probe_over(rt, options, link)
         }
         Peer::Unix(path) => {
             let mut link = unix_link(rt, path.as_str(), limit, None)?;
             link.hold_none();
-            probe_over(rt, prefix, link)
+            probe_over(rt, options, link)
         }
-        Peer::Loopback => probe_over(rt, prefix, loopback(rt, limit)?),
+        Peer::Loopback => probe_over(rt, options, loopback(rt, limit)?),
     }
 }
 
-/// Asks the server behind this link.
+/// Asks the server behind this link. Each message that is sent is told, if it is to be.
 fn probe_over<L: Link + Drop>(
     rt: &HostRuntime,
-    prefix: &str,
+    options: &ProbeOptions,
     link: L,
 ) -> Result<ExitStatus, Trouble> {
-    let mut link = link;
+    let told = Observed::new(link, Watcher::new(rt, options.is_verbose));
+    let mut link = AskingAgain::new(told);
     let mut writer = BufWriter::new(rt.alloc(), standard_output(rt))?;
+    let prefix = options.prefix.as_str();
     Ok(run_probe(rt.alloc(), prefix, &mut link, &mut writer))
 }

@@ -1,13 +1,14 @@
 //! The program `serve`, over sockets.
 
 use crate::causes::tell_why;
+use crate::overhearing::{Hearing, Overheard, Saying};
 use kmip_choices::ServeOptions;
 use kmip_commands::{CommandFault, ExitStatus};
 use kmip_server::{IndexedStore, Server};
 use kmip_store::{MOST_ROOM, SEED};
 use kmip_transport::{StreamEnd, serve_stream};
 use std::fmt::Display;
-use std::io::{self, Error, Write};
+use std::io::{self, Error, Read, Write};
 use std::net::{Ipv4Addr, Net, OpenListener, OpenStream, SocketAddr, SocketAddrV4};
 use std::time::Duration;
 
@@ -121,7 +122,7 @@ fn serve_connection(
     server: &mut Server<IndexedStore>,
     stream: <HostRuntime as Net>::Stream,
 ) -> StreamEnd {
-    let mut reader = stream;
+    let reader = stream;
     let limit = Some(Duration::from_secs(options.timeout));
     let is_limited = reader.set_read_timeout(limit).is_ok()
         && reader.set_write_timeout(limit).is_ok();
@@ -129,10 +130,21 @@ fn serve_connection(
         return StreamEnd::Io;
     }
     match reader.try_clone() {
-        Ok(writer) => {
-            let mut writer = writer;
-            serve_stream(server, rt.alloc(), options.now, &mut reader, &mut writer)
-        }
+        Ok(writer) => answer_over(rt, options, server, reader, writer),
         Err(_) => StreamEnd::Io,
     }
+}
+
+/// Answers the messages of a reader onto a writer until they end, and tells each exchange, if it is to.
+fn answer_over<R: Read, W: Write>(
+    rt: &HostRuntime,
+    options: &ServeOptions,
+    server: &mut Server<IndexedStore>,
+    reader: R,
+    writer: W,
+) -> StreamEnd {
+    let overheard = Overheard::new(rt, options.is_verbose);
+    let mut reader = Hearing::new(reader, &overheard);
+    let mut writer = Saying::new(writer, &overheard);
+    serve_stream(server, rt.alloc(), options.now, &mut reader, &mut writer)
 }

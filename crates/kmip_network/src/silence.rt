@@ -2,8 +2,8 @@
 
 use crate::failure::Failure;
 use crate::peer_talk::PeerTalk;
-use crate::version::Version;
 use kmip_fields::MessageFault;
+use kmip_premises::ProtocolVersion;
 use kmip_ttlv::{MAX_SIZE, NoMemory};
 use std::alloc::Global;
 use std::io::Error;
@@ -19,7 +19,7 @@ pub(crate) enum Silence {
     /// A reply of so many bytes, which are too many.
     TooLong(u64),
     /// A message came that is no reply, in this version of KMIP where it tells one.
-    Unreadable(MessageFault, Option<Version>),
+    Unreadable(MessageFault, Option<ProtocolVersion>),
     NoMemory,
 }
 
@@ -73,10 +73,12 @@ fn failure_text(alloc: Global, failure: Failure, timeout: u64) -> Result<String,
 fn unreadable_text(
     alloc: Global,
     fault: MessageFault,
-    version: Option<Version>,
+    version: Option<ProtocolVersion>,
 ) -> Result<String, NoMemory> {
     let text = match version {
-        Some(version) => format!(in alloc; "an unreadable reply ({fault}: {version})")?,
+        Some(ProtocolVersion { major, minor }) => {
+            format!(in alloc; "an unreadable reply ({fault}: KMIP {major}.{minor})")?
+        }
         None => format!(in alloc; "an unreadable reply ({fault})")?,
     };
     Ok(text)

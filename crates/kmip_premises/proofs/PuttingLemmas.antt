@@ -5,7 +5,7 @@ use Rattle.std.specs.Prelude.{◌&&◌, option_map, option_and_then, slice_get, 
 use Rattle.std.specs.Option.{option_map_or}
 use Rattle.std.proofs.lemmas.Option.{same_Some}
 use Rattle.std.proofs.lemmas.Slice.Eq.{bytes_eq-Decides}
-use Rattle.kmip_batches.specs.Items.{parts_in, replies_in, stops_in}
+use Rattle.kmip_batches.specs.Items.{parts_in, replies_in, stops_in, SaidAreRead}
 use Rattle.kmip_messages.specs.declared.reply.Reply.{Reply}
 use Rattle.kmip_messages.specs.declared.request.Request.{Request}
 use Rattle.kmip_schedule.specs.Calm.{AreTaken, CalmlyExchanged, IsServed}
@@ -19,7 +19,7 @@ use Rattle.kmip_server.specs.ServerStep.{ServerStep}
 use Rattle.kmip_messages.specs.declared.reply.Outcome.{Outcome}
 use Rattle.kmip_messages.specs.declared.request.Ask.{Ask}
 use Rattle.kmip_schedule.specs.Moves.{HasFailed}
-use Rattle.kmip_premises.specs.Answers.{answer_in, answer_marked, answer_to, answer_with, is_asked_for, is_of, marker_of}
+use Rattle.kmip_premises.specs.Answers.{answer_marked, answer_read, answer_to, answer_with, is_asked_for, is_of, marker_of}
 use Rattle.kmip_premises.specs.Asking.{is_free_at, next_inquiry, request_for, uid_of}
 use Rattle.kmip_premises.specs.Inquiries.{ask_of, name_of}
 use Rattle.kmip_premises.specs.Putting.{HasReplied, HasSent, HasServed, HasServedNext}
@@ -85,10 +85,10 @@ one_taken stops (reply ∷ []) old new request (between, served, inr (go, same))
 one_taken stops (reply ∷ second ∷ replies) old new request (between, served, inl (stop, none, same)) = absurd cc
 one_taken stops (reply ∷ second ∷ replies) old new request (between, served, inr (go, rest)) = absurd rest
 
-pub replied_by : (names : Names) (old new : Past) (message : List ℕ) (request : Request) (number : ℕ) (prefix : List ℕ) (answer : Answer)
+pub replied_by : SaidAreRead → (names : Names) (old new : Past) (message : List ℕ) (request : Request) (number : ℕ) (prefix : List ℕ) (answer : Answer)
     (exchanged : Result (Option (List ℕ)) LinkFault) (handed : Option (List ℕ)) → parts_in message ≡ Ok request ∷ [] → CalmlyExchanged names old message exchanged new
     → or_loss exchanged ≡ Some handed → answer ≡ answer_to number prefix handed → HasReplied request number prefix answer old new
-replied_by names old new message request number prefix answer (Ok given) handed asks calmly is told =
+replied_by read names old new message request number prefix answer (Ok given) handed asks calmly is told =
     let (reply, only, served) = one_taken (stops_in message) (replies_in calmly.given) (with_asked message old) calmly.between request
     (subst (λ parts. AreTaken (stops_in message) parts (replies_in calmly.given) (with_asked message old) calmly.between) asks calmly.taken) in
     record {
@@ -96,12 +96,13 @@ replied_by names old new message request number prefix answer (Ok given) handed 
       step = subst (λ p. ServerStep old.room old.objects request.ask reply.outcome p.objects) (sym calmly.is)
           (subst (λ p. ServerStep old.room old.objects request.ask reply.outcome p.objects) (sym served.is) served.serves.step);
       id_is = served.serves.id_is;
-      answer_is = told ∙ ap (answer_to number prefix) (sym (same_Some given handed is) ∙ calmly.answer_is) ∙ ap (answer_in number prefix) only;
+      answer_is = told ∙ ap (answer_to number prefix) (sym (same_Some given handed is) ∙ calmly.answer_is)
+          ∙ ap (answer_read number prefix calmly.given) (read calmly.given reply [] only);
       room_is = ap (λ p. p.room) calmly.is ∙ ap (λ p. p.room) served.is;
     }
-replied_by names old new message request number prefix answer (Err faults.Io) handed asks calmly is told = absurd calmly
-replied_by names old new message request number prefix answer (Err faults.Frame) handed asks calmly is told = absurd calmly
-replied_by names old new message request number prefix answer (Err faults.NoMemory) handed asks calmly is told = absurd cc
+replied_by read names old new message request number prefix answer (Err faults.Io) handed asks calmly is told = absurd calmly
+replied_by read names old new message request number prefix answer (Err faults.Frame) handed asks calmly is told = absurd calmly
+replied_by read names old new message request number prefix answer (Err faults.NoMemory) handed asks calmly is told = absurd cc
 
 -- ---- what holds of a result
 

@@ -1,5 +1,5 @@
 -- What a server of the profile answers a probe: each question in turn moves its two objects as the profile says.
-use Rattle.std.proofs.Common.{◌≡◌, ◌≢◌, ◌<◌, ◌+◌, ℕ, zero, suc, pos, true, false, List, [], ◌∷◌, ◌++◌, map, take, drop, length, Some, None, subst, refl, sym, ap, ◌∙◌, arith}
+use Rattle.std.proofs.Common.{◌≡◌, ◌≢◌, ◌≤◌, ◌<◌, ◌⊎◌, ◌+◌, ℕ, zero, suc, pos, true, false, List, [], ◌∷◌, ◌++◌, map, take, drop, length, Some, None, subst, refl, sym, ap, ◌∙◌, inl, inr, arith}
 use Rattle.std.specs.List.{slice_get}
 use Rattle.std.specs.Option.{is_some}
 use Rattle.std.proofs.lemmas.Option.{same_Some}
@@ -20,6 +20,7 @@ use Rattle.kmip_premises.specs.Standing.{ProbeLaws, AreServed, AreStanding, stat
 use Rattle.kmip_premises.specs.declared.answer.Answer.{Answer}
 use Rattle.kmip_premises.specs.declared.answer.Answer.TheVariants.{Told}
 use Rattle.kmip_premises.specs.declared.inquiry.Which.TheVariants.{First, Second}
+use Rattle.kmip_premises.proofs.ProbingLemmas.{up_to}
 use Rattle.kmip_premises.proofs.StandingLemmas.{TwoStand, turned, comes, used, found, read, refused, taken}
 
 -- ---- the two names
@@ -275,3 +276,12 @@ goes_on prefix answers p few s none =
 pub all_served : (prefix : List ℕ) (answers : List Answer) (p : Past) → length answers ≡ 25 → AreServed prefix answers p
     → (first second : List ℕ) × (answers ≡ map Told (outcomes_of prefix first second))
 all_served prefix answers p all s = (s.first, s.second, s.answers_are ∙ ap (until prefix s.first s.second) all)
+
+pub none_served : (prefix : List ℕ) (answers : List Answer) (p : Past) → answers ≡ [] → IsUnprobed prefix p → AreServed prefix answers p
+none_served prefix answers p none free = subst (λ xs. AreServed prefix xs p) (sym none) (nothing_served prefix p free)
+
+-- where no question follows, or there are so many, all are answered
+pub all_answered : (prefix : List ℕ) (answers : List Answer) (p : Past) → length answers ≤ 25 → (next_inquiry answers ≡ None) ⊎ (length answers ≡ 25)
+    → AreServed prefix answers p → (first second : List ℕ) × (answers ≡ map Told (outcomes_of prefix first second))
+all_answered prefix answers p few (inr all) served = all_served prefix answers p all served
+all_answered prefix answers p few (inl none) served = all_served prefix answers p (up_to (length answers) 25 few (omega arith) (λ less. goes_on prefix answers p less served none)) served

@@ -1,16 +1,19 @@
 -- What came of a question of a probe.
 -- Source: KMIP 2.1, Message Structure (Operation, Unique Batch Item ID), and Message Data, Result Status.
-use Rattle.std.specs.Prelude.{ℕ, nat_eq, Bool, true, false, List, [], ◌∷◌, slice_get, Option, Some, None, IsTrue, if◌then◌else◌}
+use Rattle.std.specs.Prelude.{ℕ, nat_eq, Bool, true, false, List, [], ◌∷◌, slice_get, Option, Some, None, Result, Ok, Err, IsTrue, if◌then◌else◌}
 use Rattle.std.specs.Cmp.Lexicographic.{pointwise}
 use Rattle.std.specs.List.{All}
 use Rattle.std.specs.Option.{option_map_or}
 use Rattle.kmip_messages.specs.declared.reply.Outcome.{Outcome}
 use Rattle.kmip_messages.specs.declared.reply.Outcome.TheVariants.{Created, Located, Attributes, Activated, Revoked, Destroyed, Failed}
 use Rattle.kmip_messages.specs.declared.reply.Reply.{Reply}
-use Rattle.kmip_batches.specs.Items.{replies_in}
+use Rattle.kmip_batches.specs.Batches.{replies_read}
+use Rattle.kmip_fields.specs.declared.fault.MessageFault.{MessageFault}
 use Rattle.kmip_objects.specs.Ranges.{is_identifier}
 use Rattle.kmip_premises.specs.declared.answer.Answer.{Answer}
-use Rattle.kmip_premises.specs.declared.answer.Answer.TheVariants.{Nothing, Told, Unmarked}
+use Rattle.kmip_premises.specs.declared.answer.Answer.TheVariants.{Nothing, Told, Unmarked, Unreadable}
+use Rattle.kmip_premises.specs.declared.unread.Unread.{Unread}
+use Rattle.kmip_premises.specs.Unreadable.{version_in}
 use Rattle.kmip_premises.specs.declared.inquiry.TheConstants.{INQUIRIES}
 use Rattle.kmip_premises.specs.declared.inquiry.Kind.{Kind}
 use Rattle.kmip_premises.specs.declared.inquiry.Kind.TheVariants.{Locate, Create, GetAttributes, Activate, Revoke, Destroy}
@@ -66,16 +69,27 @@ answer_in number prefix [] = Nothing
 answer_in number prefix (reply ∷ []) = answer_with number prefix reply.id reply.outcome
 answer_in number prefix (reply ∷ second ∷ others) = Nothing
 
+-- what bytes say of it that are read so: a message that can't be read says why, and which version it has
+abbrev pub answer_read : ℕ → List ℕ → List ℕ → Result (List Reply) MessageFault → Answer
+answer_read number prefix given (Ok replies) = answer_in number prefix replies
+answer_read number prefix given (Err fault) = Unreadable (record { fault = fault; version = version_in given })
+
 -- what was handed over says of it; a loss says nothing
 abbrev pub answer_to : ℕ → List ℕ → Option (List ℕ) → Answer
 answer_to number prefix None = Nothing
-answer_to number prefix (Some given) = answer_in number prefix (replies_in given)
+answer_to number prefix (Some given) = answer_read number prefix given (replies_read given)
 
 -- the outcome of a question, where there is one
 abbrev pub outcome_in : Answer → Option Outcome
 outcome_in Nothing = None
 outcome_in (Told outcome) = Some outcome
 outcome_in (Unmarked outcome) = Some outcome
+outcome_in (Unreadable unread) = None
+
+-- why the reply can't be read, where one came that can't
+abbrev pub unread_in : Answer → Option Unread
+unread_in (Unreadable unread) = Some unread
+unread_in answer = None
 
 -- the identifiers that an outcome gives the name that was asked about
 abbrev pub uids_in : Option Outcome → List (List ℕ)

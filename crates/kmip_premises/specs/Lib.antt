@@ -1,4 +1,5 @@
 pub mod Inquiries
+pub mod Unreadable
 pub mod Answers
 pub mod Asking
 pub mod Putting

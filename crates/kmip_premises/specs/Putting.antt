@@ -50,3 +50,7 @@ pub record AreAsked (prefix : List ℕ) (answers : List Answer) (old new : Past)
   pub given : List (Option (List ℕ))
   pub handed : new.handed ≡ old.handed ++ given
   pub heard : AreAnswers prefix [] answers given
+
+-- The further questions were asked: where those for the answers before were asked since some past, those for all of them were.
+abbrev pub AsksOn : List ℕ → List Answer → List Answer → Past → Past → Type 0
+AsksOn prefix before after old new = (start : Past) → AreAsked prefix before start old → AreAsked prefix after start new

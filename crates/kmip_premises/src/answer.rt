@@ -1,14 +1,18 @@
 //! What came of a question.
-ghost use Rattle.std.specs.Prelude.{◌≡◌, ℕ, Option, IfOk, IsTrue, option_map, nat_eq};
+ghost use Rattle.std.specs.Prelude.{◌≡◌, ℕ, false, Option, IfOk, IsTrue, option_map, nat_eq};
 ghost use Rattle.std.specs.Cmp.Lexicographic.{pointwise};
 ghost use Rattle.std.specs.List.{All};
 ghost use Rattle.kmip_messages.specs.BatchItems.{answer_fits};
 ghost use Rattle.kmip_messages.specs.Fits.{outcome_fits};
-ghost use Rattle.kmip_premises.specs.Answers.{answer_in, answer_marked, answer_to, answer_with, is_asked_for, is_marker, is_of, marker_of, outcome_in, unmarked, uids_told, without_id, IsLawful};
+ghost use Rattle.kmip_premises.specs.Answers.{answer_in, answer_marked, answer_to, answer_with, is_asked_for, is_marker, is_of, marker_of, outcome_in, unmarked, unread_in, uids_told, without_id, IsLawful};
+ghost use Rattle.kmip_fields.specs.Faults.{is_no_memory};
 ghost use Rattle.kmip_premises.specs.Asking.{is_free};
+ghost use Rattle.kmip_premises.specs.Unreadable.{version_in};
 
 use crate::inquiry::{Kind, inquiry_at};
+use crate::unread::{Unread, version_in};
 use kmip_batches::read_reply;
+use kmip_fields::MessageFault;
 use kmip_messages::{Outcome, Reply};
 use kmip_ttlv::{Bytes, NoMemory, Text};
 use std::alloc::Global;
@@ -22,6 +26,8 @@ pub enum Answer {
     Told(Outcome),
     /// A success whose reply has no id, or one that is the id of no question.
     Unmarked(Outcome),
+    /// A message came that can't be read as replies.
+    Unreadable(Unread),
 }
 
 impl Answer {
@@ -30,8 +36,18 @@ impl Answer {
         ensures { option_map (λ outcome. outcome.now) result ≡ outcome_in self.now }
     {
         match self {
-            Answer::Nothing => None,
+            Answer::Nothing | Answer::Unreadable(_) => None,
             Answer::Told(outcome) | Answer::Unmarked(outcome) => Some(outcome),
+        }
+    }
+
+    /// Why the reply can't be read, where one came that can't.
+    pub fn unread(&self) -> Option<Unread>
+        ensures { result ≡ unread_in self.now }
+    {
+        match self {
+            Answer::Unreadable(unread) => Some(*unread),
+            Answer::Nothing | Answer::Told(_) | Answer::Unmarked(_) => None,
         }
     }
 
@@ -58,7 +74,7 @@ impl Answer {
 }
 
 /// What was handed over says of the question of a number, from 0: nothing, unless it is a message
-/// of one reply.
+/// of one reply, or can't be read.
 ///
 /// # Errors
 /// Where there is no memory.
@@ -77,13 +93,28 @@ pub(crate) fn answer_to(
     };
     match read_reply(alloc, given.as_slice()) {
         Ok(replies) => Ok(answer_in(number, prefix, replies)),
-        Err(fault) => {
-            if fault.is_no_memory() {
-                return Err(NoMemory);
-            }
-            Ok(Answer::Nothing)
-        }
+        Err(fault) => unreadable(&fault, given.as_slice()),
     }
+}
+
+/// The answer that bytes are which can't be read as replies for this fault.
+///
+/// # Errors
+/// Where the fault is that there is no memory.
+fn unreadable(fault: &MessageFault, given: &[u8]) -> Result<Answer, NoMemory>
+    ensures answer { IfOk result (λ answer. answer
+        ≡ Answer.Unreadable (record { fault = fault.now; version = version_in given.now })) }
+    ensures lawful { IfOk result IsLawful }
+    ensures told { IfOk result (λ answer. is_no_memory fault.now ≡ false) }
+{
+    if fault.is_no_memory() {
+        return Err(NoMemory);
+    }
+    let version = version_in(given);
+    Ok(Answer::Unreadable(Unread {
+        fault: *fault,
+        version,
+    }))
 }
 
 /// What the replies of a message say of the question of a number: one is to answer it, and any

@@ -48,6 +48,9 @@ pub struct Inquiry(pub Which, pub Kind);
 /// How many questions a probe has.
 pub const QUESTIONS: usize = 25;
 
+/// How many of them, the first ones, look whether the names are free.
+pub const LOOKS: usize = 2;
+
 /// The questions of a probe, in order.
 pub const INQUIRIES: [Inquiry; QUESTIONS] = [
     Inquiry(First, Locate(Some(5))),

@@ -3,7 +3,7 @@ ghost use Rattle.std.specs.Prelude.{◌≡◌, ◌++◌, [], ◌∷◌, nat_eq, 
 ghost use Rattle.std.specs.Cmp.Lexicographic.{pointwise};
 ghost use Rattle.std.specs.List.{list_any};
 ghost use Rattle.kmip_server.specs.Again.{has_failed};
-ghost use Rattle.kmip_premises.specs.Answers.{outcome_in, uids_told};
+ghost use Rattle.kmip_premises.specs.Answers.{outcome_in, uids_told, unread_in};
 ghost use Rattle.kmip_premises.specs.Judging.{
   AreFindings,
   active_is_kept,
@@ -38,6 +38,7 @@ use crate::finding::{Finding, Findings, Flaw};
 use crate::inquiry::{Which, name_of};
 use crate::probing::{part, uid_of};
 use crate::telling::attributes_told;
+use crate::unread::Unread;
 use kmip_messages::Outcome;
 use kmip_objects::Step;
 use kmip_ttlv::{NoMemory, Text};
@@ -69,6 +70,16 @@ pub fn outcome_at(answers: &[Answer], number: usize) -> Option<&Outcome>
 {
     match answers.get(number) {
         Some(answer) => answer.outcome(),
+        None => None,
+    }
+}
+
+/// Why the reply to the question of a number can't be read, where one came that can't.
+pub fn unread_at(answers: &[Answer], number: usize) -> Option<Unread>
+    ensures { result ≡ unread_in (answer_at answers.now number) }
+{
+    match answers.get(number) {
+        Some(answer) => answer.unread(),
         None => None,
     }
 }
@@ -322,7 +333,7 @@ fn is_marked(answer: &Answer) -> bool
 {
     match answer {
         Answer::Told(outcome) => !has_failed(outcome),
-        Answer::Nothing | Answer::Unmarked(_) => false,
+        Answer::Nothing | Answer::Unmarked(_) | Answer::Unreadable(_) => false,
     }
 }
 

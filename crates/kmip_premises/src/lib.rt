@@ -11,9 +11,13 @@ mod judging;
 pub mod laws;
 mod probing;
 mod telling;
+mod unread;
 
 pub use answer::Answer;
 pub use finding::{Attribute, Finding, Findings, Flaw};
-pub use inquiry::{INQUIRIES, Inquiry, Kind, PREFIX_MAX, QUESTIONS, Which, is_prefix, name_of};
-pub use judging::{findings, outcome_at};
-pub use probing::{is_free_at, probe};
+pub use inquiry::{
+    INQUIRIES, Inquiry, Kind, LOOKS, PREFIX_MAX, QUESTIONS, Which, is_prefix, name_of,
+};
+pub use judging::{findings, outcome_at, unread_at};
+pub use probing::{ask_on, is_free_at, probe};
+pub use unread::{ProtocolVersion, Unread, version_in};

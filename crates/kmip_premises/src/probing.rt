@@ -1,5 +1,5 @@
 //! The questions, one after the other over a link.
-ghost use Rattle.std.specs.Prelude.{◌≡◌, ◌≤◌, ◌<◌, ◌+◌, ◌-◌, ◌++◌, [], ◌∷◌, ℕ, Some, None, Option, List, length, map, take, drop, flat_map, slice_get, IfOk, IsTrue, option_map};
+ghost use Rattle.std.specs.Prelude.{◌≡◌, ◌⊎◌, ◌≤◌, ◌<◌, ◌+◌, ◌-◌, ◌++◌, [], ◌∷◌, ℕ, Some, None, Option, List, length, map, take, drop, flat_map, slice_get, IfOk, OnOk, IsTrue, option_map};
 ghost use Rattle.std.specs.List.{All};
 ghost use Rattle.kmip_schedule.specs.Past.{Names};
 ghost use Rattle.kmip_ttlv.specs.Spelling.{canon};
@@ -9,11 +9,12 @@ ghost use Rattle.kmip_premises.specs.Answers.{answer_to, uids_told, IsLawful};
 ghost use Rattle.kmip_premises.specs.Asking.{is_free_at, next_inquiry, uid_of, request_for, messages_from, AreAnswers};
 ghost use Rattle.kmip_premises.specs.Inquiries.{is_prefix};
 ghost use Rattle.kmip_premises.specs.Serving.{IsUnprobed, outcomes_of};
-ghost use Rattle.kmip_premises.specs.Standing.{ProbeLaws};
-ghost use Rattle.kmip_premises.specs.Putting.{HasAsked, HasReplied, HasSent, HasServedNext};
+ghost use Rattle.kmip_premises.specs.Standing.{AreServed, ProbeLaws};
+ghost use Rattle.kmip_premises.specs.Putting.{AsksOn, HasAsked, HasReplied, HasSent, HasServedNext};
 
 use crate::answer::{Answer, answer_to};
 use crate::inquiry::{Inquiry, QUESTIONS, Which, ask_of, inquiry_at, name_of};
+use kmip_batches::laws::answer_laws;
 use kmip_batches::write_request;
 use kmip_messages::{Ask, Request};
 use kmip_objects::laws::{added_laws, found_laws, restated_laws};
@@ -43,17 +44,59 @@ pub fn probe<L: Link>(alloc: Global, prefix: &str, link: &mut L) -> Result<Vec<A
         → IsUnprobed prefix.now (L.past link.old) → IfOk result (λ answers. (first second : List ℕ)
         × (answers.items ≡ map Answer.Told (outcomes_of prefix.now first second))) }
 {
+    let mut answers = Vec::new(alloc);
+    ask_on(alloc, prefix, link, QUESTIONS, &mut answers)?;
+    Ok(answers)
+}
+
+/// Asks on behind the answers that have come, one question after the other over the link, until there
+/// are `most`, and appends what came of each. Where one of the names is there already, or it could not
+/// be told, nothing more is asked. A question about an identifier that no answer told is passed over.
+///
+/// What was asked and heard by then is as it would be of one probe: where the answers at first had come
+/// of its first questions, those at the end have come of these and of the next ones.
+///
+/// # Errors
+/// Where there is no memory; what came until then is appended, and what was made stays.
+pub fn ask_on<L: Link>(
+    alloc: Global,
+    prefix: &str,
+    link: &mut L,
+    most: usize,
+    answers: &mut Vec<Answer>,
+) -> Result<(), NoMemory>
+    requires prefix { IsTrue (is_prefix prefix.now) }
+    requires lawful { All IsLawful answers.old.items }
+    requires fewer { length answers.old.items ≤ most }
+    requires most { most ≤ QUESTIONS }
+    ensures lawful { All IsLawful answers.new.items }
+    ensures onward { (more : List Answer) × (answers.new.items ≡ answers.old.items ++ more) }
+    ensures whole { OnOk result ((next_inquiry answers.new.items ≡ None)
+        ⊎ (length answers.new.items ≡ most)) }
+    ensures most { length answers.new.items ≤ most }
+    ensures few { (names : Names) → L.honest link.old names
+        → length (L.past link.new).sent + length answers.old.items
+        ≤ length (L.past link.old).sent + most }
+    ensures each { (names : Names) → L.honest link.old names → OnOk result
+        (length (L.past link.new).sent + length answers.old.items
+        ≤ length (L.past link.old).sent + length answers.new.items) }
+    ensures asked { (names : Names) → L.honest link.old names → L.honest link.new names
+        × OnOk result (AsksOn prefix.now answers.old.items answers.new.items
+        (L.past link.old) (L.past link.new)) }
+    ensures served { (names : Names) → L.calm link.old names
+        → AreServed prefix.now answers.old.items (L.past link.old) → OnOk result
+        (L.calm link.new names × AreServed prefix.now answers.new.items (L.past link.new)) }
+{
     laws_below();
     L::calm_laws();
-    let mut answers = Vec::new(alloc);
-    for _ in 0..QUESTIONS {
+    for _ in answers.len()..most {
         let Some(inquiry) = next_inquiry(answers.as_slice()) else {
-            return Ok(answers);
+            return Ok(());
         };
         let answer = put(alloc, prefix, link, inquiry, answers.as_slice())?;
         answers.push(answer)?;
     }
-    Ok(answers)
+    Ok(())
 }
 
 /// The laws of the crates below.
@@ -172,6 +215,7 @@ fn ask<L: Link>(
         (L.past link.old) (L.past link.new)) }
 {
     deliveries_keep_the_requests();
+    answer_laws();
     L::calm_laws();
     let bytes = write_request(alloc, std::slice::from_ref(request))?;
     let Ok(handed) = answer_or_loss(link.exchange(alloc, bytes.as_slice())) else {

@@ -1,2 +1,4 @@
 pub mod Wording
+pub mod LookText
 pub mod ProbeText
+pub mod Midway

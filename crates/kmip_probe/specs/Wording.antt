@@ -65,9 +65,12 @@ finding_of findings premise.DestroyedAreFound = findings.destroyed_are_found
 finding_of findings premise.AttributesAreTold = findings.attributes_are_told
 finding_of findings premise.IdsAreEchoed = findings.ids_are_echoed
 
--- the line of a premise
+-- the line of a premise, of which this is found
+abbrev pub line_text : Premise → Finding → List ℕ
+line_text p finding = premise_text p ++ codes ": " ++ finding_text finding ++ codes "\n"
+
 abbrev pub premise_line : Findings → Premise → List ℕ
-premise_line findings p = premise_text p ++ codes ": " ++ finding_text (finding_of findings p) ++ codes "\n"
+premise_line findings p = line_text p (finding_of findings p)
 
 -- the line of what may go wrong; none where the premise is not seen to be broken
 abbrev pub is_broken : Finding → Bool
@@ -110,7 +113,14 @@ sum_text findings =
     then codes "no key is made twice or destroyed too early here, but keys may stay unfinished\n"
     else codes "not all could be told: see the reasons, or probe again with another prefix\n"))
 
+-- what is printed behind the lines of the premises: the reasons, what may go wrong, and the sum
+abbrev pub ending_text : Findings → List ℕ
+ending_text findings = reasons_line findings ++ flat_map (risk_line findings) PREMISES ++ sum_text findings
+
 -- all that is printed
 abbrev pub report_text : Findings → List ℕ
-report_text findings =
-    flat_map (premise_line findings) PREMISES ++ reasons_line findings ++ flat_map (risk_line findings) PREMISES ++ sum_text findings
+report_text findings = flat_map (premise_line findings) PREMISES ++ ending_text findings
+
+-- Private: what is left of it behind the lines of all premises but the last
+abbrev pub rest_text : Findings → List ℕ
+rest_text findings = premise_line findings premise.IdsAreEchoed ++ ending_text findings

@@ -2,10 +2,12 @@
 //! in words, over any writer or in memory.
 #![tactic(auto)]
 
+mod looking;
 mod premise;
 mod running;
+mod telling;
+mod unread;
 mod wording;
 
 pub use premise::{PREMISES, Premise, finding_of};
 pub use running::{probe_bytes, run_probe};
-pub use wording::{are_all_kept, report};

@@ -29,6 +29,26 @@ pub const PREMISES: [Premise; 8] = [
     Premise::IdsAreEchoed,
 ];
 
+/// The premises that are told first, once `EARLY_ANSWERS` questions were asked: no later answer speaks
+/// of them.
+pub(crate) const EARLY: [Premise; 1] = [Premise::NamesAreUnique];
+
+/// How many questions are asked before the first premise is told.
+pub(crate) const EARLY_ANSWERS: usize = 8;
+
+/// The premises behind them, which are told once `LATE_ANSWERS` questions were asked.
+pub(crate) const LATE: [Premise; 6] = [
+    Premise::NamesStayUsed,
+    Premise::StepsCountOnce,
+    Premise::ActiveIsKept,
+    Premise::ObjectsAreFound,
+    Premise::DestroyedAreFound,
+    Premise::AttributesAreTold,
+];
+
+/// How many questions are asked before all premises but the last are told.
+pub(crate) const LATE_ANSWERS: usize = 23;
+
 impl Premise {
     /// The premise in words.
     pub fn text(self) -> &'static str

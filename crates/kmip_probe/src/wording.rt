@@ -4,6 +4,7 @@ ghost use Rattle.std.specs.List.{list_all, list_any};
 ghost use Rattle.std.specs.Fmt.{decimal};
 ghost use Rattle.kmip_probe.specs.Wording.{
   are_all_kept,
+  ending_text,
   finding_of,
   finding_text,
   flaw_text,
@@ -12,7 +13,7 @@ ghost use Rattle.kmip_probe.specs.Wording.{
   is_unsafe,
   listed,
   premise_line,
-  report_text,
+  rest_text,
   risk_line,
   sum_text,
 };
@@ -90,7 +91,7 @@ fn is_broken(finding: &Finding) -> bool
 }
 
 /// Whether every premise is kept.
-pub fn are_all_kept(findings: &Findings) -> bool
+pub(crate) fn are_all_kept(findings: &Findings) -> bool
     ensures { result ≡ are_all_kept findings.now }
 {
     PREMISES
@@ -178,33 +179,49 @@ fn push_rest(alloc: Global, reasons: &[u32], text: &mut String) -> Result<(), No
     Ok(())
 }
 
-/// All that is printed of what a probe found.
+/// What is printed of what a probe found behind the lines that are told before it ends: the line of the
+/// last premise, the reasons, what may go wrong, and the sum.
 ///
 /// # Errors
 /// Where there is no memory.
-pub fn report(alloc: Global, findings: &Findings) -> Result<String, NoMemory>
-    ensures { IfOk result (λ text. string_bytes text ≡ report_text findings.now) }
+pub(crate) fn rest_of_report(alloc: Global, findings: &Findings) -> Result<String, NoMemory>
+    ensures { IfOk result (λ text. string_bytes text ≡ rest_text findings.now) }
 {
-    let mut text = premise_lines(alloc, findings)?;
+    let mut text = premise_line(alloc, findings, Premise::IdsAreEchoed)?;
+    let end = ending_text(alloc, findings)?;
+    text.push_str(end.as_str())?;
+    Ok(text)
+}
+
+/// What is printed behind the lines of the premises.
+///
+/// # Errors
+/// Where there is no memory.
+fn ending_text(alloc: Global, findings: &Findings) -> Result<String, NoMemory>
+    ensures { IfOk result (λ text. string_bytes text ≡ ending_text findings.now) }
+{
     let reasons = listed(alloc, findings.reasons.as_slice())?;
-    let line = format!(in alloc; "reasons seen: {reasons}\n")?;
-    text.push_str(line.as_str())?;
+    let mut text = format!(in alloc; "reasons seen: {reasons}\n")?;
     let risks = risk_lines(alloc, findings)?;
     text.push_str(risks.as_str())?;
     text.push_str(sum_text(findings))?;
     Ok(text)
 }
 
-/// The lines of the premises.
+/// The lines of some premises.
 ///
 /// # Errors
 /// Where there is no memory.
-fn premise_lines(alloc: Global, findings: &Findings) -> Result<String, NoMemory>
+pub(crate) fn lines_of(
+    alloc: Global,
+    findings: &Findings,
+    premises: &[Premise],
+) -> Result<String, NoMemory>
     ensures { IfOk result (λ text. string_bytes text
-        ≡ flat_map (premise_line findings.now) PREMISES) }
+        ≡ flat_map (premise_line findings.now) premises.now) }
 {
     let mut text = String::new(alloc);
-    for premise in premises() {
+    for premise in premises {
         let line = premise_line(alloc, findings, *premise)?;
         text.push_str(line.as_str())?;
     }

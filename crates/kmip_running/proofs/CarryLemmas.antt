@@ -324,7 +324,7 @@ left_last (Err e) (Err f) last same stop fault (inr is) = absurd cc
 -- as many exchanges were made as may be, where it was not given up
 pub unless_given_up : (result : Result Stop SaveFault) (made limit : ℕ) (tired : Bool) → (result ≡ Ok stops.Limit → (made ≡ limit) ⊎ (tired ≡ true))
     → tired ≡ false → result ≡ Ok stops.Limit → made ≡ limit
-unless_given_up result made limit tired at fresh is = elim (at is) [ | inl all ↦ all | inr gave ↦ absurd cc ]
+unless_given_up result made limit tired at fresh is = elim (at is) [ inl all ↦ all | inr gave ↦ absurd cc ]
 
 module _ {L : Type 0} (past : L → Past) (honest calm : L → Names → Type 0) where
   -- over a calm link, with as many exchanges as the plan is bounded by, all keys are finished

@@ -1,6 +1,6 @@
 -- Private: what a run sees of the keys, and when it gets on by an exchange.
 -- Source: own.
-use Rattle.std.specs.Prelude.{◌≡◌, ◌<◌, ℕ, Bool, true, false, ◌&&◌, ◌||◌, not, nat_lt, List, length, Some, slice_get}
+use Rattle.std.specs.Prelude.{◌≡◌, ℕ, Bool, true, false, ◌&&◌, ◌||◌, not, nat_lt, List, Some, slice_get}
 use Rattle.std.specs.Option.{is_some}
 use Rattle.kmip_chains.specs.declared.key.Key.{Key}
 use Rattle.kmip_client.specs.Clients.{done_at, identifier_at, is_told_at, verdict_at}

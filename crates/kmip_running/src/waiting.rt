@@ -1,5 +1,5 @@
 //! Waits between the exchanges of a run that gets nowhere.
-ghost use Rattle.std.specs.Prelude.{◌≡◌, ◌≤◌, ◌+◌, ℕ, false, IsTrue};
+ghost use Rattle.std.specs.Prelude.{◌≡◌, ◌≤◌, ◌+◌, ℕ, None, not, false, IsTrue};
 ghost use Rattle.kmip_running.specs.Waits.{longest_wait, wait_after};
 
 use crate::patience::Patience;

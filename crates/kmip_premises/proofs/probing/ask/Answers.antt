@@ -27,7 +27,7 @@ returns-clause-served g c = λ names calm.
     let asks = subst (λ m. parts_in m ≡ Ok c.args.request.now ∷ []) (sym c.as_slice.ensures.value) (c.in_ok-bytes.ensures.parts ∙ ap (map Ok) c.from_ref.ensures.value) in (
       still,
       weaken c.answer_to.result
-          (λ answer told. replied_by names (g.L.Link.past c.args.link.now) (g.L.Link.past c.exchange.new.self) c.as_slice.result.now c.args.request.now c.args.number
+          (λ answer told. replied_by c.answer_laws.ensures.read names (g.L.Link.past c.args.link.now) (g.L.Link.past c.exchange.new.self) c.as_slice.result.now c.args.request.now c.args.number
           c.args.prefix.now answer _ _ asks exchanged (sym c.in-Ok.ensures) told)
           c.answer_to.ensures.answer,
     )

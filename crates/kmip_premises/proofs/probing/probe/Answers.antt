@@ -1,85 +1,31 @@
--- Each turn asks one question more.
-use Rattle.std.proofs.Common.{◌+◌, [], ◌∷◌, length, sym, subst, ap, ◌∙◌, arith}
-use Rattle.std.specs.List.{All}
-use Rattle.std.proofs.lemmas.Result.{err_from_is_err_and}
-use Rattle.std.proofs.lemmas.List.{length-append}
-use Rattle.std.proofs.lemmas.List.Elements.{All-push}
-use Rattle.kmip_premises.specs.Answers.{IsLawful}
-use Rattle.kmip_premises.specs.Asking.{next_inquiry}
-use Rattle.kmip_premises.specs.Putting.{AreAsked, HasAsked, HasServedNext}
-use Rattle.kmip_premises.specs.Standing.{AreServed}
-use Rattle.kmip_premises.proofs.ProbingLemmas.{asked_more}
-use Rattle.kmip_premises.proofs.ServedLemmas.{all_served, goes_on, one_served}
+-- A probe asks on from no answer.
+use Rattle.std.proofs.Common.{◌∙◌, arith}
+use Rattle.kmip_premises.proofs.ProbingLemmas.{all_done, nothing_asked}
+use Rattle.kmip_premises.proofs.ServedLemmas.{all_answered, none_served}
 use Rattle.kmip_premises.proofs.probing.probe.Goals as goal
 
-pub returns-in_default-clause-few : goal.returns-in_default-clause-few
-returns-in_default-clause-few g c = λ names honest. let few = c.loop.invariant.few names honest in let end = c.loop.auto.counter-end in omega (arith, few, end)
-
-pub returns-in_default-clause-kept : goal.returns-in_default-clause-kept
-returns-in_default-clause-kept g c = λ names calm free.
-    let served = (c.loop.invariant.served names calm free).1 in
-    let none = ap next_inquiry (sym c.as_slice.ensures.value) ∙ sym c.next_inquiry.ensures ∙ c.in_default.is in
-    absurd (goes_on c.args.prefix.now c.loop.answers.items (g.L.Link.past c.loop.link) (omega (arith, c.loop.invariant.count, c.loop-test.true)) served none)
-
-pub returns-in_err-answer-clause-few : goal.returns-in_err-answer-clause-few
-returns-in_err-answer-clause-few g c = λ names honest.
-    let few = c.loop.invariant.few names honest in
-    let more = c.put.ensures.few names (c.loop.invariant.asked names honest).0 in
-    omega (arith, few, more, c.loop-test.true)
-
-pub returns-in_err-push-clause-few : goal.returns-in_err-push-clause-few
-returns-in_err-push-clause-few g c = λ names honest.
-    let few = c.loop.invariant.few names honest in
-    let more = c.put.ensures.few names (c.loop.invariant.asked names honest).0 in
-    omega (arith, few, more, c.loop-test.true)
+pub returns-clause-whole : goal.returns-clause-whole
+returns-clause-whole g c = all_done c.ask_on.new.answers.items c.in_ok-ask_on.ensures.whole
 
 pub returns-clause-few : goal.returns-clause-few
-returns-clause-few g c = λ names honest. let few = c.loop.invariant.few names honest in let end = c.loop.auto.counter-end in omega (arith, few, end)
+returns-clause-few g c = λ names honest. let few = c.ask_on.ensures.few names honest in omega (arith, few)
+
+pub returns-in_err-ask_on-clause-few : goal.returns-in_err-ask_on-clause-few
+returns-in_err-ask_on-clause-few g c = λ names honest. let few = c.ask_on.ensures.few names honest in omega (arith, few)
+
+pub returns-clause-sent : goal.returns-clause-sent
+returns-clause-sent g c = λ names honest.
+    let (still, asked) = c.in_ok-ask_on.ensures.asked names honest in
+    (still, (asked (g.L.Link.past c.args.link.now) (nothing_asked c.args.prefix.now c.new-answers.result.items (g.L.Link.past c.args.link.now) c.new-answers.ensures.items)).sent)
+
+pub returns-clause-heard : goal.returns-clause-heard
+returns-clause-heard g c = λ names honest.
+    let (still, asked) = c.in_ok-ask_on.ensures.asked names honest in
+    let all = asked (g.L.Link.past c.args.link.now) (nothing_asked c.args.prefix.now c.new-answers.result.items (g.L.Link.past c.args.link.now) c.new-answers.ensures.items) in
+    (all.given, all.handed, all.heard)
 
 pub returns-clause-kept : goal.returns-clause-kept
 returns-clause-kept g c = λ names calm free.
-    all_served c.args.prefix.now c.loop.answers.items (g.L.Link.past c.loop.link)
-    (omega (arith, c.loop.invariant.count, c.loop.auto.counter-end, c.loop-test.false)) (c.loop.invariant.served names calm free).1
-
-pub loop-preserved : goal.loop-preserved
-loop-preserved g c =
-    let pushed = c.in_ok-push.ensures.items in
-    record {
-      count = ap length pushed ∙ length-append c.loop.answers.items (c.in_ok-answer.answer ∷ []) ∙ ap (λ n. n + 1) c.loop.invariant.count;
-      lawful = subst (All IsLawful) (sym pushed) (All-push IsLawful c.loop.answers.items c.in_ok-answer.answer c.loop.invariant.lawful c.in_ok-answer.ensures.lawful);
-      asked = λ names honest.
-          let (before, asked) = c.loop.invariant.asked names honest in
-          let (still, once) = c.in_ok-answer.ensures.asked names before in
-          let p = g.L.Link.past in
-          let slice = c.as_slice-in-loop.ensures.value in (
-            still,
-            subst (λ xs. AreAsked c.args.prefix.now xs (p c.args.link.now) (p c.put.new.link)) (sym pushed)
-                (asked_more c.args.prefix.now c.loop.answers.items c.in_ok-answer.answer (p c.args.link.now) (p c.loop.link) (p c.put.new.link) asked
-                (subst (λ xs. HasAsked c.args.prefix.now xs c.in_ok-answer.answer (p c.loop.link) (p c.put.new.link)) slice once)),
-          );
-      few = λ names honest.
-          let few = c.loop.invariant.few names honest in
-          let more = c.put.ensures.few names (c.loop.invariant.asked names honest).0 in
-          omega (arith, few, more);
-      served = λ names calm free.
-          let (before, served) = c.loop.invariant.served names calm free in
-          let (still, once) = c.in_ok-answer.ensures.served names before in
-          let p = g.L.Link.past in
-          let slice = c.as_slice-in-loop.ensures.value in (
-            still,
-            subst (λ xs. AreServed c.args.prefix.now xs (p c.put.new.link)) (sym pushed)
-                (one_served c.laws_below.ensures c.args.prefix.now c.loop.answers.items c.in_ok-answer.answer (p c.loop.link) (p c.put.new.link)
-                (omega (arith, c.loop.invariant.count, c.loop-test.true)) served
-                (subst (λ xs. HasServedNext c.args.prefix.now xs c.in_ok-answer.answer (p c.loop.link) (p c.put.new.link)) slice once)),
-          );
-    }
-
-pub returns-in_err-answer-clause-sent : goal.returns-in_err-answer-clause-sent
-returns-in_err-answer-clause-sent g c = λ names honest.
-    let still = (c.put.ensures.asked names (c.loop.invariant.asked names honest).0).0 in
-    let fault = err_from_is_err_and c.from_residual.result c.from_residual.ensures.1 in rw fault.1 (still, tt)
-
-pub returns-in_err-push-clause-sent : goal.returns-in_err-push-clause-sent
-returns-in_err-push-clause-sent g c = λ names honest.
-    let still = (c.put.ensures.asked names (c.loop.invariant.asked names honest).0).0 in
-    let fault = err_from_is_err_and c.from_residual-in_err-push.result c.from_residual-in_err-push.ensures.1 in rw fault.1 (still, tt)
+    let p = g.L.Link.past in
+    let (still, served) = c.in_ok-ask_on.ensures.served names calm (none_served c.args.prefix.now c.new-answers.result.items (p c.args.link.now) c.new-answers.ensures.items free) in
+    all_answered c.args.prefix.now c.ask_on.new.answers.items (p c.ask_on.new.link) c.in_ok-ask_on.ensures.most c.in_ok-ask_on.ensures.whole served

@@ -1,12 +1,14 @@
 -- Exchange by exchange.
-use Rattle.std.proofs.Common.{◌≡◌, ◌∙◌, Ok, ap, refl, rules, arith}
+use Rattle.std.proofs.Common.{◌≡◌, ◌∙◌, Ok, ap, length, sym, refl, rules, arith}
 use Rattle.kmip_schedule.specs.Past.{is_planned}
 use Rattle.kmip_session.specs.Losing.{left_for}
 use Rattle.kmip_session.specs.declared.stop.Stop.TheVariants as stops
-use Rattle.kmip_running.proofs.CarryLemmas.{carried_none, carried_then, carrying_more, carrying_none, drove}
+use Rattle.kmip_running.proofs.CarryLemmas.{carried_none, carried_then, carried_unbegun, carrying_more, carrying_none, drove}
 use Rattle.kmip_running.proofs.RefusalLemmas.{rises_from}
 use Rattle.kmip_running.proofs.LosingLemmas.{limit_in_memory, paid_none}
+use Rattle.kmip_running.proofs.PatienceLemmas.{still_patient}
 use Rattle.kmip_running.proofs.carrying.exchange_in_turn.Goals as goal
+use Rattle.kmip_running.proofs.carrying.exchange_in_turn.Goals.{else-made-limit-via-then-made-limit+else-not-go_on, else-made-limit-via-else-made-limit}
 
 pub returns-then-limit-eq0-clause-carried : goal.returns-then-limit-eq0-clause-carried
 returns-then-limit-eq0-clause-carried g c =
@@ -24,6 +26,8 @@ pub loop-made-init : goal.loop-made-init
 loop-made-init g c = record {
   carrying =
       carrying_none g.L.Link.past g.L.Link.honest g.L.Link.calm g.K.Keeper.keeps g.K.Keeper.saved c.laws_below.ensures c.args.client.now c.args.link.now c.args.keeper.now;
+  as_many = search rules;
+  patient = refl;
   counted = omega arith;
   ended = λ honest. refl;
   paid = λ good. paid_none (left_for c.args.client.now (g.L.Link.past c.args.link.now)) (g.L.Link.disturbances c.args.link.now);
@@ -39,12 +43,21 @@ returns-then-not-is_at_limit-clause-carried g c =
 pub loop-made-preserved : goal.loop-made-preserved
 loop-made-preserved g c =
     let step = c.exchange_once-carried in
+    let tired = g.P.Patience.has_given_up in
     let limit : step.result.0 ≡ Ok stops.Limit = search rules in
     record {
       carrying =
           carrying_more g.L.Link.past g.L.Link.honest g.L.Link.calm g.K.Keeper.keeps g.K.Keeper.saved c.laws_below.ensures c.args.client.now c.loop-made.client
           step.new.client c.args.link.now c.loop-made.link step.new.link c.args.keeper.now c.loop-made.keeper step.new.keeper step.result.0 c.loop-made.made step.result.1
           c.plan-plan.ensures.lawful c.loop-made.invariant.carrying step.ensures.carried limit (step.ensures.limit limit) step.ensures.stands;
+      as_many = c.tell.ensures.as_many ∙ c.loop-made.invariant.as_many ∙ ap length (sym step.ensures.carried.went.keeps.keys_stay);
+      patient =
+          elim c.else-made-limit.branch [
+            | else-made-limit-via-then-made-limit+else-not-go_on w ↦
+                let still = still_patient (tired c.tell.new.patience) (tired w.go_on.new.self) w.go_on.result w.if-not-go_on.false w.go_on.ensures.says w.go_on.ensures.for_good in
+                ap tired w.patience-is ∙ still ∙ c.tell.ensures.stays ∙ c.loop-made.invariant.patient
+            | else-made-limit-via-else-made-limit w ↦ ap tired w.patience-is ∙ c.tell.ensures.stays ∙ c.loop-made.invariant.patient
+          ];
       counted = omega (arith, c.loop-made.invariant.counted, step.ensures.counted);
       ended = λ honest.
           let still = (c.loop-made.invariant.carrying.carried.went.known honest).0 in
@@ -55,6 +68,20 @@ loop-made-preserved g c =
           let one = step.ensures.limit limit in
           omega (arith, first, second, one);
     }
+
+pub returns-in_default-clause-carried : goal.returns-in_default-clause-carried
+returns-in_default-clause-carried g c =
+    carried_unbegun g.L.Link.past g.L.Link.honest g.L.Link.calm g.K.Keeper.keeps g.K.Keeper.saved c.laws_below.ensures c.args.client.now c.args.link.now c.args.keeper.now
+
+pub returns-then-not-go_on-clause-carried : goal.returns-then-not-go_on-clause-carried
+returns-then-not-go_on-clause-carried g c =
+    let step = c.exchange_once-carried in
+    let limit : step.result.0 ≡ Ok stops.Limit = search rules in
+    let more =
+    carrying_more g.L.Link.past g.L.Link.honest g.L.Link.calm g.K.Keeper.keeps g.K.Keeper.saved c.laws_below.ensures c.args.client.now c.loop-made.client
+    step.new.client c.args.link.now c.loop-made.link step.new.link c.args.keeper.now c.loop-made.keeper step.new.keeper step.result.0 c.loop-made.made step.result.1
+    c.plan-plan.ensures.lawful c.loop-made.invariant.carrying step.ensures.carried limit (step.ensures.limit limit) step.ensures.stands in
+    more.carried
 
 pub returns-then-not-is_at_limit-clause-ended : goal.returns-then-not-is_at_limit-clause-ended
 returns-then-not-is_at_limit-clause-ended g c = λ honest.

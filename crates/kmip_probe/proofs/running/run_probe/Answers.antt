@@ -1,0 +1,6 @@
+-- A probe reads nothing, so no fault of a reader ends it.
+use Rattle.kmip_probe.proofs.EndLemmas.{ends_without_input}
+use Rattle.kmip_probe.proofs.running.run_probe.Goals as goal
+
+pub returns-clause-no_input : goal.returns-clause-no_input
+returns-clause-no_input g c = ends_without_input _ _ _ _ c.finished.ensures c.write_probe-ended.ensures.no_input
