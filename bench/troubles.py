@@ -258,6 +258,9 @@ class Troubles:
         for what, words in [('a reply', b'HTTP/1.1 400 Bad Request\r\n\r\n'), ('the first word', b'HTTP/')]:
             self.no_reply(f'a peer that says {what} of HTTP', saying(words), f'{NO_KMIP}: it answers in HTTP')
         self.no_reply('a peer that says something else', saying(b'220 mail.example.org\r\n'), NO_KMIP)
+        self.no_reply('a peer that begins a long reply', saying(bytes.fromhex('42007b0100003000')),
+                      'a reply of 12296 bytes came, where 8192 are the most')
+        self.no_reply('a peer that says nearly the head of a reply', saying(bytes.fromhex('42007b0100000004')), NO_KMIP)
         self.no_reply('a peer that speaks KMIP 1.0', of_version_one, 'an unreadable reply (Version: KMIP 1.0)')
 
     def refused_connections(self):

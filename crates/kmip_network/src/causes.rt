@@ -5,7 +5,7 @@ use std::io::{Error, ErrorKind};
 
 /// What cannot be done with a file or a socket.
 #[derive(Clone, Copy)]
-pub(crate) enum Cannot {
+pub enum Cannot {
     /// A file is not read.
     Read,
     /// A file beside a progress is not written, so that nothing is asked.

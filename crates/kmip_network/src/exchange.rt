@@ -5,7 +5,7 @@ use crate::wire::Wire;
 use kmip_batches::read_reply;
 use kmip_fields::MessageFault;
 use kmip_messages::{Outcome, Reply, Request};
-use kmip_premises::{ProtocolVersion, version_in};
+use kmip_premises::version_in;
 use kmip_schedule::LinkFault;
 use kmip_ttlv::{Bytes, NoMemory};
 use kmip_wording::requests_in;
@@ -60,14 +60,8 @@ impl Exchange {
                 replies,
                 silence: None,
             }),
-            Err(fault) => {
-                if fault.is_no_memory() {
-                    return Err(NoMemory);
-                }
-                let version = refused_version(fault, reply);
-                let silence = Silence::Unreadable(fault, version);
-                Ok(Exchange::silent(alloc, requests, silence))
-            }
+            Err(MessageFault::NoMemory) => Err(NoMemory),
+            Err(fault) => Ok(Exchange::silent(alloc, requests, unreadable(fault, reply))),
         }
     }
 
@@ -100,6 +94,15 @@ impl Exchange {
     }
 }
 
+/// Why bytes with this fault are no reply.
+fn unreadable(fault: MessageFault, reply: &[u8]) -> Silence {
+    let version = match fault {
+        MessageFault::Version => version_in(reply),
+        _ => None,
+    };
+    Silence::Unreadable(fault, version)
+}
+
 /// The bytes of an id; none where there is none.
 fn id_bytes(id: &Option<Bytes>) -> &[u8] {
     match id {
@@ -113,14 +116,5 @@ pub(crate) fn name_of(request: &Request) -> &[u8] {
     match id_bytes(&request.id) {
         [_, name @ ..] => name,
         [] => &[],
-    }
-}
-
-/// The version that a reply tells, where it is unreadable for its version.
-fn refused_version(fault: MessageFault, reply: &[u8]) -> Option<ProtocolVersion> {
-    if matches!(fault, MessageFault::Version) {
-        version_in(reply)
-    } else {
-        None
     }
 }

@@ -4,7 +4,7 @@ use crate::failure::Failure;
 use crate::peer_talk::PeerTalk;
 use kmip_fields::MessageFault;
 use kmip_premises::ProtocolVersion;
-use kmip_ttlv::NoMemory;
+use kmip_ttlv::{MAX_SIZE, NoMemory};
 use std::alloc::Global;
 use std::io::Error;
 
@@ -16,6 +16,8 @@ pub(crate) enum Silence {
     Cut,
     /// What came is no KMIP.
     NoKmip(PeerTalk),
+    /// A reply of so many bytes, which are too many.
+    TooLong(u64),
     /// A message came that is no reply, in this version of KMIP where it tells one.
     Unreadable(MessageFault, Option<ProtocolVersion>),
     NoMemory,
@@ -32,6 +34,12 @@ impl Silence {
             Silence::Cut => copied(alloc, "the connection was closed within a reply"),
             Silence::NoKmip(talk) => {
                 let text = format!(in alloc; "bytes came that are no KMIP{}", talk.text())?;
+                Ok(text)
+            }
+            Silence::TooLong(size) => {
+                let text = format!(in alloc;
+                    "a reply of {size} bytes came, where {MAX_SIZE} are the most"
+                )?;
                 Ok(text)
             }
             Silence::Unreadable(fault, version) => unreadable_text(alloc, fault, version),

@@ -4,6 +4,7 @@ use crate::failure::Failure;
 use crate::peer_talk::PeerTalk;
 use crate::silence::Silence;
 use kmip_schedule::LinkFault;
+use kmip_ttlv::{HEAD_SIZE, MAX_SIZE};
 use std::cell::Cell;
 use std::io::Error;
 
@@ -60,6 +61,7 @@ impl Wire {
         let noted = first.get(..self.count.get()).unwrap_or(&[]);
         match (PeerTalk::of(noted), fault) {
             (_, Some(LinkFault::NoMemory)) => Silence::NoMemory,
+            (PeerTalk::Kmip, Some(LinkFault::Frame)) => bad_head(noted),
             (PeerTalk::Tls | PeerTalk::Http | PeerTalk::Other, _) | (_, Some(LinkFault::Frame)) => {
                 Silence::NoKmip(PeerTalk::of(noted))
             }
@@ -70,5 +72,21 @@ impl Wire {
                 Silence::Failed(self.failure.get().unwrap_or(Failure::Late))
             }
         }
+    }
+}
+
+/// Why a head that begins as one of a message is none: it is of too long a message, or else no KMIP.
+fn bad_head(head: &[u8]) -> Silence {
+    match head {
+        [_, _, _, _, first, second, third, fourth] => {
+            let behind = u32::from_be_bytes([*first, *second, *third, *fourth]);
+            let size = u64::from(behind).saturating_add(HEAD_SIZE as u64);
+            if size > MAX_SIZE as u64 {
+                Silence::TooLong(size)
+            } else {
+                Silence::NoKmip(PeerTalk::Kmip)
+            }
+        }
+        _ => Silence::NoKmip(PeerTalk::Kmip),
     }
 }

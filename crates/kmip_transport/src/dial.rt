@@ -9,7 +9,7 @@ use std::thread;
 use std::time::{Clock, Duration, Instant};
 
 /// How long to wait before a server that takes no more connections for now is tried again.
-const PAUSE: Duration = Duration::from_millis(20);
+const PAUSE: u64 = 20;
 
 /// Opens streams to one server, and limits how long they wait.
 pub trait Dial {
@@ -98,10 +98,10 @@ impl<R: Net + Clock + Drop> Dial for Unix<R> {
     }
 
     fn dial(&self, left: Duration) -> io::Result<UnixStream> {
-        for _ in 0..left.as_millis() / PAUSE.as_millis() {
+        for _ in 0..left.as_millis() / Duration::from_millis(PAUSE).as_millis() {
             match self.connect() {
                 Err(error) if error.kind() == ErrorKind::WouldBlock => {
-                    thread::sleep(&self.rt, PAUSE);
+                    thread::sleep(&self.rt, Duration::from_millis(PAUSE));
                 }
                 opened => return opened,
             }
