@@ -194,7 +194,7 @@ def without_times(line):
 class Troubles:
     def __init__(self, program, folder):
         self.program, self.folder = program, folder
-        self.cases, self.wrong = 0, 0
+        self.cases, self.wrong, self.skipped = 0, 0, 0
         self.servers = []
 
     def path(self, name):
@@ -385,13 +385,13 @@ class Troubles:
                   ['T Locate k1: found none (T ms)', 'T Create k1: created as 1 (T ms)',
                    'T Activate k1: activated 1 (T ms)'], 'stop AllFinished 3', '--verbose', status=0, where=('--loopback',))
 
-    def at_terminal(self, term, *more):
-        """What a run writes to a terminal that is called so, as it comes."""
+    def at_terminal(self, term, *more, before=()):
+        """What a run, behind these words, writes to a terminal that is called so, as it comes."""
         environment = {name: value for name, value in os.environ.items() if name != 'TERM'}
         if term is not None:
             environment['TERM'] = term
         master, slave = pty.openpty()
-        running = subprocess.Popen(self.words(*more), cwd=self.folder, stdin=subprocess.DEVNULL,
+        running = subprocess.Popen([*before, *self.words(*more)], cwd=self.folder, stdin=subprocess.DEVNULL,
                                    stdout=subprocess.DEVNULL, stderr=slave, env=environment)
         os.close(slave)
         written = b''
@@ -440,6 +440,25 @@ class Troubles:
         self.look('the line of progress, of losses', (self.at_terminal('xterm', where, ('--limit', '2')), wanted))
         listener.close()
 
+    def writes(self):
+        """The line of progress is written at once each time, so that a kill leaves no half of a sequence."""
+        what = 'each line of progress is one write'
+        self.start()
+        trace = self.path('trace')
+        tracing = ['strace', '-f', '-e', 'trace=write', '-s', '200', '-o', trace]
+        if not shutil.which('strace') or subprocess.run([*tracing, 'true'], capture_output=True).returncode:
+            print(f'{what}: skipped, as no strace can be had')
+            self.skipped += 1
+            return
+        self.at_terminal('xterm', ('--loopback',), (), before=tracing)
+        with open(trace) as traced:
+            written = re.findall(r'write\(2, "(.*)", (\d+)\) += \2$', traced.read(), re.M)
+        lines = [re.sub(r', \d+ s', ', T s', text) for text, _ in written]
+        self.look(what, (lines, [r'\r0 of 1 keys, 0 exchanges, at most 5 more, T s\33[K',
+                                 r'\r0 of 1 keys, 1 exchange, at most 5 more, T s\33[K',
+                                 r'\r0 of 1 keys, 2 exchanges, at most 3 more, T s\33[K',
+                                 r'\r1 of 1 keys, 3 exchanges, at most 0 more, T s\33[K', r'\n']))
+
     def end(self):
         for server in self.servers:
             server.kill()
@@ -458,9 +477,10 @@ def main():
         troubles.conflicts()
         troubles.many_words()
         troubles.terminals()
+        troubles.writes()
     finally:
         troubles.end()
-    print(f'{troubles.cases} cases: {troubles.wrong} wrong')
+    print(f'{troubles.cases} cases: {troubles.wrong} wrong, {troubles.skipped} skipped')
     return 1 if troubles.wrong else 0
 
 
