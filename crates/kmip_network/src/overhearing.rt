@@ -26,8 +26,11 @@ impl<'a> Overheard<'a> {
 
     /// Appends what went over it, if exchanges are told. What there is no memory for is left out.
     fn keep(&self, kept: &RefCell<Vec<u8>>, bytes: &[u8]) {
-        if self.is_told {
-            let _ = kept.borrow_mut().extend_from_slice(bytes);
+        if !self.is_told {
+            return;
+        }
+        if let Ok(mut kept) = kept.try_borrow_mut() {
+            let _ = kept.extend_from_slice(bytes);
         }
     }
 
@@ -36,11 +39,18 @@ impl<'a> Overheard<'a> {
         if !self.is_told {
             return;
         }
-        let mut request = self.request.borrow_mut();
-        let mut reply = self.reply.borrow_mut();
-        tell_exchange(self.rt, request.as_slice(), Ok(Some(reply.as_slice())));
+        if let Ok(mut request) = self.request.try_borrow_mut() {
+            self.tell_request(&mut request);
+        }
+    }
+
+    /// Tells the exchange that began with these bytes, and begins the next one.
+    fn tell_request(&self, request: &mut Vec<u8>) {
+        if let Ok(mut reply) = self.reply.try_borrow_mut() {
+            tell_exchange(self.rt, request.as_slice(), Ok(Some(reply.as_slice())));
+            reply.clear();
+        }
         request.clear();
-        reply.clear();
     }
 }
 

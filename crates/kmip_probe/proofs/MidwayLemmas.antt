@@ -26,7 +26,7 @@ told_some prefix answers told left old new whole decided written = record {
   written = subst (Appends old new) (sym (append-nil (concat told))) written;
 }
 
-broken_at : (prefix : List ℕ) (answers : List Answer) (told left : List (List ℕ)) (fault own_fault : CommandFault) (Whole : Type 0) (old between new : Option (List ℕ))
+pub broken_at : (prefix : List ℕ) (answers : List Answer) (told left : List (List ℕ)) (fault own_fault : CommandFault) (Whole : Type 0) (old between new : Option (List ℕ))
     → lines_by prefix answers ≡ told ++ left → answers_before told ≤ length answers → Appends old between (concat told) → Fails fault own_fault Whole between new
     → BreaksMidway fault own_fault Whole prefix old new
 broken_at prefix answers told left fault own_fault Whole old between new whole decided written (inl (is, kept)) =

@@ -1,22 +1,32 @@
 -- What a probe tells of its answers, from the looks to the sum.
-use Rattle.std.proofs.Common.{◌≡◌, ◌≤◌, ◌⊎◌, ℕ, List, [], ◌∷◌, ◌++◌, length, map, flat_map, true, false, Option, Some, None, Result, Ok, Err, IfOk, Bool, if◌then◌else◌, refl, sym, ap, subst, ◌∙◌, inl, inr, arith, append-nil, IsTrue}
+use Rattle.std.proofs.Common.{◌≡◌, ◌≤◌, ◌⊎◌, ℕ, List, [], ◌∷◌, ◌++◌, length, map, take, flat_map, not, true, false, Option, Some, None, Result, Ok, Err, IfOk, Bool, if◌then◌else◌, refl, sym, ap, subst, ◌∙◌, inl, inr, arith, append-nil, IsTrue}
 use Rattle.std.specs.List.{concat}
 use Rattle.std.specs.Io.KnownBytes.{Appends}
 use Rattle.std.proofs.KnownBytes.{Appends-trans}
 use Rattle.std.proofs.lemmas.List.{append_assoc, length-append}
 use Rattle.kmip_premises.specs.Asking.{is_free_at, next_inquiry}
-use Rattle.kmip_premises.specs.Judging.{AreFindings}
+use Rattle.kmip_premises.specs.Inquiries.{name_of}
+use Rattle.kmip_premises.specs.Judging.{AreFindings, answer_at}
+use Rattle.kmip_premises.specs.Laws.{ProfileKeepsAll}
+use Rattle.kmip_premises.specs.Putting.{AreAsked, AsksOn}
+use Rattle.kmip_premises.specs.Serving.{outcomes_of}
+use Rattle.kmip_premises.specs.Standing.{AreServed}
+use Rattle.kmip_premises.specs.declared.answer.Answer.TheVariants.{Told}
+use Rattle.kmip_premises.specs.declared.inquiry.Which.TheVariants.{First, Second}
+use Rattle.kmip_schedule.specs.Past.{Names, Past}
 use Rattle.kmip_premises.specs.declared.answer.Answer.{Answer}
 use Rattle.kmip_premises.specs.declared.finding.Findings.{Findings}
 use Rattle.kmip_premises.proofs.ProbingLemmas.{so_many}
-use Rattle.kmip_probe.specs.LookText.{making_text, unbegun_text}
+use Rattle.kmip_premises.proofs.ServedLemmas.{all_served, goes_on}
+use Rattle.kmip_probe.specs.LookText.{looked_text, making_text, unbegun_text}
 use Rattle.kmip_probe.specs.Midway.{line_by, lines_by}
-use Rattle.kmip_probe.specs.ProbeText.{TellsEnd}
+use Rattle.kmip_probe.specs.ProbeText.{TellsEnd, TellsFrom, WritesProbe, kept_text}
 use Rattle.kmip_commands.specs.declared.fault.CommandFault.{CommandFault}
 use Rattle.kmip_probe.specs.Wording.{report_text, rest_text}
 use Rattle.kmip_probe.specs.declared.premise.Premise.TheVariants as premise
 use Rattle.kmip_probe.specs.declared.premise.TheConstants.{EARLY, LATE}
 use Rattle.kmip_probe.proofs.StageLemmas.{early_stays, report_is}
+use Rattle.kmip_probe.proofs.ToldLemmas.{told_all}
 
 -- ---- how many answers there are
 
@@ -81,10 +91,27 @@ told_report prefix early late all more rest refused old making first second new 
       subst (λ text. Appends old new (making_text prefix ++ text)) (report_is prefix early late all more rest findings is_late is_all eight most are) whole,
     )
 
--- where the report was told
+-- ---- where the report was told
+
 pub told_if : {A : Type 0} (result : Result A CommandFault) (P Q : A → Type 0) → ((a : A) → P a → Q a) → IfOk result P → IfOk result Q
 told_if (Ok a) P Q further holds = further a holds
 told_if (Err fault) P Q further holds = tt
+
+pub always : {A : Type 0} (result : Result A CommandFault) (P : Type 0) → P → IfOk result (λ a. P)
+always (Ok a) P holds = holds
+always (Err fault) P holds = tt
+
+-- ---- answers behind answers
+
+pub farther : (first second third : List Answer) → (more : List Answer) × (second ≡ first ++ more) → (more : List Answer) × (third ≡ second ++ more)
+    → (more : List Answer) × (third ≡ first ++ more)
+farther first second third (more, is) (others, is_then) =
+    (more ++ others, is_then ∙ ap (λ xs. xs ++ others) is ∙ append_assoc first more others)
+
+pub counted : (answers all : List Answer) (most : ℕ) → (more : List Answer) × (all ≡ answers ++ more) → length answers ≡ 2
+    → IsTrue (is_free_at answers 0) → IsTrue (is_free_at answers 1)
+    → length all ≤ most → most ≤ 25 → (next_inquiry all ≡ None) ⊎ (length all ≡ most) → length all ≡ most
+counted answers all most (more, is) two first second fewer few whole = all_there answers all more most is two first second fewer few whole
 
 -- ---- the two parts of a probe
 
@@ -94,7 +121,76 @@ looked_at true true why other none = (refl, refl)
 looked_at true false why other none = absurd cc
 looked_at false second why other none = absurd cc
 
--- behind the looks the rest
+-- where no reason was told, both names are free
 pub looked_free : (prefix : List ℕ) (answers : List Answer) → unbegun_text prefix answers ≡ None
     → (is_free_at answers 0 ≡ true) × (is_free_at answers 1 ≡ true)
-looked_free prefix answers none = looked_at (is_free_at answers 0) (is_free_at answers 1) _ _ none
+looked_free prefix answers none =
+    looked_at (is_free_at answers 0) (is_free_at answers 1) (looked_text (name_of Second prefix) (answer_at answers 1))
+    (looked_text (name_of First prefix) (answer_at answers 0)) none
+
+pub still_begun : (prefix : List ℕ) (answers all : List Answer) → (more : List Answer) × (all ≡ answers ++ more) → length answers ≡ 2
+    → unbegun_text prefix answers ≡ None → unbegun_text prefix all ≡ None
+still_begun prefix answers all (more, is) two none =
+    let (first, second) = looked_free prefix answers none in
+    let still_first = still_free answers all more is two 0 (inl refl) ∙ first in
+    let still_second = still_free answers all more is two 1 (inr refl) ∙ second in rw (still_first, still_second) refl
+
+-- why nothing was made was told
+pub told_unbegun : {L : Type 0} (past : L → Past) (honest : L → Names → Type 0) (prefix : List ℕ) (answers : List Answer) (before after : L) (refused : Bool)
+    (text : List ℕ) (old new : Option (List ℕ)) → ((names : Names) → honest before names → AreAsked prefix answers (past before) (past after))
+    → Some text ≡ unbegun_text prefix answers → (refused ≡ true) × Appends old new text → WritesProbe past honest prefix before after refused old new
+told_unbegun past honest prefix answers before after refused text old new asked is (refused_is, written) = record {
+  answers = answers;
+  text = text;
+  asked = asked;
+  tells = subst (λ unbegun. TellsFrom prefix answers unbegun refused text) is (refused_is, refl);
+  written = written;
+}
+
+told_begun : {L : Type 0} (past : L → Past) (honest : L → Names → Type 0) (prefix : List ℕ) (answers : List Answer) (before after : L) (refused : Bool)
+    (old new : Option (List ℕ)) → ((names : Names) → honest before names → AreAsked prefix answers (past before) (past after))
+    → unbegun_text prefix answers ≡ None → TellsEnd (λ findings. making_text prefix ++ report_text findings) prefix answers refused old new
+    → WritesProbe past honest prefix before after refused old new
+told_begun past honest prefix answers before after refused old new asked none (findings, are, refused_is, written) = record {
+  answers = answers;
+  text = making_text prefix ++ report_text findings;
+  asked = asked;
+  tells =
+      subst (λ unbegun. TellsFrom prefix answers unbegun refused (making_text prefix ++ report_text findings)) (sym none)
+      (findings, are, refused_is, refl);
+  written = written;
+}
+
+-- what was found was told, of all questions that were asked
+pub told_on : {L : Type 0} (past : L → Past) (honest : L → Names → Type 0) (prefix : List ℕ) (begun answers : List Answer) (before between after : L)
+    (result : Result Bool CommandFault) (old new : Option (List ℕ))
+    → ((names : Names) → honest before names → honest between names × AreAsked prefix begun (past before) (past between))
+    → ((names : Names) → honest between names → IfOk result (λ r. AsksOn prefix begun answers (past between) (past after)))
+    → unbegun_text prefix answers ≡ None
+    → IfOk result (λ r. TellsEnd (λ findings. making_text prefix ++ report_text findings) prefix answers r old new)
+    → IfOk result (λ r. WritesProbe past honest prefix before after r old new)
+told_on past honest prefix begun answers before between after (Ok r) old new asked further none tells =
+    told_begun past honest prefix answers before after r old new
+    (λ names honest_before. let (still, first) = asked names honest_before in further names still (past before) first) none tells
+told_on past honest prefix begun answers before between after (Err fault) old new asked further none tells = tt
+
+-- ---- over a calm link to a server of the profile
+
+-- both names are seen to be free
+pub kept_looks : (prefix : List ℕ) (answers : List Answer) (p : Past) → length answers ≤ 2 → (next_inquiry answers ≡ None) ⊎ (length answers ≡ 2)
+    → AreServed prefix answers p → unbegun_text prefix answers ≡ None
+kept_looks prefix answers p fewer (inl none) served = absurd (goes_on prefix answers p (omega (arith, fewer)) served none)
+kept_looks prefix answers p fewer (inr two) served =
+    let is = served.answers_are ∙ ap (λ n. map Told (take n (outcomes_of prefix served.first served.second))) two in rw is refl
+
+-- and every premise is told as kept
+pub kept_on : ProfileKeepsAll → (prefix : List ℕ) (answers : List Answer) (p : Past) (result : Result Bool CommandFault) (old new : Option (List ℕ))
+    → IfOk result (λ r. AreServed prefix answers p) → IfOk result (λ r. length answers ≡ 25)
+    → IfOk result (λ r. TellsEnd (λ findings. making_text prefix ++ report_text findings) prefix answers r old new)
+    → IfOk result (λ r. (r ≡ false) × Appends old new (making_text prefix ++ kept_text))
+kept_on l prefix answers p (Err fault) old new served all tells = tt
+kept_on l prefix answers p (Ok r) old new served all (findings, are, refused_is, written) =
+    let (first, second, is) = all_served prefix answers p all served in
+    let (all_kept, report) = told_all prefix (map Told (outcomes_of prefix first second)) findings (l prefix first second)
+    (subst (λ xs. AreFindings prefix xs findings) is are) in
+    (refused_is ∙ ap not all_kept, subst (λ text. Appends old new (making_text prefix ++ text)) report written)

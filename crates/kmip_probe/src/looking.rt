@@ -23,6 +23,7 @@ use std::alloc::Global;
 ///
 /// # Errors
 /// Where there is no memory.
+#[tactic(auto, unfolding(crate::specs::LookText::making_text))]
 pub(crate) fn making_text(alloc: Global, prefix: &str) -> Result<String, NoMemory>
     ensures { IfOk result (λ text. string_bytes text ≡ making_text prefix.now) }
 {

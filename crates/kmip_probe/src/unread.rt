@@ -1,6 +1,6 @@
 //! Why a reply can't be read, in words.
 ghost use Rattle.std.specs.Prelude.{◌≡◌, ◌++◌, IfOk, OnOk, string_bytes};
-ghost use Rattle.kmip_probe.specs.LookText.{fault_text, items_text, tag_text, unread_text, version_text};
+ghost use Rattle.kmip_probe.specs.LookText.{fault_text, items_text, reason_text, tag_text, unread_text, version_text};
 
 use kmip_fields::MessageFault;
 use kmip_premises::{ProtocolVersion, Unread};
@@ -15,14 +15,28 @@ use std::alloc::Global;
 pub(crate) fn unread_text(alloc: Global, unread: Unread) -> Result<String, NoMemory>
     ensures { IfOk result (λ text. string_bytes text ≡ unread_text unread) }
 {
-    let why = match (unread.fault, unread.version) {
-        (MessageFault::Version, Some(version)) => version_text(alloc, version)?,
-        (fault, _) => fault_text(alloc, fault)?,
-    };
+    let why = reason_text(alloc, &unread.fault, unread.version)?;
     let mut text = format!(in alloc; "the server's reply can't be read (")?;
     text.push_str(why.as_str())?;
     text.push_str(")")?;
     Ok(text)
+}
+
+/// Another version, where its number is known, or the fault and what it is about.
+///
+/// # Errors
+/// Where there is no memory.
+fn reason_text(
+    alloc: Global,
+    fault: &MessageFault,
+    version: Option<ProtocolVersion>,
+) -> Result<String, NoMemory>
+    ensures { IfOk result (λ text. string_bytes text ≡ reason_text fault.now version) }
+{
+    match (fault, version) {
+        (MessageFault::Version, Some(version)) => version_text(alloc, version),
+        _ => fault_text(alloc, fault),
+    }
 }
 
 /// The version that a server answers in.
@@ -43,8 +57,8 @@ fn version_text(alloc: Global, version: ProtocolVersion) -> Result<String, NoMem
 ///
 /// # Errors
 /// Where there is no memory.
-fn fault_text(alloc: Global, fault: MessageFault) -> Result<String, NoMemory>
-    ensures { IfOk result (λ text. string_bytes text ≡ fault_text fault) }
+fn fault_text(alloc: Global, fault: &MessageFault) -> Result<String, NoMemory>
+    ensures { IfOk result (λ text. string_bytes text ≡ fault_text fault.now) }
 {
     let mut text = String::new(alloc);
     text.push_str(fault.name())?;

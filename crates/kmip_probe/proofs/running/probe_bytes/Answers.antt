@@ -1,8 +1,11 @@
 -- Want of memory leaves the text as it was.
-use Rattle.std.proofs.Common.{◌≡◌, ap, subst}
-use Rattle.kmip_commands.proofs.ForCallers.{fails_in_memory}
+use Rattle.std.proofs.Common.{◌≡◌, length, take, ap, subst, ◌∙◌}
+use Rattle.kmip_probe.proofs.MidwayLemmas.{front_is_kept}
 use Rattle.kmip_probe.proofs.running.probe_bytes.Goals as goal
 
 pub returns-in-Err-clause-broken : goal.returns-in-Err-clause-broken
 returns-in-Err-clause-broken g c =
-    subst (λ before. c.probe_to-ended.new.printer.text.items ≡ before) (ap (λ v. v.items) c.replace.ensures.value) (fails_in_memory _ _ _ c.in-Err.ensures.broken)
+    let ended = c.probe_to-ended.new.printer.text.items in
+    let kept = subst (λ before. take (length before) ended ≡ before) (ap (λ v. v.items) c.replace.ensures.value)
+    (front_is_kept _ _ _ _ c.in-Err.ensures.broken) in
+    c.truncate.ensures.items ∙ ap (λ n. take n ended) (c.len-before.ensures ∙ c.args.output.now.ok.0) ∙ kept
