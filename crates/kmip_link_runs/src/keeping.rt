@@ -316,13 +316,14 @@ fn standing(
 
 /// The four numbers that these words are.
 fn spent_of(words: &str) -> Result<Spent, Fail> {
-    let mut words = words.split(' ');
-    let mut next = || words.next().ok_or("four numbers");
+    let (exchanges, words) = words.split_once(' ').ok_or("four numbers")?;
+    let (lost, words) = words.split_once(' ').ok_or("four numbers")?;
+    let (refused, seconds) = words.split_once(' ').ok_or("four numbers")?;
     Ok(Spent {
-        exchanges: next()?.parse()?,
-        lost: next()?.parse()?,
-        refused: next()?.parse()?,
-        seconds: next()?.parse()?,
+        exchanges: exchanges.parse()?,
+        lost: lost.parse()?,
+        refused: refused.parse()?,
+        seconds: seconds.parse()?,
     })
 }
 

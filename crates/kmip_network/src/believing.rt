@@ -138,11 +138,11 @@ impl<'a> Kept<'a> {
             return Err(self.another_server(origin, client)?);
         }
         match origin.difference(self.rt.alloc(), self.plan.keys())? {
-            Some(difference) => Err(Trouble::about(
-                self.rt,
-                self.options.progress.as_str(),
-                |path| Trouble::OtherAttributes(path, difference),
-            )),
+            Some(difference) => {
+                let path = self.options.progress.as_str();
+                let path = String::from_str(self.rt.alloc(), path)?;
+                Err(Trouble::OtherAttributes(path, difference))
+            }
             None => Ok(()),
         }
     }

@@ -85,7 +85,10 @@ fn locked<'a>(
     ))?;
     match file.lock() {
         Ok(lock) => Ok((file, lock)),
-        Err(LockFault::InUse) => Err(Trouble::about(rt, path, Trouble::InUse)),
+        Err(LockFault::InUse) => {
+            let path = String::from_str(rt.alloc(), path)?;
+            Err(Trouble::InUse(path))
+        }
         Err(LockFault::Io(error)) => {
             let beside = file.lock_path()?;
             Err(Trouble::at(rt, Cannot::Begin, beside.as_str(), error))

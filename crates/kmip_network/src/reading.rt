@@ -21,7 +21,10 @@ pub fn plan_at(rt: &HostRuntime, path: &str) -> Result<PlanFile, Trouble> {
     match read_plan(rt.alloc(), text.as_str()) {
         Ok(plan) => Ok(PlanFile { text, plan }),
         Err(PlanFault::NoMemory) => Err(Trouble::Io(Error::from(ErrorKind::OutOfMemory))),
-        Err(fault) => Err(Trouble::about(rt, path, |path| { Trouble::NoPlan(path, text, fault) })),
+        Err(fault) => {
+            let path = String::from_str(rt.alloc(), path)?;
+            Err(Trouble::NoPlan(path, text, fault))
+        }
     }
 }
 

@@ -72,28 +72,21 @@ impl Trouble {
         if error.kind() == ErrorKind::OutOfMemory {
             return Trouble::Io(error);
         }
-        Trouble::about(rt, path, |path| Trouble::Cannot(cannot, path, error))
+        match String::from_str(rt.alloc(), path) {
+            Ok(path) => Trouble::Cannot(cannot, path, error),
+            Err(want) => Trouble::from(want),
+        }
     }
 
     /// That a file is not read that may have so many bytes.
     pub(crate) fn unread(rt: &HostRuntime, path: &str, most_bytes: u64, error: Error) -> Trouble {
-        match error.kind() {
-            ErrorKind::FileTooLarge => {
-                Trouble::about(rt, path, |path| Trouble::TooLong(path, most_bytes))
-            }
-            ErrorKind::InvalidData => Trouble::about(rt, path, Trouble::NoText),
-            _ => Trouble::at(rt, Cannot::Read, path, error),
+        let kind = error.kind();
+        if kind != ErrorKind::FileTooLarge && kind != ErrorKind::InvalidData {
+            return Trouble::at(rt, Cannot::Read, path, error);
         }
-    }
-
-    /// What a path is at fault for; want of memory where there is none for the path.
-    pub(crate) fn about<F: FnOnce(String) -> Trouble>(
-        rt: &HostRuntime,
-        path: &str,
-        of: F,
-    ) -> Trouble {
         match String::from_str(rt.alloc(), path) {
-            Ok(path) => of(path),
+            Ok(path) if kind == ErrorKind::InvalidData => Trouble::NoText(path),
+            Ok(path) => Trouble::TooLong(path, most_bytes),
             Err(want) => Trouble::from(want),
         }
     }
