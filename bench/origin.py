@@ -113,7 +113,9 @@ class Origins:
     def other_attributes(self):
         self.begin()
         where = ('--connect', f'127.0.0.1:{self.serve()}')
-        self.look('a run of a plan', self.run(*where, '--limit', '2'), (1, 'k1 active 1/2 working\nfinished 0 of 1\nstop Limit 2\n', ''))
+        self.look('a run of a plan', self.run(*where, '--limit', '2'),
+                  (1, 'k1 active 1/2 working\nfinished 0 of 1\nstop Limit 2\n',
+                   'k1: Create was answered last: created as 1\n'))
         for field, now, was, key in [
                 ('length', '128', '256', KEY.format('k1', 'AES', 128, '"encrypt", "decrypt"', 'active')),
                 ('usage', '00000004', '0000000c', KEY.format('k1', 'AES', 256, '"encrypt"', 'active')),
@@ -148,7 +150,8 @@ class Origins:
                                os.path.join(self.folder, 'other'), *where], capture_output=True, text=True)
         self.look('another client destroys it', done.stdout, 'k1 destroyed 4/4 finished\nfinished 1 of 1\nstop AllFinished 4\n')
         self.look('a look from nothing finds that', self.run(*where, '--afresh'),
-                  (1, 'k1 active 0/2 conflict state\nfinished 0 of 1\nstop Conflict 2\n', ''))
+                  (1, 'k1 active 0/2 conflict state\nfinished 0 of 1\nstop Conflict 2\n',
+                   'k1: 1 is Destroyed, AES 256 encrypt decrypt; the plan wants it active\n'))
 
     def unknown_origin(self):
         self.begin()
@@ -209,7 +212,8 @@ class Origins:
         self.begin()
         first, second = self.serve(), self.serve()
         self.look('a run that finds nothing', self.run('--connect', f'127.0.0.1:{first}', '--limit', '1'),
-                  (1, 'k1 active 0/2 working\nfinished 0 of 1\nstop Limit 1\n', ''))
+                  (1, 'k1 active 0/2 working\nfinished 0 of 1\nstop Limit 1\n',
+                   'k1: Locate was answered last: found none\n'))
         self.look('goes on elsewhere', self.run('--connect', f'127.0.0.1:{second}'), (0, FINISHED.format(3), ''))
 
     def no_room(self):

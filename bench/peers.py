@@ -314,7 +314,7 @@ class Peers:
         lines = told.splitlines()
         self.look('a probe that tells its exchanges', (status == 0, status), (printed == KEPT, printed),
                   (lines[:4] == ['Locate p-1: found none', 'Locate p-2: found none', 'Create p-1: created as 1',
-                                 'Create p-1: refused, reason 53'], lines[:4]),
+                                 'Create p-1: refused, reason 53 (Non Unique Name Attribute)'], lines[:4]),
                   (lines[-2:] == ['Revoke 2: revoked 2', 'Destroy 2: destroyed 2'], lines[-2:]),
                   (len(lines) == 25, len(lines)))
         self.forget()

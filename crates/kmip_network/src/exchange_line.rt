@@ -1,5 +1,6 @@
 //! An exchange in a line: what was asked about which object, and what came back.
 
+use crate::reasons::push_with_reasons;
 use kmip_batches::read_reply;
 use kmip_messages::{Ask, Request};
 use kmip_schedule::LinkFault;
@@ -15,9 +16,7 @@ pub(crate) fn tell_exchange(
     answered: Result<Option<&[u8]>, LinkFault>,
 ) {
     if let Ok(line) = exchange_line(rt.alloc(), request, answered) {
-        if let Ok(line) = from_utf8(line.as_slice()) {
-            let _ = rt.eprintln(line);
-        }
+        let _ = rt.eprintln(&line);
     }
 }
 
@@ -29,12 +28,15 @@ fn exchange_line(
     alloc: Global,
     request: &[u8],
     answered: Result<Option<&[u8]>, LinkFault>,
-) -> Result<Vec<u8>, NoMemory> {
-    let mut line = Vec::new(alloc);
-    push_asked(alloc, request, &mut line)?;
-    line.extend_from_slice(b": ")?;
-    push_answer(alloc, request, answered.unwrap_or(None), &mut line)?;
-    push_why(alloc, answered, &mut line)?;
+) -> Result<String, NoMemory> {
+    let mut words = Vec::new(alloc);
+    push_asked(alloc, request, &mut words)?;
+    words.extend_from_slice(b": ")?;
+    push_answer(alloc, request, answered.unwrap_or(None), &mut words)?;
+    push_why(alloc, answered, &mut words)?;
+    let mut line = String::new(alloc);
+    let words = from_utf8(words.as_slice()).unwrap_or("");
+    push_with_reasons(alloc, words, &mut line)?;
     Ok(line)
 }
 
