@@ -136,7 +136,7 @@ fn serve_connection(
 }
 
 /// Answers the messages of a reader onto a writer until they end, and tells each exchange, if it is to.
-fn answer_over<R: Read, W: Write>(
+fn answer_over<R: Read + Drop, W: Write + Drop>(
     rt: &HostRuntime,
     options: &ServeOptions,
     server: &mut Server<IndexedStore>,
