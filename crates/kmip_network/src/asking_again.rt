@@ -1,4 +1,5 @@
 //! A Locate that is sent again where no reply came.
+ghost use Rattle.std.specs.Prelude.{◌≡◌, IfErr};
 
 use kmip_batches::read_request;
 use kmip_messages::Ask;
