@@ -6,11 +6,17 @@ use std::io::{self, Read, Write};
 
 /// The bytes of an exchange, as far as they went over a connection.
 #[derive(Drop)]
+struct Exchange {
+    request: Vec<u8>,
+    reply: Vec<u8>,
+}
+
+/// The exchange that a connection is at. Each is told once its reply was sent on, or none is.
+#[derive(Drop)]
 pub(crate) struct Overheard<'a> {
     rt: &'a HostRuntime,
     is_told: bool,
-    request: RefCell<Vec<u8>>,
-    reply: RefCell<Vec<u8>>,
+    exchange: RefCell<Exchange>,
 }
 
 impl<'a> Overheard<'a> {
@@ -19,18 +25,30 @@ impl<'a> Overheard<'a> {
         Overheard {
             rt,
             is_told,
-            request: RefCell::new(Vec::new(rt.alloc())),
-            reply: RefCell::new(Vec::new(rt.alloc())),
+            exchange: RefCell::new(Exchange {
+                request: Vec::new(rt.alloc()),
+                reply: Vec::new(rt.alloc()),
+            }),
         }
     }
 
-    /// Appends what went over it, if exchanges are told. What there is no memory for is left out.
-    fn keep(&self, kept: &RefCell<Vec<u8>>, bytes: &[u8]) {
+    /// Appends what was read, if exchanges are told. What there is no memory for is left out.
+    fn hear(&self, bytes: &[u8]) {
         if !self.is_told {
             return;
         }
-        if let Ok(mut kept) = kept.try_borrow_mut() {
-            let _ = kept.extend_from_slice(bytes);
+        if let Ok(mut exchange) = self.exchange.try_borrow_mut() {
+            let _ = exchange.request.extend_from_slice(bytes);
+        }
+    }
+
+    /// Appends what was written, if exchanges are told. What there is no memory for is left out.
+    fn say(&self, bytes: &[u8]) {
+        if !self.is_told {
+            return;
+        }
+        if let Ok(mut exchange) = self.exchange.try_borrow_mut() {
+            let _ = exchange.reply.extend_from_slice(bytes);
         }
     }
 
@@ -39,18 +57,12 @@ impl<'a> Overheard<'a> {
         if !self.is_told {
             return;
         }
-        if let Ok(mut request) = self.request.try_borrow_mut() {
-            self.tell_request(&mut request);
+        if let Ok(mut exchange) = self.exchange.try_borrow_mut() {
+            let reply = Ok(Some(exchange.reply.as_slice()));
+            tell_exchange(self.rt, exchange.request.as_slice(), reply);
+            exchange.request.clear();
+            exchange.reply.clear();
         }
-    }
-
-    /// Tells the exchange that began with these bytes, and begins the next one.
-    fn tell_request(&self, request: &mut Vec<u8>) {
-        if let Ok(mut reply) = self.reply.try_borrow_mut() {
-            tell_exchange(self.rt, request.as_slice(), Ok(Some(reply.as_slice())));
-            reply.clear();
-        }
-        request.clear();
     }
 }
 
@@ -71,7 +83,7 @@ impl<'a, R: Read> Hearing<'a, R> {
 impl<'a, R: Read> Read for Hearing<'a, R> {
     fn read(&mut self, buf: &mut [u8]) -> io::Result<usize> {
         let count = self.stream.read(buf)?;
-        self.overheard.keep(&self.overheard.request, &buf[..count]);
+        self.overheard.hear(&buf[..count.min(buf.len())]);
         Ok(count)
     }
 }
@@ -92,7 +104,7 @@ impl<'a, W: Write> Saying<'a, W> {
 impl<'a, W: Write> Write for Saying<'a, W> {
     fn write(&mut self, buf: &[u8]) -> io::Result<usize> {
         let count = self.stream.write(buf)?;
-        self.overheard.keep(&self.overheard.reply, &buf[..count]);
+        self.overheard.say(&buf[..count.min(buf.len())]);
         Ok(count)
     }
 

@@ -1,12 +1,11 @@
 //! How streams to one server are opened.
 
-use std::io;
 use std::io::{Error, ErrorKind, Read, Write};
 use std::net::{Net, OpenStream, SocketAddr};
 use std::os::unix::net;
 use std::os::unix::net::UnixStream;
-use std::thread;
 use std::time::{Clock, Duration, Instant};
+use std::{io, thread};
 
 /// How long to wait before a server that takes no more connections for now is tried again.
 const PAUSE: u64 = 20;
