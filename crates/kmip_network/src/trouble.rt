@@ -124,8 +124,9 @@ impl Trouble {
                 rt.println(format_args!("{} {path}", Cannot::Read.text()))?;
             }
             Trouble::NoPlan(path, plan, fault) => {
-                print_refusal(rt, &fault)?;
+                let printed = print_refusal(rt, &fault);
                 tell_refusal(rt, path.as_str(), plan.as_str());
+                printed?;
             }
             Trouble::InUse(path) => rt.println(format_args!("progress in use: {path}"))?,
             Trouble::NoPort => {
