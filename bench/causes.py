@@ -230,7 +230,7 @@ class Causes:
         missing = 'bad.toml:1: key 1: there is no name: a key needs name, algorithm, length, usage and target'
         with open('/dev/full', 'w') as full:
             words = ('run', '--plan', 'bad.toml', '--progress', 'p', '--loopback')
-            self.case(f'{" ".join(words)} on a full disk', words, None, [f'standard output: {FULL}', missing], stdout=full)
+            self.case(f'{" ".join(words)} on a full disk', words, None, [missing, f'standard output: {FULL}'], stdout=full)
         reading, writing = os.pipe()
         os.close(reading)
         with os.fdopen(writing) as pipe:
