@@ -15,8 +15,9 @@ there are is printed. Beyond that
 - `sim` prints the runs that have ended, and neither requests nor objects;
 - `run` prints nothing else, and its progress file is absent or one of those that the undisturbed run
   saves in turn;
-- `run --verbose` may lack lines of exchanges on standard error, and where it lacks one of these alone, it
-  does all else as undisturbed; the last one may say that there was no memory;
+- where `run` lacks memory for what it tells on standard error, or would tell, it does all else as
+  undisturbed, and its progress file is the last one; of `run --verbose` the last line of an exchange may
+  say that there was no memory;
 - `serve` has sent whole replies, the first ones of those that it sends undisturbed.
 
 KMIP_GROWTHS calls the crates below, and there a growth is refused alone. Where a campaign lacks memory
@@ -268,7 +269,12 @@ class Carrying(Command):
         super().judge(replace(run, errors=all_told), is_all)
 
     def excuse(self, run):
-        return "left a line of standard error out" if self.is_untold else super().excuse(run)
+        """It may lack memory for what it tells on standard error, and then does all else as undisturbed."""
+        if run.left != self.undisturbed.left:
+            return None
+        if self.is_untold:
+            return "left a line of standard error out"
+        return super().excuse(run) or "had no memory for what it would tell"
 
     def fronts(self):
         return {""}
