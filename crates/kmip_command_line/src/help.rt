@@ -168,79 +168,86 @@ pub(crate) const RUN: &str =
     "Carries out a plan against a server, and keeps what is known in a file";
 
 pub(crate) const RUN_LONG: &str = "\
-Carries out the plan in a file (see `check --help`) against a server: it asks for what each key lacks, one
-message at a time, until every key stands where the plan wants it, in conflict with what is there, or as
-many exchanges were made as it may make. Where a reply is lost it looks at the key before it asks for
-anything again, so that no key is made twice and no step is taken twice.
+Carries out the plan in a file (see `check --help`) against a server. It asks for what each key lacks,
+one message at a time. It ends where every key stands where the plan wants it, or is in conflict with
+what is there, or as many exchanges were made as may be. Where a reply is lost, it looks at the key
+before it asks for anything again. So no key is made twice, and no step is taken twice.
 
-After each exchange it writes what is known to the progress file. That is absent or whole whenever
-the program is stopped, and after a stop of the machine as far as its disk keeps what it was made to
-write. Where the file is there, it goes on from it; where it is lost or older, nothing is lost: it
-looks first. Two runs on one progress file do not meet: the second prints `progress in use: PATH`.
+After each exchange it writes what is known to the progress file. Whenever the program is stopped,
+that file is absent or whole. After a stop of the machine it is so too, as far as the disk keeps what
+it was made to write. Where the file is there, the run goes on from it. Where the file is lost or
+older, nothing is lost: the run looks first. A second run on the file prints `progress in use: PATH`.
 
-Beside the progress file stands PATH.origin: the server that the file was kept against, and the
-attributes of the plan's keys. At another server the file is not believed: the run prints `progress of
-another server: PATH`, and asks nothing. With `--believe` the server is the one of before under another
-name. With `--afresh` the run begins from nothing, and keeps the file as PATH.before. A file that was
-kept with `--loopback` is of a server that is gone. Where a key of the plan has other attributes than
-the file was kept for, the run prints `progress refused: 3 OtherPlan`.
+PATH.origin stands beside the progress file. It has the server that the file was kept against, and the
+attributes of the plan's keys. A run against another server does not believe the file. It prints
+`progress of another server: PATH`, and asks nothing. There are two ways on:
+  --believe  the server is the one of before, under another name
+  --afresh   the run begins from nothing, and keeps the file as PATH.before
+The server of a run with --loopback is gone when the run ends. Where a key of the plan has other
+attributes than the file was kept for, the run prints `progress refused: 3 OtherPlan`.
 
-At the end it prints the report, a line for each key and one that counts the finished ones, and why it
-stopped after how many exchanges:
+At the end it prints a line a key, how many keys are finished, why it stopped, and after how many
+exchanges:
   k1 active 2/2 finished
   finished 1 of 1
-  stop AllFinished 3
-STOP is AllFinished, Limit or Conflict. A conflict is `conflict attributes` or `conflict state`, where the
-object of that name is not what the plan wants or stands beyond it, or `conflict two-objects`.
+  stop AllFinished 3       or `stop Limit 3`, `stop Conflict 3`
+What stands behind a key that is not finished:
+  working                  more is to be done
+  conflict attributes      the object of that name is not what the plan wants
+  conflict state           the object stands beyond what the plan wants
+  conflict two-objects     the server has two objects of that name
 
-The plan is read and judged first (its first fault is printed as by `check`), then the progress
-(`progress refused: 2 Cut`), before anything is asked. A progress file that cannot be written prints
-`cannot write PATH`: what was asked last may have taken effect, and a later run finds it.
+The plan is checked first, then the progress, before anything is asked. The first fault is printed
+alone: the plan's as by `check`, the progress's as `progress refused: 2 Cut`. Where the progress file
+cannot be written, the run prints `cannot write PATH` and ends. What was asked last may have taken
+effect then; a later run finds it.
 
-A run gets on where it learns more of some key. After an exchange by which it does not it waits, longer
-each time (`--wait`). Where it did not get on for some time (`--give-up`) it ends as at a limit, and standard
-error says so. It never waits for a server in this process.
+A run gets on where it learns more of some key. After an exchange by which it does not get on it
+waits, longer each time (--wait). Where it has not got on for some time (--give-up) it ends as at a
+limit. It never waits for a server in this process.
 
-On standard error it says why no reply comes, once for each reason, and when the server answers again. At
-the end it says of each key that is not finished what was heard last:
+Standard error has what happens meanwhile. Once for each reason, why no reply comes, and when the
+server answers again; at the end, of each key that is not finished, what was heard last:
   no reply from 192.0.2.7:5696: the connection was refused; trying again
   192.0.2.7:5696 answers again after 41 s
   backup-seal: Create refused 27 times, last reason 7 (Invalid Field)
   gave up: nothing was learnt for 300 s
-With `--verbose` it tells each exchange there, with the seconds since the start and what it took:
+With --verbose it also has each exchange, with the seconds since the start and what it took:
   12.310 Create k1: created as 12 (6 ms)
-Else, where standard error is a terminal, one line there says how far the run is:
+Else, on a terminal, one line there says how far the run is:
   6 of 50 keys, 12 lost, 27 refused, 120 exchanges, 37 s
 
-With `--batch B` a message asks about up to B keys, each once, and the server answers them in turn: a plan
-of many keys takes about B times fewer exchanges. What is promised is the same; where a reply is lost, B
-keys are looked at before anything more is asked for them.
+With --batch B a message asks about up to B keys, each once. A plan of many keys takes about B times
+fewer exchanges then. What is promised is the same. Where a reply is lost, up to B keys are looked at
+again.
 
-With `--loopback` the server is one in this process with no object, so it suits a first run.";
+With --loopback the server is one in this process with no object, which suits a first run.";
 
-pub(crate) const PROBE: &str =
-    "Looks whether a server keeps the rules that `run` rests on, with two keys of its own";
+pub(crate) const PROBE: &str = "Looks whether a server keeps the rules that `run` rests on";
 
 pub(crate) const PROBE_LONG: &str = "\
-Asks a server at most 25 questions about two keys of its own, PREFIX-1 and PREFIX-2, and prints whether it
-keeps the rules by which `run` makes no key twice and destroys none too early. Run it before the first plan
-against a new kind of server, and after its software was changed.
+Asks a server at most 25 questions about two keys of its own, PREFIX-1 and PREFIX-2. It prints whether
+the server keeps the rules by which `run` makes no key twice and destroys none too early. Run it before
+the first plan against a new kind of server, and after the server's software was changed.
 
-It looks for both names first: where one is there already, or that cannot be told, it says so and makes
-nothing. `refused, reason 12` at the head of that line is the server's refusal to look, and
-`the server's reply can't be read (Version: it answers in KMIP 1.0)` a server of another version. Else it
-names the keys, makes them, takes each step twice, searches for them before and after they are
-destroyed, and asks for their names once more. A search without a reply is asked again, three times in
-all; nothing else is. Two destroyed objects stay on the server. Where replies were lost or
-a Destroy was refused, keys of these names may stay that are not destroyed. Where a line says that a
-second object was made, that object stays and is not destroyed: destroy it by hand (its identifier
-stands in the line). They protect nothing: take another PREFIX next time.
+It looks for both names first. It makes nothing where one of them is there already, or where that
+cannot be told:
+  PREFIX-1 is used already, and nothing was made; its object is 17
+  no reply: whether PREFIX-1 is free could not be told; nothing was made
+  refused, reason 12: whether ..                  the server refuses to look
+  the server's reply can't be read (..): whether ..   the server answers in another version, say
+Else it names the keys and makes them. It takes each step twice, searches for the keys before and after
+they are destroyed, and asks for their names once more. A search without a reply is asked again, three
+times in all. Nothing else is asked again.
 
-First comes the line of the keys, before anything is made. Then come a line a rule, the reasons of the
-server's refusals in decimal (they decide nothing), what may go wrong where a rule is not kept, and the
-sum. Each line is printed once the answers that decide it have come:
-  making two keys: PREFIX-1 and PREFIX-2
-  names are unique: yes
+Two destroyed objects stay on the server. They protect nothing: take another PREFIX next time. Where
+replies were lost or a Destroy was refused, keys of these names may stay that are not destroyed. Where a
+line says that a second object was made, that object stays: destroy it by hand, by the identifier in
+the line.
+
+Each line is printed once the answers that decide it have come:
+  making two keys: PREFIX-1 and PREFIX-2            before anything is made
+  names are unique: yes                             a line a rule
   names stay used after Destroy: no (a second object 3 was made)
   a step made twice changes nothing: yes
   an active object is not destroyed: yes
@@ -248,30 +255,30 @@ sum. Each line is printed once the answers that decide it have come:
   Locate finds destroyed objects: yes
   Get Attributes tells all six attributes: yes
   the batch id is echoed: yes
-  reasons seen: 53, 67
-  a destroyed key may be made again by a Create that arrives late
-  the promise does not hold here
+  reasons seen: 53, 67                              of the server's refusals; they decide nothing
+  a destroyed key may be made again by a Create that arrives late    what may go wrong
+  the promise does not hold here                    the sum
 A rule has `could not be told` where the replies that would tell did not come, cannot be read, or
-refuse what was asked; the reasons may say why. The exit status is 0 only where every line says yes.
+refuse what was asked. The reasons may say why. The exit status is 0 only where every line says yes.
 
-With `--loopback` the server is one in this process, which keeps them all.";
+With --verbose standard error has a line for each message that is sent. With --loopback the server is
+one in this process, which keeps all rules.";
 
 pub(crate) const NAME_PREFIX: &str =
     "What its two names begin with: 1 to 62 printable ASCII characters, no space";
 
-pub(crate) const SERVE: &str =
-    "Answers connections on this machine by a server that keeps its keys in memory";
+pub(crate) const SERVE: &str = "Runs a test server on this machine, which keeps its keys in memory";
 
 pub(crate) const SERVE_LONG: &str = "\
-Listens on 127.0.0.1, prints `listening PORT`, and serves connections one after the other by one server,
-which starts with no object and has room for 10,000. Each connection is served until it ends, breaks the
-framing of messages or waits longer than the timeout; then the next one is. A port that cannot be had
+Listens on 127.0.0.1, prints `listening PORT`, and serves connections one after the other. One server
+answers them all. It starts with no object, and has room for 10,000. A connection is served until it
+ends, breaks the framing of messages, or waits longer than the timeout. A port that cannot be had
 prints `cannot listen`.
 
-With `--verbose` standard error has a line for each message that is answered:
+With --verbose standard error has a line for each message that is answered:
   Create k1: created as 1";
 
-pub(crate) const PROGRESS: &str = "The file that what is known is kept in";
+pub(crate) const PROGRESS: &str = "The file in which what is known is kept";
 
 pub(crate) const BELIEVE: &str =
     "Believe a progress file of another server: this one is the same under another name";
@@ -283,7 +290,7 @@ pub(crate) const CONNECT: &str = "The server's IPv4 address and port, as 127.0.0
 pub(crate) const SOCKET: &str =
     "The path of a Unix socket that the server, or a tunnel to it, is behind";
 
-pub(crate) const LOOPBACK: &str = "Have a new server in this process, over a port of this machine";
+pub(crate) const LOOPBACK: &str = "Use a new server in this process, over a port of this machine";
 
 pub(crate) const LIMIT: &str = "How many exchanges are made at most, 0 to 4294967295";
 
@@ -292,12 +299,11 @@ pub(crate) const BATCH: &str = "How many keys a message asks about at most, 1 to
 pub(crate) const TIMEOUT: &str =
     "The longest that an exchange takes, with connecting: 1 to 3600 seconds";
 
-pub(crate) const WAIT: &str = "\
-The first wait after an exchange that did not get the run on, twice as long each time up to 10 seconds: 0 to
-60000 milliseconds, 0 for no wait";
+pub(crate) const WAIT: &str =
+    "The first wait after an exchange that did not get the run on: 0 to 60000 milliseconds, 0 for none; twice as long each time, up to 10 seconds";
 
-pub(crate) const GIVE_UP: &str = "\
-The seconds without getting on after which the run ends: 0 to 86400, 0 for never";
+pub(crate) const GIVE_UP: &str =
+    "After how many seconds without getting on the run ends: 0 to 86400, 0 for never";
 
 pub(crate) const VERBOSE: &str = "Tell each exchange on standard error, a line for each key";
 
@@ -306,7 +312,7 @@ pub(crate) const PORT: &str = "The port, 1 to 65535; 0 for one that the system p
 pub(crate) const CONNECTIONS: &str = "How many connections are served, 0 to 4294967295";
 
 pub(crate) const NOW: &str =
-    "What the replies give as the time, in seconds since the start of 1970";
+    "The time that the replies give, in seconds since the start of 1970: 0 to 9223372036854775807";
 
 pub(crate) const SERVE_TIMEOUT: &str =
     "The longest that a read or a write of a connection waits: 1 to 3600 seconds";
