@@ -151,6 +151,18 @@ def handing_on(port):
     return behaviour
 
 
+def handing_on_slowly(port, seconds):
+    """What a peer does that hands requests on to the server at this port, and takes so long for each."""
+    def behaviour(peer):
+        with peer, socket.create_connection(('127.0.0.1', port)) as server:
+            while True:
+                server.sendall(message(peer))
+                time.sleep(seconds)
+                peer.sendall(message(server))
+
+    return behaviour
+
+
 def serving(listener, behaviour):
     """Lets each connection that comes behave so."""
     def behave(peer):
@@ -316,6 +328,17 @@ class Troubles:
         self.look('a server that comes late', (lines, told), (done.returncode, 0),
                   (done.stdout.splitlines()[1:2], ['finished 1 of 1']))
 
+    def is_slow(self):
+        """A run that gets on all the time is not given up, however long it takes: four seconds here."""
+        self.start(*(key(f'k{number}') for number in range(1, 6)))
+        port = peer_with(handing_on_slowly(self.serve(), 0.27))
+        start = time.monotonic()
+        done = subprocess.run(self.words(('--connect', f'127.0.0.1:{port}'), ('--give-up', '1')), cwd=self.folder,
+                              text=True, timeout=60, stdin=subprocess.DEVNULL, capture_output=True)
+        self.look('a slow server', (done.returncode, 0), (done.stderr, ''),
+                  (done.stdout.splitlines()[-2:], ['finished 5 of 5', 'stop AllFinished 15']),
+                  (time.monotonic() - start > 4, True))
+
     def other_reasons(self):
         """A peer that refuses connections, then speaks TLS: each reason is told."""
         listener, port = bound()
@@ -472,6 +495,7 @@ def main():
         troubles.refused_connections()
         troubles.gives_up()
         troubles.answers_again()
+        troubles.is_slow()
         troubles.other_reasons()
         troubles.refused_keys()
         troubles.conflicts()
