@@ -8,8 +8,7 @@ The exit status is 1 where something is. `make documents` asks the same of all b
 
 A sentence ends at one of `.!?:;` that a space follows, and at the end of its line or its cell of a table.
 Fenced and indented blocks have no sentences; an indented line may have any length, and one that is fenced too.
-The size of a document leaves out what a tool made: the lines from `<!-- made by ..` to `<!-- end of what is
-made -->`.
+What a tool made is left out: the lines from `<!-- made by ..` to `<!-- end of what is made -->`.
 """
 import pathlib
 import re
@@ -60,21 +59,31 @@ def documents():
 
 def without_fences(text):
     """The text with empty lines in the place of its fenced blocks."""
-    return FENCED.sub(lambda block: '\n' * block.group().count('\n'), text)
+    return emptied(FENCED, text)
+
+
+def emptied(blocks, text):
+    """The text with empty lines in the place of these blocks."""
+    return blocks.sub(lambda block: '\n' * block.group().count('\n'), text)
 
 
 def faults_of(text):
     """The long lines and sentences of a document: each with the number of its line."""
-    for number, line in enumerate(without_fences(text).split('\n'), 1):
+    for number, line in enumerate(emptied(MADE, without_fences(text)).split('\n'), 1):
         if line.startswith('    '):
             continue
         if len(line) > MOST_CHARACTERS:
             yield number, f'a line of {len(line)} characters'
         for part in line.strip('|').split('|') if line.startswith('|') else [line]:
-            for sentence in re.split(r'(?<=[.!?:;])\s+', part):
+            for sentence in sentences(part):
                 words = len(sentence.split())
                 if words > MOST_WORDS:
                     yield number, f'{words} words: {sentence[:60]} ..'
+
+
+def sentences(text):
+    """The sentences of a text of one line."""
+    return re.split(r'(?<=[.!?:;])\s+', text)
 
 
 def size_of(text):

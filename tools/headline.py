@@ -1,0 +1,83 @@
+#!/usr/bin/env python3
+"""The definitions that the headline rests on, as a list in docs/PROOF.md, in the order in which to read them.
+
+    tools/headline.py            writes the list
+    tools/headline.py --check    says whether it is up to date; the exit status is 1 where it is not
+
+Run it at the top of the repository. The headline is the clause *safe* of `kmip_session::campaign`. The list has
+an entry for each file of specs/, with what the file says of itself and the definitions that count.
+"""
+import pathlib
+import sys
+
+sys.dont_write_bytecode = True
+
+from sources import Repository
+from traits import Spoken
+
+PAGE = pathlib.Path('docs/PROOF.md')
+CALL, CLAUSE = 'kmip_session::campaign', 'safe'
+BEGIN, END = '<!-- made by tools/headline.py -->\n', '<!-- end of what is made -->\n'
+
+
+def headline_list(repository):
+    """The entries, crate by crate."""
+    lines, crate = [], ''
+    for file, definitions in by_file(repository):
+        if file.crate != crate:
+            crate = file.crate
+            lines += ['', f'{crate}', '']
+        names = ', '.join(f'`{name}`' for one in definitions for name in one.names)
+        lines.append(f'- [{file.path.stem}](../{file.path}): {" ".join(file.says)}')
+        lines += [f'  {part}' for part in wrapped(names)]
+    return '\n'.join(lines[1:] + ['', ''])
+
+
+def by_file(repository):
+    """The files that the clause rests on, each below those that it uses, with their definitions."""
+    function = next(one for one in repository.functions if one.path == CALL)
+    clause = next(one for one in function.clauses if one[1] == CLAUSE)
+    files = []
+    for one in repository.in_order(repository.behind(Spoken(repository, function, clause).roots)):
+        if not files or files[-1][0] is not one.file:
+            files.append((one.file, []))
+        files[-1][1].append(one)
+    return files
+
+
+def wrapped(names, most=110):
+    """The names in lines of at most so many characters."""
+    lines = ['']
+    for name in names.split(', '):
+        if lines[-1] and len(lines[-1]) + len(name) > most:
+            lines.append('')
+        lines[-1] += (', ' if lines[-1] else '') + name
+    return [line + ',' for line in lines[:-1]] + lines[-1:]
+
+
+def made(text, repository):
+    """The page with the list as it has to be."""
+    if BEGIN not in text or END not in text:
+        raise SystemExit(f'{PAGE} has no place for the list: the lines {BEGIN.strip()} and {END.strip()}')
+    head, _, rest = text.partition(BEGIN)
+    return head + BEGIN + headline_list(repository) + END + rest.partition(END)[2]
+
+
+def check_headline(repository):
+    """Says whether the list is out of date; returns 1 then."""
+    if not PAGE.exists() or made(PAGE.read_text(), repository) == PAGE.read_text():
+        return 0
+    print(f'{PAGE}: its list of definitions is out of date: run tools/headline.py')
+    return 1
+
+
+def main(words):
+    repository = Repository()
+    if words == ['--check']:
+        return check_headline(repository)
+    PAGE.write_text(made(PAGE.read_text(), repository))
+    return 0
+
+
+if __name__ == '__main__':
+    sys.exit(main(sys.argv[1:]))
