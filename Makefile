@@ -1,5 +1,5 @@
 # make            builds the program (a clean clone is proved first, which takes some 40 minutes on 4 cores)
-# make demo       answers the example requests, and carries out a plan over a network that loses a reply
+# make demo       carries out a plan over a network that loses a reply (by rt try where nothing is built)
 # make test       the gate: every proof, the wrong bodies, the tests and the stored runs, and then all trials but bench
 # make bench      compares the program with a baseline in plain Rust, and times simulations (needs rustc)
 # make refuse     refuses each growth of memory of the program and of kmip_growths in turn (needs cc, python3)
@@ -35,9 +35,8 @@ $(growths): $(sources)
 	@cd crates/kmip_growths && rt run </dev/null >/dev/null
 	@touch $@
 
-demo: $(program)
-	@$(program) answer < examples/answer-first.hex
-	@$(program) sim --plan examples/lost-create.toml --script examples/lost-create.script
+demo:
+	@examples/demo.sh $(program)
 
 test:
 	@python3 tools/gate.py
