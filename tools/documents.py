@@ -7,6 +7,7 @@ from headline import check_headline
 from links import check_links
 from message_rows import check_messages
 from mistakes import check_mistakes
+from own_numbers import check_own_numbers
 from prose import check_prose, documents
 from sources import CRATES
 from ways import check_ways
@@ -16,8 +17,8 @@ NAME = re.compile(r'`((?:\w+::)*[A-Za-z]+(?:_\w+|[a-z0-9][A-Z]\w*))`')
 
 def check(repository):
     """Prints what does not fit, and returns the exit status: 1 where there is something."""
-    faults = check_comments(repository) + check_headline(repository) + check_links() + check_names()
-    faults += check_messages() + check_mistakes() + check_ways() + check_prose()
+    faults = check_comments(repository) + check_headline(repository) + check_own_numbers()
+    faults += check_links() + check_names() + check_messages() + check_mistakes() + check_ways() + check_prose()
     print(f'{faults} places to look at' if faults else 'nothing to look at')
     return 1 if faults else 0
 

@@ -12,12 +12,13 @@ import sys
 
 sys.dont_write_bytecode = True
 
+from made import made_part
 from sources import Repository
 from traits import Spoken
 
 PAGE = pathlib.Path('docs/PROOF.md')
+TOOL = 'tools/headline.py'
 CALL, CLAUSE = 'kmip_session::campaign', 'safe'
-BEGIN, END = '<!-- made by tools/headline.py -->\n', '<!-- end of what is made -->\n'
 
 
 def headline_list(repository):
@@ -55,19 +56,11 @@ def wrapped(names, most=110):
     return [line + ',' for line in lines[:-1]] + lines[-1:]
 
 
-def made(text, repository):
-    """The page with the list as it has to be."""
-    if BEGIN not in text or END not in text:
-        raise SystemExit(f'{PAGE} has no place for the list: the lines {BEGIN.strip()} and {END.strip()}')
-    head, _, rest = text.partition(BEGIN)
-    return head + BEGIN + headline_list(repository) + END + rest.partition(END)[2]
-
-
 def check_headline(repository):
     """Says whether the list is out of date; returns 1 then."""
-    if not PAGE.exists() or made(PAGE.read_text(), repository) == PAGE.read_text():
+    if not PAGE.exists() or made_part(PAGE, TOOL, headline_list(repository)) == PAGE.read_text():
         return 0
-    print(f'{PAGE}: its list of definitions is out of date: run tools/headline.py')
+    print(f'{PAGE}: its list of definitions is out of date: run {TOOL}')
     return 1
 
 
@@ -75,7 +68,7 @@ def main(words):
     repository = Repository()
     if words == ['--check']:
         return check_headline(repository)
-    PAGE.write_text(made(PAGE.read_text(), repository))
+    PAGE.write_text(made_part(PAGE, TOOL, headline_list(repository)))
     return 0
 
 

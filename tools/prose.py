@@ -39,7 +39,6 @@ NOT_REWRITTEN = {
     'CHANGELOG.md': 'not rewritten yet',
     'CONTRIBUTING.md': 'not rewritten yet',
     'docs/ARCHITECTURE.md': 'not rewritten yet',
-    'docs/DECISIONS.md': 'not rewritten yet',
     'docs/DEFINITIONS.md': 'not rewritten yet',
     'docs/MISTAKES.md': 'not rewritten yet',
     'docs/OPERATING.md': 'not rewritten yet',

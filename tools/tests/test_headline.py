@@ -6,13 +6,16 @@ from scratch import Scratch, printed
 from made_up import CRATES
 
 import headline
+from made import END, begin_of
 from sources import Repository
+
+BEGIN = begin_of('tools/headline.py')
 
 
 class Headline(Scratch):
     def setUp(self):
         super().setUp()
-        self.write(CRATES | {'docs/PROOF.md': f'Before.\n\n{headline.BEGIN}old\n{headline.END}After.\n'})
+        self.write(CRATES | {'docs/PROOF.md': f'Before.\n\n{BEGIN}old\n{END}After.\n'})
         was = headline.CALL
         headline.CALL = 'high::send'
         self.addCleanup(setattr, headline, 'CALL', was)
@@ -22,9 +25,9 @@ class Headline(Scratch):
             1, ['docs/PROOF.md: its list of definitions is out of date: run tools/headline.py']))
         self.assertEqual(headline.main([]), 0)
         self.assertEqual(pathlib.Path('docs/PROOF.md').read_text(), (
-            f'Before.\n\n{headline.BEGIN}low\n\n- [Start](../crates/low/specs/Start.antt): The start.\n  `History`\n'
+            f'Before.\n\n{BEGIN}low\n\n- [Start](../crates/low/specs/Start.antt): The start.\n  `History`\n'
             '- [Carried](../crates/low/specs/Carried.antt): What carrying is.\n  `Carried`, `Worn`\n\n'
-            f'high\n\n- [Calls](../crates/high/specs/Calls.antt): What a call is.\n  `Sent`\n\n{headline.END}After.\n'))
+            f'high\n\n- [Calls](../crates/high/specs/Calls.antt): What a call is.\n  `Sent`\n\n{END}After.\n'))
         self.assertEqual(printed(headline.check_headline, Repository()), (0, []))
 
     def test_no_page_is_no_fault(self):
