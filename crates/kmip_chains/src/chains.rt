@@ -10,14 +10,18 @@ use kmip_objects::{KeyState, Step};
 
 /// How many steps lead to the key's target. Takes no memory.
 pub fn chain_length(key: &Key) -> usize
+    // It is the length of the chain of the target.
     ensures steps { result ≡ length (chain key.now.target) }
+    // At least one step leads to any target.
     ensures some { 1 ≤ result }
+    // At most four steps lead to any target.
     ensures few { result ≤ 4 }
 {
     key.target.chain_length()
 }
 
-/// The step of the key at a place from 1. Takes no memory.
+/// The step of the key at a place from 1; none at place 0, and none beyond the end of its chain.
+/// Takes no memory.
 pub fn chain(key: &Key, place: usize) -> Option<Step>
     ensures { result ≡ step_at key.now.target place }
 {
@@ -27,7 +31,8 @@ pub fn chain(key: &Key, place: usize) -> Option<Step>
     steps_to(key.target).get(place - 1).copied()
 }
 
-/// The state of the key after so many steps; none after no step. Takes no memory.
+/// The state of the key after this number of steps; none after no step, and none beyond the end of
+/// its chain. Takes no memory.
 pub fn state_after(key: &Key, steps: usize) -> Option<KeyState>
     ensures { result ≡ state_after key.now.target steps }
 {
@@ -37,8 +42,8 @@ pub fn state_after(key: &Key, steps: usize) -> Option<KeyState>
     states_to(key.target).get(steps - 1).copied()
 }
 
-/// After how many steps the key is in the state of this number, where its way leads through that
-/// state. Takes no memory.
+/// After how many steps the key is in the state of this number; none where its way does not lead
+/// through that state. Takes no memory.
 pub fn place_of(key: &Key, state: u32) -> Option<usize>
     ensures { result ≡ place_of key.now.target state }
 {
@@ -48,18 +53,20 @@ pub fn place_of(key: &Key, state: u32) -> Option<usize>
     }
 }
 
-/// Where the state of this number stands.
+/// The index of the first state of this number.
 fn index_of(states: &[KeyState], number: u32) -> Option<usize>
     ensures { result ≡ position (λ state. state_number state == number) states.now }
 {
     states.iter().position(|state| state.number() == number)
 }
 
-/// The place of the step in the key's chain, from 1; 0 where the chain does not have it. Takes no
-/// memory.
+/// The place of a step in the key's chain. Takes no memory.
 pub fn step_place(key: &Key, step: Step) -> usize
+    // It is the place from 1 of the step, and 0 where the chain does not have the step.
     ensures place { result ≡ step_place key.now.target step }
+    // Where it is not 0, the step is at that place of the chain.
     ensures stands { 1 ≤ result → step_at key.now.target result ≡ Some step }
+    // It is no place beyond the end of the chain.
     ensures within { result ≤ length (chain key.now.target) }
 {
     match (step, key.target) {
@@ -75,8 +82,11 @@ pub fn step_place(key: &Key, step: Step) -> usize
 impl Target {
     /// How many steps lead to the target. Takes no memory.
     pub fn chain_length(self) -> usize
+        // It is the length of the chain of the target.
         ensures steps { result ≡ length (chain self) }
+        // At least one step leads to any target.
         ensures some { 1 ≤ result }
+        // At most four steps lead to any target.
         ensures few { result ≤ 4 }
     {
         steps_to(self).len()
@@ -92,8 +102,8 @@ impl Target {
         }
     }
 
-    /// Whether the way to this target is a beginning of the way to the further one, or all of it.
-    /// Takes no memory.
+    /// Whether the way to this target is a beginning of the way to the further one, or all of it:
+    /// its steps are the first steps there. Takes no memory.
     pub fn leads_on(self, further: Target) -> bool
         ensures { IsTrue result ↔ LeadsOn self further }
     {

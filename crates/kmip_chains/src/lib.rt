@@ -1,6 +1,6 @@
-//! Keys, how far each is to go, and the chain of steps and states that leads it there.
+//! The chain of steps and states that leads a key to its target.
 //!
-//! Source: KMIP 2.1, Object Attributes, State; the targets are own.
+//! Source: KMIP 2.1, Object Attributes, State; the targets are own (text).
 #![tactic(auto)]
 
 mod chains;

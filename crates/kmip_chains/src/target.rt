@@ -31,7 +31,7 @@ impl Target {
         }
     }
 
-    /// The target that a word of a plan names. Takes no memory.
+    /// The target that a word of a plan names; none for any other word. Takes no memory.
     pub fn from_word(word: &str) -> Option<Target>
         ensures { result ≡ target_of_word word.now }
     {

@@ -1,5 +1,5 @@
 -- What a client knows is true of the objects, and no key is in conflict.
--- Source: own.
+-- Source: own (law).
 use Rattle.std.specs.Prelude.{◌≡◌, ◌≢◌, ◌≤◌, ℕ, List, Some, None}
 use Rattle.std.specs.List.{AllZip}
 use Rattle.kmip_objects.specs.Objects.{Object}
@@ -10,21 +10,23 @@ use Rattle.kmip_client.specs.Places.{uid_of, position}
 use Rattle.kmip_client.specs.Saving.{known_of}
 use Rattle.kmip_client.specs.Shapes.{PhaseSuits}
 
--- A known identifier is that of the key's object, the count is at most its position, and none is counted without an identifier.
+-- A known identifier is that of the object with the key's name, and that object has had as many steps as are
+-- counted, or more. None is counted without an identifier.
 pub record TrueOf (objects : List Object) (key : Key) (known : Known) : Type 0 where
   pub uid_true : (uid : List ℕ) → known.identifier ≡ Some uid → uid_of key objects ≡ Some uid
   pub done_true : known.done ≤ position key objects
   pub has_identifier : 1 ≤ known.done → known.identifier ≢ None
 
--- the same of each key of a plan
+-- What was kept of each key of a plan is true of these objects.
 abbrev pub TrueProgress : List Object → List Key → List Known → Type 0
 TrueProgress objects keys saved = AllZip (TrueOf objects) keys saved
 
--- The same of what a client knows, with no conflict and a phase that suits.
+-- What a client knows of a key is true of these objects, the key is not in conflict, and its phase suits.
 pub record IsHeld (objects : List Object) (key : Key) (known : Knowledge) : Type 0 where
   pub holds : TrueOf objects key (known_of known)
   pub no_clash : known.clash ≡ None
   pub suits : PhaseSuits known.phase known.identifier known.done
 
+-- What a client knows of each key of a plan is true of these objects, and no key is in conflict.
 abbrev pub Held : List Object → List Key → List Knowledge → Type 0
 Held objects keys knowns = AllZip (IsHeld objects) keys knowns

@@ -1,5 +1,5 @@
 -- What may be asked of a key for good: as objects go onward, it may be asked still.
--- Source: own, over KMIP 2.1, Operations.
+-- Source: KMIP 2.1, Operations; own (law).
 use Rattle.std.specs.Prelude.{◌≡◌, ◌≤◌, ◌<◌, ◌+◌, ℕ, List, Some}
 use Rattle.std.specs.List.{All}
 use Rattle.kmip_batches.specs.Items.{requests_in}
@@ -18,13 +18,16 @@ use Rattle.kmip_chains.specs.declared.key.Key.{Key}
 use Rattle.kmip_client.specs.Places.{uid_of, position}
 use Rattle.kmip_client.specs.Questions.{id_of}
 
--- A step of the key's chain after Create may be asked: the identifier is that of its object, and the steps before it are done.
+-- A step of the key's chain after Create may be asked: the identifier is that of its object, and the steps
+-- before it are done.
 pub record StepIsDue (objects : List Object) (key : Key) (step : Step) (uid : List ℕ) : Type 0 where
   pub uid_is : uid_of key objects ≡ Some uid
   pub in_chain : 1 < step_place key.target step
   pub due : step_place key.target step ≤ position key objects + 1
 
--- what may be asked of the key
+-- What may be asked of the key. A Create has the attributes of the plan, and a Locate asks for its name in
+-- every state. A Get Attributes asks for the identifier of its object. A step of its chain is due, and a
+-- Revoke has the reason of the plan.
 abbrev pub MayAsk : List Object → Key → Ask → Type 0
 MayAsk objects key (Create attrs) = attrs ≡ key.attrs
 MayAsk objects key (Locate mask filter) = (mask ≡ Some every_state) × (filter ≡ by_name key.attrs.name)
@@ -40,6 +43,6 @@ pub record Justified (keys : List Key) (objects : List Object) (request : Reques
   pub id_is : request.id ≡ Some (id_of (operation_of request.ask) key)
   pub may : MayAsk objects key request.ask
 
--- each request in a message may be asked
+-- Each request in a message may be asked.
 abbrev pub JustifiedMessage : List Key → List Object → List ℕ → Type 0
 JustifiedMessage keys objects sent = All (Justified keys objects) (requests_in sent)

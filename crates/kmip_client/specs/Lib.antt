@@ -1,14 +1,31 @@
+-- What a client asks about the keys of a plan, what it learns from replies, and when what it knows is true of
+-- a server's objects.
+
+-- What is asked about a key in each phase, and the id of a question.
 pub mod Questions
+-- What a contract sees of a client, and of the key at a place.
 pub mod Clients
-pub mod Saving
+-- How many steps of each key are done, and the verdict on each.
 pub mod Standing
-pub mod Bounding
-pub mod Shapes
+-- What is heard of each reply of a message, and what is known after them.
 pub mod Hearing
+-- What is known by the answers alone, without what is asked next.
 pub mod Known
+-- What is never taken back, and what has to be known in a phase.
+pub mod Shapes
+-- How far the object of a key has come, and that objects go onward.
 pub mod Places
+-- What may be asked of these objects.
 pub mod Justified
+-- What a reply may say that is true of these objects.
 pub mod Truth
-pub mod Held
+-- Whose turn it is, and the next message.
 pub mod Asking
+-- What is kept of a client, and the client that goes on from it.
+pub mod Saving
+-- What is known, or was kept, is true of these objects.
+pub mod Held
+-- What holds of objects that go onward, and of what a client asks and knows.
 pub mod Laws
+-- How many more exchanges a client makes at most.
+pub mod Bounding

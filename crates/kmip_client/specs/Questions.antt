@@ -1,5 +1,6 @@
 -- What is asked about a key, by its phase.
--- Source: KMIP 2.1, Operations (Create, Locate, Get Attributes, Activate, Revoke, Destroy); when each is asked is own.
+-- Source: KMIP 2.1, Operations (Create, Locate, Get Attributes, Activate, Revoke, Destroy); when each is
+-- asked is own (choice).
 use Rattle.std.specs.Prelude.{ℕ, ◌+◌, List, [], ◌∷◌, Option, Some, None}
 use Rattle.std.specs.Option.{unwrap_or}
 use Rattle.kmip_messages.specs.Operations.{operation_of}
@@ -16,33 +17,34 @@ use Rattle.kmip_knowledge.specs.declared.knowledge.Knowledge.{Knowledge}
 use Rattle.kmip_knowledge.specs.declared.knowledge.Phase.{Phase}
 use Rattle.kmip_knowledge.specs.declared.knowledge.Phase.TheVariants.{Look, Make, Check, Go}
 
--- a step of the key on the object with the identifier
+-- A step of the key on the object with the identifier.
 abbrev pub step_ask : Key → List ℕ → Step → Ask
 step_ask key uid Create = asks.Create key.attrs
 step_ask key uid Activate = asks.Activate uid
 step_ask key uid Revoke = asks.Revoke uid key.reason
 step_ask key uid Destroy = asks.Destroy uid
 
--- the next step of the chain, where there is one
+-- The next step of the chain; where there is none, a look at the attributes of the object.
 abbrev pub next_ask : Key → List ℕ → Option Step → Ask
 next_ask key uid None = asks.GetAttributes uid
 next_ask key uid (Some step) = step_ask key uid step
 
--- what a phase asks, with the identifier and the count of steps that are known
+-- What a phase asks, with the identifier and the count of steps that are known.
 abbrev pub phase_ask : Key → Phase → List ℕ → ℕ → Ask
 phase_ask key Look uid done = asks.Locate (Some every_state) (by_name key.attrs.name)
 phase_ask key Make uid done = asks.Create key.attrs
 phase_ask key Check uid done = asks.GetAttributes uid
 phase_ask key Go uid done = next_ask key uid (step_at key.target (done + 1))
 
--- what is asked about a key
+-- What is asked about a key, by what is known of it.
 abbrev pub ask_about : Key → Knowledge → Ask
 ask_about key known = phase_ask key known.phase (unwrap_or known.identifier []) known.done
 
--- the id of a question: its operation in one byte, and the key's name
+-- The id of a question: its operation in one byte, and the name of the key. KMIP 2.1, Message Structure,
+-- Unique Batch Item ID; what is in it is own (choice).
 abbrev pub id_of : ℕ → Key → List ℕ
 id_of operation key = operation ∷ key.attrs.name
 
--- the question about a key
+-- What is asked about a key, with the id of that operation and key.
 abbrev pub request_about : Key → Knowledge → Request
 request_about key known = record { id = Some (id_of (operation_of (ask_about key known)) key); ask = ask_about key known }

@@ -1,5 +1,5 @@
 -- What holds of the knowledge of a client at all times, whatever it hears.
--- Source: own.
+-- Source: own (view, law).
 use Rattle.std.specs.Prelude.{◌≡◌, ◌≢◌, ◌≤◌, ◌<◌, ℕ, List, length, Option, Some, None, IfSome, IsTrue}
 use Rattle.std.specs.List.{AllZip}
 use Rattle.kmip_objects.specs.Ranges.{is_identifier}
@@ -12,7 +12,8 @@ use Rattle.kmip_knowledge.specs.declared.knowledge.Phase.TheVariants.{Look, Make
 use Rattle.kmip_client.specs.Clients.{working_count}
 use Rattle.kmip_knowledge.specs.Knowledge.{chain_length}
 
--- what has to be known in a phase
+-- What has to be known in a phase: no identifier where the object is looked for or is to be made, and one
+-- where it is checked. Where the next step is due, there is an identifier and a step is done. Own (view).
 abbrev pub PhaseSuits : Phase → Option (List ℕ) → ℕ → Type 0
 PhaseSuits Look uid done = uid ≡ None
 PhaseSuits Make uid done = uid ≡ None
@@ -28,7 +29,7 @@ pub record IsShaped (key : Key) (known : Knowledge) : Type 0 where
   pub in_range : IfSome known.identifier (λ uid. IsTrue (is_identifier uid))
   pub unsettled : known.clash ≢ None → known.done < chain_length key
 
--- the identifier and the count are never taken back
+-- The identifier and the count are never taken back. Own (law).
 pub record IsKept (old new : Knowledge) : Type 0 where
   pub identifier_kept : (uid : List ℕ) → old.identifier ≡ Some uid → new.identifier ≡ Some uid
   pub done_kept : old.done ≤ new.done

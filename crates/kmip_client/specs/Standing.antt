@@ -1,5 +1,5 @@
--- How it stands with each key of a plan, in the order of the plan.
--- Source: own.
+-- How many steps of each key are done, and the verdict on each, in the order of the plan.
+-- Source: own (view).
 use Rattle.std.specs.Prelude.{◌≤◌, ℕ, List, [], ◌∷◌, map}
 use Rattle.std.specs.List.{AllZip}
 use Rattle.kmip_chains.specs.declared.key.Key.{Key}
@@ -7,15 +7,15 @@ use Rattle.kmip_knowledge.specs.Knowledge.{chain_length, verdict_of}
 use Rattle.kmip_knowledge.specs.declared.knowledge.Knowledge.{Knowledge}
 use Rattle.kmip_knowledge.specs.declared.knowledge.Verdict.{Verdict}
 
--- how many steps of each are known to be done
+-- How many steps of each key are known to be done.
 abbrev pub counts_of : List Knowledge → List ℕ
 counts_of knowns = map (λ known. known.done) knowns
 
--- no more steps of each are counted than lead to its target
+-- No more steps of each key are counted than lead to its target.
 abbrev pub AreWithin : List Key → List ℕ → Type 0
 AreWithin keys counts = AllZip (λ key count. count ≤ chain_length key) keys counts
 
--- the verdict on each
+-- The verdict on each key.
 abbrev pub verdicts_of : List Key → List Knowledge → List Verdict
 verdicts_of [] knowns = []
 verdicts_of (key ∷ keys) [] = []

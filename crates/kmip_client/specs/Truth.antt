@@ -1,5 +1,5 @@
 -- What may be said of a key for good: it was so once, and so it is still.
--- Source: own, over KMIP 2.1, Operations.
+-- Source: KMIP 2.1, Operations; own (law).
 use Rattle.std.specs.Prelude.{◌≡◌, ◌≤◌, ℕ, List, [], ◌∷◌, Option, Some, ⊤}
 use Rattle.std.specs.List.{All}
 use Rattle.kmip_batches.specs.Items.{replies_in}
@@ -16,7 +16,7 @@ use Rattle.kmip_plan.specs.Plans.{key_named}
 use Rattle.kmip_chains.specs.declared.key.Key.{Key}
 use Rattle.kmip_client.specs.Places.{uid_of, position}
 
--- What Get Attributes told is the plan's, and a state that the key has had.
+-- What Get Attributes told is the plan's, and a state that the object of the key has had.
 pub record IsShown (objects : List Object) (key : Key) (shown : Attrs) : Type 0 where
   pub object_type_is : shown.object_type ≡ Some OBJECT_TYPE_SYMMETRIC_KEY
   pub name_is : shown.name ≡ Some key.attrs.name
@@ -29,19 +29,19 @@ pub record IsShown (objects : List Object) (key : Key) (shown : Attrs) : Type 0 
   pub place_is : place_of key.target state ≡ Some place
   pub had : place ≤ position key objects
 
--- A step of the key's chain has taken effect on its object.
+-- A step of the key's chain has taken effect on its object, which has this identifier.
 pub record StepIsDone (objects : List Object) (key : Key) (step : Step) (uid : List ℕ) : Type 0 where
   pub uid_is : uid_of key objects ≡ Some uid
   pub in_chain : 1 ≤ step_place key.target step
   pub done : step_place key.target step ≤ position key objects
 
--- what was found is at most the key's object
+-- What was found is nothing, or the key's object alone.
 abbrev pub AreFound : Option (List ℕ) → List (List ℕ) → Type 0
 AreFound own [] = ⊤
 AreFound own (uid ∷ []) = own ≡ Some uid
 AreFound own (uid ∷ other ∷ uids) = ⊥
 
--- what an outcome says of a key holds
+-- What an outcome says of a key holds for these objects. A failure says nothing.
 abbrev pub TrueOutcome : List Object → Key → Outcome → Type 0
 TrueOutcome objects key (Created uid) = StepIsDone objects key steps.Create uid
 TrueOutcome objects key (Located uids) = AreFound (uid_of key objects) uids
@@ -51,12 +51,14 @@ TrueOutcome objects key (Revoked uid) = StepIsDone objects key steps.Revoke uid
 TrueOutcome objects key (Destroyed uid) = StepIsDone objects key steps.Destroy uid
 TrueOutcome objects key (Failed reason) = ⊤
 
--- what a reply says of the key in its id holds
+-- What a reply says of the key in its id holds; one whose id names no key of the plan says nothing.
 abbrev pub TrueReply : List Key → List Object → Reply → Type 0
 TrueReply keys objects reply =
     (operation : ℕ) (name : List ℕ) (key : Key) → reply.id ≡ Some (operation ∷ name) → key_named name keys ≡ Some key
     → TrueOutcome objects key reply.outcome
 
--- each reply in a message is true
+-- Each reply in a message tells the truth about these objects. A reply that shows other attributes than the
+-- plan's does not. So where the object of a key's name is not the plan's, nothing is promised of what is
+-- known: the key is to come into conflict.
 abbrev pub TrueMessage : List Key → List Object → List ℕ → Type 0
 TrueMessage keys objects given = All (TrueReply keys objects) (replies_in given)

@@ -30,8 +30,8 @@ use kmip_plan::laws::keys_have_names;
 use kmip_ttlv::{Bytes, NoMemory};
 use std::alloc::Global;
 
-/// The places of the first keys, at most so many, that are worked on: from a place on, and then
-/// from the front.
+/// The places of the first keys that are worked on, at most `most`: from a place on, and then from
+/// the front.
 ///
 /// # Errors
 /// Where there is no memory for them.
@@ -56,7 +56,7 @@ pub(crate) fn next_places(
     Ok(places)
 }
 
-/// Notes the places of the keys that are worked on from a place on, up to so many in all.
+/// Notes the places of the keys that are worked on from a place on, up to `most` in all.
 fn push_working(
     keys: &[Key],
     knowns: &[Knowledge],

@@ -49,7 +49,7 @@ use std::marker::Model;
 
 /// What is known of each key of a plan, whose turn it is, and how many questions a message has at
 /// most. A contract sees the keys, what is known of each, the place at which the next key is looked
-/// for, and that number.
+/// for, and that number. A place is that of a key in the plan, from 0.
 #[derive(Drop)]
 pub struct Client<'p> {
     plan: &'p Plan,
@@ -76,12 +76,14 @@ impl<'p> Model for Client<'p> {
 }
 
 impl<'p> Client<'p> {
-    /// A client that knows nothing yet of the plan's keys, and asks about one in a message.
+    /// A client that has heard nothing yet of the plan's keys.
     ///
     /// # Errors
     /// Where there is no memory for it.
     pub fn fresh(alloc: Global, plan: &'p Plan) -> Result<Client<'p>, NoMemory>
+        // Nothing is known of any key, the first key has the turn, and a message asks about one key.
         ensures fresh { IfOk result (λ client. client ≡ fresh plan.now) }
+        // So what is known is true of any objects.
         ensures held { (objects : List Object)
             → IfOk result (λ client. Held objects client.keys client.knowns) }
     {
@@ -95,14 +97,19 @@ impl<'p> Client<'p> {
         })
     }
 
-    /// A client that knows what was known when this progress was saved, looks at each object again,
-    /// and asks about one key in a message.
+    /// A client that goes on from what was known when this progress was saved, and looks at each
+    /// object again.
     ///
     /// # Errors
     /// Where there is no memory for it.
     pub fn resume(alloc: Global, plan: &'p Plan, saved: &Progress) -> Result<Client<'p>, NoMemory>
+        // The progress suits the plan.
         requires { Suits plan.now saved.now }
+        // It knows of each key the identifier and the count that were kept, and of no conflict. It looks at
+        // each object by its identifier where that is known, else by its name. The first key has the turn,
+        // and a message asks about one key.
         ensures resumed { IfOk result (λ client. client ≡ resume plan.now saved.now) }
+        // Where the progress is true of some objects, so is what is known.
         ensures held { (objects : List Object) → TrueProgress objects plan.now saved.now
             → IfOk result (λ client. Held objects client.keys client.knowns) }
     {
@@ -117,13 +124,16 @@ impl<'p> Client<'p> {
         })
     }
 
-    /// What is known of each key, to be saved. A conflict is not.
+    /// What is known of each key, to be saved.
     ///
     /// # Errors
     /// Where there is no memory for it.
     pub fn progress(&self, alloc: Global) -> Result<Progress, NoMemory>
+        // Of each key the identifier and the count are kept, and neither a conflict nor what is asked next.
         ensures progress { IfOk result (λ saved. saved ≡ progress self.now) }
+        // It suits the plan.
         ensures suits { IfOk result (λ saved. Suits self.now.keys saved) }
+        // It is true of the objects that what is known is true of.
         ensures held { (objects : List Object) → Held objects self.now.keys self.now.knowns
             → IfOk result (λ saved. TrueProgress objects self.now.keys saved) }
     {
@@ -131,40 +141,51 @@ impl<'p> Client<'p> {
         Ok(Progress::new(known))
     }
 
-    /// The plan. Takes no memory.
+    /// The plan of the client. Takes no memory.
     pub fn plan(&self) -> &Plan
+        // Its keys are the keys of the client.
         ensures value { result.now ≡ self.now.keys }
+        // They are the keys of a lawful plan.
         ensures lawful { IsLawful self.now.keys }
     {
         self.plan
     }
 
-    /// From now on a message has at most so many questions, 1 to 8, each about another key. Takes no
-    /// memory.
+    /// From now on a message asks about at most this number of keys, each once; nothing else
+    /// changes. Takes no memory.
     pub fn set_batch(&mut self, most: usize)
+        // The number is 1 to 8.
         requires { IsTrue (may_have most) }
         ensures { self.new ≡ record self.old { batch = most } }
     {
         self.batch = most;
     }
 
-    /// The next message: about the first keys that are worked on after the one asked last, in the
-    /// order of the plan, which begins again at its end, each once, and as many as `set_batch`
-    /// allows. None where no key is worked on.
+    /// The next message, about the keys whose turn it is; none where no key is worked on.
     ///
     /// # Errors
-    /// Where there is no memory for it; the client is then as it was.
+    /// Where there is no memory for it.
     pub fn ask(&mut self, alloc: Global) -> Result<Option<Question>, NoMemory>
+        // The message asks about the first keys that are worked on, as many as `set_batch` allows. The first
+        // is the next one after the key asked last, in the order of the plan, which begins again at its end.
         ensures question { IfOk result (λ question. question ≡ next_question self.old) }
+        // It asks about each of these keys once, and of each what its phase asks, with the id of that
+        // operation and key. There is nothing else in it, and it is in the one written form. With two
+        // questions or more the server is to go on after a failure.
         ensures about { IfOk result (λ question. IfSome question (λ q.
             IsAbout self.old.keys self.old.knowns (next_places self.old) q)) }
+        // It asks about no more keys than `set_batch` allows.
         ensures few { length (next_places self.old) ≤ self.old.batch }
+        // Where there is no message, no key is worked on.
         ensures none { IfOk result (λ question. question ≡ None
             → AreSettled self.old.keys self.old.knowns) }
+        // Where what is known is true of some objects, each question may be asked of these objects.
         ensures justified { (objects : List Object) → Held objects self.old.keys self.old.knowns
             → IfOk result (λ question. IfSome question (λ q.
             JustifiedMessage self.old.keys objects q.bytes)) }
+        // After it the turn is that of the key after the last one that it asks about, and all else stays.
         ensures turn { OnOk result (self.new ≡ after_ask self.old) }
+        // Where memory runs out the client is as it was.
         ensures same { OnErr result (self.new ≡ self.old) }
     {
         if self.working == 0 {
@@ -182,25 +203,33 @@ impl<'p> Client<'p> {
     }
 
     /// Learns from the replies of a message in turn, each about the key that its id names, whatever
-    /// was asked last. A reply that is refused changes nothing itself, and its member of the list
-    /// says why: the first fault in the order of `HearFault`.
+    /// was asked last. A reply that is refused teaches nothing itself, and its member of the list
+    /// says why: the first fault in the order of `HearFault`. The bytes may be any.
     ///
     /// # Errors
-    /// `Unreadable` where the bytes are no message of replies, and `NoMemory`. The client is then
-    /// as it was.
+    /// `Unreadable` where the bytes are no message of replies, and `NoMemory`.
     pub fn hear(
         &mut self,
         alloc: Global,
         bytes: &[u8],
     ) -> Result<Vec<Result<Heard, HearFault>>, HearFault>
+        // What is heard of each reply, and what is known after them all, is what hearing one after the other
+        // gives.
         ensures heard { IfOk result (λ heard.
             hear self.old.keys self.old.knowns bytes.now ≡ Ok (heard.items, self.new.knowns)) }
+        // The keys, the turn, and how many keys a message asks about stay, however the call ends.
         ensures stays { self.new ≡ record self.old { knowns = self.new.knowns } }
+        // The bytes are refused for the fault of reading them, unless memory runs out.
         ensures fault { IfErr result (λ fault.
             Refuses fault (hear self.old.keys self.old.knowns bytes.now)) }
+        // A call that fails leaves the client as it was.
         ensures same { OnErr result (self.new ≡ self.old) }
+        // An identifier that was known stays known, and no count of steps falls, whatever the bytes are.
         ensures kept { AllZip IsKept self.old.knowns self.new.knowns }
+        // A key that is finished or in conflict stays so, whatever the bytes are.
         ensures settled { VerdictsStay self.old.keys self.old.knowns self.new.knowns }
+        // Where what is known is true of some objects, and the replies tell the truth about them, what is
+        // known after them is true of these objects too. No key is then in conflict.
         ensures held { (objects : List Object) → Held objects self.old.keys self.old.knowns
             → TrueMessage self.old.keys objects bytes.now
             → Held objects self.new.keys self.new.knowns }
@@ -215,6 +244,7 @@ impl<'p> Client<'p> {
 
     /// How many steps of the key at a place from 0 are known to have taken effect. Takes no memory.
     pub fn done(&self, key: usize) -> usize
+        // The plan has a key at this place.
         requires { key < length self.now.keys }
         ensures { result ≡ done_at self.now.knowns key }
     {
@@ -224,9 +254,10 @@ impl<'p> Client<'p> {
         }
     }
 
-    /// The identifier of the object of the key at a place from 0, where it is known. Takes no
-    /// memory.
+    /// The identifier of the object of the key at a place from 0; none where it is not known. Takes
+    /// no memory.
     pub fn identifier(&self, key: usize) -> Option<&Text>
+        // The plan has a key at this place.
         requires { key < length self.now.keys }
         ensures { option_map (λ uid. uid.now) result ≡ identifier_at self.now.knowns key }
     {
@@ -237,8 +268,10 @@ impl<'p> Client<'p> {
     }
 
     /// Whether the last answer about the key at a place from 0 told how it stands: that it has no
-    /// object, or what its object is. Else it is looked at before its next step. Takes no memory.
+    /// object, or what its object is. So its next step may be asked for; else it is looked at
+    /// first. Takes no memory.
     pub fn is_told(&self, key: usize) -> bool
+        // The plan has a key at this place.
         requires { key < length self.now.keys }
         ensures { result ≡ is_told_at self.now.knowns key }
     {
@@ -248,8 +281,9 @@ impl<'p> Client<'p> {
         }
     }
 
-    /// How it stands with the key at a place from 0. Takes no memory.
+    /// The verdict on the key at a place from 0. Takes no memory.
     pub fn verdict(&self, key: usize) -> Verdict
+        // The plan has a key at this place.
         requires { key < length self.now.keys }
         ensures { result ≡ verdict_at self.now.keys self.now.knowns key }
     {
@@ -261,7 +295,9 @@ impl<'p> Client<'p> {
     /// # Errors
     /// Where there is no memory for them.
     pub fn counts(&self, alloc: Global) -> Result<Vec<usize>, NoMemory>
+        // They are the counts of steps that are known, key by key.
         ensures counts { IfOk result (λ counts. counts.items ≡ counts_of self.now.knowns) }
+        // No more steps of a key are counted than lead to its target.
         ensures within { IfOk result (λ counts. AreWithin self.now.keys counts.items) }
     {
         all_counts(alloc, self.knowns.as_slice())
@@ -278,32 +314,46 @@ impl<'p> Client<'p> {
         all_verdicts(alloc, self.plan.keys(), self.knowns.as_slice())
     }
 
-    /// How many keys are worked on. Takes no memory.
+    /// How many keys are worked on: neither finished nor in conflict. The number is kept, so the
+    /// call looks through no keys. Takes no memory.
     pub fn working(&self) -> usize
+        // It is the number of keys that are worked on, by what is known of each.
         ensures count { result ≡ working_count self.now.keys self.now.knowns }
+        // Where it is not 0, the verdict on some key is that it is worked on.
         ensures some { 1 ≤ result → SomeWorks self.now.keys self.now.knowns }
+        // Where it is 0, that is the verdict on no key.
         ensures none { result ≡ 0 → NoneWorks self.now.keys self.now.knowns }
     {
         self.working
     }
 
-    /// How many more exchanges it makes at most until every key is finished, if no more is lost: 0
-    /// to 7,000. It never rises. A key in conflict counts as one that is not finished. Takes no
-    /// memory.
+    /// How many more exchanges it makes at most until every key is finished, if no more is lost. A
+    /// key in conflict counts as one that is not finished. Takes no memory.
+    ///
+    /// That it bounds what is left, and never rises, is the law `losing_laws::left_is_bounded` of
+    /// kmip_settling.
     pub fn most_left(&self) -> usize
+        // It is the stated sum over the keys, by the identifiers and the counts alone that are known.
         ensures sum { result ≡ most_left self.now.keys self.now.knowns }
+        // It is at most 7,000: seven for each of 1,000 keys.
         ensures small { result ≤ 7 * most_keys }
     {
         most_left(self.plan.keys(), self.knowns.as_slice())
     }
 
-    /// A question about the key at a place from 0 has no answer, or one that did not help: a key
-    /// that is worked on is looked at again. Takes no memory.
+    /// A question about the key at a place from 0 has no answer, or one that did not help. Takes no
+    /// memory.
     pub fn lost(&mut self, key: usize)
+        // The plan has a key at this place.
         requires { key < length self.old.keys }
+        // A key that is worked on is looked at again, by its identifier where that is known, else by its
+        // name. Nothing else changes.
         ensures lost { self.new ≡ lost_at self.old key }
+        // No identifier and no count is taken back.
         ensures kept { AllZip IsKept self.old.knowns self.new.knowns }
+        // A key that is finished or in conflict stays so.
         ensures settled { VerdictsStay self.old.keys self.old.knowns self.new.knowns }
+        // Where what is known is true of some objects, it is true of them still.
         ensures held { (objects : List Object) → Held objects self.old.keys self.old.knowns
             → Held objects self.new.keys self.new.knowns }
     {

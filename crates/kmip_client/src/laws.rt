@@ -1,5 +1,9 @@
-//! What holds of objects that go onward and of what a client asks, each as the contract of a
-//! function that does nothing.
+//! What holds of objects that go onward, of what a client asks, and of what it knows, each as the contract of
+//! a function that does nothing.
+//!
+//! That the objects of a server go onward while it serves what may be asked, and that its replies tell the
+//! truth, is proved in kmip_schedule. That every key comes to its target over a link that loses nothing is
+//! proved in kmip_settling and kmip_session.
 ghost use Rattle.kmip_progress.specs.Texts.{progress_text, progress_text_1};
 ghost use Rattle.kmip_client.specs.Laws.{
   OnwardToItself,
@@ -25,38 +29,48 @@ use kmip_chains::laws::{further_ways_keep_places, states_have_places, steps_have
 use kmip_plan::laws::{keys_have_names, prolonged_keys_stand};
 use kmip_progress::laws::texts_are_prolonged;
 
-/// Objects go onward to themselves, and onward twice is onward.
+/// To go onward is an order of objects.
 pub fn onward_is_an_order()
+    // Objects go onward to themselves.
     ensures itself { OnwardToItself }
+    // Onward twice is onward.
     ensures twice { OnwardTwice }
 {}
 
-/// As objects go onward, what may be asked may be asked still, what a reply says is true still, and
-/// so is what is known.
+/// What stays so as objects go onward.
 pub fn truth_is_for_good()
+    // A request that may be asked may be asked still.
     ensures asked { JustifiedForGood }
+    // What a reply says is true still.
     ensures told { TrueForGood }
+    // What is known of the keys of a lawful plan is true still.
     ensures known { HeldForGood }
 {
     keys_have_names();
 }
 
-/// What was saved under a plan is as true under each plan that prolongs it; and so its text is read
-/// for that plan, and what is read is true.
+/// What was saved under a plan is as true under each plan that prolongs it.
 pub fn progress_is_true_of_prolonged_plans()
+    // A progress that is true of the keys of a plan is true of those of each plan that prolongs it, with
+    // nothing known of the further keys.
     ensures known { TrueOfProlonged }
+    // So the text of it, as it is written now, is read for each such plan, and what is read is true. The old
+    // plan is lawful there, the progress suits it, and its identifiers are UTF-8.
     ensures text { TextsStayTrue progress_text }
+    // The text that an earlier version wrote of it is read so too.
     ensures old_text { TextsStayTrue progress_text_1 }
 {
     further_ways_keep_places();
     texts_are_prolonged();
 }
 
-/// Where a plan prolongs another, each key of that has come no less far, and what may be asked of it,
-/// and what a reply says of it, may be asked and is true still.
+/// What was so of the keys of a plan is so in a plan that prolongs it.
 pub fn prolonged_plans_keep_the_truth()
+    // An object has come no less far on the way of a key that goes on.
     ensures positions { PositionsAreNoLess }
+    // What may be asked under a plan may be asked under each lawful plan that prolongs it.
     ensures asked { JustifiedOfProlonged }
+    // What a reply says of a key is true of one that goes on from it.
     ensures told { TrueOfGoneOn }
 {
     further_ways_keep_places();
@@ -64,32 +78,38 @@ pub fn prolonged_plans_keep_the_truth()
     steps_have_places();
 }
 
-/// What a client knows of identifiers, counts and conflicts is what it heard, whatever it asked and
-/// whichever answers were lost.
+/// What a client knows of identifiers, counts and conflicts follows from the answers alone that it
+/// was handed.
 pub fn what_is_known_was_heard()
+    // What is heard of these does not depend on what is asked next.
     ensures heard { HearingIsBlind }
+    // A key that is looked at again changes none of these.
     ensures lost { LossesTeachNothing }
 {}
 
-/// Replies that are true keep what is known true, heard in turn, and so does a loss.
+/// What keeps what is known true of some objects.
 pub fn hearing_keeps_the_truth()
+    // Replies that tell the truth about the objects do, heard in turn.
     ensures heard { HearingKeepsTheTruth }
+    // The loss of an answer about a key does.
     ensures lost { LosingKeepsTheTruth }
 {
     states_have_places();
 }
 
-/// Where each key is settled no verdict is that a key is worked on.
+/// Where each key is settled, the verdict on no key is that it is worked on.
 pub fn the_settled_are_not_worked_on()
     ensures { SettledIsNotWorked }
 {}
 
-/// Where all that is known is true, no key is in conflict.
+/// Where what is known is true of some objects, no key is in conflict. So no reply that tells the
+/// truth about them brings a key into conflict.
 pub fn what_is_true_is_no_conflict()
     ensures { HeldIsNoConflict }
 {}
 
-/// A client that knows the truth of a key asks only what may be asked of it.
+/// What is asked about a key may be asked, where the key is worked on and what is known of it is
+/// true.
 pub fn what_is_asked_may_be()
     ensures { AsksWhatItMay }
 {

@@ -1,5 +1,7 @@
-//! The decision core of a client: what is asked next about each key of a plan, and what is learnt
-//! from any bytes that come back. It knows no network.
+//! The decision core of a client: what is asked next, and what is learnt.
+//!
+//! It asks about each key of a plan, and learns from any bytes that come back. It knows no network:
+//! kmip_session sends what it asks, and the commands `sim` and `run` use it through that.
 #![tactic(auto)]
 
 mod batching;

@@ -55,7 +55,7 @@ impl Parts {
         Parts { items }
     }
 
-    /// The questions, in the order in which they stand in the message.
+    /// The key and the operation of each question, in the order of the message. Takes no memory.
     pub fn as_slice(&self) -> &[Part]
         ensures { result.now ≡ self.now }
     {
@@ -66,6 +66,7 @@ impl Parts {
 /// A message of one to eight questions that is to be sent.
 #[derive(Drop)]
 pub struct Question {
+    /// What the message asks, question by question.
     pub parts: Parts,
     /// The message, as it is sent.
     pub bytes: Bytes,

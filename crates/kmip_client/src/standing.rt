@@ -1,4 +1,4 @@
-//! How it stands with the keys of a plan.
+//! How many steps of each key of a plan are done, and the verdict on each.
 ghost use Rattle.std.specs.Prelude.{◌≡◌, length, IfOk};
 ghost use Rattle.kmip_client.specs.Clients.{tells, verdict_at};
 ghost use Rattle.kmip_client.specs.Standing.{counts_of, verdicts_of};

@@ -84,8 +84,8 @@ fn step_of(operation: u32) -> Option<Step>
     }
 }
 
-/// The place of the key with the name. Names are distinct, so the likely place is the only one
-/// where the name stands there.
+/// The place of the key with the name. Names are distinct, so where the key at the likely
+/// place has the name, no other has it.
 fn place_named(keys: &[Key], likely: usize, name: &[u8]) -> Option<usize>
     requires { IsLawful keys.now }
     ensures { result ≡ place_named name.now keys.now }

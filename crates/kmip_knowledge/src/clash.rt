@@ -1,4 +1,4 @@
-//! What stands against a key.
+//! Why a key can't be brought to its target.
 ghost use Rattle.std.specs.Prelude.{◌≡◌};
 ghost use Rattle.kmip_knowledge.specs.Faults.{clash_number, clash_name};
 
@@ -14,7 +14,7 @@ pub enum Clash {
 }
 
 impl Clash {
-    /// The clash's number, 1 to 3. Takes no memory.
+    /// The number of the clash, 1 to 3. Takes no memory.
     pub fn number(self) -> u32
         ensures { result ≡ clash_number self }
     {
@@ -25,7 +25,7 @@ impl Clash {
         }
     }
 
-    /// The clash's name, as it is printed. Takes no memory.
+    /// The name of the clash, as it is printed. Takes no memory.
     pub fn name(self) -> &'static str
         ensures { result.now ≡ clash_name self }
     {

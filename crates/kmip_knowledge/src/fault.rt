@@ -5,7 +5,7 @@ ghost use Rattle.kmip_knowledge.specs.Faults.{hear_fault_number, hear_fault_name
 use kmip_messages::MessageFault;
 use thiserror::Error;
 
-/// Why the client learns nothing from what has come; it is then as it was. The faults stand in the
+/// Why the client learns nothing from what has come; it is then as it was. The faults are in the
 /// order in which they are looked for.
 #[derive(Clone, Copy, Debug, Error)]
 pub enum HearFault {
@@ -29,7 +29,7 @@ pub enum HearFault {
 }
 
 impl HearFault {
-    /// The fault's number, 1 to 6. Takes no memory.
+    /// The number of the fault, 1 to 6. Takes no memory.
     pub fn number(self) -> u32
         ensures { result ≡ hear_fault_number self }
     {
@@ -43,7 +43,7 @@ impl HearFault {
         }
     }
 
-    /// The fault's name, as it is printed. Takes no memory.
+    /// The name of the fault, as it is printed. Takes no memory.
     pub fn name(self) -> &'static str
         ensures { result.now ≡ hear_fault_name self }
     {

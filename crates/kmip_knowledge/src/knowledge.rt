@@ -19,7 +19,7 @@ pub enum Phase {
     Go,
 }
 
-/// How it stands with a key.
+/// The verdict on a key.
 #[derive(Clone, Copy, Debug, PartialEq, Eq)]
 pub enum Verdict {
     /// More is to be asked about it.
@@ -37,13 +37,15 @@ pub struct Knowledge {
     pub identifier: Option<Text>,
     /// How many steps of its chain are known to have taken effect.
     pub done: usize,
+    /// What is to be found out or done next.
     pub phase: Phase,
-    /// What stands against it, where something was found.
+    /// Why it can't be brought to its target, where such a clash was found.
     pub clash: Option<Clash>,
 }
 
 impl Knowledge {
-    /// What is known before anything was heard: nothing.
+    /// What is known before anything was heard: nothing. The object is to be looked for by its
+    /// name. Takes no memory.
     pub fn fresh() -> Self
         ensures { result ≡ fresh_knowledge }
     {
@@ -56,21 +58,23 @@ impl Knowledge {
     }
 
     /// An answer did not come, or did not help: the object is looked at again, by its identifier
-    /// where that is known, else by its name.
+    /// where that is known, else by its name. Nothing else changes. Takes no memory.
     pub fn lose(&mut self)
         ensures { self.new ≡ lose self.old }
     {
         self.phase = lost_phase(&self.identifier);
     }
 
-    /// Whether more is to be asked about the key.
+    /// Whether more is to be asked about the key: a step of its chain is not known to be done, and
+    /// no clash was found. Takes no memory.
     pub fn is_working(&self, key: &Key) -> bool
         ensures { result ≡ is_working key.now self.now }
     {
         self.done < chain_length(key) && self.clash.is_none()
     }
 
-    /// How it stands with the key.
+    /// The verdict on the key. It is finished once all steps of its chain are known to be done,
+    /// else in conflict where a clash was found, and else it is worked on. Takes no memory.
     pub fn verdict(&self, key: &Key) -> Verdict
         ensures { result ≡ verdict_of key.now self.now }
     {
@@ -84,7 +88,8 @@ impl Knowledge {
     }
 }
 
-/// How a key is looked at again.
+/// How a key is looked at again: by its identifier where that is known (`Check`), else by its name
+/// (`Look`). Takes no memory.
 pub fn lost_phase(identifier: &Option<Text>) -> Phase
     ensures { result ≡ lost_phase identifier.now }
 {

@@ -28,13 +28,16 @@ use kmip_objects::standard::OBJECT_TYPE_SYMMETRIC_KEY;
 use kmip_objects::{Attrs, Step, Texts};
 use kmip_ttlv::Text;
 
-/// Learns from an outcome about a key that is worked on.
+/// Learns from an outcome about a key that is worked on. Takes no memory.
 ///
 /// # Errors
-/// `OtherIdentifier` and `OtherName`; nothing is learnt then.
+/// `OtherIdentifier` and `OtherName`; what is known is then as it was.
 pub fn learn(key: &Key, outcome: Outcome, known: &mut Knowledge) -> Result<(), HearFault>
+    // What is known afterwards is what the outcome teaches of this key, by what was known before.
     ensures ok { OnOk result (learn key.now outcome known.old ≡ Ok known.new) }
+    // A refusal is for the fault for which `learn` refuses the outcome.
     ensures err { IfErr result (λ e. learn key.now outcome known.old ≡ Err e) }
+    // A refused outcome changes nothing of what is known.
     ensures same { OnErr result (known.new ≡ known.old) }
 {
     match outcome {
@@ -155,7 +158,7 @@ fn learn_step(key: &Key, step: Step, uid: &Text, known: &mut Knowledge) -> Resul
     Ok(())
 }
 
-/// So many steps have taken effect.
+/// This number of steps have taken effect.
 fn raise(place: usize, known: &mut Knowledge)
     ensures { known.new ≡ raise place known.old }
 {
@@ -165,7 +168,7 @@ fn raise(place: usize, known: &mut Knowledge)
     }
 }
 
-/// The object is where so many steps lead.
+/// The object is where this number of steps leads.
 fn enter(place: usize, known: &mut Knowledge)
     ensures { known.new ≡ enter place known.old }
 {

@@ -1,4 +1,4 @@
-//! What is known of one key of a plan, and what the outcome of a question teaches of it.
+//! What is known of one key, and what an outcome teaches of it.
 #![tactic(auto)]
 
 mod clash;

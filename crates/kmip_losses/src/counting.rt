@@ -43,8 +43,8 @@ impl Model for Counts {
     } };
 }
 
-/// The counts after one more disturbed exchange, which sent so many requests and handed over so many
-/// strange replies.
+/// The counts after one more disturbed exchange, which sent this number of requests and handed over
+/// this number of strange replies.
 ///
 /// # Errors
 /// Where a count would pass `usize::MAX`.
@@ -67,11 +67,14 @@ fn raised(counts: Counts, requests: usize, strange: usize) -> Result<Counts, NoM
     })
 }
 
-/// The counts after an exchange, by what it hands over, and whether it went amiss before that: its
-/// message was not served once, or another message than that to it came. It is disturbed where it
-/// went amiss, where nothing is handed over, or where a reply says that the server has no room. Its
-/// requests are counted then too, and its strange replies: those about a key that no request of the
-/// message is about.
+/// The counts after an exchange, by its message, by whether it went amiss before its reply came,
+/// and by what it hands over. An exchange went amiss where its message was not served once, or
+/// another message than that to it came.
+///
+/// It is disturbed where it went amiss, where nothing is handed over, or where a reply says that
+/// the server has no room. A disturbed exchange is counted, with the requests that it sent and its
+/// strange replies: those about a key that no request of the message is about. Any other leaves the
+/// counts as they were.
 ///
 /// # Errors
 /// Where there is no memory, or a count would pass `usize::MAX`.

@@ -1,5 +1,7 @@
-//! What a link counts of its exchanges: how many were disturbed, how many requests these sent, and how
-//! many replies they handed over about other keys than those that were asked about.
+//! What a link counts of its disturbed exchanges.
+//!
+//! It counts how many were disturbed, how many requests these sent, and how many replies they handed over
+//! about other keys than those that were asked about.
 #![tactic(auto)]
 
 mod counting;

@@ -1,5 +1,5 @@
 -- What holds of the keys of every plan, and of a plan that takes over from another.
--- Source: own: what the laws of the keys and of prolonging say.
+-- Source: own (law): each is proved of all keys and plans.
 use Rattle.std.specs.Prelude.{◌≡◌, ◌≢◌, ◌≤◌, ◌<◌, ◌+◌, ℕ, suc, true, false, List, [], ◌∷◌, ◌++◌, length, take, Some, None, MatchOption}
 use Rattle.std.specs.List.{slice_get}
 use Rattle.kmip_objects.specs.Lifecycle.{after}
@@ -17,64 +17,66 @@ use Rattle.kmip_chains.specs.Chains.{LeadsOn}
 use Rattle.kmip_plan.specs.Prolonging.{GoesOn, Prolongs}
 use Rattle.kmip_chains.specs.Words.{target_word, target_of_word}
 
--- what stands at a place of a lawful plan is found by its name
+-- A key at a place of a lawful plan is found by its name.
 abbrev pub KeysAreFound : Type 0
 KeysAreFound =
     (keys : List Key) (place : ℕ) (key : Key) → IsLawful keys → slice_get keys place ≡ Some key
     → IsPlanned keys key
 
--- what is found has the name, and stands at a place
+-- A key that is found has the name, and is at a place of the list.
 abbrev pub FoundKeysStand : Type 0
 FoundKeysStand =
     (keys : List Key) (name : List ℕ) (key : Key) → key_named name keys ≡ Some key
     → (key.attrs.name ≡ name) × ((place : ℕ) × (slice_get keys place ≡ Some key))
 
--- the keys of a lawful plan at two places have two names
+-- The keys of a lawful plan at two places have two names.
 abbrev pub NamesAreDistinct : Type 0
 NamesAreDistinct =
     (keys : List Key) (i j : ℕ) (key other : Key) → IsLawful keys
     → slice_get keys i ≡ Some key → slice_get keys j ≡ Some other
     → key.attrs.name ≡ other.attrs.name → i ≡ j
 
--- each key of a lawful plan has its values in range
+-- Each key of a lawful plan has its values in their ranges.
 abbrev pub KeysFit : Type 0
 KeysFit = (keys : List Key) → IsLawful keys → EachFits keys
 
--- a key is never revoked because others may know it
+-- A key whose values are in their ranges is not revoked for a compromise.
 abbrev pub ReasonsAreNoCompromise : Type 0
 ReasonsAreNoCompromise = (key : Key) → key_fits key ≡ true → is_compromise key.reason ≡ false
 
--- what a run takes at most is what its keys take, one after the other
+-- The bound of no keys is 0, and with one key more in front it is the bound of that key more.
 abbrev pub BoundsAddUp : Type 0
 BoundsAddUp =
     (bound [] ≡ 0) × ((key : Key) (keys : List Key) → bound (key ∷ keys) ≡ key_bound key + bound keys)
 
--- so it is with keys that go on
+-- A key goes on from itself.
 abbrev pub KeysGoOnFromThemselves : Type 0
 KeysGoOnFromThemselves = (key : Key) → GoesOn key key
 
+-- A key that goes on from a second, which goes on from a third, goes on from the third.
 abbrev pub KeysGoOnAgain : Type 0
 KeysGoOnAgain = (first next last : Key) → GoesOn next first → GoesOn last next → GoesOn last first
 
--- and with plans
+-- A plan prolongs itself.
 abbrev pub PlansProlongThemselves : Type 0
 PlansProlongThemselves = (keys : List Key) → Prolongs keys keys
 
+-- A plan that prolongs a second, which prolongs a third, prolongs the third.
 abbrev pub PlansProlongAgain : Type 0
 PlansProlongAgain = (first next last : List Key) → Prolongs next first → Prolongs last next → Prolongs last first
 
--- each key of the old plan goes on in the key that the new plan has at its place
+-- Each key of the old plan goes on in the key that the new plan has at its place.
 abbrev pub OldKeysStand : Type 0
 OldKeysStand =
     (new old : List Key) (place : ℕ) (key : Key) → Prolongs new old → slice_get old place ≡ Some key
     → (newer : Key) × (slice_get new place ≡ Some newer) × GoesOn newer key
 
--- and in the key that the new plan has under its name
+-- A key that the old plan has under its name goes on in the key that a lawful new plan has under that name.
 abbrev pub OldKeysAreFound : Type 0
 OldKeysAreFound =
     (new old : List Key) (key : Key) → IsLawful new → Prolongs new old → IsPlanned old key
     → (newer : Key) × IsPlanned new newer × (newer.attrs.name ≡ key.attrs.name) × GoesOn newer key
 
--- the new plan has no fewer keys
+-- The new plan has no fewer keys.
 abbrev pub NewPlansAreNoShorter : Type 0
 NewPlansAreNoShorter = (new old : List Key) → Prolongs new old → length old ≤ length new

@@ -2,6 +2,6 @@
 -- Source: own (limit).
 use Rattle.std.specs.Prelude.{ℕ}
 
--- the most keys of a plan
+-- The most keys of a plan.
 abbrev pub most_keys : ℕ
 most_keys = 1000

@@ -1,5 +1,5 @@
 -- What a plan is, without a word of the order in which it is read.
--- Source: TOML 1.1, Table and Array of Tables; the fields and their values are own.
+-- Source: TOML 1.1, Table and Array of Tables; the fields and their values are own (text, choice).
 use Rattle.std.specs.Prelude.{◌≡◌, ◌≤◌, ℕ, ℤ, pos, Bool, true, false, ◌&&◌, ◌||◌, ◌==◌, List, [], ◌∷◌, ◌++◌, length, codes, Option, Some, if◌then◌else◌}
 use Rattle.std.specs.List.{find, list_all, slice_get}
 use Rattle.kmip_objects.specs.Ranges.{is_name, is_length, is_usage, attrs_fit}
@@ -14,7 +14,7 @@ use Rattle.kmip_plan.specs.Tables.{text_at, integer_at, array_at, fields_of, is_
 use Rattle.kmip_chains.specs.Words.{is_text, target_word}
 use Rattle.kmip_plan.specs.Words.{algorithm_word, is_usage_word}
 
--- the array has each usage word of a mask once, no other words, and at least one
+-- The table has an array of usage words, each once and no other words, and this is their mask, in its range.
 pub record IsUsage (ms : Members) (mask : ℤ) : Type 0 where
   pub items : Items
   pub stands : array_at (codes "usage") ms ≡ Some items
@@ -23,13 +23,13 @@ pub record IsUsage (ms : Members) (mask : ℤ) : Type 0 where
   pub mask_is : mask ≡ pos (mask_of items)
   pub in_range : is_usage mask ≡ true
 
--- the word of the key's algorithm stands in the table
+-- The word of this algorithm is in the table.
 pub record IsAlgorithm (ms : Members) (algorithm : ℕ) : Type 0 where
   pub word : List ℕ
   pub stands : text_at (codes "algorithm") ms ≡ Some word
   pub named : algorithm_word algorithm ≡ Some word
 
--- the table has the fields of this key, each in its range, and no others
+-- The table has the fields of this key, each in its range, and no others.
 pub record IsKey (ms : Members) (key : Key) : Type 0 where
   pub no_others : has_only is_key_field ms ≡ true
   pub name : text_at (codes "name") ms ≡ Some key.attrs.name
@@ -41,19 +41,19 @@ pub record IsKey (ms : Members) (key : Key) : Type 0 where
   pub target : text_at (codes "target") ms ≡ Some (target_word key.target)
   pub reason : reason_of key.target ms ≡ Some key.reason
 
--- the items are the keys' tables, one for one
+-- The items are the tables of these keys, one for one.
 abbrev pub AreKeys : Items → List Key → Type 0
 AreKeys no_items [] = Unit {0}
 AreKeys no_items (key ∷ keys) = ⊥
 AreKeys (item d ds) [] = ⊥
 AreKeys (item d ds) (key ∷ keys) = IsKey (fields_of d) key × AreKeys ds keys
 
--- each key has a name that no key before it has
+-- Each key has a name that no key before it has.
 abbrev pub HaveNewNames : List Key → List Key → Type 0
 HaveNewNames before [] = Unit {0}
 HaveNewNames before (key ∷ keys) = (has_key_named key.attrs.name before ≡ false) × HaveNewNames (before ++ key ∷ []) keys
 
--- a table is a plan of these keys
+-- A table is a plan of these keys: it has 1 to 1,000 of them, with distinct names, and nothing else.
 pub record IsPlan (ms : Members) (keys : List Key) : Type 0 where
   pub no_others : has_only is_top_field ms ≡ true
   pub items : Items
@@ -63,29 +63,32 @@ pub record IsPlan (ms : Members) (keys : List Key) : Type 0 where
   pub few : length keys ≤ most_keys
   pub distinct : HaveNewNames [] keys
 
--- the reason of a Revoke that is no compromise, and 0 where the chain has no Revoke
+-- The reason is one of a Revoke that is no compromise, and 0 where the chain of the target has no Revoke. Own
+-- (choice): this project does not revoke for a compromise.
 abbrev pub reason_fits : Target → ℕ → Bool
 reason_fits target reason =
     if is_revoked target then reason == 1 || reason == 4 || reason == 5 || reason == 6 || reason == 7 else reason == 0
 
+-- A key has its attributes and its reason in their ranges.
 abbrev pub key_fits : Key → Bool
 key_fits key = attrs_fit key.attrs && reason_fits key.target key.reason
 
--- what holds of the keys of every plan
+-- What holds of the keys of every plan: there are 1 to 1,000, names are distinct, and all values are in their
+-- ranges. Own (limit, choice).
 pub record IsLawful (keys : List Key) : Type 0 where
   pub some : 1 ≤ length keys
   pub few : length keys ≤ most_keys
   pub distinct : HaveNewNames [] keys
   pub fit : list_all key_fits keys ≡ true
 
--- the key at each place has its values in range
+-- The key at each place has its values in their ranges.
 abbrev pub EachFits : List Key → Type 0
 EachFits keys = (place : ℕ) (key : Key) → slice_get keys place ≡ Some key → key_fits key ≡ true
 
--- the key with the name
+-- The first key with the name. Own (view).
 abbrev pub key_named : List ℕ → List Key → Option Key
 key_named name keys = find (λ k. is_text name k.attrs.name) keys
 
--- the key is the one that these keys have under its name
+-- The key is the one that these keys have under its name. Own (view).
 abbrev pub IsPlanned : List Key → Key → Type 0
 IsPlanned keys key = key_named key.attrs.name keys ≡ Some key

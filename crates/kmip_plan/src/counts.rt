@@ -19,7 +19,7 @@ pub(crate) fn count(array: &Array) -> usize
     array.as_slice().len()
 }
 
-/// How often the word stands in the array.
+/// How often the word is in the array.
 fn times(array: &Array, word: &str) -> usize
     ensures { result ≡ times word.now (array_view array.now) }
 {
@@ -47,7 +47,7 @@ fn all_usages(values: &[Value]) -> bool
     values.iter().all(|value| is_usage(value))
 }
 
-/// Whether no usage stands there twice.
+/// Whether no usage is there twice.
 pub(crate) fn are_once(array: &Array) -> bool
     ensures { result ≡ are_once (array_view array.now) }
 {
@@ -61,7 +61,7 @@ pub(crate) fn are_once(array: &Array) -> bool
         && is_once(array, "mac-verify")
 }
 
-/// The sum of the numbers of the usages that stand there.
+/// The sum of the numbers of the usages that are there.
 pub(crate) fn mask_of(array: &Array) -> u16
     ensures mask { result ≡ mask_of (array_view array.now) }
     ensures small { result ≤ 511 }
@@ -76,7 +76,7 @@ pub(crate) fn mask_of(array: &Array) -> u16
         + bit_of(array, "mac-verify", 256)
 }
 
-/// The number of a usage, where its word stands there.
+/// The number of a usage, where its word is there.
 fn bit_of(array: &Array, word: &str, bit: u16) -> u16
     ensures bit { result ≡ bit_of (array_view array.now) word.now bit }
     ensures most { result ≤ bit }

@@ -65,7 +65,7 @@ pub enum PlanFault {
 }
 
 impl PlanFault {
-    /// The fault's number, 1 to 12.
+    /// The number of the fault, 1 to 12.
     pub fn number(&self) -> u32
         ensures { result ≡ plan_fault_number self.now }
     {
@@ -85,7 +85,7 @@ impl PlanFault {
         }
     }
 
-    /// The fault's name, as it is printed.
+    /// The name of the fault, as it is printed.
     pub fn name(&self) -> &'static str
         ensures { result.now ≡ plan_fault_name self.now }
     {
@@ -105,7 +105,8 @@ impl PlanFault {
         }
     }
 
-    /// The place from 1 of the key that is at fault, 0 for a field beside the keys.
+    /// The place from 1 of the key that is at fault, and 0 for a field beside the keys. A fault of
+    /// the whole text has no place.
     pub fn place(&self) -> Option<usize>
         ensures { result ≡ plan_fault_place self.now }
     {
@@ -122,7 +123,7 @@ impl PlanFault {
         }
     }
 
-    /// The name of the field that is missing or unknown.
+    /// The name of the field that is missing or unknown; none for any other fault.
     pub fn field(&self) -> Option<&str>
         ensures { option_map (λ word. word.now) result ≡ plan_fault_field self.now }
     {

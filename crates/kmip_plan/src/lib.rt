@@ -1,4 +1,4 @@
-//! The plan of a client: which keys it is to make, and how far each is to go.
+//! The plan of a client: which keys to make, and how far each goes.
 #![tactic(auto)]
 
 mod counts;

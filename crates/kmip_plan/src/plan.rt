@@ -39,35 +39,45 @@ impl Plan {
 
     /// How many keys there are. Takes no memory.
     pub fn count(&self) -> usize
+        // It is the number of keys in the list.
         ensures count { result ≡ length self.now }
+        // The plan is lawful: 1 to 1,000 keys, names distinct, values in range, no reason of a compromise.
         ensures lawful { IsLawful self.now }
     {
         self.keys.len()
     }
 
-    /// The key at a place from 0. Takes no memory.
+    /// The key at a place from 0; none beyond the last. Takes no memory.
     pub fn key(&self, place: usize) -> Option<&Key>
+        // It is the key that the list of keys has at this place.
         ensures key { option_copied result ≡ slice_get self.now place }
+        // The plan is lawful: 1 to 1,000 keys, names distinct, values in range, no reason of a compromise.
         ensures lawful { IsLawful self.now }
+        // The key has its attributes and its reason in their ranges.
         ensures fits { IfSome result (λ key. IsTrue (key_fits key.now)) }
     {
         key_at(self.keys.as_slice(), place)
     }
 
-    /// The keys in their order, each with its name, its attributes and its reason in range. Takes
-    /// no memory.
+    /// The keys in their order. Takes no memory.
     pub fn keys(&self) -> &[Key]
+        // They are the keys of the plan.
         ensures value { result.now ≡ self.now }
+        // The plan is lawful: 1 to 1,000 keys, names distinct, values in range, no reason of a compromise.
         ensures lawful { IsLawful self.now }
+        // Each key has its attributes and its reason in their ranges.
         ensures fits { EachFits result.now }
     {
         self.keys.as_slice()
     }
 
-    /// The key with the name. Takes no memory.
+    /// The key with the name; none where no key has it. Takes no memory.
     pub fn key_named(&self, name: &str) -> Option<&Key>
+        // It is the first key that has this name.
         ensures key { option_copied result ≡ key_named name.now self.now }
+        // The plan is lawful: 1 to 1,000 keys, names distinct, values in range, no reason of a compromise.
         ensures lawful { IsLawful self.now }
+        // The key has its attributes and its reason in their ranges.
         ensures fits { IfSome result (λ key. IsTrue (key_fits key.now)) }
     {
         named(self.keys.as_slice(), name)
@@ -86,9 +96,11 @@ fn named<'a>(keys: &'a [Key], name: &str) -> Option<&'a Key>
     keys.iter().find(|key| name == key.attrs.name.as_str())
 }
 
-/// The sum over the keys of the steps of each, and two more. Takes no memory.
+/// The bound of the plan: what a run takes at most where nothing is lost. Takes no memory.
 pub fn bound(plan: &Plan) -> usize
+    // It is the sum over the keys of the steps of each, and two more for each.
     ensures bound { result ≡ bound plan.now }
+    // It is at most 6,000: six for each of 1,000 keys.
     ensures small { result ≤ 6 * most_keys }
 {
     bound_of(plan.keys.as_slice())

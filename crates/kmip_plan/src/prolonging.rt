@@ -7,17 +7,18 @@ use crate::plan::Plan;
 use kmip_chains::Key;
 use kmip_objects::KeyAttrs;
 
-/// Whether the new plan prolongs the old one: it begins with the keys of the old plan, in the
-/// same order. Each has the same attributes there, the way that it had is a beginning of its new way,
-/// and the reason of a Revoke on the old way is the same. Takes no memory, and looks at each key of
-/// the old plan once.
+/// Whether the new plan prolongs the old one: it begins with the keys of the old plan, in the same
+/// order, and each goes on there. A key goes on with the same attributes, its old way is a
+/// beginning of its new way, and the reason of a Revoke on the old way stays.
+///
+/// Takes no memory, and looks at each key of the old plan at most once.
 pub fn prolongs(new: &Plan, old: &Plan) -> bool
     ensures { IsTrue result ↔ Prolongs new.now old.now }
 {
     keys_go_on(new.keys(), old.keys())
 }
 
-/// Whether each of the old keys goes on in the new key that stands in its place.
+/// Whether each of the old keys goes on in the new key at its place.
 #[tactic(auto, using(crate::proofs::ProlongingLemmas::onward))]
 fn keys_go_on(new: &[Key], old: &[Key]) -> bool
     ensures { IsTrue result ↔ Prolongs new.now old.now }

@@ -27,13 +27,16 @@ const KEYS_MAX: usize = 1000;
 /// The plan that a text is: TOML with an array of tables `key` and nothing else.
 ///
 /// # Errors
-/// The first fault in the order of the checks; want of memory otherwise.
+/// The first fault in the order of the checks, with the place of the key; want of memory otherwise.
 pub fn read_plan(alloc: Global, text: &str) -> Result<Plan, PlanFault>
+    // What is read is a plan of the table that `toml` parses the text as.
     ensures found { IfOk result (λ plan.
         (ms : Members) × (parse_document text.now ≡ Some ms) × IsPlan ms plan) }
+    // The keys of a text whose table is a plan of them are read, unless memory runs out.
     ensures only { (ms : Members) (keys : List Key)
         → parse_document text.now ≡ Some ms → IsPlan ms keys
         → GivesPlan (λ plan. plan) result (Ok keys) }
+    // All of this as one function of the text: the keys, or the first fault, unless memory runs out.
     ensures exact { GivesPlan (λ plan. plan) result (plan_read text.now) }
 {
     whole_plan(alloc, text)

@@ -1,4 +1,4 @@
-//! What stands in a table of TOML.
+//! What is in a table of TOML.
 ghost use Rattle.std.specs.Prelude.{◌≡◌, not, option_map, string_bytes};
 ghost use Rattle.std.specs.List.{find};
 ghost use Rattle.std.specs.Map.{keys_of};

@@ -8,7 +8,8 @@ use kmip_objects::standard::{
     REVOCATION_UNSPECIFIED,
 };
 
-/// The word for a Cryptographic Algorithm of a plan. Takes no memory.
+/// The word of a plan for a Cryptographic Algorithm; none for one outside the profile. Takes no
+/// memory.
 pub fn algorithm_word(algorithm: u32) -> Option<&'static str>
     ensures { option_map (λ word. word.now) result ≡ algorithm_word algorithm }
 {

@@ -1,5 +1,5 @@
 -- What may be known of the keys of a plan.
--- Source: own.
+-- Source: own (choice).
 use Rattle.std.specs.Prelude.{◌≡◌, Bool, true, false, ◌&&◌, ◌||◌, ◌==◌, nat_le, List, [], ◌∷◌, length, None, is_some}
 use Rattle.std.specs.List.{list_all, AllZip}
 use Rattle.std.specs.Option.{option_map_or}
@@ -9,19 +9,21 @@ use Rattle.kmip_chains.specs.Chains.{chain}
 use Rattle.kmip_chains.specs.declared.key.Key.{Key}
 use Rattle.kmip_progress.specs.declared.known.Known.{Known}
 
--- nothing is known of a key
+-- Nothing is known of a key: it has no identifier, and no step is done.
 abbrev pub nothing_known : Known
 nothing_known = record { identifier = None; done = 0 }
 
--- an identifier has 1 to 64 bytes, and no step is done without one
+-- An identifier has 1 to 64 bytes, and no step is done without one.
 abbrev pub is_known : Known → Bool
 is_known known = (known.done == 0 || is_some known.identifier) && option_map_or is_identifier known.identifier true
 
--- this may be known of a key: no more steps are done than lead to its target
+-- This may be known of a key: no more steps are done than lead to its target, and none without an identifier,
+-- which has 1 to 64 bytes.
 abbrev pub known_fits : Key → Known → Bool
 known_fits key known = nat_le known.done (length (chain key.target)) && is_known known
 
--- a progress suits the keys of a plan: it has as many, and what it has for each may be known of that key
+-- A progress suits the keys of a plan: it has as many entries, and what it has for each key may be known of
+-- that key.
 abbrev pub Suits : List Key → List Known → Type 0
 Suits keys progress = AllZip (λ key known. known_fits key known ≡ true) keys progress
 
@@ -32,9 +34,10 @@ all_fit [] (known ∷ progress) = false
 all_fit (key ∷ keys) [] = false
 all_fit (key ∷ keys) (known ∷ progress) = known_fits key known && all_fit keys progress
 
--- each identifier is UTF-8, as every text of the code is
+-- An identifier, where there is one, is UTF-8.
 abbrev pub has_text : Known → Bool
 has_text known = option_map_or is_utf8 known.identifier true
 
+-- Each identifier of a progress is UTF-8. Own (view): every text of the code is.
 abbrev pub are_texts : List Known → Bool
 are_texts progress = list_all has_text progress

@@ -11,7 +11,7 @@ use kmip_ttlv::Text;
 pub enum Format {
     /// The line of a key has its name, its target, how many steps are done and its identifier.
     One,
-    /// The same, with the reason of its Revoke behind the target.
+    /// As format 1, with the reason of its Revoke after the target.
     Two,
 }
 

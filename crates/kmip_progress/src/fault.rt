@@ -24,7 +24,7 @@ pub enum ProgressFault {
 }
 
 impl ProgressFault {
-    /// The fault's number, 1 to 4. Takes no memory.
+    /// The number of the fault, 1 to 4. Takes no memory.
     pub fn number(self) -> u32
         ensures { result ≡ progress_fault_number self }
     {
@@ -36,7 +36,7 @@ impl ProgressFault {
         }
     }
 
-    /// The fault's name, as it is printed. Takes no memory.
+    /// The name of the fault, as it is printed. Takes no memory.
     pub fn name(self) -> &'static str
         ensures { result.now ≡ progress_fault_name self }
     {

@@ -1,4 +1,4 @@
-//! What is known of each key of a plan, kept as a text from one run to the next.
+//! What is known of the keys of a plan, kept as a text between runs.
 #![tactic(auto)]
 
 mod entry;

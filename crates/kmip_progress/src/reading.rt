@@ -59,7 +59,7 @@ fn body_of<'a, 't>(lines: &'a [&'t str]) -> Option<(&'a [&'t str], &'t str)>
     Some((body, end))
 }
 
-/// The format that the first line names, and the lines behind it.
+/// The format that the first line names, and the lines after it.
 fn format_in<'a, 't>(body: &'a [&'t str]) -> Option<(Format, &'a [&'t str])>
     ensures { option_map (λ found. (found.0, map (λ line. line.now) found.1.now)) result
         ≡ format_in (map (λ line. line.now) body.now) }
@@ -188,7 +188,7 @@ fn check_count(alloc: Global, number: &str, count: usize) -> Result<(), Progress
     Ok(())
 }
 
-/// The keys behind the first ones, where the lines speak of these, in order.
+/// The keys after the first ones, where the lines speak of these, in order.
 fn keys_behind<'a>(keys: &'a [Key], entries: &[Entry]) -> Option<&'a [Key]>
     ensures { option_map (λ behind. behind.now) result ≡ keys_behind keys.now entries.now }
 {
@@ -223,7 +223,7 @@ fn is_reason(reason: Option<u32>, own: u32) -> bool
     }
 }
 
-/// What is known of each key: what the lines say, and nothing of the keys behind them.
+/// What is known of each key: what the lines say, and nothing of the keys after those.
 fn all_known(alloc: Global, entries: Vec<Entry>, behind: &[Key]) -> Result<Vec<Known>, AllocError>
     ensures { IfOk result (λ known. known.items ≡ all_known entries.items behind.now) }
 {

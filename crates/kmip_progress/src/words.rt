@@ -13,7 +13,7 @@ use kmip_objects::is_identifier;
 use kmip_ttlv::Text;
 use std::alloc::{AllocError, Global};
 
-/// The lines of a text, and what stands behind the last line feed.
+/// The lines of a text, and what comes after the last line feed.
 pub(crate) fn lines(alloc: Global, text: &str) -> Result<Vec<&str>, AllocError>
     ensures { IfOk result (λ lines. map (λ line. line.now) lines.items ≡ parts 0x0A text.now) }
 {

@@ -1,6 +1,6 @@
--- What a list of calls answers, and what the records hold after it: both follow from the records before it, whatever keeps
--- them.
--- Source: own: what the law of two stores says.
+-- What a list of calls answers, and what the records hold after it: both follow from the records before it,
+-- whatever keeps them.
+-- Source: own (law): what is proved of any two stores.
 use Rattle.std.specs.Prelude.{◌≡◌, ℕ, Bool, true, List, [], ◌∷◌, length, take, Result, Ok, Err}
 use Rattle.std.specs.List.{slice_get}
 use Rattle.std.specs.Option.{is_some}
@@ -15,23 +15,23 @@ use Rattle.kmip_store.specs.Stock.{Stock, create, identifier_at, objects_of}
 use Rattle.kmip_store.specs.Stepping.{row_with, take_step}
 use Rattle.kmip_store.specs.Locating.{locate}
 
--- the call may be made: the attributes of a Create are in their ranges, and a Locate gives a name
+-- The call may be made: the attributes of a Create are in their ranges, and a Locate gives a name.
 abbrev pub may_call : Call → Bool
 may_call (Create attrs) = attrs_fit attrs
 may_call (Locate mask filter) = is_some filter.name
 may_call call = true
 
--- the answer to a change of the records that was made or refused
+-- The answer to a change of the records that was made or refused.
 abbrev pub answer_of : Answer → Result Stock StoreFault → Answer
 answer_of done (Ok after) = done
 answer_of done (Err fault) = answers.Refused fault
 
--- the records after a change that was made or refused
+-- The records after a change that was made or refused.
 abbrev pub stock_of : Stock → Result Stock StoreFault → Stock
 stock_of before (Ok after) = after
 stock_of before (Err fault) = before
 
--- what a call answers
+-- What a call answers.
 abbrev pub answer_to : Call → Stock → Answer
 answer_to (Create attrs) s = answer_of (answers.Created (identifier_at (length s.rows))) (create attrs s)
 answer_to (Locate mask filter) s = answers.Located (slice_get (locate mask filter (objects_of s.rows)) 0)
@@ -42,7 +42,7 @@ answer_to (Destroy uid) s = answer_of answers.Moved (take_step steps.Destroy uid
 answer_to Count s = answers.Counted (length s.rows)
 answer_to (At place) s = answers.Found (slice_get s.rows place)
 
--- the records after a call
+-- The records after a call.
 abbrev pub stock_after_call : Call → Stock → Stock
 stock_after_call (Create attrs) s = stock_of s (create attrs s)
 stock_after_call (Activate uid) s = stock_of s (take_step steps.Activate uid s)
@@ -50,16 +50,16 @@ stock_after_call (Revoke uid) s = stock_of s (take_step steps.Revoke uid s)
 stock_after_call (Destroy uid) s = stock_of s (take_step steps.Destroy uid s)
 stock_after_call call s = s
 
--- what the calls answer, one after the other
+-- What the calls answer, one after the other.
 abbrev pub answers_to : List Call → Stock → List Answer
 answers_to [] s = []
 answers_to (call ∷ calls) s = answer_to call s ∷ answers_to calls (stock_after_call call s)
 
--- the records after the calls
+-- The records after the calls.
 abbrev pub stock_after_calls : List Call → Stock → Stock
 stock_after_calls [] s = s
 stock_after_calls (call ∷ calls) s = stock_after_calls calls (stock_after_call call s)
 
--- the records are those after some of the calls, from the first on
+-- The records are those after some of the calls, from the first on.
 abbrev pub IsAfterSome : List Call → Stock → Stock → Type 0
 IsAfterSome calls old new = (done : ℕ) × (new ≡ stock_after_calls (take done calls) old)

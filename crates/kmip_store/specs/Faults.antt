@@ -1,9 +1,10 @@
--- The number and the name of each fault.
--- Source: own.
+-- The number and the name of each fault of a store.
+-- Source: own (fault).
 use Rattle.std.specs.Prelude.{ℕ, List, codes}
 use Rattle.kmip_store.specs.declared.fault.StoreFault.{StoreFault}
 use Rattle.kmip_store.specs.declared.fault.StoreFault.TheVariants.{NotFound, SameName, WrongState, Full, NoMemory}
 
+-- The number of a fault.
 abbrev pub store_fault_number : StoreFault → ℕ
 store_fault_number NotFound = 1
 store_fault_number SameName = 2
@@ -11,6 +12,7 @@ store_fault_number WrongState = 3
 store_fault_number Full = 4
 store_fault_number NoMemory = 5
 
+-- The name of a fault, as it is printed.
 abbrev pub store_fault_name : StoreFault → List ℕ
 store_fault_name NotFound = codes "NotFound"
 store_fault_name SameName = codes "SameName"

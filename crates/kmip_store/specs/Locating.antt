@@ -10,19 +10,20 @@ use Rattle.kmip_objects.specs.declared.standard.TheConstants.{STORAGE_ON_LINE, S
 use Rattle.kmip_objects.specs.declared.state.KeyState.{KeyState}
 use Rattle.kmip_objects.specs.declared.state.KeyState.TheVariants.{Destroyed}
 
--- the bit of a Storage Status Mask that stands for objects of a state
+-- The bit of a Storage Status Mask that stands for objects of a state.
 abbrev pub storage_bit : KeyState → ℕ
 storage_bit Destroyed = STORAGE_DESTROYED
 storage_bit state = STORAGE_ON_LINE
 
--- objects of the state are searched: where there is no mask those on-line alone
+-- Objects of the state are searched: the mask, read as its bits in two's complement, has their bit. Without a
+-- mask those on-line alone are.
 abbrev pub is_searched : Option ℤ → KeyState → Bool
 is_searched mask state = not (bit_and (option_map_or (cast_unsigned w32) mask STORAGE_ON_LINE) (storage_bit state) == 0)
 
--- a Locate finds the object
+-- A Locate finds the object: it is searched, and has every attribute that is given.
 abbrev pub is_wanted : Option ℤ → Attrs → Object → Bool
 is_wanted mask given o = is_searched mask o.state && has_given given o.attrs o.state
 
--- the identifiers of the objects that a Locate finds
+-- The identifiers of the objects that a Locate finds.
 abbrev pub locate : Option ℤ → Attrs → List Object → List (List ℕ)
 locate mask given objects = map (λ o. o.uid) (filter (is_wanted mask given) objects)

@@ -36,7 +36,7 @@ pub enum Call {
     At(usize),
 }
 
-/// What a call answered, other than want of memory.
+/// The answer to a call, other than want of memory.
 #[derive(Drop)]
 pub enum Answer {
     /// An object was made, and has this identifier.
@@ -53,21 +53,24 @@ pub enum Answer {
     Refused(StoreFault),
 }
 
-/// Makes the calls one after the other, and answers what each of them answered.
+/// Makes the calls one after the other, and returns the answer to each.
 ///
 /// # Errors
-/// Where there is no memory for a call or for its answer; the records are then those after some of
-/// the calls, from the first on.
+/// Where there is no memory for a call or for its answer.
 pub fn call_all<S: Records>(
     alloc: Global,
     store: &mut S,
     calls: &[Call],
 ) -> Result<Vec<Answer>, NoMemory>
+    // Each call may be made: the attributes of a Create are in their ranges, and a Locate gives a name.
     requires { IsTrue (list_all may_call calls.now) }
+    // What the calls answer, one after the other, follows from the records before them alone.
     ensures answers { IfOk result (λ answers. answers.items
         ≡ answers_to calls.now (S.stock store.old)) }
+    // So do the records after them.
     ensures stock { OnOk result (S.stock store.new
         ≡ stock_after_calls calls.now (S.stock store.old)) }
+    // Where memory runs out the records are those after some of the calls, from the first on.
     ensures broken_off { OnErr result (IsAfterSome calls.now (S.stock store.old)
         (S.stock store.new)) }
 {
@@ -79,30 +82,34 @@ pub fn call_all<S: Records>(
     Ok(answers)
 }
 
-/// Makes the same calls of two stores, and answers what each of them answered. Where both had the same
-/// records, as two stores of one seed and room have, the answers are the same, and so are the records
-/// after them, however each keeps its rows.
+/// Makes the same calls of two stores, and returns the answers of each. Two stores of one seed and
+/// room begin with the same records, however each keeps its rows.
 ///
 /// # Errors
-/// Where there is no memory for a call or for its answer; the records of each are then those after
-/// some of the calls, from the first on.
+/// Where there is no memory for a call or for its answer.
 pub fn call_both<A: Records, B: Records>(
     alloc: Global,
     first: &mut A,
     second: &mut B,
     calls: &[Call],
 ) -> Result<(Vec<Answer>, Vec<Answer>), NoMemory>
+    // Each call may be made: the attributes of a Create are in their ranges, and a Locate gives a name.
     requires { IsTrue (list_all may_call calls.now) }
+    // What each store answers follows from its records before the calls alone.
     ensures each { IfOk result (λ both. (both.0.items ≡ answers_to calls.now (A.stock first.old))
         × (both.1.items ≡ answers_to calls.now (B.stock second.old))) }
+    // So do the records of each after them.
     ensures after { OnOk result ((A.stock first.new
         ≡ stock_after_calls calls.now (A.stock first.old))
         × (B.stock second.new ≡ stock_after_calls calls.now (B.stock second.old))) }
+    // Where memory runs out the records of each are those after some of the calls, from the first on.
     ensures broken_off { OnErr result (IsAfterSome calls.now (A.stock first.old)
         (A.stock first.new) × IsAfterSome calls.now (B.stock second.old) (B.stock second.new)) }
+    // Two stores that had the same records answer alike.
     ensures answers { IfOk result (λ both. A.stock first.old ≡ B.stock second.old
         → both.0.items
         ≡ both.1.items) }
+    // They have the same records after the calls too.
     ensures stock { OnOk result (A.stock first.old ≡ B.stock second.old → A.stock first.new
         ≡ B.stock second.new) }
 {
@@ -111,7 +118,7 @@ pub fn call_both<A: Records, B: Records>(
     Ok((ours, theirs))
 }
 
-/// Makes a call, and answers what it answered.
+/// Makes a call, and returns its answer.
 fn call_one<S: Records>(alloc: Global, store: &mut S, call: &Call) -> Result<Answer, NoMemory>
     requires { IsTrue (may_call call.now) }
     ensures answer { IfOk result (λ answer. answer ≡ answer_to call.now (S.stock store.old)) }

@@ -26,7 +26,7 @@ pub enum StoreFault {
 }
 
 impl StoreFault {
-    /// The fault's number, 1 to 5.
+    /// The number of the fault, 1 to 5.
     pub fn number(self) -> u32
         ensures { result ≡ store_fault_number self }
     {
@@ -39,7 +39,7 @@ impl StoreFault {
         }
     }
 
-    /// The fault's name, as it is printed.
+    /// The name of the fault, as it is printed.
     pub fn name(self) -> &'static str
         ensures { result.now ≡ store_fault_name self }
     {

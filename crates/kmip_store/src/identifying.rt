@@ -12,14 +12,16 @@ pub const MOST_ROOM: usize = 10_000;
 /// The seed of the test server's key material: the same keys in each run (own).
 pub const SEED: [u8; 32] = [0; 32];
 
-/// The Unique Identifier of the object that is made at a place, from 0: the decimal number of the
-/// place, from 1 (own).
+/// The Unique Identifier of the object that is made at a place, from 0 (own).
 ///
 /// # Errors
 /// Where there is no memory for it.
 pub fn identifier_at(alloc: Global, place: usize) -> Result<Text, AllocError>
+    // The place is at most 10,000.
     requires { place ≤ most_room }
+    // It is the decimal number of the place, from 1.
     ensures value { IfOk result (λ uid. uid ≡ identifier_at place) }
+    // It is in the range of identifiers.
     ensures lawful { IfOk result (λ uid. IsTrue (is_identifier uid)) }
 {
     let uid = (place + 1).to_string(alloc)?;

@@ -43,9 +43,10 @@ impl Model for IndexedStore {
 }
 
 impl IndexedStore {
-    /// No rows, and room for this many, at most 10,000. The key material is drawn from the stream of
-    /// ChaCha20 that the seed begins. Takes no memory.
+    /// No rows, and room for this many. The key material is drawn from the stream of ChaCha20 that
+    /// the seed begins. Takes no memory.
     pub fn new(alloc: Global, seed: [u8; 32], room: usize) -> Self
+        // The room is for at most 10,000 rows.
         requires { room ≤ most_room }
         ensures { result ≡ empty_stock seed room }
     {

@@ -1,5 +1,8 @@
-//! The objects of the test server: the trait `Records`, two stores that keep them, a plain list and
-//! rows under maps of their names and identifiers, and the law that any two stores answer alike.
+//! The objects of the test server, and two stores that keep them.
+//!
+//! `Records` is the trait of whatever keeps the records, and each of its calls is proved for any of them. Two
+//! stores meet it: `ListStore`, a plain list, and `IndexedStore`, whose look-ups go by maps from the names
+//! and from the identifiers. That any two stores answer alike is proved of `call_both`.
 #![tactic(auto)]
 
 mod calling;

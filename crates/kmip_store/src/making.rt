@@ -26,7 +26,7 @@ pub(crate) fn new_row(alloc: Global, place: usize, attrs: &KeyAttrs) -> Result<R
     })
 }
 
-/// A new object: its row, and what stands beside it.
+/// A new object: its row, and what is kept beside it.
 #[derive(Drop)]
 pub(crate) struct NewObject {
     pub(crate) row: Row,

@@ -8,7 +8,7 @@ use rand_chacha::ChaCha20Rng;
 use rand_core::utils;
 use std::alloc::{AllocError, Global};
 
-/// Zeros in the place of the material of a key of so many bits, until it is drawn.
+/// Zeros in the place of the material of a key of this many bits, until it is drawn.
 pub(crate) fn zeroed(alloc: Global, bits: i32) -> Result<Bytes, AllocError>
     ensures { IfOk result (λ material. length material ≡ material_size bits) }
 {
@@ -16,7 +16,7 @@ pub(crate) fn zeroed(alloc: Global, bits: i32) -> Result<Bytes, AllocError>
     Ok(Bytes::from_vec(zeros))
 }
 
-/// How many bytes a key of so many bits has.
+/// How many bytes a key of this many bits has.
 fn material_size(bits: i32) -> usize
     ensures { result ≡ material_size bits }
 {

@@ -1,5 +1,5 @@
-//! Maps from texts to places: from the names of the rows, or from their identifiers, to where the rows
-//! stand.
+//! Maps from texts to places: from the names of the rows, or from their identifiers, to the places of
+//! the rows.
 ghost use Rattle.std.specs.Prelude.{◌≡◌, ◌-◌, ◌++◌, [], ◌∷◌, length, take, OnErr, OnOk, string_bytes, is_some, None};
 ghost use Rattle.indexmap.specs.IndexMap.{get_by_text};
 ghost use Rattle.kmip_store.specs.Indexing.{Notes};

@@ -84,7 +84,7 @@ fn step_at(rows: &mut Vec<Row>, place: Option<usize>, step: Step) -> Result<(), 
     Ok(())
 }
 
-/// Where the row with the identifier stands.
+/// The place of the row with the identifier.
 fn place_with(rows: &[Row], uid: &str) -> Option<usize>
     ensures { result ≡ position (λ r. pointwise nat_eq uid.now r.uid) rows.now }
 {
