@@ -70,7 +70,8 @@ pub fn form_of(is_canonical: bool) -> Form
     }
 }
 
-/// What to check: the plan at a path, after the earlier one where there is a path of one.
+/// The choice to check the plan at just this path, and after the one at the earlier path where there is
+/// one.
 ///
 /// # Errors
 /// Where there is no memory.
@@ -99,8 +100,9 @@ pub fn detail_of(is_traced: bool) -> Detail
     }
 }
 
-/// What to simulate: the plan at a path, and then the further one where there is a path of one, over
-/// the script at another; how much to tell of it; and about how many keys a message asks at most.
+/// The choice to simulate the plan at just this path, and then the further one where there is a path of
+/// one, over the script at the other path. It tells `detail` of it, and a message asks about at most
+/// `batch` keys.
 ///
 /// # Errors
 /// Where there is no memory.
