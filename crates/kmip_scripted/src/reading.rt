@@ -16,20 +16,25 @@ pub const MOST_LINES: usize = 10_000;
 /// The most digits that a number may have (own).
 pub const MOST_DIGITS: usize = 6;
 
-/// Reads a script: a word a line, where a number is one space behind it, and empty lines stand for
-/// nothing. What stands behind the last line feed is a line where it is not empty. Takes memory for the
+/// Reads a script: a word a line, where a number is one space after it, and empty lines stand for
+/// nothing. What stands after the last line feed is a line where it is not empty. Takes memory for the
 /// words alone.
 ///
 /// # Errors
 /// `Line` with the number of the first line, from 1, that is no word, or that is one of more than
 /// 10,000; and `NoMemory`.
 pub fn read_script(alloc: Global, text: &str) -> Result<Script, ScriptFault>
+    // What is read is a script of exactly the words that the text has.
     ensures found { IfOk result (λ script. IsScript text.now script) }
+    // A text that is a script of some words is read as these, unless memory runs out.
     ensures only { (words : List WordLem) → IsScript text.now words
         → GivesScript (λ script. script) result (Ok words) }
+    // `Line` names the first line that is at fault.
     ensures fault { (number : ℕ) → result ≡ Err (Line number) → FailsAt text.now number }
+    // Where a line is the first at fault, that line is named, unless memory runs out.
     ensures first { (number : ℕ) → FailsAt text.now number
         → GivesScript (λ script. script) result (Err (Line number)) }
+    // All of this as one function of the text.
     ensures exact { GivesScript (λ script. script) result (script_read text.now) }
 {
     whole_script(alloc, text)
