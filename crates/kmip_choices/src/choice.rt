@@ -48,7 +48,7 @@ pub enum Choice {
     Serve(ServeOptions),
 }
 
-/// How to answer, by whether the lines are pieces of a stream.
+/// How to answer, by whether the lines are pieces of a stream: `AnswerStream`, or else `Answer`.
 pub fn answer_of(is_stream: bool) -> Choice
     ensures { result ≡ (if is_stream then AnswerStream else Answer) }
 {
@@ -59,7 +59,8 @@ pub fn answer_of(is_stream: bool) -> Choice
     }
 }
 
-/// The form that `show` prints, by whether it was asked for the canonical one.
+/// The form that `show` prints, by whether it was asked for the canonical one: `Canonical`, or else
+/// `Text`.
 pub fn form_of(is_canonical: bool) -> Form
     ensures { result ≡ (if is_canonical then Canonical else Text) }
 {
@@ -89,7 +90,8 @@ pub fn check_of(alloc: Global, plan: &str, earlier: Option<&str>) -> Result<Choi
     }
 }
 
-/// How much to tell of a simulation, by whether it was asked for each exchange.
+/// How much to tell of a simulation, by whether it was asked for each exchange: `Exchanges`, or else
+/// `Runs`.
 pub fn detail_of(is_traced: bool) -> Detail
     ensures { result ≡ (if is_traced then Exchanges else Runs) }
 {

@@ -57,7 +57,7 @@ pub struct ProbeOptions {
 pub enum Peer {
     /// At this address and port.
     Tcp(SocketAddrV4),
-    /// At the Unix socket with this path.
+    /// On the Unix socket at this path.
     Unix(String),
     /// In this process: a new one with no object.
     Loopback,

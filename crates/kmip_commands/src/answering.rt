@@ -44,10 +44,13 @@ pub fn run_answer<R: BufRead, W: Write>(alloc: Global, reader: &mut R, writer: &
 /// whether a line was refused. A refused line prints why, and does not end the command.
 ///
 /// Over any reader and writer whose bytes a contract knows, where it ends without a fault, it has
-/// written exactly this: the replies of one server to the messages on the lines, in order, at the time
-/// 0, from no records, room for 10,000 and a seed of zeros; and for each other line that is not empty,
-/// the line that says why it is no message. Where it breaks off, and the writer did not fail, it has
-/// written exactly that of some first lines. The text is `answer_text`. Nothing is asked of the caller.
+/// written exactly this:
+/// - the replies of one server to the messages on the lines, in order, at the time 0, from no records,
+/// room for 10,000 and a seed of zeros;
+/// - for each other line that is not empty, the line that says why it is no message.
+///
+/// Where it breaks off, and the writer did not fail, it has written exactly that of some first lines.
+/// The text is `answer_text`. Nothing is asked of the caller.
 ///
 /// # Errors
 /// `Input` where the reader fails, `Output` where the writer does, and `NoMemory`. Unless the writer

@@ -25,7 +25,7 @@ use std::io::{BufRead, Write};
 pub enum InputEnd {
     /// After a whole message, or before the first.
     Whole,
-    /// Inside a message, of which so many bytes came: 1 to 8,191.
+    /// Inside a message, of which this many bytes came: 1 to 8,191.
     Cut(usize),
     /// At a head that is no message's.
     Refused(FrameFault),

@@ -41,7 +41,7 @@ pub fn run_probe<L: Link, W: Write>(
     ensures text { IsTrue (is_prefix prefix.now) → IfWhole result (λ r. WritesProbe
         L.past L.honest prefix.now link.old link.new r
         (W.contents writer.old) (W.contents writer.new)) }
-    // Of any other prefix a line says so, it is refused, and nothing is asked.
+    // Of any other prefix nothing is asked. Where it does not fail, a line says so, and it is refused.
     ensures unfit { is_prefix prefix.now ≡ false → (link.new ≡ link.old) × IfWhole result
         (λ r. (r ≡ true) × Appends (W.contents writer.old) (W.contents writer.new) unfit_text) }
     // Where it ends with `Failed`, what was written is some first lines of what is told of answers that
@@ -54,9 +54,9 @@ pub fn run_probe<L: Link, W: Write>(
     // Over an honest link at most 25 messages are sent, however it ends.
     ensures few { (names : Names) → L.honest link.old names
         → length (L.past link.new).sent ≤ length (L.past link.old).sent + QUESTIONS }
-    // Over a calm link to a server whose objects have distinct names and identifiers, none with one of
-    // the two names, and with room for two more: the text names the two keys and says yes to every
-    // premise, and nothing is refused. That is said unless memory or the writer fails.
+    // It asks for a calm link to a server whose objects have distinct names and identifiers, none of them
+    // one of the two names, with room for two more. Then the text names the two keys and says yes to
+    // every premise, and nothing is refused, unless memory or the writer fails.
     ensures kept { IsTrue (is_prefix prefix.now) → (names : Names) → L.calm link.old names
         → IsUnprobed prefix.now (L.past link.old) → IfWhole result (λ r. (r ≡ false)
         × Appends (W.contents writer.old) (W.contents writer.new)
@@ -115,7 +115,7 @@ pub fn probe_bytes<L: Link>(
     ensures text { IsTrue (is_prefix prefix.now) → IfOk result (λ r. WritesProbe
         L.past L.honest prefix.now link.old link.new r
         (Some output.old.items) (Some output.new.items)) }
-    // Of any other prefix a line says so, it is refused, and nothing is asked.
+    // Of any other prefix nothing is asked. Where it does not fail, a line says so, and it is refused.
     ensures unfit { is_prefix prefix.now ≡ false → (link.new ≡ link.old) × IfOk result
         (λ r. (r ≡ true) × (output.new.items ≡ output.old.items ++ unfit_text)) }
     // At want of memory nothing is appended.
@@ -123,9 +123,9 @@ pub fn probe_bytes<L: Link>(
     // Over an honest link at most 25 messages are sent, however it ends.
     ensures few { (names : Names) → L.honest link.old names
         → length (L.past link.new).sent ≤ length (L.past link.old).sent + QUESTIONS }
-    // Over a calm link to a server whose objects have distinct names and identifiers, none with one of
-    // the two names, and with room for two more: the text names the two keys and says yes to every
-    // premise, and nothing is refused. That is said unless memory runs out.
+    // It asks for a calm link to a server whose objects have distinct names and identifiers, none of them
+    // one of the two names, with room for two more. Then the text names the two keys and says yes to
+    // every premise, and nothing is refused, unless memory runs out.
     ensures kept { IsTrue (is_prefix prefix.now) → (names : Names) → L.calm link.old names
         → IsUnprobed prefix.now (L.past link.old) → IfOk result (λ r. (r ≡ false)
         × (output.new.items ≡ output.old.items ++ (making_text prefix.now ++ kept_text))) }

@@ -36,14 +36,14 @@ pub record Came {L K : Type 0} (past : L → Past) (honest calm : L → Names �
   -- Over an honest link, each message asked about keys of the plan. What is known then is what was known
   -- at first and what the exchanges handed over.
   pub learnt : honest old (is_planned keys) → Learnt keys most (past old) (past new) knowns nexts exchanges
-  -- Where the keeper keeps what it is given, it does so still, and the text of what was known after each
+  -- Where the keeper keeps what it is given, it does so still. The text of what was known after each
   -- exchange was kept, but for the last one where it could not be (`AreSaved`). Where all was good, what
   -- each of these texts says is true of the objects at the end, so that the next run may begin with it.
   pub saved_are : keeps old_keeper → keeps new_keeper
       × AreSaved keys most (good keys) (honest old (is_planned keys)) (record { knowns = knowns; past = past old }) (record { knowns = nexts; past = past new }) result exchanges (saved old_keeper) (saved new_keeper)
   -- Over a calm link, with what is ready to settle, and a limit of at least the plan's bound: every key
-  -- is finished after no more exchanges than the bound, where each text could be kept, memory did not run
-  -- out, and patience has not given up.
+  -- is finished after no more exchanges than the bound. That is said where each text could be kept,
+  -- memory did not run out, and patience has not given up.
   pub settles : calm old (is_planned keys) → IsReady (past old).room keys (past old).objects knowns → bound keys ≤ limit → is_tired ≡ false → IsWhole result
       → (result ≡ Ok stops.AllFinished) × (exchanges ≤ bound keys)
   -- It stops with `Limit` only after as many exchanges as it may make, or where patience has given up.

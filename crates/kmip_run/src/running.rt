@@ -75,10 +75,10 @@ pub fn run_run<L: Link, K: Keeper, E: Patience, W: Write>(
     // nothing is said.
     ensures broken { IfFailed result (λ fault. UnlessOutput fault
         (Appends (W.contents writer.old) (W.contents writer.new) (fault_line fault))) }
-    // Where the text is a plan, the link is honest for its names, all that has happened over it is sound,
-    // and the progress, if there is one, is true: the link is honest and all is sound after it too,
-    // however it ends. The objects have gone onward, and a past that was an image of the plan machine is
-    // one still.
+    // It asks that the text is a plan, that the link is honest for its names, that all that has happened
+    // over it is sound, and that the progress, if any, is true. Then the link is honest and all is sound
+    // after it too, however it ends. The objects have gone onward, and a past that was an image of the
+    // plan machine is one still.
     ensures safe { (keys : List Key) → plan_read plan.now ≡ Ok keys
         → GoodLink L.past L.honest keys link.old
         → IsTrueText (L.past link.old).objects keys
@@ -125,9 +125,10 @@ pub fn run_plan<L: Link, K: Keeper, E: Patience, W: Write>(
     // nothing is said.
     ensures broken { IfFailed result (λ fault. UnlessOutput fault
         (Appends (W.contents writer.old) (W.contents writer.new) (fault_line fault))) }
-    // Where the link is honest for the names of the plan, all that has happened over it is sound, and the
-    // progress, if there is one, is true: the link is honest and all is sound after it too, however it
-    // ends. The objects have gone onward, and a past that was an image of the plan machine is one still.
+    // It asks that the link is honest for the names of the plan, that all that has happened over it is
+    // sound, and that the progress, if any, is true. Then the link is honest and all is sound after it
+    // too, however it ends. The objects have gone onward, and a past that was an image of the plan
+    // machine is one still.
     ensures safe { GoodLink L.past L.honest plan.now link.old
         → IsTrueText (L.past link.old).objects plan.now
         (option_map (λ text. text.now) saved.entry)
@@ -205,11 +206,12 @@ fn print_told<P: Printer>(told: &Told, printer: &mut P) -> Result<bool, CommandF
 /// or else the progress, it writes the line of the refusal; then nothing is asked, and nothing is kept.
 /// Nothing is written before the run has ended.
 ///
-/// The result is true where something was refused, not kept, or left unfinished. That is said of every
-/// link, every keeper and every writer. Of the link over sockets that kmipctl gives no clause says that
-/// it is honest, and no clause speaks of the bytes of a file: that both are what they should be is a
-/// premise in words. `run` calls `kmip_running::carry_out` once. What that promises beyond this stands
-/// there.
+/// The result is true where something was refused, not kept, or left unfinished.
+///
+/// That is said of every link, every keeper and every writer. Of the link over sockets that kmipctl
+/// gives, no clause says that it is honest. No clause speaks of the bytes of a file. That both are what
+/// they should be is a premise in words. `run` calls `kmip_running::carry_out` once; what that promises
+/// beyond this stands there.
 ///
 /// # Errors
 /// `Output` where the writer fails, and `NoMemory`: nothing is written then. What the keeper was given
@@ -244,10 +246,10 @@ pub fn run<L: Link, K: Keeper, E: Patience, W: Write>(
         (Appends (W.contents writer.old) (W.contents writer.new) [])) }
     // No fault is one of reading, as nothing is read.
     ensures no_input { IfErr result (λ fault. fault ≢ CommandFault.Input) }
-    // Where the text is a plan, the link is honest for its names, all that has happened over it is sound,
-    // and the progress, if there is one, is true: the link is honest and all is sound after it too,
-    // however it ends. The objects have gone onward, and a past that was an image of the plan machine is
-    // one still.
+    // It asks that the text is a plan, that the link is honest for its names, that all that has happened
+    // over it is sound, and that the progress, if any, is true. Then the link is honest and all is sound
+    // after it too, however it ends. The objects have gone onward, and a past that was an image of the
+    // plan machine is one still.
     ensures safe { (keys : List Key) → plan_read plan.now ≡ Ok keys
         → GoodLink L.past L.honest keys link.old
         → IsTrueText (L.past link.old).objects keys
@@ -293,10 +295,10 @@ pub fn run_bytes<L: Link, K: Keeper, E: Patience>(
         input.now.path.now input.now.limit r (Some output.old.items) (Some output.new.items)) }
     // At want of memory, the only fault, nothing is appended.
     ensures broken { OnErr result (output.new.items ≡ output.old.items) }
-    // Where the text is a plan, the link is honest for its names, all that has happened over it is sound,
-    // and the progress, if there is one, is true: the link is honest and all is sound after it too,
-    // however it ends. The objects have gone onward, and a past that was an image of the plan machine is
-    // one still.
+    // It asks that the text is a plan, that the link is honest for its names, that all that has happened
+    // over it is sound, and that the progress, if any, is true. Then the link is honest and all is sound
+    // after it too, however it ends. The objects have gone onward, and a past that was an image of the
+    // plan machine is one still.
     ensures safe { (keys : List Key) → plan_read plan.now ≡ Ok keys
         → GoodLink L.past L.honest keys link.old
         → IsTrueText (L.past link.old).objects keys

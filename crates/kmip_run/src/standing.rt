@@ -47,7 +47,7 @@ pub fn standing_line(alloc: Global, client: &Client<'_>, spent: Spent) -> Result
     line_of(alloc, finished, client.plan().count(), spent, most)
 }
 
-/// The line for so many keys, and so many more exchanges at most.
+/// The line for this many keys, and at most this many more exchanges.
 fn line_of(
     alloc: Global,
     finished: usize,

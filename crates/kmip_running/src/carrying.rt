@@ -55,12 +55,12 @@ pub fn carry_out<L: Link, K: Keeper, P: Patience>(
     patience: &mut P,
     limit: usize,
 ) -> (Result<Stop, SaveFault>, usize)
-    // Where the link is honest for the plan's names, all that has happened over it is sound, and what the
-    // client knows is true, all three are so after it, however it stops.
+    // Where all is good, it is so after it, however it stops: the link is honest for the plan's names,
+    // all that has happened over it is sound, and what the client knows is true.
     ensures good { IsGood L.past L.honest client.old link.old
         → IsGood L.past L.honest client.new link.new }
-    // Where all three were so, the objects have gone onward. A past that was an image of the plan machine
-    // is one still.
+    // Where all was good, the objects have gone onward. A past that was an image of the plan machine is
+    // one still.
     ensures goes { IsGood L.past L.honest client.old link.old
         → WentOn client.old.keys (L.past link.old) (L.past link.new) }
     // A link that was honest for the plan's names is so after it. Unless it stops for want of memory, as
@@ -117,20 +117,20 @@ pub fn carry_out<L: Link, K: Keeper, P: Patience>(
     // that was made, and exactly one where each message asks about one key.
     ensures calm { IsSettling L.past L.calm client.old link.old → IsWhole result.0
         → Nearer L.past L.calm client.old client.new link.old link.new result.1 }
-    // Over a calm link, where the client was ready to settle, with a limit of at least the plan's bound:
-    // it stops with `AllFinished`, unless patience has given up, memory ran out or a text was not saved.
-    // It makes no more exchanges than the keys needed questions, at most the bound, and exactly as many
-    // where each message asks about one key.
+    // Over a calm link, where the client was ready to settle, with a limit of at least the plan's bound,
+    // it stops with `AllFinished`. It makes no more exchanges than the keys needed questions, at most the
+    // bound, and exactly as many where each message asks about one key. That is said unless patience has
+    // given up, memory ran out or a text was not saved.
     ensures settles { IsSettling L.past L.calm client.old link.old
         → bound client.old.keys ≤ limit → P.has_given_up patience.new ≡ false
         → IsWhole result.0 → (result.0 ≡ Ok Stop.AllFinished)
         × (result.1 ≤ need client.old (L.past link.old))
         × (AsksOne client.old → result.1 ≡ need client.old (L.past link.old))
         × (result.1 ≤ bound client.old.keys) }
-    // Where all was good, with no premise of calm, and unless it stops for want of memory: the exchanges
-    // that were made and those that are left are no more than were left, and what disturbed exchanges
-    // cost. That is so also where the text of the last one was not saved; what arrives at the end of the
-    // run adds nothing.
+    // Where all was good, with no premise of calm: the exchanges that were made and those that are left
+    // are no more than were left, and what disturbed exchanges cost. That is said unless it stops for
+    // want of memory, and also where the text of the last one was not saved. What arrives at the end of
+    // the run adds nothing.
     ensures losing { IsGood L.past L.honest client.old link.old → IsInMemory result.0
         → ArePaid result.1 (left_for client.old (L.past link.old))
         (left_for client.new (L.past link.new)) (L.disturbances link.old)

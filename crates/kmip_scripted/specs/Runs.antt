@@ -25,8 +25,8 @@ with_word word (run ∷ runs) = record run { limit = (if is_exchange word then 1
 
 -- The runs of words, where the first begins with `start`; it is begun where words of its own stand before
 -- these. A `restart` that ends no run only says what the next one begins with; `prolong` ends a run as
--- `save` does. No word ends the last run, which may make `more` exchanges than it has words for. Each run
--- asks about one key at once.
+-- `save` does. No word ends the last run, which may make `more` exchanges beyond those that it has words
+-- for. Each run asks about one key at once.
 abbrev pub runs_from : ℕ → Bool → Start → List Word → List Run
 runs_from more begun start [] = record { start = start; limit = more; batch = 1; save = false } ∷ []
 runs_from more begun start (Save ∷ words) = record { start = start; limit = 0; batch = 1; save = true } ∷ runs_from more false Same words

@@ -24,7 +24,7 @@ abbrev pub at_space : List ℕ → Option (List ℕ × List ℕ)
 at_space [] = None
 at_space (byte ∷ bytes) = if byte == 32 then Some ([], bytes) else before_space byte (at_space bytes)
 
--- The word without a number that a line says.
+-- The word without a number that a line says; none where it says none of these.
 abbrev pub plain_word : List ℕ → Option Word
 plain_word word =
     if is_text word (codes "pass") then Some Pass

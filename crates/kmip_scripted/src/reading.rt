@@ -68,7 +68,7 @@ fn words_of(alloc: Global, text: &str) -> Result<Vec<Word>, ScriptFault>
     Ok(words)
 }
 
-/// The first line of a text that is not empty, without its line feed, and what stands behind that.
+/// The first line of a text that is not empty, without its line feed, and what stands after that.
 fn first_line(text: &str) -> (&str, &str)
     requires { 0 < length text.now }
     ensures { lines_in text.now ≡ result.0.now ∷ lines_in result.1.now }
@@ -109,7 +109,7 @@ fn word_in(line: &str) -> Option<Word>
     }
 }
 
-/// A word with no number behind it.
+/// A word with no number after it.
 fn plain_word(word: &str) -> Option<Word>
     ensures { result ≡ plain_word word.now }
 {
@@ -123,7 +123,7 @@ fn plain_word(word: &str) -> Option<Word>
     }
 }
 
-/// A word with a number behind it, or with `none`.
+/// A word with a number after it, or with `none`.
 fn numbered_word(word: &str, number: &str) -> Option<Word>
     ensures { result ≡ numbered_word word.now number.now }
 {

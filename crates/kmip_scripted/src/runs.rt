@@ -61,7 +61,7 @@ impl Script {
     }
 }
 
-/// The words before the first `prolong`, and those behind it.
+/// The words before the first `prolong`, and those after it.
 fn parts(words: &[Word]) -> (&[Word], &[Word])
     ensures before { result.0.now ≡ words_before words.now }
     ensures behind { result.1.now ≡ words_behind words.now }
@@ -104,7 +104,7 @@ fn count_saved(runs: &[Run]) -> usize
 }
 
 /// The runs of words, of which the first begins with `start`, and the last, which no word ends, may
-/// make so many exchanges more than it has words for.
+/// make `more` exchanges beyond those that it has words for.
 ///
 /// # Errors
 /// Where there is no memory for them.
