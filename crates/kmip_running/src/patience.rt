@@ -8,8 +8,9 @@ pub trait Patience {
     /// Whether it has given up.
     ghost has_given_up: { Self → Bool };
 
-    /// An exchange was made, and what is known after it was saved. It is told what the client knows
-    /// now, and whether the client got on by that exchange. Nobody gives up by being told.
+    /// An exchange was made, and its text was given to the keeper, unless memory ran out. It is told
+    /// what the client knows now, and whether the client got on by that exchange. Nobody gives up by
+    /// being told.
     fn exchanged(&mut self, client: &Client<'_>, got_on: bool)
         ensures { has_given_up self.new ≡ has_given_up self.old };
 
