@@ -59,8 +59,8 @@ pub fn carry_out<L: Link, K: Keeper, P: Patience>(
     // all that has happened over it is sound, and what the client knows is true.
     ensures good { IsGood L.past L.honest client.old link.old
         → IsGood L.past L.honest client.new link.new }
-    // Where all was good, the objects have gone onward. A past that was an image of the plan machine is
-    // one still.
+    // Where all was good (`IsGood`), the objects have gone onward. A past that was an image of the plan
+    // machine is one still.
     ensures goes { IsGood L.past L.honest client.old link.old
         → WentOn client.old.keys (L.past link.old) (L.past link.new) }
     // A link that was honest for the plan's names is so after it. Unless it stops for want of memory, as
@@ -71,14 +71,15 @@ pub fn carry_out<L: Link, K: Keeper, P: Patience>(
         → L.honest link.new (is_planned client.old.keys)
         × (IsInMemory result.0 → Learnt client.old.keys client.old.batch (L.past link.old)
         (L.past link.new) client.old.knowns client.new.knowns result.1) }
-    // Where it stops for want of memory over such a link, the exchanges that it counts were made. What
-    // they handed over was learnt, but of the last one there may have been no memory to learn. An
-    // exchange that lacked memory itself is not counted: it sent nothing, and asked at most the questions
-    // of one message.
+    // Where it stops for want of memory, over a link that was honest for the plan's names: the exchanges
+    // that it counts were made. What they handed over was learnt, but of the last one there may have been
+    // no memory to learn. An exchange that lacked memory itself is not counted: it sent nothing, and
+    // asked at most the questions of one message.
     ensures broken { L.honest link.old (is_planned client.old.keys)
         → result.0 ≡ Ok Stop.NoMemory → LearntUntil client.old.keys client.old.batch
         (L.past link.old) (L.past link.new) client.old.knowns client.new.knowns result.1 }
-    // Over such a link nothing that was asked, sent or handed over is taken back, however it stops.
+    // Over a link that was honest for the plan's names nothing that was asked, sent or handed over is
+    // taken back, however it stops.
     ensures grown { L.honest link.old (is_planned client.old.keys)
         → Grown (L.past link.old) (L.past link.new) }
     // Over any link the plan stays, and how many keys a message may ask about. No identifier or count is
@@ -127,30 +128,31 @@ pub fn carry_out<L: Link, K: Keeper, P: Patience>(
         × (result.1 ≤ need client.old (L.past link.old))
         × (AsksOne client.old → result.1 ≡ need client.old (L.past link.old))
         × (result.1 ≤ bound client.old.keys) }
-    // Where all was good, with no premise of calm: the exchanges that were made and those that are left
-    // are no more than were left, and what disturbed exchanges cost. That is said unless it stops for
-    // want of memory, and also where the text of the last one was not saved. What arrives at the end of
-    // the run adds nothing.
+    // Where all was good (`IsGood`), with no premise of calm: the exchanges that were made and those that
+    // are left are no more than were left, and what disturbed exchanges cost. That is said unless it
+    // stops for want of memory, and also where the text of the last one was not saved. What arrives at
+    // the end of the run adds nothing.
     ensures losing { IsGood L.past L.honest client.old link.old → IsInMemory result.0
         → ArePaid result.1 (left_for client.old (L.past link.old))
         (left_for client.new (L.past link.new)) (L.disturbances link.old)
         (L.disturbances link.new) }
-    // Where all was good, it stops with `AllFinished`, unless patience has given up, memory ran out or a
-    // text was not saved. It asks for a limit of at least the plan's bound, one exchange for each key,
-    // and what the disturbed exchanges of the call cost.
+    // Where all was good (`IsGood`), it stops with `AllFinished`, unless patience has given up, memory
+    // ran out or a text was not saved. It asks for a limit of at least the plan's bound, one exchange for
+    // each key, and what the disturbed exchanges of the call cost.
     ensures outlasts { IsGood L.past L.honest client.old link.old
         → P.has_given_up patience.new ≡ false → IsWhole result.0
         → IsEnough client.old.keys limit (L.disturbances link.old) (L.disturbances link.new)
         → result.0 ≡ Ok Stop.AllFinished }
-    // Where all was good, it does not stop with `Conflict`.
+    // Where all was good (`IsGood`), it does not stop with `Conflict`.
     ensures no_conflict { IsGood L.past L.honest client.old link.old
         → result.0 ≢ Ok Stop.Conflict }
-    // Over a link that is honest for the plan's names the run is ended once, right after its last
+    // Over a link that was honest for the plan's names the run is ended once, right after its last
     // exchange, unless memory ran out or a text was not saved.
     ensures ended { L.honest link.old (is_planned client.old.keys) → IsWhole result.0
         → EndedAt (length (L.past link.old).sent + result.1) (L.ended link.old)
         (L.ended link.new) }
-    // Over such a link the run is ended at most once, however it stops, and after all that was sent.
+    // Over a link that was honest for the plan's names the run is ended at most once, however it stops,
+    // and after all that was sent.
     ensures once { L.honest link.old (is_planned client.old.keys)
         → EndedAt (length (L.past link.new).sent) (L.ended link.old) (L.ended link.new)
         ⊎ (L.ended link.new ≡ L.ended link.old) }

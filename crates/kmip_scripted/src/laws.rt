@@ -18,8 +18,8 @@ pub fn runs_end_as_the_link_does()
     // Where a word ends the first run, the link has the words of the runs after it once this run has
     // ended.
     ensures goes_on { RunsGoOn }
-    // That is so however many exchanges the run made: an exchange takes no word beyond the end of the
-    // run.
+    // An exchange takes no word beyond the end of the run. So the words after it are the same however
+    // many exchanges the run made.
     ensures stay { EndsStay }
 {}
 
