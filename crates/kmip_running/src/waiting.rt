@@ -15,9 +15,9 @@ const LONGEST_WAIT: u64 = 10_000;
 pub fn next_wait(wait: u64, first: u64, got_on: bool) -> u64
     // There is no wait where the run got on by the last exchange.
     ensures none { IsTrue got_on → result ≡ 0 }
-    // Else, where `wait` is the wait after some exchanges in turn by which the run did not get on, the
-    // result is the wait after one more. That is `first`, and then twice as long each time, up to the
-    // longest.
+    // Where the run did not get on, and `wait` is the wait after some exchanges in turn by which it did
+    // not, the result is the wait after one more. That is `first`, and then twice as long each time, up
+    // to the longest.
     ensures grows { got_on ≡ false → (count : ℕ) → wait ≡ wait_after first count
         → result ≡ wait_after first (count + 1) }
     // It is never longer than the longest wait, whatever `wait` is.
@@ -56,7 +56,7 @@ impl<C: Clock> Pace<C> {
         ensures first { result.first ≡ first }
         // It does not wait before the first exchange.
         ensures wait { result.wait ≡ wait_after first 0 }
-        // Its seconds are these.
+        // It has these seconds after which it may give up.
         ensures most { result.most ≡ most }
         // It has not given up.
         ensures fresh { result.has_given_up ≡ false }
