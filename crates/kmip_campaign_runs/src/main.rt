@@ -1,5 +1,6 @@
-//! Stored runs of runs and campaigns over links in memory, also over links that fail. Standard input has
-//! one case after the other, and lines of random scripts; what is printed is what came of each line.
+//! Stored runs of runs and campaigns over links in memory, also over links that fail. Standard input
+//! has one case after the other, and lines of random scripts. What is printed is what came of each
+//! line.
 //!
 //! A line of standard input is one of
 //!

@@ -15,11 +15,17 @@ use kmip_ttlv::{NoMemory, plain_text};
 use std::alloc::Global;
 use std::io::Write;
 
-/// Runs `check`, and prints a line for want of memory.
+/// Runs `check`, prints the line of a fault, unless it is one of the writer, and says how the program
+/// ends.
 pub fn run_check<W: Write>(alloc: Global, plan: &str, writer: &mut W) -> ExitStatus
+    // It never ends with `Usage`. Where it ends with `Done` or `Refused`, what is written is the stated
+    // text of the plan, whole.
     ensures text { IfWhole result (λ _. Appends (W.contents writer.old) (W.contents writer.new)
         (check_text (plan_read plan.now))) }
+    // It is `Refused`, not `Done`, exactly where the text is no plan.
     ensures refused { IfWhole result (λ r. r ≡ is_plan_refused (plan_read plan.now)) }
+    // Where it ends with `Failed`, exactly the line of the fault is written. Of a writer that failed,
+    // nothing is said.
     ensures broken { IfFailed result (λ fault. UnlessOutput fault
         (Appends (W.contents writer.old) (W.contents writer.new) (fault_line fault))) }
 {
@@ -27,16 +33,18 @@ pub fn run_check<W: Write>(alloc: Global, plan: &str, writer: &mut W) -> ExitSta
     finished(ended, writer)
 }
 
-/// Judges the text of a plan on the writer, and says whether it was refused: a line for each key, or
-/// one for the first fault. Nothing is written before all of it is made.
+/// Judges the text of a plan on the writer, and says whether it was refused. It writes a line for each
+/// key, or one for the first fault. Nothing is written before all of it is made.
 ///
 /// # Errors
-///
 /// `Output` where the writer fails, and `NoMemory`, where nothing was written.
 pub fn check<W: Write>(alloc: Global, plan: &str, writer: &mut W) -> Result<bool, CommandFault>
+    // What is written is exactly the lines of the plan's keys, or the one line of its first fault.
     ensures text { OnOk result (Appends (W.contents writer.old) (W.contents writer.new)
         (check_text (plan_read plan.now))) }
+    // The result says exactly whether the text is no plan.
     ensures refused { IfOk result (λ r. r ≡ is_plan_refused (plan_read plan.now)) }
+    // Where it breaks off, nothing was written. Of a writer that failed, nothing is said.
     ensures broken { IfErr result (λ fault. UnlessOutput fault
         (W.contents writer.new ≡ W.contents writer.old)) }
 {
@@ -46,15 +54,17 @@ pub fn check<W: Write>(alloc: Global, plan: &str, writer: &mut W) -> Result<bool
     Ok(is_refused)
 }
 
-/// Does the same in memory: appends what is printed for the plan to `output`.
+/// Does in memory what `check` does: appends what is printed for the plan to `output`.
 ///
 /// # Errors
-///
 /// Where there is no memory; then nothing was appended.
 pub fn check_bytes(alloc: Global, plan: &str, output: &mut Vec<u8>) -> Result<bool, NoMemory>
+    // What is appended is exactly the lines of the plan's keys, or the one line of its first fault.
     ensures text { OnOk result (output.new.items
         ≡ output.old.items ++ check_text (plan_read plan.now)) }
+    // The result says exactly whether the text is no plan.
     ensures refused { IfOk result (λ r. r ≡ is_plan_refused (plan_read plan.now)) }
+    // At want of memory nothing was appended.
     ensures broken { OnErr result (output.new.items ≡ output.old.items) }
 {
     let mut text = Vec::new(alloc);
@@ -155,14 +165,15 @@ fn push_step(text: &mut String, step: Step) -> Result<(), NoMemory>
     Ok(())
 }
 
-/// Appends why a text is no plan, as a line: the number, the name, the field and the place of the
-/// fault; want of memory is no reason.
+/// Appends the line that says why a text is no plan: the number, the name, the field and the place of
+/// the fault.
 ///
 /// # Errors
-///
-/// Where there is no memory for the line, or the fault is want of memory.
+/// Where there is no memory for the line, or the fault is want of memory, which is no reason.
 pub fn push_refusal(alloc: Global, fault: &PlanFault, text: &mut Vec<u8>) -> Result<(), NoMemory>
+    // At success the fault is not want of memory.
     ensures known { OnOk result (is_memory fault.now ≡ false) }
+    // What is appended is exactly the line of the plan's fault.
     ensures text { OnOk result (text.new.items ≡ text.old.items ++ plan_refusal_text fault.now) }
 {
     if let PlanFault::NoMemory = fault {

@@ -12,17 +12,24 @@ use kmip_ttlv::NoMemory;
 use std::alloc::Global;
 use std::io::Write;
 
-/// Runs `check_after`, and prints a line for want of memory.
+/// Runs `check_after`, prints the line of a fault, unless it is one of the writer, and says how the
+/// program ends.
 pub fn run_check_after<W: Write>(
     alloc: Global,
     plan: &str,
     earlier: &str,
     writer: &mut W,
 ) -> ExitStatus
+    // It never ends with `Usage`. Where it ends with `Done` or `Refused`, what is written is the stated
+    // text of the two plans, whole.
     ensures text { IfWhole result (λ r. Appends (W.contents writer.old) (W.contents writer.new)
         (check_after_text r (plan_read plan.now) (plan_read earlier.now))) }
+    // It is `Refused`, not `Done`, exactly where one of the two texts is no plan, or the plan does not
+    // prolong the earlier one.
     ensures refused { IfWhole result (λ r. IsTrue r
         ↔ IsRefusedAfter (plan_read plan.now) (plan_read earlier.now)) }
+    // Where it ends with `Failed`, exactly the line of the fault is written. Of a writer that failed,
+    // nothing is said.
     ensures broken { IfFailed result (λ fault. UnlessOutput fault
         (Appends (W.contents writer.old) (W.contents writer.new) (fault_line fault))) }
 {
@@ -30,13 +37,12 @@ pub fn run_check_after<W: Write>(
     finished(ended, writer)
 }
 
-/// Judges the text of a plan and that of an earlier one on the writer, and says whether one of them was
-/// refused or the plan does not prolong the earlier one: a line for each key of the plan and one that
-/// says whether it prolongs, or one line for the first fault of the plan, else of the earlier one.
-/// Nothing is written before all of it is made.
+/// Judges the text of a plan and that of an earlier one on the writer. It says whether one of them was
+/// refused, or the plan does not prolong the earlier one. It writes a line for each key of the plan and
+/// one that says whether it prolongs, or one line for the first fault of the plan, or else of the
+/// earlier one. Nothing is written before all of it is made.
 ///
 /// # Errors
-///
 /// `Output` where the writer fails, and `NoMemory`, where nothing was written.
 pub fn check_after<W: Write>(
     alloc: Global,
@@ -44,10 +50,16 @@ pub fn check_after<W: Write>(
     earlier: &str,
     writer: &mut W,
 ) -> Result<bool, CommandFault>
+    // What is written is exactly the lines of the plan's keys and the line that says whether it prolongs
+    // the earlier plan. Where a text is no plan, it is the one line of the first fault of the first such
+    // text.
     ensures text { IfOk result (λ r. Appends (W.contents writer.old) (W.contents writer.new)
         (check_after_text r (plan_read plan.now) (plan_read earlier.now))) }
+    // The result is true exactly where one of the two texts is no plan, or the plan does not prolong the
+    // earlier one.
     ensures refused { IfOk result (λ r. IsTrue r
         ↔ IsRefusedAfter (plan_read plan.now) (plan_read earlier.now)) }
+    // Where it breaks off, nothing was written. Of a writer that failed, nothing is said.
     ensures broken { IfErr result (λ fault. UnlessOutput fault
         (W.contents writer.new ≡ W.contents writer.old)) }
 {
@@ -57,10 +69,9 @@ pub fn check_after<W: Write>(
     Ok(is_refused)
 }
 
-/// Does the same in memory: appends what is printed for the two plans to `output`.
+/// Does in memory what `check_after` does: appends what is printed for the two plans to `output`.
 ///
 /// # Errors
-///
 /// Where there is no memory; then nothing was appended.
 pub fn check_after_bytes(
     alloc: Global,
@@ -68,10 +79,16 @@ pub fn check_after_bytes(
     earlier: &str,
     output: &mut Vec<u8>,
 ) -> Result<bool, NoMemory>
+    // What is appended is exactly the lines of the plan's keys and the line that says whether it prolongs
+    // the earlier plan. Where a text is no plan, it is the one line of the first fault of the first such
+    // text.
     ensures text { IfOk result (λ r. output.new.items ≡ output.old.items
         ++ check_after_text r (plan_read plan.now) (plan_read earlier.now)) }
+    // The result is true exactly where one of the two texts is no plan, or the plan does not prolong the
+    // earlier one.
     ensures refused { IfOk result (λ r. IsTrue r
         ↔ IsRefusedAfter (plan_read plan.now) (plan_read earlier.now)) }
+    // At want of memory nothing was appended.
     ensures broken { OnErr result (output.new.items ≡ output.old.items) }
 {
     let mut text = Vec::new(alloc);

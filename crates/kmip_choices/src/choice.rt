@@ -48,7 +48,7 @@ pub enum Choice {
     Serve(ServeOptions),
 }
 
-/// How to answer, by whether the lines are pieces of a stream.
+/// How to answer, by whether the lines are pieces of a stream: `AnswerStream`, or else `Answer`.
 pub fn answer_of(is_stream: bool) -> Choice
     ensures { result ≡ (if is_stream then AnswerStream else Answer) }
 {
@@ -59,7 +59,8 @@ pub fn answer_of(is_stream: bool) -> Choice
     }
 }
 
-/// The form that `show` prints, by whether it was asked for the canonical one.
+/// The form that `show` prints, by whether it was asked for the canonical one: `Canonical`, or else
+/// `Text`.
 pub fn form_of(is_canonical: bool) -> Form
     ensures { result ≡ (if is_canonical then Canonical else Text) }
 {
@@ -70,7 +71,8 @@ pub fn form_of(is_canonical: bool) -> Form
     }
 }
 
-/// What to check: the plan at a path, after the earlier one where there is a path of one.
+/// The choice to check the plan at just this path, and after the one at the earlier path where there is
+/// one.
 ///
 /// # Errors
 /// Where there is no memory.
@@ -88,7 +90,8 @@ pub fn check_of(alloc: Global, plan: &str, earlier: Option<&str>) -> Result<Choi
     }
 }
 
-/// How much to tell of a simulation, by whether it was asked for each exchange.
+/// How much to tell of a simulation, by whether it was asked for each exchange: `Exchanges`, or else
+/// `Runs`.
 pub fn detail_of(is_traced: bool) -> Detail
     ensures { result ≡ (if is_traced then Exchanges else Runs) }
 {
@@ -99,8 +102,9 @@ pub fn detail_of(is_traced: bool) -> Detail
     }
 }
 
-/// What to simulate: the plan at a path, and then the further one where there is a path of one, over
-/// the script at another; how much to tell of it; and about how many keys a message asks at most.
+/// The choice to simulate the plan at just this path, and then the further one where there is a path of
+/// one, over the script at the other path. It tells `detail` of it, and a message asks about at most
+/// `batch` keys.
 ///
 /// # Errors
 /// Where there is no memory.

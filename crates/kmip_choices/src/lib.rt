@@ -1,5 +1,6 @@
-//! What a command line may ask for, by its options and their values. It knows no words of a command line,
-//! and does nothing of what is asked for.
+//! What a command line may ask for, by its options and their values.
+//!
+//! The crate knows no words of a command line, and does nothing of what is asked for.
 #![tactic(auto)]
 
 mod choice;

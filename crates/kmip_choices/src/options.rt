@@ -55,9 +55,9 @@ pub struct ProbeOptions {
 /// Where a server is.
 #[derive(Debug, PartialEq, Eq, Drop)]
 pub enum Peer {
-    /// Behind this address and port.
+    /// At this address and port.
     Tcp(SocketAddrV4),
-    /// Behind the Unix socket at this path.
+    /// On the Unix socket at this path.
     Unix(String),
     /// In this process: a new one with no object.
     Loopback,

@@ -1,6 +1,6 @@
-//! Stored runs of what stands below the commands: messages that are read and written, and talks with a
-//! client. Standard input has one thing to be done after the other, and what is printed is what came of
-//! each.
+//! Stored runs of messages that are read and written, and of talks with a client. They are of what
+//! stands below the commands. Standard input has one thing to be done after the other, and what is
+//! printed is what came of each.
 //!
 //! A line of standard input is one of
 //!

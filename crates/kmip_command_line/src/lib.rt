@@ -1,4 +1,6 @@
 //! The words of the command line of `kmipctl`, and what they ask for.
+//!
+//! No clause says which words ask for what: the stored runs of kmipctl_runs try it.
 #![tactic(auto)]
 
 ghost use Rattle.std.specs.Prelude.{◌≡◌};

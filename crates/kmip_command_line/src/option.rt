@@ -1,4 +1,4 @@
-//! The options of the commands, and what stands behind them.
+//! The options of the commands, and what stands after them.
 
 use crate::help::{
     AFRESH, AFTER, BATCH, BELIEVE, CANON, CONNECT, CONNECTIONS, GIVE_UP, LIMIT, LOOPBACK,
@@ -27,7 +27,7 @@ const MOST_GIVE_UP: u64 = 86_400;
 /// The latest time, in seconds since the start of 1970.
 const LATEST: u64 = 9_223_372_036_854_775_807;
 
-/// What stands behind an option.
+/// What stands after an option.
 #[derive(Clone, Copy)]
 enum Value {
     /// Nothing: the option is there or not.
@@ -49,7 +49,7 @@ enum Absent {
     Means(&'static str),
 }
 
-/// An option: its word without the two dashes, what stands behind it, what it means that it is absent,
+/// An option: its word without the two dashes, what stands after it, what it means that it is absent,
 /// and its help.
 #[derive(Clone, Copy)]
 pub(crate) struct CommandOption(&'static str, Value, Absent, &'static str);
@@ -205,7 +205,7 @@ pub(crate) fn arg_of<'a>(alloc: Global, option: &CommandOption) -> Arg<'a> {
     }
 }
 
-/// The option with what stands behind it.
+/// The option with what stands after it.
 fn with_value<'a>(arg: Arg<'a>, value: Value) -> Arg<'a> {
     match value {
         Flag => arg.action(ArgAction::SetTrue),

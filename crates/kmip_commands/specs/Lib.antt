@@ -1,8 +1,18 @@
-pub mod AnswerText
-pub mod Bytewise
-pub mod Judging
-pub mod LineText
+-- What `answer` and `show` read and write, and how a command ends.
+
+-- the lines of some bytes
 pub mod Lines
+-- what was written of what was read, and how a command ends
 pub mod Printing
-pub mod Showing
+-- what a line says, and whether it is refused
+pub mod Judging
+-- what a command writes for its lines, one after the other
+pub mod LineText
+-- what `answer` writes
+pub mod AnswerText
+-- what `answer --stream` writes, and how its stream ends
 pub mod StreamText
+-- what `show` writes
+pub mod Showing
+-- private: `answer --stream` byte by byte
+pub mod Bytewise

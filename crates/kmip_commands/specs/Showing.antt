@@ -1,5 +1,5 @@
 -- What `show` writes for a message, and which messages it refuses.
--- Source: own: what the program prints.
+-- Source: own (text): what the program prints.
 use Rattle.std.specs.Prelude.{ℕ, ◌==◌, Bool, true, false, not, List, [], ◌∷◌, ◌++◌, length, codes, if◌then◌else◌, Option, Some, None, Result, Ok, Err}
 use Rattle.std.specs.Fmt.{decimal}
 use Rattle.hex.specs.Hex.{encode_lower}
@@ -15,53 +15,54 @@ use Rattle.kmip_commands.specs.declared.showing.Form.TheVariants.{Text, Canonica
 use Rattle.kmip_commands.specs.Judging.{has_refused}
 use Rattle.kmip_commands.specs.LineText.{Response, lines_text, input_text}
 
--- no item was read, or bytes stand after it
+-- No item was read, or bytes stand after it.
 abbrev pub leaves_bytes : ℕ → Result (Node × ℕ) TtlvFault → Bool
 leaves_bytes len (Ok x) = not (x.1 == len)
 leaves_bytes len (Err fault) = true
 
--- the bytes are not one item
+-- The bytes are not one item.
 unfoldable pub is_no_item : List ℕ → Bool
 is_no_item bytes = leaves_bytes (length bytes) (item_at most_levels 0 bytes)
 
--- an item as lines of text, or its one written form in hexadecimal and a line feed
+-- An item as lines of text, or its one written form in hexadecimal and a line feed.
 abbrev pub item_text : Form → Node → List ℕ
 item_text Text item = shown_text item
 item_text Canonical item = encode_lower (canon item) ++ 10 ∷ []
 
--- that bytes stand after an item of this size
+-- The line that says that bytes stand after an item of this size.
 unfoldable pub extra_text : ℕ → List ℕ
 extra_text size = codes "refused: extra at " ++ decimal size ++ codes "\n"
 
--- the offset of a fault; want of memory has none, and is no refusal
+-- The offset of a fault. Want of memory has none, and is no refusal.
 abbrev pub offset_text : Option ℕ → List ℕ
 offset_text (Some at) = codes " at " ++ decimal at
 offset_text None = []
 
--- the number, the name and the place of a fault
+-- The line of a fault: its number, its name and its place.
 abbrev pub fault_text : TtlvFault → List ℕ
 fault_text fault = codes "refused: " ++ decimal (fault_number fault) ++ codes " " ++ fault_name fault ++ offset_text (fault_offset fault) ++ codes "\n"
 
--- what is written for what was read of so many bytes
+-- What is written for what was read of `len` bytes.
 abbrev pub text_of_read : Form → ℕ → Result (Node × ℕ) TtlvFault → List ℕ
 text_of_read form len (Ok x) = if x.1 == len then item_text form x.0 else extra_text x.1
 text_of_read form len (Err fault) = fault_text fault
 
--- what is written for a message
+-- What is written for a message.
 unfoldable pub show_text : Form → List ℕ → List ℕ
 show_text form bytes = text_of_read form (length bytes) (item_at most_levels 0 bytes)
 
--- Private: how `show` responds: no message changes what is written for the next
+-- Private: how `show` responds: no message changes what is written for the next.
 abbrev pub shows : Response Form
 shows = record { text = show_text; after = λ form message. form; refuses = is_no_item; over = λ _. false }
 
--- what `show` writes for lines, and for its whole input
+-- What `show` writes for lines.
 abbrev pub shown_lines : Form → List (List ℕ) → List ℕ
 shown_lines form lines = lines_text show_text (λ form message. form) form lines
 
+-- What `show` writes for its whole input.
 abbrev pub shown_input : Form → List ℕ → List ℕ
 shown_input form input = input_text show_text (λ form message. form) form input
 
--- whether a line of the input is no message, or no item
+-- Whether a line of the input is no message, or no item.
 abbrev pub has_no_item : List ℕ → Bool
 has_no_item input = has_refused is_no_item input

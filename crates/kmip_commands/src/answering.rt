@@ -22,11 +22,17 @@ use std::io::{BufRead, Write};
 /// The time of each reply.
 const NOW: i64 = 0;
 
-/// Runs `answer`, and prints a line for a fault of the reader and for want of memory.
+/// Runs `answer`, prints the line of a fault, unless it is one of the writer, and says how the program
+/// ends.
 pub fn run_answer<R: BufRead, W: Write>(alloc: Global, reader: &mut R, writer: &mut W) -> ExitStatus
+    // It never ends with `Usage`. Where it ends with `Done` or `Refused`, what is written is the stated
+    // text of what is read, whole.
     ensures text { IfWhole result (λ _. Prints answer_text (R.remaining reader.old)
         (W.contents writer.old) (W.contents writer.new)) }
+    // It is `Refused`, not `Done`, exactly where a line was refused.
     ensures refused { IfWhole result (Tells has_refused_line (R.remaining reader.old)) }
+    // Where it ends with `Failed`, what was written is the text of some first lines of what is read, and
+    // then the line of the fault. Of a writer that failed, nothing is said.
     ensures broken { IfFailed result (BreaksOff answer_lines fault_line (R.remaining reader.old)
         (W.contents writer.old) (W.contents writer.new)) }
 {
@@ -34,12 +40,19 @@ pub fn run_answer<R: BufRead, W: Write>(alloc: Global, reader: &mut R, writer: &
     finished(ended, writer)
 }
 
-/// Answers each line of the reader on the writer, from one server without rows, and says whether a
-/// line was refused. A refused line prints why, and does not end the command. For a reader and a
-/// writer that tell their bytes, what is written is the answers to what is read, and nothing else.
+/// Answers each line of the reader on the writer, from one server without records at first, and says
+/// whether a line was refused. A refused line prints why, and does not end the command.
+///
+/// Over any reader and writer whose bytes a contract knows, where it ends without a fault, it has
+/// written exactly this:
+/// - the replies of one server to the messages on the lines, in order, at the time 0, from no records,
+/// room for 10,000 and a seed of zeros;
+/// - for each other line that is not empty, the line that says why it is no message.
+///
+/// Where it breaks off, and the writer did not fail, it has written exactly that of some first lines.
+/// The text is `answer_text`. Nothing is asked of the caller.
 ///
 /// # Errors
-///
 /// `Input` where the reader fails, `Output` where the writer does, and `NoMemory`. Unless the writer
 /// failed, the answers to some first lines are written, each whole.
 pub fn answer<R: BufRead, W: Write>(
@@ -47,9 +60,13 @@ pub fn answer<R: BufRead, W: Write>(
     reader: &mut R,
     writer: &mut W,
 ) -> Result<bool, CommandFault>
+    // What is written is exactly the stated text of what is read, and nothing else.
     ensures text { OnOk result (Prints answer_text (R.remaining reader.old)
         (W.contents writer.old) (W.contents writer.new)) }
+    // The result says exactly whether a line was refused.
     ensures refused { IfOk result (Tells has_refused_line (R.remaining reader.old)) }
+    // Where it breaks off, what was written is exactly the text of some first lines of what is read. Of a
+    // writer that failed, nothing is said.
     ensures broken { IfErr result (BreaksOff answer_lines nothing_more (R.remaining reader.old)
         (W.contents writer.old) (W.contents writer.new)) }
 {
@@ -58,14 +75,17 @@ pub fn answer<R: BufRead, W: Write>(
     respond_to_lines(alloc, &mut answerer, reader, writer)
 }
 
-/// Does the same in memory: appends the answers to the lines of `input` to `output`.
+/// Does in memory what `answer` does: appends the answers to the lines of `input` to `output`, and says
+/// whether a line was refused.
 ///
 /// # Errors
-///
 /// Where there is no memory; then the answers to some first lines were appended, each whole.
 pub fn answer_bytes(alloc: Global, input: &[u8], output: &mut Vec<u8>) -> Result<bool, NoMemory>
+    // What is appended is exactly the stated text of the input.
     ensures text { OnOk result (output.new.items ≡ output.old.items ++ answer_text input.now) }
+    // The result says exactly whether a line was refused.
     ensures refused { IfOk result (λ r. r ≡ has_refused_line input.now) }
+    // At want of memory, exactly the text of some first lines was appended.
     ensures broken { OnErr result (WroteFront answer_lines (lines_of input.now) []
         (Some output.old.items) (Some output.new.items)) }
 {

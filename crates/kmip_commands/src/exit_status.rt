@@ -18,7 +18,8 @@ pub enum ExitStatus {
 }
 
 impl ExitStatus {
-    /// The number that the process ends with.
+    /// The number that the process ends with: 0 for `Done`, 1 for `Refused` and `Failed`, 2 for
+    /// `Usage`.
     pub fn code(self) -> u8
         ensures { result ≡ code_of self }
     {

@@ -9,8 +9,9 @@ use crate::fault::CommandFault;
 use crate::replies::{send, write_text};
 use std::io::Write;
 
-/// How the program ends after a command: `Refused` where the command says so, and `Failed` with its
-/// fault, which is printed as a line unless it is one of the writer.
+/// How the program ends after a command: `Done`, `Refused` where the command says so, and `Failed`
+/// where it ended with a fault. Exactly the line of the fault is written then, and else nothing. Where
+/// the writer fails, or had failed before, the fault is `Output`, and nothing is said of what it took.
 pub fn finished<W: Write>(ended: Result<bool, CommandFault>, writer: &mut W) -> ExitStatus
     ensures { Finishes ended result (W.contents writer.old) (W.contents writer.new) }
 {

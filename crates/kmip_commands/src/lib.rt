@@ -1,11 +1,16 @@
-//! The commands `answer` and `show` of `kmipctl`, each a public function over a reader and a writer,
-//! and what every command stands on.
+//! The commands `answer` and `show`, and what every command stands on.
 //!
-//! `answer`, `answer_stream` and `show_lines` do the work of their commands and return a fault as a
-//! value; `run_answer`, `run_answer_stream` and `run_show` also print the fault and say how the
-//! program ends. `answer_bytes`, `answer_stream_bytes` and `show_bytes` do the same work in memory,
-//! where nothing but memory can fail. `finished`, `push_text` and `send`, and what a text is printed
-//! on, a `Printer`, are for the commands of other crates.
+//! Each is a public function over any reader and writer. What is read and written is said where a
+//! contract knows the bytes of both. `answer`, `answer_stream` and `show_lines` do the work of their
+//! commands and return a fault as a value. `run_answer`, `run_answer_stream` and `run_show` also print
+//! the fault and say how the program ends. `answer_bytes`, `answer_stream_bytes` and `show_bytes` do
+//! the same work in memory, from bytes to a vector of bytes, where nothing but memory can fail.
+//!
+//! A command breaks off where its reader or its writer fails, or memory runs out. A writer that failed
+//! may have taken anything, and of that case no clause says what was written.
+//!
+//! `finished`, `push_text` and `send`, and what a text is printed on, a `Printer`, are for the commands
+//! of other crates.
 #![tactic(auto)]
 
 mod answering;

@@ -7,7 +7,7 @@ use crate::fault::CommandFault;
 use crate::replies::{push_text, send};
 use std::io::Write;
 
-/// What a command prints its text on.
+/// What a command prints its text on: a writer, or a text in memory (`Printed`).
 pub trait Printer {
     /// The bytes that were printed, where they are known.
     ghost contents: { Self → Option (List ℕ) };
@@ -16,7 +16,7 @@ pub trait Printer {
     /// the printer does.
     ghost own_fault: { CommandFault };
 
-    /// It takes all of a text, or nothing.
+    /// That it takes all of a text, or nothing.
     ghost IsWhole: { Type 0 };
 
     /// Prints a text, and sends it on.
@@ -25,8 +25,11 @@ pub trait Printer {
     ///
     /// The fault of the printer.
     fn print(&mut self, text: &[u8]) -> Result<(), CommandFault>
+        // Exactly the text is printed.
         ensures text { OnOk result (Appends (contents self.old) (contents self.new) text.now) }
+        // A fault is the printer's own.
         ensures fault { IfErr result (λ f. f ≡ own_fault) }
+        // A printer that takes all of a text or nothing is at a fault as it was.
         ensures kept { IsWhole → OnErr result (Keeps (contents self.old) (contents self.new)) };
 }
 

@@ -15,13 +15,14 @@ pub const REFUSED_LENGTH: &[u8] = b"refused: length\n";
 /// What is printed for a line that is no hexadecimal.
 pub const REFUSED_HEX: &[u8] = b"refused: hex\n";
 
-/// Appends bytes to a text, which want of memory leaves as it was.
+/// Appends bytes to a text.
 ///
 /// # Errors
-///
 /// Where there is no memory for the text.
 pub fn push_text(bytes: &[u8], text: &mut Vec<u8>) -> Result<(), NoMemory>
+    // The bytes stand at the end of the text.
     ensures ok { OnOk result (text.new.items ≡ text.old.items ++ bytes.now) }
+    // At want of memory the text is as it was.
     ensures err { OnErr result (text.new.items ≡ text.old.items) }
 {
     text.extend_from_slice(bytes)?;
@@ -62,7 +63,9 @@ pub fn write_text<W: Write>(text: &[u8], writer: &mut W) -> Result<(), CommandFa
 ///
 /// `Output` where the writer fails.
 pub fn send<W: Write>(text: &[u8], may_wait: bool, writer: &mut W) -> Result<(), CommandFault>
+    // Exactly the text is written.
     ensures text { OnOk result (Appends (W.contents writer.old) (W.contents writer.new) text.now) }
+    // A fault is the writer's, `Output`.
     ensures fault { IfErr result (λ f. f ≡ Output) }
 {
     write_text(text, writer)?;

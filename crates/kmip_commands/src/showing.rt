@@ -27,16 +27,22 @@ pub enum Form {
     Canonical,
 }
 
-/// Runs `show`, and prints a line for a fault of the reader and for want of memory.
+/// Runs `show`, prints the line of a fault, unless it is one of the writer, and says how the program
+/// ends.
 pub fn run_show<R: BufRead, W: Write>(
     alloc: Global,
     form: Form,
     reader: &mut R,
     writer: &mut W,
 ) -> ExitStatus
+    // It never ends with `Usage`. Where it ends with `Done` or `Refused`, what is written is the stated
+    // text of what is read, whole.
     ensures text { IfWhole result (λ _. Prints (shown_input form) (R.remaining reader.old)
         (W.contents writer.old) (W.contents writer.new)) }
+    // It is `Refused`, not `Done`, exactly where a line was refused.
     ensures refused { IfWhole result (Tells has_no_item (R.remaining reader.old)) }
+    // Where it ends with `Failed`, what was written is the text of some first lines of what is read, and
+    // then the line of the fault. Of a writer that failed, nothing is said.
     ensures broken { IfFailed result (BreaksOff (shown_lines form) fault_line
         (R.remaining reader.old) (W.contents writer.old) (W.contents writer.new)) }
 {
@@ -57,9 +63,13 @@ pub fn show_lines<R: BufRead, W: Write>(
     reader: &mut R,
     writer: &mut W,
 ) -> Result<bool, CommandFault>
+    // What is written is exactly the stated text of what is read, and nothing else.
     ensures text { OnOk result (Prints (shown_input form) (R.remaining reader.old)
         (W.contents writer.old) (W.contents writer.new)) }
+    // The result says exactly whether a line was refused.
     ensures refused { IfOk result (Tells has_no_item (R.remaining reader.old)) }
+    // Where it breaks off, what was written is exactly the text of some first lines of what is read. Of a
+    // writer that failed, nothing is said.
     ensures broken { IfErr result (BreaksOff (shown_lines form) nothing_more
         (R.remaining reader.old) (W.contents writer.old) (W.contents writer.new)) }
 {
@@ -67,10 +77,10 @@ pub fn show_lines<R: BufRead, W: Write>(
     respond_to_lines(alloc, &mut shower, reader, writer)
 }
 
-/// Does the same in memory: appends what is printed for the lines of `input` to `output`.
+/// Does in memory what `show_lines` does: appends what is printed for the lines of `input` to `output`,
+/// and says whether a line was refused.
 ///
 /// # Errors
-///
 /// Where there is no memory; then what is printed for some first lines was appended, for each the
 /// whole.
 pub fn show_bytes(
@@ -79,9 +89,12 @@ pub fn show_bytes(
     input: &[u8],
     output: &mut Vec<u8>,
 ) -> Result<bool, NoMemory>
+    // What is appended is exactly the stated text of the input.
     ensures text { OnOk result (output.new.items ≡ output.old.items
         ++ shown_input form input.now) }
+    // The result says exactly whether a line was refused.
     ensures refused { IfOk result (λ r. r ≡ has_no_item input.now) }
+    // At want of memory, exactly the text of some first lines was appended.
     ensures broken { OnErr result (WroteFront (shown_lines form) (lines_of input.now) []
         (Some output.old.items) (Some output.new.items)) }
 {

@@ -25,7 +25,7 @@ use std::io::{BufRead, Write};
 pub enum InputEnd {
     /// After a whole message, or before the first.
     Whole,
-    /// Inside a message, of which so many bytes came: 1 to 8,191.
+    /// Inside a message, of which this many bytes came: 1 to 8,191.
     Cut(usize),
     /// At a head that is no message's.
     Refused(FrameFault),
@@ -48,14 +48,20 @@ impl StreamOutcome {
     }
 }
 
-/// Runs `answer --stream`, and prints a line for a fault of the reader and for want of memory.
+/// Runs `answer --stream`, prints the line of a fault, unless it is one of the writer, and says how the
+/// program ends.
 pub fn run_answer_stream<R: BufRead, W: Write>(
     alloc: Global,
     reader: &mut R,
     writer: &mut W,
 ) -> ExitStatus
+    // It never ends with `Usage`. Where it ends with `Done` or `Refused`, the stream was answered, as
+    // *lines* and *stream* of `answer_stream` say. It is `Done` exactly where no line was refused and the
+    // stream was neither refused nor cut; then the replies to its messages are all that was written.
     ensures whole { IfWhole result (IsStreamAnswered (R.remaining reader.old)
         (W.contents writer.old) (W.contents writer.new)) }
+    // Where it ends with `Failed`, what was written is what some first lines say, but for the line of a
+    // cut at their end, and then the line of the fault. Of a writer that failed, nothing is said.
     ensures broken { IfFailed result (λ fault. UnlessOutput fault (IfSome (R.remaining reader.old)
         (λ input. IsBrokenOff input (fault_line fault)
         (W.contents writer.old) (W.contents writer.new)))) }
@@ -93,10 +99,17 @@ pub fn answer_stream<R: BufRead, W: Write>(
     reader: &mut R,
     writer: &mut W,
 ) -> Result<StreamOutcome, CommandFault>
+    // What is written, how the stream ends (whole, cut or refused) and whether a line is refused are
+    // exactly what the lines in turn say.
     ensures lines { IfOk result (λ outcome. IfSome (R.remaining reader.old)
         (λ input. IsWritten input outcome (W.contents writer.old) (W.contents writer.new))) }
+    // What is left of the stream after its whole messages says how it ends. Where no line is refused,
+    // what is written is the replies of one server to exactly the messages of the stream, then the line
+    // of its end, and nothing else.
     ensures stream { IfOk result (λ outcome. IfSome (R.remaining reader.old)
         (λ input. IsAnswered input outcome (W.contents writer.old) (W.contents writer.new))) }
+    // Where it breaks off, what was written is what some first lines say, but for the line of a cut at
+    // their end. Of a writer that failed, nothing is said.
     ensures broken { IfErr result (λ fault. UnlessOutput fault (IfSome (R.remaining reader.old)
         (λ input. IsBrokenOff input [] (W.contents writer.old) (W.contents writer.new)))) }
 {
@@ -127,10 +140,10 @@ fn stream_lines<R: BufRead, W: Write>(
     Ok(StreamOutcome { end, has_refused })
 }
 
-/// Does the same in memory: appends what is printed for the lines of `input` to `output`.
+/// Does in memory what `answer_stream` does: appends what is printed for the lines of `input` to
+/// `output`, and says how the stream ended.
 ///
 /// # Errors
-///
 /// Where there is no memory; then what is printed for some first lines was appended, for each the
 /// whole.
 pub fn answer_stream_bytes(
@@ -138,10 +151,17 @@ pub fn answer_stream_bytes(
     input: &[u8],
     output: &mut Vec<u8>,
 ) -> Result<StreamOutcome, NoMemory>
+    // What is appended, how the stream ends and whether a line is refused are exactly what the lines in
+    // turn say.
     ensures lines { IfOk result (λ outcome. IsWritten input.now outcome
         (Some output.old.items) (Some output.new.items)) }
+    // What is left of the stream after its whole messages says how it ends. Where no line is refused,
+    // what is appended is the replies of one server to exactly the messages of the stream, then the line
+    // of its end, and nothing else.
     ensures stream { IfOk result (λ outcome. IsAnswered input.now outcome
         (Some output.old.items) (Some output.new.items)) }
+    // At want of memory, what was appended is what some first lines say, but for the line of a cut at
+    // their end.
     ensures broken { OnErr result (IsBrokenOff input.now []
         (Some output.old.items) (Some output.new.items)) }
 {

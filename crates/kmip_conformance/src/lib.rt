@@ -1,6 +1,6 @@
-//! Tests of kmip_store and kmip_server, against messages and values that are known from outside: what no
-//! reply shows, and messages that are changed byte by byte. The replies themselves stand in the stored runs
-//! of kmipctl_runs.
+//! Tests of kmip_store and kmip_server, against messages and values known from outside. They try what
+//! no reply shows, and messages that are changed byte by byte. The replies themselves stand in the
+//! stored runs of kmipctl_runs.
 //!
 //! The expected values come from the Key Management Interoperability Protocol Specification Version
 //! 2.1 and from this project's profile of it, and never from what the crates wrote.

@@ -1,4 +1,5 @@
-//! Tests of kmip_progress_file: a disk that fails at each step in turn, links, and two runs at once.
+//! Tests of kmip_progress_file, on disks that fail, through links, and with two runs. The disk fails at
+//! each step in turn, and the two runs are there at once.
 //!
 //! The expected values come from what a run promises of its progress file, and never from what the
 //! crate wrote.

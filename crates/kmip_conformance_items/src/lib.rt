@@ -1,5 +1,6 @@
-//! Tests of kmip_ttlv and kmip_frames: items as bytes, and messages out of a stream; and of kmip_plan and
-//! kmip_progress: texts of plans and of what is known of their keys, and the chains of the keys.
+//! Tests of kmip_ttlv, kmip_frames, kmip_chains, kmip_plan and kmip_progress, by bytes and texts. They
+//! try items as bytes and messages out of a stream; texts of plans and of what is known of their keys,
+//! and the chains of the keys.
 //!
 //! Here is what no command shows, and what is random, is changed byte by byte, or is as long as may be;
 //! the other rows are stored runs of kmipctl_runs. The expected values come from the Key Management

@@ -1,5 +1,5 @@
-//! Tests of kmip_transport: messages over streams, served and exchanged, and both ends of a socket
-//! where what comes through it is cut.
+//! Tests of kmip_transport: messages over streams, and both ends of a socket. Messages are served and
+//! exchanged, also where what comes through the socket is cut.
 //!
 //! The expected values come from the Key Management Interoperability Protocol Specification Version
 //! 2.1 and from this project's profile of it, and never from what the crates wrote.

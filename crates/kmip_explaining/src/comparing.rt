@@ -77,7 +77,7 @@ enum Difference {
 
 /// Tells on standard error, in one line, why the plan of the first file does not prolong that of the
 /// second, or why the second is no plan. Tells nothing where there is no memory, where it prolongs it,
-/// and where the first is no plan.
+/// and where the first is no plan. It has no clause.
 pub fn tell_prolonging(
     rt: &HostRuntime,
     path: &str,

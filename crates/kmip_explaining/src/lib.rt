@@ -1,5 +1,11 @@
-//! Why a text is no plan, why a plan does not prolong another, or why a progress is of another plan: in one
-//! line on standard error, with the place, what stands there and what may stand there.
+//! Tells on standard error why a plan or a progress does not fit, and where.
+//!
+//! It is one line each: why a text is no plan, why a plan does not prolong another, or why a progress
+//! is of another plan. The line has the place, what stands there and what may stand there.
+//!
+//! All is safe and total. `tell_refusal`, `tell_prolonging` and `tell_other_plan` have no clause, as
+//! std tells a contract nothing of the bytes of standard error. `make faults` wants the line of each
+//! fault of a plan.
 #![tactic(auto)]
 
 mod comparing;

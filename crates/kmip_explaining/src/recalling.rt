@@ -71,8 +71,9 @@ impl<'a> Noted<'a> {
     }
 }
 
-/// Tells on standard error, in one line, at which key the progress of the second file is of another plan
-/// than that of the first. Tells nothing where it is not, or where there is no memory.
+/// Tells on standard error, in one line, at which key the progress of the second file is of another
+/// plan than that of the first. Tells nothing where it is not, or where there is no memory. It has no
+/// clause.
 pub fn tell_other_plan(
     rt: &HostRuntime,
     path: &str,

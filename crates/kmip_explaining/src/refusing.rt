@@ -14,7 +14,7 @@ use toml::{Table, Value};
 const BEFORE_A_LINE: &str = "TOML parse error at line ";
 
 /// Tells on standard error why the text of the file at this path is no plan, in one line. Tells nothing
-/// where it is one, or where there is no memory.
+/// where it is one, or where there is no memory. It has no clause.
 pub fn tell_refusal(rt: &HostRuntime, path: &str, plan: &str) {
     if let Ok(Some(line)) = refusal_line(rt.alloc(), path, plan) {
         let _ = rt.eprintln(line.as_str());

@@ -1,4 +1,4 @@
-//! `kmip_growths`, a program for `make refuse`: calls of the crates below that may lack memory, each
+//! Calls that may lack memory, as a program for `make refuse`. Each call is of the crates below. It is
 //! made where a growth of memory may be refused, and once more where one was.
 //!
 //! A word of the command line names a case; without one all cases are tried in turn. Each prints a line

@@ -1,6 +1,6 @@
-//! What the stored runs of `kmipctl_runs` do with the commands `run` and `probe` over links in memory: to a
-//! server that loses nothing or follows a script, to servers that break a rule, and to peers that are none.
-//! What comes of each is printed.
+//! The stored runs of the commands `run` and `probe` over links in memory. kmipctl_runs carries them
+//! out. The links lead to a server that loses nothing or follows a script, to servers that break a
+//! rule, and to peers that are none. What comes of each is printed.
 //!
 //! A line of a transcript is a remark, which is passed over, or one of
 //!

@@ -83,7 +83,7 @@ fn push_success(alloc: Global, outcome: &Outcome, text: &mut String) -> Result<(
 }
 
 /// Appends what an object of the key of this name is, as far as it was told: how the operation went,
-/// and behind it the attributes, as `1014 is Active, AES 256 encrypt decrypt`.
+/// and after it the attributes, as `1014 is Active, AES 256 encrypt decrypt`.
 ///
 /// # Errors
 /// Where there is no memory.

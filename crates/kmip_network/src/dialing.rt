@@ -8,9 +8,9 @@ use std::io;
 use std::io::Error;
 use std::time::{Duration, Instant};
 
-/// Opens streams as another does. What comes over them, and why one could not be opened, is noted,
-/// where it is to be; else the latter is told on standard error, once for each time that the server
-/// can't be reached.
+/// Opens streams as another does. What comes over them is noted, and why one could not be opened, where
+/// it is to be noted. Else why one could not be opened is told on standard error, once for each time
+/// that the server can't be reached.
 #[derive(Drop)]
 pub(crate) struct Telling<'a, D: Dial + Drop> {
     rt: &'a HostRuntime,

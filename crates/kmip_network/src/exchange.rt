@@ -111,7 +111,7 @@ fn id_bytes(id: &Option<Bytes>) -> &[u8] {
     }
 }
 
-/// The name of the key that a request is about: it stands in its id behind the operation.
+/// The name of the key that a request is about: it stands in its id after the operation.
 pub(crate) fn name_of(request: &Request) -> &[u8] {
     match id_bytes(&request.id) {
         [_, name @ ..] => name,

@@ -1,5 +1,16 @@
-//! The commands `run`, `probe` and `serve` over the sockets, the files and the standard streams of this
-//! machine, and the texts of files.
+//! The commands `run`, `probe` and `serve` over sockets, files and standard streams.
+//!
+//! It also reads the texts of files. All is safe and total. `run_plan`, `probe_server`, `serve`,
+//! `plan_at`, `text_at`, `Trouble::tell`, `tell_output`, `standard_input` and `standard_output` have no
+//! clause, as std tells a contract nothing of the bytes of sockets, files and streams. What they call
+//! is proved over every link, keeper and writer. The stored runs, `make storm` and `make peers` try
+//! them.
+//!
+//! Why no connection comes about, and what comes over one, is told or noted by a `Dial` around another
+//! and by streams around its own. These change nothing of what those answer. What `run` tells of its
+//! exchanges rests on that; `make troubles` and `make peers` want the lines. Why a standard stream
+//! fails is told by a reader or a writer around another, which changes nothing of what that answers
+//! either. `make causes` wants its line, and those of files and sockets.
 #![tactic(auto)]
 
 mod account;

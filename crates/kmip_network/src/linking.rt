@@ -22,7 +22,7 @@ pub(crate) fn tcp_link<'a>(
     StreamLink::new(Telling::new(rt, dial, wire), limit)
 }
 
-/// A link to the server behind the Unix socket at a path.
+/// A link to the server on the Unix socket at a path.
 ///
 /// # Errors
 /// Where the path is too long for one of a socket.

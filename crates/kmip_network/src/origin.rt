@@ -133,7 +133,7 @@ impl Origin {
     }
 }
 
-/// What stands in a line behind these words; none where they do not stand there.
+/// What stands in a line after these words; none where they do not stand there.
 fn behind<'t>(line: Option<&'t str>, words: &str) -> Option<&'t str> {
     line?.strip_prefix(words)
 }

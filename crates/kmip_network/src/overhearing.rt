@@ -66,7 +66,7 @@ impl<'a> Overheard<'a> {
     }
 }
 
-/// The reader of a connection, which is overheard. No byte behind a message is read before its reply
+/// The reader of a connection, which is overheard. No byte after a message is read before its reply
 /// is written, so what was read since the last reply is one message.
 #[derive(Drop)]
 pub(crate) struct Hearing<'a, R> {

@@ -14,7 +14,7 @@ use std::io::BufWriter;
 use std::time::Duration;
 
 /// The command `probe`: the server is asked, and what its answers tell is printed. Each question goes
-/// over a stream of its own, so a server that closes the stream behind each reply answers all. A Locate
+/// over a stream of its own, so a server that closes the stream after each reply answers all. A Locate
 /// that brings no reply is asked again; nothing else is.
 ///
 /// # Errors
@@ -36,7 +36,7 @@ pub fn probe_server(rt: &HostRuntime, options: &ProbeOptions) -> Result<ExitStat
     }
 }
 
-/// Asks the server behind this link. Each message that is sent is told, if it is to be.
+/// Asks the server over this link. Each message that is sent is told, if it is to be.
 fn probe_over<L: Link + Drop>(
     rt: &HostRuntime,
     options: &ProbeOptions,

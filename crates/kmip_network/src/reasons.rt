@@ -119,7 +119,7 @@ const REFUSED: &str = "refused, ";
 
 const BEFORE_NUMBER: &str = "reason ";
 
-/// Appends an exchange in words, with the name of each Result Reason behind its number, where it has one.
+/// Appends an exchange in words, with the name of each Result Reason after its number, where it has one.
 ///
 /// # Errors
 /// Where there is no memory.
@@ -137,7 +137,7 @@ pub(crate) fn push_with_reasons(
     Ok(())
 }
 
-/// Appends what stands behind that something was refused.
+/// Appends what stands after that something was refused.
 fn push_refusal(alloc: Global, part: &str, text: &mut String) -> Result<(), AllocError> {
     let Some((number, behind)) = part.strip_prefix(BEFORE_NUMBER).map(number_in_front) else {
         return text.push_str(part);
@@ -151,7 +151,7 @@ fn push_refusal(alloc: Global, part: &str, text: &mut String) -> Result<(), Allo
     }
 }
 
-/// The decimal digits in front of a text, and what stands behind them.
+/// The decimal digits in front of a text, and what stands after them.
 fn number_in_front(text: &str) -> (&str, &str) {
     let behind = text.trim_start_matches(|digit: char| digit.is_ascii_digit());
     let number = text.strip_suffix(behind).unwrap_or("");

@@ -12,7 +12,7 @@ pub(crate) struct Watch<'a> {
 }
 
 impl<'a> Watch<'a> {
-    /// One that waits so many milliseconds first, and gives up after so many seconds, 0 for never.
+    /// One that waits `wait` milliseconds first, and gives up after `give_up` seconds, 0 for never.
     pub(crate) fn new(account: &'a Account<'a>, wait: u64, give_up: u64) -> Self {
         Watch {
             pace: Pace::new(account.rt(), wait, give_up),

@@ -1,5 +1,5 @@
 -- What `probe` writes for the answers of its questions.
--- Source: own: what the program prints.
+-- Source: own (text): what the program prints.
 use Rattle.std.specs.Prelude.{◌≡◌, ℕ, Bool, true, not, List, [], ◌∷◌, ◌++◌, codes, Option, Some, None}
 use Rattle.std.specs.Io.KnownBytes.{Appends}
 use Rattle.kmip_messages.specs.declared.standard.TheConstants.{REASON_NON_UNIQUE_NAME, REASON_WRONG_STATE}
@@ -11,20 +11,24 @@ use Rattle.kmip_probe.specs.Wording.{are_all_kept, listed, report_text}
 use Rattle.kmip_premises.specs.declared.answer.Answer.{Answer}
 use Rattle.kmip_premises.specs.declared.finding.Findings.{Findings}
 
--- the line of a prefix that can't begin names
+-- The line of a prefix that can't begin names.
 abbrev pub unfit_text : List ℕ
 unfit_text = codes "prefix refused: it is not 1 to 62 printable ASCII characters without a space\n"
 
--- This is told, and whether a premise is not seen to be kept: why nothing was made; or which keys are to be made, and what is found.
+-- What is told of answers, and whether a premise is not seen to be kept. Either why nothing was made,
+-- which is refused; or which keys are to be made, and what is found.
 abbrev pub TellsFrom : List ℕ → List Answer → Option (List ℕ) → Bool → List ℕ → Type 0
 TellsFrom prefix answers (Some unbegun) refused text = (refused ≡ true) × (text ≡ unbegun)
 TellsFrom prefix answers None refused text =
     (findings : Findings) × AreFindings prefix answers findings × (refused ≡ not (are_all_kept findings)) × (text ≡ making_text prefix ++ report_text findings)
 
+-- The text tells of these answers: why nothing was made, where a name was not seen to be free, or which
+-- keys are to be made and what is found.
 abbrev pub TellsProbe : List ℕ → List Answer → Bool → List ℕ → Type 0
 TellsProbe prefix answers refused text = TellsFrom prefix answers (unbegun_text prefix answers) refused text
 
--- Private: this was written by some findings of these answers, and whether a premise is not seen to be kept
+-- Private: this was written by some findings of these answers, and whether a premise is not seen to be
+-- kept.
 abbrev pub TellsEnd : (Findings → List ℕ) → List ℕ → List Answer → Bool → Option (List ℕ) → Option (List ℕ) → Type 0
 TellsEnd text prefix answers refused old new =
     (findings : Findings) × AreFindings prefix answers findings × (refused ≡ not (are_all_kept findings)) × Appends old new (text findings)
@@ -37,7 +41,7 @@ pub record WritesProbe {L : Type 0} (past : L → Past) (honest : L → Names �
   pub tells : TellsProbe prefix answers refused text
   pub written : Appends old new text
 
--- what is written of the premises where each is kept
+-- What is written of the premises where each is kept, after the line of the keys.
 abbrev pub kept_text : List ℕ
 kept_text =
     codes "names are unique: yes\n"

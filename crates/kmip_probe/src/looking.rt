@@ -112,8 +112,8 @@ fn used_text(alloc: Global, name: &str, uid: &str) -> Result<String, NoMemory>
     Ok(text)
 }
 
-/// Why it could not be told whether an object has the name: the look was refused, with the number
-/// of the Result Reason where there is one, its reply can't be read, or no reply tells it.
+/// Why it could not be told whether an object has the name. The look was refused, with the number of
+/// the Result Reason where there is one; or its reply can't be read, or no reply tells it.
 ///
 /// # Errors
 /// Where there is no memory.

@@ -36,7 +36,7 @@ pub(crate) const EARLY: [Premise; 1] = [Premise::NamesAreUnique];
 /// How many questions are asked before the first premise is told.
 pub(crate) const EARLY_ANSWERS: usize = 8;
 
-/// The premises behind them, which are told once `LATE_ANSWERS` questions were asked.
+/// The premises after them, which are told once `LATE_ANSWERS` questions were asked.
 pub(crate) const LATE: [Premise; 6] = [
     Premise::NamesStayUsed,
     Premise::StepsCountOnce,

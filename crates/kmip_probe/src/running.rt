@@ -22,25 +22,41 @@ use std::mem;
 const UNFIT_PREFIX: &str =
     "prefix refused: it is not 1 to 62 printable ASCII characters without a space\n";
 
-/// Runs `probe`, and prints a line for want of memory. A prefix that can't begin names is refused by a
-/// line of its own, and nothing is asked. Which keys are to be made is written before the first is, and
-/// each line of what is found once the answers that decide it have come, and those of the lines before it.
+/// Probes over the link, writes what came of it, and prints the line of a fault. `Done` where every
+/// premise is seen to be kept, and else `Refused`; `Failed` with the fault. A prefix that can't begin
+/// names is refused by a line of its own.
+///
+/// Which keys are to be made is written before the first is. Each line of what is found is written once
+/// the answers that decide it have come, and those of the lines before it.
 pub fn run_probe<L: Link, W: Write>(
     alloc: Global,
     prefix: &str,
     link: &mut L,
     writer: &mut W,
 ) -> ExitStatus
+    // It never ends with `Usage`. Of a prefix that can begin names, what is written is what some answers
+    // tell: which keys are to be made and the report, or why nothing was made. That is the object that
+    // has a name, or that it could not be told, with the reason where the look was refused or its reply
+    // can't be read. Over an honest link these are the answers of the questions that were asked.
     ensures text { IsTrue (is_prefix prefix.now) → IfWhole result (λ r. WritesProbe
         L.past L.honest prefix.now link.old link.new r
         (W.contents writer.old) (W.contents writer.new)) }
+    // Of any other prefix nothing is asked. Where it does not fail, a line says so, and it is refused.
     ensures unfit { is_prefix prefix.now ≡ false → (link.new ≡ link.old) × IfWhole result
         (λ r. (r ≡ true) × Appends (W.contents writer.old) (W.contents writer.new) unfit_text) }
+    // Where it ends with `Failed`, what was written is some first lines of what is told of answers that
+    // have come, and then the line of the fault. No line was written before the answers that decide it
+    // (`TellsSome`). Of a writer that failed, nothing is said.
     ensures broken { IfFailed result (λ fault. UnlessOutput fault (TellsSome prefix.now
         (fault_line fault) (W.contents writer.old) (W.contents writer.new))) }
+    // The fault is never that of a reader.
     ensures no_input { IfFailed result (λ fault. fault ≢ CommandFault.Input) }
+    // Over an honest link at most 25 messages are sent, however it ends.
     ensures few { (names : Names) → L.honest link.old names
         → length (L.past link.new).sent ≤ length (L.past link.old).sent + QUESTIONS }
+    // It asks for a calm link to a server whose objects have distinct names and identifiers, none of them
+    // one of the two names, with room for two more. Then the text names the two keys and says yes to
+    // every premise, and nothing is refused, unless memory or the writer fails.
     ensures kept { IsTrue (is_prefix prefix.now) → (names : Names) → L.calm link.old names
         → IsUnprobed prefix.now (L.past link.old) → IfWhole result (λ r. (r ≡ false)
         × Appends (W.contents writer.old) (W.contents writer.new)
@@ -81,11 +97,10 @@ fn write_probe<L: Link, W: Write>(
     probe_to(alloc, prefix, link, writer)
 }
 
-/// Probes in memory: appends what `run_probe` writes to `output`, and says whether the prefix was
-/// refused, or a premise is not seen to be kept.
+/// Probes in memory: appends what `run_probe` writes to `output`. Says whether the prefix was refused,
+/// or a premise is not seen to be kept.
 ///
 /// # Errors
-///
 /// Where there is no memory; then nothing is appended.
 pub fn probe_bytes<L: Link>(
     alloc: Global,
@@ -93,14 +108,24 @@ pub fn probe_bytes<L: Link>(
     link: &mut L,
     output: &mut Vec<u8>,
 ) -> Result<bool, NoMemory>
+    // Of a prefix that can begin names, what is appended is what some answers tell: which keys are to be
+    // made and the report, or why nothing was made. That is the object that has a name, or that it could
+    // not be told, with the reason where the look was refused or its reply can't be read. Over an honest
+    // link these are the answers of the questions that were asked.
     ensures text { IsTrue (is_prefix prefix.now) → IfOk result (λ r. WritesProbe
         L.past L.honest prefix.now link.old link.new r
         (Some output.old.items) (Some output.new.items)) }
+    // Of any other prefix nothing is asked. Where it does not fail, a line says so, and it is refused.
     ensures unfit { is_prefix prefix.now ≡ false → (link.new ≡ link.old) × IfOk result
         (λ r. (r ≡ true) × (output.new.items ≡ output.old.items ++ unfit_text)) }
+    // At want of memory nothing is appended.
     ensures broken { OnErr result (output.new.items ≡ output.old.items) }
+    // Over an honest link at most 25 messages are sent, however it ends.
     ensures few { (names : Names) → L.honest link.old names
         → length (L.past link.new).sent ≤ length (L.past link.old).sent + QUESTIONS }
+    // It asks for a calm link to a server whose objects have distinct names and identifiers, none of them
+    // one of the two names, with room for two more. Then the text names the two keys and says yes to
+    // every premise, and nothing is refused, unless memory runs out.
     ensures kept { IsTrue (is_prefix prefix.now) → (names : Names) → L.calm link.old names
         → IsUnprobed prefix.now (L.past link.old) → IfOk result (λ r. (r ≡ false)
         × (output.new.items ≡ output.old.items ++ (making_text prefix.now ++ kept_text))) }

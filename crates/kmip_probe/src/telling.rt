@@ -156,7 +156,7 @@ fn print_lines<P: Printer>(
     Ok(())
 }
 
-/// Prints what is told of all the answers behind the lines before, and says whether a premise is not
+/// Prints what is told of all the answers after the lines before, and says whether a premise is not
 /// seen to be kept.
 ///
 /// # Errors

@@ -164,7 +164,7 @@ fn listed(alloc: Global, reasons: &[u32]) -> Result<String, NoMemory>
     Ok(text)
 }
 
-/// Appends the reasons behind the first.
+/// Appends the reasons after the first.
 ///
 /// # Errors
 /// Where there is no memory.
@@ -179,7 +179,7 @@ fn push_rest(alloc: Global, reasons: &[u32], text: &mut String) -> Result<(), No
     Ok(())
 }
 
-/// What is printed of what a probe found behind the lines that are told before it ends: the line of the
+/// What is printed of what a probe found after the lines that are told before it ends: the line of the
 /// last premise, the reasons, what may go wrong, and the sum.
 ///
 /// # Errors
@@ -193,7 +193,7 @@ pub(crate) fn rest_of_report(alloc: Global, findings: &Findings) -> Result<Strin
     Ok(text)
 }
 
-/// What is printed behind the lines of the premises.
+/// What is printed after the lines of the premises.
 ///
 /// # Errors
 /// Where there is no memory.

@@ -87,7 +87,7 @@ impl<'a> Display for WrongAddress<'a> {
     }
 }
 
-/// What stands behind `--connect` in a command line of `run` or `probe`.
+/// What stands after `--connect` in a command line of `run` or `probe`.
 fn connect_value(words: &[String]) -> Option<&str> {
     if !asks_a_server(words) {
         return None;

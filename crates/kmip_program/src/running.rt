@@ -11,10 +11,12 @@ use std::io::ErrorKind;
 use std::process::ExitCode;
 use std::{env, io};
 
-/// Runs the program: reads its command line, does what that asks for over standard streams, files
-/// and sockets, and answers the code to end with. Results, faults, help and usage faults are printed
-/// on standard output. Standard error has what `run` shows while it works, why a file, a socket or a
-/// stream fails, where a plan is no TOML, what to give for a wrong address, what a terminal is asked for,
+/// Runs the program: reads its command line, does what that asks for over standard streams, files and
+/// sockets, and returns the code to end with. Results, faults, help and usage faults are printed on
+/// standard output.
+///
+/// Standard error has what `run` shows while it works, and why a file, a socket or a stream fails. It
+/// also has where a plan is no TOML, what to give for a wrong address, what a terminal is asked for,
 /// and that the command line is no text.
 pub fn run(rt: &HostRuntime) -> ExitCode {
     open_closed_streams(rt);
@@ -26,7 +28,7 @@ pub fn run(rt: &HostRuntime) -> ExitCode {
     ExitCode::from(status.code())
 }
 
-/// The same with these words, the first of which is the program's name: answers how it ended.
+/// Runs the program with these words, the first of which is its name, and returns how it ended.
 pub fn run_words(rt: &HostRuntime, words: &[String]) -> ExitStatus {
     match run_command(rt, words) {
         Ok(status) => status,

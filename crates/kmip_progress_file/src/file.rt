@@ -21,8 +21,8 @@ pub const MOST_PROGRESS_BYTES: u64 = 1_048_576;
 
 /// The file that a run keeps its progress in.
 ///
-/// At any instant, also where the program is killed or the disk is full, it is absent or whole: each
-/// text is written to a file beside it and takes its place once it is on the disk.
+/// At any instant it is absent or whole, also where the program is killed or the disk is full. Each
+/// text is written to a file beside it, and takes its place once it is on the disk.
 #[derive(Drop)]
 pub struct ProgressFile<'a, R> {
     rt: &'a R,

@@ -1,5 +1,8 @@
-//! The file that a run keeps its progress in: at any instant absent, or whole; and of one run at a time.
-//! And the text of a file that is not too long.
+//! The file that a run keeps its progress in, and the text of any file.
+//!
+//! At any instant that file is absent, or whole; and it is of one run at a time. A text is read only of
+//! a file that is not too long. No clause speaks of the bytes of a file: kmip_conformance_files tries
+//! what is promised here, on disks that fail.
 #![tactic(auto)]
 
 mod file;

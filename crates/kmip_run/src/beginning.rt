@@ -12,18 +12,23 @@ use kmip_plan::Plan;
 use kmip_progress::{Progress, ProgressFault};
 use std::alloc::Global;
 
-/// A client that knows what the text of a saved progress says, or nothing where there is none.
+/// A client for the plan, with what the text of a saved progress says, or with nothing known where
+/// there is no text.
 ///
 /// # Errors
-/// Why the text is no progress of the plan; want of memory otherwise.
+/// Why the text is no progress of the plan, the first fault of the text; want of memory otherwise.
 pub fn begin<'p>(
     alloc: Global,
     plan: &'p Plan,
     saved: Option<&str>,
 ) -> Result<Client<'p>, ProgressFault>
+    // What the client knows, or the fault, is exactly what `begin_knowns` gives for the text. Only want
+    // of memory is told otherwise.
     ensures exact { GivesProgress (λ (client : ClientState). client.knowns) result
         (begin_knowns plan.now (option_map (λ text. text.now) saved.entry)) }
+    // The client's plan is this one.
     ensures keys { IfOk result (λ client. client.keys ≡ plan.now) }
+    // Where the text says what is true of some objects, what the client knows is true of them.
     ensures held { (objects : List Object)
         → IsTrueText objects plan.now (option_map (λ text. text.now) saved.entry)
         → IfOk result (λ client. Held objects client.keys client.knowns) }

@@ -1,4 +1,4 @@
-//! The command `run`: a plan is carried out over a link, and what is known is saved after each exchange.
+//! The command `run`: carries out a plan, saves its progress, and reports on it.
 #![tactic(auto)]
 
 mod batch;

@@ -45,7 +45,8 @@ struct Told {
     refused: bool,
 }
 
-/// Runs `run`, and prints a line for want of memory.
+/// Does what `run` does, and prints the line of a fault. `Done` where nothing was refused, not kept or
+/// left unfinished, and else `Refused`; `Failed` with the fault.
 pub fn run_run<L: Link, K: Keeper, E: Patience, W: Write>(
     alloc: Global,
     plan: &str,
@@ -56,7 +57,11 @@ pub fn run_run<L: Link, K: Keeper, E: Patience, W: Write>(
     patience: &mut E,
     writer: &mut W,
 ) -> ExitStatus
+    // The `batch` of the input is a number from 1 to 8.
     requires { IsTrue (may_have input.now.batch) }
+    // It never ends with `Usage`. Where it ends with `Done` or `Refused`, what is written is as for
+    // `run`, whole (`WritesRun`). It is `Refused` exactly where something was refused, not kept or left
+    // unfinished. What is told has come of the exchanges that are told: `Came`.
     ensures text { IfWhole result (λ r. WritesRun
         (AreUntouched link.old link.new keeper.old keeper.new)
         (Came L.past L.honest L.calm L.disturbances K.keeps K.saved K.refusals
@@ -66,13 +71,22 @@ pub fn run_run<L: Link, K: Keeper, E: Patience, W: Write>(
         link.old link.new keeper.old keeper.new)
         (plan_read plan.now) (option_map (λ text. text.now) saved.entry)
         input.now.path.now input.now.limit r (W.contents writer.old) (W.contents writer.new)) }
+    // Where it ends with `Failed`, exactly the line of the fault is written. Of a writer that failed,
+    // nothing is said.
     ensures broken { IfFailed result (λ fault. UnlessOutput fault
         (Appends (W.contents writer.old) (W.contents writer.new) (fault_line fault))) }
+    // It asks that the text is a plan, that the link is honest for its names, that all that has happened
+    // over it is sound, and that the progress, if any, is true. Then the link is honest and all is sound
+    // after it too, however it ends. The objects have gone onward, and a past that was an image of the
+    // plan machine is one still.
     ensures safe { (keys : List Key) → plan_read plan.now ≡ Ok keys
         → GoodLink L.past L.honest keys link.old
         → IsTrueText (L.past link.old).objects keys
         (option_map (λ text. text.now) saved.entry)
         → KeepsSafe L.past L.honest keys link.old link.new }
+    // Over a link that is honest for the names of the plan, each message that was sent asks about keys of
+    // the plan, each once, and about no more than the input says. That is not said where it ends with
+    // `Failed`.
     ensures few { (keys : List Key) → plan_read plan.now ≡ Ok keys
         → L.honest link.old (is_planned keys) → IfWhole result (λ r. AsksFew keys input.now.batch
         (L.past link.old) (L.past link.new)) }
@@ -81,7 +95,7 @@ pub fn run_run<L: Link, K: Keeper, E: Patience, W: Write>(
     finished(ended, writer)
 }
 
-/// Runs `run` for a plan that was read before, and prints a line for want of memory.
+/// Does what `run_run` does, for a plan that was read before.
 pub fn run_plan<L: Link, K: Keeper, E: Patience, W: Write>(
     alloc: Global,
     plan: &Plan,
@@ -92,7 +106,12 @@ pub fn run_plan<L: Link, K: Keeper, E: Patience, W: Write>(
     patience: &mut E,
     writer: &mut W,
 ) -> ExitStatus
+    // The `batch` of the input is a number from 1 to 8.
     requires { IsTrue (may_have input.now.batch) }
+    // It never ends with `Usage`. Where it ends with `Done` or `Refused`, what is written for this plan
+    // is whole: the report, that what was known could not be kept, or why the progress is refused
+    // (`WritesPlanRun`). It is `Refused` exactly where something was refused, not kept or left
+    // unfinished. What is told has come of the exchanges that are told: `Came`.
     ensures text { IfWhole result (λ r. WritesPlanRun
         (AreUntouched link.old link.new keeper.old keeper.new)
         (Came L.past L.honest L.calm L.disturbances K.keeps K.saved K.refusals
@@ -102,12 +121,21 @@ pub fn run_plan<L: Link, K: Keeper, E: Patience, W: Write>(
         link.old link.new keeper.old keeper.new plan.now)
         plan.now (option_map (λ text. text.now) saved.entry)
         input.now.path.now input.now.limit r (W.contents writer.old) (W.contents writer.new)) }
+    // Where it ends with `Failed`, exactly the line of the fault is written. Of a writer that failed,
+    // nothing is said.
     ensures broken { IfFailed result (λ fault. UnlessOutput fault
         (Appends (W.contents writer.old) (W.contents writer.new) (fault_line fault))) }
+    // It asks that the link is honest for the names of the plan, that all that has happened over it is
+    // sound, and that the progress, if any, is true. Then the link is honest and all is sound after it
+    // too, however it ends. The objects have gone onward, and a past that was an image of the plan
+    // machine is one still.
     ensures safe { GoodLink L.past L.honest plan.now link.old
         → IsTrueText (L.past link.old).objects plan.now
         (option_map (λ text. text.now) saved.entry)
         → KeepsSafe L.past L.honest plan.now link.old link.new }
+    // Over a link that is honest for the names of the plan, each message that was sent asks about keys of
+    // the plan, each once, and about no more than the input says. That is not said where it ends with
+    // `Failed`.
     ensures few { L.honest link.old (is_planned plan.now) → IfWhole result (λ r. AsksFew plan.now
         input.now.batch (L.past link.old) (L.past link.new)) }
 {
@@ -168,21 +196,26 @@ fn print_told<P: Printer>(told: &Told, printer: &mut P) -> Result<bool, CommandF
     Ok(told.refused)
 }
 
-/// Carries out the text of a plan over the link, from nothing or from what the text of a saved
-/// progress says, and gives the keeper the text of what is known after each exchange. `patience` waits
-/// before each further exchange, and says whether it is made. Writes the report of the keys and a line that says why it stopped and after how many exchanges; or one line where the plan
-/// is refused, else where the progress is, and one where what is known could not be kept. Says whether
-/// something was refused, not kept, or left unfinished. Nothing is written before the run has ended.
-/// Each message asks about at most as many keys as the input says.
+/// Carries out the text of a plan over the link, from nothing or from what the text of a saved progress
+/// says. The keeper is given the text of what is known after each exchange. `patience` waits before
+/// each further exchange, and says whether it is made. Each message asks about at most as many keys as
+/// the input says.
 ///
-/// What is reported has come of the exchanges that were made: over an honest link it is what was known
-/// at first and what they handed over, and where the keeper keeps what it is given, the text after each
-/// exchange was kept. Where the plan or the progress is refused nothing is asked and nothing kept.
+/// It writes the report of the keys, and a line that says why it stopped and after how many exchanges.
+/// Where what was known could not be kept, it writes one line that says so. Where the plan is refused,
+/// or else the progress, it writes the line of the refusal; then nothing is asked, and nothing is kept.
+/// Nothing is written before the run has ended.
+///
+/// The result is true where something was refused, not kept, or left unfinished.
+///
+/// That is said of every link, every keeper and every writer. Of the link over sockets that kmipctl
+/// gives, no clause says that it is honest. No clause speaks of the bytes of a file. That both are what
+/// they should be is a premise in words. `run` calls `kmip_running::carry_out` once; what that promises
+/// beyond this stands there.
 ///
 /// # Errors
-///
-/// `Output` where the writer fails, and `NoMemory`: nothing is written then. What the keeper was
-/// given stays.
+/// `Output` where the writer fails, and `NoMemory`: nothing is written then. What the keeper was given
+/// stays.
 pub fn run<L: Link, K: Keeper, E: Patience, W: Write>(
     alloc: Global,
     plan: &str,
@@ -193,7 +226,12 @@ pub fn run<L: Link, K: Keeper, E: Patience, W: Write>(
     patience: &mut E,
     writer: &mut W,
 ) -> Result<bool, CommandFault>
+    // The `batch` of the input is a number from 1 to 8.
     requires { IsTrue (may_have input.now.batch) }
+    // What is written is for what the text of the plan says, and the result says whether something was
+    // refused, not kept or left unfinished: `WritesRun`. What is told has come of the exchanges that are
+    // told. `Came` says what they taught, what was kept after each, when the limit is enough for all
+    // keys, and when fewer are made.
     ensures text { IfOk result (λ r. WritesRun
         (AreUntouched link.old link.new keeper.old keeper.new)
         (Came L.past L.honest L.calm L.disturbances K.keeps K.saved K.refusals
@@ -203,14 +241,23 @@ pub fn run<L: Link, K: Keeper, E: Patience, W: Write>(
         link.old link.new keeper.old keeper.new)
         (plan_read plan.now) (option_map (λ text. text.now) saved.entry)
         input.now.path.now input.now.limit r (W.contents writer.old) (W.contents writer.new)) }
+    // At want of memory nothing is written. Of a writer that failed, nothing is said.
     ensures broken { IfErr result (λ fault. UnlessOutput fault
         (Appends (W.contents writer.old) (W.contents writer.new) [])) }
+    // No fault is one of reading, as nothing is read.
     ensures no_input { IfErr result (λ fault. fault ≢ CommandFault.Input) }
+    // It asks that the text is a plan, that the link is honest for its names, that all that has happened
+    // over it is sound, and that the progress, if any, is true. Then the link is honest and all is sound
+    // after it too, however it ends. The objects have gone onward, and a past that was an image of the
+    // plan machine is one still.
     ensures safe { (keys : List Key) → plan_read plan.now ≡ Ok keys
         → GoodLink L.past L.honest keys link.old
         → IsTrueText (L.past link.old).objects keys
         (option_map (λ text. text.now) saved.entry)
         → KeepsSafe L.past L.honest keys link.old link.new }
+    // Over a link that is honest for the names of the plan, each message that was sent asks about keys of
+    // the plan, each once, and about no more than the input says. That is not said where it ends with a
+    // fault.
     ensures few { (keys : List Key) → plan_read plan.now ≡ Ok keys
         → L.honest link.old (is_planned keys) → IfOk result (λ r. AsksFew keys input.now.batch
         (L.past link.old) (L.past link.new)) }
@@ -218,10 +265,9 @@ pub fn run<L: Link, K: Keeper, E: Patience, W: Write>(
     run_to(alloc, plan, input, saved, link, keeper, patience, writer)
 }
 
-/// Does the same in memory: appends what is written to `output`.
+/// Does in memory what `run` does: appends to `output` what `run` writes.
 ///
 /// # Errors
-///
 /// Where there is no memory; then nothing is appended. What the keeper was given stays.
 pub fn run_bytes<L: Link, K: Keeper, E: Patience>(
     alloc: Global,
@@ -233,7 +279,11 @@ pub fn run_bytes<L: Link, K: Keeper, E: Patience>(
     patience: &mut E,
     output: &mut Vec<u8>,
 ) -> Result<bool, NoMemory>
+    // The `batch` of the input is a number from 1 to 8.
     requires { IsTrue (may_have input.now.batch) }
+    // What is appended is for what the text of the plan says, and the result says whether something was
+    // refused, not kept or left unfinished: `WritesRun`. What is told has come of the exchanges that are
+    // told: `Came`.
     ensures text { IfOk result (λ r. WritesRun
         (AreUntouched link.old link.new keeper.old keeper.new)
         (Came L.past L.honest L.calm L.disturbances K.keeps K.saved K.refusals
@@ -243,12 +293,19 @@ pub fn run_bytes<L: Link, K: Keeper, E: Patience>(
         link.old link.new keeper.old keeper.new)
         (plan_read plan.now) (option_map (λ text. text.now) saved.entry)
         input.now.path.now input.now.limit r (Some output.old.items) (Some output.new.items)) }
+    // At want of memory, the only fault, nothing is appended.
     ensures broken { OnErr result (output.new.items ≡ output.old.items) }
+    // It asks that the text is a plan, that the link is honest for its names, that all that has happened
+    // over it is sound, and that the progress, if any, is true. Then the link is honest and all is sound
+    // after it too, however it ends. The objects have gone onward, and a past that was an image of the
+    // plan machine is one still.
     ensures safe { (keys : List Key) → plan_read plan.now ≡ Ok keys
         → GoodLink L.past L.honest keys link.old
         → IsTrueText (L.past link.old).objects keys
         (option_map (λ text. text.now) saved.entry)
         → KeepsSafe L.past L.honest keys link.old link.new }
+    // Over a link that is honest for the names of the plan, each message that was sent asks about keys of
+    // the plan, each once, and about no more than the input says. That is not said at want of memory.
     ensures few { (keys : List Key) → plan_read plan.now ≡ Ok keys
         → L.honest link.old (is_planned keys) → IfOk result (λ r. AsksFew keys input.now.batch
         (L.past link.old) (L.past link.new)) }

@@ -24,18 +24,21 @@ use std::alloc::Global;
 /// The most columns of the line (own).
 const MOST_COLUMNS: usize = 60;
 
-/// The line that says how far a run is, by what its client knows and what it has spent: how many keys
-/// are finished, how many exchanges were lost and how many questions refused, if any, how many
-/// exchanges were made, and for how many seconds it has run. As long as nothing was lost or refused,
-/// it also says how many more exchanges are made at most. The line has at most 60 columns: what it has
-/// no room for is left out.
+/// The line that says how far a run is, by what its client knows and what it has spent. It says how
+/// many keys are finished, how many exchanges were lost and how many questions were refused, if any. It
+/// says how many exchanges were made, and for how many seconds the run has gone on. As long as nothing
+/// was lost or refused, it also says how many more exchanges are made at most. What the line has no
+/// room for is left out.
 ///
 /// # Errors
 /// Where there is no memory.
 pub fn standing_line(alloc: Global, client: &Client<'_>, spent: Spent) -> Result<String, NoMemory>
+    // The line is exactly the stated text of what was spent, of how many keys the report counts as
+    // finished, and of the most exchanges that may be left by what the client knows.
     ensures text { IfOk result (λ line. string_bytes line ≡ standing_text
         (finished_count (verdicts_of client.now.keys client.now.knowns)) (length client.now.keys)
         spent (most_left client.now.keys client.now.knowns)) }
+    // It has at most 60 columns.
     ensures narrow { IfOk result (λ line. length (string_bytes line) ≤ most_columns) }
 {
     let verdicts = client.verdicts(alloc)?;
@@ -44,7 +47,7 @@ pub fn standing_line(alloc: Global, client: &Client<'_>, spent: Spent) -> Result
     line_of(alloc, finished, client.plan().count(), spent, most)
 }
 
-/// The line for so many keys, and so many more exchanges at most.
+/// The line for this many keys, and at most this many more exchanges.
 fn line_of(
     alloc: Global,
     finished: usize,

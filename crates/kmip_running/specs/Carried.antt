@@ -1,5 +1,5 @@
 -- Private: what the parts of carrying out a plan keep.
--- Source: own.
+-- Source: own (view).
 use Rattle.std.specs.Prelude.{◌≡◌, ℕ, List, Result, Ok}
 use Rattle.kmip_client.specs.Clients.{ClientState}
 use Rattle.kmip_client.specs.Laws.{OnwardToItself, OnwardTwice, HeldForGood, HeldIsNoConflict, HearingIsBlind}
@@ -13,7 +13,7 @@ use Rattle.kmip_session.specs.declared.stop.Stop.TheVariants as stops
 use Rattle.kmip_running.specs.Saved.{AreSaved, IsInMemory, IsWhole, moment}
 use Rattle.kmip_running.specs.declared.keeper.SaveFault.{SaveFault}
 
--- the laws of the crates below
+-- The laws of the crates below that the proofs use.
 pub record CarryingLaws : Type 0 where
   pub itself : OnwardToItself
   pub twice : OnwardTwice
@@ -31,7 +31,7 @@ pub record CarryingLaws : Type 0 where
   pub left_bounded : LeftIsBounded
   pub needs_left : NeedsAreLeft
 
--- what so many exchanges keep of what is good, and what they teach
+-- What `made` exchanges keep of what is good, and what they teach. The fields are clauses of `carry_out`.
 pub record Went {L : Type 0} (past : L → Past) (honest calm : L → Names → Type 0) (a b : ClientState) (x y : L) (result : Result Stop SaveFault) (made : ℕ) : Type 0 where
   pub good : IsGood past honest a x → IsGood past honest b y
   pub goes : IsGood past honest a x → WentOn a.keys (past x) (past y)
@@ -42,7 +42,7 @@ pub record Went {L : Type 0} (past : L → Past) (honest calm : L → Names → 
   pub keeps : Keeps a b
   pub near : IsSettling past calm a x → IsWhole result → Nearer past calm a b x y made
 
--- so many exchanges were made, and what was known after each was saved
+-- So many exchanges were made, and what was known after each was saved.
 pub record Carried {L K : Type 0} (past : L → Past) (honest calm : L → Names → Type 0) (keeps : K → Type 0) (saved : K → List (List ℕ)) (a b : ClientState) (x y : L) (i j : K) (result : Result Stop SaveFault) (made : ℕ) : Type 0 where
   pub went : Went past honest calm a b x y result made
   pub kept : keeps i

@@ -1,5 +1,5 @@
 -- Private: what a run sees of the keys, and when it gets on by an exchange.
--- Source: own.
+-- Source: own (choice): the standard does not say when a client gets on.
 use Rattle.std.specs.Prelude.{◌≡◌, ℕ, Bool, true, false, ◌&&◌, ◌||◌, not, nat_lt, List, Some, slice_get}
 use Rattle.std.specs.Option.{is_some}
 use Rattle.kmip_chains.specs.declared.key.Key.{Key}
@@ -9,13 +9,13 @@ use Rattle.kmip_knowledge.specs.declared.knowledge.Verdict.{Verdict}
 use Rattle.kmip_knowledge.specs.declared.knowledge.Verdict.TheVariants.{Working, Finished, Conflict}
 use Rattle.kmip_running.specs.declared.sight.Sight.{Sight}
 
--- a key was found to be in conflict
+-- A key was found to be in conflict.
 abbrev pub is_conflict : Verdict → Bool
 is_conflict (Conflict clash) = true
 is_conflict Working = false
 is_conflict Finished = false
 
--- what is known of the key at a place, as far as it tells whether a run gets on
+-- What is known of the key at a place, as far as it tells whether a run gets on.
 abbrev pub sight_at : List Key → List Knowledge → ℕ → Sight
 sight_at keys knowns place = record {
   done = done_at knowns place;
@@ -24,21 +24,21 @@ sight_at keys knowns place = record {
   is_told = is_told_at knowns place;
 }
 
--- more steps are known, or an identifier or a conflict that was not
+-- More steps are known than before, or an identifier or a conflict that was not.
 abbrev pub has_grown : Sight → Sight → Bool
 has_grown old new =
     nat_lt old.done new.done || (new.is_identified && not old.is_identified) || (new.is_in_conflict && not old.is_in_conflict)
 
--- how it stands was told before, and nothing has grown since
+-- How the key stands was told before, and nothing has grown since.
 abbrev pub was_told : Sight → Sight → Bool
 was_told old new = old.is_told && not (has_grown old new)
 
--- A run gets on by a key where something has grown, and where it is told for the first time since then how the key stands: that there is
--- no object, or what its object is.
+-- A run gets on by a key where something has grown. It also gets on where it is told, for the first time
+-- since then, how the key stands: that there is no object, or what its object is.
 abbrev pub gets_on : Sight → Sight → Bool
 gets_on old new = has_grown old new || (new.is_told && not (was_told old new))
 
--- what is remembered of a key then
+-- What is remembered of a key after an exchange.
 abbrev pub remembered : Sight → Sight → Sight
 remembered old new = record new { is_told = new.is_told || was_told old new }
 
@@ -49,7 +49,7 @@ pub record GetsOn (keys : List Key) (knowns : List Knowledge) (before : List Sig
   pub sight_is : slice_get before place ≡ Some sight
   pub more : gets_on sight (sight_at keys knowns place) ≡ true
 
--- By none.
+-- The run has got on by no key.
 abbrev pub GetsNowhere : List Key → List Knowledge → List Sight → Type 0
 GetsNowhere keys knowns before =
     (place : ℕ) (sight : Sight) → slice_get before place ≡ Some sight → gets_on sight (sight_at keys knowns place) ≡ false

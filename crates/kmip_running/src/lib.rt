@@ -1,5 +1,4 @@
-//! A plan that is carried out over a link, one exchange at a time, where what is known is saved
-//! after each.
+//! Carries out a plan over a link, and saves what is known after each exchange.
 #![tactic(auto)]
 
 mod carrying;

@@ -14,8 +14,9 @@ pub trait Observer {
     fn ended(&mut self);
 }
 
-/// A link that tells an observer of each exchange once it is made, and of the end of a run. What is proved over a link holds
-/// over this one: it carries what the link within carries.
+/// A link that tells an observer of each exchange once it is made, and of the end of a run. As a `Link`
+/// it keeps the clauses of that trait by those of the link within: what is proved over a link holds
+/// over this one. That its observer is told no clause says; the tests count.
 #[derive(Drop)]
 pub struct Observed<L, O> {
     link: L,
@@ -23,8 +24,9 @@ pub struct Observed<L, O> {
 }
 
 impl<L: Link, O: Observer> Observed<L, O> {
-    /// The link, and who is told of its exchanges. Takes no memory.
+    /// Carries this link, and tells this observer of its exchanges. Takes no memory.
     pub fn new(link: L, observer: O) -> Self
+        // The link within is this one.
         ensures link { result.link ≡ link }
     {
         Observed { link, observer }

@@ -8,15 +8,18 @@ pub trait Patience {
     /// Whether it has given up.
     ghost has_given_up: { Self → Bool };
 
-    /// An exchange was made, and what is known after it was saved: what the client knows now, and
-    /// whether it got on by that exchange.
+    /// An exchange was made, and its text was given to the keeper, unless memory ran out. It is told
+    /// what the client knows now, and whether the client got on by that exchange. Nobody gives up by
+    /// being told.
     fn exchanged(&mut self, client: &Client<'_>, got_on: bool)
         ensures { has_given_up self.new ≡ has_given_up self.old };
 
-    /// Another exchange could be made: waits for it as long as it is to, and says whether it is
-    /// made. False is to give up; who has given up never goes on.
+    /// Another exchange could be made: waits for it as long as it is to, and says whether it is made.
+    /// False is to give up.
     fn go_on(&mut self) -> bool
+        // True exactly where it has not given up.
         ensures says { result ≡ not (has_given_up self.new) }
+        // Who has given up never goes on.
         ensures for_good { IsTrue (has_given_up self.old) → IsTrue (has_given_up self.new) };
 }
 

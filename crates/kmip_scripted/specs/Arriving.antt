@@ -1,5 +1,5 @@
 -- Private: the laws of the crates below that the arrival of a message rests on, in one record.
--- Source: own.
+-- Source: own (law).
 use Rattle.std.specs.Prelude.{◌≡◌, ℕ, List}
 use Rattle.std.specs.List.{filter_map}
 use Rattle.std.specs.Result.{result_ok}
@@ -8,6 +8,7 @@ use Rattle.kmip_objects.specs.Objects.{DistinctNames, DistinctUids, object_named
 use Rattle.kmip_batches.specs.Items.{parts_in, requests_in}
 use Rattle.kmip_schedule.specs.Laws.{DeliveriesJoin, NothingIsDelivered, TakenIsDelivered, WhatIsDoneJoins}
 
+-- The laws of the crates below, on which the arrival of a message rests.
 pub record ArrivalLaws : Type 0 where
   pub requests : (bytes : List ℕ) → requests_in bytes ≡ filter_map result_ok (parts_in bytes)
   pub names_more : OneMore DistinctNames (λ o. object_named o.attrs.name)

@@ -1,6 +1,6 @@
--- The runs that a script's words make, for one plan or for two: what each begins with, how many exchanges it may make, and whether it is
--- saved.
--- Source: own: the table of a script's words.
+-- The runs that a script's words make, for one plan or for two: what each begins with, how many exchanges
+-- it may make, and whether it is saved.
+-- Source: own (text): the table of a script's words.
 use Rattle.std.specs.Prelude.{ℕ, ◌+◌, Bool, true, false, List, [], ◌∷◌, filter, length, Option, Some, None, if◌then◌else◌}
 use Rattle.kmip_chains.specs.Chains.{bound}
 use Rattle.kmip_chains.specs.declared.key.Key.{Key}
@@ -13,19 +13,20 @@ use Rattle.kmip_scripted.specs.declared.script.Word.{Word}
 use Rattle.kmip_scripted.specs.declared.script.Word.TheVariants.{Save, Prolong, Restart}
 use Rattle.kmip_scripted.specs.Words.{is_exchange, is_prolong}
 
--- what a run begins with after `restart`: nothing, or the save of a number
+-- What a run begins with after `restart`: nothing, or the save of a number.
 abbrev pub start_at : Option ℕ → Start
 start_at None = Fresh
 start_at (Some number) = Saved number
 
--- the first run has one more word: where that is of an exchange, it may make one more
+-- The first run has one more word. Where that is of an exchange, it may make one more.
 abbrev pub with_word : Word → List Run → List Run
 with_word word [] = []
 with_word word (run ∷ runs) = record run { limit = (if is_exchange word then 1 else 0) + run.limit } ∷ runs
 
--- The runs of words, where the first begins with `start`; it is begun where words of its own stand before these. A `restart` that ends
--- no run only says what the next one begins with; `prolong` ends a run as `save` does. No word ends the last run, which may make `more`
--- exchanges than it has words for.
+-- The runs of words, where the first begins with `start`; it is begun where words of its own stand before
+-- these. A `restart` that ends no run only says what the next one begins with; `prolong` ends a run as
+-- `save` does. No word ends the last run, which may make `more` exchanges beyond those that it has words
+-- for. Each run asks about one key at once.
 abbrev pub runs_from : ℕ → Bool → Start → List Word → List Run
 runs_from more begun start [] = record { start = start; limit = more; batch = 1; save = false } ∷ []
 runs_from more begun start (Save ∷ words) = record { start = start; limit = 0; batch = 1; save = true } ∷ runs_from more false Same words
@@ -34,38 +35,41 @@ runs_from more true start (Restart next ∷ words) = record { start = start; lim
 runs_from more false start (Restart next ∷ words) = runs_from more false (start_at next) words
 runs_from more begun start (word ∷ words) = with_word word (runs_from more true start words)
 
--- the runs of a script for a plan: the last goes on as long as the plan may need
+-- The runs of a script for a plan. The last goes on as long as the plan may need.
 abbrev pub runs_of : List Key → List Word → List Run
 runs_of keys words = runs_from (bound keys) false Fresh words
 
--- the words before the first `prolong`, and those behind it
+-- The words before the first `prolong`.
 abbrev pub words_before : List Word → List Word
 words_before [] = []
 words_before (word ∷ words) = if is_prolong word then [] else word ∷ words_before words
 
+-- The words after the first `prolong`.
 abbrev pub words_behind : List Word → List Word
 words_behind [] = []
 words_behind (word ∷ words) = if is_prolong word then words else words_behind words
 
--- the last of the runs is saved
+-- The last of the runs is saved.
 abbrev pub with_last_saved : List Run → List Run
 with_last_saved [] = []
 with_last_saved (run ∷ []) = record run { save = true } ∷ []
 with_last_saved (run ∷ runs) = run ∷ with_last_saved runs
 
--- the runs of the words before `prolong`, which ends the last of them: it makes no exchange more than it has words for, and is saved
+-- The runs of the words before `prolong`, which ends the last of them. That one makes no exchange more
+-- than it has words for, and is saved.
 abbrev pub runs_before : List Word → List Run
 runs_before words = with_last_saved (runs_from 0 false Fresh (words_before words))
 
--- the runs of the words behind `prolong`, for a further plan: the first begins with the last save of the runs before
+-- The runs of the words after `prolong`, for a further plan. The first begins with the last save of the
+-- runs before.
 abbrev pub runs_behind : List Key → List Word → List Run
 runs_behind keys words = runs_from (bound keys) false (Saved (length (filter saves (runs_before words)))) (words_behind words)
 
--- the runs of a script with one `prolong`: those before it, and those behind it for a further plan
+-- The runs of a script with one `prolong`: those before it, and those after it for a further plan.
 abbrev pub lists_of : List Key → List Word → List (List Run)
 lists_of keys words = runs_before words ∷ runs_behind keys words ∷ []
 
--- Private: the first run may make so many exchanges more.
+-- Private: the first run may make `count` exchanges more.
 abbrev pub grown : ℕ → List Run → List Run
 grown count [] = []
 grown count (run ∷ runs) = record run { limit = count + run.limit } ∷ runs

@@ -1,6 +1,6 @@
--- What a link in memory holds at one time: the records of its server, the messages as bytes, and the words of its script that are
--- left; and what that says of the past.
--- Source: own, over KMIP 2.1, Message Structure.
+-- What a link in memory holds at one time: the records of its server, the messages as bytes, and the
+-- words of its script that are left; and what that says of the past.
+-- Source: own (view), over KMIP 2.1, Message Structure.
 use Rattle.std.specs.Prelude.{ℕ, List, [], Option}
 use Rattle.std.specs.List.{All, Contains, flat_map}
 use Rattle.kmip_batches.specs.Items.{replies_in, requests_in}
@@ -11,6 +11,7 @@ use Rattle.kmip_schedule.specs.Clean.{Disturbances}
 use Rattle.kmip_schedule.specs.Past.{Past}
 use Rattle.kmip_scripted.specs.declared.script.Word.{Word}
 
+-- What a link in memory holds.
 pub record Scene : Type 0 where
   -- the records of the server
   pub stock : Stock
@@ -19,11 +20,13 @@ pub record Scene : Type 0 where
   pub given : List (List ℕ)
   -- what took effect
   pub effects : List Effect
-  -- the bytes that each exchange sent, the word that it followed, and what it handed over: bytes, or none for a loss
+  -- The bytes that each exchange sent, the word that it followed, and what it handed over: bytes, or none
+  -- for a loss.
   pub sent : List (List ℕ)
   pub followed : List Word
   pub handed : List (Option (List ℕ))
-  -- how many exchanges were disturbed, how many requests these sent, and how many replies about other keys they handed over
+  -- How many exchanges were disturbed, how many requests these sent, and how many replies about other
+  -- keys they handed over.
   pub disturbed : ℕ
   pub disturbed_requests : ℕ
   pub strange : ℕ
@@ -32,7 +35,7 @@ pub record Scene : Type 0 where
   -- the words that are left
   pub words : List Word
 
--- what has happened so far
+-- What has happened so far over the link.
 abbrev pub past_in : Scene → Past
 past_in s = record {
   room = room_in s.stock;
@@ -44,7 +47,7 @@ past_in s = record {
   handed = s.handed;
 }
 
--- where nothing has happened over a server, with these words left
+-- A link to a server over which nothing has happened, with these words left.
 abbrev pub scene_of : Stock → List Word → Scene
 scene_of stock words = record {
   stock = stock;
@@ -61,10 +64,11 @@ scene_of stock words = record {
   words = words;
 }
 
--- how many exchanges were disturbed, with their requests and their strange replies
+-- How many exchanges were disturbed, with their requests and their strange replies.
 abbrev pub disturbances_in : Scene → Disturbances
 disturbances_in s = record { disturbed = s.disturbed; requests = s.disturbed_requests; strange = s.strange }
 
+-- The link with other counts of what was disturbed.
 abbrev pub with_disturbances : Disturbances → Scene → Scene
 with_disturbances d s = record s { disturbed = d.disturbed; disturbed_requests = d.requests; strange = d.strange }
 

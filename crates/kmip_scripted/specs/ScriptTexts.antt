@@ -1,18 +1,19 @@
 -- Which texts are scripts: a word a line, and empty lines, which say nothing.
--- Source: own.
+-- Source: own (text): what a person writes in a script; the lengths are own (limit).
 use Rattle.std.specs.Prelude.{◌≡◌, ◌≢◌, ◌⊎◌, ◌≤◌, ⊤, ℕ, ◌+◌, ◌-◌, ◌*◌, ◌==◌, ◌&&◌, nat_le, Bool, true, List, [], ◌∷◌, ◌++◌, codes, length, Some, None}
 use Rattle.std.specs.List.{list_all, slice_split}
 use Rattle.kmip_scripted.specs.declared.script.Word.{Word}
 use Rattle.kmip_scripted.specs.declared.script.Word.TheVariants.{Pass, LoseRequest, LoseReply, Cut, Stale, Again, Save, Prolong, Restart}
 
--- the most lines that a script may have
+-- The most lines that a script may have. Own (limit).
 abbrev pub most_lines : ℕ
 most_lines = 10000
 
--- a decimal digit, and the number that digits are behind others that are a number already
+-- A decimal digit.
 abbrev pub is_digit : ℕ → Bool
 is_digit byte = nat_le 48 byte && nat_le byte 57
 
+-- The number that digits are after others that are a number already.
 abbrev pub value_behind : ℕ → List ℕ → ℕ
 value_behind number [] = number
 value_behind number (digit ∷ digits) = value_behind (10 * number + (digit - 48)) digits
@@ -30,7 +31,7 @@ pub record IsNumbered (front : List ℕ) (number : ℕ) (line : List ℕ) : Type
   pub line_is : line ≡ front ++ digits
   pub is_number : IsNumber digits number
 
--- the line says the word
+-- The line says the word.
 abbrev pub IsWord : List ℕ → Word → Type 0
 IsWord line Pass = line ≡ codes "pass"
 IsWord line LoseRequest = line ≡ codes "lose-request"
@@ -43,7 +44,7 @@ IsWord line Prolong = line ≡ codes "prolong"
 IsWord line (Restart None) = line ≡ codes "restart none"
 IsWord line (Restart (Some number)) = IsNumbered (codes "restart ") number line
 
--- the lines say these words, one after the other; an empty line says nothing
+-- The lines say these words, one after the other. An empty line says nothing.
 abbrev pub Say : List (List ℕ) → List Word → Type 0
 Say [] [] = ⊤
 Say [] (word ∷ words) = ⊥
@@ -51,13 +52,15 @@ Say ([] ∷ lines) words = Say lines words
 Say ((byte ∷ bytes) ∷ lines) [] = ⊥
 Say ((byte ∷ bytes) ∷ lines) (word ∷ words) = IsWord (byte ∷ bytes) word × Say lines words
 
--- the lines of a text: what stands between its line feeds, and what stands behind the last one where that is not empty
+-- The lines without the last one, where that is empty.
 abbrev pub without_empty_end : List (List ℕ) → List (List ℕ)
 without_empty_end [] = []
 without_empty_end ([] ∷ []) = []
 without_empty_end ((byte ∷ bytes) ∷ []) = (byte ∷ bytes) ∷ []
 without_empty_end (line ∷ next ∷ lines) = line ∷ without_empty_end (next ∷ lines)
 
+-- The lines of a text: what stands between its line feeds, and what stands after the last one where that
+-- is not empty.
 abbrev pub lines_in : List ℕ → List (List ℕ)
 lines_in text = without_empty_end (slice_split (λ b. b == 10) text)
 
@@ -71,7 +74,8 @@ pub record IsNoWord (line : List ℕ) : Type 0 where
   pub some : line ≢ []
   pub none : (word : Word) → ¬ (IsWord line word)
 
--- The line of this number, from 1, is the first at fault: those before it say words, and it says none, or it is one too many.
+-- The line of this number, from 1, is the first at fault: those before it say words, and it says none, or
+-- it is one too many.
 pub record FailsAt (text : List ℕ) (number : ℕ) : Type 0 where
   pub before : List (List ℕ)
   pub line : List ℕ

@@ -1,12 +1,13 @@
 -- What a message does that arrives at the server of a link.
--- Source: own, over KMIP 2.1, Message Structure; Operations.
+-- Source: own (view), over KMIP 2.1, Message Structure; Operations.
 use Rattle.std.specs.Prelude.{◌≡◌, pos, ℕ, List, [], ◌∷◌, ◌++◌}
 use Rattle.kmip_batches.specs.Items.{parts_in, stops_in}
 use Rattle.kmip_server.specs.Batching.{AreBegun, batch_reply, effects_in, stock_after_batch}
 use Rattle.kmip_server.specs.declared.effect.Effect.{Effect}
 use Rattle.kmip_scripted.specs.Scenes.{Scene}
 
--- the message is served once: its reply joins those given, and what it did joins the effects
+-- The message is served once, at the time 0: its reply joins those given, and what it did joins the
+-- effects.
 abbrev pub with_served : List ℕ → Scene → Scene
 with_served message s = record s {
   stock = stock_after_batch s.stock message;
@@ -14,7 +15,8 @@ with_served message s = record s {
   effects = s.effects ++ effects_in s.stock message;
 }
 
--- Memory ran out while the message was served: some of its first questions are served, not all of them, and no reply is given.
+-- Memory ran out while the message was served: some of its first questions are served, not all of them,
+-- and no reply is given.
 abbrev pub IsHalfServed : List ℕ → Scene → Scene → Type 0
 IsHalfServed message s new =
     (more : List Effect) × (new ≡ record s { stock = new.stock; effects = s.effects ++ more })

@@ -1,5 +1,5 @@
 -- What each word of a script does, and so what an exchange and the end of a run do, word by word.
--- Source: own.
+-- Source: own (text): the standard knows no scripts. `AreBegun` and `IsBegun` are own (view).
 use Rattle.std.specs.Prelude.{◌≡◌, ◌⊎◌, ◌==◌, ◌-◌, ◌<◌, ℕ, nat_le, pos, Bool, true, false, not, ◌&&◌, List, [], ◌∷◌, ◌++◌, filter, length, Option, Some, None, if◌then◌else◌}
 use Rattle.std.specs.List.{slice_get}
 use Rattle.std.specs.Option.{option_flatten}
@@ -13,97 +13,102 @@ use Rattle.kmip_scripted.specs.Disturbing.{is_disturbed, is_repeated}
 use Rattle.kmip_scripted.specs.Scenes.{Scene, disturbances_in, with_disturbances}
 use Rattle.kmip_scripted.specs.Serving.{IsHalfServed, with_served}
 
--- the word ends no exchange
+-- The word is `again`, which ends no exchange.
 abbrev pub is_again : Word → Bool
 is_again (Again number) = true
 is_again word = false
 
--- the word starts the next run from a save or from nothing
+-- The word starts the next run from a save or from nothing.
 abbrev pub is_restart : Word → Bool
 is_restart (Restart start) = true
 is_restart word = false
 
--- the word ends a run
+-- The word ends a run.
 abbrev pub ends_run : Word → Bool
 ends_run Save = true
 ends_run Prolong = true
 ends_run (Restart start) = true
 ends_run word = false
 
--- the word ends the runs of a plan, and those after it are of a further one
+-- The word ends the runs of a plan, and those after it are of a further one.
 abbrev pub is_prolong : Word → Bool
 is_prolong Prolong = true
 is_prolong word = false
 
--- how many words `prolong` there are
+-- How many words `prolong` there are.
 abbrev pub prolongings : List Word → ℕ
 prolongings words = length (filter is_prolong words)
 
--- the word is of an exchange
+-- The word is of an exchange.
 abbrev pub is_exchange : Word → Bool
 is_exchange word = not (is_again word) && not (ends_run word)
 
--- the message of a number, from 1; none where there is none
+-- The message of a number, from 1; none where there is none.
 abbrev pub message_at : ℕ → List (List ℕ) → Option (List ℕ)
 message_at number messages = if number == 0 then None else slice_get messages (number - 1)
 
--- the word that the exchange of a number followed, from 1, and what it handed over; none where there is no such exchange
+-- The word that the exchange of a number followed, from 1; none where there is no such exchange.
 abbrev pub word_at : ℕ → List Word → Option Word
 word_at number words = if number == 0 then None else slice_get words (number - 1)
 
+-- What the exchange of a number handed over, from 1; none where it handed over nothing, or there is no
+-- such exchange.
 abbrev pub answer_at : ℕ → List (Option (List ℕ)) → Option (List ℕ)
 answer_at number answers = if number == 0 then None else option_flatten (slice_get answers (number - 1))
 
+-- The link with these words left.
 abbrev pub with_words : List Word → Scene → Scene
 with_words words s = record s { words = words }
 
--- a message is delivered, where there is one
+-- A message is delivered, where there is one.
 abbrev pub with_delivered : Option (List ℕ) → Scene → Scene
 with_delivered None s = s
 with_delivered (Some message) s = with_served message s
 
--- what a word does between two exchanges: `again` delivers the request of its number
+-- What a word does between two exchanges: `again` delivers the request of its number.
 abbrev pub after_word : Word → Scene → Scene
 after_word (Again number) s = with_delivered (message_at number s.asked) s
 after_word word s = s
 
--- the words that are done without an exchange: before one, those that repeat; at the end of a run, all that are left of it
+-- The words that are done without an exchange. Before one, these are those that repeat; at the end of a
+-- run, all that are left of it.
 abbrev pub goes_on : Bool → Word → Bool
 goes_on true word = not (ends_run word)
 goes_on false word = is_again word
 
--- these words are done, as long as they go on
+-- These words are done and taken, as long as they go on.
 abbrev pub after_words : Bool → List Word → Scene → Scene
 after_words at_end [] s = s
 after_words at_end (word ∷ words) s = if goes_on at_end word then after_words at_end words (with_words words (after_word word s)) else s
 
--- a message is delivered by half, where there is one
+-- A message is delivered by half, where there is one.
 abbrev pub IsHalfDelivered : Option (List ℕ) → Scene → Scene → Type 0
 IsHalfDelivered None s new = ⊥
 IsHalfDelivered (Some message) s new = IsHalfServed message s new
 
--- so a word is done by half between two exchanges
+-- A word is done by half between two exchanges: `again` delivers its request by half.
 abbrev pub IsHalfDone : Word → Scene → Scene → Type 0
 IsHalfDone (Again number) s new = IsHalfDelivered (message_at number s.asked) s new
 IsHalfDone word s new = ⊥
 
--- a beginning of them is done, and perhaps the next one by half
+-- A beginning of the words that go on is done, and perhaps the next one by half.
 abbrev pub AreBegun : Bool → List Word → Scene → Scene → Type 0
 AreBegun at_end [] s new = new ≡ s
 AreBegun at_end (word ∷ words) s new =
     (new ≡ s)
     ⊎ ((goes_on at_end word ≡ true) × (IsHalfDone word s new ⊎ AreBegun at_end words (with_words words (after_word word s)) new))
 
--- the word of the next exchange: `pass`, where none is left in the run
+-- The word of the next exchange: `pass` where none is left in the run.
 abbrev pub exchange_word : List Word → Word
 exchange_word [] = Pass
 exchange_word (word ∷ words) = if is_exchange word then word else Pass
 
+-- The words that are left after the word of the next exchange is taken.
 abbrev pub words_after_exchange : List Word → List Word
 words_after_exchange [] = []
 words_after_exchange (word ∷ words) = if is_exchange word then words else word ∷ words
 
--- what the word of an exchange hands over, and what it leaves
+-- What the word of an exchange hands over, and what it leaves.
 abbrev pub play : Word → List ℕ → Scene → Option (List ℕ) × Scene
 play LoseRequest request s = (None, s)
 play LoseReply request s = (None, with_served request s)
@@ -111,24 +116,26 @@ play (Cut size) request s = (None, if nat_le (length request) size then with_ser
 play (Stale number) request s = (message_at number s.given, s)
 play word request s = (Some (batch_reply s.stock request (pos 0)), with_served request s)
 
--- the request joins those asked
+-- The request joins those asked.
 abbrev pub with_request : List ℕ → Scene → Scene
 with_request request s = record s { asked = s.asked ++ request ∷ [] }
 
--- the scene in which the word of the exchange is taken: the request was asked, and the words before it are done
+-- The scene in which the word of the exchange is taken: the request was asked, and the words before it
+-- are done.
 abbrev pub before_play : List ℕ → Scene → Scene
 before_play request s = after_words false s.words (with_request request s)
 
+-- What the next word of an exchange hands over, and what it leaves once it is taken and done.
 abbrev pub played : List ℕ → Scene → Option (List ℕ) × Scene
 played request s = play (exchange_word s.words) request (with_words (words_after_exchange s.words) s)
 
--- what was sent, the word that was followed and what is handed over are kept
+-- What was sent, the word that was followed and what is handed over are kept.
 abbrev pub with_handed : List ℕ → Word → Option (List ℕ) × Scene → Option (List ℕ) × Scene
 with_handed request word p =
     (p.0, record p.1 { sent = p.1.sent ++ request ∷ []; followed = p.1.followed ++ word ∷ []; handed = p.1.handed ++ p.0 ∷ [] })
 
--- the exchange is counted, where it was disturbed: by the words before it, its own word and what it hands over; with its requests, and the
--- strange replies among what it hands over
+-- The exchange is counted, where it was disturbed: by the words before it, its own word and what it hands
+-- over. It is counted with its requests, and the strange replies among what it hands over.
 abbrev pub with_counted : List ℕ → Bool → Word → Option (List ℕ) × Scene → Option (List ℕ) × Scene
 with_counted request repeated word p = (
   p.0,
@@ -136,49 +143,51 @@ with_counted request repeated word p = (
       (counted (is_disturbed word repeated p.0) (length (requests_in request)) (strange_handed every_name request p.0) (disturbances_in p.1)) p.1,
 )
 
--- what an exchange hands over, and what it leaves
+-- What an exchange hands over, and what it leaves. The request joins those asked, the words that repeat
+-- and stand next are done, then the word of the exchange is. What was sent and is handed over is kept.
 abbrev pub exchange : List ℕ → Scene → Option (List ℕ) × Scene
 exchange request s =
     with_counted request (is_repeated (length s.asked) s.words) (exchange_word (before_play request s).words)
     (with_handed request (exchange_word (before_play request s).words) (played request (before_play request s)))
 
--- where memory runs out before the word of an exchange is taken: nothing, or the request joined, and of the words that repeat a
--- beginning is done, and perhaps the next one by half
+-- Where memory runs out before the word of an exchange is taken: nothing was done, or the request joined,
+-- a beginning of the words that repeat was done, and perhaps the next one by half.
 abbrev pub IsPreparing : List ℕ → Scene → Scene → Type 0
 IsPreparing request s new = (new ≡ s) ⊎ AreBegun false s.words (with_request request s) new
 
--- the word of an exchange is done by half, where it serves the request
+-- The word of an exchange is done by half, where it serves the request.
 abbrev pub IsHalfPlayed : Word → List ℕ → Scene → Scene → Type 0
 IsHalfPlayed LoseRequest request s new = ⊥
 IsHalfPlayed (Cut size) request s new = (nat_le (length request) size ≡ true) × IsHalfServed request s new
 IsHalfPlayed (Stale number) request s new = ⊥
 IsHalfPlayed word request s new = IsHalfServed request s new
 
--- where memory runs out at the word: it is taken, and not done, or done, or done by half
+-- Where memory runs out at the word of an exchange: it is taken, and not done, or done, or done by half.
 abbrev pub IsPlaying : List ℕ → Scene → Scene → Type 0
 IsPlaying request s new =
     (new ≡ with_words (words_after_exchange s.words) s) ⊎ (new ≡ (played request s).1)
     ⊎ IsHalfPlayed (exchange_word s.words) request (with_words (words_after_exchange s.words) s) new
 
--- where memory runs out
+-- What an exchange leaves where memory runs out: a beginning of its steps.
 abbrev pub IsBegun : List ℕ → Scene → Scene → Type 0
 IsBegun request s new = IsPreparing request s new ⊎ IsPlaying request (before_play request s) new
 
--- the words of the runs to come: parts without words that end in `restart` are no runs
+-- The words of the runs to come. Parts without words that end in `restart` are no runs.
 abbrev pub next_words : List Word → List Word
 next_words [] = []
 next_words (word ∷ words) = if is_restart word then next_words words else word ∷ words
 
--- the words after the one that ends the run
+-- The words after the one that ends the run.
 abbrev pub words_after_run : List Word → List Word
 words_after_run [] = []
 words_after_run (word ∷ words) = next_words words
 
--- a run ends here, behind as many messages as were sent
+-- A run ends here, after as many messages as were sent.
 abbrev pub with_ended : Scene → Scene
 with_ended s = record s { ended = s.ended ++ length s.sent ∷ [] }
 
--- what the end of a run leaves
+-- What the end of a run leaves. Of the words left in it those that repeat are done and the others
+-- dropped, the end is noted, and the word that ends it is taken.
 abbrev pub after_run : Scene → Scene
 after_run s = with_words (words_after_run (after_words true s.words s).words) (with_ended (after_words true s.words s))
 

@@ -44,8 +44,8 @@ fn is_pass(word: Word) -> bool
     }
 }
 
-/// Whether one of the words that repeat before the next exchange delivers the message that is asked
-/// behind so many.
+/// Whether one of the words that repeat before the next exchange delivers its message,
+/// where `count` messages were asked before it.
 pub(crate) fn is_repeated(count: usize, words: &VecDeque<Word>) -> bool
     ensures { result ≡ is_repeated count words.now.items }
 {
@@ -60,7 +60,7 @@ pub(crate) fn is_repeated(count: usize, words: &VecDeque<Word>) -> bool
     false
 }
 
-/// Whether the number is that of the message that is asked behind so many.
+/// Whether the number is that of the message before which `count` messages were asked.
 fn is_next(number: usize, count: usize) -> bool
     ensures { result ≡ (number == count + 1) }
 {

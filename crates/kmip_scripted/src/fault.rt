@@ -9,7 +9,7 @@ use thiserror::Error;
 /// Why a text is no script.
 #[derive(Clone, Copy, Debug, Error)]
 pub enum ScriptFault {
-    /// The first line, from 1, that is no word of a script, or that comes after 10,000 lines; or 0,
+    /// The first line, from 1, that is no word of a script, or that comes after 10,000 lines. It is 0
     /// where each line is a word, and `prolong` stands among them more or less often than it may.
     #[error("line {0} is no word of a script (line 0: another count of `prolong`)")]
     Line(usize),

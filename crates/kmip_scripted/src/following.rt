@@ -217,27 +217,41 @@ impl<S: Records> Scripted<S> {
         Ok(answer)
     }
 
-    /// Exchanges a message: what each word of the script does that stands next, up to that of an
-    /// exchange.
+    /// Exchanges a message, of any bytes: the request joins those asked, and each `again` that stands
+    /// next is done. Then the word of the exchange is taken and done, `pass` where none is left in the
+    /// run. What was sent and what is handed over is kept.
     ///
     /// # Errors
     /// Where there is no memory; a beginning of the steps was done. Of a message that was being served
-    /// some of the first questions may be, and no reply is given.
+    /// some of the first questions may be served, and no reply is given.
     pub fn follow(&mut self, alloc: Global, request: &[u8]) -> Result<Option<Vec<u8>>, NoMemory>
+        // What is handed over follows from what the link held before and the request alone. It is what
+        // the words say (`exchange`).
         ensures answer { IfOk result (λ answer. option_map (λ v. v.items) answer
             ≡ (exchange request.now self.old).0) }
+        // All that the link holds after it is what the words say.
         ensures exact { OnOk result (self.new ≡ (exchange request.now self.old).1) }
+        // Where memory runs out, a beginning of the steps was done, each of them whole or not at all. But
+        // of a message of several questions some first ones may be served alone. The exchange is not
+        // among those made.
         ensures begun { OnErr result (IsBegun request.now self.old self.new) }
+        // For any names, an exchange that ends without a fault is one over an honest link.
         ensures hands { IfOk result (λ answer. (names : Names)
             → HandsOver names (past_in self.old) request.now (option_map (λ v. v.items) answer)
             (past_in self.new)) }
+        // For any names, where memory runs out, the requests joined those asked or not, and beyond that
+        // no more happened than may over an honest link.
         ensures want { OnErr result ((names : Names) → IsWanting names request.now
             (past_in self.old) (past_in self.new)) }
+        // Where no word was left, an exchange that ends without a fault is one over a calm link: the
+        // message is served once, and its reply handed over.
         ensures calmly { IfOk result (λ answer. self.old.words ≡ [] → Calmly (past_in self.old)
             request.now (option_map (λ v. v.items) answer) (past_in self.new)) }
+        // For any names, an exchange that ends without a fault is clean, or it is counted as disturbed.
         ensures counted { IfOk result (λ answer. (names : Names) → IsCounted names
             (past_in self.old) request.now (option_map (λ v. v.items) answer) (past_in self.new)
             (disturbances_in self.old) (disturbances_in self.new)) }
+        // Where no word was left, none is left, however it ends.
         ensures stays { self.old.words ≡ [] → self.new.words ≡ [] }
     {
         deliveries_join();
@@ -252,17 +266,23 @@ impl<S: Records> Scripted<S> {
         Ok(answer)
     }
 
-    /// Ends a run: what is left of its words is done or dropped, where it ends is noted, and the word
-    /// that ends it is taken.
+    /// Ends a run. Of the words that are left in the run, each `again` is done, and the others are
+    /// dropped. The end is noted, by how many messages were sent. Then the word that ends the run is
+    /// taken, with the parts after it that are no runs.
     ///
     /// # Errors
     /// Where there is no memory; a beginning of the steps was done. Of a message that was being served
-    /// some of the first questions may be, and no reply is given.
+    /// some of the first questions may be served, and no reply is given.
     pub fn finish_run(&mut self, alloc: Global) -> Result<(), NoMemory>
+        // All that the link holds after it is what the words say (`after_run`).
         ensures exact { OnOk result (self.new ≡ after_run self.old) }
+        // Where memory runs out, some first ones of the words left in the run were done or dropped, and
+        // the next one perhaps by half.
         ensures begun { OnErr result (AreBegun true self.old.words self.old self.new) }
+        // For any names, no more happened than may over an honest link, however it ends.
         ensures delivered { (names : Names)
             → Delivered names (past_in self.old) (past_in self.new) }
+        // Where no word was left, none is left, and nothing has happened.
         ensures calm { self.old.words ≡ [] → (self.new.words ≡ [])
             × (past_in self.new ≡ past_in self.old) }
     {

@@ -9,25 +9,33 @@ use crate::scripted::Scripted;
 use kmip_schedule::Link;
 use kmip_server::Records;
 
-/// The runs of a script are those that a link which follows it ends, one by one: a new link has the
-/// words from the first run on, and after the end of each run, however many exchanges it made, those
-/// of the runs behind it.
+/// The runs of a script are those that a link which follows it ends, one by one. A law, which does
+/// nothing.
 pub fn runs_end_as_the_link_does()
+    // A new link has the words from the first run on. To leave out what makes no run changes nothing but
+    // what the first run begins with.
     ensures heads { HeadsMakeNoRun }
+    // Where a word ends the first run, the link has the words of the runs after it once this run has
+    // ended.
     ensures goes_on { RunsGoOn }
+    // An exchange takes no word beyond the end of the run. So the words after it are the same however
+    // many exchanges the run made.
     ensures stay { EndsStay }
 {}
 
-/// A link in memory is honest for every script, calm once no word of it is left, and what has
-/// happened over it, where runs ended, and how many exchanges were disturbed, is what its lists and
-/// counts say.
+/// What a link in memory is as a `Link`, whatever its script. A law, which does nothing.
 pub fn a_link_in_memory_is_honest<S: Records>()
+    // It is honest for any names.
     ensures honest { (link : Scene) (names : Names)
         → ⟦<Scripted<S> as Link>⟧.honest link names }
+    // It is calm for any names once no word is left.
     ensures calm { (link : Scene) (names : Names) → link.words ≡ []
         → ⟦<Scripted<S> as Link>⟧.calm link names }
+    // What has happened over it is what its lists say.
     ensures past { (link : Scene) → ⟦<Scripted<S> as Link>⟧.past link ≡ past_in link }
+    // Where runs ended over it is what its list of ends says.
     ensures ended { (link : Scene) → ⟦<Scripted<S> as Link>⟧.ended link ≡ link.ended }
+    // How many exchanges were disturbed is what its counts say.
     ensures disturbed { (link : Scene)
         → ⟦<Scripted<S> as Link>⟧.disturbances link ≡ disturbances_in link }
 {}

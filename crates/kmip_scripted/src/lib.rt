@@ -1,5 +1,6 @@
-//! A link to a server in memory, which follows a script: what is lost, delayed and repeated, and
-//! where a run ends.
+//! A link to a server in memory that does what a script says.
+//!
+//! A script says what is lost, delayed and repeated, and where a run ends.
 #![tactic(auto)]
 
 mod disturbing;

@@ -16,20 +16,25 @@ pub const MOST_LINES: usize = 10_000;
 /// The most digits that a number may have (own).
 pub const MOST_DIGITS: usize = 6;
 
-/// Reads a script: a word a line, where a number is one space behind it, and empty lines stand for
-/// nothing. What stands behind the last line feed is a line where it is not empty. Takes memory for the
+/// Reads a script: a word a line, where a number is one space after it, and empty lines stand for
+/// nothing. What stands after the last line feed is a line where it is not empty. Takes memory for the
 /// words alone.
 ///
 /// # Errors
 /// `Line` with the number of the first line, from 1, that is no word, or that is one of more than
 /// 10,000; and `NoMemory`.
 pub fn read_script(alloc: Global, text: &str) -> Result<Script, ScriptFault>
+    // What is read is a script of exactly the words that the text has.
     ensures found { IfOk result (λ script. IsScript text.now script) }
+    // A text that is a script of some words is read as these, unless memory runs out.
     ensures only { (words : List WordLem) → IsScript text.now words
         → GivesScript (λ script. script) result (Ok words) }
+    // `Line` names the first line that is at fault.
     ensures fault { (number : ℕ) → result ≡ Err (Line number) → FailsAt text.now number }
+    // Where a line is the first at fault, that line is named, unless memory runs out.
     ensures first { (number : ℕ) → FailsAt text.now number
         → GivesScript (λ script. script) result (Err (Line number)) }
+    // All of this as one function of the text.
     ensures exact { GivesScript (λ script. script) result (script_read text.now) }
 {
     whole_script(alloc, text)
@@ -63,7 +68,7 @@ fn words_of(alloc: Global, text: &str) -> Result<Vec<Word>, ScriptFault>
     Ok(words)
 }
 
-/// The first line of a text that is not empty, without its line feed, and what stands behind that.
+/// The first line of a text that is not empty, without its line feed, and what stands after that.
 fn first_line(text: &str) -> (&str, &str)
     requires { 0 < length text.now }
     ensures { lines_in text.now ≡ result.0.now ∷ lines_in result.1.now }
@@ -104,7 +109,7 @@ fn word_in(line: &str) -> Option<Word>
     }
 }
 
-/// A word with no number behind it.
+/// A word with no number after it.
 fn plain_word(word: &str) -> Option<Word>
     ensures { result ≡ plain_word word.now }
 {
@@ -118,7 +123,7 @@ fn plain_word(word: &str) -> Option<Word>
     }
 }
 
-/// A word with a number behind it, or with `none`.
+/// A word with a number after it, or with `none`.
 fn numbered_word(word: &str, number: &str) -> Option<Word>
     ensures { result ≡ numbered_word word.now number.now }
 {

@@ -16,34 +16,38 @@ use kmip_ttlv::NoMemory;
 use std::alloc::Global;
 
 impl Script {
-    /// The runs that the script makes over a link which follows it, for a plan. `save` ends a run
-    /// that is saved, and the next one goes on from there; `restart` ends one that is not, and says
-    /// what the next begins with. A `restart` that no other word stands before makes no run. A run
-    /// may make as many exchanges as it has words of exchanges; the last one, which no word ends,
-    /// as many more as the plan's bound. Each asks about one key at once.
+    /// The runs that the script makes over a link which follows it, for a plan. `save` ends a run that
+    /// is saved, and the next one goes on from there. `restart` ends one that is not saved, and says
+    /// what the next one begins with. A `restart` that no other word stands before makes no run.
     ///
     /// # Errors
     /// Where there is no memory for them.
     pub fn runs(&self, alloc: Global, plan: &Plan) -> Result<Vec<Run>, NoMemory>
+        // No word is `prolong`.
         requires none { prolongings self.now ≡ 0 }
+        // The runs are those that the words make for the plan. Each may make as many exchanges as it has
+        // words of one. The last one, which no word ends, may make as many more as the plan's bound.
         ensures runs { IfOk result (λ runs. runs.items ≡ runs_of plan.now self.now) }
+        // How many keys each asks about at once is a number from 1 to 8; by *runs* it is one.
         ensures batches { IfOk result (λ runs. MayBatch runs.items) }
     {
         runs_from(alloc, self.words(), Start::Fresh, bound(plan))
     }
 
-    /// The same for two plans, of which the first goes up to `prolong`: the runs before it and those
-    /// behind it, which are for the given plan. `prolong` ends a run that is saved, and the first
-    /// run of the further plan starts from that save. The last run of the first plan may make no
-    /// exchange more than it has words for, and the last of the further one as many more as the
-    /// bound of its plan.
+    /// The runs for two plans, of which the first goes up to `prolong`: the runs before it and those
+    /// after it, which are for the given plan.
     ///
     /// # Errors
     /// Where there is no memory for them.
     pub fn lists(&self, alloc: Global, plan: &Plan) -> Result<Vec<Vec<Run>>, NoMemory>
+        // One word is `prolong`.
         requires one { prolongings self.now ≡ 1 }
+        // The first list is the runs of the words before `prolong`. The last of them is saved, and makes
+        // no exchange more than it has words for. The second list is the runs of the words after it for
+        // the further plan, of which the first begins with that save.
         ensures lists { IfOk result (λ lists.
             map (λ runs. runs.items) lists.items ≡ lists_of plan.now self.now) }
+        // How many keys each asks about at once is a number from 1 to 8; by *lists* it is one.
         ensures batches { IfOk result (λ lists. All (λ runs. MayBatch runs.items) lists.items) }
     {
         let (first, further) = parts(self.words());
@@ -57,7 +61,7 @@ impl Script {
     }
 }
 
-/// The words before the first `prolong`, and those behind it.
+/// The words before the first `prolong`, and those after it.
 fn parts(words: &[Word]) -> (&[Word], &[Word])
     ensures before { result.0.now ≡ words_before words.now }
     ensures behind { result.1.now ≡ words_behind words.now }
@@ -100,7 +104,7 @@ fn count_saved(runs: &[Run]) -> usize
 }
 
 /// The runs of words, of which the first begins with `start`, and the last, which no word ends, may
-/// make so many exchanges more than it has words for.
+/// make `more` exchanges beyond those that it has words for.
 ///
 /// # Errors
 /// Where there is no memory for them.

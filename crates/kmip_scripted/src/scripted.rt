@@ -27,9 +27,12 @@ use std::alloc::Global;
 use std::collections::VecDeque;
 use std::marker::Model;
 
-/// A server in memory and the link to it, which follows a script. A contract sees the records of
-/// the server, all that was asked, given, done, sent and handed over, how many exchanges were
-/// disturbed, where runs ended, and the words that are left.
+/// A server in memory and the link to it, which follows a script word by word. A contract sees the
+/// records of the server, all that was asked, given, done, sent and handed over, how many exchanges
+/// were disturbed, where runs ended, and the words that are left (`Scene`).
+///
+/// Each message is served at the time 0. What is saved at the end of a run, and from where the next run
+/// starts, is not for the link to do.
 #[derive(Drop)]
 pub struct Scripted<S: Records> {
     server: Server<S>,
@@ -66,7 +69,8 @@ impl<S: Records> Model for Scripted<S> {
 }
 
 impl<S: Records> Scripted<S> {
-    /// A link to this server, over which nothing has happened yet. Takes no memory.
+    /// A link to this server, over which nothing has happened yet. Its words are those of the script
+    /// from the first run on: a part without words that ends in `restart` is no run. Takes no memory.
     pub fn new(alloc: Global, server: Server<S>, script: Script) -> Self
         ensures { result ≡ scene_of server (next_words script) }
     {
@@ -90,21 +94,23 @@ impl<S: Records> Scripted<S> {
         }
     }
 
-    /// The bytes of the request of this number, from 1, among those ever asked.
+    /// The bytes of the request of this number, from 1, among those ever asked; none where there is
+    /// none.
     pub fn request(&self, number: usize) -> Option<&[u8]>
         ensures { option_map (λ message. message.now) result ≡ message_at number self.now.asked }
     {
         message_at(self.asked.as_slice(), number)
     }
 
-    /// The bytes of the reply of this number, from 1, among those ever given.
+    /// The bytes of the reply of this number, from 1, among those ever given; none where there is none.
     pub fn reply(&self, number: usize) -> Option<&[u8]>
         ensures { option_map (λ message. message.now) result ≡ message_at number self.now.given }
     {
         message_at(self.given.as_slice(), number)
     }
 
-    /// The word that the exchange of this number followed, from 1.
+    /// The word that the exchange of this number followed, from 1; none where there is no such
+    /// exchange.
     pub fn followed(&self, number: usize) -> Option<Word>
         ensures { result ≡ word_at number self.now.followed }
     {
@@ -114,7 +120,8 @@ impl<S: Records> Scripted<S> {
         self.followed.get(number - 1).copied()
     }
 
-    /// What the exchange of this number handed over, from 1: the bytes of a message, or none.
+    /// What the exchange of this number handed over, from 1: the bytes of a message. None where it
+    /// handed over nothing, or where there is no such exchange.
     pub fn handed(&self, number: usize) -> Option<&[u8]>
         ensures { option_map (λ message. message.now) result ≡ answer_at number self.now.handed }
     {
@@ -134,7 +141,7 @@ impl<S: Records> Scripted<S> {
         self.ended.as_slice()
     }
 
-    /// The server.
+    /// The server, with the records of the link.
     pub fn server(&self) -> &Server<S>
         ensures { result.now ≡ self.now.stock }
     {

@@ -1,5 +1,5 @@
-//! Transcripts, which the programs for stored runs read from standard input: lines, and blocks of lines,
-//! each from its first line up to a line `end`.
+//! Reads the transcripts of the programs for stored runs. A transcript stands on standard input: lines,
+//! and blocks of lines, each from its first line up to a line `end`.
 #![tactic(auto)]
 
 use std::io::{self, BufReader};

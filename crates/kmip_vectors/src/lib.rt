@@ -1,5 +1,7 @@
-//! What the tests of several crates share: messages that are known from outside, in lower-case
-//! hexadecimal, and how one is changed. Replies have the time 0.
+//! What the tests of several crates share: messages that are known from outside.
+//!
+//! The messages are in lower-case hexadecimal, and one can be changed at a place. Replies have the time
+//! 0.
 //!
 //! Source: KMIP 2.1, Message Structure and Operations, in the layout of this project's profile.
 #![tactic(auto)]
@@ -157,11 +159,12 @@ pub const ASK_ACTIVATE: &str = "\
     4200930800000003126b31000000000042007901000000104200940700000001\
     3100000000000000";
 
-/// The bytes with another value at one place.
+/// The bytes with this value at one place, and all others as they were.
 ///
 /// # Errors
 /// Where there is no memory for them.
 pub fn changed(alloc: Global, bytes: &[u8], place: usize, value: u8) -> Result<Vec<u8>, AllocError>
+    // The place is within the bytes.
     requires { place < length bytes.now }
     ensures { IfOk result (λ changed. changed.items ≡ set bytes.now place value) }
 {

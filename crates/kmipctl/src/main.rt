@@ -1,5 +1,7 @@
-//! `kmipctl`: carries out a plan of symmetric keys on a server of the Key Management
-//! Interoperability Protocol, simulates that, serves it, and answers and shows its messages.
+//! `kmipctl`: brings a plan of symmetric keys to a KMIP server.
+//!
+//! It also simulates that, serves it, and answers and shows messages of the Key Management
+//! Interoperability Protocol. The program is `run` of kmip_program.
 #![tactic(auto)]
 
 use std::process::ExitCode;

@@ -1,5 +1,5 @@
-//! `kmipctl` once more, for its stored runs: standard input has one command after the other, and what
-//! is printed are these commands, what each writes, and its exit status; or what a command asks for.
+//! `kmipctl` once more, for its stored runs. Standard input has one command after the other. What is
+//! printed are these commands, what each writes, and its exit status; or what a command asks for.
 //! Commands over links in memory are lines too, of which `kmip_link_runs` tells.
 //!
 //! A line of standard input is one of
