@@ -140,9 +140,9 @@ pub trait Link {
         // What a link is for some names, honest or calm, it is for fewer of them.
         ensures fewer { (link : Self) (names fewer : Names) → AreAmong fewer names
             → (honest link names → honest link fewer) × (calm link names → calm link fewer) }
-        // A link is what no call made of itself.
+        // Each link follows itself (`follows`).
         ensures itself { (link : Self) → follows link link }
-        // What calls made of what calls made of a link, calls made of that link.
+        // A link that follows one that follows another, follows that other.
         ensures twice { (x y z : Self) → follows x y → follows y z → follows x z };
 }
 
