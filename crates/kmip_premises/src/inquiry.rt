@@ -109,7 +109,7 @@ pub fn is_prefix(text: &str) -> bool
     is_name(text) && text.len() <= PREFIX_MAX
 }
 
-/// A name of a probe.
+/// A name of a probe: the prefix and `-1`, or the prefix and `-2`.
 ///
 /// # Errors
 /// Where there is no memory for it.
