@@ -80,7 +80,7 @@ pub const INQUIRIES: [Inquiry; QUESTIONS] = [
     Inquiry(Second, Destroy),
 ];
 
-/// The question of a number, from 0; none behind the last.
+/// The question of a number, from 0; none after the last.
 pub(crate) fn inquiry_at(number: usize) -> Option<Inquiry>
     ensures { result ≡ slice_get INQUIRIES number }
 {
