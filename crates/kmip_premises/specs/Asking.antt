@@ -26,7 +26,7 @@ finds_none outcome = false
 abbrev pub is_free : Answer → Bool
 is_free answer = finds_none (outcome_in answer)
 
--- the answer at a place, where there is one yet, leaves a name free
+-- the answer at a place leaves a name free: it is a Locate that has found nothing, or there is none yet
 abbrev pub is_free_at : List Answer → ℕ → Bool
 is_free_at answers place = option_map_or is_free (slice_get answers place) true
 

@@ -69,7 +69,8 @@ judged broken flaw kept = if broken then Broken flaw else kept_if kept
 abbrev pub other_than : List (List ℕ) → List (List ℕ) → Option (List ℕ)
 other_than known uids = find (λ uid. not (list_any (pointwise nat_eq uid) known)) uids
 
--- a second object was seen, or none where the answers that would show it have come
+-- the premise is broken where a second object was seen, and kept where the answers that would show it have
+-- come
 abbrev pub unless_second : Option (List ℕ) → Bool → Finding
 unless_second None kept = kept_if kept
 unless_second (Some uid) kept = Broken (SecondObject uid)
@@ -102,7 +103,7 @@ step_counts_once answers step first again =
     judged (has_succeeded (answer_at answers first) && has_succeeded (answer_at answers again)) (StepTwice step)
     (has_succeeded (answer_at answers first) && was_refused (answer_at answers again))
 
--- both premises are kept; or one is broken, and where both are it is the first
+-- both premises are kept; or one is broken, and where both are it is the first; else it could not be told
 abbrev pub both : Finding → Finding → Finding
 both (Broken flaw) second = Broken flaw
 both first (Broken flaw) = Broken flaw
@@ -123,7 +124,7 @@ active_is_kept answers =
 
 -- ---- searches
 
--- a Locate has told this identifier, or others alone
+-- the premise is kept where a Locate has told this identifier, and broken where it told others alone, or none
 abbrev pub found_in : List ℕ → Option Outcome → Finding
 found_in uid (Some (Located uids)) = judged (not (list_any (pointwise nat_eq uid) uids)) NotFound true
 found_in uid outcome = Untold

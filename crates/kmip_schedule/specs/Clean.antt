@@ -77,7 +77,7 @@ IsCounted names old sent answer new before after =
     (IsClean names old sent answer new × (after ≡ before))
     ⊎ ((strange : ℕ) × (strange_handed names sent answer ≤ strange) × (after ≡ one_disturbed (length (requests_in sent)) strange before))
 
--- no count falls
+-- no count has fallen
 abbrev pub AreNoFewer : Disturbances → Disturbances → Type 0
 AreNoFewer before after =
     (before.disturbed ≤ after.disturbed) × (before.requests ≤ after.requests) × (before.strange ≤ after.strange)
@@ -90,7 +90,7 @@ Counted names old sent (Err Io) new before after = IsCounted names old sent None
 Counted names old sent (Err Frame) new before after = IsCounted names old sent None new before after
 Counted names old sent (Err NoMemory) new before after = AreNoFewer before after
 
--- the message handed over has no refusal for want of room
+-- a message was handed over, and none of its replies says that the server has no room
 abbrev pub IsRoomy : Result (Option (List ℕ)) LinkFault → Type 0
 IsRoomy (Ok (Some given)) = All HasRoom (replies_in given)
 IsRoomy (Ok None) = ⊥

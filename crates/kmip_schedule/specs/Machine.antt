@@ -35,8 +35,8 @@ pub data Turn : Type 0 where
   Add : Pair → Turn
   Take : Pair → Turn
 
--- when a turn may be made: a pair is added once its name has come to the place before it, and taken once it
--- was added
+-- when a turn may be made: a pair is added once its name has come at least to the place before it, and is
+-- taken any number of times once it was added
 abbrev pub MayTurn : Turn → Machine → Type 0
 MayTurn (Add pair) m = pair.place ≤ m.at pair.name + 1
 MayTurn (Take pair) m = Contains m.pairs pair

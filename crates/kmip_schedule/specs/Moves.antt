@@ -19,7 +19,7 @@ use Rattle.kmip_schedule.specs.Past.{Past, Names, steps_on, change}
 pub data Move : Type 0 where
   -- a request is served: its reply, the objects after it, and what joins the effects
   Serve : Request → Reply → List Object → Option Effect → Move
-  -- the same, but its reply is never written
+  -- a request is served, but its reply is never written
   Unanswered : Request → Reply → List Object → Option Effect → Move
   -- something is refused, by this reply
   Refuse : Reply → Move

@@ -63,7 +63,8 @@ abbrev pub NoneIsFurther : List Key → List Key → List Object → Type 0
 NoneIsFurther new old objects =
     (key : Key) → IsPlanned new key → key_named key.attrs.name old ≡ None → object_named key.attrs.name objects ≡ None
 
--- Nothing of the plan has happened yet, and names and identifiers are distinct.
+-- Nothing of the plan has happened yet: no object has a planned name, and nothing was asked, answered or
+-- done. Names and identifiers are distinct.
 pub record Opening (keys : List Key) (p : Past) : Type 0 where
   pub names : DistinctNames p.objects
   pub uids : DistinctUids p.objects

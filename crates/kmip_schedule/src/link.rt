@@ -38,7 +38,7 @@ pub trait Link {
     /// How many of its exchanges were disturbed, how many requests these sent, and how many replies about
     /// other keys they handed over. A link counts at least each exchange that is not clean, and in it each
     /// reply about a planned key that was not asked about. That it counts nothing else is said here of a calm
-    /// one alone.
+    /// one alone; the link of kmip_scripted says exactly what it counts.
     ghost disturbances: { Self → Disturbances };
 
     /// Where the runs that were ended over it did: how many messages had been sent then, in order.

@@ -44,7 +44,7 @@ reported keys ends saved =
 abbrev pub IsNoClash : Verdict → Type 0
 IsNoClash verdict = (clash : Clash) → verdict ≢ Conflict clash
 
--- the run did not stop in conflict, and no key is in conflict
+-- the run did not stop in conflict, and no key is in conflict at its end
 abbrev pub HasNoConflict : RunEnd → Type 0
 HasNoConflict end = (end.stop ≢ stops.Conflict) × All IsNoClash end.verdicts.items
 
@@ -67,7 +67,7 @@ pub record IsFull (key : Key) (count : ℕ) (verdict : Verdict) : Type 0 where
   pub done : verdict ≡ Finished → count ≡ chain_length key
   pub finished : count ≡ chain_length key → verdict ≡ Finished
 
--- for each key in turn, its count and its verdict agree so
+-- the count and the verdict of each key agree, as `IsFull` says
 abbrev pub AreFull : List Key → List ℕ → List Verdict → Type 0
 AreFull [] [] [] = ⊤
 AreFull (key ∷ keys) (count ∷ counts) (verdict ∷ verdicts) = IsFull key count verdict × AreFull keys counts verdicts

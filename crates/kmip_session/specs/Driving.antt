@@ -84,15 +84,16 @@ pub record WentOn (keys : List Key) (old new : Past) : Type 0 where
   pub mirrored : IsMirrored keys old → IsMirrored keys new
 
 -- What is kept for a plan that prolongs this one, while this one is carried out. Over a link that is honest
--- for its names, what was sound for it stays so, and its objects go onward. Over a calm one there is room
--- still for the objects that it misses, where memory did not run out. Own (law).
+-- for its names, what was sound for it stays so, its objects go onward, and an image of its machine stays
+-- one. Over a calm one there is room still for the objects that it misses, where memory did not run out. Own
+-- (law).
 pub record KeepsFurther {L : Type 0} (past : L → Past) (honest calm : L → Names → Type 0) (keys : List Key) (whole : Type 0) (old new : L) : Type 0 where
   pub good : (further : List Key) → IsLawful further → Prolongs further keys → GoodLink past honest further old
       → GoodLink past honest further new × WentOn further (past old) (past new)
   pub calmly : whole → (further : List Key) → IsLawful further → Prolongs further keys → CalmLink past calm further old
       → CalmLink past calm further new
 
--- The bytes ask about one key of the plan or more, at most this many and each once. They ask what a phase of
+-- The bytes ask about one key of the plan or more, at most `most` and each once. They ask what a phase of
 -- each key asks, in its one written form.
 pub record IsQuestion (keys : List Key) (most : ℕ) (bytes : List ℕ) : Type 0 where
   pub knowns : List Knowledge
@@ -103,7 +104,7 @@ pub record IsQuestion (keys : List Key) (most : ℕ) (bytes : List ℕ) : Type 0
   pub apart : AreApart places
   pub written : bytes ≡ canon (requests_item (requests_at keys knowns places))
 
--- This many exchanges were made, each with a message about at most so many keys of the plan, and nothing else
+-- This many exchanges were made, each with a message about at most `most` keys of the plan, and nothing else
 -- was asked. The facts known now are those known before and what the exchanges handed over.
 pub record Learnt (keys : List Key) (most : ℕ) (old new : Past) (knowns nexts : List Knowledge) (exchanges : ℕ) : Type 0 where
   pub questions : List (List ℕ)
@@ -128,8 +129,8 @@ pub record AsksMore (keys : List Key) (most : ℕ) (old new : Past) : Type 0 whe
   pub is_question : IsQuestion keys most question
   pub requests_are : new.requests ≡ old.requests ++ requests_in question
 
--- The exchange in which memory ran out was not made: nothing was sent or handed over. The questions of one
--- message at most joined those asked.
+-- The exchange in which memory ran out was not made: nothing was sent or handed over. At most the questions
+-- of one message joined those asked.
 pub record IsUnmade (keys : List Key) (most : ℕ) (old new : Past) : Type 0 where
   pub asked : (new.requests ≡ old.requests) ⊎ AsksMore keys most old new
   pub sent_stays : new.sent ≡ old.sent
@@ -183,7 +184,8 @@ SomeClash keys knowns = (place : ℕ) × (clash : Clash) × (place < length keys
 abbrev pub AreFinished : List Key → List Knowledge → Type 0
 AreFinished keys knowns = (place : ℕ) → place < length keys → verdict_at keys knowns place ≡ Finished
 
--- how the keys stand where a run stops for this reason
+-- how the keys stand where a run stops for this reason: with `AllFinished` each is finished, with `Limit` one
+-- is worked on, and with `Conflict` none is worked on and one is in conflict
 abbrev pub Stands : Stop → List Key → List Knowledge → Type 0
 Stands stops.AllFinished keys knowns = AreFinished keys knowns
 Stands stops.Limit keys knowns = SomeWorks keys knowns

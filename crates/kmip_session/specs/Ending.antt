@@ -3,7 +3,7 @@
 use Rattle.std.specs.Prelude.{◌≡◌, ℕ, ◌+◌, List, [], ◌∷◌, ◌++◌}
 use Rattle.kmip_session.specs.declared.campaigning.RunEnd.{RunEnd}
 
--- how many messages had been sent at the end of each run, where the first run began after so many
+-- how many messages had been sent at the end of each run, where `sent` had been before the first of them
 abbrev pub ended_at : ℕ → List RunEnd → List ℕ
 ended_at sent [] = []
 ended_at sent (end ∷ ends) = (sent + end.exchanges) ∷ ended_at (sent + end.exchanges) ends

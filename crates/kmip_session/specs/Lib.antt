@@ -16,7 +16,7 @@ pub mod Losing
 pub mod Ending
 -- what is known at the end of each run, and what was asked and heard for it
 pub mod Remembering
--- the same client by client: what each run begins with, and what its turns make of that
+-- the runs client by client: what each begins with, and what its turns make of that
 pub mod TurnedRuns
 -- campaigns on several plans, of which each prolongs the one before it
 pub mod Campaigns

@@ -78,7 +78,8 @@ pub record IsTalkOf (talk : Talk) (end : RunEnd) : Type 0 where
   pub as_many_questions : length talk.questions ≡ end.exchanges
   pub as_many_answers : length talk.answers ≡ end.exchanges
 
--- each message of a run asks about keys of the plan, and about no more of them than the run may ask at once
+-- each message of a run asks about keys of the plan, and about no more of them than the run asks about at
+-- once
 abbrev pub AreAsked : List Key → List Run → List Talk → Type 0
 AreAsked keys runs [] = ⊤
 AreAsked keys [] (talk ∷ talks) = ⊥
@@ -114,6 +115,6 @@ pub record AreKnownFrom (keys : List Key) (carried : List (List Known)) (runs : 
   pub few_more : honest → length new.sent ≤ length until.sent + limit_at runs (length known)
   pub no_more : whole → until ≡ new
 
--- AreKnownFrom, where nothing was carried over from an earlier plan
+-- `AreKnownFrom` where nothing was carried over from an earlier plan
 abbrev pub AreKnown : List Key → List Run → List RunEnd → List (List Known) → Type 0 → Type 0 → Past → Past → Type 0
 AreKnown keys runs ends saved honest whole old new = AreKnownFrom keys [] runs ends saved honest whole old new

@@ -87,14 +87,14 @@ WhoIsSettledNeedsNothing =
     (keys : List Key) (objects : List Object) (knowns : List Knowledge) → Held objects keys knowns → AreSettled keys knowns
     → need_all keys knowns objects ≡ 0
 
--- the object of a key that is finished has had all steps of its chain
+-- where what is known is true, the object of a key that is finished has had all steps of its chain
 abbrev pub TheFinishedStandAtTheEnd : Type 0
 TheFinishedStandAtTheEnd =
     (keys : List Key) (objects : List Object) (knowns : List Knowledge) → IsLawful keys → Held objects keys knowns
     → (place : ℕ) (key : Key) → slice_get keys place ≡ Some key → verdict_at keys knowns place ≡ Finished
     → position key objects ≡ chain_length key
 
--- a key that is finished has an object
+-- where what is known is true, a key that is finished has an object
 abbrev pub TheFinishedAreThere : Type 0
 TheFinishedAreThere =
     (keys : List Key) (objects : List Object) (knowns : List Knowledge) → IsLawful keys → Held objects keys knowns

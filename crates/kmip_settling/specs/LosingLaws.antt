@@ -1,4 +1,5 @@
--- What holds of clients over a link that goes on losing.
+-- What holds of clients over a link that goes on losing, of a lawful plan, over a sound past, and where what
+-- is known is true; `NeedsAreLeft` and `MostLeftNeverRises` ask for none of these.
 -- Source: own (law).
 use Rattle.std.specs.Prelude.{◌≡◌, ◌≤◌, ℕ, ◌+◌, ◌*◌, List, length, Option}
 use Rattle.std.specs.List.{AllZip}
