@@ -2,7 +2,7 @@
 //!
 //! Everything here is said of every link that a caller brings (the trait `Link` of kmip_schedule). Where a
 //! clause asks that the link is honest or calm, the caller's link promises that. A link in memory that is
-//! proved to be honest is `Scripted` of kmip_scripted.
+//! proved to be honest is `Scripted` of kmip_scripted, which the command `sim` uses.
 //!
 //! The headline is the clause `safe` of `campaign`. To read it from the top:
 //!
