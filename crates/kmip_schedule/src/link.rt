@@ -71,7 +71,7 @@ pub trait Link {
             (past self.new) }
         // However the call ends, how often the network has failed does not fall.
         ensures counted { failures self.old ≤ failures self.new }
-        // With `Io` it rises.
+        // With `Io` the network has failed once more at least.
         ensures io { IfErr result (λ fault. fault ≡ LinkFault.Io
             → failures self.old < failures self.new) }
         // Once the network has failed 2^64 - 1 times, nothing is handed over, and there is no fault.
@@ -112,7 +112,7 @@ pub trait Link {
             × CalmlyEnded names result (past self.old) (past self.new) }
         // How often the network has failed does not fall.
         ensures counted { failures self.old ≤ failures self.new }
-        // With `Io` it rises.
+        // With `Io` the network has failed once more at least.
         ensures io { IfErr result (λ fault. fault ≡ LinkFault.Io
             → failures self.old < failures self.new) }
         // Once the network has failed 2^64 - 1 times, there is no fault.

@@ -158,7 +158,7 @@ impl<D: Dial + Drop> StreamLink<D> {
         ensures after { self.new ≡ link_after result self.old }
         // How often the network has failed does not fall.
         ensures counted { self.old.failures ≤ self.new.failures }
-        // With `Io` it rises.
+        // With `Io` the network has failed once more at least.
         ensures io { IfErr result (λ fault. fault ≡ LinkFault.Io
             → self.old.failures < self.new.failures) }
         // Where no stream is open there is no reply.
