@@ -1,5 +1,7 @@
 -- What came of a question of a probe.
 -- Source: KMIP 2.1, Message Structure (Operation, Unique Batch Item ID), and Message Data, Result Status.
+-- What a reply without the id of a question says is own (choice); `outcome_in`, `unread_in`, `uids_in`,
+-- `uids_told` and `IsLawful` are own (view).
 use Rattle.std.specs.Prelude.{ℕ, nat_eq, Bool, true, false, List, [], ◌∷◌, slice_get, Option, Some, None, Result, Ok, Err, IsTrue, if◌then◌else◌}
 use Rattle.std.specs.Cmp.Lexicographic.{pointwise}
 use Rattle.std.specs.List.{All}
@@ -37,14 +39,15 @@ abbrev pub without_id : Outcome → Answer
 without_id (Failed reason) = Told (Failed reason)
 without_id outcome = Unmarked outcome
 
--- What an outcome says of the question of a number: one with its id answers it, and one with the id of another question is late.
+-- What an outcome says of the question of a number: one with its id answers it, and one with the id of
+-- another question is late.
 abbrev pub answer_marked : ℕ → List ℕ → Option (List ℕ) → Outcome → Answer
 answer_marked number prefix None outcome = without_id outcome
 answer_marked number prefix (Some id) outcome =
     if pointwise nat_eq (marker_of number prefix) id then Told outcome
     else (if is_marker prefix id then Nothing else unmarked outcome)
 
--- a refusal, or the success of the operation that such a question asks for
+-- the outcome is a refusal, or the success of the operation that such a question asks for
 abbrev pub is_of : Kind → Outcome → Bool
 is_of kind (Failed reason) = true
 is_of (Locate mask) (Located uids) = true
@@ -55,26 +58,32 @@ is_of Revoke (Revoked uid) = true
 is_of Destroy (Destroyed uid) = true
 is_of kind outcome = false
 
--- the same of the question of a number
+-- the outcome is a refusal, or the success of the operation that the question of this number asks for
 abbrev pub is_asked_for : ℕ → Outcome → Bool
 is_asked_for number outcome = option_map_or (λ inquiry. is_of inquiry.1 outcome) (slice_get INQUIRIES number) false
 
--- What a reply says of the question of a number: the success of another operation than it asks for says nothing.
+-- What a reply says of the question of a number: the success of another operation than it asks for says
+-- nothing.
 abbrev pub answer_with : ℕ → List ℕ → Option (List ℕ) → Outcome → Answer
 answer_with number prefix id outcome = if is_asked_for number outcome then answer_marked number prefix id outcome else Nothing
 
--- What the replies of a message say of it: a message asks one question, and so any other number of replies says nothing.
+-- What the replies of a message say of the question of a number. A message asks one question, and so any
+-- other number of replies says nothing.
 abbrev pub answer_in : ℕ → List ℕ → List Reply → Answer
 answer_in number prefix [] = Nothing
 answer_in number prefix (reply ∷ []) = answer_with number prefix reply.id reply.outcome
 answer_in number prefix (reply ∷ second ∷ others) = Nothing
 
--- what bytes say of it that are read so: a message that can't be read says why, and which version it has
+-- what bytes say of the question that are read so: a message that can't be read says why, and which version
+-- it has
 abbrev pub answer_read : ℕ → List ℕ → List ℕ → Result (List Reply) MessageFault → Answer
 answer_read number prefix given (Ok replies) = answer_in number prefix replies
 answer_read number prefix given (Err fault) = Unreadable (record { fault = fault; version = version_in given })
 
--- what was handed over says of it; a loss says nothing
+-- What was handed over says of the question of a number: a reply with its id answers it, and one with the id
+-- of another question is late. A refusal may leave the id out. A success without the id of any question is
+-- kept as such. A message of several replies says nothing, and so does a loss. One that can't be read says
+-- why.
 abbrev pub answer_to : ℕ → List ℕ → Option (List ℕ) → Answer
 answer_to number prefix None = Nothing
 answer_to number prefix (Some given) = answer_read number prefix given (replies_read given)
@@ -97,9 +106,10 @@ uids_in (Some (Created uid)) = uid ∷ []
 uids_in (Some (Located uids)) = uids
 uids_in outcome = []
 
+-- the identifiers that an answer gives the name that was asked about
 abbrev pub uids_told : Answer → List (List ℕ)
 uids_told answer = uids_in (outcome_in answer)
 
--- Private: each of them is one
+-- Private: the identifiers that an answer tells are in their range
 abbrev pub IsLawful : Answer → Type 0
 IsLawful answer = All (λ uid. IsTrue (is_identifier uid)) (uids_told answer)

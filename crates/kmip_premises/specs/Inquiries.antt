@@ -1,5 +1,6 @@
 -- What a probe asks about the objects of two names of its own.
--- Source: KMIP 2.1, Operations; Enumerations and Masks, Storage Status Mask. The names, the attributes and the reason are own.
+-- Source: KMIP 2.1, Operations; Enumerations and Masks, Storage Status Mask. The names, the attributes and
+-- the reason are own (choice).
 use Rattle.std.specs.Prelude.{ℕ, Bool, ◌&&◌, nat_le, List, ◌++◌, length, codes, Option, Some}
 use Rattle.std.specs.Option.{option_map}
 use Rattle.kmip_messages.specs.declared.request.Ask.{Ask}
@@ -18,7 +19,7 @@ use Rattle.kmip_premises.specs.declared.inquiry.Which.TheVariants.{First, Second
 abbrev pub is_prefix : List ℕ → Bool
 is_prefix s = is_name s && nat_le (length s) PREFIX_MAX
 
--- the two names
+-- the two names of a probe
 abbrev pub name_of : Which → List ℕ → List ℕ
 name_of First prefix = prefix ++ codes "-1"
 name_of Second prefix = prefix ++ codes "-2"
@@ -27,7 +28,8 @@ name_of Second prefix = prefix ++ codes "-2"
 abbrev pub attributes_with : List ℕ → KeyAttrs
 attributes_with name = record { name = name; algorithm = ALGORITHM_AES; length = KEY_BITS; usage = KEY_USAGE }
 
--- what is asked about the object with the name, where it has this identifier; nothing where none is known that the question needs
+-- what is asked about the object with the name, where it has this identifier; nothing where none is known
+-- that the question needs
 abbrev pub ask_of : Kind → List ℕ → Option (List ℕ) → Option Ask
 ask_of (Locate mask) name uid = Some (asks.Locate mask (by_name name))
 ask_of Create name uid = Some (asks.Create (attributes_with name))

@@ -1,5 +1,5 @@
 -- What the answers of a server of this profile say: each premise is kept.
--- Source: own: what the law of a probe says.
+-- Source: own (law).
 use Rattle.std.specs.Prelude.{◌≡◌, ℕ, List, [], ◌∷◌, map}
 use Rattle.kmip_messages.specs.declared.standard.TheConstants.{REASON_NON_UNIQUE_NAME, REASON_WRONG_STATE}
 use Rattle.kmip_premises.specs.Judging.{
@@ -18,7 +18,7 @@ use Rattle.kmip_premises.specs.declared.answer.Answer.{Answer}
 use Rattle.kmip_premises.specs.declared.answer.Answer.TheVariants.{Told}
 use Rattle.kmip_premises.specs.declared.finding.Finding.TheVariants.{Kept}
 
--- every premise is kept, by these answers
+-- every premise is kept by these answers, and the reasons of refusals are these two
 pub record AreAllKept (prefix : List ℕ) (answers : List Answer) : Type 0 where
   pub unique : names_are_unique answers ≡ Kept
   pub used : names_stay_used answers ≡ Kept
@@ -30,6 +30,6 @@ pub record AreAllKept (prefix : List ℕ) (answers : List Answer) : Type 0 where
   pub echoed : ids_are_echoed answers ≡ Kept
   pub reasons : reasons_in answers ≡ REASON_NON_UNIQUE_NAME ∷ REASON_WRONG_STATE ∷ []
 
--- so it is where each question was answered as the profile says
+-- every premise is kept where each question was answered as the profile says
 abbrev pub ProfileKeepsAll : Type 0
 ProfileKeepsAll = (prefix first second : List ℕ) → AreAllKept prefix (map Told (outcomes_of prefix first second))

@@ -1,5 +1,5 @@
 -- Private: what putting one question over a link does to the past.
--- Source: own: how a contract sees the code.
+-- Source: own (view).
 use Rattle.std.specs.Prelude.{◌≡◌, ◌⊎◌, ℕ, List, [], ◌∷◌, ◌++◌, Option, Some, None, option_and_then, option_to_list}
 use Rattle.kmip_messages.specs.declared.reply.Outcome.{Outcome}
 use Rattle.kmip_messages.specs.declared.request.Request.{Request}
@@ -40,7 +40,7 @@ HasServed None answer old new = (answer ≡ Nothing) × (new ≡ old)
 HasServed (Some request) answer old new =
     (outcome : Outcome) × ServerStep old.room old.objects request.ask outcome new.objects × (answer ≡ Told outcome) × (new.room ≡ old.room)
 
--- the same of the question that follows these answers
+-- the server has taken a step for the question that follows these answers, which the answer tells
 abbrev pub HasServedNext : List ℕ → List Answer → Answer → Past → Past → Type 0
 HasServedNext prefix before answer old new = HasServed (option_and_then (request_for prefix before) (next_inquiry before)) answer old new
 
@@ -51,6 +51,7 @@ pub record AreAsked (prefix : List ℕ) (answers : List Answer) (old new : Past)
   pub handed : new.handed ≡ old.handed ++ given
   pub heard : AreAnswers prefix [] answers given
 
--- The further questions were asked: where those for the answers before were asked since some past, those for all of them were.
+-- The further questions were asked: where those for the answers before were asked since some past, those for
+-- all of them were.
 abbrev pub AsksOn : List ℕ → List Answer → List Answer → Past → Past → Type 0
 AsksOn prefix before after old new = (start : Past) → AreAsked prefix before start old → AreAsked prefix after start new

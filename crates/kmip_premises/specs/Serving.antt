@@ -1,5 +1,6 @@
 -- What a server of this profile answers a probe.
--- Source: KMIP 2.1, Operations; Object Attributes, State. Which reason answers which refusal is own.
+-- Source: KMIP 2.1, Operations; Object Attributes, State. Which reason answers which refusal is own (choice),
+-- and what has to be so before is own (view).
 use Rattle.std.specs.Prelude.{◌≡◌, ◌≤◌, ℕ, ◌+◌, List, [], ◌∷◌, length, Some, None}
 use Rattle.kmip_objects.specs.Objects.{DistinctNames, DistinctUids, Object, object_named}
 use Rattle.kmip_objects.specs.declared.state.KeyState.{KeyState}
@@ -25,7 +26,7 @@ pub record IsUnprobed (prefix : List ℕ) (p : Past) : Type 0 where
 abbrev pub object_of : Which → List ℕ → List ℕ → KeyState → Object
 object_of which prefix uid state = record { uid = uid; attrs = attributes_with (name_of which prefix); state = state }
 
--- what is answered, one question after the other, where the two objects get these identifiers
+-- all that is answered, one question after the other, where the two objects get these identifiers
 abbrev pub outcomes_of : List ℕ → List ℕ → List ℕ → List Outcome
 outcomes_of prefix first second =
     Located []

@@ -1,5 +1,5 @@
--- Private: how the two objects of a probe stand after so many answers, and the laws of the crates below.
--- Source: own: how a contract sees the code.
+-- Private: how the two objects of a probe stand after some answers, and the laws of the crates below.
+-- Source: own (view).
 use Rattle.std.specs.Prelude.{◌≡◌, ◌≤◌, ℕ, ◌+◌, List, [], ◌∷◌, map, take, length, Option, Some, None, option_map}
 use Rattle.std.specs.Prelude.{get_or}
 use Rattle.kmip_objects.specs.ObjectLaws.{
@@ -40,7 +40,7 @@ pub record ProbeLaws : Type 0 where
   pub names_stay : StaysDistinct DistinctNames
   pub uids_stay : StaysDistinct DistinctUids
 
--- the state of each object after so many answers; none where it is not made yet
+-- the state of an object of the probe after each number of answers; none where it is not made yet
 abbrev pub states_of : Which → List (Option KeyState)
 states_of First =
     None ∷ None ∷ None
@@ -56,6 +56,7 @@ states_of Second =
     ∷ Some Deactivated
     ∷ Some Destroyed ∷ []
 
+-- the state of an object of the probe after this number of answers
 abbrev pub state_at : Which → ℕ → Option KeyState
 state_at which count = get_or (states_of which) count None
 
@@ -64,7 +65,8 @@ abbrev pub missing : Option KeyState → ℕ
 missing None = 1
 missing (Some state) = 0
 
--- the objects after so many answers
+-- Names and identifiers are distinct after this number of answers, and the two objects stand in their states.
+-- There is room for those that are not made yet.
 pub record AreStanding (prefix first second : List ℕ) (count : ℕ) (p : Past) : Type 0 where
   pub names_differ : DistinctNames p.objects
   pub uids_differ : DistinctUids p.objects
@@ -72,7 +74,7 @@ pub record AreStanding (prefix first second : List ℕ) (count : ℕ) (p : Past)
   pub second_is : object_named (name_of Second prefix) p.objects ≡ option_map (object_of Second prefix second) (state_at Second count)
   pub roomy : length p.objects + missing (state_at First count) + missing (state_at Second count) ≤ p.room
 
--- so many questions were answered as the profile says
+-- This many questions were answered as the profile answers them, and the two objects stand as they then do.
 pub record AreServed (prefix : List ℕ) (answers : List Answer) (p : Past) : Type 0 where
   pub first : List ℕ
   pub second : List ℕ

@@ -1,5 +1,6 @@
 -- Which attributes of an object that was just made are told.
--- Source: KMIP 2.1, Operations, Get Attributes; Object Attributes.
+-- Source: KMIP 2.1, Operations, Get Attributes; Object Attributes. The order in which they are looked at is
+-- own (choice).
 use Rattle.std.specs.Prelude.{ℕ, ◌==◌, nat_eq, Bool, true, false, List, codes, Option, Some, None, option_map}
 use Rattle.std.specs.Cmp.Lexicographic.{pointwise}
 use Rattle.std.specs.Option.{option_or}
@@ -18,7 +19,7 @@ use Rattle.kmip_premises.specs.declared.finding.Flaw.{Flaw}
 use Rattle.kmip_premises.specs.declared.finding.Flaw.TheVariants.{Missing, Different, Refused}
 use Rattle.kmip_premises.specs.declared.inquiry.TheConstants.{KEY_BITS, KEY_USAGE}
 
--- an attribute is missing, or is another than it was made with
+-- the flaw of an attribute: it is missing, or is another than it was made with
 abbrev pub flaw_of : Attribute → Option Bool → Option Flaw
 flaw_of attribute None = Some (Missing attribute)
 flaw_of attribute (Some false) = Some (Different attribute)
@@ -42,6 +43,7 @@ first_flaw name told =
     (cryptographic_flaw told))
     (flaw_of names.State (option_map (λ n. n == state_number PreActive) told.state))
 
+-- no flaw is that the premise is kept
 abbrev pub unless_flaw : Option Flaw → Finding
 unless_flaw None = Kept
 unless_flaw (Some flaw) = Broken flaw

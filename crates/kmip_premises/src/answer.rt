@@ -51,7 +51,8 @@ impl Answer {
         }
     }
 
-    /// The identifiers that are given the name that was asked about.
+    /// The identifiers that the answer gives the name that was asked about: of a Create the new one, of a
+    /// Locate those that it found.
     pub fn uids(&self) -> &[Text]
         ensures { result.now ≡ uids_told self.now }
     {

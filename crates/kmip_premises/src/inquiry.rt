@@ -80,7 +80,7 @@ pub const INQUIRIES: [Inquiry; QUESTIONS] = [
     Inquiry(Second, Destroy),
 ];
 
-/// The question of a number, from 0; none behind the last.
+/// The question of a number, from 0; none after the last.
 pub(crate) fn inquiry_at(number: usize) -> Option<Inquiry>
     ensures { result ≡ slice_get INQUIRIES number }
 {
@@ -109,7 +109,7 @@ pub fn is_prefix(text: &str) -> bool
     is_name(text) && text.len() <= PREFIX_MAX
 }
 
-/// A name of a probe.
+/// A name of a probe: the prefix and `-1`, or the prefix and `-2`.
 ///
 /// # Errors
 /// Where there is no memory for it.

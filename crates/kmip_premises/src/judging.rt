@@ -44,7 +44,7 @@ use kmip_objects::Step;
 use kmip_ttlv::{NoMemory, Text};
 use std::alloc::Global;
 
-/// What the answers of a probe with this prefix say of each premise.
+/// What the answers of a probe with this prefix say of each premise, as `AreFindings` states it.
 ///
 /// # Errors
 /// Where there is no memory.
@@ -64,7 +64,7 @@ pub fn findings(alloc: Global, prefix: &str, answers: &[Answer]) -> Result<Findi
     })
 }
 
-/// The outcome of the question of a number, where there is one.
+/// The outcome of the question of a number, from 0, where there is one.
 pub fn outcome_at(answers: &[Answer], number: usize) -> Option<&Outcome>
     ensures { option_map (λ o. o.now) result ≡ outcome_in (answer_at answers.now number) }
 {
@@ -74,7 +74,7 @@ pub fn outcome_at(answers: &[Answer], number: usize) -> Option<&Outcome>
     }
 }
 
-/// Why the reply to the question of a number can't be read, where one came that can't.
+/// Why the reply to the question of a number, from 0, can't be read, where one came that can't.
 pub fn unread_at(answers: &[Answer], number: usize) -> Option<Unread>
     ensures { result ≡ unread_in (answer_at answers.now number) }
 {

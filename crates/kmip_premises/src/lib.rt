@@ -1,7 +1,9 @@
-//! Whether a server keeps what the theorem asks of it: questions about objects with names of a
-//! probe's own, and what their answers say of each premise.
+//! Whether a server keeps the premises of the headline, by its answers to questions.
 //!
-//! Source: KMIP 2.1, Operations. The questions and their order are own.
+//! A probe asks a server 25 questions about objects with two names of its own. Its answers say of each
+//! premise that it is kept, that it is broken, or that it could not be told.
+//!
+//! Source: KMIP 2.1, Operations. The questions and their order are own (choice).
 #![tactic(auto)]
 
 mod answer;

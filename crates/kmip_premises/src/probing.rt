@@ -23,23 +23,32 @@ use kmip_schedule::{Link, answer_or_loss};
 use kmip_ttlv::{Bytes, NoMemory, Text};
 use std::alloc::Global;
 
-/// Asks the questions of a probe over the link, one after the other, and answers what came of each.
-/// Where one of the names is there already, or it could not be told, nothing more is asked, and
-/// nothing was made. A question about an identifier that no answer told is passed over.
+/// Asks the questions of a probe over the link, one after the other, and returns what came of each. Where one
+/// of the names is there already, or it could not be told, nothing more is asked, and nothing was made. A
+/// question about an identifier that no answer told is passed over.
 ///
 /// # Errors
 /// Where there is no memory; what was made until then stays.
 pub fn probe<L: Link>(alloc: Global, prefix: &str, link: &mut L) -> Result<Vec<Answer>, NoMemory>
+    // The prefix can begin names: it is the name of a key, of at most 62 characters.
     requires { IsTrue (is_prefix prefix.now) }
+    // No question is left: none follows these answers.
     ensures whole { IfOk result (λ answers. next_inquiry answers.items ≡ None) }
+    // Over a link that is honest for some names, at most 25 messages are sent, however it ends.
     ensures few { (names : Names) → L.honest link.old names
         → length (L.past link.new).sent ≤ length (L.past link.old).sent + QUESTIONS }
+    // Over a link that is honest for some names, which it is after it too, the messages sent are the stated
+    // questions, each as it is asked after the answers before it.
     ensures sent { (names : Names) → L.honest link.old names → L.honest link.new names
         × IfOk result (λ answers. (L.past link.new).sent
         ≡ (L.past link.old).sent ++ messages_from prefix.now [] answers.items) }
+    // Over a link that is honest for some names, the answers are what was handed over, in turn.
     ensures heard { (names : Names) → L.honest link.old names → IfOk result (λ answers.
         (given : List (Option (List ℕ))) × ((L.past link.new).handed
         ≡ (L.past link.old).handed ++ given) × AreAnswers prefix.now [] answers.items given) }
+    // Let the link be calm for some names. Let names and identifiers of the server's objects be distinct, the
+    // two names of the probe be free, and there be room for two more objects. Then the answers are those of
+    // the profile, question by question.
     ensures kept { (names : Names) → L.calm link.old names
         → IsUnprobed prefix.now (L.past link.old) → IfOk result (λ answers. (first second : List ℕ)
         × (answers.items ≡ map Answer.Told (outcomes_of prefix.now first second))) }
@@ -49,12 +58,9 @@ pub fn probe<L: Link>(alloc: Global, prefix: &str, link: &mut L) -> Result<Vec<A
     Ok(answers)
 }
 
-/// Asks on behind the answers that have come, one question after the other over the link, until there
-/// are `most`, and appends what came of each. Where one of the names is there already, or it could not
-/// be told, nothing more is asked. A question about an identifier that no answer told is passed over.
-///
-/// What was asked and heard by then is as it would be of one probe: where the answers at first had come
-/// of its first questions, those at the end have come of these and of the next ones.
+/// Asks on after the answers that have come, one question after the other over the link, until there are
+/// `most`, and appends what came of each. Where one of the names is there already, or it could not be told,
+/// nothing more is asked. A question about an identifier that no answer told is passed over.
 ///
 /// # Errors
 /// Where there is no memory; what came until then is appended, and what was made stays.
@@ -65,24 +71,39 @@ pub fn ask_on<L: Link>(
     most: usize,
     answers: &mut Vec<Answer>,
 ) -> Result<(), NoMemory>
+    // The prefix can begin names: it is the name of a key, of at most 62 characters.
     requires prefix { IsTrue (is_prefix prefix.now) }
+    // The identifiers that the answers tell are in their range.
     requires lawful { All IsLawful answers.old.items }
+    // No more answers have come than are wanted.
     requires fewer { length answers.old.items ≤ most }
+    // No more are wanted than a probe has questions.
     requires most { most ≤ QUESTIONS }
+    // The identifiers that the answers tell are in their range, those that came among them.
     ensures lawful { All IsLawful answers.new.items }
+    // The answers that had come stay, and more may follow them.
     ensures onward { (more : List Answer) × (answers.new.items ≡ answers.old.items ++ more) }
+    // Unless memory ran out, there are as many answers as are wanted, or no question is left.
     ensures whole { OnOk result ((next_inquiry answers.new.items ≡ None)
         ⊎ (length answers.new.items ≡ most)) }
+    // There are at most as many answers as are wanted.
     ensures most { length answers.new.items ≤ most }
+    // Over a link that is honest for some names, at most one message is sent for each answer that was still
+    // wanted, however it ends.
     ensures few { (names : Names) → L.honest link.old names
         → length (L.past link.new).sent + length answers.old.items
         ≤ length (L.past link.old).sent + most }
+    // Over such a link, unless memory ran out, at most one message is sent for each answer that came.
     ensures each { (names : Names) → L.honest link.old names → OnOk result
         (length (L.past link.new).sent + length answers.old.items
         ≤ length (L.past link.old).sent + length answers.new.items) }
+    // Over such a link, which it is after it too, and unless memory ran out: where the answers before had
+    // come of the first questions, those after it have come of these and of the next ones.
     ensures asked { (names : Names) → L.honest link.old names → L.honest link.new names
         × OnOk result (AsksOn prefix.now answers.old.items answers.new.items
         (L.past link.old) (L.past link.new)) }
+    // Over a link that is calm for some names, unless memory ran out: where the answers before were those of
+    // the profile, all answers after it are. The link is then calm for these names still.
     ensures served { (names : Names) → L.calm link.old names
         → AreServed prefix.now answers.old.items (L.past link.old) → OnOk result
         (L.calm link.new names × AreServed prefix.now answers.new.items (L.past link.new)) }
@@ -118,7 +139,8 @@ fn next_inquiry(answers: &[Answer]) -> Option<Inquiry>
     inquiry_at(answers.len())
 }
 
-/// Whether the answer at a place, where there is one yet, is a Locate that has found nothing.
+/// Whether the answer at a place leaves a name free: it is a Locate that has found nothing, or there is none
+/// yet.
 pub fn is_free_at(answers: &[Answer], place: usize) -> bool
     ensures { result ≡ is_free_at answers.now place }
 {

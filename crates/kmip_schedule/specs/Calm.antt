@@ -1,5 +1,5 @@
 -- What an exchange over a calm link does to the past, one that loses and repeats nothing.
--- Source: own, over KMIP 2.1, Message Structure.
+-- Source: own (choice), over KMIP 2.1, Message Structure, Batch Error Continuation Option; Operations.
 use Rattle.std.specs.Prelude.{◌≡◌, ◌⊎◌, ℕ, Bool, true, false, ◌&&◌, List, [], ◌∷◌, Option, Some, Result, Ok, Err}
 use Rattle.kmip_batches.specs.Items.{parts_in, stops_in, replies_in}
 use Rattle.kmip_objects.specs.Objects.{Object}
@@ -26,11 +26,13 @@ pub record IsRefused (reply : Reply) (old new : Past) : Type 0 where
   pub failed : HasFailed reply.outcome
   pub is : new ≡ after_move (Refuse reply) old
 
+-- a question is taken: a request is served, what is none is refused
 abbrev pub IsTaken : Result Request Refusal → Reply → Past → Past → Type 0
 IsTaken (Ok request) reply old new = IsServed request reply old new
 IsTaken (Err refusal) reply old new = IsRefused reply old new
 
--- These questions are taken in turn, each once, with these replies; where a failure stops them, those after the first one are left.
+-- These questions are taken in turn, each once, with these replies. Where a failure stops them, those after
+-- the first failure are left.
 abbrev pub AreTaken : Bool → List (Result Request Refusal) → List Reply → Past → Past → Type 0
 AreTaken stops [] [] old new = new ≡ old
 AreTaken stops [] (reply ∷ replies) old new = ⊥
@@ -40,7 +42,8 @@ AreTaken stops (part ∷ parts) (reply ∷ replies) old new =
     × ((((stops && has_failed reply.outcome) ≡ true) × (replies ≡ []) × (new ≡ between))
     ⊎ (((stops && has_failed reply.outcome) ≡ false) × AreTaken stops parts replies between new))
 
--- The requests of a message join those asked, it is served once, question by question, and its reply is handed over.
+-- The requests of a message join those asked, it is served once, question by question, and its reply is
+-- handed over.
 pub record Calmly (old : Past) (sent : List ℕ) (answer : Option (List ℕ)) (new : Past) : Type 0 where
   pub given : List ℕ
   pub between : Past
@@ -48,7 +51,8 @@ pub record Calmly (old : Past) (sent : List ℕ) (answer : Option (List ℕ)) (n
   pub answer_is : answer ≡ Some given
   pub is : new ≡ with_exchange sent answer between
 
--- what an exchange over a calm link does
+-- what an exchange over a calm link does, by what the call returned; where memory ran out, what an honest
+-- link may do
 abbrev pub CalmlyExchanged : Names → Past → List ℕ → Result (Option (List ℕ)) LinkFault → Past → Type 0
 CalmlyExchanged names old sent (Ok answer) new = Calmly old sent answer new
 CalmlyExchanged names old sent (Err Io) new = ⊥

@@ -1,5 +1,5 @@
 -- Private: the laws of the crates below that the laws here rest on, in one record.
--- Source: own.
+-- Source: own (law).
 use Rattle.kmip_objects.specs.Objects.{object_named, object_with, DistinctNames, DistinctUids}
 use Rattle.kmip_objects.specs.ObjectLaws.{
   NamedIsOne,
@@ -27,6 +27,7 @@ use Rattle.kmip_plan.specs.Laws.{FoundKeysStand, OldKeysAreFound}
 use Rattle.kmip_client.specs.Laws.{OnwardToItself, OnwardTwice, JustifiedForGood, TrueForGood, JustifiedOfProlonged, TrueOfGoneOn}
 use Rattle.kmip_server.specs.Laws.{LocateFindsTheName}
 
+-- each of these laws, under a short name
 pub record Lawbook : Type 0 where
   pub named : NamedIsOne
   pub identified : IdentifiedIsOne

@@ -1,5 +1,5 @@
 -- What holds of all that may happen between a client and its server.
--- Source: own: what the laws say.
+-- Source: own (law).
 use Rattle.std.specs.Prelude.{◌≡◌, ◌≤◌, ℕ, Bool, List, ◌++◌, Option, Result}
 use Rattle.std.specs.List.{All, Contains}
 use Rattle.kmip_messages.specs.declared.reply.Reply.{Reply}
@@ -27,36 +27,37 @@ use Rattle.kmip_schedule.specs.Past.{AreAmong, Past, Names, is_planned}
 use Rattle.kmip_schedule.specs.Safe.{Safe}
 use Rattle.kmip_schedule.specs.Sound.{NoneIsFurther, Sound, Opening}
 
--- whatever happens, the objects go onward for each key
+-- from a sound past, whatever happens, the objects go onward for each key
 abbrev pub ObjectsGoOnward : Type 0
 ObjectsGoOnward =
     (keys : List Key) (old new : Past) → Sound keys old → Delivered (is_planned keys) old new
     → Onward keys old.objects new.objects
 
--- and what is sound stays so
+-- from a sound past, whatever happens, the past after it is sound
 abbrev pub DeliveriesKeepSound : Type 0
 DeliveriesKeepSound =
     (keys : List Key) (old new : Past) → Sound keys old → Delivered (is_planned keys) old new → Sound keys new
 
--- so it is when requests are sent that may be asked
+-- a past stays sound when requests join those asked, where each of them may be asked
 abbrev pub AskingKeepsSound : Type 0
 AskingKeepsSound =
     (keys : List Key) (p : Past) (requests : List Request) → Sound keys p → All (Justified keys p.objects) requests
     → Sound keys (with_requests requests p)
 
--- and by a whole exchange, whether it has an answer or not
+-- an exchange over an honest link keeps a past sound where its requests may be asked, whether it has an
+-- answer or not, and the objects go onward in it
 abbrev pub ExchangesKeepSound : Type 0
 ExchangesKeepSound =
     (keys : List Key) (old new : Past) (sent : List ℕ) (answer : Result (Option (List ℕ)) LinkFault) → Sound keys old
     → JustifiedMessage keys old.objects sent → Exchanged (is_planned keys) old sent answer new
     → Sound keys new × Onward keys old.objects new.objects
 
--- what is handed over is true
+-- of a sound past, a message whose replies were all given is true
 abbrev pub AnswersAreTrue : Type 0
 AnswersAreTrue =
     (keys : List Key) (p : Past) (given : List ℕ) → Sound keys p → AreGiven p given → TrueMessage keys p.objects given
 
--- where nothing of the plan has happened, all is sound
+-- where nothing of the plan has happened, the past is sound
 abbrev pub NothingDoneIsSound : Type 0
 NothingDoneIsSound = (keys : List Key) (p : Past) → Opening keys p → Sound keys p
 
@@ -66,45 +67,46 @@ IsReached keys p effect =
     (key : Key) × IsPlanned keys key × (effect.name ≡ key.attrs.name) × (1 ≤ step_place key.target effect.step)
     × (step_place key.target effect.step ≤ position key p.objects)
 
--- what is sound is safe, where each step that is reported done was reached
+-- a sound past is safe, where each step that is reported done was reached
 abbrev pub SoundIsSafe : Type 0
 SoundIsSafe =
     (keys : List Key) (p : Past) (reported : List Effect) → Sound keys p → All (IsReached keys p) reported → Safe keys p reported
 
--- where nothing of the plan has happened, the past is an image of the plan machine
+-- where nothing of the plan has happened, the past is an image of a run of the plan machine
 abbrev pub OpeningIsMirrored : Type 0
 OpeningIsMirrored = (keys : List Key) (p : Past) → Opening keys p → IsMirrored keys p
 
--- it stays one when a message of requests that may be asked is sent
+-- an image stays one when the requests of a message join those asked, where each of them may be asked
 abbrev pub AskingKeepsTheImage : Type 0
 AskingKeepsTheImage =
     (keys : List Key) (p : Past) (sent : List ℕ) → IsMirrored keys p → JustifiedMessage keys p.objects sent
     → IsMirrored keys (with_asked sent p)
 
--- whatever happens
+-- from a sound past that is an image, whatever happens, the past after it is an image
 abbrev pub DeliveriesKeepTheImage : Type 0
 DeliveriesKeepTheImage =
     (keys : List Key) (old new : Past) → Sound keys old → IsMirrored keys old → Delivered (is_planned keys) old new
     → IsMirrored keys new
 
--- and by a whole exchange
+-- an exchange over an honest link keeps a sound past an image, where its requests may be asked
 abbrev pub ExchangesKeepTheImage : Type 0
 ExchangesKeepTheImage =
     (keys : List Key) (old new : Past) (sent : List ℕ) (answer : Result (Option (List ℕ)) LinkFault) → Sound keys old
     → IsMirrored keys old → JustifiedMessage keys old.objects sent → Exchanged (is_planned keys) old sent answer new
     → IsMirrored keys new
 
--- what happens in turn may happen in one
+-- what may happen in turn may happen in one
 abbrev pub DeliveriesJoin : Type 0
 DeliveriesJoin =
     (names : Names) (first second third : Past) → Delivered names first second → Delivered names second third
     → Delivered names first third
 
--- and nothing may happen
+-- nothing may happen
 abbrev pub NothingIsDelivered : Type 0
 NothingIsDelivered = (names : Names) (p : Past) → Delivered names p p
 
--- Nothing is asked, sent or handed over. Replies and effects join at the end, and no reply is lost.
+-- The room stays, and nothing is asked, sent or handed over. Replies and effects join at the end, and no
+-- reply is lost.
 pub record Grows (old new : Past) : Type 0 where
   pub room : new.room ≡ old.room
   pub requests : new.requests ≡ old.requests
@@ -114,7 +116,7 @@ pub record Grows (old new : Past) : Type 0 where
   pub effects : (more : List Effect) × (new.effects ≡ old.effects ++ more)
   pub given : (reply : Reply) → Contains old.replies reply → Contains new.replies reply
 
--- so it is, whatever happens
+-- whatever happens, the room and the requests stay, and replies and effects only grow
 abbrev pub DeliveriesKeepTheRequests : Type 0
 DeliveriesKeepTheRequests = (names : Names) (old new : Past) → Delivered names old new → Grows old new
 
@@ -127,13 +129,14 @@ FewerNamesAreDelivered =
 abbrev pub NamesOfProlonged : Type 0
 NamesOfProlonged = (new old : List Key) → IsLawful new → Prolongs new old → AreAmong (is_planned old) (is_planned new)
 
--- what is sound for a plan is sound for each that prolongs it, where none of the further names is on an object
+-- what is sound for a plan is sound for each that prolongs it, where none of the further names is on an
+-- object
 abbrev pub SoundOfProlonged : Type 0
 SoundOfProlonged =
     (new old : List Key) (p : Past) → IsLawful old → IsLawful new → Prolongs new old → NoneIsFurther new old p.objects → Sound old p
     → Sound new p
 
--- and what is sound for a plan and for one that prolongs it is sound for each between them
+-- what is sound for a plan, and for one that prolongs it by way of a third, is sound for the third
 abbrev pub SoundBetween : Type 0
 SoundBetween =
     (last next keys : List Key) (p : Past) → IsLawful keys → IsLawful next → IsLawful last → Prolongs next keys → Prolongs last next
@@ -145,7 +148,7 @@ CalmExchangesAreHonest =
     (names : Names) (old new : Past) (sent : List ℕ) (answer : Result (Option (List ℕ)) LinkFault)
     → CalmlyExchanged names old sent answer new → Exchanged names old sent answer new
 
--- questions that are taken in turn are things that happen
+-- questions that are taken in turn are things that may happen
 abbrev pub TakenIsDelivered : Type 0
 TakenIsDelivered =
     (names : Names) (stops : Bool) (parts : List (Result Request Refusal)) (replies : List Reply) (old new : Past)

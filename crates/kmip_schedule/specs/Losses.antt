@@ -1,5 +1,5 @@
 -- What an exchange gives whoever makes it, to whom a failure of the network is a loss.
--- Source: own: such a failure does not say whether the server has served the request.
+-- Source: own (choice): such a failure does not say whether the server has served the request.
 use Rattle.std.specs.Prelude.{◌≢◌, ℕ, List, Option, Some, None, Result, Ok, Err}
 use Rattle.kmip_schedule.specs.declared.link.LinkFault.{LinkFault}
 use Rattle.kmip_schedule.specs.declared.link.LinkFault.TheVariants as faults

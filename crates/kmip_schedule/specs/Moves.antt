@@ -1,6 +1,7 @@
--- What may happen next between a client and its server, whatever the network and the server do: each move as a value, what it
--- makes of the past, and when it may happen. A network may lose, repeat, delay and reorder; it invents nothing.
--- Source: own, over KMIP 2.1, Operations.
+-- What may happen next between a client and its server, whatever the network and the server do: each move as
+-- a value, what it makes of the past, and when it may happen. A network may lose, repeat, delay and reorder;
+-- it invents nothing.
+-- Source: own (view), over KMIP 2.1, Operations. When a move may happen is own (choice).
 use Rattle.std.specs.Prelude.{◌≡◌, ◌⊎◌, ℕ, false, List, [], ◌∷◌, ◌++◌, Option, Some, None, ⊤}
 use Rattle.std.specs.List.{Contains}
 use Rattle.std.specs.Option.{option_to_list}
@@ -14,10 +15,11 @@ use Rattle.kmip_server.specs.ServerStep.{ServerStep}
 use Rattle.kmip_server.specs.declared.effect.Effect.{Effect}
 use Rattle.kmip_schedule.specs.Past.{Past, Names, steps_on, change}
 
+-- What may happen next.
 pub data Move : Type 0 where
   -- a request is served: its reply, the objects after it, and what joins the effects
   Serve : Request → Reply → List Object → Option Effect → Move
-  -- the same, but its reply is never written
+  -- a request is served, but its reply is never written
   Unanswered : Request → Reply → List Object → Option Effect → Move
   -- something is refused, by this reply
   Refuse : Reply → Move
@@ -37,6 +39,7 @@ after_move (Refuse reply) p = record p { replies = p.replies ++ reply ∷ [] }
 after_move (Comes o) p = record p { objects = p.objects ++ o ∷ [] }
 after_move (Changes front old new back) p = record p { objects = front ++ new ∷ back }
 
+-- the outcome is a failure, whatever its reason
 abbrev pub HasFailed : Outcome → Type 0
 HasFailed outcome = (reason : Option ℕ) × (outcome ≡ Failed reason)
 
@@ -45,8 +48,8 @@ abbrev pub Joins : List Object → List Object → Option Effect → Type 0
 Joins old new joined =
     (name : List ℕ) → steps_on name (option_to_list joined) ≡ option_to_list (change (object_named name old) (object_named name new))
 
--- A request that was ever asked is served, by a step of the server. The reply has its operation and its id; one that says
--- "failed" may leave them out.
+-- A request that was ever asked is served, by a step of the server. The reply has its operation and its id;
+-- one that says "failed" may leave them out.
 pub record Serves (p : Past) (request : Request) (reply : Reply) (objects : List Object) (joined : Option Effect) : Type 0 where
   pub asked : Contains p.requests request
   pub step : ServerStep p.room p.objects request.ask reply.outcome objects
@@ -68,6 +71,7 @@ pub record IsForeign (names : Names) (p : Past) (front : List Object) (old new :
   pub names_differ : DistinctNames (front ++ new ∷ back)
   pub uids_differ : DistinctUids (front ++ new ∷ back)
 
+-- when each move may happen, beside these names
 abbrev pub MayHappen : Names → Move → Past → Type 0
 MayHappen names (Serve request reply objects joined) p = Serves p request reply objects joined
 MayHappen names (Unanswered request reply objects joined) p = Serves p request reply objects joined
@@ -75,11 +79,12 @@ MayHappen names (Refuse reply) p = HasFailed reply.outcome
 MayHappen names (Comes o) p = IsNew names p o
 MayHappen names (Changes front old new back) p = IsForeign names p front old new back
 
--- the same of several moves, one after the other
+-- several moves may happen, one after the other
 abbrev pub AllMayHappen : Names → List Move → Past → Type 0
 AllMayHappen names [] p = ⊤
 AllMayHappen names (move ∷ moves) p = MayHappen names move p × AllMayHappen names moves (after_move move p)
 
+-- the past after several moves
 abbrev pub after_moves : List Move → Past → Past
 after_moves [] p = p
 after_moves (move ∷ moves) p = after_moves moves (after_move move p)

@@ -1,6 +1,7 @@
--- What has happened between a client and its server: all that was ever asked, answered, done and handed over, and the objects
--- that are there now. Messages are held as the single requests and replies in them.
--- Source: own, over KMIP 2.1, Operations, and Object Attributes, State.
+-- What has happened between a client and its server: all that was ever asked, answered, done and handed over,
+-- and the objects that are there now. Messages are held as the single requests and replies in them.
+-- Source: own (view), over KMIP 2.1, Operations. `steps_on`, `step_between` and `change`: KMIP 2.1, Object
+-- Attributes, State.
 use Rattle.std.specs.Prelude.{◌≡◌, ℕ, nat_eq, Bool, true, List, [], ◌∷◌, Option, Some, None, if◌then◌else◌}
 use Rattle.std.specs.Cmp.Lexicographic.{pointwise}
 use Rattle.std.specs.Option.{is_some}
@@ -15,6 +16,7 @@ use Rattle.kmip_plan.specs.Plans.{key_named}
 use Rattle.kmip_chains.specs.declared.key.Key.{Key}
 use Rattle.kmip_server.specs.declared.effect.Effect.{Effect}
 
+-- All that has happened between a client and its server so far.
 pub record Past : Type 0 where
   -- how many objects there may be, and those that there are
   pub room : ℕ
@@ -28,10 +30,11 @@ pub record Past : Type 0 where
   pub sent : List (List ℕ)
   pub handed : List (Option (List ℕ))
 
--- the names that a plan has, as a test
+-- some names, as a test
 abbrev pub Names : Type 0
 Names = List ℕ → Bool
 
+-- the names that a plan has
 abbrev pub is_planned : List Key → Names
 is_planned keys name = is_some (key_named name keys)
 

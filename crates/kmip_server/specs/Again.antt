@@ -8,7 +8,7 @@ use Rattle.kmip_messages.specs.declared.request.Ask.TheVariants.{Create, Activat
 use Rattle.kmip_store.specs.Stock.{Stock}
 use Rattle.kmip_server.specs.Serving.{answer}
 
--- operations that change the records
+-- the operation may change the records
 abbrev pub changes : Ask → Bool
 changes (Create attrs) = true
 changes (Activate uid) = true
@@ -16,6 +16,7 @@ changes (Revoke uid code) = true
 changes (Destroy uid) = true
 changes ask = false
 
+-- the outcome is a failure, whatever its reason
 abbrev pub has_failed : Outcome → Bool
 has_failed (Failed reason) = true
 has_failed outcome = false

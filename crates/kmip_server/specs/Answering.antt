@@ -1,5 +1,5 @@
 -- Private: the reply that is being made, in the clauses of the functions that make it.
--- Source: own: how a contract sees the code.
+-- Source: own (view).
 use Rattle.std.specs.Prelude.{◌≡◌, ℕ, ℤ, List, length, Some, Result, Ok, Err, if◌then◌else◌}
 use Rattle.kmip_ttlv.specs.Spelling.{canon}
 use Rattle.kmip_messages.specs.declared.reply.Outcome.{Outcome}

@@ -1,6 +1,6 @@
 -- What the server answers the questions of a message in turn, and what its records are after them.
--- Source: KMIP 2.1, Message Structure, Batch Error Continuation Option; that the questions behind a failure are left where there is no
--- option is own.
+-- Source: KMIP 2.1, Message Structure, Batch Error Continuation Option; Operations. That the questions after
+-- a failure are left where there is no option is own (choice).
 use Rattle.std.specs.Prelude.{◌≡◌, ℕ, ℤ, Bool, true, false, ◌&&◌, ◌⊎◌, List, [], ◌∷◌, ◌++◌, Option, None, Ok, Err, option_to_list, if◌then◌else◌}
 use Rattle.kmip_ttlv.specs.Spelling.{canon}
 use Rattle.kmip_objects.specs.Objects.{Object}
@@ -16,7 +16,7 @@ use Rattle.kmip_server.specs.Serving.{reply_to, stock_after_read}
 use Rattle.kmip_server.specs.Shown.{objects_in}
 use Rattle.kmip_server.specs.declared.effect.Effect.{Effect}
 
--- the questions behind this reply are left: it failed, and a failure stops them
+-- the questions after this reply are left: it failed, and a failure stops them
 abbrev pub is_last : Bool → Reply → Bool
 is_last stops reply = stops && has_failed reply.outcome
 
@@ -26,7 +26,7 @@ replies_to stops [] s = []
 replies_to stops (q ∷ qs) s =
     reply_to s q ∷ (if is_last stops (reply_to s q) then [] else replies_to stops qs (stock_after_read s q))
 
--- the records after them
+-- the records after the questions that are answered
 abbrev pub stock_after_all : Bool → List Question → Stock → Stock
 stock_after_all stops [] s = s
 stock_after_all stops (q ∷ qs) s =
@@ -37,7 +37,7 @@ abbrev pub effect_by : List Object → Question → Reply → Option Effect
 effect_by objects (Ok request) reply = effect_of objects request.ask reply.outcome
 effect_by objects (Err refusal) reply = None
 
--- what the questions that are answered did, in order
+-- what the questions did that are answered, in order
 abbrev pub effects_of : Bool → List Question → Stock → List Effect
 effects_of stops [] s = []
 effects_of stops (q ∷ qs) s =
@@ -52,12 +52,12 @@ batch_reply s message now = canon (replies_item (replies_to (stops_in message) (
 unfoldable pub stock_after_batch : Stock → List ℕ → Stock
 stock_after_batch s message = stock_after_all (stops_in message) (parts_in message) s
 
--- what a message did
+-- the steps that took effect as a message was served
 unfoldable pub effects_in : Stock → List ℕ → List Effect
 effects_in s message = effects_of (stops_in message) (parts_in message) s
 
--- The questions are served in turn, each once, with these replies, and these steps took effect; those behind a failure that stops
--- them are left.
+-- The questions are served in turn, each once, with these replies, and these steps took effect. Those after a
+-- failure that stops them are left.
 abbrev pub AreServedInTurn : Bool → List Question → List Reply → List Effect → Stock → Stock → Type 0
 AreServedInTurn stops [] [] effects old new = (effects ≡ []) × (new ≡ old)
 AreServedInTurn stops [] (reply ∷ replies) effects old new = ⊥
@@ -68,7 +68,8 @@ AreServedInTurn stops (q ∷ qs) (reply ∷ replies) effects old new =
     × (((is_last stops reply ≡ true) × (replies ≡ []) × (more ≡ []) × (new ≡ between))
     ⊎ ((is_last stops reply ≡ false) × AreServedInTurn stops qs replies more between new))
 
--- Some of the first questions are served in turn, not all of them, and no reply is written. So nothing happens where there is one.
+-- Some of the first questions are served in turn, not all of them, and no reply is written. So nothing
+-- happens where there is one question. Own (choice).
 abbrev pub AreBegun : Bool → List Question → List Effect → Stock → Stock → Type 0
 AreBegun stops [] effects old new = ⊥
 AreBegun stops (q ∷ qs) effects old new =
@@ -81,7 +82,8 @@ AreBegun stops (q ∷ qs) effects old new =
 abbrev pub GrownBy : (List Effect → Type 0) → List Effect → List Effect → Type 0
 GrownBy P old new = (more : List Effect) × (new ≡ old ++ more) × P more
 
--- Private: some of the first questions are served in turn, not all of them, each with the reply that the server gives.
+-- Private: some of the first questions are served in turn, not all of them, each with the reply that the
+-- server gives.
 abbrev pub IsCutShort : Bool → List Question → List Effect → Stock → Stock → Type 0
 IsCutShort stops [] effects old new = ⊥
 IsCutShort stops (q ∷ qs) effects old new =

@@ -16,11 +16,11 @@ abbrev pub effect_on : List Object → Option (Step × List ℕ) → Option Effe
 effect_on objects None = None
 effect_on objects (Some asked) = option_map (λ o. record { name = o.attrs.name; step = asked.0 }) (object_with asked.1 objects)
 
--- what a question asks to be done
+-- the step that a question asks to be done, on the object of which name
 abbrev pub effect_asked : List Object → Ask → Option Effect
 effect_asked objects (asks.Create attrs) = Some (record { name = attrs.name; step = steps.Create })
 effect_asked objects ask = effect_on objects (step_asked ask)
 
--- what it did: nothing, where it failed
+-- what a question did that was served: nothing where it failed or asks no step
 abbrev pub effect_of : List Object → Ask → Outcome → Option Effect
 effect_of objects ask outcome = if has_failed outcome then None else effect_asked objects ask

@@ -1,5 +1,5 @@
 -- What holds of every server, in the words of its laws.
--- Source: own: what the laws of the server say.
+-- Source: own (law).
 use Rattle.std.specs.Prelude.{◌≡◌, ℕ, nat_eq, List, map, filter, Some, option_to_list}
 use Rattle.std.specs.Cmp.Lexicographic.{pointwise}
 use Rattle.std.specs.Option.{option_map}
@@ -11,15 +11,17 @@ use Rattle.kmip_messages.specs.declared.reply.Outcome.TheVariants.{Located}
 use Rattle.kmip_messages.specs.declared.request.Ask.TheVariants.{Locate}
 use Rattle.kmip_server.specs.ServerStep.{ServerStep}
 
--- A Locate by a name alone, under the mask that searches all, answers the identifier of the object with the name, where
--- there is one, and nothing else; no object changes.
+-- A Locate by a name alone, under the mask that searches the objects in every state, answers the identifier
+-- of the object with the name, where there is one, and nothing else. No object changes. Names have to be
+-- distinct.
 abbrev pub LocateFindsTheName : Type 0
 LocateFindsTheName =
     (room : ℕ) (objects after : List Object) (name : List ℕ) (outcome : Outcome) → DistinctNames objects
     → ServerStep room objects (Locate (Some every_state) (by_name name)) outcome after
     → (after ≡ objects) × (outcome ≡ Located (option_to_list (option_map (λ o. o.uid) (object_named name objects))))
 
--- Whether names are distinct or not, it answers the identifiers of the objects with the name, in their order.
+-- Whether names are distinct or not, a Locate by a name alone, under that mask, answers the identifiers of
+-- the objects with the name, in their order. No object changes.
 abbrev pub LocateFindsAllNamed : Type 0
 LocateFindsAllNamed =
     (room : ℕ) (objects after : List Object) (name : List ℕ) (outcome : Outcome)

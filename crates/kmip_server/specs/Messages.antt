@@ -10,7 +10,8 @@ use Rattle.kmip_server.specs.ServerStep.{ServerStep}
 use Rattle.kmip_server.specs.Serving.{refusal_reply}
 use Rattle.kmip_server.specs.Shown.{objects_in, room_in}
 
--- The request is a step of the server. The reply has its outcome, and the operation and the id of the request.
+-- The request is a step of the server. The reply has its outcome, and the operation and the id of the
+-- request.
 pub record IsStepOf (request : Request) (reply : Reply) (old new : Stock) : Type 0 where
   pub step : ServerStep (room_in old) (objects_in old) request.ask reply.outcome (objects_in new)
   pub operation_is : reply.operation ≡ Some (operation_of request.ask)
@@ -22,6 +23,7 @@ pub record IsRefusalOf (refusal : Refusal) (reply : Reply) (old new : Stock) : T
   pub reply_is : reply ≡ refusal_reply refusal
   pub same : new ≡ old
 
+-- a question is served: a request is a step of the server, and what is none is refused
 abbrev pub IsServedBy : Result Request Refusal → Reply → Stock → Stock → Type 0
 IsServedBy (Ok request) reply old new = IsStepOf request reply old new
 IsServedBy (Err refusal) reply old new = IsRefusalOf refusal reply old new

@@ -1,5 +1,5 @@
 -- The Result Reason that answers each fault.
--- Source: KMIP 2.1, Enumerations, Result Reason; which reason answers which fault is own.
+-- Source: KMIP 2.1, Enumerations, Result Reason; which reason answers which fault is own (choice).
 use Rattle.std.specs.Prelude.{ℕ, Option, Some, None}
 use Rattle.kmip_fields.specs.declared.fault.MessageFault.{MessageFault}
 use Rattle.kmip_fields.specs.declared.fault.MessageFault.TheVariants.{
@@ -29,6 +29,7 @@ use Rattle.kmip_messages.specs.declared.standard.TheConstants.{
 use Rattle.kmip_store.specs.declared.fault.StoreFault.{StoreFault}
 use Rattle.kmip_store.specs.declared.fault.StoreFault.TheVariants as store
 
+-- the reason that answers a fault of a message; none answers want of memory
 abbrev pub message_reason : MessageFault → Option ℕ
 message_reason (Ttlv fault) = Some REASON_INVALID_MESSAGE
 message_reason NotMessage = Some REASON_INVALID_MESSAGE
@@ -42,6 +43,7 @@ message_reason UnknownOperation = Some REASON_OPERATION_NOT_SUPPORTED
 message_reason NoMemory = None
 message_reason Undo = Some REASON_FEATURE_NOT_SUPPORTED
 
+-- the reason that answers a refusal of the store; none answers want of memory
 abbrev pub store_reason : StoreFault → Option ℕ
 store_reason store.NotFound = Some REASON_ITEM_NOT_FOUND
 store_reason store.SameName = Some REASON_NON_UNIQUE_NAME

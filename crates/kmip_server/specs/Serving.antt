@@ -1,5 +1,6 @@
 -- What the server answers a question, and what its records are after it.
--- Source: KMIP 2.1, Operations. Which reason answers which refusal is own, and that a compromise is refused.
+-- Source: KMIP 2.1, Message Structure; Operations. Which reason answers which refusal is own (choice), and
+-- that a compromise is refused.
 use Rattle.std.specs.Prelude.{ℕ, List, length, Option, Some, None, Result, Ok, Err, if◌then◌else◌}
 use Rattle.kmip_objects.specs.Attributes.{attributes_of}
 use Rattle.kmip_messages.specs.Operations.{operation_of}
@@ -50,7 +51,7 @@ abbrev pub reply_to : Stock → Result Request Refusal → Reply
 reply_to s (Ok request) = record { operation = Some (operation_of request.ask); id = request.id; outcome = (answer s request.ask).0 }
 reply_to s (Err refusal) = refusal_reply refusal
 
--- the records after it
+-- the records after a question, a request or one that is none
 abbrev pub stock_after_read : Stock → Result Request Refusal → Stock
 stock_after_read s (Ok request) = (answer s request.ask).1
 stock_after_read s (Err refusal) = s

@@ -1,5 +1,6 @@
 -- The records as the crates above know them: the objects, and how many there may be. They name no rows.
--- Source: KMIP 2.1, Object Attributes, Name and Unique Identifier; the ranges and the room are own.
+-- Source: KMIP 2.1, Object Attributes, Name and Unique Identifier; the ranges are own (choice), and the room
+-- is own (limit).
 use Rattle.std.specs.Prelude.{◌≡◌, ℕ, ◌≤◌, Bool, true, ◌&&◌, List, length}
 use Rattle.std.specs.List.{list_all}
 use Rattle.kmip_objects.specs.Objects.{Object, DistinctNames, DistinctUids}
@@ -10,7 +11,7 @@ use Rattle.kmip_store.specs.Stock.{Stock, objects_of}
 abbrev pub objects_in : Stock → List Object
 objects_in s = objects_of s.rows
 
--- how many there may be
+-- how many objects there may be. Own (limit).
 abbrev pub room_in : Stock → ℕ
 room_in s = s.room
 
@@ -18,7 +19,8 @@ room_in s = s.room
 abbrev pub object_fits : Object → Bool
 object_fits o = is_identifier o.uid && attrs_fit o.attrs
 
--- what holds of the objects of every server at all times
+-- What holds of the objects of every server at all times: names and identifiers are distinct, there are at
+-- most as many as the room, and each is in its ranges.
 pub record HasLawfulObjects (s : Stock) : Type 0 where
   pub names : DistinctNames (objects_in s)
   pub identifiers : DistinctUids (objects_in s)

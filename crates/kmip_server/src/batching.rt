@@ -27,7 +27,7 @@ use kmip_store::Records;
 use kmip_ttlv::{Bytes, NoMemory};
 use std::alloc::Global;
 
-/// Answers one to eight questions in turn; those behind a failure where it does not stop them. The
+/// Answers one to eight questions in turn; those after a failure where it does not stop them. The
 /// message is written before the records change for the last time.
 ///
 /// # Errors
@@ -88,7 +88,7 @@ pub(crate) fn refuse_batch(
     write_with(alloc, &mut replies, reply, now)
 }
 
-/// Answers the last question behind these replies, and writes the message.
+/// Answers the last question after these replies, and writes the message.
 fn answer_last<S: Records>(
     store: &mut S,
     effects: &mut Vec<Effect>,
@@ -327,7 +327,7 @@ fn copied_id(alloc: Global, id: &Option<Bytes>) -> Result<Option<Bytes>, NoMemor
     }
 }
 
-/// Whether the questions behind this reply are left: it says "failed", and a failure stops them.
+/// Whether the questions after this reply are left: it says "failed", and a failure stops them.
 fn is_last(stops: bool, reply: &Reply) -> bool
     ensures { result ≡ is_last stops reply.now }
 {

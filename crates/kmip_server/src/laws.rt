@@ -11,7 +11,8 @@ ghost use Rattle.kmip_store.specs.Stock.{Stock, IsKept};
 
 use kmip_store::laws::{changes_keep_the_records, the_next_identifier_is_free};
 
-/// What the server answers, and what it leaves, is a step of the server.
+/// Where the records are kept, what the server answers, and what it leaves, is a step of the server: a
+/// relation over objects with a rule for each case.
 pub fn serving_is_a_step()
     ensures { (s : Stock) (ask : Ask) → IsKept s.rows s.room
         → ServerStep (room_in s) (objects_in s) ask (answer s ask).0
@@ -20,7 +21,7 @@ pub fn serving_is_a_step()
     the_next_identifier_is_free();
 }
 
-/// What holds of the records at all times holds after each question.
+/// What holds of the records at all times holds after each question in its ranges.
 pub fn serving_keeps_the_records()
     ensures { (s : Stock) (ask : Ask) → ask_fits ask ≡ true → IsKept s.rows s.room
         → IsKept (answer s ask).1.rows (answer s ask).1.room }
@@ -28,8 +29,8 @@ pub fn serving_keeps_the_records()
     changes_keep_the_records();
 }
 
-/// An operation that took effect is refused whenever it is asked again, and leaves the records as
-/// they are.
+/// An operation that took effect is refused whenever it is asked again, whatever was asked in between, and
+/// leaves the records as they are.
 pub fn again_changes_nothing()
     ensures { (s : Stock) (ask : Ask) (between : List Ask) → IsTrue (changes ask)
         → has_failed (answer s ask).0 ≡ false
@@ -38,14 +39,17 @@ pub fn again_changes_nothing()
         ≡ stock_after_asks between (answer s ask).1) }
 {}
 
-/// The objects of records that are kept have names and identifiers of their own, each in its range.
+/// Where the records are kept, no two objects have one name or one identifier. They are at most as many as
+/// the room, and each has its identifier and its attributes in their ranges.
 pub fn the_objects_are_lawful()
     ensures { (s : Stock) → IsKept s.rows s.room → HasLawfulObjects s }
 {}
 
-/// A Locate by a name alone, under the mask that searches all, finds exactly the objects of that
-/// name: one at most, where names are distinct.
+/// What a Locate answers by a name alone, under the mask that searches the objects in every state.
 pub fn a_name_is_found()
+    // Where names are distinct, it answers the identifier of the object with the name, where there is one,
+    // and nothing else. No object changes.
     ensures one { LocateFindsTheName }
+    // It answers the identifiers of the objects with the name, in their order. No object changes.
     ensures all { LocateFindsAllNamed }
 {}

@@ -1,4 +1,6 @@
 //! The test server: it answers each message of KMIP over the objects of a store.
+//!
+//! The store may be any `Records`.
 #![tactic(auto)]
 
 mod batching;

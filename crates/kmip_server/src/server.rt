@@ -35,8 +35,12 @@ impl<S: Records> Model for Server<S> {
 impl<S: Records> Server<S> {
     /// A server over the records that the store has.
     pub fn new(store: S) -> Self
+        // The records of the server are those of the store.
         ensures records { result ≡ S.stock store }
+        // They are kept (`IsKept`): what holds of records at all times holds of them.
         ensures kept { IsKept result.rows result.room }
+        // So the objects are lawful: names and identifiers are distinct, they are at most as many as the
+        // room, and each is in its ranges.
         ensures objects { HasLawfulObjects result }
     {
         let _count = store.count();
@@ -45,32 +49,49 @@ impl<S: Records> Server<S> {
 
     /// The records.
     pub fn records(&self) -> &S
+        // They are those of the server.
         ensures records { S.stock result.now ≡ self.now }
+        // They are kept (`IsKept`).
         ensures kept { IsKept self.now.rows self.now.room }
+        // The objects are lawful.
         ensures objects { HasLawfulObjects self.now }
     {
         let _count = self.store.count();
         &self.store
     }
 
-    /// The reply to a message of one to eight questions, with `now` as its Time Stamp, in seconds since
-    /// the start of 1970. The questions are answered in turn: with the option Continue all are,
-    /// otherwise those behind the first failure are left. Bytes that are no message of requests get a
-    /// reply too, which says why.
+    /// The reply to a message of one to eight questions, with `now` as its Time Stamp, in seconds since the
+    /// start of 1970. The questions are answered in turn: with the option Continue all are, otherwise those
+    /// after the first failure are left. Bytes that are no message of requests get a reply too, which says
+    /// why.
     ///
     /// # Errors
-    /// Where there is no memory. Some of the first questions are served then, and not all of them; so
-    /// nothing has happened where there is one.
+    /// Where there is no memory. Some of the first questions are served then, and not all of them.
     pub fn handle(&mut self, alloc: Global, message: &[u8], now: i64) -> Result<Vec<u8>, NoMemory>
+        // The bytes of the reply are `batch_reply` of the records, the message and the time: the replies to
+        // the questions in turn, and to those after the first failure only with the option Continue.
         ensures reply { IfOk result (λ r. r.items ≡ batch_reply self.old message.now now) }
+        // The records after it are those that the answered questions leave (`stock_after_batch`).
         ensures after { OnOk result (self.new ≡ stock_after_batch self.old message.now) }
+        // Where memory ran out, some of the first questions were served, not all of them, and no reply is
+        // written. So nothing has happened where there is one question.
         ensures begun { OnErr result ((effects : List Effect) × AreBegun (stops_in message.now)
             (parts_in message.now) effects self.old self.new) }
+        // The room stays, however the call ends.
         ensures room { self.new.room ≡ self.old.room }
+        // The records are kept before the call (`IsKept`).
         ensures kept_before { IsKept self.old.rows self.old.room }
+        // The records are kept after the call, whatever the message, and however the call ends.
         ensures kept { IsKept self.new.rows self.new.room }
+        // So the objects are lawful before the call: names and identifiers are distinct, they are at most as
+        // many as the room, and each is in its ranges.
         ensures objects_before { HasLawfulObjects self.old }
+        // So the objects are lawful after the call, whatever the message, and however the call ends.
         ensures objects { HasLawfulObjects self.new }
+        // The message is served question by question, each once, and what the bytes of the reply say are the
+        // replies to these questions. A request is a step of the server, and its reply says the outcome, with
+        // the operation and the id of the request. A question that is refused leaves the records, and its
+        // reply is Failed with what the refusal carries and the reason of its fault.
         ensures served { IfOk result (λ r. AreServedInTurn (stops_in message.now)
             (parts_in message.now) (replies_in r.items) (effects_in self.old message.now)
             self.old self.new) }
@@ -79,7 +100,8 @@ impl<S: Records> Server<S> {
         self.handle_batch(alloc, message, now, &mut effects)
     }
 
-    /// The same; and the steps that took effect are noted at the end of `effects`.
+    /// The reply to a message, as `handle` gives it. The steps that took effect are noted at the end of
+    /// `effects`.
     ///
     /// # Errors
     /// Where there is no memory, as of `handle`.
@@ -90,18 +112,34 @@ impl<S: Records> Server<S> {
         now: i64,
         effects: &mut Vec<Effect>,
     ) -> Result<Vec<u8>, NoMemory>
+        // The bytes of the reply are `batch_reply` of the records, the message and the time: the replies to
+        // the questions in turn, and to those after the first failure only with the option Continue.
         ensures reply { IfOk result (λ r. r.items ≡ batch_reply self.old message.now now) }
+        // The records after it are those that the answered questions leave (`stock_after_batch`).
         ensures after { OnOk result (self.new ≡ stock_after_batch self.old message.now) }
+        // The steps that took effect are noted at the end of the list, in their order.
         ensures effects { OnOk result (effects.new.items
             ≡ effects.old.items ++ effects_in self.old message.now) }
+        // Where memory ran out, some of the first questions were served, not all of them, and no reply is
+        // written. The steps of just these questions are noted at the end of the list.
         ensures begun { OnErr result (GrownBy (λ more. AreBegun (stops_in message.now)
             (parts_in message.now) more self.old self.new)
             effects.old.items effects.new.items) }
+        // The room stays, however the call ends.
         ensures room { self.new.room ≡ self.old.room }
+        // The records are kept before the call (`IsKept`).
         ensures kept_before { IsKept self.old.rows self.old.room }
+        // The records are kept after the call, whatever the message, and however the call ends.
         ensures kept { IsKept self.new.rows self.new.room }
+        // So the objects are lawful before the call.
         ensures objects_before { HasLawfulObjects self.old }
+        // So the objects are lawful after the call, whatever the message, and however the call ends.
         ensures objects { HasLawfulObjects self.new }
+        // The message is served question by question, each once, with the replies that the bytes of the reply
+        // say, and with these steps. A request is a step of the server, and its reply says the outcome, with
+        // the operation and the id of the request. A question that is refused leaves the records, and its
+        // reply is Failed with what the refusal carries and the reason of its fault. Nothing else is
+        // answered.
         ensures served { IfOk result (λ r. AreServedInTurn (stops_in message.now)
             (parts_in message.now) (replies_in r.items)
             (effects_in self.old message.now) self.old self.new) }

@@ -1,5 +1,5 @@
 -- Private: what the parts of a campaign keep.
--- Source: own.
+-- Source: own (view).
 use Rattle.std.specs.Prelude.{◌≡◌, ◌≢◌, ◌≤◌, ◌<◌, ℕ, ◌+◌, List, [], ◌∷◌, ◌++◌, filter, length, map, Option, Some, None, string_bytes, take, if◌then◌else◌, vec_capacity, vec_len}
 use Rattle.std.specs.List.{All, AllZip}
 use Rattle.kmip_objects.specs.Objects.{Object}
@@ -30,7 +30,7 @@ use Rattle.kmip_session.specs.declared.ending.Ending.{Ending}
 use Rattle.kmip_session.specs.declared.stop.Stop.{Stop}
 use Rattle.kmip_session.specs.declared.stop.Stop.TheVariants as stops
 
--- the laws of the crates below
+-- the laws of the crates below that campaigns rest on
 pub record CampaignLaws : Type 0 where
   pub found : KeysAreFound
   pub places : PlacesAndSteps
@@ -54,12 +54,13 @@ pub record Noted (objects : List Object) (keys : List Key) (ends : List RunEnd) 
   pub no_conflict : All HasNoConflict ends
   pub true_saved : All (TrueProgress objects keys) saved
 
--- all is good between two runs
+-- All is good between two runs, and what was noted so far is true.
 pub record Standing {L : Type 0} (past : L → Past) (honest : L → Names → Type 0) (keys : List Key) (c : ClientState) (link : L) (ends : List RunEnd) (saved : List (List Known)) : Type 0 where
   pub good : IsGood past honest c link
   pub noted : Noted (past link).objects keys ends saved
 
--- so it is after several runs, whatever the client knows
+-- After several runs the link is good, the objects have gone onward, and what was noted is true, whatever the
+-- client knows.
 pub record Campaigned {L : Type 0} (past : L → Past) (honest : L → Names → Type 0) (keys : List Key) (old new : L) (ends : List RunEnd) (saved : List (List Known)) : Type 0 where
   pub good : GoodLink past honest keys new
   pub on : WentOn keys (past old) (past new)
@@ -75,7 +76,7 @@ pub record IsEndOf (keys : List Key) (knowns : List Knowledge) (stop : Stop) (ex
   pub report_is : string_bytes end.report ≡ report_text keys end.counts.items end.verdicts.items
   pub in_memory : stop ≢ stops.NoMemory
 
--- how a run ended that knows so much at its end, and what is saved of it
+-- how a run ended where this is known at its end, and what is saved of it
 pub record IsEnding (keys : List Key) (run : Run) (knowns : List Knowledge) (driven : Stop × ℕ) (ending : Ending) : Type 0 where
   pub end_is : IsEndOf keys knowns driven.0 driven.1 ending.run
   pub saved_is : ending.saved ≡ (if run.save then Some (map known_of knowns) else None)
@@ -85,7 +86,7 @@ pub record HasRoom (end : CampaignEnd) : Type 0 where
   pub room_for_run : vec_len end.runs < vec_capacity end.runs
   pub room_for_save : vec_len end.saved < vec_capacity end.saved
 
--- what is saved, with what a run adds
+-- what is saved, with what a run adds to it
 abbrev pub saved_with : Option (List Known) → List (List Known) → List (List Known)
 saved_with None saved = saved
 saved_with (Some progress) saved = saved ++ progress ∷ []
@@ -109,11 +110,13 @@ pub record AreSame (old new : CampaignEnd) : Type 0 where
   pub same_runs : new.runs.items ≡ old.runs.items
   pub same_saved : new.saved.items ≡ old.saved.items
 
--- what a run begins with, where this was carried over from earlier plans and that was saved under this one
+-- what a run begins with; what was carried over from earlier plans counts before what was saved under this
+-- one
 abbrev pub begins_with : List Key → List (List Known) → Run → ClientState → CampaignEnd → List Knowledge
 begins_with keys carried run a old = start_knowns keys run.start a.knowns (carried ++ old.saved.items)
 
--- The run was made and has ended: nothing of what it began with is taken back, and over an honest link its answers taught the rest.
+-- The run was made and has ended: nothing of what it began with is taken back, and over an honest link its
+-- answers taught the rest.
 pub record HasRun {L : Type 0} (past : L → Past) (honest : L → Names → Type 0) (keys : List Key) (carried : List (List Known)) (run : Run) (a b : ClientState) (x y : L) (old new : CampaignEnd) : Type 0 where
   pub driven : Stop × ℕ
   pub ended : HasEnded keys run b.knowns driven old new
@@ -121,19 +124,20 @@ pub record HasRun {L : Type 0} (past : L → Past) (honest : L → Names → Typ
   pub learnt : honest x (is_planned keys) → honest y (is_planned keys)
       × Learnt keys run.batch (past x) (past y) (begins_with keys carried run a old) b.knowns driven.1
 
--- the run that was noted last, if it was allowed so many exchanges, has finished all keys
+-- the run that was noted last finished all keys within the plan's bound, if it might make as many exchanges
 pub record HasSettled (keys : List Key) (run : Run) (old new : List RunEnd) : Type 0 where
   pub end : RunEnd
   pub joined : new ≡ old ++ end ∷ []
   pub settles : Settles keys run end
 
--- or it was broken off, and nothing is noted of it
+-- the run was broken off, and nothing is noted of it
 pub record IsBroken {L : Type 0} (past : L → Past) (honest : L → Names → Type 0) (keys : List Key) (run : Run) (x y : L) (old new : CampaignEnd) : Type 0 where
   pub same : AreSame old new
   pub grown : honest x (is_planned keys) → Grown (past x) (past y)
   pub few : honest x (is_planned keys) → length (past y).sent ≤ length (past x).sent + run.limit
 
--- The runs of a plan were made in turn, where this was carried over from earlier plans: what stands after them, and what their ends say.
+-- The runs of a plan were made in turn, with what was carried over from earlier plans: what stands after
+-- them, and what their ends say.
 pub record HasRunAll {L : Type 0} (past : L → Past) (honest calm : L → Names → Type 0) (keys : List Key) (carried : List (List Known)) (runs : List Run) (end : CampaignEnd) (old new : L) : Type 0 where
   pub suits : All (Suits keys) end.saved.items
   pub honest_still : (names : Names) → honest old names → honest new names

@@ -1,5 +1,5 @@
 -- Private: what the parts of a campaign on several plans keep.
--- Source: own.
+-- Source: own (view).
 use Rattle.std.specs.Prelude.{◌≡◌, ◌≢◌, ◌<◌, ◌⊎◌, List, ◌++◌, flat_map, length, map, None, Option, IfSome}
 use Rattle.std.specs.List.{All}
 use Rattle.kmip_plan.specs.Laws.{NewPlansAreNoShorter, PlansProlongAgain, PlansProlongThemselves}
@@ -18,7 +18,7 @@ use Rattle.kmip_session.specs.declared.campaigning.CampaignEnd.{CampaignEnd}
 use Rattle.kmip_session.specs.declared.campaigning.Run.{Run}
 use Rattle.kmip_session.specs.declared.campaigning.RunEnd.{RunEnd}
 
--- the laws of the crates below, of plans that prolong others
+-- the laws of the crates below on plans that prolong others
 pub record PlansLaws : Type 0 where
   pub itself : PlansProlongThemselves
   pub again : PlansProlongAgain
@@ -30,7 +30,8 @@ pub record PlansLaws : Type 0 where
   pub between : SoundBetween
   pub miss : ProlongedMissNoLess
 
--- Each step that the ends of runs and what was saved report done was reached, no end has a conflict, and what was saved is true.
+-- Each step that the ends of runs and what was saved report done was reached, no end has a conflict, and what
+-- was saved is true.
 pub record NotedFor (keys : List Key) (p : Past) (ends : List RunEnd) (saved : List (List Known)) : Type 0 where
   pub ends_reached : All (IsReached keys p) (flat_map (λ (end : RunEnd). reported_by keys end.counts.items) ends)
   pub saved_reached : All (IsReached keys p) (flat_map (λ progress. reported_by keys (map (λ known. known.done) progress)) saved)
@@ -44,12 +45,13 @@ pub record HasRunPart {L : Type 0} (past : L → Past) (honest calm : L → Name
   pub runs_are : new.runs.items ≡ old.runs.items ++ part.runs.items
   pub saved_are : new.saved.items ≡ old.saved.items ++ part.saved.items
 
--- The runs of one more plan were made, and either one of them has no end, or there is a plan to which nothing was carried over.
+-- The runs of one more plan were made, and either one of them has no end, or there is a plan to which nothing
+-- was carried over.
 pub record HasRunBroken {L : Type 0} (past : L → Past) (honest calm : L → Names → Type 0) (keys : List Key) (next : Option (List Key)) (carried : List (List Known)) (runs : List Run) (x y : L) (old new : CampaignEnd) : Type 0 where
   pub ran : HasRunPart past honest calm keys carried runs x y old new
   pub why : (length ran.part.runs.items < length runs) ⊎ (next ≢ None)
 
--- this was saved so far, as it is read for the next plan, where there is one
+-- what was saved so far is read for the next plan, where there is one
 abbrev pub IsReadFor : Option (List Key) → List (List Known) → List (List Known) → Type 0
 IsReadFor next saved read = IfSome next (λ keys. (read ≡ map (carried_over keys) saved) × All (Suits keys) read)
 
@@ -59,13 +61,14 @@ pub record HasRunWhole {L : Type 0} (past : L → Past) (honest calm : L → Nam
   pub whole : ran.part.fault ≡ None
   pub read_is : IsReadFor next (carried ++ ran.part.saved.items) read
 
--- Over a link that is good at the start, all is good for the last plan.
+-- Over a link that is good at the start, all is good for this plan, the last one, after the runs.
 pub record IsGoodFor {L : Type 0} (past : L → Past) (honest : L → Names → Type 0) (keys : List Key) (old new : L) (ends : List RunEnd) (saved : List (List Known)) : Type 0 where
   pub good : GoodLink past honest keys new
   pub went : WentOn keys (past old) (past new)
   pub noted : NotedFor keys (past new) ends saved
 
--- so it is after the runs on all plans, or the first of them
+-- after the runs on all plans, or on the first ones of them: all is good for the last plan, and what is noted
+-- was noted plan by plan
 pub record HasRunPlans {L : Type 0} (past : L → Past) (honest calm : L → Names → Type 0) (plans : List (List Key)) (runs : List (List Run)) (whole : Type 0) (old new : L) (end : CampaignEnd) : Type 0 where
   pub good : GoodStart past honest plans old → IsGoodFor past honest (last_plan plans) old new end.runs.items end.saved.items
   pub in_turn : AreInTurn plans runs end.runs.items end.saved.items (honest old (is_planned (last_plan plans))) (CalmStart past calm plans old)

@@ -1,5 +1,5 @@
 -- Private: the laws of the crates below that driving rests on.
--- Source: own.
+-- Source: own (law).
 use Rattle.kmip_plan.specs.Laws.{FoundKeysStand, KeysAreFound}
 use Rattle.kmip_chains.specs.Laws.{ReachedIsWithin}
 use Rattle.kmip_client.specs.Laws.{OnwardToItself, OnwardTwice, HeldForGood, HeldIsNoConflict, HearingIsBlind, JustifiedOfProlonged, LossesTeachNothing, SettledIsNotWorked}
@@ -19,6 +19,7 @@ use Rattle.kmip_settling.specs.Laws.{
 }
 use Rattle.kmip_settling.specs.LosingLaws.{CleanTurnsAreNearer, DisturbedTurnsCostTwoEach, LeftIsBounded, NeedsAreLeft}
 
+-- each of these laws, under a short name
 pub record Lawbook : Type 0 where
   pub found : KeysAreFound
   pub itself : OnwardToItself

@@ -1,13 +1,28 @@
+-- What runs of exchanges over a link do: what they ask, learn, report and save, and what holds after them.
+
+-- why a run stops: the number and the name of each reason
 pub mod Stops
-pub mod Losing
-pub mod Driving
-pub mod Turning
+-- the report of a run, line by line
 pub mod Reporting
-pub mod Lawbook
+-- what is promised of a campaign: good and calm links, what is reported done, and what each end shows
 pub mod Campaign
+-- what a run of exchanges keeps, asks and learns, how it stands when it stops, and how near its end it is
+pub mod Driving
+-- what the turns of a run make of a client
+pub mod Turning
+-- what exchanges over a link that goes on losing cost, and how many are enough
+pub mod Losing
+-- where the runs of a campaign were ended over the link
 pub mod Ending
-pub mod CampaignParts
-pub mod Campaigns
-pub mod CampaignsParts
+-- what is known at the end of each run, and what was asked and heard for it
 pub mod Remembering
+-- the runs client by client: what each begins with, and what its turns make of that
 pub mod TurnedRuns
+-- campaigns on several plans, of which each prolongs the one before it
+pub mod Campaigns
+-- private: what the parts of a campaign keep
+pub mod CampaignParts
+-- private: what the parts of a campaign on several plans keep
+pub mod CampaignsParts
+-- private: the laws of the crates below that runs rest on
+pub mod Lawbook

@@ -1,5 +1,5 @@
 -- What is known at the ends of runs: what each of them began with, and what its answers taught.
--- Source: own.
+-- Source: own (view).
 use Rattle.std.specs.Prelude.{◌≡◌, ◌≤◌, ℕ, ◌+◌, ◌-◌, ◌==◌, List, [], ◌∷◌, ◌++◌, length, map, flat_map, slice_get, Option, Some, None, ⊤, if◌then◌else◌}
 use Rattle.std.specs.List.{All, AllZip}
 use Rattle.std.specs.Option.{option_map_or}
@@ -19,48 +19,49 @@ use Rattle.kmip_session.specs.declared.campaigning.RunEnd.{RunEnd}
 use Rattle.kmip_session.specs.declared.campaigning.Start.{Start}
 use Rattle.kmip_session.specs.declared.campaigning.Start.TheVariants.{Fresh, Same, Saved}
 
--- the saved progress of a number, from 1
+-- the saved progress of a number, from 1; none where there is no such one
 abbrev pub saved_numbered : ℕ → List (List Known) → Option (List Known)
 saved_numbered number saved = if number == 0 then None else slice_get saved (number - 1)
 
--- what is known from a saved progress, and nothing where there is none
+-- what is known from a saved progress; nothing is known where there is none
 abbrev pub resumed : List Key → Option (List Known) → List Knowledge
 resumed keys None = (fresh keys).knowns
 resumed keys (Some progress) = (resume keys progress).knowns
 
--- what a run begins with: nothing, what was known at the end before it, or what was saved under a number; nothing where there is none
+-- what a run begins with: nothing, what was known at the end before it, or what was saved under a number
 abbrev pub start_knowns : List Key → Start → List Knowledge → List (List Known) → List Knowledge
 start_knowns keys Fresh last saved = (fresh keys).knowns
 start_knowns keys Same last saved = last
 start_knowns keys (Saved number) last saved = resumed keys (saved_numbered number saved)
 
--- what is saved once a run has ended that knows so much
+-- what is saved after a run at whose end this is known
 abbrev pub saved_after : Run → List Knowledge → List (List Known) → List (List Known)
 saved_after run knowns saved = if run.save then saved ++ map known_of knowns ∷ [] else saved
 
--- what each run begins with, where so much is known at the end before the first, so much was saved, and so much is known at the ends
+-- what each run begins with, where `last` is known before the first of them, `saved` was saved before it, and
+-- `ends` are what is known at their ends
 abbrev pub starts_from : List Key → List Knowledge → List (List Known) → List Run → List (List Knowledge) → List (List Knowledge)
 starts_from keys last saved [] ends = []
 starts_from keys last saved (run ∷ runs) [] = []
 starts_from keys last saved (run ∷ runs) (knowns ∷ ends) =
     start_knowns keys run.start last saved ∷ starts_from keys knowns (saved_after run knowns saved) runs ends
 
--- the same from nothing, where this was carried over from earlier plans
+-- what each run of a plan begins with, the first from nothing, where this was carried over from earlier plans
 abbrev pub starts : List Key → List (List Known) → List Run → List (List Knowledge) → List (List Knowledge)
 starts keys carried runs ends = starts_from keys (fresh keys).knowns carried runs ends
 
--- all that is saved by runs, where so much is known at their ends
+-- all that is saved after some runs, where this is known at their ends
 abbrev pub saved_from : List (List Known) → List Run → List (List Knowledge) → List (List Known)
 saved_from saved [] ends = saved
 saved_from saved (run ∷ runs) [] = saved
 saved_from saved (run ∷ runs) (knowns ∷ ends) = saved_from (saved_after run knowns saved) runs ends
 
--- The end shows what is known: how many steps of each key are done, and how it stands.
+-- The end shows what is known: how many steps of each key are done, and the verdict on each.
 pub record Shows (keys : List Key) (knowns : List Knowledge) (end : RunEnd) : Type 0 where
   pub counts_are : end.counts.items ≡ counts_of knowns
   pub verdicts_are : end.verdicts.items ≡ verdicts_of keys knowns
 
--- what was asked in a run, and what was handed over
+-- what was asked in the exchanges of a run, and what they handed over
 pub record Talk : Type 0 where
   pub questions : List (List ℕ)
   pub answers : List (Option (List ℕ))
@@ -72,18 +73,20 @@ AreTaught keys (start ∷ starts) (talk ∷ talks) (knowns ∷ ends) =
     (facts knowns ≡ facts (known_after keys start talk.answers)) × AreTaught keys starts talks ends
 AreTaught keys starts talks ends = ⊥
 
--- as many messages were sent, and as many answers handed over, as the end says
+-- as many messages were sent, and as many answers handed over, as the end counts exchanges
 pub record IsTalkOf (talk : Talk) (end : RunEnd) : Type 0 where
   pub as_many_questions : length talk.questions ≡ end.exchanges
   pub as_many_answers : length talk.answers ≡ end.exchanges
 
--- each message of a run asks about keys of the plan, and no more of them than the run may ask about at once
+-- each message of a run asks about keys of the plan, and about no more of them than the run asks about at
+-- once
 abbrev pub AreAsked : List Key → List Run → List Talk → Type 0
 AreAsked keys runs [] = ⊤
 AreAsked keys [] (talk ∷ talks) = ⊥
 AreAsked keys (run ∷ runs) (talk ∷ talks) = All (IsQuestion keys run.batch) talk.questions × AreAsked keys runs talks
 
--- Between two pasts this was asked and handed over, run by run, and nothing else; and it is what the ends know.
+-- Between two pasts this was asked and handed over, run by run, and nothing else; and it is what the ends
+-- know.
 pub record AreHeard (keys : List Key) (runs : List Run) (begun known : List (List Knowledge)) (ends : List RunEnd) (old new : Past) : Type 0 where
   pub talks : List Talk
   pub taught : AreTaught keys begun talks known
@@ -97,9 +100,10 @@ pub record AreHeard (keys : List Key) (runs : List Run) (begun known : List (Lis
 abbrev pub limit_at : List Run → ℕ → ℕ
 limit_at runs place = option_map_or (λ run. run.limit) (slice_get runs place) 0
 
--- There is a knowledge for each end that the end shows, that takes back nothing of what its run began with, and that is saved where
--- its run says so, behind what was carried over. Over an honest link it is what was heard until the last end; and nothing was asked
--- later, unless the next run was broken off, and then in no more exchanges than that may make.
+-- There is a knowledge for each end that the end shows. It takes back nothing of what its run began with. It
+-- is saved where its run says so, after what was carried over. Over an honest link it is what was heard until
+-- the last end. Nothing was asked later unless the next run was broken off, and that sent no more messages
+-- than its limit.
 pub record AreKnownFrom (keys : List Key) (carried : List (List Known)) (runs : List Run) (ends : List RunEnd) (saved : List (List Known)) (honest whole : Type 0) (old new : Past) : Type 0 where
   pub known : List (List Knowledge)
   pub shown : AllZip (Shows keys) known ends
@@ -111,6 +115,6 @@ pub record AreKnownFrom (keys : List Key) (carried : List (List Known)) (runs : 
   pub few_more : honest → length new.sent ≤ length until.sent + limit_at runs (length known)
   pub no_more : whole → until ≡ new
 
--- the same where nothing was carried over
+-- `AreKnownFrom` where nothing was carried over from an earlier plan
 abbrev pub AreKnown : List Key → List Run → List RunEnd → List (List Known) → Type 0 → Type 0 → Past → Past → Type 0
 AreKnown keys runs ends saved honest whole old new = AreKnownFrom keys [] runs ends saved honest whole old new

@@ -1,5 +1,6 @@
--- What turns make of a client: in each it asks its own next question, and learns from an answer, or that none came.
--- Source: own.
+-- What turns make of a client: in each it asks its own next question, and learns from an answer, or that none
+-- came.
+-- Source: own (view).
 use Rattle.std.specs.Prelude.{◌≡◌, ◌≢◌, ◌⊎◌, ℕ, Bool, true, false, List, [], ◌∷◌, ◌++◌, length, Option, Some, None}
 use Rattle.kmip_client.specs.Asking.{after_ask, next_question}
 use Rattle.kmip_client.specs.Clients.{ClientState}
@@ -11,7 +12,8 @@ use Rattle.kmip_session.specs.declared.stop.Stop.TheVariants as stops
 use Rattle.kmip_session.specs.declared.turn_fault.TurnFault.{TurnFault}
 use Rattle.kmip_session.specs.declared.turn_fault.TurnFault.TheVariants.{Unmade, Unheard}
 
--- One after the other these messages were the client's next question, and it learnt from these answers, none where nothing came.
+-- One after the other these messages were the client's next question, and it learnt from these answers:
+-- `None` is that nothing came.
 abbrev pub Turns : List (List ℕ) → List (Option (List ℕ)) → ClientState → ClientState → Type 0
 Turns [] [] c next = next ≡ c
 Turns [] (answer ∷ answers) c next = ⊥
@@ -23,15 +25,17 @@ Turns (sent ∷ questions) (answer ∷ answers) c next =
 abbrev pub GivesUp : ClientState → ClientState → Type 0
 GivesUp c next = (next ≡ c) ⊎ ((question : Question) × (next_question c ≡ Some question) × (next ≡ taught question None (after_ask c)))
 
--- what a run leaves of a client: what the turns made of it; where memory ran out, it may have given up one more question
+-- what a run leaves of a client: what the turns made of it; where memory ran out, it may have given up one
+-- more question
 abbrev pub IsLeft : Stop → ClientState → ClientState → Type 0
 IsLeft stops.AllFinished last next = next ≡ last
 IsLeft stops.Limit last next = next ≡ last
 IsLeft stops.Conflict last next = next ≡ last
 IsLeft stops.NoMemory last next = GivesUp last next
 
--- The client has taken so many turns. Over an honest link what was sent is their questions, and what was handed over their answers; a
--- reply that there was no memory to learn from counts as one that did not come.
+-- The client has taken this many turns. Over an honest link what was sent is their questions, and where
+-- memory did not run out, what was handed over is their answers. A reply that there was no memory to learn
+-- from counts as one that did not come.
 pub record IsTurned (honest : Type 0) (stop : Stop) (made : ℕ) (old new : ClientState) (before after : Past) : Type 0 where
   pub questions : List (List ℕ)
   pub answers : List (Option (List ℕ))
@@ -52,7 +56,8 @@ abbrev pub messages_made : TurnFault → List ℕ → List (List ℕ)
 messages_made Unmade question = []
 messages_made Unheard question = question ∷ []
 
--- Private: the client has learnt from an answer to this question, or that none came, and over an honest link that was handed over.
+-- Private: the client has learnt from an answer to this question, or that none came, and over an honest link
+-- that was handed over.
 pub record IsAnswered (honest : Type 0) (question : Question) (c next : ClientState) (before after : Past) : Type 0 where
   pub answer : Option (List ℕ)
   pub next_is : next ≡ taught question answer c
@@ -65,13 +70,13 @@ pub record TurnsOnce (honest : Type 0) (c next : ClientState) (before after : Pa
   pub question_is : next_question c ≡ Some question
   pub answered : IsAnswered honest question (after_ask c) next before after
 
--- Private: one in which there is none.
+-- Private: a turn in which there is no next question, so that nothing changes.
 pub record Rests (honest : Type 0) (c next : ClientState) (before after : Past) : Type 0 where
   pub next_is : next ≡ c
   pub sent_stays : honest → after.sent ≡ before.sent
   pub handed_stays : honest → after.handed ≡ before.handed
 
--- Private: a turn, which asked or did not.
+-- Private: a turn, with a question or with none.
 abbrev pub TakesTurn : Type 0 → Bool → ClientState → ClientState → Past → Past → Type 0
 TakesTurn honest true c next before after = TurnsOnce honest c next before after
 TakesTurn honest false c next before after = Rests honest c next before after

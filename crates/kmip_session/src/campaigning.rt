@@ -53,8 +53,8 @@ pub enum Start {
     Saved(usize),
 }
 
-/// A run: what it begins with, how many exchanges it may make at most, how many keys each of its
-/// messages asks about at most, 1 to 8, and whether what is known at its end is saved.
+/// A run: what it begins with, and how many exchanges it may make at most. Each of its messages asks about at
+/// most `batch` keys, 1 to 8. `save` says whether what is known at its end is saved.
 #[derive(Clone, Copy)]
 pub struct Run {
     pub start: Start,
@@ -78,8 +78,8 @@ pub struct RunEnd {
     pub report: String,
 }
 
-/// How a campaign ended: the ends of its runs and what was saved, in order, and whether it ended
-/// for want of memory.
+/// How a campaign ended: the ends of its runs and what was saved, in order, and whether it ended for want of
+/// memory.
 #[derive(Drop)]
 pub struct CampaignEnd {
     pub runs: Vec<RunEnd>,
@@ -87,43 +87,93 @@ pub struct CampaignEnd {
     pub fault: Option<NoMemory>,
 }
 
-/// Makes the runs in turn, and ends each over the link. Want of memory ends the campaign, and keeps
-/// what was done: a run that it stopped has no end, `fault` says that it did.
+/// The headline: makes the runs of a plan in turn over one link, and ends each run over the link. A run
+/// begins with nothing, with what was known at the end of the run before, or with a progress that an earlier
+/// run saved.
+///
+/// Want of memory ends the campaign and keeps what was done. A run that it stopped has no end, and `fault`
+/// says that memory ran out.
+///
+/// Below, a link is good (`GoodLink`) where it is honest for the plan's names, and all that has happened over
+/// it is sound. What is said of a good link is so whatever the runs are, and wherever memory ran out. What is
+/// said of any link asks nothing of it. The head of lib.rt explains these words, one by one.
 pub fn campaign<L: Link>(alloc: Global, plan: &Plan, link: &mut L, runs: &[Run]) -> CampaignEnd
+    // Each run asks about one to eight keys at once.
     requires { MayBatch runs.now }
+    // Over a good link, the past after the campaign is safe for all that its ends and its saves report done.
+    // Each planned name is on at most one object, with the attributes of the plan. What took effect on it is
+    // the first steps of its chain, each once and in order, and every step reported is among these. A request
+    // that comes again after its step took effect changes no object.
     ensures safe { GoodLink L.past L.honest plan.now link.old
         → Safe plan.now (L.past link.new)
         (reported plan.now result.runs.items result.saved.items) }
+    // Over a good link the past is an image of a run of the plan machine, where nothing of the plan had
+    // happened before, or where the past was such an image before.
     ensures machine { GoodLink L.past L.honest plan.now link.old
         → (Opening plan.now (L.past link.old) → IsMirrored plan.now (L.past link.new))
         × (IsMirrored plan.now (L.past link.old) → IsMirrored plan.now (L.past link.new)) }
+    // Over a good link no run stops in conflict, and no end has a key in conflict.
     ensures no_conflict { GoodLink L.past L.honest plan.now link.old
         → All HasNoConflict result.runs.items }
+    // A good link is good after the campaign too, so that another campaign may follow.
     ensures sound { GoodLink L.past L.honest plan.now link.old
         → GoodLink L.past L.honest plan.now link.new }
+    // Over a good link each saved progress is true of the objects that are there after the campaign.
     ensures true_saved { GoodLink L.past L.honest plan.now link.old
         → All (TrueProgress (L.past link.new).objects plan.now) result.saved.items }
+    // Over a good link the object of each planned name keeps its identifier and never goes back, and a past
+    // that was an image of the plan machine still is.
     ensures goes { GoodLink L.past L.honest plan.now link.old
         → WentOn plan.now (L.past link.old) (L.past link.new) }
+    // Over any link the ends are those of the first runs, in order. Each is borne out by its own counts and
+    // verdicts (`IsEnd`): its report, the reason why it stopped, and its number of exchanges within the
+    // limit.
     ensures order { AllZip (IsEnd plan.now) (take (length result.runs.items) runs.now)
         result.runs.items }
+    // Unless memory ran out, over any link each run has its end, and as much was saved as the runs say.
     ensures complete { result.fault ≡ None → AllZip (IsEnd plan.now) runs.now result.runs.items
         × (length result.saved.items ≡ length (filter saves runs.now)) }
+    // For each end there is a knowledge that it shows. This takes back no identifier and no count of what the
+    // run began with: nothing, what was known at the end before, or what was saved. What was saved is exactly
+    // what was known at the ends of the runs that say so. Where the link is honest for the plan's names,
+    // sound or not, each exchange that the ends count sent one message. It asks about keys of the plan, each
+    // once, and about no more of them than the run asks about at once. What is known at an end is what its
+    // run began with and what its exchanges handed over. Nothing else was asked, sent or handed over until
+    // the last end, and later only where memory ran out: then the next run sent no more messages than its
+    // limit.
     ensures known { AreKnown plan.now runs.now result.runs.items result.saved.items
         (L.honest link.old (is_planned plan.now)) (result.fault ≡ None)
         (L.past link.old) (L.past link.new) }
+    // Client by client: each run begins with a client that knows nothing, with that of the run before, or
+    // with one that goes on from a save. The turns of the run, one for each exchange that its end counts,
+    // made of it the client that the end shows. Where the link is honest for the plan's names, the messages
+    // that were sent until the last end are the questions of these turns, and what was handed over are their
+    // answers. Unless memory ran out, nothing was sent or handed over later.
     ensures turned { AreTurnedFrom plan.now [] runs.now result.runs.items
         (L.honest link.old (is_planned plan.now)) (result.fault ≡ None)
         (L.past link.old) (L.past link.new) }
+    // Where the link is calm for the plan's names, all that has happened over it is sound, and there is room
+    // for the objects that are missing (`CalmLink`): unless memory ran out, so it is after the campaign. And
+    // each run that may make as many exchanges as the plan's bound finishes every key within that bound,
+    // whatever it began with.
     ensures settles { CalmLink L.past L.calm plan.now link.old → result.fault ≡ None
         → AllZip (Settles plan.now) runs.now result.runs.items
         × CalmLink L.past L.calm plan.now link.new }
+    // Over a good link, unless memory ran out, each run finishes every key if it may make enough exchanges,
+    // whatever it began with. Enough are the plan's bound, one for each key, and what the disturbed ones of
+    // its own exchanges cost. A disturbed exchange costs one, two for each request that it sent, and one for
+    // each reply about another key that the link counts. It is no premise that the link ever stops losing.
     ensures outlasts { GoodLink L.past L.honest plan.now link.old → result.fault ≡ None
         → AllOutlast plan.now runs.now result.runs.items (L.disturbances link.old)
         (L.disturbances link.new) }
+    // Where memory ran out, some run has no end.
     ensures fewer { result.fault ≢ None → length result.runs.items < length runs.now }
+    // Where the link is honest for the plan's names, the runs that have ends are those that were ended over
+    // it, each right after its last exchange, and no other run was.
     ensures ended { L.honest link.old (is_planned plan.now) → AreEnded result.runs.items
         (length (L.past link.old).sent) (L.ended link.old) (L.ended link.new) }
+    // Unless memory ran out, the link after the campaign is what calls made of the link before, as the link
+    // itself tells it (`follows`).
     ensures followed { result.fault ≡ None → L.follows link.old link.new }
 {
     laws_of_runs();

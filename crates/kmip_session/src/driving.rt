@@ -59,69 +59,120 @@ use kmip_settling::losing_laws::{a_losing_turn_is_bounded, left_is_bounded};
 use kmip_ttlv::NoMemory;
 use std::alloc::Global;
 
-/// Sends one message after the other over the link, and learns from what comes back: until no key
-/// of the plan is worked on any more, or `limit` exchanges were made. Answers why it stopped, and
-/// how many exchanges were made.
+/// Sends one message after the other over the link, and learns from what comes back. It goes on until no key
+/// of the plan is worked on any more, or `limit` exchanges were made. Each message asks about as many keys as
+/// the client asks about at once. Returns why it stopped, and how many exchanges were made.
 ///
-/// An exchange that lacked memory was not made. One whose reply came was made, also where there was
-/// no memory to learn from the reply.
+/// An exchange that lacked memory was not made. One whose reply came was made, also where there was no memory
+/// to learn from the reply.
 ///
-/// Each key that a message asks about and that no reply of what comes back answers is looked at
-/// again: where nothing comes, where it is no message, and where its replies are to other questions
-/// or teach nothing.
+/// Each key that a message asks about and that no reply of what comes back answers is looked at again: where
+/// nothing comes, where it is no message, and where its replies are to other questions or teach nothing.
+///
+/// Below, all is good (`IsGood`) where the link is honest for the plan's names, all that has happened over it
+/// is sound, and what the client knows is true.
 pub fn drive<L: Link>(
     alloc: Global,
     client: &mut Client<'_>,
     link: &mut L,
     limit: usize,
 ) -> (Stop, usize)
+    // Where all was good before, all is good after it, however it stops.
     ensures good { IsGood L.past L.honest client.old link.old
         → IsGood L.past L.honest client.new link.new }
+    // Where all was good before, the object of each planned name keeps its identifier and never goes back,
+    // and a past that was an image of the plan machine still is.
     ensures goes { IsGood L.past L.honest client.old link.old
         → WentOn client.old.keys (L.past link.old) (L.past link.new) }
+    // Where the link is honest for the plan's names, it is so after it. Unless memory ran out, each exchange
+    // that is counted sent one message about keys of the plan, each once, and no more of them than the client
+    // asks about at once. Nothing else was asked, sent or handed over. What is known of identifiers, counts
+    // and conflicts is what was known before and what these exchanges handed over.
     ensures known { L.honest link.old (is_planned client.old.keys)
         → L.honest link.new (is_planned client.old.keys)
         × (result.0 ≢ Stop.NoMemory → Learnt client.old.keys client.old.batch (L.past link.old)
         (L.past link.new) client.old.knowns client.new.knowns result.1) }
+    // Where memory ran out over such a link, so it is of the exchanges that are counted, but nothing was
+    // learnt from a last reply for which there was no memory. An exchange that lacked memory itself is not
+    // counted: it sent and handed over nothing, and may have asked one message.
     ensures broken { L.honest link.old (is_planned client.old.keys) → result.0 ≡ Stop.NoMemory
         → LearntUntil client.old.keys client.old.batch (L.past link.old) (L.past link.new)
         client.old.knowns client.new.knowns result.1 }
+    // Over any link the client took as many turns as exchanges are counted. In each it asked its next
+    // question, and learnt from an answer or that none came. Where memory ran out, it may then have given up
+    // one more question. Where the link is honest for the plan's names, the messages sent are these
+    // questions, and unless memory ran out, what was handed over are these answers.
     ensures turned { IsTurned (L.honest link.old (is_planned client.old.keys)) result.0 result.1
         client.old client.new (L.past link.old) (L.past link.new) }
+    // Where the link is honest for the plan's names, at most `limit` messages are sent.
     ensures few { L.honest link.old (is_planned client.old.keys)
         → length (L.past link.new).sent ≤ length (L.past link.old).sent + limit }
+    // Where the link is honest for the plan's names, nothing that was asked, sent or handed over is taken
+    // back.
     ensures grown { L.honest link.old (is_planned client.old.keys)
         → Grown (L.past link.old) (L.past link.new) }
+    // Over any link the plan stays, and how many keys are asked about at once, and no identifier or count
+    // that was known is taken back.
     ensures kept { Keeps client.old client.new }
+    // It stops with `AllFinished` only where every key is finished, and with `Limit` only where one is worked
+    // on. It stops with `Conflict` only where none is worked on and one is in conflict.
     ensures stands { Stands result.0 client.new.keys client.new.knowns }
+    // With `Limit` it has made exactly `limit` exchanges.
     ensures limit { result.0 ≡ Stop.Limit → result.1 ≡ limit }
+    // It makes at most `limit` exchanges.
     ensures within { result.1 ≤ limit }
+    // Where the link is calm and the client ready (`IsSettling`), and `limit` is at least the plan's bound:
+    // unless memory ran out, it stops with `AllFinished`. It makes no more exchanges than the keys still need
+    // questions, and at most the bound. It makes exactly as many as they need where each message asks one
+    // (`AsksOne`).
     ensures settles { IsSettling L.past L.calm client.old link.old
         → bound client.old.keys ≤ limit → result.0 ≢ Stop.NoMemory
         → (result.0 ≡ Stop.AllFinished) × (result.1 ≤ need client.old (L.past link.old))
         × (AsksOne client.old → result.1 ≡ need client.old (L.past link.old))
         × (result.1 ≤ bound client.old.keys) }
+    // Where the link is calm and the client ready, both are so after it, unless memory ran out. Each exchange
+    // brought down what the keys need by one question at least, and by exactly one where each message asks
+    // one.
     ensures calm { IsSettling L.past L.calm client.old link.old → result.0 ≢ Stop.NoMemory
         → Nearer L.past L.calm client.old client.new link.old link.new result.1 }
+    // Where all was good, with no premise of calm, and unless memory ran out: the exchanges that were made
+    // and those that may be left are at most those that might be left before, and what the disturbed ones
+    // cost. Such sums of several calls in a row add up.
     ensures losing { IsGood L.past L.honest client.old link.old → result.0 ≢ Stop.NoMemory
         → ArePaid result.1 (left_for client.old (L.past link.old))
         (left_for client.new (L.past link.new)) (L.disturbances link.old)
         (L.disturbances link.new) }
+    // Where all was good, and unless memory ran out: if `limit` is at least the plan's bound, one for each
+    // key, and what its own disturbed exchanges cost, it stops with `AllFinished`.
     ensures outlasts { IsGood L.past L.honest client.old link.old → result.0 ≢ Stop.NoMemory
         → IsEnough client.old.keys limit (L.disturbances link.old) (L.disturbances link.new)
         → result.0 ≡ Stop.AllFinished }
+    // Where the link is calm, no planned name has an object, there is room for all and nothing is known
+    // (`IsUntouched`), and `limit` is at least the plan's bound: unless memory ran out, it stops with
+    // `AllFinished`. It makes at most as many exchanges as all chains have steps, and one more for each key.
+    // It makes exactly as many where each message asks one. Then each object is at the end of its chain, and
+    // counts and verdicts say so.
     ensures finishes { IsUntouched L.past L.calm client.old link.old
         → bound client.old.keys ≤ limit → result.0 ≢ Stop.NoMemory
         → (result.0 ≡ Stop.AllFinished) × (result.1 ≤ chains_and_looks client.old.keys)
         × (AsksOne client.old → result.1 ≡ chains_and_looks client.old.keys)
         × IsComplete client.old.keys (L.past link.new).objects client.new.knowns }
+    // Where all was good, it does not stop in conflict.
     ensures no_conflict { IsGood L.past L.honest client.old link.old
         → result.0 ≢ Stop.Conflict }
+    // A link that is honest for some names is so after it.
     ensures honest { (names : Names) → L.honest link.old names → L.honest link.new names }
+    // Over a link that is honest for some names it ends no run.
     ensures ended { (names : Names) → L.honest link.old names
         → L.ended link.new ≡ L.ended link.old }
+    // Where all was good, what holds for a plan that prolongs the client's is kept. Over a link that is
+    // honest for its names, what was sound for it stays so, its objects go onward, and an image of its
+    // machine stays one. Over a calm link with room for what that plan misses, there is room still, unless
+    // memory ran out.
     ensures further { IsGood L.past L.honest client.old link.old → KeepsFurther L.past L.honest
         L.calm client.old.keys (result.0 ≢ Stop.NoMemory) link.old link.new }
+    // Unless memory ran out, the link after it is what calls made of the link before, as the link itself
+    // tells it.
     ensures followed { result.0 ≢ Stop.NoMemory → L.follows link.old link.new }
 {
     laws_below();

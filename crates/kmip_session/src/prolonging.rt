@@ -34,44 +34,75 @@ use kmip_settling::laws::room_is_left_for_prolonged_plans;
 use kmip_ttlv::NoMemory;
 use std::alloc::Global;
 
-/// Makes the lists of runs in turn, each on its plan, and ends each run over the link. Each plan
-/// prolongs the one before it, so what was done under that is a beginning of what this one wants. The
-/// first run on a plan knows nothing where it starts with `Same`. `Saved` counts what was saved under
-/// all plans; what was saved under an earlier plan is taken through its text. Want of memory ends the
-/// campaign, and keeps what was done: a run that it stopped has no end, `fault` says that it did.
+/// The headline over plans of which each prolongs the one before it: makes the lists of runs in turn, each on
+/// its plan, over one link, and ends each run over the link. What was done under a plan is a beginning of
+/// what the next one wants.
+///
+/// The first run on a plan knows nothing where it starts with `Same`. `Saved` counts what was saved under all
+/// plans; what was saved under an earlier plan is taken through its text. Want of memory ends the campaign,
+/// and keeps what was done: a run that it stopped has no end, `fault` says that it did.
+///
+/// Below, the start is good (`GoodStart`) where the link is honest for the names of the last plan, and all
+/// that has happened over it is sound for the first. No name that only later plans have is then on an object.
+/// The names of the last plan are all names, and the way of each key under an earlier plan is a beginning of
+/// its own.
 pub fn campaigns<L: Link>(
     alloc: Global,
     plans: &[Plan],
     link: &mut L,
     runs: &[Vec<Run>],
 ) -> CampaignEnd
+    // There is at least one plan.
     requires some { 1 ≤ length plans.now }
+    // There are as many lists of runs as plans.
     requires as_many { length runs.now ≡ length plans.now }
+    // Each plan prolongs the one before it.
     requires prolong { AreProlonged plans.now }
+    // Each run asks about one to eight keys at once.
     requires batches { All (λ list. MayBatch list.items) runs.now }
+    // Where the start is good, the past is safe for the last plan and for all that was reported on any of the
+    // plans, whatever the runs were and wherever memory ran out.
     ensures safe { GoodStart L.past L.honest plans.now link.old
         → Safe (last_plan plans.now) (L.past link.new)
         (reported (last_plan plans.now) result.runs.items result.saved.items) }
+    // Where the start is good, the past is an image of a run of the last plan's machine, if nothing of that
+    // plan had happened before, or if the past was such an image before.
     ensures machine { GoodStart L.past L.honest plans.now link.old
         → (Opening (last_plan plans.now) (L.past link.old)
         → IsMirrored (last_plan plans.now) (L.past link.new))
         × (IsMirrored (last_plan plans.now) (L.past link.old)
         → IsMirrored (last_plan plans.now) (L.past link.new)) }
+    // Where the start is good, no run stops in conflict, and no end has a key in conflict.
     ensures no_conflict { GoodStart L.past L.honest plans.now link.old
         → All HasNoConflict result.runs.items }
+    // Where the start is good, the link is good for the last plan after it: honest, and all is sound.
     ensures sound { GoodStart L.past L.honest plans.now link.old
         → GoodLink L.past L.honest (last_plan plans.now) link.new }
+    // Where the start is good, each saved progress is true of the last plan and of the objects that are there
+    // after it, where nothing is known of the further keys.
     ensures true_saved { GoodStart L.past L.honest plans.now link.old
         → All (IsTrueFor (L.past link.new).objects (last_plan plans.now)) result.saved.items }
+    // Where the start is good, the object of each name of the last plan keeps its identifier and never goes
+    // back, and a past that was an image of that plan's machine still is.
     ensures goes { GoodStart L.past L.honest plans.now link.old
         → WentOn (last_plan plans.now) (L.past link.old) (L.past link.new) }
+    // Over any link what is noted was noted plan by plan. The runs on each plan are as `order`, `complete`
+    // and `known` of `campaign` say for that plan alone, where `Saved` finds what was saved so far, carried
+    // over to the plan. Where the start is calm (`CalmStart`), and memory did not run out in them, each that
+    // may make as many exchanges as its plan's bound finishes every key of the plan within it. The runs on
+    // each plan begin where those before them ended. Only where memory ran out are runs missing: then the
+    // runs on the last plan that was begun lack an end, or a further plan was not begun.
     ensures in_turn { AreInTurn plans.now (map (λ list. list.items) runs.now)
         result.runs.items result.saved.items (L.honest link.old (is_planned (last_plan plans.now)))
         (CalmStart L.past L.calm plans.now link.old) (result.fault ≡ None)
         (L.past link.old) (L.past link.new) }
+    // Where the link is honest for the names of the last plan, the runs that have ends are those that were
+    // ended over it, each right after its last exchange, and no other run was.
     ensures ended { L.honest link.old (is_planned (last_plan plans.now))
         → AreEnded result.runs.items (length (L.past link.old).sent)
         (L.ended link.old) (L.ended link.new) }
+    // Unless memory ran out, the link after it is what calls made of the link before, as the link itself
+    // tells it.
     ensures followed { result.fault ≡ None → L.follows link.old link.new }
 {
     laws_below();

@@ -16,8 +16,9 @@ use kmip_client::{Clash, Client, Verdict};
 use kmip_ttlv::NoMemory;
 use std::alloc::{AllocError, Global};
 
-/// The report of what a client knows: a line a key, with its name, its target, how many of the
-/// steps to it are done and how it stands, and a last line that counts the finished keys.
+/// The report of what a client knows, exactly as `report_text` states it: a line for each key, with its name,
+/// its target, how many of the steps to it are done and how it stands; and a last line that counts the
+/// finished keys.
 ///
 /// # Errors
 /// Where there is no memory for it.

@@ -51,7 +51,9 @@ impl Stop {
     }
     /// Whether memory ran out, so that the run has no end to tell of.
     pub fn is_no_memory(self) -> bool
+        // It is true only where memory ran out.
         ensures at { IsTrue result → self ≡ Stop.NoMemory }
+        // It is false only where memory did not run out.
         ensures not { result ≡ false → self ≢ Stop.NoMemory }
     {
         match self {

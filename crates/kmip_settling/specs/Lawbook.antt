@@ -1,5 +1,5 @@
 -- Private: the laws of the crates below that the laws here rest on, in one record.
--- Source: own.
+-- Source: own (law).
 use Rattle.kmip_objects.specs.ObjectLaws.{
   NamedIsOne,
   NamedIsAll,
@@ -41,6 +41,7 @@ use Rattle.kmip_schedule.specs.Laws.{
 }
 use Rattle.kmip_server.specs.Laws.{LocateFindsAllNamed}
 
+-- each of these laws, under a short name
 pub record Lawbook : Type 0 where
   pub named : NamedIsOne
   pub all_named : NamedIsAll

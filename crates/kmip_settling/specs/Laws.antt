@@ -1,5 +1,5 @@
 -- What holds of clients that settle over a calm link.
--- Source: own: what the laws say.
+-- Source: own (law); `NoneIsMade` is own (view).
 use Rattle.std.specs.Prelude.{◌≡◌, ◌≤◌, ◌<◌, ℕ, ◌+◌, List, length, Option, Some, None, Ok, slice_get}
 use Rattle.kmip_objects.specs.Objects.{Object, object_named}
 use Rattle.kmip_chains.specs.Chains.{bound}
@@ -21,7 +21,8 @@ use Rattle.kmip_settling.specs.Needs.{need_all, chains_and_looks, missing}
 use Rattle.kmip_settling.specs.Ready.{IsReady}
 use Rattle.kmip_settling.specs.Turns.{known_then}
 
--- a client that knows the truth of a sound past is ready, where there is room for the objects that are missing
+-- a client that knows the truth of a sound past is ready, where there is room for the objects that are
+-- missing
 abbrev pub SoundIsReady : Type 0
 SoundIsReady =
     (keys : List Key) (p : Past) (knowns : List Knowledge) → Sound keys p → Held p.objects keys knowns
@@ -31,19 +32,21 @@ SoundIsReady =
 abbrev pub NoneIsMade : List Key → List Object → Type 0
 NoneIsMade keys objects = (key : Key) → IsPlanned keys key → object_named key.attrs.name objects ≡ None
 
--- so is one that knows nothing, where none of the keys has an object, and there is room for all
+-- a client that knows nothing is ready, where none of the keys has an object, and there is room for all
 abbrev pub NothingMadeIsReady : Type 0
 NothingMadeIsReady =
     (keys : List Key) (room : ℕ) (objects : List Object) → IsLawful keys → NoneIsMade keys objects
     → length objects + length keys ≤ room → IsReady room keys objects (fresh keys).knowns
 
--- and it needs the chain of each key, and one look before it
+-- a client that knows nothing needs the chain of each key and one look before it, where none of them has an
+-- object
 abbrev pub NothingMadeNeedsTheChains : Type 0
 NothingMadeNeedsTheChains =
     (keys : List Key) (objects : List Object) → IsLawful keys → NoneIsMade keys objects
     → need_all keys (fresh keys).knowns objects ≡ chains_and_looks keys
 
--- after a question over a calm link the client is ready still, and needs one exchange less for each key that it asks about
+-- after a message over a calm link the client is ready still, and its keys need one question less for each
+-- key that it asks about
 abbrev pub CalmTurnsAreNearer : Type 0
 CalmTurnsAreNearer =
     (keys : List Key) (names : Names) (old new : Past) (knowns : List Knowledge) (places : List ℕ) (question : Question) (answer : Option (List ℕ))
@@ -52,7 +55,8 @@ CalmTurnsAreNearer =
     → IsReady new.room keys new.objects (known_then keys question answer knowns)
     × (need_all keys (known_then keys question answer knowns) new.objects + length places ≡ need_all keys knowns old.objects)
 
--- and where there is room for what a plan that prolongs the client's misses, there is room for it still
+-- where there is room for what a plan misses that prolongs the client's, there is room for it after a message
+-- over a calm link too
 abbrev pub RoomIsLeft : Type 0
 RoomIsLeft =
     (further keys : List Key) (names : Names) (old new : Past) (knowns : List Knowledge) (places : List ℕ) (question : Question)
@@ -61,7 +65,7 @@ RoomIsLeft =
     → CalmlyExchanged names old question.bytes (Ok answer) new
     → length old.objects + missing further old.objects ≤ old.room → length new.objects + missing further new.objects ≤ new.room
 
--- it misses no fewer objects than the client's plan
+-- a plan that prolongs another misses no fewer objects than that
 abbrev pub ProlongedMissNoLess : Type 0
 ProlongedMissNoLess = (new old : List Key) (objects : List Object) → Prolongs new old → missing old objects ≤ missing new objects
 
@@ -71,26 +75,26 @@ NeedsAreBounded =
     (room : ℕ) (keys : List Key) (objects : List Object) (knowns : List Knowledge) → IsLawful keys → IsReady room keys objects knowns
     → need_all keys knowns objects ≤ bound keys
 
--- where nothing is needed each key is finished
+-- where what is known is true and nothing is needed, each key is finished
 abbrev pub WhoNeedsNothingIsFinished : Type 0
 WhoNeedsNothingIsFinished =
     (keys : List Key) (objects : List Object) (knowns : List Knowledge) → Held objects keys knowns → need_all keys knowns objects ≡ 0
     → (place : ℕ) → place < length keys → verdict_at keys knowns place ≡ Finished
 
--- and where no key is worked on nothing is needed
+-- where what is known is true and no key is worked on, nothing is needed
 abbrev pub WhoIsSettledNeedsNothing : Type 0
 WhoIsSettledNeedsNothing =
     (keys : List Key) (objects : List Object) (knowns : List Knowledge) → Held objects keys knowns → AreSettled keys knowns
     → need_all keys knowns objects ≡ 0
 
--- the object of a key that is finished has had all steps of its chain
+-- where what is known is true, the object of a key that is finished has had all steps of its chain
 abbrev pub TheFinishedStandAtTheEnd : Type 0
 TheFinishedStandAtTheEnd =
     (keys : List Key) (objects : List Object) (knowns : List Knowledge) → IsLawful keys → Held objects keys knowns
     → (place : ℕ) (key : Key) → slice_get keys place ≡ Some key → verdict_at keys knowns place ≡ Finished
     → position key objects ≡ chain_length key
 
--- so there is one
+-- where what is known is true, a key that is finished has an object
 abbrev pub TheFinishedAreThere : Type 0
 TheFinishedAreThere =
     (keys : List Key) (objects : List Object) (knowns : List Knowledge) → IsLawful keys → Held objects keys knowns

@@ -1,5 +1,6 @@
--- What holds of clients over a link that goes on losing.
--- Source: own: what the laws say.
+-- What holds of clients over a link that goes on losing, of a lawful plan, over a sound past, and where what
+-- is known is true; `NeedsAreLeft` and `MostLeftNeverRises` ask for none of these.
+-- Source: own (law).
 use Rattle.std.specs.Prelude.{◌≡◌, ◌≤◌, ℕ, ◌+◌, ◌*◌, List, length, Option}
 use Rattle.std.specs.List.{AllZip}
 use Rattle.kmip_plan.specs.Plans.{IsLawful}
@@ -21,13 +22,13 @@ use Rattle.kmip_settling.specs.Losing.{left_all}
 use Rattle.kmip_settling.specs.Needs.{need_all}
 use Rattle.kmip_settling.specs.Turns.{known_then}
 
--- what arrives late brings no key further from its end
+-- what arrives late leaves no more than was left
 abbrev pub LateArrivalsAddNothing : Type 0
 LateArrivalsAddNothing =
     (keys : List Key) (old new : Past) (knowns : List Knowledge) → IsLawful keys → Sound keys old → Held old.objects keys knowns
     → Delivered (is_planned keys) old new → left_all keys knowns new ≤ left_all keys knowns old
 
--- a clean exchange leaves one less for each key that it asks about
+-- a clean exchange leaves one less, at least, for each key that it asks about
 abbrev pub CleanTurnsAreNearer : Type 0
 CleanTurnsAreNearer =
     (keys : List Key) (old new : Past) (knowns : List Knowledge) (places : List ℕ) (question : Question) (answer : Option (List ℕ))
@@ -35,7 +36,8 @@ CleanTurnsAreNearer =
     → IsClean (is_planned keys) old question.bytes answer new
     → left_all keys (known_then keys question answer knowns) new + length places ≤ left_all keys knowns old
 
--- any other at most two more for each, and one more yet for each reply about another key that it hands over
+-- any exchange over an honest link leaves at most two more for each key that it asks about, and one more for
+-- each reply about another key that it hands over
 abbrev pub DisturbedTurnsCostTwoEach : Type 0
 DisturbedTurnsCostTwoEach =
     (keys : List Key) (old new : Past) (knowns : List Knowledge) (places : List ℕ) (question : Question) (answer : Option (List ℕ))
@@ -44,22 +46,23 @@ DisturbedTurnsCostTwoEach =
     → left_all keys (known_then keys question answer knowns) new
     ≤ left_all keys knowns old + 2 * length places + strange_handed (is_planned keys) question.bytes answer
 
--- what is needed is left
+-- no less is left than is needed
 abbrev pub NeedsAreLeft : Type 0
 NeedsAreLeft = (keys : List Key) (p : Past) (knowns : List Knowledge) → need_all keys knowns p.objects ≤ left_all keys knowns p
 
--- no more is left than the bound of the plan and one for each key, nor than what is known allows
+-- no more is left than the bound of the plan and one for each key
 abbrev pub LeftIsBounded : Type 0
 LeftIsBounded =
     (keys : List Key) (p : Past) (knowns : List Knowledge) → IsLawful keys → Sound keys p → Held p.objects keys knowns
     → left_all keys knowns p ≤ bound keys + length keys
 
+-- no more is left than what is known allows
 abbrev pub LeftIsWithinWhatIsKnown : Type 0
 LeftIsWithinWhatIsKnown =
     (keys : List Key) (p : Past) (knowns : List Knowledge) → IsLawful keys → Sound keys p → Held p.objects keys knowns
     → left_all keys knowns p ≤ most_left keys knowns
 
--- and exactly the bound where nothing of the plan has happened and nothing is known
+-- exactly the bound is left where nothing of the plan has happened and nothing is known
 abbrev pub OpeningLeavesTheBound : Type 0
 OpeningLeavesTheBound =
     (keys : List Key) (p : Past) → IsLawful keys → Opening keys p → left_all keys (fresh keys).knowns p ≡ bound keys

@@ -1,6 +1,6 @@
--- When a client comes to an end over a calm link. Of the objects it wants only that those of the planned names are the plan's own,
--- and room for those that are missing: nothing of what has happened before.
--- Source: own.
+-- When a client comes to an end over a calm link. Of the objects it wants only that those of the planned
+-- names are the plan's own, and room for those that are missing: nothing of what has happened before.
+-- Source: own (law).
 use Rattle.std.specs.Prelude.{◌≡◌, ◌≤◌, ℕ, ◌+◌, nat_eq, List, [], ◌∷◌, length, filter, Some}
 use Rattle.std.specs.Cmp.Lexicographic.{pointwise}
 use Rattle.kmip_objects.specs.Objects.{Object, object_named}
@@ -22,12 +22,13 @@ pub record IsHere (objects : List Object) (key : Key) (o : Object) : Type 0 wher
   pub one_identified : all_with o.uid objects ≡ o ∷ []
   pub own : IsObjectOf key o
 
--- so it is with each object of a planned name
+-- each object of a planned name is alone with that name and with its identifier, and is the plan's
 abbrev pub AreHere : List Key → List Object → Type 0
 AreHere keys objects =
     (key : Key) (o : Object) → IsPlanned keys key → object_named key.attrs.name objects ≡ Some o → IsHere objects key o
 
--- The objects of the planned names are the plan's, what is known is true of them, and there is room for those that are missing.
+-- Each object of a planned name is the plan's, alone with its name and its identifier. What is known is true
+-- of the objects, and there is room for those that are missing.
 pub record IsReady (room : ℕ) (keys : List Key) (objects : List Object) (knowns : List Knowledge) : Type 0 where
   pub here : AreHere keys objects
   pub held : Held objects keys knowns

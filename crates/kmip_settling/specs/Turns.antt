@@ -1,5 +1,5 @@
 -- What is known once a question has an answer, or none.
--- Source: own.
+-- Source: own (choice).
 use Rattle.std.specs.Prelude.{ℕ, Bool, false, not, ◌==◌, ◌&&◌, List, [], ◌∷◌, filter, Option, Some, None, Result, Ok, Err}
 use Rattle.std.specs.List.{list_any}
 use Rattle.kmip_chains.specs.declared.key.Key.{Key}
@@ -16,7 +16,7 @@ abbrev pub answers_part : Part → Result Heard HearFault → Bool
 answers_part part (Ok heard) = heard.key == part.key && heard.operation == part.operation
 answers_part part (Err fault) = false
 
--- nothing that was heard does
+-- nothing that was heard answers this part of the message
 abbrev pub is_unanswered : List (Result Heard HearFault) → Part → Bool
 is_unanswered heard part = not (list_any (answers_part part) heard)
 
@@ -35,6 +35,6 @@ abbrev pub known_then : List Key → Question → Option (List ℕ) → List Kno
 known_then keys question None knowns = lost_each keys question.parts knowns
 known_then keys question (Some bytes) knowns = taught_by keys question.parts knowns (hear keys knowns bytes)
 
--- what a client is then
+-- what a client is after an answer to a question, or after none
 abbrev pub taught : Question → Option (List ℕ) → ClientState → ClientState
 taught question answer c = record c { knowns = known_then c.keys question answer c.knowns }

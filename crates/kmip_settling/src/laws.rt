@@ -57,57 +57,65 @@ pub(crate) fn laws_below()
     what_is_done_joins();
 }
 
-/// Where what happened is sound and what is known is true, a client is ready to settle, if there is
-/// room for the objects that are still to be made.
+/// A client that knows the truth of a sound past is ready, where there is room for the objects that are
+/// missing.
 pub fn sound_is_ready()
     ensures { SoundIsReady }
 {
     laws_below();
 }
 
-/// Where no object of the plan is made and nothing is known, a client is ready too, whatever else
-/// has happened; and each key needs its chain, and one look before it.
+/// What holds of a client that knows nothing, where no key of its lawful plan has an object.
 pub fn nothing_made_is_ready()
+    // It is ready, if there is room for one object for each key, whatever other objects there are.
     ensures ready { NothingMadeIsReady }
+    // It needs exactly the steps of the chain of each key, and one look before them.
     ensures needs { NothingMadeNeedsTheChains }
 {
     laws_below();
 }
 
-/// A message of questions about several keys that is asked over a calm link brings each of these one
-/// exchange nearer to its end, and no other key further from it.
+/// Take a client of a lawful plan that is ready. It sends a message about keys that are worked on, each once,
+/// and the exchange of it over a calm link ends without a fault. Then the client is ready with what it knows
+/// (`known_then`), and all keys together need exactly one question less for each key that it asked about.
 pub fn a_calm_turn_is_nearer()
     ensures { CalmTurnsAreNearer }
 {
     laws_below();
 }
 
-/// Where there is room for the objects that a plan misses which prolongs the client's, there is room
-/// for them after such a message too; and it misses no fewer than the client's plan.
+/// What holds of a plan that prolongs the client's.
 pub fn room_is_left_for_prolonged_plans()
+    // Let both plans be lawful, all be sound for the plan that prolongs, and the client be ready. Where there
+    // is room for the objects that this plan misses, there is room for them after a message of the client
+    // over a calm link too.
     ensures left { RoomIsLeft }
+    // The plan misses no fewer objects than the client's.
     ensures missing { ProlongedMissNoLess }
 {
     laws_below();
 }
 
-/// A client that is ready needs at most the bound of its plan.
+/// A client of a lawful plan that is ready needs at most the bound of its plan.
 pub fn needs_are_bounded()
     ensures { NeedsAreBounded }
 {
     laws_below();
 }
 
-/// Where no exchange is needed any more all keys are finished, and where no key is worked on none
-/// is needed.
+/// What holds at the end of a client, where what it knows is true.
 pub fn who_needs_nothing_is_finished()
+    // Each key is finished once nothing is needed.
     ensures finished { WhoNeedsNothingIsFinished }
+    // Nothing is needed once no key is worked on.
     ensures settled { WhoIsSettledNeedsNothing }
 {}
 
-/// A key that is finished has an object, and it stands at the end of its chain.
+/// What holds of a finished key of a lawful plan, where what is known is true of the objects.
 pub fn the_finished_stand_at_the_end()
+    // Its object has had all steps of its chain.
     ensures at_end { TheFinishedStandAtTheEnd }
+    // It has an object.
     ensures there { TheFinishedAreThere }
 {
     laws_below();

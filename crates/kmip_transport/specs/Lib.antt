@@ -1,3 +1,8 @@
+-- What is read and written where messages go over streams, and what a contract sees of a link over them.
+
+-- what one call that receives takes from a reader, and what it returns
 pub mod Receiving
+-- what a server does to a stream of messages, and how the stream ends
 pub mod Serving
+-- what is seen of a link over streams, and what happens to it
 pub mod Links

@@ -33,7 +33,7 @@ pub trait Dial {
     fn limit(&self, stream: &Self::Stream, left: Duration) -> io::Result<()>;
 }
 
-/// A server behind a TCP port.
+/// A server at a TCP port.
 #[derive(Drop)]
 pub struct Tcp<R: Net + Clock + Drop> {
     rt: R,
@@ -64,7 +64,7 @@ impl<R: Net + Clock + Drop> Dial for Tcp<R> {
     }
 }
 
-/// A server behind a Unix socket.
+/// A server at a Unix socket.
 #[derive(Drop)]
 pub struct Unix<R: Net + Clock + Drop> {
     rt: R,

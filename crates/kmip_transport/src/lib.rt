@@ -1,5 +1,14 @@
-//! Messages over streams of bytes: sent and received one by one, answered by a server, and exchanged
-//! over links to one.
+//! Messages over streams of bytes: sent, received, answered by a server, exchanged over links.
+//!
+//! What goes over a network no clause can know. What is said of bytes here is said of readers and writers
+//! that tell theirs (`remaining`, `contents`), as those in memory do. The code that receives, sends and
+//! serves is one, over sources and sinks: a reader or bytes in memory, a writer or a vector. It is proved to
+//! fail only where its source or its sink does. So it does not give up above some size or count: a fault that
+//! it made up itself is refused.
+//!
+//! As a `Link` both `StreamLink` (over TCP and over a Unix socket) and `Loopback` keep the clauses of that
+//! trait. They are never said to be honest or calm. That an exchange takes no longer than its limit is no
+//! clause: the tests of kmip_conformance_transport see it.
 #![tactic(auto)]
 
 mod dial;

@@ -51,8 +51,11 @@ impl<D: Dial + Drop> Link for StreamLink<D> {
             → none_counted ≡ none_counted }
         ensures ended { (names : Names) → ⊥ → none_ended ≡ none_ended }
         ensures followed { IsInMemory (answer_in (λ v. v.items) result) → ⊤ }
+        // It leaves the link as one `send` and one `receive` do. An exchange that sent again, where a stream
+        // that was held brings no reply, would leave it otherwise.
         ensures one { self.old.failures < most_failures
             → self.new ≡ link_after result (opened self.old) }
+        // Once the network has failed 2^64 - 1 times, no stream is open after it.
         ensures at_last { self.old.failures ≡ most_failures → self.new ≡ closed self.old }
     {
         match self.send(request) {
@@ -76,6 +79,7 @@ impl<D: Dial + Drop> Link for StreamLink<D> {
         ensures followed { IsInMemory result → ⊤ }
         ensures wanting { result ≡ Err LinkFault.NoMemory
             → self.new.failures ≡ self.old.failures }
+        // The stream is closed, and no more happens to the link.
         ensures closed { self.new ≡ closed self.old }
     {
         self.close();

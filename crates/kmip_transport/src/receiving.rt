@@ -16,16 +16,18 @@ use std::io::{Error, ErrorKind, Read};
 /// The most bytes that one read asks for: own.
 const PIECE: usize = 1024;
 
-/// Reads the message that the framer has begun, or the next one, and no byte behind it. `None` where
-/// the stream ends before the message is whole; the framer says by `pending` how much of it came.
-/// But for a message that is answered, all that is read stays in the framer.
+/// Reads the message that the framer has begun, or the next one, and no byte after it. What was held and what
+/// was read, together, decide what is returned (`Receives`). A message is returned only where they are that
+/// message, and nothing is held after it. `None` is returned only at the end of the stream, where they are
+/// neither a message nor a bad head; the framer says by `pending` how much came. But for a message that is
+/// returned, all that was read stays in the framer.
 ///
 /// A read that was interrupted is tried again.
 ///
 /// # Errors
-/// `Io` where the reader fails, or after 2^64 - 1 reads: a later call goes on where this one ended.
-/// `Frame` where the next eight bytes are no head of a message: so it is from then on. `NoMemory`:
-/// the message waits in the framer.
+/// `Io` where the reader fails, or after 2^64 - 1 reads; they are then neither a message nor a bad head, and
+/// a later call goes on where this one ended. `Frame` where they are the eight bytes of a head that is no
+/// message's: so it is from then on. `NoMemory` where they are a message, which waits in the framer.
 pub fn receive_message<R: Read>(
     alloc: Global,
     reader: &mut R,
@@ -37,19 +39,22 @@ pub fn receive_message<R: Read>(
     receive(alloc, reader, framer)
 }
 
-/// Does the same in memory: takes the bytes of the message from the front of `input`. Memory does
-/// not fail, so it never answers `Io`.
+/// Receives a message as `receive_message` does, in memory: it takes the bytes of the message from the front
+/// of `input`.
 ///
 /// # Errors
-/// `Frame` where the next eight bytes are no head of a message: so it is from then on. `NoMemory`:
-/// the message waits in the framer.
+/// `Frame` where the next eight bytes are no head of a message: so it is from then on. `NoMemory`: the
+/// message waits in the framer.
 pub fn receive_from_bytes(
     alloc: Global,
     input: &mut &[u8],
     framer: &mut Framer,
 ) -> Result<Option<Vec<u8>>, LinkFault>
+    // What was held and what was taken from the input, together, decide what is returned, as
+    // `receive_message` says.
     ensures received { Receives (λ message. message.items) result framer.old framer.new
         (Some input.old.now) (Some input.new.now) }
+    // Memory does not fail, so it never ends with `Io`.
     ensures memory { result ≢ Err LinkFault.Io }
 {
     let mut source = InMemory { rest: *input };

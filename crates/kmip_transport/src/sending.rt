@@ -11,8 +11,10 @@ use std::io::Write;
 /// # Errors
 /// `Io` where the writer fails: it may have taken any part of the message.
 pub fn send_message<W: Write>(writer: &mut W, message: &[u8]) -> Result<(), LinkFault>
+    // Where it succeeds, exactly the bytes of the message were written after what the writer had.
     ensures sent { OnOk result
         (Appends (W.contents writer.old) (W.contents writer.new) message.now) }
+    // The only fault is `Io`.
     ensures refused { IfErr result (λ fault. fault ≡ LinkFault.Io) }
 {
     send(writer, message)

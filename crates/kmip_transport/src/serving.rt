@@ -18,12 +18,13 @@ use std::mem;
 /// How a stream of messages that was served came to its end.
 #[derive(Clone, Copy, Debug)]
 pub enum StreamEnd {
-    /// It ended, so many bytes behind the last whole message: 0 to 8,191.
+    /// It ended, so many bytes after the last whole message: 0 to 8,191.
     Ended(usize),
-    /// Behind the last message eight bytes came that are no head of one.
+    /// After the last message eight bytes came that are no head of one.
     Frame(FrameFault),
     /// The reader or the writer failed, or there were 2^64 - 1 messages.
     Io,
+    /// There was no memory.
     NoMemory,
 }
 
@@ -53,13 +54,19 @@ impl StreamEnd {
     }
 }
 
-/// Answers the messages of the reader one after the other, each as soon as it is whole, with `now` as
-/// the Time Stamp of the replies, in seconds since the start of 1970. It reads nothing behind a
-/// message before its reply is written, and says how the stream ended.
+/// Answers the messages of the reader one after the other, each as soon as it is whole, with `now` as the
+/// Time Stamp of the replies, in seconds since the start of 1970. It reads nothing after a message before its
+/// reply is written, and returns how the stream ended.
 ///
-/// Where the writer fails, the last message has been served, and any part of its reply written. Where
-/// memory runs out, a message that was read may be lost, and has no reply: of its questions some first
-/// ones may have been served, and not all of them; so of a single one nothing has happened.
+/// What was read is messages, one after the other, and a rest (`Serves`). The records after it are those
+/// after these messages in turn, each served once. What was written is the reply to each, as the messages
+/// before it left the records. `Ended` says how many bytes the rest has, at the end of the reader, with no
+/// message and no bad head at its front. `Frame` says the fault of the head of the rest.
+///
+/// At `Io` the rest is unfinished, and all replies were written unless the writer failed at one. Where the
+/// writer fails, the last message has been served, and any part of its reply written. At `NoMemory` all
+/// replies were written, and the rest is nothing or a message, which was not answered. Some of its first
+/// questions may have been served then, and not all of them; so of a single one nothing has happened.
 pub fn serve_stream<S: Records, R: Read, W: Write>(
     server: &mut Server<S>,
     alloc: Global,
@@ -77,10 +84,8 @@ pub fn serve_stream<S: Records, R: Read, W: Write>(
     }
 }
 
-/// Does the same in memory: answers the messages of `input`, and appends their replies to `output`.
-/// Memory does not fail, so it ends by `Ended` or `Frame` where all messages are answered, and by
-/// `NoMemory` where there is none. Then the replies to some first messages were appended, each whole;
-/// the next one may have been served in part or as a whole, and has no reply.
+/// Serves as `serve_stream` does, in memory: answers the messages of `input`, and appends their replies to
+/// `output`.
 pub fn serve_bytes<S: Records>(
     server: &mut Server<S>,
     alloc: Global,
@@ -88,8 +93,13 @@ pub fn serve_bytes<S: Records>(
     input: &[u8],
     output: &mut Vec<u8>,
 ) -> StreamEnd
+    // Unless memory runs out, the input is a stream of messages and a rest. Each message was served once and
+    // in turn, and exactly the replies to them were appended. It ends by the rest: by `Ended` with its size,
+    // or by `Frame` with the fault of its head, and never by `Io`.
     ensures all { result ≢ StreamEnd.NoMemory → ServesAll now result server.old server.new
         input.now output.old.items output.new.items }
+    // Where memory runs out, exactly the replies to some first messages were appended. The message that
+    // stands next has no reply. Nothing of it was served, or some of its first questions, or all of it.
     ensures broken { result ≡ StreamEnd.NoMemory → BreaksOff now server.old server.new
         input.now output.old.items output.new.items }
 {

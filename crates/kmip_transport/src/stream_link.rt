@@ -1,5 +1,5 @@
-//! A link over streams: one is held from exchange to exchange, as long as each has a reply. Where a
-//! stream that was held brings none, each exchange has a stream of its own from then on.
+//! A link over streams: one is held from exchange to exchange, as long as each has a reply. Where a stream
+//! that was held brings none, each exchange has a stream of its own from then on.
 ghost use Rattle.std.specs.Prelude.{◌≡◌, ◌<◌, ◌≤◌, true, false, Ok, None, OnOk, IfErr};
 ghost use Rattle.kmip_schedule.specs.Faults.{most_failures};
 ghost use Rattle.kmip_transport.specs.Links.{answered, closed, failed, link_after, lost, opened};
@@ -20,15 +20,18 @@ pub type TcpLink<R> = StreamLink<Tcp<R>>;
 /// A link to a server over a Unix socket.
 pub type UnixLink<R> = StreamLink<Unix<R>>;
 
-/// A link to a server over streams that are opened as they are needed. It connects at the next
-/// exchange, and closes the stream behind each exchange without a reply, so that no later one gets
-/// the reply to an earlier request. An exchange takes no longer than the limit, from connecting to
-/// the last byte of the reply; a peer that is later has failed.
+/// A link to a server over streams that are opened as they are needed. It connects at the next exchange, and
+/// closes the stream after each exchange without a reply, so that no later one gets the reply to an earlier
+/// request. An exchange takes no longer than the limit, from connecting to the last byte of the reply; a peer
+/// that is later has failed.
 ///
-/// Behind a reply the stream is held for the next exchange. Once an exchange over a stream that was
-/// held so ends without a reply, for another cause than want of memory, no stream is held any more:
-/// from then on each is closed behind its reply, and each exchange has a new one. So a peer that
-/// closes the stream behind each reply costs one exchange, and no more.
+/// After a reply the stream is held for the next exchange. Once an exchange over a stream that was held so
+/// ends without a reply, for another cause than want of memory, no stream is held any more: from then on each
+/// is closed after its reply, and each exchange has a new one. So a peer that closes the stream after each
+/// reply costs one exchange, and no more.
+///
+/// A contract sees how often its network failed, whether a stream is open, whether that one was held after
+/// the reply to an earlier request, and whether streams are held after replies at all (`LinkState`).
 #[derive(Drop)]
 pub struct StreamLink<D: Dial + Drop> {
     dial: D,
@@ -55,8 +58,8 @@ impl<D: Dial + Drop> Model for StreamLink<D> {
 }
 
 impl<D: Dial + Drop> StreamLink<D> {
-    /// A link that is not connected yet, and holds its stream behind a reply. An exchange takes no
-    /// longer than `limit`.
+    /// A link whose network has not failed, that is not connected yet, and holds its stream after a reply. An
+    /// exchange takes no longer than `limit`.
     pub fn new(dial: D, limit: Duration) -> Self
         ensures { result ≡ record {
           failures = 0;
@@ -95,7 +98,8 @@ impl<D: Dial + Drop> StreamLink<D> {
         self.stream.as_ref()
     }
 
-    /// Closes the stream, if one is open. Whether later ones are held behind their replies stays.
+    /// Closes the stream, if one is open. Whether later ones are held after their replies stays, and so does
+    /// how often the network has failed.
     pub fn close(&mut self)
         ensures { self.new ≡ closed self.old }
     {
@@ -103,25 +107,29 @@ impl<D: Dial + Drop> StreamLink<D> {
         self.is_held = false;
     }
 
-    /// From now on no stream is held behind a reply: each exchange has one of its own.
+    /// From now on no stream is held after a reply: each exchange has one of its own. Nothing else changes.
     pub fn hold_none(&mut self)
         ensures { self.new ≡ record self.old { holds = false } }
     {
         self.holds = false;
     }
 
-    /// Sends the bytes of a request, over the stream that is open, else over a new one. After
-    /// 2^64 - 1 failures it sends nothing, and no stream is open.
+    /// Sends the bytes of a request, over the stream that is open, else over a new one. After 2^64 - 1
+    /// failures it sends nothing.
     ///
     /// # Errors
-    /// `Io` where the network failed: no stream is open then, and where one had been held behind a
-    /// reply, none is held any more.
+    /// `Io` where the network failed.
     pub fn send(&mut self, request: &[u8]) -> Result<(), LinkFault>
+        // Where it succeeds, a stream is open, unless the network has failed 2^64 - 1 times before.
         ensures sent { OnOk result (self.old.failures < most_failures
             → self.new ≡ opened self.old) }
+        // Where it succeeds, no failure is counted.
         ensures same { OnOk result (self.new.failures ≡ self.old.failures) }
+        // Its only fault is `Io`: one more failure is counted, and no stream is open. Where one had been held
+        // after a reply, none is held from then on.
         ensures refused { IfErr result (λ fault. (fault ≡ LinkFault.Io)
             × (self.new ≡ failed self.old)) }
+        // Once the network has failed 2^64 - 1 times, it succeeds, and no stream is open.
         ensures spent { self.old.failures ≡ most_failures
             → (result ≡ Ok tt) × (self.new ≡ closed self.old) }
     {
@@ -138,19 +146,24 @@ impl<D: Dial + Drop> StreamLink<D> {
         }
     }
 
-    /// Receives the bytes of a reply over the stream that is open, in what is left of the time of
-    /// the exchange. `None` where no stream is open, or it ends before a whole message came. Behind a
-    /// reply the stream is held, or closed where none is held any more. Without one it is closed; and
-    /// where it had been held, and memory was not lacking, none is held any more.
+    /// Receives the bytes of a reply over the stream that is open, in what is left of the time of the
+    /// exchange. `None` where no stream is open, or it ends before a whole message came.
     ///
     /// # Errors
     /// `Io` where the network failed, `Frame` where what came is no message, and `NoMemory`.
     pub fn receive(&mut self, alloc: Global) -> Result<Option<Vec<u8>>, LinkFault>
+        // Only after a reply is a stream open, if streams are held after replies at all. `Io` alone counts
+        // one more failure. Where a stream that had been held brings no reply, for another cause than want of
+        // memory, none is held from then on.
         ensures after { self.new ≡ link_after result self.old }
+        // How often the network has failed does not fall.
         ensures counted { self.old.failures ≤ self.new.failures }
+        // With `Io` the network has failed once more at least.
         ensures io { IfErr result (λ fault. fault ≡ LinkFault.Io
             → self.old.failures < self.new.failures) }
+        // Where no stream is open there is no reply.
         ensures unconnected { self.old.is_connected ≡ false → result ≡ Ok None }
+        // Once the network has failed 2^64 - 1 times there is no reply.
         ensures spent { self.old.failures ≡ most_failures → result ≡ Ok None }
     {
         let Some(mut stream) = self.stream.take() else {
@@ -219,8 +232,8 @@ impl<D: Dial + Drop> StreamLink<D> {
         self.is_held = self.holds;
     }
 
-    /// An exchange ends without a reply: no stream is open, and where it had been held behind an
-    /// earlier reply, none is held any more.
+    /// An exchange ends without a reply: no stream is open, and where it had been held after an earlier
+    /// reply, none is held any more.
     fn lose(&mut self)
         ensures { self.new ≡ lost self.old }
     {
