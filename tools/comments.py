@@ -55,6 +55,8 @@ def definition_faults(repository):
                 yield f'{file.path}:{one.line}: no sentence above {one.title()}'
             if one.names and one not in needed and not one.is_private():
                 yield f'{file.path}:{one.line}: no public contract rests on {one.title()}, and it is not marked private'
+            if one.names and one in needed and one.is_private():
+                yield f'{file.path}:{one.line}: a public contract rests on {one.title()}, which is marked private'
 
 
 def module_faults(crate):

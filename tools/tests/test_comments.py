@@ -39,6 +39,11 @@ class Comments(Scratch):
         self.assertIn('crates/low/specs/Start.antt:1: it does not say what it is about', lines)
         self.assertIn('crates/low/specs/Start.antt: it names no source', lines)
 
+    def test_private_marks(self):
+        marked = CRATES['crates/low/specs/Carried.antt'].replace('-- The load', '-- Private: the load')
+        self.assertIn('crates/low/specs/Carried.antt:7: a public contract rests on Carried, which is marked private',
+                      self.found_in({'crates/low/specs/Carried.antt': marked}))
+
     def test_ghosts(self):
         bare = CRATES['crates/low/src/carrying.rt'].replace('    /// It drops nothing.\n', '')
         self.assertIn('crates/low/src/carrying.rt:29: no docstring of the ghost careful of Carrier',

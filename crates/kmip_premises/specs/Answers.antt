@@ -110,6 +110,6 @@ uids_in outcome = []
 abbrev pub uids_told : Answer → List (List ℕ)
 uids_told answer = uids_in (outcome_in answer)
 
--- Private: the identifiers that an answer tells are in their range
+-- The identifiers that an answer tells are in their range.
 abbrev pub IsLawful : Answer → Type 0
 IsLawful answer = All (λ uid. IsTrue (is_identifier uid)) (uids_told answer)

@@ -16,7 +16,7 @@ pub mod Telling
 pub mod Judging
 -- the law: a server of this profile keeps every premise
 pub mod Laws
--- private: what putting one question over a link does to the past
+-- what putting questions over a link does to the past
 pub mod Putting
--- private: how the two objects of a probe stand after some answers
+-- how the two objects of a probe stand after some answers
 pub mod Standing

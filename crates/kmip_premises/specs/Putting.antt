@@ -1,4 +1,4 @@
--- Private: what putting one question over a link does to the past.
+-- What putting questions over a link does to the past.
 -- Source: own (view).
 use Rattle.std.specs.Prelude.{◌≡◌, ◌⊎◌, ℕ, List, [], ◌∷◌, ◌++◌, Option, Some, None, option_and_then, option_to_list}
 use Rattle.kmip_messages.specs.declared.reply.Outcome.{Outcome}
@@ -12,14 +12,14 @@ use Rattle.kmip_premises.specs.Asking.{AreAnswers, IsNext, messages_from, messag
 use Rattle.kmip_premises.specs.declared.answer.Answer.{Answer}
 use Rattle.kmip_premises.specs.declared.answer.Answer.TheVariants.{Nothing, Told}
 
--- the message was sent, and the answer is what was handed over for it says
+-- Private: the message was sent, and the answer is what was handed over for it says
 pub record HasSent (message : List ℕ) (says : Option (List ℕ) → Answer) (answer : Answer) (old new : Past) : Type 0 where
   pub given : Option (List ℕ)
   pub sent : new.sent ≡ old.sent ++ message ∷ []
   pub handed : new.handed ≡ old.handed ++ given ∷ []
   pub answer_is : answer ≡ says given
 
--- the server has taken a step for the request, and the answer is what its reply says
+-- Private: the server has taken a step for the request, and the answer is what its reply says
 pub record HasReplied (request : Request) (number : ℕ) (prefix : List ℕ) (answer : Answer) (old new : Past) : Type 0 where
   pub reply : Reply
   pub step : ServerStep old.room old.objects request.ask reply.outcome new.objects
@@ -27,20 +27,20 @@ pub record HasReplied (request : Request) (number : ℕ) (prefix : List ℕ) (an
   pub answer_is : answer ≡ answer_with number prefix reply.id reply.outcome
   pub room_is : new.room ≡ old.room
 
--- one more question was asked, where it can be, and this is its answer
+-- Private: one more question was asked, where it can be, and this is its answer
 pub record HasAsked (prefix : List ℕ) (before : List Answer) (answer : Answer) (old new : Past) : Type 0 where
   pub sent : new.sent ≡ old.sent ++ option_to_list (message_after prefix before)
   pub given : List (Option (List ℕ))
   pub handed : new.handed ≡ old.handed ++ given
   pub next : (rest : List (Option (List ℕ))) → IsNext prefix before (message_after prefix before) answer (given ++ rest) rest
 
--- the server has taken a step for the request, which the answer tells; none where there is no request
+-- Private: the server has taken a step for the request, which the answer tells; none where there is no request
 abbrev pub HasServed : Option Request → Answer → Past → Past → Type 0
 HasServed None answer old new = (answer ≡ Nothing) × (new ≡ old)
 HasServed (Some request) answer old new =
     (outcome : Outcome) × ServerStep old.room old.objects request.ask outcome new.objects × (answer ≡ Told outcome) × (new.room ≡ old.room)
 
--- the server has taken a step for the question that follows these answers, which the answer tells
+-- Private: the server has taken a step for the question that follows these answers, which the answer tells
 abbrev pub HasServedNext : List ℕ → List Answer → Answer → Past → Past → Type 0
 HasServedNext prefix before answer old new = HasServed (option_and_then (request_for prefix before) (next_inquiry before)) answer old new
 

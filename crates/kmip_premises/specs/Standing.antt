@@ -1,4 +1,4 @@
--- Private: how the two objects of a probe stand after some answers, and the laws of the crates below.
+-- How the two objects of a probe stand after some answers, and the laws of the crates below.
 -- Source: own (view).
 use Rattle.std.specs.Prelude.{◌≡◌, ◌≤◌, ℕ, ◌+◌, List, [], ◌∷◌, map, take, length, Option, Some, None, option_map}
 use Rattle.std.specs.Prelude.{get_or}
@@ -25,7 +25,7 @@ use Rattle.kmip_premises.specs.declared.answer.Answer.TheVariants.{Told}
 use Rattle.kmip_premises.specs.declared.inquiry.Which.{Which}
 use Rattle.kmip_premises.specs.declared.inquiry.Which.TheVariants.{First, Second}
 
--- the laws of the crates below
+-- Private: the laws of the crates below.
 pub record ProbeLaws : Type 0 where
   pub identified : NamedIsIdentified
   pub all_named : NamedIsAll
