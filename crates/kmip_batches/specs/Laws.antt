@@ -1,5 +1,5 @@
 -- What holds of the lists of what some bytes ask and say.
--- Source: own: what the laws of questions and answers say.
+-- Source: own (law): what the laws of questions and answers say.
 use Rattle.std.specs.Prelude.{◌≡◌, ◌↔◌, ℕ, ℤ, List, [], ◌∷◌, map, Option, Ok, IsTrue}
 use Rattle.std.specs.List.{All}
 use Rattle.kmip_ttlv.specs.Fitting.{IsBytes, IsInRange}
@@ -12,32 +12,35 @@ use Rattle.kmip_batches.specs.Batches.{IsBatch, AreReplies}
 use Rattle.kmip_batches.specs.Items.{parts_in, requests_in, replies_in}
 use Rattle.kmip_batches.specs.Written.{requests_item, requests_fit, replies_item, replies_fit}
 
--- some requests are asked, and nothing beside them, by just the bytes that spell them, with whatever option
+-- Requests, one or more, are asked, and nothing beside them, by just the bytes that spell them, with whatever
+-- option.
 abbrev pub RequestsAreSpelled : Type 0
 RequestsAreSpelled =
     (bytes : List ℕ) (r : Request) (rest : List Request) → IsBytes bytes
     → (parts_in bytes ≡ map Ok (r ∷ rest)) ↔ ((n : Node) × Spells n bytes × ((option : Option ℕ) × IsBatch (record { option = option; items = map Ok (r ∷ rest) }) n))
 
--- their written form asks them
+-- The written form of requests asks them, where they are one to eight and in their ranges, and so is their
+-- item.
 abbrev pub WrittenAreAsked : Type 0
 WrittenAreAsked =
     (rs : List Request) → IsTrue (requests_fit rs) → IsInRange (requests_item rs) → requests_in (canon (requests_item rs)) ≡ rs
 
--- each reply that is given is in its ranges
+-- Each reply that some bytes say is in its ranges.
 abbrev pub RepliesFit : Type 0
 RepliesFit = (bytes : List ℕ) → All (λ r. IsTrue (answer_fits r)) (replies_in bytes)
 
--- some replies are given by just the bytes that spell them
+-- Replies, one or more, are said by just the bytes that spell them.
 abbrev pub RepliesAreSpelled : Type 0
 RepliesAreSpelled =
     (bytes : List ℕ) (r : Reply) (rest : List Reply) → IsBytes bytes
     → (replies_in bytes ≡ r ∷ rest) ↔ ((n : Node) × Spells n bytes × AreReplies (r ∷ rest) n)
 
--- their written form, at any time, gives them
+-- The written form of replies, at any time, says them, where they can be written together and their item is
+-- in range.
 abbrev pub WrittenAreSaid : Type 0
 WrittenAreSaid =
     (rs : List Reply) (now : ℤ) → IsTrue (replies_fit rs) → IsInRange (replies_item rs now) → replies_in (canon (replies_item rs now)) ≡ rs
 
--- bytes that ask a request are no reply
+-- Bytes that ask a request say no reply.
 abbrev pub RequestsAreNoReplies : Type 0
 RequestsAreNoReplies = (bytes : List ℕ) (r : Request) (rest : List Request) → requests_in bytes ≡ r ∷ rest → replies_in bytes ≡ []

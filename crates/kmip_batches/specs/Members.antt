@@ -1,6 +1,6 @@
 -- The Batch Items of a message, which stand in it in their order, among items that a reader does not use.
--- Source: KMIP 2.1, Message Structure (Batch Item, Batch Count); that there are one to eight, and that all are looked at for their type
--- before any is read, is own.
+-- Source: KMIP 2.1, Message Structure (Batch Item, Batch Count). Own (limit): at most eight. Own (order): all
+-- are looked at for their type before any is read.
 use Rattle.std.specs.Prelude.{◌≡◌, ℕ, ℤ, pos, Bool, ◌&&◌, nat_le, List, [], ◌∷◌, Result, Ok}
 use Rattle.std.specs.Ordering.{int_eq}
 use Rattle.kmip_ttlv.specs.Binding.{◌>>=◌}
@@ -10,31 +10,32 @@ use Rattle.kmip_fields.specs.Formats.{inside}
 use Rattle.kmip_fields.specs.Siblings.{contents, typed}
 use Rattle.kmip_messages.specs.declared.standard.TheConstants.{TAG_BATCH_ITEM, MOST_QUESTIONS}
 
--- a message may have so many Batch Items: one to eight (own)
+-- Whether a message may have this many Batch Items: one to eight. Own (limit).
 abbrev pub may_have : ℕ → Bool
 may_have there = nat_le 1 there && nat_le there MOST_QUESTIONS
 
--- as many as the Batch Count says, and no number of them that a message may not have
+-- whether there are as many Batch Items as the Batch Count says, and a message may have this many
 abbrev pub is_count : ℤ → ℕ → Bool
 is_count count there = may_have there && int_eq count (pos there)
 
 -- ---- read
 
--- each of some contents is a Structure
+-- A test that each of some contents is a Structure. Else a Batch Item has a wrong type.
 abbrev pub all_structures : List Content → Result (Unit {0}) MessageFault
 all_structures [] = Ok tt
 all_structures (c ∷ cs) = typed TAG_BATCH_ITEM (as_structure c) >>= λ parts. all_structures cs
 
--- what is read of one Batch Item
+-- what this reader reads of one Batch Item, which has to be a Structure
 unfoldable pub member_in : {A : Type 0} → (List Node → Result A MessageFault) → Content → Result A MessageFault
 member_in read c = typed TAG_BATCH_ITEM (as_structure c) >>= λ parts. read parts
 
--- what is read of each of some, in their order, or the first fault
+-- what this reader reads of each of some Batch Items, in their order, or the first fault
 abbrev pub members_in : {A : Type 0} → (List Node → Result A MessageFault) → List Content → Result (List A) MessageFault
 members_in read [] = Ok []
 members_in read (c ∷ cs) = member_in read c >>= λ a. members_in read cs >>= λ rest. Ok (a ∷ rest)
 
--- what is read of each Batch Item of a message
+-- What this reader reads of each Batch Item of a message, in their order, or the first fault. All are looked
+-- at for their type before any is read.
 unfoldable pub members_at : {A : Type 0} → (List Node → Result A MessageFault) → List Node → Result (List A) MessageFault
 members_at read message = do
   all ← all_structures (contents TAG_BATCH_ITEM message)
@@ -42,7 +43,7 @@ members_at read message = do
 
 -- ---- what they say
 
--- each of some contents is a Structure whose items say a value, and these are the values in their order
+-- Each of the contents is a Structure whose items say a value, and these are the values, in their order.
 abbrev pub SayEach : {A : Type 0} → (List Node → A → Type 0) → List Content → List A → Type 0
 SayEach Says [] [] = Unit {0}
 SayEach Says [] (a ∷ rest) = ⊥

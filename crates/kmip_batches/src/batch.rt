@@ -6,11 +6,12 @@ use kmip_messages::standard::CONTINUE;
 use kmip_messages::{Refusal, Request};
 use std::marker::Model;
 
-/// The questions of a request, in their order, and what is to become of those behind a failure.
+/// The questions of a request, in their order, and what is to become of those after a failure.
 #[derive(Drop)]
 pub struct Batch {
     /// The Batch Error Continuation Option, where there is one.
     pub option: Option<u32>,
+    /// The questions.
     pub items: Questions,
 }
 
@@ -22,7 +23,7 @@ pub struct Questions {
 }
 
 impl Batch {
-    /// Whether the questions behind the first failure are left: so it is but with the option Continue.
+    /// Whether the questions after the first failure are left: so it is but with the option Continue.
     pub fn stops(&self) -> bool
         ensures { result ≡ stops_with self.now.option }
     {

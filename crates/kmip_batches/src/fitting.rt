@@ -11,8 +11,8 @@ use crate::members::may_have;
 use kmip_messages::{Reply, Request, answer_fits, answer_size};
 use kmip_ttlv::MAX_SIZE;
 
-/// Whether the requests can be written in one message: they are one to eight, and their values are in
-/// their ranges. Takes no memory.
+/// Whether the requests can be written in one message, as `write_request` asks: they are one to eight,
+/// and their values are in their ranges. It takes no memory.
 pub fn request_fits(requests: &[Request]) -> bool
     ensures { result ≡ requests_fit requests.now }
 {
@@ -28,9 +28,9 @@ fn are_requests(requests: &[Request]) -> bool
         .all(|request| kmip_messages::request_fits(request))
 }
 
-/// Whether the replies can be written in one message: they are one to eight, their values are in
-/// their ranges, each success stands under its own operation, and the message has at most 8,192
-/// bytes. Takes no memory.
+/// Whether the replies can be written in one message, as `write_reply` asks. They are one to eight,
+/// their values are in their ranges, each success stands under its own operation, and the message has
+/// at most 8,192 bytes. It takes no memory.
 pub fn reply_fits(replies: &[Reply]) -> bool
     ensures { result ≡ replies_fit replies.now }
 {

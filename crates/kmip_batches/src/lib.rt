@@ -1,5 +1,12 @@
-//! Messages of KMIP with one to eight Batch Items: the questions of a request, and the replies to
-//! them, both as bytes.
+//! Messages of KMIP with one to eight Batch Items, as bytes and as values.
+//!
+//! What some bytes ask is a list of one to eight questions: `parts_in` of specs/, with what is refused,
+//! and `requests_in` without it. What they say is a list of at most eight replies, `replies_in`. Each is
+//! what kmip_messages says of one Batch Item (`IsQuestion`, `IsAnswer`). The server, the client, the
+//! links and all that is said of runs stand on these lists.
+//!
+//! The module `laws` has public functions that do nothing. Their contracts are laws over the
+//! definitions, for whoever proves something above. Other crates have such modules, too.
 //!
 //! Source: KMIP 2.1, Message Structure. The profile is in docs/DECISIONS.md.
 #![tactic(auto)]

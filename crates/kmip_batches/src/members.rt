@@ -22,7 +22,7 @@ pub(crate) fn count_of(message: &[Item]) -> usize
     count
 }
 
-/// Whether a message may have so many Batch Items: one to eight.
+/// Whether a message may have this many Batch Items: one to eight.
 pub(crate) fn may_have(there: usize) -> bool
     ensures { result ≡ may_have there }
 {
@@ -36,7 +36,7 @@ pub(crate) fn is_count(count: i32, there: usize) -> bool
     may_have(there) && i64::from(count) == there as i64
 }
 
-/// The Batch Count of so many Batch Items.
+/// The Batch Count of this many Batch Items.
 pub(crate) fn count_item(there: usize) -> Item
     requires { IsTrue (may_have there) }
     ensures { view result ≡ node TAG_BATCH_COUNT (integer (pos there)) }

@@ -30,22 +30,25 @@ use std::alloc::Global;
 /// The replies of the message that all the bytes are, in their order.
 ///
 /// # Errors
-/// The first fault of the message or of one of its replies; want of memory otherwise.
+/// The first fault of the message or of one of its replies, which refuses the message whole, and
+/// `NoMemory` at want of memory.
 pub fn read_reply(alloc: Global, bytes: &[u8]) -> Result<Vec<Reply>, MessageFault>
-    // What is read are the replies of an item that the bytes spell.
+    // What is read are the replies of a Response Message that all the bytes spell, one to eight.
     ensures found { IfOk result (λ v. (n : Node) × Spells n bytes.now × AreReplies v.items n) }
-    // Such replies are read, unless memory runs out.
+    // Such replies are read, and no others, unless memory runs out.
     ensures only { (rs : List Reply) (n : Node) → Spells n bytes.now → AreReplies rs n
         → Gives (λ v. v.items) result (Ok rs) }
-    // What was written is read again.
+    // What was written, at any time, is read back, unless memory runs out.
     ensures back { (rs : List Reply) (now : ℤ) → IsTrue (replies_fit rs)
         → IsInRange (replies_item rs now) → bytes.now ≡ canon (replies_item rs now)
         → Gives (λ v. v.items) result (Ok rs) }
-    // Which fault it is.
+    // It returns what `replies_read` gives, the replies or the first check that fails, unless memory ran out.
     ensures exact { Gives (λ v. v.items) result (replies_read bytes.now) }
+    // Each reply is in its ranges, and each success stands under its own operation.
     ensures fits { IfOk result (λ v. All (λ r. IsTrue (answer_fits r)) v.items) }
-    // What the bytes say, as a list.
+    // The bytes say these replies, in their order.
     ensures says { IfOk result (λ v. replies_in bytes.now ≡ v.items) }
+    // Bytes that are refused, but for want of memory, say nothing.
     ensures refused { IfErr result (λ e. is_no_memory e ≡ false → replies_in bytes.now
         ≡ []) }
 {

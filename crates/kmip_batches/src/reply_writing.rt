@@ -15,15 +15,17 @@ use kmip_messages::{Reply, push, version_item, write_answer};
 use kmip_ttlv::{Item, NoMemory, Tag, write};
 use std::alloc::Global;
 
-/// The bytes of one message with these replies, in their order, for which `reply_fits`, written at
-/// `now`, in seconds since the start of 1970.
+/// The bytes of one message with these replies, in their order. It is written at `now`, in seconds
+/// since the start of 1970.
 ///
 /// # Errors
 /// Where there is no memory for them.
 pub fn write_reply(alloc: Global, replies: &[Reply], now: i64) -> Result<Vec<u8>, NoMemory>
+    // The replies are one to eight, in their ranges and not too long together, as `reply_fits` tells.
     requires { IsTrue (replies_fit replies.now) }
+    // The bytes are exactly the written form of `replies_item` at this time.
     ensures bytes { IfOk result (λ v. v.items ≡ canon (replies_item replies.now now)) }
-    // What the bytes say, as a list.
+    // The bytes say just these replies, in their order.
     ensures says { IfOk result (λ v. replies_in v.items ≡ replies.now) }
 {
     let item = message_item(alloc, replies, now)?;
@@ -48,7 +50,7 @@ fn message_item(alloc: Global, replies: &[Reply], now: i64) -> Result<Item, NoMe
     Ok(Item::structure(Tag::new(TAG_RESPONSE_MESSAGE), items))
 }
 
-/// The Response Header of so many replies: version 2.1, the time, and their number.
+/// The Response Header of this many replies: version 2.1, the time, and their number.
 #[tactic(auto, unfolding(crate::specs::Headers::reply_header_parts_format))]
 fn header_item(alloc: Global, there: usize, now: i64) -> Result<Item, NoMemory>
     requires { IsTrue (may_have there) }

@@ -34,23 +34,27 @@ use std::alloc::Global;
 /// The questions of the request that all the bytes are.
 ///
 /// # Errors
-/// The first fault of the message, which refuses it whole; want of memory otherwise.
+/// The first fault of the message, which refuses it whole, and `NoMemory` at want of memory.
 pub fn read_request(alloc: Global, bytes: &[u8]) -> Result<Batch, MessageFault>
-    // What is read are the questions of an item that the bytes spell.
+    // What is read are the questions of a Request Message that all the bytes spell, one to eight, with the
+    // header's option. Each is a request, or the first fault after its Operation and Unique Batch Item ID.
     ensures found { IfOk result (λ b. (n : Node) × Spells n bytes.now × IsBatch b n) }
-    // Such questions are read, unless memory runs out.
+    // Such questions are read, and no others, unless memory runs out.
     ensures only { (b : Batch) (n : Node) → Spells n bytes.now → IsBatch b n
         → Gives (λ x. x) result (Ok b) }
-    // What was written is read again.
+    // What was written is read back, unless memory runs out.
     ensures back { (rs : List Request) → IsTrue (requests_fit rs)
         → IsInRange (requests_item rs) → bytes.now ≡ canon (requests_item rs)
         → Gives (λ x. x) result (Ok (batch_of rs)) }
-    // Which fault it is.
+    // It returns what `batch_read` gives, the questions or the first check that fails, unless memory ran out.
     ensures exact { Gives (λ b. b) result (batch_read bytes.now) }
+    // Each request is in its ranges, and so is a Unique Batch Item ID that a refusal carries.
     ensures fits { IfOk result (λ b. All QuestionFits b.items) }
-    // What the bytes ask, as lists.
+    // The bytes ask these questions, and the option says whether those after a failure are left.
     ensures asks { IfOk result (λ b. (parts_in bytes.now ≡ b.items)
         × (stops_in bytes.now ≡ stops_with b.option)) }
+    // Bytes that are refused, but for want of memory, count as one question that is refused and carries
+    // nothing. What would come after a failure counts as left.
     ensures refused { IfErr result (λ e. is_no_memory e ≡ false
         → (parts_in bytes.now ≡ Err (refusal_of e) ∷ []) × (stops_in bytes.now ≡ true)) }
 {

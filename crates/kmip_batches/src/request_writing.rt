@@ -17,17 +17,21 @@ use kmip_messages::{Request, push, push_enumeration, version_item, write_questio
 use kmip_ttlv::{Item, NoMemory, Tag, write};
 use std::alloc::Global;
 
-/// The bytes of one message with these requests, in their order, for which `request_fits`. Where
-/// there are two or more, the server is asked to go on after a failure.
+/// The bytes of one message with these requests, in their order. Where there are two or more, the
+/// server is asked to go on after a failure.
 ///
 /// # Errors
 /// Where there is no memory for them.
 pub fn write_request(alloc: Global, requests: &[Request]) -> Result<Vec<u8>, NoMemory>
+    // The requests are one to eight and in their ranges, as `request_fits` tells.
     requires { IsTrue (requests_fit requests.now) }
+    // The bytes are exactly the written form of `requests_item`.
     ensures bytes { IfOk result (λ v. v.items ≡ canon (requests_item requests.now)) }
-    // What the bytes ask, as lists.
+    // The bytes ask just these requests, in their order.
     ensures asks { IfOk result (λ v. requests_in v.items ≡ requests.now) }
+    // The questions of the bytes are these requests, in their order, and none is refused.
     ensures parts { IfOk result (λ v. parts_in v.items ≡ map Ok requests.now) }
+    // The questions after a failure are left where there is one question alone, and not where there are more.
     ensures stops { IfOk result (λ v. stops_in v.items
         ≡ not (nat_le 2 (length requests.now))) }
 {
@@ -53,7 +57,7 @@ fn message_item(alloc: Global, requests: &[Request]) -> Result<Item, NoMemory>
     Ok(Item::structure(Tag::new(TAG_REQUEST_MESSAGE), items))
 }
 
-/// The Request Header of so many questions.
+/// The Request Header of this many questions.
 #[tactic(auto, unfolding(crate::specs::Headers::header_parts_format, crate::specs::Headers::option_format, kmip_messages::specs::RequestFormats::version_parts_format, kmip_messages::specs::ReplyFormats::any_version_parts_format))]
 fn header_item(alloc: Global, there: usize) -> Result<Item, NoMemory>
     requires { IsTrue (may_have there) }
@@ -72,7 +76,7 @@ fn header_item(alloc: Global, there: usize) -> Result<Item, NoMemory>
     Ok(Item::structure(Tag::new(TAG_REQUEST_HEADER), items))
 }
 
-/// The Batch Error Continuation Option of so many questions.
+/// The Batch Error Continuation Option of this many questions.
 fn option_for(there: usize) -> Option<u32>
     ensures { result ≡ option_for there }
 {

@@ -1,5 +1,9 @@
--- A part of a message, described once: how it is written, how it is read and what it says all follow from its format.
--- Source: KMIP 2.1, Message Structure: items may stand in any order, and those that a reader does not use are skipped.
+-- A part of a message, described once: how it is written, how it is read and what it says all follow from its
+-- format.
+-- Source: KMIP 2.1, Message Structure: items may stand in any order, and those that a reader does not use are
+-- skipped. Own (view): what a format is, and the formats that say which values there may be, and in what
+-- words. Own (order): which of two parts is read first, as the standard says no order of checks, and the
+-- first fault is to be named.
 use Rattle.std.specs.Prelude.{◌≡◌, ℕ, ◌+◌, max, ℤ, Bool, true, false, ◌&&◌, ◌==◌, List, [], ◌∷◌, ◌++◌, map, Option, Some, None, Result, Ok, Err, IsTrue, if◌then◌else◌}
 use Rattle.std.specs.List.{list_all}
 use Rattle.std.specs.Option.{option_map, option_map_or}
@@ -17,7 +21,7 @@ pub record Extent : Type 0 where
   pub size : ℕ
   pub depth : ℕ
 
--- a part of a message whose values are these
+-- a part of a message that says a value of this type
 pub record Format (A : Type 0) : Type 1 where
   -- the tags of its items
   pub tags : List ℕ
@@ -45,41 +49,45 @@ inside ns = structure (nodes_of ns)
 abbrev pub structures : Kind (List Node)
 structures = record { of = as_structure; make = inside }
 
+-- an Integer, by its number
 abbrev pub integers : Kind ℤ
 integers = record { of = as_integer; make = integer }
 
+-- an Enumeration, by its number
 abbrev pub enumerations : Kind ℕ
 enumerations = record { of = as_enumeration; make = enumeration }
 
+-- a Text String, by its bytes
 abbrev pub texts : Kind (List ℕ)
 texts = record { of = as_text_string; make = text_string }
 
+-- a Byte String, by its bytes
 abbrev pub bytes : Kind (List ℕ)
 bytes = record { of = as_byte_string; make = byte_string }
 
--- the items that say a value, where there is one
+-- the items that say a value, where there is one; else none
 abbrev pub if_given : {A : Type 0} → (A → List Node) → Option A → List Node
 if_given write o = option_map_or write o []
 
--- the same of one item
+-- the one item that says a value, where there is one; else none
 abbrev pub given : {A : Type 0} → (A → Node) → Option A → List Node
 given item o = if_given (λ a. item a ∷ []) o
 
 -- ---- how long and how deep items are
 
--- an item with this content, which has no items of its own
+-- how long and how deep an item with this content is, which has no items of its own
 abbrev pub flat : Content → Extent
 flat content = record { size = head_size + content_size content; depth = 1 }
 
--- a Structure around some items
+-- how long and how deep a Structure around some items is
 abbrev pub around : Extent → Extent
 around e = record { size = head_size + e.size; depth = 1 + e.depth }
 
--- some items, and others
+-- how long and how deep some items and some others are together
 abbrev pub beside : Extent → Extent → Extent
 beside e d = record { size = e.size + d.size; depth = max e.depth d.depth }
 
--- the items of a value, where there is one
+-- how long and how deep the items of a value are, where there is one; else no bytes and no levels
 abbrev pub extent_if_any : {A : Type 0} → (A → Extent) → Option A → Extent
 extent_if_any extent o = record { size = option_map_or (λ a. (extent a).size) o 0; depth = option_map_or (λ a. (extent a).depth) o 0 }
 
@@ -90,7 +98,7 @@ all_sizes size (a ∷ rest) = size a + all_sizes size rest
 
 -- ---- one item
 
--- just one item with the tag: its value
+-- Just one item with the tag, which has to be there: its value.
 abbrev pub required : {A : Type 0} → Kind A → ℕ → Format A
 required k tag = record {
   tags = tag ∷ [];
@@ -101,7 +109,7 @@ required k tag = record {
   Says = λ ns a. Once tag (k.make a) ns;
 }
 
--- no item with the tag, or one: its value
+-- No item with the tag, or one: its value, where there is one.
 abbrev pub optional : {A : Type 0} → Kind A → ℕ → Format (Option A)
 optional k tag = record {
   tags = tag ∷ [];
@@ -112,7 +120,7 @@ optional k tag = record {
   Says = λ ns o. AtMostOnce tag (option_map k.make o) ns;
 }
 
--- an item that is written with this content, and not looked at
+-- An item that is written with this content, and not looked at by a reader: it says nothing.
 abbrev pub unread : ℕ → Content → Format (Unit {0})
 unread tag content = record {
   tags = tag ∷ [];
@@ -123,15 +131,17 @@ unread tag content = record {
   Says = λ ns u. Unit {0};
 }
 
--- the value that a content has, in its range; and of some contents each
+-- The value that a content has, where the content has the type and the test holds of the value. Else the item
+-- with this tag is of a wrong type, or out of range.
 unfoldable pub value_in : {A : Type 0} → Kind A → ℕ → (A → Bool) → Content → Result A MessageFault
 value_in k tag test c = typed tag (k.of c) >>= λ a. within tag (test a) >>= λ u. Ok a
 
+-- the values that some contents have, each of the type and in its range, or the first fault
 abbrev pub values_in : {A : Type 0} → Kind A → ℕ → (A → Bool) → List Content → Result (List A) MessageFault
 values_in k tag test [] = Ok []
 values_in k tag test (c ∷ cs) = value_in k tag test c >>= λ a. values_in k tag test cs >>= λ rest. Ok (a ∷ rest)
 
--- any number of items with the tag: their values in their order, each in its range
+-- Any number of items with the tag: their values in their order, each in its range.
 abbrev pub repeated : {A : Type 0} → Kind A → ℕ → (A → Bool) → Format (List A)
 repeated k tag test = record {
   tags = tag ∷ [];
@@ -142,7 +152,7 @@ repeated k tag test = record {
   Says = λ ns all. (contents tag ns ≡ map k.make all) × IsTrue (list_all test all);
 }
 
--- just one Structure with the tag, whose items say the value
+-- Just one Structure with the tag, which has to be there, and whose items say the value.
 abbrev pub structure_of : {A : Type 0} → ℕ → Format A → Format A
 structure_of tag f = record {
   tags = tag ∷ [];
@@ -153,15 +163,18 @@ structure_of tag f = record {
   Says = λ ns a. (parts : List Node) × Once tag (inside parts) ns × f.Says parts a;
 }
 
--- no Structure with the tag, or one, whose items say the value
+-- what the items of a Structure are read as, where there is one
 abbrev pub read_if_any : {A : Type 0} → (List Node → Result A MessageFault) → Option (List Node) → Result (Option A) MessageFault
 read_if_any read None = Ok None
 read_if_any read (Some parts) = read parts >>= λ a. Ok (Some a)
 
+-- No item with the tag stands among these, and there is no value; or just one Structure does, whose items say
+-- the value.
 abbrev pub SaysIfAny : {A : Type 0} → ℕ → (List Node → A → Type 0) → List Node → Option A → Type 0
 SaysIfAny tag Says ns None = AtMostOnce tag None ns
 SaysIfAny tag Says ns (Some a) = (parts : List Node) × Once tag (inside parts) ns × Says parts a
 
+-- No Structure with the tag, or one, whose items say the value.
 abbrev pub optional_structure : {A : Type 0} → ℕ → Format A → Format (Option A)
 optional_structure tag f = record {
   tags = tag ∷ [];
@@ -174,7 +187,7 @@ optional_structure tag f = record {
 
 -- ---- the values
 
--- only the values of which a test holds; of any other the fault is this
+-- Only the values of which a test holds. Of any other the fault is this.
 abbrev pub tested : {A : Type 0} → MessageFault → (A → Bool) → Format A → Format A
 tested fault test f = record {
   tags = f.tags;
@@ -185,11 +198,11 @@ tested fault test f = record {
   Says = λ ns a. f.Says ns a × IsTrue (test a);
 }
 
--- only the values in the range of the item with this tag
+-- Only the values of which a test holds. Of any other the item with this tag is out of range.
 abbrev pub ranged : {A : Type 0} → ℕ → (A → Bool) → Format A → Format A
 ranged tag test f = tested (OutOfRange tag) test f
 
--- some value of which a test holds, and which is not kept; this one is written
+-- Any value of which the test holds is read, and not kept; else the fault is this. This value is written.
 abbrev pub fixed : {A : Type 0} → MessageFault → (A → Bool) → A → Format A → Format (Unit {0})
 fixed fault test value f = record {
   tags = f.tags;
@@ -200,7 +213,7 @@ fixed fault test value f = record {
   Says = λ ns u. (a : _) × f.Says ns a × IsTrue (test a);
 }
 
--- a value that has to be there, as one that may be
+-- A value that has to be there, in the words of one that may be there.
 abbrev pub present : {A : Type 0} → Format A → Format (Option A)
 present f = record {
   tags = f.tags;
@@ -211,7 +224,7 @@ present f = record {
   Says = λ ns o. (a : _) × f.Says ns a × (Some a ≡ o);
 }
 
--- the same values in other words, all of them
+-- The same values in other words: `there` leads from the one to the other, and `back` back.
 abbrev pub as_record : {A B : Type 0} → (A → B) → (B → A) → Format A → Format B
 as_record there back f = record {
   tags = f.tags;
@@ -222,7 +235,7 @@ as_record there back f = record {
   Says = λ ns b. f.Says ns (back b);
 }
 
--- the same values as one case of several
+-- The same values in other words, in which they are one case of several.
 abbrev pub as_case : {A B : Type 0} → (A → B) → (B → Option A) → Format A → Format B
 as_case there back f = record {
   tags = f.tags;
@@ -235,8 +248,8 @@ as_case there back f = record {
 
 -- ---- two parts
 
--- two parts, the first of which is read and written first
 infixr 6 ◌⊗◌
+-- Two parts side by side. The first is read first and written first.
 abbrev pub ◌⊗◌ : {A B : Type 0} → Format A → Format B → Format (A × B)
 f ⊗ g = record {
   tags = f.tags ++ g.tags;
@@ -247,8 +260,8 @@ f ⊗ g = record {
   Says = λ ns p. f.Says ns p.0 × g.Says ns p.1;
 }
 
--- two parts, the second of which is read first, and the first written first
 infixr 6 ◌⊗ʳ◌
+-- Two parts side by side. The second is read first, and the first is written first.
 abbrev pub ◌⊗ʳ◌ : {A B : Type 0} → Format A → Format B → Format (A × B)
 f ⊗ʳ g = record {
   tags = f.tags ++ g.tags;
@@ -259,8 +272,8 @@ f ⊗ʳ g = record {
   Says = λ ns p. f.Says ns p.0 × g.Says ns p.1;
 }
 
--- two parts, the second of which says no value
 infixl 5 ◌◁◌
+-- Two parts side by side, the second of which says no value. The first is read first and written first.
 abbrev pub ◌◁◌ : {A : Type 0} → Format A → Format (Unit {0}) → Format A
 f ◁ g = record {
   tags = f.tags ++ g.tags;
@@ -271,8 +284,8 @@ f ◁ g = record {
   Says = λ ns a. f.Says ns a × g.Says ns tt;
 }
 
--- two parts, the first of which says no value
 infixr 5 ◌▷◌
+-- Two parts side by side, the first of which says no value. The first is read first and written first.
 abbrev pub ◌▷◌ : {A : Type 0} → Format (Unit {0}) → Format A → Format A
 f ▷ g = record {
   tags = f.tags ++ g.tags;
@@ -283,7 +296,8 @@ f ▷ g = record {
   Says = λ ns a. f.Says ns tt × g.Says ns a;
 }
 
--- a part, and then one whose format the value of the first tells; the second has these tags
+-- A part, and then one whose format the value of the first tells. The second part has these tags, whatever
+-- the first tells.
 abbrev pub followed : {K A : Type 0} → List ℕ → Format K → (K → Format A) → Format (K × A)
 followed tags f g = record {
   tags = f.tags ++ tags;
@@ -294,12 +308,14 @@ followed tags f g = record {
   Says = λ ns p. f.Says ns p.0 × (g p.0).Says ns p.1;
 }
 
--- The part that a key tells, which was read before: where it was not there it is this fault. What is written, and what is said, goes
--- by the value's own key.
+-- What is read of the part that a key tells. Where the key, which was read before, is not there, the fault is
+-- this.
 abbrev pub read_told : {A : Type 0} → MessageFault → (ℕ → Format A) → Option ℕ → List Node → Result A MessageFault
 read_told fault g None ns = Err fault
 read_told fault g (Some key) ns = (g key).read ns
 
+-- A part that a key tells, where the key was read before. Without the key the fault is this. What is written
+-- goes by the value's own key. A value fits, and is said, only where that is the key that was read.
 abbrev pub told_by : {A : Type 0} → MessageFault → (A → ℕ) → Option ℕ → List ℕ → (ℕ → Format A) → Format A
 told_by fault key known tags g = record {
   tags = tags;
@@ -312,7 +328,7 @@ told_by fault key known tags g = record {
 
 -- ---- the whole
 
--- no items but those of the part
+-- A part beside which no other items stand. The first item of another tag is out of range, before all else.
 abbrev pub closed : {A : Type 0} → Format A → Format A
 closed f = record {
   tags = f.tags;
@@ -323,7 +339,7 @@ closed f = record {
   Says = λ ns a. HaveTags f.tags ns × f.Says ns a;
 }
 
--- the part where a test holds; else there is this fault, and nothing is looked at
+-- A part where a test holds. Else the fault is this, and no item is looked at.
 abbrev pub refusing : {A : Type 0} → MessageFault → Bool → Format A → Format A
 refusing fault test f = record {
   tags = f.tags;
@@ -334,11 +350,12 @@ refusing fault test f = record {
   Says = λ ns a. IsTrue test × f.Says ns a;
 }
 
--- the first where a test holds, and else the second
+-- The first holds where the test does, and the second where the test does not.
 abbrev pub Chosen : Bool → Type 0 → Type 0 → Type 0
 Chosen true P Q = P
 Chosen false P Q = Q
 
+-- one of two parts: the first where the test holds, and else the second
 abbrev pub choose : {A : Type 0} → Bool → Format A → Format A → Format A
 choose b f g = record {
   tags = f.tags ++ g.tags;

@@ -5,20 +5,20 @@ use Rattle.std.specs.List.{list_any}
 use Rattle.kmip_ttlv.specs.Node.{Node, Content, tag_of}
 use Rattle.kmip_fields.specs.Siblings.{contents}
 
--- just one of the items has the tag, and this is what it contains
+-- Just one of the items has the tag, and this is what it contains.
 abbrev pub Once : ℕ → Content → List Node → Type 0
 Once tag content ns = contents tag ns ≡ content ∷ []
 
--- what there is, as a list
+-- what there is, as a list of none or one
 abbrev pub if_any : {A : Type 0} → Option A → List A
 if_any None = []
 if_any (Some a) = a ∷ []
 
--- none of the items has the tag, or just one, and this is what it contains
+-- None of the items has the tag and there is no content, or just one has it, and this is what it contains.
 abbrev pub AtMostOnce : ℕ → Option Content → List Node → Type 0
 AtMostOnce tag content ns = contents tag ns ≡ if_any content
 
--- each item has one of these tags
+-- Each item has one of these tags.
 abbrev pub HaveTags : List ℕ → List Node → Type 0
 HaveTags tags [] = Unit {0}
 HaveTags tags (n ∷ ns) = IsTrue (list_any (λ t. t == tag_of n) tags) × HaveTags tags ns

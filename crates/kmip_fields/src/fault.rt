@@ -14,9 +14,9 @@ use kmip_ttlv::{NoMemory, Tag, TtlvFault};
 use std::alloc::{AllocError, AllocFailed};
 use thiserror::Error;
 
-/// The first thing that is wrong with a message. It is displayed by its name, with the tag that it is
-/// about as six hexadecimal digits, or with what is wrong with the items: `Missing 420077`,
-/// `Ttlv: Short at 0`.
+/// The first thing that is wrong with a message. It is displayed by its name. Where it is about a tag,
+/// that follows as six hexadecimal digits, as in `Missing 420077`. Where it is about the encoding of
+/// the items, what is wrong with that follows, as in `Ttlv: Short at 0`.
 #[derive(Clone, Copy, Debug, Error)]
 #[error("{}", self.name())]
 pub enum MessageFault {
@@ -69,7 +69,7 @@ impl MessageFault {
         }
     }
 
-    /// What is wrong with the encoding of the items, where it is that.
+    /// What is wrong with the encoding of the items, where the fault is that.
     pub fn items(self) -> Option<TtlvFault>
         ensures { result ≡ message_fault_items self }
     {
@@ -79,7 +79,7 @@ impl MessageFault {
         }
     }
 
-    /// The fault's number, 1 to 11.
+    /// The fault's number, 1 to 11 in the order of their declaration.
     pub fn number(self) -> u32
         ensures { result ≡ message_fault_number self }
     {

@@ -18,6 +18,7 @@ use kmip_ttlv::{Item, Tag};
 
 /// The item with this tag, where there is one; two or more are a fault.
 fn at_most_one(items: &[Item], tag: u32) -> Result<Option<&Item>, MessageFault>
+    // The tag has three bytes.
     requires { tag < 2 ^ 24 }
     ensures exact { Gives (λ o. option_map (λ i. content_of (view i.now)) o) result
         (at_most_one_of tag (contents tag (views items.now))) }
@@ -36,11 +37,12 @@ fn at_most_one(items: &[Item], tag: u32) -> Result<Option<&Item>, MessageFault>
     Ok(found)
 }
 
-/// The item with this tag, which stands once.
+/// The item with this tag, which stands once. A contract sees what the item contains.
 ///
 /// # Errors
 /// `Missing` where it stands nowhere, `Twice` where it stands twice or more often.
 pub fn one(items: &[Item], tag: u32) -> Result<&Item, MessageFault>
+    // The tag has three bytes.
     requires { tag < 2 ^ 24 }
     ensures { Gives (λ i. content_of (view i.now)) result
         (one_of tag (contents tag (views items.now))) }
@@ -57,6 +59,7 @@ pub fn one(items: &[Item], tag: u32) -> Result<&Item, MessageFault>
 /// `Missing` or `Twice` where it does not stand once, `WrongType` where it has another type.
 #[tactic(auto, unfolding(crate::specs::Siblings::the))]
 pub fn the_structure(items: &[Item], tag: u32) -> Result<&[Item], MessageFault>
+    // The tag has three bytes.
     requires { tag < 2 ^ 24 }
     ensures { Gives (λ s. views s.now) result (the as_structure tag (views items.now)) }
 {
@@ -72,6 +75,7 @@ pub fn the_structure(items: &[Item], tag: u32) -> Result<&[Item], MessageFault>
 /// `Missing` or `Twice` where it does not stand once, `WrongType` where it has another type.
 #[tactic(auto, unfolding(crate::specs::Siblings::the))]
 pub fn the_integer(items: &[Item], tag: u32) -> Result<i32, MessageFault>
+    // The tag has three bytes.
     requires { tag < 2 ^ 24 }
     ensures { Gives (λ n. n) result (the as_integer tag (views items.now)) }
 {
@@ -87,6 +91,7 @@ pub fn the_integer(items: &[Item], tag: u32) -> Result<i32, MessageFault>
 /// `Missing` or `Twice` where it does not stand once, `WrongType` where it has another type.
 #[tactic(auto, unfolding(crate::specs::Siblings::the))]
 pub fn the_enumeration(items: &[Item], tag: u32) -> Result<u32, MessageFault>
+    // The tag has three bytes.
     requires { tag < 2 ^ 24 }
     ensures { Gives (λ n. n) result (the as_enumeration tag (views items.now)) }
 {
@@ -102,6 +107,7 @@ pub fn the_enumeration(items: &[Item], tag: u32) -> Result<u32, MessageFault>
 /// `Missing` or `Twice` where it does not stand once, `WrongType` where it has another type.
 #[tactic(auto, unfolding(crate::specs::Siblings::the))]
 pub fn the_text(items: &[Item], tag: u32) -> Result<&str, MessageFault>
+    // The tag has three bytes.
     requires { tag < 2 ^ 24 }
     ensures { Gives (λ s. s.now) result (the as_text_string tag (views items.now)) }
 {
@@ -117,6 +123,7 @@ pub fn the_text(items: &[Item], tag: u32) -> Result<&str, MessageFault>
 /// `Twice` where it stands twice or more often, `WrongType` where it has another type.
 #[tactic(auto, unfolding(crate::specs::Siblings::maybe))]
 pub fn integer_if_any(items: &[Item], tag: u32) -> Result<Option<i32>, MessageFault>
+    // The tag has three bytes.
     requires { tag < 2 ^ 24 }
     ensures { Gives (λ n. n) result (maybe as_integer tag (views items.now)) }
 {
@@ -135,6 +142,7 @@ pub fn integer_if_any(items: &[Item], tag: u32) -> Result<Option<i32>, MessageFa
 /// `Twice` where it stands twice or more often, `WrongType` where it has another type.
 #[tactic(auto, unfolding(crate::specs::Siblings::maybe))]
 pub fn enumeration_if_any(items: &[Item], tag: u32) -> Result<Option<u32>, MessageFault>
+    // The tag has three bytes.
     requires { tag < 2 ^ 24 }
     ensures { Gives (λ n. n) result (maybe as_enumeration tag (views items.now)) }
 {
@@ -153,6 +161,7 @@ pub fn enumeration_if_any(items: &[Item], tag: u32) -> Result<Option<u32>, Messa
 /// `Twice` where it stands twice or more often, `WrongType` where it has another type.
 #[tactic(auto, unfolding(crate::specs::Siblings::maybe))]
 pub fn structure_if_any(items: &[Item], tag: u32) -> Result<Option<&[Item]>, MessageFault>
+    // The tag has three bytes.
     requires { tag < 2 ^ 24 }
     ensures { Gives (λ o. option_map (λ s. views s.now) o) result
         (maybe as_structure tag (views items.now)) }
@@ -172,6 +181,7 @@ pub fn structure_if_any(items: &[Item], tag: u32) -> Result<Option<&[Item]>, Mes
 /// `Twice` where it stands twice or more often, `WrongType` where it has another type.
 #[tactic(auto, unfolding(crate::specs::Siblings::maybe))]
 pub fn bytes_if_any(items: &[Item], tag: u32) -> Result<Option<&[u8]>, MessageFault>
+    // The tag has three bytes.
     requires { tag < 2 ^ 24 }
     ensures { Gives (λ o. option_map (λ s. s.now) o) result
         (maybe as_byte_string tag (views items.now)) }
@@ -185,7 +195,7 @@ pub fn bytes_if_any(items: &[Item], tag: u32) -> Result<Option<&[u8]>, MessageFa
     }
 }
 
-/// The test holds.
+/// A test, which passes where it holds.
 ///
 /// # Errors
 /// This fault, where the test fails.
@@ -195,11 +205,12 @@ pub fn check(test: bool, fault: MessageFault) -> Result<(), MessageFault>
     if test { Ok(()) } else { Err(fault) }
 }
 
-/// A value of the item with this tag is in its range.
+/// A test that a value of the item with this tag is in its range, which passes where it holds.
 ///
 /// # Errors
 /// `OutOfRange` of this tag, where the test fails.
 pub fn within(tag: u32, test: bool) -> Result<(), MessageFault>
+    // The tag has three bytes.
     requires { tag < 2 ^ 24 }
     ensures { result ≡ within tag test }
 {
@@ -210,10 +221,10 @@ pub fn within(tag: u32, test: bool) -> Result<(), MessageFault>
     }
 }
 
-/// Every item has one of these tags.
+/// A test that every item has one of these tags.
 ///
 /// # Errors
-/// `OutOfRange` of the first tag that is none of these.
+/// `OutOfRange` of the tag of the first item that has none of these.
 pub fn only(tags: &[u32], items: &[Item]) -> Result<(), MessageFault>
     ensures { result ≡ only tags.now (views items.now) }
 {

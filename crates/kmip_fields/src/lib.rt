@@ -1,5 +1,7 @@
-//! The fields of a message: the items of one Structure, found by their tags, and why there is no
-//! value.
+//! The fields of a message: items of one Structure, found by their tags.
+//!
+//! What a call says of some items is what specs/Siblings.antt says of the list of them: the same value,
+//! or the same fault, unless memory runs out.
 //!
 //! Source: KMIP 2.1, Message Structure.
 #![tactic(auto)]

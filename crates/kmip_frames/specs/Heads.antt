@@ -1,5 +1,8 @@
 -- The head of a message: eight bytes with its tag, its type and how many bytes follow.
--- Source: KMIP 2.1, Message Structure; TTLV Encoding. That a message takes at most 8,192 bytes is own.
+-- The tags of a message are those of `standard` of kmip_messages. How many bytes a head has, and a message at
+-- most, is in Limits of kmip_ttlv.
+-- Source: KMIP 2.1, Message Structure; TTLV Encoding. Own (limit): a message takes at most 8,192 bytes.
+-- Own (order): the order of the checks, as the standard says none.
 use Rattle.std.specs.Prelude.{ℕ, ◌+◌, ◌==◌, ◌%◌, nat_lt, Bool, not, ◌&&◌, ◌||◌, if◌then◌else◌, List, drop, slice_index, Option, Some, None}
 use Rattle.byteorder.specs.Endian.{big_number}
 use Rattle.kmip_ttlv.specs.Limits.{head_size, most_bytes}
@@ -9,15 +12,16 @@ use Rattle.kmip_messages.specs.declared.standard.TheConstants.{TAG_REQUEST_MESSA
 use Rattle.kmip_frames.specs.declared.fault.FrameFault.{FrameFault}
 use Rattle.kmip_frames.specs.declared.fault.FrameFault.TheVariants.{BadHead, BadLength, TooLong}
 
--- a message has the tag
+-- whether a message has this tag: a Request Message or a Response Message
 abbrev pub is_message_tag : ℕ → Bool
 is_message_tag tag = tag == TAG_REQUEST_MESSAGE || tag == TAG_RESPONSE_MESSAGE
 
--- how many bytes follow, as the head says
+-- how many bytes follow a head, as it says
 unfoldable pub length_in : List ℕ → ℕ
 length_in head = big_number 4 (drop 4 head)
 
--- why eight bytes are no head of a message, by the first check that fails; none where they are one
+-- Why eight bytes are no head of a message, by the first check that fails: of the tag and the type, that the
+-- length is a multiple of eight, and that the message is not too long. None where they are a head.
 unfoldable pub head_fault : List ℕ → Option FrameFault
 head_fault head =
     if not (is_message_tag (big_number 3 head) && slice_index head 3 == byte_of_type Structure) then Some BadHead

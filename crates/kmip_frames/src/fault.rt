@@ -26,7 +26,7 @@ pub enum FrameFault {
 }
 
 impl FrameFault {
-    /// The fault's number, 1 to 5.
+    /// The fault's number, 1 to 5 in the order of their declaration.
     pub fn number(self) -> u32
         ensures { result ≡ frame_fault_number self }
     {

@@ -14,6 +14,7 @@ use std::marker::Model;
 ///
 /// A message begins with a head of eight bytes: the tag of a Request or Response Message, the type
 /// Structure, and a length that is a multiple of eight. It takes at most 8,192 bytes with its head.
+/// A contract sees the bytes that are taken and not handed over: those that the framer holds.
 #[derive(Drop)]
 pub struct Framer {
     held: Vec<u8>,
@@ -33,36 +34,44 @@ impl Model for Framer {
 }
 
 impl Framer {
-    /// A framer that holds nothing. It takes room for the longest message once, and `feed` no more.
+    /// A new framer. It takes room for the longest message once, and `feed` takes no more.
     ///
     /// # Errors
-    /// `NoMemory`.
+    /// `NoMemory` where there is no memory for the room.
     pub fn new(alloc: Global) -> Result<Framer, FrameFault>
+        // The framer holds nothing.
         ensures empty { IfOk result (λ framer. framer ≡ []) }
+        // It is refused for want of memory alone.
         ensures refused { IfErr result (λ fault. fault ≡ FrameFault.NoMemory) }
     {
         let held = Vec::with_capacity(alloc, MAX_SIZE)?;
         Ok(Framer { held })
     }
 
-    /// Takes bytes from the front of the piece up to the end of the present message, and answers
+    /// Takes bytes from the front of the piece up to the end of the present message, and returns
     /// how many. While a whole message waits it takes none. A head is judged once its eighth byte
-    /// is taken. Takes no memory.
+    /// is taken. It takes no memory.
     ///
     /// # Errors
-    /// `BadHead`, `BadLength` or `TooLong`, by the first check that fails, where the next eight
-    /// bytes are no head of a message: these are then held. `Failed` where that came before:
-    /// nothing is changed.
+    /// `BadHead`, `BadLength` or `TooLong`, where the next eight bytes are no head of a message: these
+    /// are then held. `Failed` where that came before.
     pub fn feed(&mut self, piece: &[u8]) -> Result<usize, FrameFault>
+        // What it returns is a function of the bytes held before it and the piece.
         ensures answer { result ≡ feed self.old piece.now }
+        // The bytes held after it are a function of these, too.
         ensures held { self.new ≡ held_after self.old piece.now }
+        // After a fault it is `Failed` for good, and changes nothing.
         ensures failed { IsSome (fault_in self.old)
             → (result ≡ Err FrameFault.Failed) × (self.new ≡ self.old) }
+        // A refusal before that names the first check of the head that fails.
         ensures refused { fault_in self.old ≡ None
             → IfErr result (λ fault. fault_in (self.old ++ piece.now) ≡ Some fault) }
+        // As many bytes as it says are taken from the front of the piece, and join those held.
         ensures taken { IfOk result (λ count.
             (count ≤ length piece.now) × (self.new ≡ self.old ++ take count piece.now)) }
+        // Where it leaves some of the piece, a whole message waits.
         ensures whole { IfOk result (λ count. count < length piece.now → IsMessage self.new) }
+        // Where no whole message waited before and the piece is not empty, it takes at least one byte.
         ensures some { IfOk result (λ count.
             BeginsWithNoMessage self.old → 0 < length piece.now → 0 < count) }
     {
@@ -78,10 +87,12 @@ impl Framer {
         Ok(of_head + of_body)
     }
 
-    /// Hands the waiting message over, so that nothing is held; `None` where none is whole.
+    /// Hands over exactly the bytes held where these are a whole message, and then holds nothing.
+    /// It returns `None` exactly where no whole message waits and no fault came. Nothing is changed then.
     ///
     /// # Errors
-    /// `Failed` after a fault of `feed`. `NoMemory`: the message waits on. Nothing is changed.
+    /// `Failed` after a fault of `feed`. `NoMemory` where there is no memory for the message, which
+    /// waits on. Nothing is changed by either.
     pub fn next(&mut self, alloc: Global) -> Result<Option<Vec<u8>>, FrameFault>
         ensures { Hands (λ message. message.items) result self.old self.new }
     {
@@ -96,26 +107,33 @@ impl Framer {
         Ok(Some(message))
     }
 
-    /// How many bytes are taken and not handed over: at most 8,192, and 8 after a fault of `feed`.
+    /// How many bytes are taken and not handed over.
     pub fn pending(&self) -> usize
+        // It is how many bytes are held.
         ensures value { result ≡ length self.now }
+        // These are at most 8,192.
         ensures at_most { result ≤ most_bytes }
+        // They are, until a fault of `feed`, less than a head, a front of one message or a whole one. After
+        // it they are the eight bytes of the head.
         ensures held { IsHeld self.now }
     {
         self.held.len()
     }
 
-    /// How many bytes the present head, or once it is whole the message, still lacks: 0 while a
-    /// message waits and after a fault of `feed`.
+    /// How many bytes are lacking.
     pub fn wants(&self) -> usize
+        // It is how many bytes the present head still lacks, or once that is whole, the message.
         ensures value { result ≡ wants self.now }
+        // None is lacking while a whole message waits.
         ensures waiting { IsMessage self.now → result ≡ 0 }
+        // None is lacking after a fault of `feed`.
         ensures failed { IsSome (fault_in self.now) → result ≡ 0 }
     {
         size_needed(self.held.as_slice()) - self.held.len()
     }
 
-    /// Why the eight bytes held are no head of a message, after a fault of `feed`.
+    /// Why the framer failed: why the eight bytes held are no head of a message. `None` where no fault of
+    /// `feed` came.
     pub fn fault(&self) -> Option<FrameFault>
         ensures { result ≡ fault_in self.now }
     {
@@ -123,7 +141,7 @@ impl Framer {
     }
 }
 
-/// Appends bytes from the front of the piece until this many are held, or the piece ends. Answers
+/// Appends bytes from the front of the piece until this many are held, or the piece ends. Returns
 /// how many.
 fn fill(held: &mut Vec<u8>, size: usize, piece: &[u8]) -> usize
     requires { size ≤ vec_capacity held.old }

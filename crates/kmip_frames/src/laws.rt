@@ -12,26 +12,35 @@ ghost use Rattle.kmip_frames.specs.Laws.{
   MoreChangesNothing,
 };
 
-/// Bytes are messages and a rest in one way only; and a rest whose head is no message's stays one,
-/// whatever follows.
+/// What holds of any stream.
 pub fn stream_laws()
+    // Bytes are messages and a rest in one way only.
     ensures one_way { StreamsAreOneWay }
+    // Bytes that begin with a bad head go on doing so whatever follows, and no message begins there.
     ensures fault { FaultsStay }
 {}
 
-/// However the bytes of a stream are fed, and whenever `next` is called, the messages handed over
-/// are those of the stream.
+/// What holds of a framer's calls, whatever pieces are fed and whenever `next` is called.
 pub fn framer_laws()
+    // Once no whole message waits, the messages handed over are those of the stream.
     ensures stream { CallsHandTheStream }
+    // So however the same bytes are cut, the same messages are handed over and the same bytes are left.
     ensures same { CallsAgree }
+    // To feed two pieces joined is to feed the first, and then what is left of it with the second. The
+    // first is one that is not refused.
     ensures pieces { PiecesJoin }
 {}
 
-/// How many bytes are needed, and what a whole head, a fault, a message and more bytes do to that.
+/// How many bytes are needed by the message at the front of some bytes, and why they have no message.
 pub fn sizes()
+    // Bytes that are less than a head have no fault, and what they need is a head.
     ensures short { ShortBytesLackAHead }
+    // What is needed is a head at least, and 8,192 bytes at most.
     ensures bounds { SizesAreBounded }
+    // A fault is that of a whole head. Then no more than the head is needed, and no message begins there.
     ensures fault { FaultsNeedNoMore }
+    // Bytes are a message just where they have no fault and are as many as are needed.
     ensures message { MessagesAreWhole }
+    // Once a head is whole, more bytes change neither its fault nor what is needed.
     ensures more { MoreChangesNothing }
 {}

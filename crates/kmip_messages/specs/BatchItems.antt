@@ -1,5 +1,6 @@
 -- One Batch Item of a message: the question of a request and the answer of a reply, by what its items say.
--- Source: KMIP 2.1, Message Structure (Batch Item); what a refusal carries, and the order of the checks, are own.
+-- Source: KMIP 2.1, Message Structure, Batch Item. Own (choice): what is refused, what a refusal carries, and
+-- the ranges. Own (order): which fault is the first.
 use Rattle.std.specs.Prelude.{◌≡◌, ℕ, Bool, true, ◌&&◌, List, Option, Some, Result, Ok, Err}
 use Rattle.std.specs.Option.{option_map, option_map_or}
 use Rattle.kmip_ttlv.specs.Binding.{◌>>=◌}
@@ -26,12 +27,14 @@ Question = Result Request Refusal
 
 -- ---- read
 
--- the question whose Operation and Unique Batch Item ID are known, by what is read behind them
+-- The question whose Operation and Unique Batch Item ID are known, by what is read after them. A refusal
+-- carries both, and the fault.
 abbrev pub question : ℕ × Option (List ℕ) → Result Ask MessageFault → Question
 question known (Ok ask) = Ok (record { id = known.1; ask = ask })
 question known (Err fault) = Err (record { fault = fault; operation = Some known.0; id = known.1 })
 
--- the question in a Batch Item; where its Operation or its Unique Batch Item ID is unlawful there is none
+-- The question in a Batch Item. Where its Operation or its Unique Batch Item ID is unlawful there is none,
+-- and the fault is theirs.
 unfoldable pub question_at : List Node → Result Question MessageFault
 question_at batch = do
   known ← known_format.read batch
@@ -39,7 +42,8 @@ question_at batch = do
 
 -- ---- what it says
 
--- a question is refused: its Operation and its Unique Batch Item ID are lawful, and this is the first fault behind them
+-- A question is refused. Its Operation and its Unique Batch Item ID are lawful, and the refusal carries both.
+-- Its fault is the first one after them.
 pub record IsRefused (batch : List Node) (refusal : Refusal) : Type 0 where
   pub operation : ℕ
   pub stands : Once TAG_OPERATION (enumeration operation) batch
@@ -47,12 +51,12 @@ pub record IsRefused (batch : List Node) (refusal : Refusal) : Type 0 where
   pub carries : refusal.operation ≡ Some operation
   pub breaks : (asked_format operation).read batch ≡ Err refusal.fault
 
--- the items are the question
+-- The items of a Batch Item of a request are this question: a request, or one that is refused.
 abbrev pub IsQuestion : List Node → Question → Type 0
 IsQuestion batch (Ok request) = IsMarked batch request.id × IsAsk batch request.ask
 IsQuestion batch (Err refusal) = IsRefused batch refusal
 
--- the items are the reply to a question
+-- The items of a Batch Item of a reply are this reply.
 pub record IsAnswer (batch : List Node) (reply : Reply) : Type 0 where
   pub operation : AtMostOnce TAG_OPERATION (option_map enumeration reply.operation) batch
   pub id : IsMarked batch reply.id
@@ -60,14 +64,15 @@ pub record IsAnswer (batch : List Node) (reply : Reply) : Type 0 where
 
 -- ---- written
 
--- the Batch Item of a request
+-- the written Batch Item of a request, by its format
 abbrev pub question_item : Request → Node
 question_item r = node TAG_BATCH_ITEM (inside (item_format.write r))
 
--- the Batch Item of a reply
+-- the written Batch Item of a reply, by its format
 abbrev pub answer_item : Reply → Node
 answer_item r = node TAG_BATCH_ITEM (inside (answered_format.write r))
 
--- a reply whose values are in their ranges
+-- whether the values of a reply are in their ranges, whatever its length, and a success stands under its own
+-- operation
 abbrev pub answer_fits : Reply → Bool
 answer_fits r = option_map_or is_batch_id r.id true && outcome_fits r.operation r.outcome

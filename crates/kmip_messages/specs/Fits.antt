@@ -1,5 +1,5 @@
 -- Which outcomes stand under the operation that was asked, with their values in range.
--- Source: own: the ranges of the fields.
+-- Source: own (choice): the ranges of the fields.
 use Rattle.std.specs.Prelude.{ℕ, Bool, true, false, ◌&&◌, ◌==◌, Option}
 use Rattle.std.specs.List.{list_all}
 use Rattle.std.specs.Option.{option_map_or}
@@ -15,11 +15,12 @@ use Rattle.kmip_messages.specs.declared.standard.TheConstants.{
 }
 use Rattle.kmip_objects.specs.Ranges.{is_identifier}
 
--- the operation that was asked is this one
+-- whether the operation that was asked is this one
 abbrev pub is_own : ℕ → Option ℕ → Bool
 is_own operation asked = option_map_or (λ o. o == operation) asked false
 
--- a success stands under its own operation, with identifiers in their range
+-- Whether an outcome stands under the operation that was asked, with its identifiers in range. A failure may
+-- stand under any operation.
 abbrev pub outcome_fits : Option ℕ → Outcome → Bool
 outcome_fits asked (Created uid) = is_own OPERATION_CREATE asked && is_identifier uid
 outcome_fits asked (Located uids) = is_own OPERATION_LOCATE asked && list_all is_identifier uids

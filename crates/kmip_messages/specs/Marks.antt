@@ -8,12 +8,12 @@ use Rattle.kmip_messages.specs.Ranges.{is_batch_id}
 use Rattle.kmip_fields.specs.Standing.{Once, AtMostOnce}
 use Rattle.kmip_objects.specs.Ranges.{is_identifier}
 
--- the Unique Batch Item ID, where there is one
+-- The Batch Item has this Unique Batch Item ID, in its range, or has none.
 pub record IsMarked (batch : List Node) (id : Option (List ℕ)) : Type 0 where
   pub stands : AtMostOnce TAG_UNIQUE_BATCH_ITEM_ID (option_map byte_string id) batch
   pub in_range : IsTrue (option_map_or is_batch_id id true)
 
--- the Unique Identifier
+-- The payload has this one Unique Identifier, in its range.
 pub record IsIdentifier (payload : List Node) (uid : List ℕ) : Type 0 where
   pub stands : Once TAG_UNIQUE_IDENTIFIER (text_string uid) payload
   pub in_range : IsTrue (is_identifier uid)

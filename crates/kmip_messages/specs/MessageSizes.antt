@@ -1,5 +1,5 @@
 -- How long numbers and texts are in a message, and which outcomes are short; of all else its format says it.
--- Source: KMIP 2.1, TTLV Encoding.
+-- Source: KMIP 2.1, TTLV Encoding. Own (view): that a number is capped.
 use Rattle.std.specs.Prelude.{◌≡◌, ℕ, ◌+◌, ◌<◌, ◌≤◌, false, List, length, Option, IsTrue}
 use Rattle.std.specs.Option.{option_map_or}
 use Rattle.kmip_ttlv.specs.Limits.{most_bytes}
@@ -16,7 +16,7 @@ number_size o = option_map_or (λ _. 16) o 0
 abbrev pub text_size : List ℕ → ℕ
 text_size s = 8 + padded (length s)
 
--- the same number, or both are more than a message may have
+-- The first number is the second, or both are more than a message may have.
 abbrev pub IsCapped : ℕ → ℕ → Type 0
 IsCapped n m = (m ≤ most_bytes → n ≡ m) × (most_bytes < m → most_bytes < n)
 

@@ -12,6 +12,7 @@ use Rattle.kmip_messages.specs.declared.standard.TheConstants.{
   OPERATION_DESTROY,
 }
 
+-- the number of the operation that is asked
 abbrev pub operation_of : Ask → ℕ
 operation_of (Create attrs) = OPERATION_CREATE
 operation_of (Locate mask filter) = OPERATION_LOCATE

@@ -1,5 +1,6 @@
--- What a reply says: each item that is used stands once among its siblings, in any order, and other items are skipped.
--- Source: KMIP 2.1, Message Structure, Operations and Object Attributes.
+-- What a reply says: each item that is used stands once among its siblings, in any order, and other items are
+-- skipped.
+-- Source: KMIP 2.1, Message Structure, Operations and Object Attributes. Own (choice): the ranges.
 use Rattle.std.specs.Prelude.{◌≡◌, ℕ, List, [], map, Option, Some, None, IsTrue}
 use Rattle.std.specs.List.{list_all}
 use Rattle.std.specs.Option.{option_map}
@@ -15,19 +16,19 @@ use Rattle.kmip_messages.specs.Attributes.{AreAttrs}
 use Rattle.kmip_messages.specs.Marks.{IsIdentifier}
 use Rattle.kmip_fields.specs.Formats.{inside}
 
--- all the Unique Identifiers, in their order
+-- The payload has these Unique Identifiers and no others, in their order, each in its range.
 pub record AreIdentifiers (payload : List Node) (uids : List (List ℕ)) : Type 0 where
   pub stand : contents TAG_UNIQUE_IDENTIFIER payload ≡ map text_string uids
   pub in_range : IsTrue (list_all is_identifier uids)
 
--- the payload of Get Attributes: an identifier, and the attributes of its object
+-- The payload of Get Attributes says this identifier, and these attributes of its object.
 pub record IsObject (payload : List Node) (uid : List ℕ) (attrs : Attrs) : Type 0 where
   pub attributes : List Node
   pub is_identifier : IsIdentifier payload uid
   pub has_attributes : Once TAG_ATTRIBUTES (inside attributes) payload
   pub are : AreAttrs attributes attrs
 
--- a success of the operation that was asked, with a payload that says this
+-- A success of this operation, which is the one that was asked. It has one payload, of which this holds.
 pub record IsSuccess (batch : List Node) (asked : Option ℕ) (operation : ℕ) (Says : List Node → Type 0) : Type 0 where
   pub is_own : asked ≡ Some operation
   pub has_status : Once TAG_RESULT_STATUS (enumeration STATUS_SUCCESS) batch
@@ -35,11 +36,13 @@ pub record IsSuccess (batch : List Node) (asked : Option ℕ) (operation : ℕ) 
   pub has_payload : Once TAG_RESPONSE_PAYLOAD (inside payload) batch
   pub says : Says payload
 
--- a success of Locate, where no payload says what an empty one does
+-- The payload of a Locate says these identifiers. No payload says what an empty one does.
 abbrev pub AreFound : Option (List Node) → List (List ℕ) → Type 0
 AreFound None uids = uids ≡ []
 AreFound (Some payload) uids = AreIdentifiers payload uids
 
+-- A success of Locate, which is the operation that was asked. It may have a payload, and says these
+-- identifiers.
 pub record IsLocated (batch : List Node) (asked : Option ℕ) (uids : List (List ℕ)) : Type 0 where
   pub is_own : asked ≡ Some OPERATION_LOCATE
   pub has_status : Once TAG_RESULT_STATUS (enumeration STATUS_SUCCESS) batch
@@ -47,12 +50,12 @@ pub record IsLocated (batch : List Node) (asked : Option ℕ) (uids : List (List
   pub has_payload : AtMostOnce TAG_RESPONSE_PAYLOAD (option_map inside payload) batch
   pub says : AreFound payload uids
 
--- a failure, with its reason where there is one; no payload is looked at
+-- A failure, with its reason where there is one. No payload is looked at.
 pub record IsFailed (batch : List Node) (reason : Option ℕ) : Type 0 where
   pub has_status : Once TAG_RESULT_STATUS (enumeration STATUS_OPERATION_FAILED) batch
   pub has_reason : AtMostOnce TAG_RESULT_REASON (option_map enumeration reason) batch
 
--- how the operation that was asked went
+-- The items of a Batch Item say how the operation that was asked went.
 abbrev pub IsOutcome : List Node → Option ℕ → Outcome → Type 0
 IsOutcome batch asked (Created uid) = IsSuccess batch asked OPERATION_CREATE (λ payload. IsIdentifier payload uid)
 IsOutcome batch asked (Located uids) = IsLocated batch asked uids

@@ -1,5 +1,5 @@
 -- Which requests have their values in range: these have a written form.
--- Source: own: the ranges of the fields.
+-- Source: own (choice): the ranges of the fields.
 use Rattle.std.specs.Prelude.{Bool, true, false, ◌&&◌}
 use Rattle.std.specs.Option.{option_map_or}
 use Rattle.kmip_messages.specs.Ranges.{is_batch_id}
@@ -8,7 +8,7 @@ use Rattle.kmip_messages.specs.declared.request.Ask.TheVariants.{Create, Locate,
 use Rattle.kmip_messages.specs.declared.request.Request.{Request}
 use Rattle.kmip_objects.specs.Ranges.{is_name, is_identifier, is_revocation_code, attrs_fit}
 
--- a question whose values are in their ranges
+-- whether the values of what is asked are in their ranges
 abbrev pub ask_fits : Ask → Bool
 ask_fits (Create k) = attrs_fit k
 ask_fits (Locate mask filter) = option_map_or is_name filter.name false
@@ -17,6 +17,6 @@ ask_fits (Activate uid) = is_identifier uid
 ask_fits (Revoke uid code) = is_identifier uid && is_revocation_code code
 ask_fits (Destroy uid) = is_identifier uid
 
--- a request whose values are in their ranges
+-- whether the values of a request are in their ranges, which is all that a written form needs
 abbrev pub request_fits : Request → Bool
 request_fits r = option_map_or is_batch_id r.id true && ask_fits r.ask

@@ -13,7 +13,7 @@ use crate::standard::{
 use kmip_ttlv::{Bytes, Item, NoMemory, Tag, Text};
 use std::alloc::Global;
 
-/// The Protocol Version 2.1.
+/// The item of the Protocol Version 2.1, as a header has it.
 ///
 /// # Errors
 /// Where there is no memory for it.
@@ -95,11 +95,12 @@ pub(crate) fn name_item(alloc: Global, name: &Text) -> Result<Item, NoMemory>
     Ok(Item::structure(Tag::new(TAG_NAME), items))
 }
 
-/// Puts an Enumeration at the end, where there is one.
+/// Puts an Enumeration with this tag at the end, where there is a value; else it adds nothing.
 ///
 /// # Errors
-/// Where there is no memory for it.
+/// Where there is no memory for it. Of the items nothing is promised then.
 pub fn push_enumeration(items: &mut Vec<Item>, tag: u32, value: Option<u32>) -> Result<(), NoMemory>
+    // The tag has three bytes.
     requires { tag < 2 ^ 24 }
     ensures { OnOk result
         (views items.new.items ≡ views items.old.items
@@ -137,7 +138,7 @@ pub(crate) fn push_integer(
 /// Puts an item at the end.
 ///
 /// # Errors
-/// Where there is no memory for it.
+/// Where there is no memory for it. Of the items nothing is promised then.
 pub fn push(items: &mut Vec<Item>, item: Item) -> Result<(), NoMemory>
     ensures { OnOk result (views items.new.items ≡ views items.old.items ++ view item ∷ []) }
 {

@@ -24,7 +24,8 @@ use crate::standard::{
 use kmip_objects::{attrs_fit, is_identifier, is_name, is_revocation_code};
 use kmip_ttlv::{Bytes, MAX_SIZE, Text};
 
-/// Whether the values of a request are in their ranges. Takes no memory.
+/// Whether the values of a request are in their ranges, which is all that a written form needs. It
+/// takes no memory.
 pub fn request_fits(request: &Request) -> bool
     ensures { result ≡ request_fits request.now }
 {
@@ -55,17 +56,19 @@ fn is_named(name: &Option<Text>) -> bool
     }
 }
 
-/// Whether the values of a reply are in their ranges, and a success stands under its own operation.
-/// Takes no memory.
+/// Whether the values of a reply are in their ranges, whatever its length, and a success stands under
+/// its own operation. It takes no memory.
 pub fn answer_fits(reply: &Reply) -> bool
     ensures { result ≡ answer_fits reply.now }
 {
     id_fits(&reply.id) && outcome_fits(reply.operation, &reply.outcome)
 }
 
-/// How many bytes the Batch Item of a reply takes, or more than a message may have. Takes no memory.
+/// How many bytes the Batch Item of a reply takes. It takes no memory.
 pub fn answer_size(reply: &Reply) -> usize
+    // The size where a message may have that many bytes, else some number that is more than it may have.
     ensures size { IsCapped result (size (answer_item reply.now)) }
+    // In no case is it more than 200,000, so that a sum of some of them does not overflow.
     ensures small { result ≤ 200000 }
 {
     let operation = number_size(&reply.operation);

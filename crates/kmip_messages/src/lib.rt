@@ -1,8 +1,12 @@
-//! What requests ask and what replies say: one question and one reply, as values and as the Batch
-//! Items that messages are made of.
+//! What requests ask and what replies say, one question and one reply at a time.
 //!
-//! Source: KMIP 2.1, Message Structure and Operations. The profile is in
-//! docs/DECISIONS.md.
+//! Messages are made of Batch Items. One of a request is a question: a request, or the refusal of one.
+//! One of a reply is a reply. Each part is described once, in `item_format` and `answered_format` of
+//! specs/. How it is read, in which order, and its written form follow from that. `IsQuestion` and
+//! `IsAnswer` say by hand what the items say. It is proved in both directions that the formats say just
+//! that (`question-law`, `answer-law`).
+//!
+//! Source: KMIP 2.1, Message Structure and Operations. The profile is in docs/DECISIONS.md.
 #![tactic(auto)]
 
 pub mod attributes;

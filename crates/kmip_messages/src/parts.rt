@@ -18,7 +18,8 @@ use std::alloc::Global;
 /// The item that all the bytes are.
 ///
 /// # Errors
-/// Where they are none, or bytes follow it; want of memory.
+/// `Ttlv` with the first fault where no item stands at the front of the bytes, `NotMessage` where bytes
+/// follow it, and `NoMemory` at want of memory.
 #[tactic(auto, unfolding(crate::specs::Whole::item_in))]
 pub fn whole_item(alloc: Global, bytes: &[u8]) -> Result<Item, MessageFault>
     ensures { Gives (λ i. view i) result (item_in bytes.now) }
@@ -38,7 +39,7 @@ pub fn whole_item(alloc: Global, bytes: &[u8]) -> Result<Item, MessageFault>
 /// The items of a message of this tag.
 ///
 /// # Errors
-/// `NotMessage` where the item is none.
+/// `NotMessage` where the item is no Structure, or has another tag.
 #[tactic(auto, unfolding(crate::specs::Parts::message_at))]
 pub fn message_of(item: &Item, tag: u32) -> Result<&[Item], MessageFault>
     ensures { Gives (λ s. views s.now) result (message_at tag (view item.now)) }

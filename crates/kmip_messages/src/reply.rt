@@ -10,6 +10,7 @@ pub struct Reply {
     pub operation: Option<u32>,
     /// The Unique Batch Item ID of the request, at most 128 bytes, where it had one.
     pub id: Option<Bytes>,
+    /// How the operation went.
     pub outcome: Outcome,
 }
 
@@ -24,8 +25,11 @@ pub enum Outcome {
     Located(Texts),
     /// The identifier of the object, and its attributes.
     Attributes(Text, Attrs),
+    /// The identifier of the object.
     Activated(Text),
+    /// The identifier of the object.
     Revoked(Text),
+    /// The identifier of the object.
     Destroyed(Text),
     /// The Result Reason, where there is one.
     Failed(Option<u32>),

@@ -40,7 +40,7 @@ use std::alloc::Global;
 /// The reply that the items of a Batch Item are.
 ///
 /// # Errors
-/// Its first fault; want of memory otherwise.
+/// The first fault of the items, and `NoMemory` at want of memory.
 #[tactic(auto, unfolding(crate::specs::ReplyFormats::answered_format))]
 pub fn read_answer(alloc: Global, batch: &[Item]) -> Result<Reply, MessageFault>
     ensures { Gives (λ r. r) result (answered_format.read (views batch.now)) }

@@ -25,7 +25,7 @@ use kmip_objects::standard::OBJECT_TYPE_SYMMETRIC_KEY;
 use kmip_ttlv::{Item, NoMemory, Tag, Text};
 use std::alloc::Global;
 
-/// The Batch Item of a reply.
+/// The Batch Item that is the written form of a reply.
 ///
 /// # Errors
 /// Where there is no memory for it.

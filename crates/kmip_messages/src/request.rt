@@ -14,6 +14,7 @@ use kmip_ttlv::{Bytes, Text};
 pub struct Request {
     /// The Unique Batch Item ID, at most 128 bytes, where there is one.
     pub id: Option<Bytes>,
+    /// What is asked.
     pub ask: Ask,
 }
 
@@ -28,6 +29,7 @@ pub enum Ask {
     Locate {
         /// The Storage Status Mask: which objects are searched.
         mask: Option<i32>,
+        /// The attributes that are given.
         filter: Attrs,
     },
     /// The attributes of the object with this identifier.

@@ -44,14 +44,18 @@ use std::alloc::Global;
 ///
 /// # Errors
 /// The fault of the Unique Batch Item ID or of the Operation, without which there is no question to
-/// answer; want of memory.
+/// answer, and `NoMemory` at want of memory.
 #[tactic(auto, unfolding(crate::specs::BatchItems::question_at, crate::specs::RequestFormats::known_format))]
 pub fn read_question(
     alloc: Global,
     batch: &[Item],
 ) -> Result<Result<Request, Refusal>, MessageFault>
+    // The question is a request, or its refusal with the first fault after the Operation and the Unique Batch
+    // Item ID. There is none only where one of these is unlawful, unless memory runs out.
     ensures exact { Gives (λ q. q) result (question_at (views batch.now)) }
+    // A request that is read is in its ranges.
     ensures fits { IfOk result (λ q. IfOk q (λ r. IsTrue (request_fits r))) }
+    // A Unique Batch Item ID that a refusal carries is in its range.
     ensures carries { IfOk result (λ q.
         IfErr q (λ e. IsTrue (option_map_or is_batch_id e.id true))) }
 {

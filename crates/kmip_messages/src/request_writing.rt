@@ -29,7 +29,7 @@ use kmip_objects::{Attrs, KeyAttrs};
 use kmip_ttlv::{Item, NoMemory, Tag, Text};
 use std::alloc::Global;
 
-/// The Batch Item of a request.
+/// The Batch Item that is the written form of a request.
 ///
 /// # Errors
 /// Where there is no memory for it.

@@ -1,5 +1,8 @@
 //! The numbers of the standard that messages have: tags, and the values of its enumerations.
 //!
+//! The code and the definitions cite the numbers alike. `ID_MAX` is the code's alone: contracts cite the
+//! limit of specs/Ranges.antt.
+//!
 //! Source: KMIP 2.1, Tags and Enumerations. What is marked "own" is this project's profile.
 
 // Tags.
@@ -106,15 +109,15 @@ pub const REASON_NON_UNIQUE_NAME: u32 = 0x35;
 
 pub const REASON_WRONG_STATE: u32 = 0x43;
 
-/// All the room of the server is used up (own).
+/// All the room of the server is used up. The standard has no such reason: this number is our own choice.
 pub const REASON_SERVER_FULL: u32 = 0x100;
 
 // Batch error continuation options.
 
-/// The questions behind a failure are done.
+/// The questions after a failure are done.
 pub const CONTINUE: u32 = 0x1;
 
-/// The questions behind a failure are left.
+/// The questions after a failure are left.
 pub const STOP: u32 = 0x2;
 
 /// The questions before a failure are undone.

@@ -1,6 +1,7 @@
--- What names each attribute of the profile: a search by the name alone, the objects that have what is given, and what is told
--- of an object.
--- Source: KMIP 2.1, Operations, Locate and Get Attributes. That the usage mask is compared by equality is own.
+-- What goes through each attribute of the profile: a search by the name alone, the objects that have what is
+-- given, and what is told of an object.
+-- Source: KMIP 2.1, Operations, Locate and Get Attributes. Own (choice): masks of usage are compared by
+-- equality, where the standard asks that the object's mask has all the bits that are given.
 use Rattle.std.specs.Prelude.{ℕ, ◌==◌, nat_eq, Bool, true, ◌&&◌, List, Some, None}
 use Rattle.std.specs.Cmp.Lexicographic.{pointwise}
 use Rattle.std.specs.Option.{option_map_or}
@@ -12,11 +13,11 @@ use Rattle.kmip_objects.specs.declared.attributes.KeyAttrs.{KeyAttrs}
 use Rattle.kmip_objects.specs.declared.standard.TheConstants.{OBJECT_TYPE_SYMMETRIC_KEY}
 use Rattle.kmip_objects.specs.declared.state.KeyState.{KeyState}
 
--- the attributes that give the name alone
+-- the attributes that give this name and nothing else: what a search by a name alone gives
 abbrev pub by_name : List ℕ → Attrs
 by_name name = record { object_type = None; name = Some name; algorithm = None; length = None; usage = None; state = None }
 
--- the object that was made with these attributes, in this state, has every attribute that is given
+-- Whether the object that was made with these attributes, in this state, has every attribute that is given.
 abbrev pub has_given : Attrs → KeyAttrs → KeyState → Bool
 has_given given attrs state =
     option_map_or (λ name. pointwise nat_eq name attrs.name) given.name true
@@ -26,7 +27,7 @@ has_given given attrs state =
     && option_map_or (λ n. int_eq n attrs.usage) given.usage true
     && option_map_or (λ n. n == state_number state) given.state true
 
--- the attributes that Get Attributes tells of an object
+-- the attributes that Get Attributes tells of an object: every one of the profile
 abbrev pub attributes_of : Object → Attrs
 attributes_of o = record {
   object_type = Some OBJECT_TYPE_SYMMETRIC_KEY;

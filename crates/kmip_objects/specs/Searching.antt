@@ -3,6 +3,6 @@
 use Rattle.std.specs.Prelude.{◌+◌, ℤ, pos}
 use Rattle.kmip_objects.specs.declared.standard.TheConstants.{STORAGE_ON_LINE, STORAGE_DESTROYED}
 
--- the Storage Status Mask under which the objects in every state are searched
+-- The Storage Status Mask under which a search looks in every state: on-line objects and destroyed ones.
 abbrev pub every_state : ℤ
 every_state = pos (STORAGE_ON_LINE + STORAGE_DESTROYED)

@@ -11,6 +11,7 @@ use Rattle.kmip_objects.specs.declared.state.KeyState.TheVariants.{
   DestroyedCompromised,
 }
 
+-- the number of a state
 abbrev pub state_number : KeyState → ℕ
 state_number PreActive = 1
 state_number Active = 2

@@ -44,16 +44,22 @@ impl KeyAttrs {
 /// The attributes of the profile, each where it is given.
 #[derive(Drop)]
 pub struct Attrs {
+    /// Object Type, by its number.
     pub object_type: Option<u32>,
+    /// The Name Value of Name.
     pub name: Option<Text>,
+    /// Cryptographic Algorithm, by its number.
     pub algorithm: Option<u32>,
+    /// Cryptographic Length in bits.
     pub length: Option<i32>,
+    /// Cryptographic Usage Mask.
     pub usage: Option<i32>,
+    /// State, by its number.
     pub state: Option<u32>,
 }
 
 impl Attrs {
-    /// The attributes that give the name alone. Takes no memory.
+    /// The attributes that give this name and nothing else. It takes no memory.
     pub fn by_name(name: Text) -> Self
         ensures { result ≡ by_name name }
     {
@@ -69,7 +75,7 @@ impl Attrs {
 }
 
 /// Whether an object that was made with these attributes, in this state, has every attribute that
-/// is given. The usage mask is compared by equality (own). Takes no memory.
+/// is given. The usage mask is compared by equality, which is a choice of our own. It takes no memory.
 ///
 /// Source: KMIP 2.1, Operations, Locate.
 pub fn has_given(given: &Attrs, attrs: &KeyAttrs, state: KeyState) -> bool
@@ -112,8 +118,8 @@ fn is_given_integer(given: Option<i32>, own: i32) -> bool
     }
 }
 
-/// What Get Attributes tells of an object that was made with these attributes, in this state,
-/// whatever its identifier.
+/// What Get Attributes tells of an object that was made with these attributes, in this state: every
+/// attribute of the profile, whatever the object's identifier.
 ///
 /// # Errors
 /// Where there is no memory for it.

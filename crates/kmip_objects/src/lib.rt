@@ -1,5 +1,6 @@
-//! Objects of a key server: their attributes, their states, the steps between these, and what is
-//! found among them.
+//! What an object of a key server is, and how objects are found.
+//!
+//! An object has attributes and a state, and steps lead from state to state.
 //!
 //! Source: KMIP 2.1, Object Attributes. The profile is in docs/DECISIONS.md.
 #![tactic(auto)]

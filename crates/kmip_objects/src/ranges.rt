@@ -20,7 +20,7 @@ use crate::standard::{
     REVOCATION_KEY_COMPROMISE, REVOCATION_PRIVILEGE_WITHDRAWN, REVOCATION_UNSPECIFIED, USAGE_MAX,
 };
 
-/// Whether a key may be made with these attributes: each is in its range. Takes no memory.
+/// Whether a key may be made with these attributes: each is in its range. It takes no memory.
 pub fn attrs_fit(attrs: &KeyAttrs) -> bool
     ensures { result ≡ attrs_fit attrs.now }
 {
@@ -58,7 +58,8 @@ pub fn is_algorithm(algorithm: u32) -> bool
     algorithm == ALGORITHM_AES || algorithm == ALGORITHM_HMAC_SHA256
 }
 
-/// Whether a key of the algorithm may have this many bits.
+/// Whether a key of the algorithm may have this many bits: 128, 192 or 256 of AES, 256 of HMAC-SHA256,
+/// and none of another algorithm.
 pub fn is_length(algorithm: u32, length: i32) -> bool
     ensures { result ≡ is_length algorithm length }
 {

@@ -1,5 +1,8 @@
 //! The numbers of the standard that objects have: the values of its enumerations and masks.
 //!
+//! The code and the definitions cite the numbers alike. The two limits at the end are the code's alone:
+//! contracts cite those of specs/Ranges.antt.
+//!
 //! Source: KMIP 2.1, Enumerations. What is marked "own" is this project's profile.
 
 // Object types and cryptographic algorithms.

@@ -19,7 +19,7 @@ pub enum KeyState {
 }
 
 impl KeyState {
-    /// The state's number.
+    /// The state's number, 1 to 6.
     pub fn number(self) -> u32
         ensures { result ≡ state_number self }
     {
@@ -33,8 +33,9 @@ impl KeyState {
         }
     }
 
-    /// The state after a step, where the lifecycle has such a step from this state: Activate from
-    /// Pre-Active, Revoke from Active, Destroy from Pre-Active and from Deactivated.
+    /// The state after a step, where the lifecycle has such a step from this state. Activate leads from
+    /// Pre-Active to Active, Revoke from Active to Deactivated, and Destroy from Pre-Active and from
+    /// Deactivated to Destroyed. There are no other steps.
     ///
     /// Source: KMIP 2.1, Object Attributes, State.
     pub fn after(self, step: Step) -> Option<KeyState>

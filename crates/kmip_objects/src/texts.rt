@@ -54,9 +54,11 @@ impl Texts {
     /// Puts one more text at the end.
     ///
     /// # Errors
-    /// Where there is no memory for it; the texts are then as they were.
+    /// Where there is no memory for it.
     pub fn push(&mut self, text: Text) -> Result<(), AllocError>
+        // The text stands after those that were there.
         ensures ok { OnOk result (self.new ≡ self.old ++ text ∷ []) }
+        // At want of memory the texts are as they were.
         ensures err { OnErr result (self.new ≡ self.old) }
     {
         self.items.push(text)?;

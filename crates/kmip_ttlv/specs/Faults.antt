@@ -1,5 +1,5 @@
 -- The number, the name and the place of each fault.
--- Source: own: the standard does not number the faults of a reader.
+-- Source: own (fault): the standard does not number or name the faults of a reader.
 use Rattle.std.specs.Prelude.{ℕ, List, Option, Some, None, codes}
 use Rattle.kmip_ttlv.specs.declared.fault.TtlvFault.{TtlvFault}
 use Rattle.kmip_ttlv.specs.declared.fault.TtlvFault.TheVariants.{
@@ -14,6 +14,7 @@ use Rattle.kmip_ttlv.specs.declared.fault.TtlvFault.TheVariants.{
   NoMemory,
 }
 
+-- the number of a fault, 1 to 9 in the order of their declaration
 abbrev pub fault_number : TtlvFault → ℕ
 fault_number (Short at) = 1
 fault_number (UnknownType at) = 2
@@ -25,6 +26,7 @@ fault_number (TooDeep at) = 7
 fault_number (TooLong at) = 8
 fault_number NoMemory = 9
 
+-- the name of a fault, as it is declared and as it is printed
 abbrev pub fault_name : TtlvFault → List ℕ
 fault_name (Short at) = codes "Short"
 fault_name (UnknownType at) = codes "UnknownType"
@@ -36,6 +38,7 @@ fault_name (TooDeep at) = codes "TooDeep"
 fault_name (TooLong at) = codes "TooLong"
 fault_name NoMemory = codes "NoMemory"
 
+-- The offset of the first byte of the item at fault. Want of memory has none.
 abbrev pub fault_offset : TtlvFault → Option ℕ
 fault_offset (Short at) = Some at
 fault_offset (UnknownType at) = Some at

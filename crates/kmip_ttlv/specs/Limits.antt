@@ -1,12 +1,13 @@
 -- How deep and how long an item may be, and how long its head is.
--- Source: KMIP 2.1, TTLV Encoding; 16 levels and 8,192 bytes are own.
+-- Source: KMIP 2.1, TTLV Encoding. Own (limit): 16 levels and 8,192 bytes, which bound the memory that a
+-- message takes.
 use Rattle.std.specs.Prelude.{ℕ}
 
--- the most levels of an item, 1 for one without children (own)
+-- The most levels of an item; an item without children has 1. Own (limit).
 abbrev pub most_levels : ℕ
 most_levels = 16
 
--- the most bytes of an item, with its head and its padding (own)
+-- The most bytes of an item, and so of a message, with its head and its padding. Own (limit).
 abbrev pub most_bytes : ℕ
 most_bytes = 8192
 

@@ -1,5 +1,5 @@
 -- How many bytes an item takes, and which items have a written form.
--- Source: KMIP 2.1, TTLV Encoding; 16 levels and 8,192 bytes are own.
+-- Source: KMIP 2.1, TTLV Encoding. Own (limit): 16 levels and 8,192 bytes.
 use Rattle.kmip_ttlv.specs.Limits.{head_size, most_bytes, most_levels}
 use Rattle.std.specs.Prelude.{◌≡◌, ℕ, ◌+◌, ◌≤◌, length, nat_le, if◌then◌else◌, Option, Some, None}
 use Rattle.kmip_ttlv.specs.Node.{
@@ -24,15 +24,16 @@ use Rattle.kmip_ttlv.specs.Node.{
 use Rattle.kmip_ttlv.specs.Fitting.{IsInRange, AreInRange, HasWholeGroups, HaveWholeGroups, depth, depths}
 use Rattle.kmip_ttlv.specs.Spelling.{padding, canon}
 
--- a length with its padding
+-- the length of a value with its padding
 abbrev pub padded : ℕ → ℕ
 padded len = len + padding len
 
--- the length of the written form
+-- how many bytes the written form of an item takes
 abbrev mutual
   pub size : Node → ℕ
   size (node tag content) = head_size + content_size content
 
+  -- how many bytes the value takes, with its padding
   pub content_size : Content → ℕ
   content_size (structure items) = sizes items
   content_size (integer z) = 8
@@ -46,25 +47,27 @@ abbrev mutual
   content_size (interval n) = 8
   content_size (date_time_extended z) = 8
 
+  -- how many bytes the items take together
   pub sizes : Nodes → ℕ
   sizes no_more = 0
   sizes (more n ns) = size n + sizes ns
 
--- The item has a written form: in range, at most 16 levels, at most 8,192 bytes.
+-- The item has a written form: it is in range, and has at most 16 levels and at most 8,192 bytes.
 abbrev pub Fits : Node → Type 0
 Fits n = IsInRange n × (depth n ≤ most_levels) × (length (canon n) ≤ most_bytes)
 
--- The same of an item of the code, whose numbers and texts are in range by their types.
+-- An item of the code has a written form: the types of the code keep all ranges but the length of a Big
+-- Integer. So a caller shows this, and `Fits` follows.
 abbrev pub IsWritable : Node → Type 0
 IsWritable n = HasWholeGroups n × (depth n ≤ most_levels) × (length (canon n) ≤ most_bytes)
 
--- ---- what the code answers
+-- ---- what the code returns
 
 -- Private: a size, where the room holds it
 abbrev pub size_up_to : ℕ → ℕ → Option ℕ
 size_up_to size room = if nat_le size room then Some size else None
 
--- Private: the size of an item, where it has at most so many levels and bytes
+-- Private: the size of an item, where it has at most this many levels and bytes
 abbrev pub IsSizeWithin : Option ℕ → Node → ℕ → ℕ → Type 0
 IsSizeWithin (Some found) n levels room = IsInRange n × (depth n ≤ levels) × (found ≡ size n) × (found ≤ room)
 IsSizeWithin None n levels room = HasWholeGroups n → depth n ≤ levels → size n ≤ room → ⊥

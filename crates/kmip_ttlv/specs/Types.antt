@@ -1,5 +1,6 @@
 -- The types of TTLV: their numbers, and the lengths that a value of each may have.
--- Source: KMIP 2.1, TTLV Encoding, Type and Length; that a Big Integer has a positive multiple of eight bytes is own.
+-- Source: KMIP 2.1, TTLV Encoding, Type and Length. Own (choice): the standard asks that the length of a Big
+-- Integer is a multiple of eight, and here it is not zero.
 use Rattle.std.specs.Prelude.{ℕ, zero, suc, Bool, true, ◌==◌, ◌%◌, ◌&&◌, nat_lt, Option, Some, None}
 use Rattle.kmip_ttlv.specs.declared.item_type.ItemType.{ItemType}
 use Rattle.kmip_ttlv.specs.declared.item_type.ItemType.TheVariants.{
@@ -16,6 +17,7 @@ use Rattle.kmip_ttlv.specs.declared.item_type.ItemType.TheVariants.{
   DateTimeExtended,
 }
 
+-- the number of a type
 abbrev pub byte_of_type : ItemType → ℕ
 byte_of_type Structure = 1
 byte_of_type Integer = 2
@@ -29,6 +31,7 @@ byte_of_type DateTime = 9
 byte_of_type Interval = 10
 byte_of_type DateTimeExtended = 11
 
+-- the type that has this number, none where there is none
 abbrev pub type_of_byte : ℕ → Option ItemType
 type_of_byte zero = None
 type_of_byte (suc zero) = Some Structure
@@ -44,7 +47,8 @@ type_of_byte (suc (suc (suc (suc (suc (suc (suc (suc (suc (suc zero)))))))))) = 
 type_of_byte (suc (suc (suc (suc (suc (suc (suc (suc (suc (suc (suc zero))))))))))) = Some DateTimeExtended
 type_of_byte _ = None
 
--- A Big Integer is made of groups of eight bytes, of which there is at least one.
+-- Whether a value of this type may have this length. A Big Integer is made of groups of eight bytes, of which
+-- there is at least one.
 abbrev pub is_allowed : ItemType → ℕ → Bool
 is_allowed Structure n = n % 8 == 0
 is_allowed Integer n = n == 4

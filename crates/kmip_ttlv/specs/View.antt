@@ -1,5 +1,5 @@
 -- What an `Item` of the code is as a pure value: where its parts lie in memory is left out.
--- Source: own: how a contract sees the code.
+-- Source: own (view): how a contract sees the code.
 use Rattle.std.specs.Prelude.{List, map}
 use Rattle.kmip_ttlv.specs.Node.{
   Node,
@@ -36,6 +36,7 @@ value_step (Value-F.DateTime z) = date_time z
 value_step (Value-F.Interval n) = interval n
 value_step (Value-F.DateTimeExtended z) = date_time_extended z
 
+-- one level of an item, with what it contains already seen
 abbrev pub item_step : Item-F Content Node → Node
 item_step i = node i.tag i.value
 
@@ -43,9 +44,10 @@ item_step i = node i.tag i.value
 abbrev pub content : Value → Content
 content = fold-Value Content Node value_step item_step
 
--- the pure value of an item, and of some items in their order
+-- the pure value of an item
 abbrev pub view : Item → Node
 view i = node i.tag (content i.value)
 
+-- the pure values of some items, in their order
 abbrev pub views : List Item → List Node
 views = map view

@@ -1,4 +1,4 @@
-//! What an item has inside, by its type.
+//! What an item contains, by its type.
 ghost use Rattle.std.specs.Prelude.{◌≡◌, option_map};
 ghost use Rattle.kmip_ttlv.specs.Node.{
   tag_of,

@@ -49,7 +49,7 @@ pub enum TtlvFault {
 }
 
 impl TtlvFault {
-    /// The fault's number, 1 to 9.
+    /// The fault's number, 1 to 9 in the order of their declaration.
     pub fn number(self) -> u32
         ensures { result ≡ fault_number self }
     {

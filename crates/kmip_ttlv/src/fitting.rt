@@ -9,10 +9,13 @@ use crate::item::{Item, Value};
 use crate::item_type::ItemType;
 use crate::limits::{HEAD_SIZE, MAX_DEPTH, MAX_SIZE, padding_of};
 
-/// Whether the item has a written form: at most `MAX_DEPTH` levels, at most `MAX_SIZE` bytes, and each
-/// Big Integer a positive multiple of eight bytes long. Takes no memory.
+/// Whether the item has a written form. It takes no memory.
 pub fn fits(item: &Item) -> bool
+    // True exactly where the item has at most `MAX_DEPTH` levels and its written form at most `MAX_SIZE`
+    // bytes, and each Big Integer is a positive multiple of eight bytes long.
     ensures writable { IsTrue result ↔ IsWritable (view item.now) }
+    // True exactly where the item has a written form and each value is in its range, too: the types of the
+    // code keep the ranges.
     ensures in_range { IsTrue result ↔ Fits (view item.now) }
 {
     size_within(item, MAX_DEPTH, MAX_SIZE).is_some()

@@ -1,8 +1,8 @@
 //! TTLV, the encoding of KMIP: items as bytes and bytes as items.
 //!
-//! An item is a tag, a type, a length and a value ("Key Management Interoperability Protocol
-//! Specification Version 2.1", TTLV Encoding). `read` takes the item at the front of some bytes,
-//! `write` appends the one written form of an item, and `fits` says which items have one.
+//! An item is a tag, a type, a length and a value. The source is "Key Management Interoperability
+//! Protocol Specification Version 2.1", TTLV Encoding. `read` takes the item at the front of some
+//! bytes. `write` appends the one written form of an item, and `fits` says which items have one.
 //! `show` gives an item as text, and `plain_text` a text in plain characters alone.
 #![tactic(auto)]
 

@@ -33,7 +33,7 @@ impl Item {
         }
     }
 
-    /// An Integer.
+    /// An Integer of this number.
     pub fn integer(tag: Tag, number: i32) -> Item
         ensures { view result ≡ node tag (integer number) }
     {
@@ -43,7 +43,7 @@ impl Item {
         }
     }
 
-    /// A Long Integer.
+    /// A Long Integer of this number.
     pub fn long_integer(tag: Tag, number: i64) -> Item
         ensures { view result ≡ node tag (long_integer number) }
     {
@@ -53,7 +53,7 @@ impl Item {
         }
     }
 
-    /// A Big Integer, of its bytes.
+    /// A Big Integer of these bytes, whatever their number. Only groups of eight have a written form.
     pub fn big_integer(tag: Tag, digits: Bytes) -> Item
         ensures { view result ≡ node tag (big_integer digits) }
     {
@@ -63,7 +63,7 @@ impl Item {
         }
     }
 
-    /// An Enumeration.
+    /// An Enumeration of this number.
     pub fn enumeration(tag: Tag, number: u32) -> Item
         ensures { view result ≡ node tag (enumeration number) }
     {
@@ -73,7 +73,7 @@ impl Item {
         }
     }
 
-    /// A Boolean.
+    /// A Boolean of this truth.
     pub fn boolean(tag: Tag, truth: bool) -> Item
         ensures { view result ≡ node tag (boolean truth) }
     {
@@ -83,7 +83,7 @@ impl Item {
         }
     }
 
-    /// A Text String.
+    /// A Text String of this text.
     pub fn text_string(tag: Tag, text: Text) -> Item
         ensures { view result ≡ node tag (text_string text) }
     {
@@ -93,7 +93,7 @@ impl Item {
         }
     }
 
-    /// A Byte String.
+    /// A Byte String of these bytes.
     pub fn byte_string(tag: Tag, bytes: Bytes) -> Item
         ensures { view result ≡ node tag (byte_string bytes) }
     {

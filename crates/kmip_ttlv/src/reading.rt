@@ -27,24 +27,26 @@ use std::alloc::Global;
 /// follow it, and padding bytes may be anything.
 ///
 /// # Errors
-/// The first fault, with the offset of the first byte of the item at fault; want of memory otherwise.
+/// The first fault, with the offset of the first byte of the item at fault, and `NoMemory` at want of
+/// memory.
 pub fn read(alloc: Global, bytes: &[u8]) -> Result<(Item, usize), TtlvFault>
-    // What is read is spelled so.
+    // The bytes that it takes, at the front, spell what is read.
     ensures found { IfOk result (λ x. (x.1 ≤ length bytes.now)
         × Spells (view x.0) (take x.1 bytes.now)) }
-    // What is spelled so is read, unless memory runs out.
+    // What the front of the bytes spells is read, and nothing else, unless memory runs out.
     ensures only { (n : Node) (count : ℕ) → count ≤ length bytes.now
         → Spells n (take count bytes.now) → IsRead result n count }
-    // What was written is read again, whatever follows it.
+    // What was written is read again, whatever follows it, unless memory runs out.
     ensures back { (n : Node) (rest : List ℕ) → Fits n → bytes.now ≡ canon n ++ rest
         → IsRead result n (length (canon n)) }
     // What is read has a written form.
     ensures writable { IfOk result (λ x. IsWritable (view x.0)) }
-    // Which fault it is, and that there is no other.
+    // A refusal names the first fault of the bytes, with its offset, unless memory ran out.
     ensures fault { IfErr result (λ e. (e ≡ faults.NoMemory)
         ⊎ Breaks most_levels 0 bytes.now e) }
+    // Bytes with a fault are refused: for the first fault, unless memory runs out.
     ensures refused { (e : TtlvFault) → Breaks most_levels 0 bytes.now e → IsRefused result e }
-    // All of this as one function of the bytes.
+    // All of this as one function of the bytes: it returns what `item_at` gives, unless memory ran out.
     ensures exact { ReadsAs result (item_at most_levels 0 bytes.now) }
 {
     item_of(alloc, MAX_DEPTH, 0, bytes)

@@ -22,8 +22,8 @@ use crate::fault::NoMemory;
 use crate::item::{Item, Value};
 use std::alloc::Global;
 
-/// The item as text: a line for each item, with its tag, its type and its value, and below a
-/// Structure's line those of its items, two spaces further to the right.
+/// The item as text: a line for each item, with its tag, its type and its value. Below a Structure's
+/// line are those of its items, two spaces further to the right.
 ///
 /// # Errors
 /// Where there is no memory for the text.
@@ -35,9 +35,9 @@ pub fn show(alloc: Global, item: &Item) -> Result<String, NoMemory>
     Ok(out)
 }
 
-/// The text in plain characters, as it stands between the quotation marks of a shown Text String: a byte
-/// from 20 to 7E (hexadecimal) as it is, but for the quotation mark and the backslash, and each other
-/// byte as a backslash and its two digits.
+/// The text in plain characters, as it stands between the quotation marks of a shown Text String. A byte
+/// from 20 to 7E (hexadecimal) is as it is, but for the quotation mark and the backslash. Each other
+/// byte is a backslash and its two digits in hexadecimal.
 ///
 /// # Errors
 /// Where there is no memory for it.
@@ -49,7 +49,7 @@ pub fn plain_text(alloc: Global, text: &str) -> Result<String, NoMemory>
     Ok(out)
 }
 
-/// Appends the lines of the item, each behind this indentation.
+/// Appends the lines of the item, each after this indentation.
 #[cycle(showing)]
 fn push_lines(alloc: Global, indent: &str, item: &Item, out: &mut String) -> Result<(), NoMemory>
     ensures { OnOk result (string_bytes out.new ≡ string_bytes out.old
@@ -64,7 +64,7 @@ fn push_lines(alloc: Global, indent: &str, item: &Item, out: &mut String) -> Res
     Ok(())
 }
 
-/// Appends the lines of the items, each behind this indentation.
+/// Appends the lines of the items, each after this indentation.
 #[cycle(showing)]
 fn push_all(alloc: Global, indent: &str, items: &[Item], out: &mut String) -> Result<(), NoMemory>
     ensures { OnOk result (string_bytes out.new ≡ string_bytes out.old

@@ -26,6 +26,7 @@ impl Model for Tag {
 impl Tag {
     /// The tag of this number.
     pub const fn new(number: u32) -> Self
+        // The number has three bytes.
         requires { number < 2 ^ 24 }
         ensures { result ≡ number }
     {
@@ -34,7 +35,9 @@ impl Tag {
 
     /// The tag's number.
     pub fn number(self) -> u32
+        // It is the number of which the tag was made.
         ensures value { result ≡ self }
+        // It has three bytes.
         ensures in_range { result < 2 ^ 24 }
     {
         self.number

@@ -16,15 +16,18 @@ use crate::limits::{HEAD_SIZE, MAX_DEPTH, MAX_SIZE, padding_of};
 use crate::tag::Tag;
 use byteorder::{BigEndian, ByteOrder};
 
-/// Appends the one written form of an item that `fits`, its padding zero.
+/// Appends the one written form of an item, its padding zero.
 ///
 /// # Errors
-/// Where there is no memory for the bytes; `out` is then as it was.
+/// Where there is no memory for the bytes.
 pub fn write(item: &Item, out: &mut Vec<u8>) -> Result<(), NoMemory>
+    // The item has a written form, as `fits` tells.
     requires { IsWritable (view item.now) }
+    // `out` is what it was, with exactly the written form after it.
     ensures ok { OnOk result (out.new.items ≡ out.old.items ++ canon (view item.now)) }
+    // At want of memory `out` is as it was.
     ensures err { OnErr result (out.new.items ≡ out.old.items) }
-    // The types of the code keep the ranges.
+    // Each value of an item that is written is in its range: the types of the code keep the ranges.
     ensures in_range { OnOk result (IsInRange (view item.now)) }
 {
     let before = out.len();
