@@ -12,16 +12,16 @@ use clap::{Arg, ArgAction};
 use kmip_messages::standard::MOST_QUESTIONS;
 use std::alloc::Global;
 
-/// The largest number of exchanges and of connections.
+/// The largest number of exchanges and of connections (own).
 pub(crate) const MOST_COUNT: u64 = 4_294_967_295;
 
-/// The longest time that an exchange may be given, in seconds.
+/// The longest time that an exchange may be given, in seconds (own).
 pub(crate) const MOST_SECONDS: u64 = 3_600;
 
-/// The longest first wait, in milliseconds.
+/// The longest first wait, in milliseconds (own).
 const MOST_WAIT: u64 = 60_000;
 
-/// The longest time after which a run gives up, in seconds: a day.
+/// The longest time after which a run gives up, in seconds (own): a day.
 const MOST_GIVE_UP: u64 = 86_400;
 
 /// The latest time, in seconds since the start of 1970.

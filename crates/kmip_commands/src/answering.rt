@@ -19,7 +19,7 @@ use kmip_ttlv::NoMemory;
 use std::alloc::Global;
 use std::io::{BufRead, Write};
 
-/// The time of each reply.
+/// The time of each reply (own).
 const NOW: i64 = 0;
 
 /// Runs `answer`, prints the line of a fault, unless it is one of the writer, and says how the program

@@ -9,7 +9,7 @@ use crate::replies::flush;
 use memchr::memchr;
 use std::io::{BufRead, ErrorKind, Write};
 
-/// A line of more bytes is too long, whatever they are.
+/// The most bytes of a line (own): a longer one is refused, whatever its bytes are.
 pub const MOST_DIGITS: usize = 16_384;
 
 /// As much is kept of a line: enough to see that it is too long.

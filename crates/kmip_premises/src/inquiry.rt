@@ -10,7 +10,7 @@ use kmip_objects::{Attrs, KeyAttrs, is_name};
 use kmip_ttlv::{NoMemory, Text};
 use std::alloc::Global;
 
-/// How many characters a prefix has at most: two are left for what tells its names apart.
+/// How many characters a prefix has at most (own): two are left for what tells its names apart.
 pub const PREFIX_MAX: usize = 62;
 
 /// Cryptographic Length of a probe's keys, in bits.
@@ -45,10 +45,10 @@ pub enum Kind {
 #[derive(Clone, Copy)]
 pub struct Inquiry(pub Which, pub Kind);
 
-/// How many questions a probe has.
+/// How many questions a probe has (own).
 pub const QUESTIONS: usize = 25;
 
-/// How many of them, the first ones, look whether the names are free.
+/// How many of the questions of a probe, the first ones, look whether its names are free (own).
 pub const LOOKS: usize = 2;
 
 /// The questions of a probe, in order.

@@ -33,7 +33,7 @@ pub const PREMISES: [Premise; 8] = [
 /// of them.
 pub(crate) const EARLY: [Premise; 1] = [Premise::NamesAreUnique];
 
-/// How many questions are asked before the first premise is told.
+/// How many questions are asked before the first premise is told (own).
 pub(crate) const EARLY_ANSWERS: usize = 8;
 
 /// The premises after them, which are told once `LATE_ANSWERS` questions were asked.
@@ -46,7 +46,7 @@ pub(crate) const LATE: [Premise; 6] = [
     Premise::AttributesAreTold,
 ];
 
-/// How many questions are asked before all premises but the last are told.
+/// How many questions are asked before all premises but the last are told (own).
 pub(crate) const LATE_ANSWERS: usize = 23;
 
 impl Premise {

@@ -8,7 +8,7 @@ use std::fs::{self, File, Files, OpenFile, OpenOptions};
 use std::io::{self, ErrorKind, Write};
 use std::os::unix::fs::OpenOptionsExt;
 
-/// The file's owner may read and write it, and nobody else.
+/// Who may read and write the progress file and its lock (own): their owner alone.
 pub(crate) const OWNER_ALONE: u32 = 0o600;
 
 /// The most bytes that are read of a plan's or a script's file (own): a plan of 1,000 keys or a

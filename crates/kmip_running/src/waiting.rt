@@ -7,7 +7,7 @@ use kmip_client::Client;
 use std::thread;
 use std::time::{Clock, Duration, Instant};
 
-/// The longest wait in milliseconds, where the first is no longer.
+/// The longest wait in milliseconds, where the first is no longer (own).
 const LONGEST_WAIT: u64 = 10_000;
 
 /// How long to wait before the next exchange, in milliseconds, after a wait of `wait` before the last

@@ -13,7 +13,7 @@ use kmip_schedule::LinkFault;
 use std::alloc::Global;
 use std::io::{Error, ErrorKind, Read};
 
-/// The most bytes that one read asks for: own.
+/// The most bytes that one read asks for (own).
 const PIECE: usize = 1024;
 
 /// Reads the message that the framer has begun, or the next one, and no byte after it. What was held and what
