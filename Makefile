@@ -1,7 +1,8 @@
 # make            builds the program (a clean clone is proved first, which takes some 40 minutes on 4 cores)
 # make demo       carries out a plan over a network that loses a reply (by rt try where nothing is built)
+# make check      proves what changed since the last check
 # make test       the gate: every proof, the wrong bodies, the tests and the stored runs, and then all trials but bench
-# make bench      compares the program with a baseline in plain Rust, and times simulations (needs rustc)
+# make bench      compares the program with a baseline in plain Rust, times simulations, and draws (needs rustc)
 # make refuse     refuses each growth of memory of the program and of kmip_growths in turn (needs cc, python3)
 # make faults     gives the program plans with each fault, and wants the line that says where and why (needs python3)
 # make hostile    gives the program lines of ten megabytes, under limits of memory
@@ -22,7 +23,7 @@ program := crates/kmipctl/out/kmipctl
 growths := crates/kmip_growths/out/kmip_growths
 sources := crates.txt $(shell find crates -name out -prune -o \( -name '*.rt' -o -name '*.antt' \) -print)
 
-.PHONY: all demo test bench refuse faults hostile storm peers troubles origin causes tls reading reference examples documents tools help
+.PHONY: all demo check test bench refuse faults hostile storm peers troubles origin causes tls reading reference examples documents tools help
 
 all: $(program)
 
@@ -37,6 +38,9 @@ $(growths): $(sources)
 
 demo:
 	@examples/demo.sh $(program)
+
+check:
+	@rt all check
 
 test:
 	@python3 tools/gate.py

@@ -9,7 +9,8 @@
 # processor time, the system's included, so other work on the machine disturbs it little. First come
 # whole loads, then how the cost of a request grows from 10 objects of the server to 10,000, and then
 # the memory that an object takes, how the time of `kmipctl sim` grows with the keys of a plan, and last
-# what `sim` and `run` take by how many keys a message asks about.
+# what `sim` and `run` take by how many keys a message asks about. Where gnuplot is there, it draws the
+# growths into out/bench/growth.svg.
 # The exit status is 1 where the outputs differ, or a simulation takes another number of exchanges than
 # its plan needs, and 0 whatever the times are.
 set -euo pipefail
@@ -110,6 +111,17 @@ print_growth() {
         "$(quotient "$ours_few" 1000 2)" "$(quotient "$ours_many" 1000 2)" "$growth" \
         "$(quotient "$theirs_few" 1000 2)" "$(quotient "$theirs_many" 1000 2)" "$growth_of_theirs" \
         "$(quotient "$growth" "$growth_of_theirs" 2)"
+    printf '%s\t%s\t%s\t%s\t%s\n' "$title" "$ours_few" "$theirs_few" "$ours_many" "$theirs_many" >> "$out/growth.tsv"
+}
+
+# Draws the growths that were printed.
+draw() {
+    if ! command -v gnuplot > /dev/null; then
+        echo 'gnuplot is not there, so nothing is drawn'
+        return
+    fi
+    gnuplot -e "table='$out/growth.tsv'; picture='$out/growth.svg'" bench/growth.gnuplot
+    echo "the growths are drawn in $out/growth.svg"
 }
 
 # Prints how the cost of the request that bench/input.rs knows by the word $2 grows.
@@ -242,6 +254,7 @@ batches() {
 }
 
 mkdir -p "$out"
+rm -f "$out/growth.tsv" "$out/growth.svg"
 build baseline
 build input
 
@@ -258,6 +271,7 @@ growth 'Get Attributes' get
 growth Activate activate
 growth 'Create, a used name' again
 growth_of_creates
+draw
 
 memory kmipctl "$program" answer
 memory baseline "$out/baseline"
