@@ -14,6 +14,7 @@
 # make tls        carries a plan out over TLS between two tunnels, with client certificates (needs openssl, stunnel)
 # make reading    lists the public functions; with FUNCTION=crate::name [CLAUSE=name], what they rest on (needs python3)
 # make reference  writes a page for each crate to out/reference, from the sources (needs python3)
+# make layers     draws docs/layers.svg and the table of crates of docs/ARCHITECTURE.md (needs python3)
 # make examples   runs each example of README.md and docs/ with the program that is built (needs python3)
 # make documents  compares the documents with the code, and looks at links, sentences and sizes (needs python3)
 # make tools      runs the tests of the tools (needs python3)
@@ -23,7 +24,7 @@ program := crates/kmipctl/out/kmipctl
 growths := crates/kmip_growths/out/kmip_growths
 sources := crates.txt $(shell find crates -name out -prune -o \( -name '*.rt' -o -name '*.antt' \) -print)
 
-.PHONY: all demo check test bench refuse faults hostile storm peers troubles origin causes tls reading reference examples documents tools help
+.PHONY: all demo check test bench refuse faults hostile storm peers troubles origin causes tls reading reference layers examples documents tools help
 
 all: $(program)
 
@@ -80,6 +81,9 @@ reading:
 
 reference:
 	@python3 tools/reference.py
+
+layers:
+	@python3 tools/layers.py
 
 examples: $(program)
 	@python3 tools/examples.py $(program)

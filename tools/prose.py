@@ -38,7 +38,6 @@ SIZES = {
 NOT_REWRITTEN = {
     'CHANGELOG.md': 'not rewritten yet',
     'CONTRIBUTING.md': 'not rewritten yet',
-    'docs/ARCHITECTURE.md': 'not rewritten yet',
     'docs/DEFINITIONS.md': 'not rewritten yet',
     'docs/MISTAKES.md': 'not rewritten yet',
     'docs/OPERATING.md': 'not rewritten yet',
