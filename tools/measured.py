@@ -33,7 +33,7 @@ HEADS = {
     'gate': 'commit, machine | passed | failed | skipped | proofs | edits | minutes',
     'trials': 'trial | seconds | commit, machine',
     'crates': 'crate | functions | minutes | edits | their minutes | commit, machine',
-    'wrong bodies': 'crate | tried in | refused | proves | no-ensures | untested | else | commit, machine',
+    'wrong bodies': 'crate | tried in | refused | proves | no-ensures | untested | other bodies | commit, machine',
     'bench': 'what | kmipctl | plain Rust | ratio | aim | commit, machine',
     'growths': 'what | growths | commit, machine',
 }
