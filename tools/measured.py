@@ -114,12 +114,12 @@ def read_gate(page, log, origin):
 
 def done_of(log):
     """How many proofs and edits were done, as `9 of 50`, where the log says it."""
+    if 'every proof and must-fail edit was done in this run' in log:
+        refused = re.search(r'must-fail edits: (\d+) refused', log)
+        return ['all', f'{refused.group(1)} of {refused.group(1)}' if refused else '']
     proofs = re.search(r'done in this run: (\d+ of) the (\d+) proofs', log)
     edits = re.search(r'and (\d+ of) the (\d+) must-fail edits', log)
-    if proofs:
-        return [' '.join(found.groups()) if found else '' for found in (proofs, edits)]
-    refused = re.search(r'must-fail edits: (\d+) refused', log)
-    return ['all', f'{refused.group(1)} of {refused.group(1)}' if refused else '']
+    return [' '.join(found.groups()) if found else '' for found in (proofs, edits)]
 
 
 def functions_of(log):

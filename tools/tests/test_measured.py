@@ -71,6 +71,10 @@ class Measured(Scratch):
         log = 'rt: ok; must-fail edits: 3 refused; every proof and must-fail edit was done in this run\n4 passed, 1 failed\n'
         self.assertEqual(self.rows_of('gate', log), [[ORIGIN, '4', '1', '0', 'all', '3 of 3', '']])
 
+    def test_a_gate_that_failed_before_it_told(self):
+        self.write_page()
+        self.assertEqual(self.rows_of('gate', 'rt: FAILED: low\n1 passed, 1 failed\n'), [[ORIGIN, '1', '1', '0', '', '', '']])
+
     def test_crates_that_a_gate_proved(self):
         self.write_page(crates=[['low', '5', '1.0', '2', '0.5', 'old'], ['kept', '4', '0.5', 'none', '', 'old']])
         self.assertEqual(self.rows_of('crates', GATE), [
