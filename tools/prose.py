@@ -27,6 +27,7 @@ SIZES = {
     'docs/ARCHITECTURE.md': (10_000, None),
     'docs/DECISIONS.md': (10_000, None),
     'docs/MEASURED.md': (6_000, None),
+    'docs/MISTAKES.md': (9_000, None),
     'docs/OPERATING.md': (14_000, None),
     'docs/PROFILE.md': (12_000, None),
     'docs/PROOF-GUIDE.md': (18_000, None),
@@ -37,12 +38,7 @@ SIZES = {
 # What is over the limits and is only reported, with the reason. Who rewrites a document takes its line away.
 NOT_REWRITTEN = {
     'CHANGELOG.md': 'not rewritten yet',
-    'CONTRIBUTING.md': 'not rewritten yet',
-    'docs/DEFINITIONS.md': 'not rewritten yet',
-    'docs/MISTAKES.md': 'not rewritten yet',
     'docs/OPERATING.md': 'not rewritten yet',
-    'docs/PROVED.md': 'not rewritten yet',
-    'docs/PROVING.md': 'not rewritten yet',
 }
 
 FENCED = re.compile(r'```.*?```', re.S)

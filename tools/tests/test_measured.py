@@ -1,0 +1,135 @@
+"""The page of what was measured, brought up to date from made-up logs."""
+import unittest
+
+from scratch import Scratch, printed
+
+import measured
+
+ORIGIN = 'abc1234, 4 cores'
+GATE = '''== low
+logic=proved functions=7 sum=1
+rt: low proved
+== high
+logic=proved functions=3 sum=2
+== high: its tests
+logic=proved functions=9 sum=2
+rt: high: its tests are proved
+must-fail low/one.edit: refused, as it must be: src/a.rt:1:1: error
+must-fail low/two.edit: refused, as it must be
+rt: ok; handles allowed: none; must-fail edits: 3 refused; done in this run: 2 of the 5 proofs (of crates and of their tests) and 2 of the 3 must-fail edits; the others are kept
+8 passed, 0 failed
+storm: ok, 10 s
+tls skipped: this machine has no stunnel4
+9 passed, 0 failed, 1 skipped
+
+real\t37m30.0s
+'''
+PLANTS = 'plants crate=low planted-in=2 untested=1 no-ensures=0 proves=1 same=0 refused=5 elsewhere=0 not-judged=3 not-source=0 not-run=2\n'
+BENCH = '''100 requests over 10 objects: kmipctl 0.100 s, baseline 0.080 s, ratio 1.25 (aim: at most 2)
+microseconds a request with 10 objects and with 10,000, and the growth (aim: at most 1.3 times the baseline's):
+request                    kmipctl  10,000  growth  baseline  10,000  growth  by baseline
+Create, a used name           1.00    2.00      2.00    2.00    5.00    2.50         0.80
+kmipctl: 300 bytes an object beyond its data (aim: at most 290)
+baseline: 310 bytes an object beyond its data (aim: at most 290)
+sim of 10, 100 and 1,000 keys, 3 exchanges a key: 1.00, 2.00 and 16.00 ms, growth from 100 to 1,000 8.00 (aim: at most 11)
+1,000 keys, --batch 8: 375 exchanges; sim 28 ms, run --loopback 700 ms, with the waits for the disk
+'''
+REFUSE = '''answer: 4 growths refused, one a run: each time whole lines, `no memory` and exit status 1
+answer: 4 growths refused, each with all after it: the same each time
+run: 9 growths refused, one a run: each time whole lines, `no memory` and exit status 1, but that 2 can be done without
+'''
+
+
+def table(name, *rows):
+    count = len(measured.HEADS[name].split(' | '))
+    lines = [f'| {measured.HEADS[name]} |', '|' + '---|' * count, *[f'| {" | ".join(row)} |' for row in rows]]
+    return measured.begin(name) + '\n'.join(lines) + '\n' + measured.END
+
+
+class Measured(Scratch):
+    def write_page(self, **rows):
+        rows = {name.replace('_', ' '): value for name, value in rows.items()}
+        self.write({'docs/MEASURED.md': 'By hand.\n' + 'Between.\n'.join(table(name, *rows.get(name, [])) for name in measured.HEADS)})
+
+    def rows_of(self, name, log, status=0):
+        """The rows of a table after a log was read; where it is read again nothing changes."""
+        self.write({'a.log': log})
+        self.assertEqual(printed(measured.main, ['abc1234', '4 cores', 'a.log'])[0], status)
+        page = (self.top / 'docs/MEASURED.md').read_text()
+        printed(measured.main, ['abc1234', '4 cores', 'a.log'])
+        self.assertEqual((self.top / 'docs/MEASURED.md').read_text(), page)
+        return measured.Page(page).tables[name]
+
+    def test_the_gate_and_its_trials(self):
+        self.write_page(gate=[['old', '1', '0', '0', 'all', '', '']], trials=[['storm', '9', 'old'], ['peers', '3', 'old']])
+        self.assertEqual(self.rows_of('gate', GATE), [
+            ['old', '1', '0', '0', 'all', '', ''], [ORIGIN, '9', '0', '1', '2 of 5', '2 of 3', '38']])
+        self.assertEqual(self.rows_of('trials', GATE), [['storm', '10', ORIGIN], ['peers', '3', 'old']])
+
+    def test_a_gate_that_did_all(self):
+        self.write_page()
+        log = 'rt: ok; must-fail edits: 3 refused; every proof and must-fail edit was done in this run\n4 passed, 1 failed\n'
+        self.assertEqual(self.rows_of('gate', log), [[ORIGIN, '4', '1', '0', 'all', '3 of 3', '']])
+
+    def test_a_gate_that_failed_before_it_told(self):
+        self.write_page()
+        self.assertEqual(self.rows_of('gate', 'rt: FAILED: low\n1 passed, 1 failed\n'), [[ORIGIN, '1', '1', '0', '', '', '']])
+
+    def test_crates_that_a_gate_proved(self):
+        self.write_page(crates=[['low', '5', '1.0', '2', '0.5', 'old'], ['kept', '4', '0.5', 'none', '', 'old']])
+        self.assertEqual(self.rows_of('crates', GATE), [
+            ['low', '7', '', '2', '', ORIGIN], ['kept', '4', '0.5', 'none', '', 'old'], ['high', '9', '', 'none', '', ORIGIN]])
+
+    def test_minutes_of_a_crate(self):
+        self.write_page(crates=[['low', '7', '', '2', '', ORIGIN]])
+        log = '$ tools/check_times.py low\n90 seconds: Lts 50, Proof 40\n  12.0  carrying.first\n'
+        self.assertEqual(self.rows_of('crates', log), [['low', '7', '1.5', '2', '', ORIGIN]])
+
+    def test_minutes_of_a_crate_at_another_commit(self):
+        self.write_page(crates=[['low', '7', '9.0', '2', '1.0', 'old']])
+        log = '$ tools/check_times.py low\n90 seconds: Lts 50, Proof 40\n'
+        self.assertEqual(self.rows_of('crates', log), [['low', '', '1.5', '', '', ORIGIN]])
+
+    def test_all_wrong_bodies_of_a_crate(self):
+        self.write_page(wrong_bodies=[['low', '1 function', '1', '0', '0', '0', '', 'old'], ['high', '1 function', '1', '0', '0', '0', '', 'old'],
+                                      ['low', '2 functions of `a.rt`', '1', '0', '0', '0', '', 'old']])
+        self.assertEqual(self.rows_of('wrong bodies', PLANTS), [
+            ['low', '2 functions', '5', '1', '0', '1', '3 not-judged, 2 not-run', ORIGIN],
+            ['high', '1 function', '1', '0', '0', '0', '', 'old']])
+
+    def test_some_wrong_bodies_of_a_crate(self):
+        self.write_page(wrong_bodies=[['low', '1 function', '1', '0', '0', '0', '', 'old'], ['low', '9 functions of `a.rt`', '1', '0', '0', '0', '', 'old']])
+        self.assertEqual(self.rows_of('wrong bodies', '$ rt plant --only a.rt\n' + PLANTS), [
+            ['low', '1 function', '1', '0', '0', '0', '', 'old'],
+            ['low', '2 functions of `a.rt`', '5', '1', '0', '1', '3 not-judged, 2 not-run', ORIGIN]])
+
+    def test_the_bench(self):
+        self.write_page(bench=[['100 requests over 10 objects', '', '', '1.50', '2', 'old']])
+        self.assertEqual(self.rows_of('bench', BENCH), [
+            ['100 requests over 10 objects', '0.100 s', '0.080 s', '1.25', '2', ORIGIN],
+            ['growth: Create, a used name', '2.00', '2.50', '0.80', '1.3', ORIGIN],
+            ['bytes of an object beyond its data', '300', '310', '', '290', ORIGIN],
+            ['`sim` of 10, 100 and 1,000 keys; the growth from 100', '1.00, 2.00, 16.00 ms', '', '8.00', '11', ORIGIN],
+            ['1,000 keys, `--batch 8`: `sim`, `run --loopback`', '28 ms, 700 ms', '', '375 exchanges', '', ORIGIN]])
+
+    def test_growths(self):
+        self.write_page(growths=[['answer', '3', 'old']])
+        self.assertEqual(self.rows_of('growths', REFUSE), [['answer', '4', ORIGIN], ['run', '9; 2 can be done without', ORIGIN]])
+
+    def test_what_is_by_hand_stays(self):
+        self.write_page()
+        self.rows_of('growths', REFUSE)
+        page = (self.top / 'docs/MEASURED.md').read_text()
+        self.assertTrue(page.startswith('By hand.\n') and page.count('Between.\n') == len(measured.HEADS) - 1)
+
+    def test_a_log_of_something_else(self):
+        self.write_page()
+        self.assertEqual(self.rows_of('gate', 'no log\n', status=1), [])
+
+    def test_a_page_without_a_table(self):
+        self.write({'docs/MEASURED.md': 'By hand.\n', 'a.log': REFUSE})
+        self.assertRaises(SystemExit, measured.main, ['abc1234', '4 cores', 'a.log'])
+
+
+if __name__ == '__main__':
+    unittest.main()
