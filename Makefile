@@ -2,6 +2,7 @@
 # make demo       carries out a plan over a network that loses a reply (by rt try where nothing is built)
 # make check      proves what changed since the last check
 # make test       the gate: every proof, the wrong bodies, the tests and the stored runs, and then all trials but bench
+# make rows       runs the stored runs without a proof (by rt try where nothing is built)
 # make bench      compares the program with a baseline in plain Rust, times simulations, and draws (needs rustc)
 # make refuse     refuses each growth of memory of the program and of kmip_growths in turn (needs cc, python3)
 # make faults     gives the program plans with each fault, and wants the line that says where and why (needs python3)
@@ -24,7 +25,7 @@ program := crates/kmipctl/out/kmipctl
 growths := crates/kmip_growths/out/kmip_growths
 sources := crates.txt $(shell find crates -name out -prune -o \( -name '*.rt' -o -name '*.antt' \) -print)
 
-.PHONY: all demo check test bench refuse faults hostile storm peers troubles origin causes tls reading reference layers examples documents tools help
+.PHONY: all demo check test rows bench refuse faults hostile storm peers troubles origin causes tls reading reference layers examples documents tools help
 
 all: $(program)
 
@@ -45,6 +46,9 @@ check:
 
 test:
 	@python3 tools/gate.py
+
+rows:
+	@python3 tools/rows.py $(CRATE)
 
 bench: $(program)
 	@bench/bench.sh $(program)

@@ -1,9 +1,8 @@
 //! A baseline for `kmipctl answer`: the same work in plain Rust, with std alone and without contracts.
 //!
-//! It prints the bytes that `kmipctl answer` prints for the same input. The objects stand in a `Vec`,
-//! and every look-up goes by one of two maps, from the names and from the identifiers; `kmipctl` has the
-//! map from the names alone, and reads a place from its identifier. The maps are std's. Key material, which no reply shows, is zeros here and not drawn
-//! from ChaCha20.
+//! It prints the bytes that `kmipctl answer` prints for the same input. The objects are in a `Vec`, and
+//! every look-up goes by one of two maps, from the names and from the identifiers, as in `kmipctl`. The
+//! maps are std's. Key material, which no reply shows, is zeros here and not drawn from ChaCha20.
 
 use std::collections::HashMap;
 use std::io::{self, BufRead, BufReader, BufWriter, Read, Write};
