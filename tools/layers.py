@@ -35,7 +35,7 @@ LAYERS = [
      'kmip_wording kmip_simulation kmip_commands kmip_probe kmip_check kmip_choices kmip_explaining '
      'kmip_command_line kmip_sim kmip_run'),
     ('program', 'Program', 'over the sockets, files and streams of the machine',
-     'kmip_progress_file kmip_network kmip_program kmipctl'),
+     'kmip_progress_file kmip_account kmip_network kmip_program kmipctl'),
 ]
 TESTS = ('tests', 'Tests', 'no part of the program',
          'kmip_transcript kmip_link_runs kmipctl_runs kmip_vectors kmip_growths kmip_client_runs '

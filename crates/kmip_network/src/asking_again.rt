@@ -84,12 +84,13 @@ impl<L: Link + Drop> Link for AskingAgain<L> {
 fn asks_one_locate(alloc: Global, message: &[u8]) -> Result<bool, LinkFault>
     ensures { IfErr result (λ fault. fault ≡ LinkFault.NoMemory) }
 {
-    match read_request(alloc, message) {
-        Ok(batch) => match batch.items.as_slice() {
-            [Ok(request)] => Ok(matches!(request.ask, Ask::Locate { .. })),
-            _ => Ok(false),
-        },
-        Err(fault) if fault.is_no_memory() => Err(LinkFault::NoMemory),
-        Err(_) => Ok(false),
-    }
+    let batch = match read_request(alloc, message) {
+        Ok(batch) => batch,
+        Err(fault) if fault.is_no_memory() => return Err(LinkFault::NoMemory),
+        Err(_unreadable) => return Ok(false),
+    };
+    let [Ok(request)] = batch.items.as_slice() else {
+        return Ok(false);
+    };
+    Ok(matches!(request.ask, Ask::Locate { .. }))
 }

@@ -1,14 +1,12 @@
 //! The program `run`, over sockets and a file.
 
-use crate::account::Account;
 use crate::believing::progress_to_begin_with;
 use crate::causes::{Cannot, tell_cause};
 use crate::linking::{loopback, tcp_link, unix_link};
 use crate::reading::{PlanFile, plan_at};
-use crate::telling::Teller;
 use crate::told::standard_output;
 use crate::trouble::Trouble;
-use crate::watch::Watch;
+use kmip_account::{Account, Teller, Watch};
 use kmip_choices::{Peer, RunOptions};
 use kmip_commands::ExitStatus;
 use kmip_progress_file::{LockFault, ProgressFile, ProgressLock};

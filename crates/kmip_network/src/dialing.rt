@@ -1,7 +1,6 @@
 //! Streams to a server, and why one could not be opened.
 
-use crate::noted::Noted;
-use crate::wire::Wire;
+use kmip_account::{Noted, Wire};
 use kmip_transport::Dial;
 use std::cell::Cell;
 use std::io;

@@ -13,36 +13,20 @@
 //! either. `make causes` wants its line, and those of files and sockets.
 #![tactic(auto)]
 
-mod account;
-mod answers;
 mod asking_again;
 mod believing;
 mod carrying;
 mod causes;
 mod dialing;
-mod exchange;
-mod exchange_line;
-mod failure;
 mod linking;
-mod noted;
-mod operation;
 mod origin;
 mod overhearing;
-mod peer_talk;
 mod probing;
-mod reach;
 mod reading;
-mod reasons;
 mod serving;
-mod showing;
-mod silence;
-mod story;
-mod telling;
 mod told;
 mod trouble;
-mod watch;
 mod watching;
-mod wire;
 
 pub use carrying::run_plan;
 pub use kmip_run::batch_of;

@@ -4,7 +4,7 @@ use crate::causes::Cannot;
 use crate::dialing::Telling;
 use crate::serving::new_server;
 use crate::trouble::Trouble;
-use crate::wire::Wire;
+use kmip_account::Wire;
 use kmip_server::IndexedStore;
 use kmip_transport::{Loopback, StreamLink, Tcp, Unix};
 use std::net::{SocketAddr, SocketAddrV4};

@@ -1,6 +1,6 @@
 //! What `serve` tells of the exchanges of a connection, as it hears them.
 
-use crate::exchange_line::tell_exchange;
+use kmip_account::tell_exchange;
 use std::cell::RefCell;
 use std::io::{self, Read, Write};
 

@@ -1,6 +1,6 @@
 //! What `probe` tells of its exchanges while it works.
 
-use crate::exchange_line::tell_exchange;
+use kmip_account::tell_exchange;
 use kmip_running::Observer;
 use kmip_schedule::LinkFault;
 

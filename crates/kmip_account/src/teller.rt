@@ -6,10 +6,11 @@ use kmip_schedule::LinkFault;
 
 /// Gives each exchange to the account of a run.
 #[derive(Drop)]
-pub(crate) struct Teller<'a>(&'a Account<'a>);
+pub struct Teller<'a>(&'a Account<'a>);
 
 impl<'a> Teller<'a> {
-    pub(crate) fn new(account: &'a Account<'a>) -> Self {
+    /// One that tells this account.
+    pub fn new(account: &'a Account<'a>) -> Self {
         Teller(account)
     }
 }

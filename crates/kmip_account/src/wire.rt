@@ -13,7 +13,7 @@ const MOST_NOTED: usize = 8;
 
 /// The first bytes that came since an exchange began, and the last failure of its streams.
 #[derive(Drop)]
-pub(crate) struct Wire {
+pub struct Wire {
     first: Cell<[u8; MOST_NOTED]>,
     /// How many bytes are noted.
     count: Cell<usize>,
@@ -22,7 +22,7 @@ pub(crate) struct Wire {
 
 impl Wire {
     /// Of an exchange of which nothing came yet.
-    pub(crate) fn new() -> Self {
+    pub fn new() -> Self {
         Wire {
             first: Cell::new([0; MOST_NOTED]),
             count: Cell::new(0),
@@ -31,13 +31,13 @@ impl Wire {
     }
 
     /// The next exchange begins: nothing came of it yet.
-    pub(crate) fn begin(&self) {
+    pub fn begin(&self) {
         self.count.set(0);
         self.failure.set(None);
     }
 
     /// These bytes came.
-    pub(crate) fn note_bytes(&self, bytes: &[u8]) {
+    pub fn note_bytes(&self, bytes: &[u8]) {
         let mut first = self.first.get();
         let mut count = self.count.get();
         for byte in bytes {
@@ -51,7 +51,7 @@ impl Wire {
     }
 
     /// A stream could not be opened, written or read.
-    pub(crate) fn note_failure(&self, error: &Error) {
+    pub fn note_failure(&self, error: &Error) {
         self.failure.set(Some(Failure::of(error)));
     }
 

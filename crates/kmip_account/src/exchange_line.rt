@@ -10,11 +10,7 @@ use std::alloc::Global;
 use std::str::from_utf8;
 
 /// Tells an exchange on standard error, in a line; nothing where there is no memory for it.
-pub(crate) fn tell_exchange(
-    rt: &HostRuntime,
-    request: &[u8],
-    answered: Result<Option<&[u8]>, LinkFault>,
-) {
+pub fn tell_exchange(rt: &HostRuntime, request: &[u8], answered: Result<Option<&[u8]>, LinkFault>) {
     if let Ok(line) = exchange_line(rt.alloc(), request, answered) {
         let _ = rt.eprintln(&line);
     }

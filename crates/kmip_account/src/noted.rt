@@ -5,19 +5,19 @@ use std::io::{self, Read, Write};
 
 /// A stream of which the first bytes that come, and its failures, are noted.
 #[derive(Drop)]
-pub(crate) struct Noted<'a, S> {
+pub struct Noted<'a, S> {
     stream: S,
     wire: Option<&'a Wire>,
 }
 
 impl<'a, S> Noted<'a, S> {
     /// This stream, noted there, if it is to be.
-    pub(crate) fn new(stream: S, wire: Option<&'a Wire>) -> Self {
+    pub fn new(stream: S, wire: Option<&'a Wire>) -> Self {
         Noted { stream, wire }
     }
 
     /// The stream itself.
-    pub(crate) fn stream(&self) -> &S {
+    pub fn stream(&self) -> &S {
         &self.stream
     }
 }

@@ -27,7 +27,7 @@ const MOST_TOLD: usize = 20;
 
 /// What is told of a run.
 #[derive(Drop)]
-pub(crate) struct Account<'a> {
+pub struct Account<'a> {
     rt: &'a HostRuntime,
     options: &'a RunOptions,
     plan: &'a Plan,
@@ -49,7 +49,7 @@ impl<'a> Account<'a> {
     ///
     /// # Errors
     /// Where there is no memory.
-    pub(crate) fn new(
+    pub fn new(
         rt: &'a HostRuntime,
         options: &'a RunOptions,
         plan: &'a Plan,
@@ -78,23 +78,23 @@ impl<'a> Account<'a> {
     }
 
     /// What it is told to.
-    pub(crate) fn rt(&self) -> &'a HostRuntime {
+    pub fn rt(&self) -> &'a HostRuntime {
         self.rt
     }
 
     /// The plan of the run.
-    pub(crate) fn plan(&self) -> &'a Plan {
+    pub fn plan(&self) -> &'a Plan {
         self.plan
     }
 
     /// What is noted of the streams of an exchange.
-    pub(crate) fn wire(&self) -> &Wire {
+    pub fn wire(&self) -> &Wire {
         &self.wire
     }
 
     /// Shows how far the run is at its start, by the text of the progress that it begins with, where it
     /// is to make an exchange.
-    pub(crate) fn show_start(&self, saved: Option<&str>) {
+    pub fn show_start(&self, saved: Option<&str>) {
         if !self.standing.is_shown() || self.options.limit == 0 {
             return;
         }
@@ -139,7 +139,7 @@ impl<'a> Account<'a> {
     }
 
     /// Ends the line that says how far the run is, where there is one.
-    pub(crate) fn end_line(&self) {
+    pub fn end_line(&self) {
         self.standing.end();
     }
 
@@ -282,7 +282,7 @@ impl<'a> Account<'a> {
     ///
     /// # Errors
     /// Where there is no memory.
-    pub(crate) fn tell_unfinished(&self) -> Result<(), NoMemory> {
+    pub fn tell_unfinished(&self) -> Result<(), NoMemory> {
         let spent = self.spent.get();
         let exchanges = spent.exchanges;
         if exchanges == 0 {
@@ -332,7 +332,7 @@ impl<'a> Account<'a> {
     }
 
     /// Tells that the run was given up.
-    pub(crate) fn tell_given_up(&self) {
+    pub fn tell_given_up(&self) {
         let seconds = self.options.give_up;
         let _ = self.rt.eprintln(format_args!("gave up: nothing was learnt for {seconds} s"));
     }

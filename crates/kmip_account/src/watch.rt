@@ -6,14 +6,14 @@ use kmip_running::{Pace, Patience};
 
 /// Waits and gives up as a pace does, and tells the account of a run what is known.
 #[derive(Drop)]
-pub(crate) struct Watch<'a> {
+pub struct Watch<'a> {
     pace: Pace<&'a HostRuntime>,
     account: &'a Account<'a>,
 }
 
 impl<'a> Watch<'a> {
     /// One that waits `wait` milliseconds first, and gives up after `give_up` seconds, 0 for never.
-    pub(crate) fn new(account: &'a Account<'a>, wait: u64, give_up: u64) -> Self {
+    pub fn new(account: &'a Account<'a>, wait: u64, give_up: u64) -> Self {
         Watch {
             pace: Pace::new(account.rt(), wait, give_up),
             account,
@@ -21,7 +21,7 @@ impl<'a> Watch<'a> {
     }
 
     /// Whether it has given up.
-    pub(crate) fn has_given_up(&self) -> bool {
+    pub fn has_given_up(&self) -> bool {
         self.pace.has_given_up()
     }
 }

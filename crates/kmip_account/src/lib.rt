@@ -1,0 +1,32 @@
+//! What `run`, `probe` and `serve` tell on standard error while they work.
+//!
+//! `Account` tells of a run: how far it is, why the server does not answer, and what was heard of each
+//! key that is not finished. `Teller` and `Watch` hand it what happens. `Wire` notes what comes over the
+//! streams of an exchange, and a `Noted` stream is its own otherwise. `tell_exchange` is for `probe` and
+//! `serve`. All is safe and total. None of it has a clause, as std tells a contract nothing of standard
+//! error. `make troubles`, `make peers` and the stored runs want the lines.
+#![tactic(auto)]
+
+mod account;
+mod answers;
+mod exchange;
+mod exchange_line;
+mod failure;
+mod noted;
+mod operation;
+mod peer_talk;
+mod reach;
+mod reasons;
+mod showing;
+mod silence;
+mod story;
+mod teller;
+mod watch;
+mod wire;
+
+pub use account::Account;
+pub use exchange_line::tell_exchange;
+pub use noted::Noted;
+pub use teller::Teller;
+pub use watch::Watch;
+pub use wire::Wire;
