@@ -37,7 +37,6 @@ SIZES = {
 
 # What is over the limits and is only reported, with the reason. Who rewrites a document takes its line away.
 NOT_REWRITTEN = {
-    'CHANGELOG.md': 'not rewritten yet',
     'CONTRIBUTING.md': 'not rewritten yet',
     'README.md': 'not rewritten yet',
     'docs/ARCHITECTURE.md': 'not rewritten yet',
