@@ -43,7 +43,6 @@ NOT_REWRITTEN = {
     'docs/DECISIONS.md': 'not rewritten yet',
     'docs/DEFINITIONS.md': 'not rewritten yet',
     'docs/MISTAKES.md': 'not rewritten yet',
-    'docs/OPERATING.md': 'not rewritten yet',
     'docs/PROVED.md': 'not rewritten yet',
     'docs/PROVING.md': 'not rewritten yet',
 }
