@@ -36,10 +36,7 @@ SIZES = {
 }
 
 # What is over the limits and is only reported, with the reason. Who rewrites a document takes its line away.
-NOT_REWRITTEN = {
-    'CHANGELOG.md': 'not rewritten yet',
-    'docs/OPERATING.md': 'not rewritten yet',
-}
+NOT_REWRITTEN = {}
 
 FENCED = re.compile(r'```.*?```', re.S)
 MADE = re.compile(r'^<!-- made by .*?^<!-- end of what is made -->\n', re.M | re.S)
