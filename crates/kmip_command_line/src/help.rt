@@ -166,7 +166,8 @@ pub(crate) const SCRIPT: &str = "The file of the script: what the network does, 
 pub(crate) const THEN: &str =
     "The file of a further plan, which prolongs the plan and takes over at `prolong`";
 
-pub(crate) const TRACE: &str = "Print each exchange first: what was asked, and what came back";
+pub(crate) const TRACE: &str =
+    "Print first all that happened: each exchange, each late request, each end of a run";
 
 pub(crate) const DIAGRAM: &str = "Print a sequence diagram for mermaid, and nothing else";
 

@@ -50,11 +50,13 @@ pub fn run_sim<W: Write>(
 ) -> ExitStatus
     // A message may ask about so many keys at most: 1 to 8.
     requires batch { IsTrue (may_have batch) }
-    // Where all was done, what `sim` tells was written, and the status says whether something was refused or is unfinished.
+    // Where it did not break off, what `sim` tells was written. It ends with `Done` exactly where the
+    // last run of a simulation finished all keys, and else with `Refused`.
     ensures text { IfWhole result (λ r. WritesSim detail batch (plan_read plan.now)
         (option_map (λ text. plan_read text.now) further.entry) script.now r
         (W.contents writer.old) (W.contents writer.new)) }
-    // Where memory ran out, what had been told was written, and then the line that says so. After a fault of the writer nothing is said.
+    // Where it failed, but not by its writer, nothing was written, or the runs before memory ran out;
+    // and then the line of the fault.
     ensures broken { IfFailed result (λ fault. UnlessOutput fault (BreaksOffSim detail batch
         (plan_read plan.now) (option_map (λ text. plan_read text.now) further.entry)
         script.now (fault_line fault) (W.contents writer.old) (W.contents writer.new))) }
@@ -87,11 +89,12 @@ pub fn sim<W: Write>(
 ) -> Result<bool, CommandFault>
     // A message may ask about so many keys at most: 1 to 8.
     requires batch { IsTrue (may_have batch) }
-    // What is told of the plans and the script was written, and the result says whether something was refused or is unfinished.
+    // What is told of the plans and the script was written. The result is false exactly where the last
+    // run of a simulation finished all keys.
     ensures text { IfOk result (λ r. WritesSim detail batch (plan_read plan.now)
         (option_map (λ text. plan_read text.now) further.entry) script.now r
         (W.contents writer.old) (W.contents writer.new)) }
-    // Where memory ran out, nothing was written, or the runs before it. After a fault of the writer nothing is said.
+    // Where it failed, but not by its writer, nothing was written, or the runs before memory ran out.
     ensures broken { IfErr result (λ fault. UnlessOutput fault (BreaksOffSim detail batch
         (plan_read plan.now) (option_map (λ text. plan_read text.now) further.entry)
         script.now []
@@ -119,11 +122,12 @@ pub fn sim_bytes(
 ) -> Result<bool, NoMemory>
     // A message may ask about so many keys at most: 1 to 8.
     requires batch { IsTrue (may_have batch) }
-    // What is told of the plans and the script was appended, and the result says whether something was refused or is unfinished.
+    // What is told of the plans and the script was appended. The result is false exactly where the last
+    // run of a simulation finished all keys.
     ensures text { IfOk result (λ r. WritesSim detail batch (plan_read plan.now)
         (option_map (λ text. plan_read text.now) further.entry) script.now r
         (Some output.old.items) (Some output.new.items)) }
-    // Where memory ran out, nothing was appended, or the runs before it.
+    // Where memory ran out, nothing was appended, or the runs before that.
     ensures broken { OnErr result (BreaksOffSim detail batch (plan_read plan.now)
         (option_map (λ text. plan_read text.now) further.entry) script.now []
         (Some output.old.items) (Some output.new.items)) }

@@ -1,4 +1,4 @@
-//! The runs of a script over a server in memory, and what is written of them.
+//! Runs of a script over a server in memory, and what is written of them.
 //!
 //! A script tells all that lies between the client and the server: what is lost, delayed and repeated.
 #![tactic(auto)]

@@ -103,12 +103,14 @@ fn push_end(
     ensures { OnOk result (moments.new.items
         ≡ moments.old.items ++ end_from number end words.now) }
 {
-    let taken = words_at_end(alloc, words_after_repeats(true, words))?;
-    push_repeats(true, end, words, moments)?;
-    moments.push(Moment::Ended {
+    let left = words_after_repeats(true, words);
+    let taken = Script::new(words_at_end(alloc, left)?);
+    let last = Moment::Ended {
         number,
-        words: Script::new(taken),
-    })?;
+        words: taken,
+    };
+    push_repeats(true, end, words, moments)?;
+    moments.push(last)?;
     Ok(())
 }
 

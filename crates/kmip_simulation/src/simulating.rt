@@ -31,8 +31,9 @@ pub struct Simulation {
     pub link: Scripted<IndexedStore>,
 }
 
-/// Makes the runs of a script for a plan, over a link to a new server that follows the script. Where
-/// memory runs out in a run, the end says so and has the runs before it.
+/// Makes the runs of a script for a plan, over a link to a new server that follows the script. The
+/// server has no object, and room for 10,000. Where memory runs out in a run, the end says so and has
+/// the runs before it.
 ///
 /// # Errors
 /// Where there is no memory for the list of the runs, or for the words of the script.
@@ -46,8 +47,8 @@ pub fn simulate(
     requires none { prolongings script ≡ 0 }
     // A message may ask about so many keys at most: 1 to 8.
     requires batch { IsTrue (may_have batch) }
-    // The runs of the script were made for the plan over the link, and all that is promised of a campaign
-    // holds.
+    // The runs of the script were made for the plan. What the headline says of a campaign holds of them,
+    // whatever the script: its premises are met here by proof.
     ensures simulated { IfOk result (λ s. IsSimulated plan.now batch script s.end s.link) }
     // The words that are kept are those of the script.
     ensures words { IfOk result (λ s. s.words ≡ script) }
@@ -81,7 +82,8 @@ pub fn simulate_again(
     requires batch { IsTrue (may_have batch) }
     // Each of the other runs asks about 1 to 8 keys at once.
     requires batches { MayBatch runs.now }
-    // The runs of the script were made, and then the other ones over the same link.
+    // The runs of the script were made, and then the other ones over the same link. What the headline
+    // says holds of both campaigns.
     ensures simulated { IfOk result (λ s.
         IsSimulatedAgain plan.now batch script runs.now s.0.end s.1 s.0.link) }
     // The words that are kept are those of the script.
@@ -126,7 +128,8 @@ pub fn simulate_plans(
     requires one { prolongings script ≡ 1 }
     // A message may ask about so many keys at most: 1 to 8.
     requires batch { IsTrue (may_have batch) }
-    // The runs of the script were made for both plans in turn over one link.
+    // The runs of the script were made for both plans in turn over one link. What the headline says of
+    // one plan holds for the last of them, whatever the script.
     ensures simulated { IfOk result (λ s. AreSimulated plans.now batch script s.end s.link) }
     // The words that are kept are those of the script.
     ensures words { IfOk result (λ s. s.words ≡ script) }
