@@ -215,10 +215,16 @@ class Command:
 class Simulation(Command):
     """The command `sim`."""
 
+    def prepare(self):
+        super().prepare()
+        # Where memory runs out in a run, no exchange is told, and nothing is drawn.
+        words = [word for word in self.words if word not in ("--trace", "--diagram")]
+        self.runs = Process(self.tools.shim, [self.tools.program, *words], None).end().output
+
     def fronts(self):
         """The runs that have ended, whole."""
-        runs = re.split(r"^(?=run )", self.undisturbed.output, flags=re.M)
-        blocks = [re.sub(r"^(ask|record|exchange) .*\n", "", run, flags=re.M) for run in runs]
+        runs = re.split(r"^(?=run )", self.runs, flags=re.M)
+        blocks = [re.sub(r"^(ask|record) .*\n", "", run, flags=re.M) for run in runs]
         return {"".join(blocks[:number]) for number in range(len(blocks) + 1)}
 
 
@@ -452,6 +458,7 @@ def commands_of(tools):
         sim("a reply lost and an old one", active, loses),
         sim("three saves", destroyed, saves),
         sim("--then and --trace", lost, goes_further, further),
+        sim("--diagram", active, loses, ["--diagram"]),
         Carrying(tools, destroyed),
         Carrying(tools, destroyed, "--verbose"),
         Carrying(tools, destroyed, begun=FINISHED, shown=", all done before"),

@@ -3,7 +3,7 @@ ghost use Rattle.std.specs.Prelude.{◌≡◌, IfOk, option_map, string_bytes, i
 ghost use Rattle.kmip_commands.specs.declared.showing.Form.TheVariants.{Text, Canonical};
 ghost use Rattle.kmip_choices.specs.Choices.{IsCheckOf, IsSimulationOf};
 ghost use Rattle.kmip_choices.specs.declared.choice.Choice.TheVariants.{Answer, AnswerStream};
-ghost use Rattle.kmip_choices.specs.declared.detail.Detail.TheVariants.{Runs, Exchanges};
+ghost use Rattle.kmip_choices.specs.declared.detail.Detail.TheVariants.{Runs, Exchanges, Diagram};
 
 use crate::detail::Detail;
 use crate::options::{ProbeOptions, RunOptions, ServeOptions};
@@ -90,12 +90,14 @@ pub fn check_of(alloc: Global, plan: &str, earlier: Option<&str>) -> Result<Choi
     }
 }
 
-/// How much to tell of a simulation, by whether it was asked for each exchange: `Exchanges`, or else
-/// `Runs`.
-pub fn detail_of(is_traced: bool) -> Detail
-    ensures { result ≡ (if is_traced then Exchanges else Runs) }
+/// How much to tell of a simulation, by whether it was asked for each exchange and for a diagram:
+/// `Diagram` where a diagram was asked for, else `Exchanges` where these were, else `Runs`.
+pub fn detail_of(is_traced: bool, is_drawn: bool) -> Detail
+    ensures { result ≡ (if is_drawn then Diagram else if is_traced then Exchanges else Runs) }
 {
-    if is_traced {
+    if is_drawn {
+        Detail::Diagram
+    } else if is_traced {
         Detail::Exchanges
     } else {
         Detail::Runs

@@ -139,7 +139,7 @@ pub(crate) fn command_of<'a>(
         .about(command.about)
         .long_about(command.long_about);
     for option in command.options {
-        made = made.arg(arg_of(alloc, option))?;
+        made = made.arg(arg_of(alloc, option)?)?;
     }
     if command.asks_a_server {
         made = with_server(alloc, made)?;

@@ -120,11 +120,19 @@ network that loses nothing. It makes as many exchanges as the plan can need then
 than its target has steps. STOP is AllFinished, Limit or Conflict. Where memory runs out, the runs that
 were made are printed, and then `no memory`.
 
-With --trace each exchange is printed first: what was asked, the word that the exchange followed, and
-what came back. Where that is the reply to another question it begins with `answers OPERATION NAME`:
+With --trace all that happened is printed first. For an exchange: what was asked, the word that it
+followed, and what came back. The reply to another question begins with `answers OPERATION NAME`. For
+the end of a run: the words of the script that are taken there.
   exchange 1 Locate k1, pass: found none
   exchange 2 Create k1, lose-reply: no reply
-Where memory runs out in a run, no exchange is printed.
+  run 1 ends, save
+  again 2 Create k1            the request of number 2 is delivered again
+  again 9: no such request     there is none of that number yet
+Where memory runs out in a run, nothing of this is printed.
+
+With --diagram a sequence diagram of the same is printed, and nothing else, in the language of mermaid:
+  kmipctl sim --plan plan.toml --script network.script --diagram > run.mmd
+Where the plan or the script is refused, or memory runs out in a run, the lines are as without it.
 
 With --batch B a message asks about up to B keys, and its reply answers all of them:
   ask 1 Locate k1, Locate k2
@@ -158,7 +166,10 @@ pub(crate) const SCRIPT: &str = "The file of the script: what the network does, 
 pub(crate) const THEN: &str =
     "The file of a further plan, which prolongs the plan and takes over at `prolong`";
 
-pub(crate) const TRACE: &str = "Print each exchange first: what was asked, and what came back";
+pub(crate) const TRACE: &str =
+    "Print first all that happened: each exchange, each late request, each end of a run";
+
+pub(crate) const DIAGRAM: &str = "Print a sequence diagram for mermaid, and nothing else";
 
 pub(crate) const AFTER: &str = "The file of an earlier plan, which the plan is to prolong";
 

@@ -14,7 +14,7 @@ pub(crate) fn check_choice(alloc: Global, options: &ArgMatches<'_>) -> Result<Ch
 pub(crate) fn sim_choice(alloc: Global, options: &ArgMatches<'_>) -> Result<Choice, AllocError> {
     let plan = options.get_str("plan").unwrap_or("");
     let script = options.get_str("script").unwrap_or("");
-    let detail = detail_of(options.get_flag("trace"));
+    let detail = detail_of(options.get_flag("trace"), options.get_flag("diagram"));
     let further = options.get_str("then");
     let batch = options.get_one::<u64>("batch").unwrap_or(1);
     simulation_of(alloc, plan, further, script, detail, batch)

@@ -1,16 +1,16 @@
 //! The options of the commands, and what stands after them.
 
 use crate::help::{
-    AFRESH, AFTER, BATCH, BELIEVE, CANON, CONNECT, CONNECTIONS, GIVE_UP, LIMIT, LOOPBACK,
+    AFRESH, AFTER, BATCH, BELIEVE, CANON, CONNECT, CONNECTIONS, DIAGRAM, GIVE_UP, LIMIT, LOOPBACK,
     NAME_PREFIX, NOW, PLAN, PORT, PROGRESS, SCRIPT, SERVE_TIMEOUT, SOCKET, STREAM, THEN, TIMEOUT,
     TRACE, VERBOSE, WAIT,
 };
 use Absent::{Fine, Means, Wrong};
-use Value::{Flag, Number, Text};
+use Value::{Flag, FlagUnless, Number, Text};
 use clap::builder::ValueParser;
 use clap::{Arg, ArgAction};
 use kmip_messages::standard::MOST_QUESTIONS;
-use std::alloc::Global;
+use std::alloc::{AllocError, Global};
 
 /// The largest number of exchanges and of connections (own).
 pub(crate) const MOST_COUNT: u64 = 4_294_967_295;
@@ -32,6 +32,8 @@ const LATEST: u64 = 9_223_372_036_854_775_807;
 enum Value {
     /// Nothing: the option is there or not.
     Flag,
+    /// Nothing, and the option of this word may not be there beside it.
+    FlagUnless(&'static str),
     /// A text, which the help calls so.
     Text(&'static str),
     /// A number, which the help calls so, from the first of these numbers to the second.
@@ -67,6 +69,8 @@ const THEN_OPTION: CommandOption = CommandOption("then", Text("PATH"), Fine, THE
 const SCRIPT_OPTION: CommandOption = CommandOption("script", Text("PATH"), Wrong, SCRIPT);
 
 const TRACE_OPTION: CommandOption = CommandOption("trace", Flag, Fine, TRACE);
+
+const DIAGRAM_OPTION: CommandOption = CommandOption("diagram", FlagUnless("trace"), Fine, DIAGRAM);
 
 const PROGRESS_OPTION: CommandOption = CommandOption("progress", Text("PATH"), Wrong, PROGRESS);
 
@@ -153,12 +157,13 @@ pub(crate) const SHOW_OPTIONS: [CommandOption; 1] = [CANON_OPTION];
 
 pub(crate) const CHECK_OPTIONS: [CommandOption; 2] = [PLAN_OPTION, AFTER_OPTION];
 
-pub(crate) const SIM_OPTIONS: [CommandOption; 5] = [
+pub(crate) const SIM_OPTIONS: [CommandOption; 6] = [
     PLAN_OPTION,
     THEN_OPTION,
     SCRIPT_OPTION,
     BATCH_OPTION,
     TRACE_OPTION,
+    DIAGRAM_OPTION,
 ];
 
 pub(crate) const RUN_OPTIONS: [CommandOption; 13] = [
@@ -195,9 +200,14 @@ pub(crate) const SERVE_OPTIONS: [CommandOption; 5] = [
 ];
 
 /// The option, for the parser of command lines.
-pub(crate) fn arg_of<'a>(alloc: Global, option: &CommandOption) -> Arg<'a> {
+pub(crate) fn arg_of<'a>(alloc: Global, option: &CommandOption) -> Result<Arg<'a>, AllocError> {
     let CommandOption(name, value, absent, help) = *option;
-    let arg = with_value(Arg::new(alloc, name).long(name).help(help), value);
+    let arg = with_value(Arg::new(alloc, name).long(name).help(help), value)?;
+    Ok(with_absent(arg, absent))
+}
+
+/// The option with what it means that it is absent.
+fn with_absent<'a>(arg: Arg<'a>, absent: Absent) -> Arg<'a> {
     match absent {
         Wrong => arg.required(true),
         Fine => arg,
@@ -206,13 +216,14 @@ pub(crate) fn arg_of<'a>(alloc: Global, option: &CommandOption) -> Arg<'a> {
 }
 
 /// The option with what stands after it.
-fn with_value<'a>(arg: Arg<'a>, value: Value) -> Arg<'a> {
+fn with_value<'a>(arg: Arg<'a>, value: Value) -> Result<Arg<'a>, AllocError> {
     match value {
-        Flag => arg.action(ArgAction::SetTrue),
-        Text(name) => arg.value_name(name),
-        Number(name, least, most) => {
+        Flag => Ok(arg.action(ArgAction::SetTrue)),
+        FlagUnless(other) => arg.action(ArgAction::SetTrue).conflicts_with(other),
+        Text(name) => Ok(arg.value_name(name)),
+        Number(name, least, most) => Ok(
             arg.value_name(name)
-                .value_parser(ValueParser::unsigned(least, most))
-        }
+                .value_parser(ValueParser::unsigned(least, most)),
+        ),
     }
 }

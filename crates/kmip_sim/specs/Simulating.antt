@@ -15,9 +15,10 @@ use Rattle.kmip_scripted.specs.declared.fault.ScriptFault.TheVariants.{Line, NoM
 use Rattle.kmip_scripted.specs.declared.script.Word.{Word}
 use Rattle.kmip_simulation.specs.Simulating.{AreSimulated, IsSimulated}
 use Rattle.kmip_simulation.specs.SimText.{is_last_finished, sim_text}
+use Rattle.kmip_simulation.specs.Diagram.{diagram_text}
 use Rattle.kmip_simulation.specs.Tracing.{trace_text}
 use Rattle.kmip_choices.specs.declared.detail.Detail.{Detail}
-use Rattle.kmip_choices.specs.declared.detail.Detail.TheVariants.{Exchanges}
+use Rattle.kmip_choices.specs.declared.detail.Detail.TheVariants.{Runs, Exchanges, Diagram}
 use Rattle.kmip_ttlv.specs.declared.fault.NoMemory.{NoMemory}
 use Rattle.kmip_check.specs.Checking.{plan_refusal_text}
 
@@ -30,17 +31,18 @@ abbrev pub ended_by : Option NoMemory → Bool → Result Bool NoMemory
 ended_by None finished = Ok (not finished)
 ended_by (Some want) finished = Err want
 
+-- the same of the end of a campaign itself
 abbrev pub campaign_ended : CampaignEnd → Result Bool NoMemory
 campaign_ended end = ended_by end.fault (is_last_finished end.runs.items)
 
--- the exchanges, where they are to be told and memory did not run out in a run
-abbrev pub exchanges_text : Detail → Option NoMemory → Scene → List ℕ
-exchanges_text Exchanges None link = trace_text link
-exchanges_text detail fault link = []
-
--- all that is written of a campaign that ended so over a link
-abbrev pub simulation_text : Detail → CampaignEnd → Scene → List ℕ
-simulation_text detail end link = exchanges_text detail end.fault link ++ sim_text end link
+-- All that is written in a detail of a campaign that ended so over a link, which followed these words. Where memory ran out in a run,
+-- that is how the runs before it ended, in each detail.
+abbrev pub simulation_text : Detail → Option NoMemory → List Word → CampaignEnd → Scene → List ℕ
+simulation_text Runs fault words end link = sim_text end link
+simulation_text Exchanges None words end link = trace_text words link ++ sim_text end link
+simulation_text Exchanges (Some want) words end link = sim_text end link
+simulation_text Diagram None words end link = diagram_text words link
+simulation_text Diagram (Some want) words end link = sim_text end link
 
 -- The text tells in this detail how the script was simulated, in which `prolong` stands so often, and how its campaign ended; what holds
 -- of the runs that it made is given.
@@ -52,7 +54,7 @@ pub record TellsRuns (detail : Detail) (prolonged : ℕ) (Holds : List Word → 
   pub link : Scene
   pub simulated : Holds words end link
   pub ended_is : ended ≡ campaign_ended end
-  pub text_is : text ≡ simulation_text detail end link
+  pub text_is : text ≡ simulation_text detail end.fault words end link
 
 -- so a script without `prolong` was simulated for these keys, of which each message asks about so many at most
 abbrev pub TellsSimulation : Detail → ℕ → List Key → List ℕ → Result Bool NoMemory → List ℕ → Type 0
@@ -63,14 +65,14 @@ abbrev pub TellsSimulations : Detail → ℕ → List Key → List Key → List 
 TellsSimulations detail batch keys further script ended text =
     TellsRuns detail 1 (λ words end link. AreSimulated (keys ∷ further ∷ []) batch words end link) script ended text
 
--- a script in which `prolong` has to stand so often is refused for this line: the first that is at fault; or 0, where each line is a word,
--- and `prolong` stands more or less often
+-- each line of the script is a word, but `prolong` stands more or less often than it has to: this is told as of line 0
 pub record HasOtherCount (script : List ℕ) (prolonged line : ℕ) : Type 0 where
   pub line_is : line ≡ 0
   pub words : List Word
   pub is_script : IsScript script words
   pub other : prolongings words ≢ prolonged
 
+-- a script in which `prolong` has to stand so often is refused for this line: the first that is at fault, or 0 for another count
 abbrev pub IsRefusedFor : List ℕ → ℕ → ℕ → Type 0
 IsRefusedFor script prolonged line = FailsAt script line ⊎ HasOtherCount script prolonged line
 

@@ -1,4 +1,4 @@
-//! The command `sim` of `kmipctl`: a plan is carried out over a link in memory that follows a script.
+//! The command `sim` of `kmipctl`: plays a plan over a network that follows a script.
 //!
 //! `sim` does the work and returns a fault as a value; `run_sim` also prints the fault and says how the
 //! program ends. `sim_bytes` does the same work in memory, where nothing but memory can fail.

@@ -7,6 +7,8 @@ ghost use Rattle.kmip_check.specs.Checking.{is_memory};
 ghost use Rattle.kmip_commands.specs.Printing.{IfFailed, IfWhole, UnlessOutput, fault_line};
 ghost use Rattle.kmip_scripted.specs.ScriptTexts.{IsScript};
 ghost use Rattle.kmip_scripted.specs.Words.{prolongings};
+ghost use Rattle.kmip_simulation.specs.SimText.{sim_text};
+ghost use Rattle.kmip_simulation.specs.Tracing.{trace_text};
 ghost use Rattle.kmip_sim.specs.Simulating.{
   BreaksOffSim,
   GivesWords,
@@ -19,7 +21,6 @@ ghost use Rattle.kmip_sim.specs.Simulating.{
   TellsSimulations,
   WritesSim,
   campaign_ended,
-  exchanges_text,
   prolongs_not_text,
   script_refusal_text,
   simulation_text,
@@ -30,13 +31,14 @@ use kmip_choices::Detail;
 use kmip_commands::{CommandFault, ExitStatus, finished, push_text, send};
 use kmip_plan::{Plan, PlanFault, prolongs, read_plan};
 use kmip_scripted::{Script, ScriptFault, read_script};
-use kmip_simulation::{Simulation, push_simulation, push_trace, simulate, simulate_plans};
+use kmip_simulation::{
+    Simulation, push_diagram, push_simulation, push_trace, simulate, simulate_plans,
+};
 use kmip_ttlv::NoMemory;
 use std::alloc::Global;
 use std::io::Write;
 
-/// Runs `sim`, and prints a line for want of memory. A message asks about at most `batch` keys, 1 to
-/// 8.
+/// Runs `sim`, and prints a line for want of memory. A message asks about at most `batch` keys.
 pub fn run_sim<W: Write>(
     alloc: Global,
     detail: Detail,
@@ -46,10 +48,15 @@ pub fn run_sim<W: Write>(
     script: &str,
     writer: &mut W,
 ) -> ExitStatus
+    // A message may ask about so many keys at most: 1 to 8.
     requires batch { IsTrue (may_have batch) }
+    // Where it did not break off, what `sim` tells was written. It ends with `Done` exactly where the
+    // last run of a simulation finished all keys, and else with `Refused`.
     ensures text { IfWhole result (λ r. WritesSim detail batch (plan_read plan.now)
         (option_map (λ text. plan_read text.now) further.entry) script.now r
         (W.contents writer.old) (W.contents writer.new)) }
+    // Where it failed, but not by its writer, nothing was written, or the runs before memory ran out;
+    // and then the line of the fault.
     ensures broken { IfFailed result (λ fault. UnlessOutput fault (BreaksOffSim detail batch
         (plan_read plan.now) (option_map (λ text. plan_read text.now) further.entry)
         script.now (fault_line fault) (W.contents writer.old) (W.contents writer.new))) }
@@ -58,13 +65,14 @@ pub fn run_sim<W: Write>(
     finished(ended, writer)
 }
 
-/// Carries out the text of a plan over a link to a server in memory that follows the text of a
-/// script, and writes in this detail how the runs of the script ended, what was asked, and the
-/// objects at the end. A message asks about at most `batch` keys, 1 to 8. Where there is the text of
-/// a further plan, the script has the word `prolong` once: the runs behind it are for the further
-/// plan. Writes one line where the plan is refused, else where the further plan is or does not
-/// prolong the plan, else where the script is. Says whether one of them was refused, or the last run
-/// left a key of its plan unfinished. Nothing is written before all of it is made.
+/// Carries out a plan over a link to a server in memory, which follows a script; all are texts. Where
+/// there is a further plan, the script has the word `prolong` once, and the runs after it are for the
+/// further plan.
+///
+/// It writes in this detail how the runs of the script ended, what was asked, and the objects at the
+/// end. Else it writes one line: that the plan is refused, then that the further plan is, or does not
+/// prolong the plan, then that the script is. A message asks about at most `batch` keys. Nothing is
+/// written before all of it is made.
 ///
 /// # Errors
 ///
@@ -79,10 +87,14 @@ pub fn sim<W: Write>(
     script: &str,
     writer: &mut W,
 ) -> Result<bool, CommandFault>
+    // A message may ask about so many keys at most: 1 to 8.
     requires batch { IsTrue (may_have batch) }
+    // What is told of the plans and the script was written. The result is false exactly where the last
+    // run of a simulation finished all keys.
     ensures text { IfOk result (λ r. WritesSim detail batch (plan_read plan.now)
         (option_map (λ text. plan_read text.now) further.entry) script.now r
         (W.contents writer.old) (W.contents writer.new)) }
+    // Where it failed, but not by its writer, nothing was written, or the runs before memory ran out.
     ensures broken { IfErr result (λ fault. UnlessOutput fault (BreaksOffSim detail batch
         (plan_read plan.now) (option_map (λ text. plan_read text.now) further.entry)
         script.now []
@@ -93,7 +105,7 @@ pub fn sim<W: Write>(
     Ok(told.ended?)
 }
 
-/// Does the same in memory: appends what is printed to `output`.
+/// Does what `sim` does in memory: appends what is printed to `output`.
 ///
 /// # Errors
 ///
@@ -108,10 +120,14 @@ pub fn sim_bytes(
     script: &str,
     output: &mut Vec<u8>,
 ) -> Result<bool, NoMemory>
+    // A message may ask about so many keys at most: 1 to 8.
     requires batch { IsTrue (may_have batch) }
+    // What is told of the plans and the script was appended. The result is false exactly where the last
+    // run of a simulation finished all keys.
     ensures text { IfOk result (λ r. WritesSim detail batch (plan_read plan.now)
         (option_map (λ text. plan_read text.now) further.entry) script.now r
         (Some output.old.items) (Some output.new.items)) }
+    // Where memory ran out, nothing was appended, or the runs before that.
     ensures broken { OnErr result (BreaksOffSim detail batch (plan_read plan.now)
         (option_map (λ text. plan_read text.now) further.entry) script.now []
         (Some output.old.items) (Some output.new.items)) }
@@ -323,33 +339,50 @@ fn told_of_simulations(
     Ok(told)
 }
 
-/// What is told of a simulation: the runs, what was asked and the objects, and how it ended.
+/// What is told of a simulation, and how it ended.
 fn told_of_end(alloc: Global, detail: Detail, simulation: &Simulation) -> Result<Told, NoMemory>
     ensures ended { IfOk result (λ told. told.ended ≡ campaign_ended simulation.now.end) }
-    ensures text { IfOk result (λ told.
-        told.text.items ≡ simulation_text detail simulation.now.end simulation.now.link) }
+    ensures text { IfOk result (λ told. told.text.items
+        ≡ simulation_text detail simulation.now.end.fault simulation.now.words
+        simulation.now.end simulation.now.link) }
 {
     let mut text = Vec::new(alloc);
-    push_exchanges(alloc, detail, simulation, &mut text)?;
-    push_simulation(alloc, simulation, &mut text)?;
+    push_told(alloc, detail, simulation, &mut text)?;
     let ended = campaign_ended(simulation);
     Ok(Told { text, ended })
 }
 
-/// Appends a line for each exchange, where these are to be told and memory did not run out in a run.
-fn push_exchanges(
+/// Appends what is told of a simulation.
+fn push_told(
     alloc: Global,
     detail: Detail,
     simulation: &Simulation,
     text: &mut Vec<u8>,
 ) -> Result<(), NoMemory>
     ensures { OnOk result (text.new.items ≡ text.old.items
-        ++ exchanges_text detail simulation.now.end.fault simulation.now.link) }
+        ++ simulation_text detail simulation.now.end.fault simulation.now.words
+        simulation.now.end simulation.now.link) }
 {
     match (detail, simulation.end.fault) {
-        (Detail::Exchanges, None) => push_trace(alloc, &simulation.link, text),
-        (Detail::Runs, _) | (Detail::Exchanges, Some(NoMemory)) => Ok(()),
+        (Detail::Exchanges, None) => push_traced(alloc, simulation, text),
+        (Detail::Diagram, None) => {
+            push_diagram(alloc, simulation.words.words(), &simulation.link, text)
+        }
+        (Detail::Runs, _) | (Detail::Exchanges | Detail::Diagram, Some(NoMemory)) => {
+            push_simulation(alloc, simulation, text)
+        }
     }
+}
+
+/// Appends all that happened, and then how the runs ended, what was asked and the objects.
+fn push_traced(alloc: Global, simulation: &Simulation, text: &mut Vec<u8>) -> Result<(), NoMemory>
+    ensures { OnOk result (text.new.items ≡ text.old.items
+        ++ (trace_text simulation.now.words simulation.now.link
+        ++ sim_text simulation.now.end simulation.now.link)) }
+{
+    push_trace(alloc, simulation.words.words(), &simulation.link, text)?;
+    push_simulation(alloc, simulation, text)?;
+    Ok(())
 }
 
 /// How the campaign of a simulation ended.

@@ -74,8 +74,8 @@ pub record IsSimulatedAgain (keys : List Key) (batch : ℕ) (words : List Word) 
   pub simulated : IsSimulated keys batch words first between
   pub carried : IsCarriedOut keys runs second between link
 
--- The runs of a script with one `prolong` were made for plans in turn, each of which prolongs the one before, with so many keys asked
--- about at once, over one link to a new server that follows the script, and ended so. All that holds of the runs for one plan holds of
+-- The runs of a script with one `prolong` were made for plans in turn, each of which prolongs the one before, and ended so. They were made
+-- over one link to a new server that follows the script, with so many keys asked about at once. All that holds of the runs for one plan holds of
 -- these for the last plan, what was saved under an earlier one included.
 pub record AreSimulated (plans : List (List Key)) (batch : ℕ) (words : List Word) (end : CampaignEnd) (link : Scene) : Type 0 where
   pub safe : Safe (last_plan plans) (past_in link) (reported (last_plan plans) end.runs.items end.saved.items)

@@ -1,14 +1,17 @@
--- What is written of the exchanges of a simulation, a line each.
--- Source: own: what the program prints, with the words of a script as they are read.
-use Rattle.std.specs.Prelude.{ℕ, List, ◌++◌, codes, zip, Option, Some, None}
+-- What is written of a simulation, a line each: its exchanges, what is delivered again between them, and the ends of its runs.
+-- Source: own (text): what the program prints, with the words of a script as they are read.
+use Rattle.std.specs.Prelude.{ℕ, nat_le, List, [], ◌++◌, codes, Option, Some, None, if◌then◌else◌}
 use Rattle.std.specs.Fmt.{decimal}
+use Rattle.std.specs.List.{flat_map}
 use Rattle.kmip_scripted.specs.Scenes.{Scene}
-use Rattle.kmip_scripted.specs.Words.{answer_at}
+use Rattle.kmip_scripted.specs.Words.{answer_at, message_at, word_at}
 use Rattle.kmip_scripted.specs.declared.script.Word.{Word}
 use Rattle.kmip_scripted.specs.declared.script.Word.TheVariants.{Pass, LoseRequest, LoseReply, Cut, Stale, Again, Save, Prolong, Restart}
 use Rattle.kmip_wording.specs.Questions.{question_text}
 use Rattle.kmip_wording.specs.Answers.{answer_text}
-use Rattle.kmip_simulation.specs.SimText.{numbered_text}
+use Rattle.kmip_simulation.specs.declared.moment.Moment.{Moment}
+use Rattle.kmip_simulation.specs.declared.moment.Moment.TheVariants.{Begun, Repeated, Exchanged, Ended}
+use Rattle.kmip_simulation.specs.Moments.{moments_of}
 
 -- the save that a run starts from, or none
 abbrev pub start_text : Option ℕ → List ℕ
@@ -36,10 +39,37 @@ exchange_front number request word =
 abbrev pub exchange_line : ℕ → List ℕ → Word → Option (List ℕ) → List ℕ
 exchange_line number request word answer = exchange_front number request word ++ answer_text request answer ++ codes "\n"
 
--- the line of the exchange of a number that asked this and followed this word, where all that was handed over is known
-abbrev pub exchange_text : List (Option (List ℕ)) → ℕ → List ℕ × Word → List ℕ
-exchange_text handed number asked = exchange_line number asked.0 asked.1 (answer_at number handed)
+-- the same, where what was asked and the word are known; every exchange that was made has both
+abbrev pub exchange_text : ℕ → Option (List ℕ) → Option Word → Option (List ℕ) → List ℕ
+exchange_text number None word answer = []
+exchange_text number (Some request) None answer = []
+exchange_text number (Some request) (Some word) answer = exchange_line number request word answer
 
--- the exchanges over a link in their order, from 1
-abbrev pub trace_text : Scene → List ℕ
-trace_text link = numbered_text (exchange_text link.handed) 1 (zip link.asked link.followed)
+-- the request of a number, where it is among the first of which there are so many
+abbrev pub early_request : ℕ → ℕ → List (List ℕ) → Option (List ℕ)
+early_request number asked messages = if nat_le number asked then message_at number messages else None
+
+-- the line of a request that is delivered again: what it asks, where there is such a request
+abbrev pub again_line : ℕ → Option (List ℕ) → List ℕ
+again_line number None = codes "again " ++ decimal number ++ codes ": no such request\n"
+again_line number (Some request) = codes "again " ++ decimal number ++ codes " " ++ question_text request ++ codes "\n"
+
+-- a word that is taken at the end of a run, behind others
+abbrev pub taken_text : Word → List ℕ
+taken_text word = codes ", " ++ word_text word
+
+-- that a run ends, and the words that are taken there
+abbrev pub ended_text : ℕ → List Word → List ℕ
+ended_text number words = codes "run " ++ decimal number ++ codes " ends" ++ flat_map taken_text words
+
+-- the line of a moment over a link; that a run begins has none
+abbrev pub moment_line : Scene → Moment → List ℕ
+moment_line link (Begun number) = []
+moment_line link (Repeated number asked) = again_line number (early_request number asked link.asked)
+moment_line link (Exchanged number) =
+    exchange_text number (message_at number link.asked) (word_at number link.followed) (answer_at number link.handed)
+moment_line link (Ended number words) = ended_text number words ++ codes "\n"
+
+-- all that happened over a link that followed these words, in its order
+abbrev pub trace_text : List Word → Scene → List ℕ
+trace_text words link = flat_map (moment_line link) (moments_of words link)

@@ -1,11 +1,17 @@
-//! A client and a server in memory, with all that lies between them told by a script: the runs that
-//! it makes, what is known of all that happens, and what is written of it.
+//! Runs of a script over a server in memory, and what is written of them.
+//!
+//! A script tells all that lies between the client and the server: what is lost, delayed and repeated.
 #![tactic(auto)]
 
+mod diagram;
+mod moment;
+mod moments;
 mod simulating;
 mod tracing;
+mod words;
 mod writing;
 
+pub use diagram::push_diagram;
 pub use simulating::{Simulation, simulate, simulate_again, simulate_plans};
 pub use tracing::push_trace;
 pub use writing::{push_asks, push_records, push_runs, push_simulation};

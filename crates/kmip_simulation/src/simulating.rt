@@ -20,44 +20,55 @@ use kmip_store::{MOST_ROOM, SEED};
 use kmip_ttlv::NoMemory;
 use std::alloc::Global;
 
-/// How the runs of a script went, and the link that they went over.
+/// How the runs of a script went.
 #[derive(Drop)]
 pub struct Simulation {
+    /// The words of the script.
+    pub words: Script,
+    /// How the campaign of its runs ended.
     pub end: CampaignEnd,
+    /// The link that they went over.
     pub link: Scripted<IndexedStore>,
 }
 
-/// Makes the runs of a script without `prolong` for a plan, over a link to a new server that follows
-/// the script; each message asks about so many keys at most, 1 to 8. Where memory runs out in a run,
-/// the end says so and has the runs before it.
+/// Makes the runs of a script for a plan, over a link to a new server that follows the script. The
+/// server has no object, and room for 10,000. Where memory runs out in a run, the end says so and has
+/// the runs before it.
 ///
 /// # Errors
-/// Where there is no memory for the list of the runs.
+/// Where there is no memory for the list of the runs, or for the words of the script.
 pub fn simulate(
     alloc: Global,
     plan: &Plan,
     script: Script,
     batch: usize,
 ) -> Result<Simulation, NoMemory>
+    // The script has no word `prolong`.
     requires none { prolongings script ≡ 0 }
+    // A message may ask about so many keys at most: 1 to 8.
     requires batch { IsTrue (may_have batch) }
-    ensures { IfOk result (λ s. IsSimulated plan.now batch script s.end s.link) }
+    // The runs of the script were made for the plan. What the headline says of a campaign holds of them,
+    // whatever the script: its premises are met here by proof.
+    ensures simulated { IfOk result (λ s. IsSimulated plan.now batch script s.end s.link) }
+    // The words that are kept are those of the script.
+    ensures words { IfOk result (λ s. s.words ≡ script) }
 {
     nothing_done_is_sound();
     opening_is_mirrored();
     plan.keys();
     let runs = script.runs(alloc, plan)?;
     let runs = in_batches(alloc, runs.as_slice(), batch)?;
+    let words = copied(alloc, &script)?;
     let mut link = new_link(alloc, script);
     let end = carry_out(alloc, plan, &mut link, runs.as_slice());
-    Ok(Simulation { end, link })
+    Ok(Simulation { words, end, link })
 }
 
-/// The same, and then these runs for the plan in a second campaign over the same link; the second of
-/// the results is its end.
+/// Makes the runs of a script for a plan, as `simulate` does, and then these runs for the plan in a
+/// second campaign over the same link. The second of the results is its end.
 ///
 /// # Errors
-/// Where there is no memory for the list of the runs of the script.
+/// Where there is no memory for the list of the runs of the script, or for its words.
 pub fn simulate_again(
     alloc: Global,
     plan: &Plan,
@@ -65,11 +76,18 @@ pub fn simulate_again(
     batch: usize,
     runs: &[Run],
 ) -> Result<(Simulation, CampaignEnd), NoMemory>
+    // The script has no word `prolong`.
     requires none { prolongings script ≡ 0 }
+    // A message of the runs of the script may ask about so many keys at most: 1 to 8.
     requires batch { IsTrue (may_have batch) }
+    // Each of the other runs asks about 1 to 8 keys at once.
     requires batches { MayBatch runs.now }
-    ensures { IfOk result (λ s.
+    // The runs of the script were made, and then the other ones over the same link. What the headline
+    // says holds of both campaigns.
+    ensures simulated { IfOk result (λ s.
         IsSimulatedAgain plan.now batch script runs.now s.0.end s.1 s.0.link) }
+    // The words that are kept are those of the script.
+    ensures words { IfOk result (λ s. s.0.words ≡ script) }
 {
     let mut first = simulate(alloc, plan, script, batch)?;
     let second = carry_out(alloc, plan, &mut first.link, runs);
@@ -91,30 +109,38 @@ fn carry_out(
 }
 
 /// Makes the runs of a script with one `prolong` over a link to a new server that follows the script:
-/// those before it for the first of two plans, and those behind it for the second, which prolongs the
-/// first; each message asks about so many keys at most, 1 to 8. Where memory runs out in a run, the
-/// end says so and has the runs before it.
+/// those before that word for the first of two plans, and those after it for the second. Where memory
+/// runs out in a run, the end says so and has the runs before it.
 ///
 /// # Errors
-/// Where there is no memory for the lists of the runs.
+/// Where there is no memory for the lists of the runs, or for the words of the script.
 pub fn simulate_plans(
     alloc: Global,
     plans: &[Plan],
     script: Script,
     batch: usize,
 ) -> Result<Simulation, NoMemory>
+    // There are two plans.
     requires two { length plans.now ≡ 2 }
+    // The second plan prolongs the first.
     requires prolong { AreProlonged plans.now }
+    // The script has one word `prolong`.
     requires one { prolongings script ≡ 1 }
+    // A message may ask about so many keys at most: 1 to 8.
     requires batch { IsTrue (may_have batch) }
-    ensures { IfOk result (λ s. AreSimulated plans.now batch script s.end s.link) }
+    // The runs of the script were made for both plans in turn over one link. What the headline says of
+    // one plan holds for the last of them, whatever the script.
+    ensures simulated { IfOk result (λ s. AreSimulated plans.now batch script s.end s.link) }
+    // The words that are kept are those of the script.
+    ensures words { IfOk result (λ s. s.words ≡ script) }
 {
     nothing_done_is_sound();
     let lists = script.lists(alloc, &plans[1])?;
     let lists = all_in_batches(alloc, lists.as_slice(), batch)?;
+    let words = copied(alloc, &script)?;
     let mut link = new_link(alloc, script);
     let end = campaigns(alloc, plans, &mut link, lists.as_slice());
-    Ok(Simulation { end, link })
+    Ok(Simulation { words, end, link })
 }
 
 /// The runs, each of which asks about so many keys at once.
@@ -153,6 +179,17 @@ fn all_in_batches(
         batched.push(in_batches(alloc, runs.as_slice(), batch)?)?;
     }
     Ok(batched)
+}
+
+/// A copy of a script.
+///
+/// # Errors
+/// Where there is no memory for it.
+fn copied(alloc: Global, script: &Script) -> Result<Script, NoMemory>
+    ensures { IfOk result (λ copy. copy ≡ script.now) }
+{
+    let words = Vec::from_slice(alloc, script.words())?;
+    Ok(Script::new(words))
 }
 
 /// A link to a new server, over which nothing has happened yet.

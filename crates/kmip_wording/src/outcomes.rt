@@ -11,10 +11,10 @@ use kmip_objects::KeyState;
 use kmip_ttlv::{NoMemory, Text, plain_text};
 use std::alloc::Global;
 
-/// Appends how an operation went, by what its reply says: `created as UID`, `found none` or `found`
-/// and each identifier, `UID is STATE` or, where no state is told, `UID told`, `activated UID`,
-/// `revoked UID`, `destroyed UID`, or `refused, reason` and the number of the Result Reason. An
-/// identifier stands in plain characters.
+/// Appends how an operation went, by what its reply says. That is `created as UID`, `activated UID`,
+/// `revoked UID` or `destroyed UID`; `found none`, or `found` and each identifier; `UID is STATE`, or
+/// `UID told` where no state is told. A failure is `refused, reason` and the number of the Result
+/// Reason, or `refused` where there is none. An identifier stands in plain characters.
 ///
 /// # Errors
 /// Where there is no memory for it.

@@ -9,8 +9,8 @@ use Rattle.kmip_simulation.specs.Simulating.{IsCarriedOut, first_scene, in_batch
 use Rattle.kmip_simulation.proofs.RoomLemmas.{has_room}
 use Rattle.kmip_simulation.proofs.simulating.simulate.Goals as goal
 
-pub returns : goal.returns
-returns c =
+pub returns-clause-simulated : goal.returns-clause-simulated
+returns-clause-simulated c =
     let keys = c.args.plan.now in
     let words = c.args.script in
     let link = c.new_link-link.result in

@@ -15,8 +15,8 @@ use Rattle.kmip_session.specs.Ending.{AreEnded}
 use Rattle.kmip_simulation.proofs.PlansLemmas.{second_is}
 use Rattle.kmip_simulation.proofs.simulating.simulate_plans.Goals as goal
 
-pub returns : goal.returns
-returns c =
+pub returns-clause-simulated : goal.returns-clause-simulated
+returns-clause-simulated c =
     let plans = c.args.plans.now in
     let words = c.args.script in
     let link = c.new_link-link.result in

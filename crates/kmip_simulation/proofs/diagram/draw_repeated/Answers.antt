@@ -1,0 +1,10 @@
+-- Piece by piece.
+use Rattle.std.proofs.Common.{codes}
+use Rattle.kmip_simulation.specs.Diagram.{drawn_request}
+use Rattle.kmip_simulation.proofs.MomentLemmas.{three_joined}
+use Rattle.kmip_simulation.proofs.diagram.draw_repeated.Goals as goal
+
+pub returns : goal.returns
+returns c =
+    three_joined (codes "    C-->>S: again ") (drawn_request c.args.number c.args.request.now) (codes "\n") c.args.text.now.items _ _ _
+    c.in_ok-extend_from_slice.ensures.items c.in_ok-draw_request.ensures c.in_ok-push.ensures.items
