@@ -16,6 +16,7 @@ standard output stands below it, up to the next `$ ` or the end of the block:
 - Standard error is not compared: a command that is to show it ends with `2>&1`.
 - Lines that begin with `> ` directly below the command continue it.
 - A command that begins with a word of NOT_RUN is listed and not run.
+- A fenced block right below a line `<!-- $ COMMAND -->` is all that this command prints, as a diagram is.
 
 The examples of a document run in their order, in a scratch folder of its own: a copy of examples/ and of the
 files that the commands name, with PROGRAM as `kmipctl` on the path. There `/tmp/` is a folder of that scratch
@@ -36,6 +37,9 @@ sys.dont_write_bytecode = True
 PROGRAM = 'crates/kmipctl/out/kmipctl'
 NOT_RUN = 'apt-get', 'cd', 'git', 'make', 'rt', 'sudo'
 SECONDS = 60
+
+
+PRINTED = re.compile(r'^<!-- \$ (.+) -->\n(```+)[^\n]*\n(.*?)^\2$', re.M | re.S)
 
 
 class Example:
@@ -97,6 +101,11 @@ def examples_of(text):
                 current.command += '\n' + line[2:]
             elif current:
                 current.wanted.append(line)
+    for block in PRINTED.finditer(text):
+        example = Example(text.count('\n', 0, block.start()) + 1, block.group(1))
+        example.wanted = block.group(3).splitlines()
+        found.append(example)
+    found.sort(key=lambda example: example.line)
     for example in found:
         example.close()
     return found

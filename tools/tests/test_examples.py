@@ -42,6 +42,11 @@ class Examples(Scratch):
         self.assertEqual(self.run_on('    $ kmipctl say a\n    a\n    b\n')[0], 1)
         self.assertEqual(self.run_on('    $ kmipctl say a\n')[0], 1)
 
+    def test_a_block_that_a_command_prints(self):
+        block = '<!-- $ kmipctl say a b -->\n```mermaid\na\n%s\n```\n\n    $ kmipctl say c\n    c\n'
+        self.assertEqual(self.run_on(block % 'b'), (0, ['2 examples, 0 wrong']))
+        self.assertEqual(self.run_on('Text.\n\n' + block % 'd')[1][0], 'README.md:3: wrong: kmipctl say a b')
+
     def test_any_lines(self):
         self.assertEqual(self.run_on('    $ kmipctl say a b c\n    ...\n    c\n')[0], 0)
         self.assertEqual(self.run_on('    $ kmipctl say c\n    ...\n    c\n    ...\n')[0], 0)
