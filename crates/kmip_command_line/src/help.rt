@@ -202,7 +202,7 @@ exchanges:
   k1 active 2/2 finished
   finished 1 of 1
   stop AllFinished 3       or `stop Limit 3`, `stop Conflict 3`
-What stands behind a key that is not finished:
+What stands after a key that is not finished:
   working                  more is to be done
   conflict attributes      the object of that name is not what the plan wants
   conflict state           the object stands beyond what the plan wants
@@ -217,8 +217,9 @@ A run gets on where it learns more of some key. After an exchange by which it do
 waits, longer each time (--wait). Where it has not got on for some time (--give-up) it ends as at a
 limit. It never waits for a server in this process.
 
-Standard error has what happens meanwhile. Once for each reason, why no reply comes, and when the
-server answers again; at the end, of each key that is not finished, what was heard last:
+Standard error has what happens meanwhile: why no reply comes, where the reason is not the last one,
+and when the server answers again. At the end it has, of each key that is not finished, what was
+heard last:
   no reply from 192.0.2.7:5696: the connection was refused; trying again
   192.0.2.7:5696 answers again after 41 s
   backup-seal: Create refused 27 times, last reason 7 (Invalid Field)
@@ -311,7 +312,7 @@ pub(crate) const TIMEOUT: &str =
     "The longest that an exchange takes, with connecting: 1 to 3600 seconds";
 
 pub(crate) const WAIT: &str =
-    "The first wait after an exchange that did not get the run on: 0 to 60000 milliseconds, 0 for none; twice as long each time, up to 10 seconds";
+    "The first wait after an exchange that did not get the run on: 0 to 60000 milliseconds, 0 for none; twice as long each time, up to 10 seconds or to this wait where it is longer";
 
 pub(crate) const GIVE_UP: &str =
     "After how many seconds without getting on the run ends: 0 to 86400, 0 for never";
