@@ -1,10 +1,9 @@
 -- Texts of things, one after the other.
-use Rattle.std.proofs.Common.{◌≡◌, ◌==◌, ◌+◌, ◌-◌, ℕ, zero, suc, Bool, false, if◌then◌else◌, List, [], ◌∷◌, ◌++◌, drop, Option, Some, None, refl, sym, ap, ◌∙◌, arith, append_assoc, append-nil, zip}
+use Rattle.std.proofs.Common.{◌≡◌, ◌==◌, ◌+◌, ◌-◌, ℕ, zero, suc, Bool, false, if◌then◌else◌, List, [], ◌∷◌, ◌++◌, drop, Option, Some, None, refl, sym, ap, ◌∙◌, arith, append_assoc, append-nil}
 use Rattle.std.specs.List.{slice_get}
 use Rattle.kmip_store.specs.declared.row.Row.{Row}
 use Rattle.kmip_store.specs.Stock.{object_of, objects_of}
-use Rattle.kmip_scripted.specs.Words.{message_at, word_at}
-use Rattle.kmip_scripted.specs.declared.script.Word.{Word}
+use Rattle.kmip_scripted.specs.Words.{message_at}
 use Rattle.kmip_simulation.specs.SimText.{numbered_text, record_text, records_text}
 
 -- what is written so far, and then the text of the things from a place on, is what was there before and the text of all
@@ -67,36 +66,3 @@ message_is messages place found is =
     let some : (place + 1 == 0) ≡ false = grind arith in
     let same : place + 1 - 1 ≡ place = omega arith in
     sym (is ∙ by_other (place + 1 == 0) (slice_get messages (place + 1 - 1)) some ∙ ap (slice_get messages) same)
-
--- ---- two lists beside one another
-
--- at a place of both
-pub both_at : {X Y : Type 0} (xs : List X) (ys : List Y) (place : ℕ) (x : X) (y : Y) → slice_get xs place ≡ Some x → slice_get ys place ≡ Some y
-    → slice_get (zip xs ys) place ≡ Some (x, y)
-both_at [] ys place x y is and = absurd cc
-both_at (a ∷ xs) [] place x y is and = absurd cc
-both_at (a ∷ xs) (b ∷ ys) zero x y is and =
-    let left : a ≡ x = cc in
-    let right : b ≡ y = cc in
-    λ i. Some (left i, right i)
-both_at (a ∷ xs) (b ∷ ys) (suc place) x y is and = both_at xs ys place x y is and
-
--- behind one of them
-pub none_at_left : {X Y : Type 0} (xs : List X) (ys : List Y) (place : ℕ) → slice_get xs place ≡ None → slice_get (zip xs ys) place ≡ None
-none_at_left [] ys place is = refl
-none_at_left (a ∷ xs) [] place is = refl
-none_at_left (a ∷ xs) (b ∷ ys) zero is = absurd cc
-none_at_left (a ∷ xs) (b ∷ ys) (suc place) is = none_at_left xs ys place is
-
-pub none_at_right : {X Y : Type 0} (xs : List X) (ys : List Y) (place : ℕ) → slice_get ys place ≡ None → slice_get (zip xs ys) place ≡ None
-none_at_right [] ys place is = refl
-none_at_right (a ∷ xs) [] place is = refl
-none_at_right (a ∷ xs) (b ∷ ys) zero is = absurd cc
-none_at_right (a ∷ xs) (b ∷ ys) (suc place) is = none_at_right xs ys place is
-
--- the word of a number is that at the place before it
-pub word_is : (words : List Word) (place : ℕ) (found : Option Word) → found ≡ word_at (place + 1) words → slice_get words place ≡ found
-word_is words place found is =
-    let some : (place + 1 == 0) ≡ false = grind arith in
-    let same : place + 1 - 1 ≡ place = omega arith in
-    sym (is ∙ by_other (place + 1 == 0) (slice_get words (place + 1 - 1)) some ∙ ap (slice_get words) same)
