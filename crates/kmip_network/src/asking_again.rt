@@ -2,7 +2,7 @@
 ghost use Rattle.std.specs.Prelude.{◌≡◌, IfErr};
 
 use kmip_batches::read_request;
-use kmip_messages::Ask;
+use kmip_messages::{Ask, Refusal, Request};
 use kmip_schedule::{Link, LinkFault};
 use std::alloc::Global;
 
@@ -84,13 +84,17 @@ impl<L: Link + Drop> Link for AskingAgain<L> {
 fn asks_one_locate(alloc: Global, message: &[u8]) -> Result<bool, LinkFault>
     ensures { IfErr result (λ fault. fault ≡ LinkFault.NoMemory) }
 {
-    let batch = match read_request(alloc, message) {
-        Ok(batch) => batch,
-        Err(fault) if fault.is_no_memory() => return Err(LinkFault::NoMemory),
-        Err(_unreadable) => return Ok(false),
+    match read_request(alloc, message) {
+        Ok(batch) => Ok(is_one_locate(batch.items.as_slice())),
+        Err(fault) if fault.is_no_memory() => Err(LinkFault::NoMemory),
+        Err(_) => Ok(false),
+    }
+}
+
+/// Whether these questions are one Locate.
+fn is_one_locate(questions: &[Result<Request, Refusal>]) -> bool {
+    let [Ok(request)] = questions else {
+        return false;
     };
-    let [Ok(request)] = batch.items.as_slice() else {
-        return Ok(false);
-    };
-    Ok(matches!(request.ask, Ask::Locate { .. }))
+    matches!(request.ask, Ask::Locate { .. })
 }
