@@ -4,7 +4,7 @@
 # make test       the gate: every proof, the wrong bodies, the tests and the stored runs, and then all trials but bench
 # make rows       runs the stored runs without a proof (by rt try where nothing is built)
 # make bench      compares the program with a baseline in plain Rust, times simulations, and draws (needs rustc)
-# make refuse     refuses each growth of memory of the program and of kmip_growths in turn (needs cc, python3)
+# make refuse     refuses each growth of memory of the program and of test_memory in turn (needs cc, python3)
 # make faults     gives the program plans with each fault, and wants the line that says where and why (needs python3)
 # make hostile    gives the program lines of ten megabytes, under limits of memory
 # make storm      carries 200 plans over a network that loses and cuts messages, kills the runs, and probes (needs rustc)
@@ -22,7 +22,7 @@
 # make help       prints these lines
 
 program := crates/kmipctl/out/kmipctl
-growths := crates/kmip_growths/out/kmip_growths
+growths := crates/test_memory/out/test_memory
 sources := crates.txt $(shell find crates -name out -prune -o \( -name '*.rt' -o -name '*.antt' \) -print)
 
 .PHONY: all demo check test rows bench refuse faults hostile storm peers troubles origin causes tls reading reference layers examples documents tools help
@@ -35,7 +35,7 @@ $(program): $(sources)
 	@touch $@
 
 $(growths): $(sources)
-	@cd crates/kmip_growths && rt run </dev/null >/dev/null
+	@cd crates/test_memory && rt run </dev/null >/dev/null
 	@touch $@
 
 demo:

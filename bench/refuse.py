@@ -475,7 +475,7 @@ def try_all(tools, pool):
         print(f"{command.name}: {met} growths refused, one a run: {command.judgement()}")
         met = refuse_each(command, pool, is_all=True)
         print(f"{command.name}: {met} growths refused, each with all after it: the same each time")
-    for line in (ROOT / "crates" / "kmip_growths" / "stdout").read_text().splitlines():
+    for line in (ROOT / "crates" / "test_memory" / "stdout").read_text().splitlines():
         name, done = line.split(": ")
         case = Case(tools, name, done)
         refuse_each(case, pool, is_all=False)

@@ -18,7 +18,7 @@ import time
 
 TOP = os.path.realpath(os.path.join(os.path.dirname(os.path.realpath(__file__)), '..'))
 PROGRAM = 'crates/kmipctl/out/kmipctl'
-GROWTHS = 'crates/kmip_growths/out/kmip_growths'
+GROWTHS = 'crates/test_memory/out/test_memory'
 LOGS = 'out/gate'
 COUNTS = re.compile(r'^(\d+) passed, (\d+) failed')
 

@@ -4,7 +4,7 @@
     tools/headline.py            writes the list
     tools/headline.py --check    says whether it is up to date; the exit status is 1 where it is not
 
-Run it at the top of the repository. The headline is the clause *safe* of `kmip_session::campaign`. The list has
+Run it at the top of the repository. The headline is the clause *safe* of `kmip_runs::campaign`. The list has
 an entry for each file of specs/, with what the file says of itself and the definitions that count.
 """
 import pathlib
@@ -18,7 +18,7 @@ from traits import Spoken
 
 PAGE = pathlib.Path('docs/PROOF.md')
 TOOL = 'tools/headline.py'
-CALL, CLAUSE = 'kmip_session::campaign', 'safe'
+CALL, CLAUSE = 'kmip_runs::campaign', 'safe'
 
 
 def headline_list(repository):

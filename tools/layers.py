@@ -23,27 +23,23 @@ BEGIN, END = '<!-- made by tools/layers.py -->\n', '<!-- end of what is made -->
 
 # Each layer: a short name, its title, what it has, and its crates.
 LAYERS = [
-    ('formats', 'Formats', 'bytes, objects and messages',
-     'kmip_ttlv kmip_objects kmip_fields kmip_messages kmip_batches kmip_frames'),
-    ('client', 'Plan and client', 'what is to be, and what is asked',
-     'kmip_chains kmip_plan kmip_progress kmip_knowledge kmip_client'),
+    ('wire', 'Wire', 'bytes, objects and messages',
+     'kmip_ttlv kmip_objects kmip_batch_items kmip_messages kmip_frames'),
+    ('client', 'Plan and client', 'what is to be, and what is asked', 'kmip_plan kmip_progress kmip_client'),
     ('server', 'Server', 'the test server', 'kmip_store kmip_server'),
-    ('theory', 'Theory', 'what may happen between the two', 'kmip_schedule kmip_settling'),
-    ('runs', 'Links and runs', 'exchanges, runs and campaigns',
-     'kmip_premises kmip_transport kmip_session kmip_running kmip_losses kmip_scripted'),
+    ('between', 'Between them', 'what may happen, links, runs and campaigns',
+     'kmip_protocol kmip_runs kmip_scripted kmip_transport kmip_session'),
     ('commands', 'Commands', 'what each prints, over any reader, writer and link',
-     'kmip_wording kmip_simulation kmip_commands kmip_probe kmip_check kmip_choices kmip_explaining '
-     'kmip_command_line kmip_sim kmip_run'),
+     'kmip_trace kmip_message_commands kmip_choices kmip_simulation kmip_plan_commands kmip_probe kmip_probe_command'),
     ('program', 'Program', 'over the sockets, files and streams of the machine',
-     'kmip_progress_file kmip_account kmip_network kmip_program kmipctl'),
+     'kmip_files kmip_explaining kmip_command_line kmip_account kmip_network kmip_program kmipctl'),
 ]
 TESTS = ('tests', 'Tests', 'no part of the program',
-         'kmip_transcript kmip_link_runs kmipctl_runs kmip_vectors kmip_growths kmip_client_runs '
-         'kmip_campaign_runs kmip_conformance_items kmip_conformance_transport kmip_conformance '
-         'kmip_conformance_files')
+         'test_support rows_links rows_kmipctl rows_client rows_campaign test_memory test_items test_server '
+         'test_transport test_files')
 
 # Sizes of the picture.
-BOX, GAP, MARGIN, HEAD, TESTS_BOX = (170, 28), 9, 14, 34, 226
+BOX, GAP, MARGIN, HEAD, TESTS_BOX = (200, 28), 9, 14, 34, 226
 STYLE = '''
     text { font-family: system-ui, "Segoe UI", "DejaVu Sans", Arial, sans-serif; fill: #1f2933 }
     .name { font-family: ui-monospace, "DejaVu Sans Mono", Consolas, monospace; font-size: 12.5px }

@@ -1,11 +1,11 @@
 #!/usr/bin/env python3
-"""The messages of the rows `request` and `reply` in the stored run of kmip_client_runs.
+"""The messages of the rows `request` and `reply` in the stored run of rows_client.
 
 A row's name says its bytes: a message that is laid out below, and changes in it. So
 
     tools/message_rows.py 'request create, without name'
 
-prints the row with its bytes, to be put into crates/kmip_client_runs/stdin. Without a name all rows there
+prints the row with its bytes, to be put into crates/rows_client/stdin. Without a name all rows there
 are compared with their names, which `make documents` does too. Run it at the top of the repository. A change concerns the first item of its tag, and is one of
 
     without TAG    TAG twice    TAG is VALUE    TAG under TAG    TAG, VALUE, before TAG
@@ -19,7 +19,7 @@ import pathlib
 import re
 import sys
 
-STDIN = pathlib.Path('crates/kmip_client_runs/stdin')
+STDIN = pathlib.Path('crates/rows_client/stdin')
 
 TAGS = {
     'batch count': 0x42000D, 'option': 0x42000E, 'batch item': 0x42000F, 'algorithm': 0x420028,

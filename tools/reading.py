@@ -3,7 +3,7 @@
 
     tools/reading.py                            lists the public functions
     tools/reading.py kmip_server::handle        prints the definitions that one of them rests on
-    tools/reading.py kmip_session::campaign safe
+    tools/reading.py kmip_runs::campaign safe
                                                 prints the definitions that this one clause rests on
     tools/reading.py --check                    compares the documents with the code
 
@@ -21,18 +21,29 @@ sys.dont_write_bytecode = True
 signal.signal(signal.SIGPIPE, signal.SIG_DFL)
 
 from documents import check
+from items import reexports_of
 from sources import CRATES, Definition, Repository, roots_of
 from traits import Spoken
 
 
 def find(repository, wanted):
-    """The public functions of this name: the crate and the last word are enough."""
+    """The public functions of this name: the crate and the last word are enough. A crate may show another's."""
+    wanted = shown_from(repository, wanted)
     exact = [one for one in repository.functions if one.path == wanted]
     if exact:
         return exact
     crate, _, rest = wanted.partition('::')
     return [one for one in repository.functions
             if one.path.startswith(crate + '::') and one.path.endswith('::' + rest.split('::')[-1])]
+
+
+def shown_from(repository, wanted):
+    """The name of a call in the crate that it is made in, where the crate of the name only shows it."""
+    crate, _, name = wanted.partition('::')
+    for other, names in reexports_of(crate, repository.crates):
+        if name in names:
+            return f'{other}::{name}'
+    return wanted
 
 
 def print_list(repository):

@@ -1,12 +1,11 @@
 //! What a server answers about an object, in words.
 
 use crate::reasons::push_reason;
-use kmip_chains::Key;
-use kmip_messages::{Attrs, Outcome};
+use kmip_batch_items::{Attrs, Outcome};
 use kmip_objects::standard::OBJECT_TYPE_SYMMETRIC_KEY;
-use kmip_plan::algorithm_word;
+use kmip_plan::{Key, algorithm_word};
+use kmip_trace::push_outcome;
 use kmip_ttlv::{NoMemory, Text, plain_text};
-use kmip_wording::push_outcome;
 use std::alloc::Global;
 use std::str::from_utf8;
 

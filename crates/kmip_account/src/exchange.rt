@@ -2,13 +2,12 @@
 
 use crate::silence::Silence;
 use crate::wire::Wire;
-use kmip_batches::read_reply;
-use kmip_fields::MessageFault;
-use kmip_messages::{Outcome, Reply, Request};
-use kmip_premises::version_in;
-use kmip_schedule::LinkFault;
+use kmip_batch_items::{MessageFault, Outcome, Reply, Request};
+use kmip_messages::read_reply;
+use kmip_probe::version_in;
+use kmip_protocol::LinkFault;
+use kmip_trace::requests_in;
 use kmip_ttlv::{Bytes, NoMemory};
-use kmip_wording::requests_in;
 use std::alloc::Global;
 
 /// What was asked in an exchange, and what came of it.

@@ -1,11 +1,11 @@
 //! An exchange in a line: what was asked about which object, and what came back.
 
 use crate::reasons::push_with_reasons;
-use kmip_batches::read_reply;
-use kmip_messages::{Ask, Request};
-use kmip_schedule::LinkFault;
+use kmip_batch_items::{Ask, Request};
+use kmip_messages::read_reply;
+use kmip_protocol::LinkFault;
+use kmip_trace::{push_answer, push_requests, requests_in};
 use kmip_ttlv::{Bytes, NoMemory, Text, plain_text};
-use kmip_wording::{push_answer, push_requests, requests_in};
 use std::alloc::Global;
 use std::str::from_utf8;
 

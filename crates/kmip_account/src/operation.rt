@@ -1,6 +1,6 @@
 //! The operations that a client asks.
 
-use kmip_messages::Ask;
+use kmip_batch_items::Ask;
 
 /// How many operations there are.
 const COUNT: usize = 6;

@@ -1,7 +1,7 @@
 //! How far `run` is, shown while it works.
 
 use kmip_client::Client;
-use kmip_run::{Spent, standing_line};
+use kmip_plan_commands::{Spent, standing_line};
 use std::cell::Cell;
 use std::env::var;
 use std::io::IsTerminal;

@@ -2,8 +2,8 @@
 
 use crate::failure::Failure;
 use crate::peer_talk::PeerTalk;
-use kmip_fields::MessageFault;
-use kmip_premises::ProtocolVersion;
+use kmip_batch_items::MessageFault;
+use kmip_probe::ProtocolVersion;
 use kmip_ttlv::{MAX_SIZE, NoMemory};
 use std::alloc::Global;
 use std::io::Error;

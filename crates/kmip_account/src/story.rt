@@ -3,9 +3,9 @@
 use crate::answers::{push_object, push_wanted};
 use crate::operation::{Counts, Operation};
 use crate::reasons::push_reason;
-use kmip_chains::Key;
+use kmip_batch_items::Outcome;
 use kmip_client::{Clash, Verdict};
-use kmip_messages::Outcome;
+use kmip_plan::Key;
 use kmip_ttlv::NoMemory;
 use std::alloc::Global;
 

@@ -1,8 +1,8 @@
 //! What `run` tells of its exchanges while it works.
 
 use crate::account::Account;
-use kmip_running::Observer;
-use kmip_schedule::LinkFault;
+use kmip_protocol::LinkFault;
+use kmip_runs::Observer;
 
 /// Gives each exchange to the account of a run.
 #[derive(Drop)]

@@ -2,7 +2,7 @@
 
 use crate::account::Account;
 use kmip_client::Client;
-use kmip_running::{Pace, Patience};
+use kmip_runs::{Pace, Patience};
 
 /// Waits and gives up as a pace does, and tells the account of a run what is known.
 #[derive(Drop)]

@@ -3,7 +3,7 @@
 use crate::failure::Failure;
 use crate::peer_talk::PeerTalk;
 use crate::silence::Silence;
-use kmip_schedule::LinkFault;
+use kmip_protocol::LinkFault;
 use kmip_ttlv::{HEAD_SIZE, MAX_SIZE};
 use std::cell::Cell;
 use std::io::Error;

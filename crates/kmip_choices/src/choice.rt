@@ -1,13 +1,13 @@
 //! What a command line may ask for, by its options and their values.
 ghost use Rattle.std.specs.Prelude.{◌≡◌, IfOk, option_map, string_bytes, if◌then◌else◌};
-ghost use Rattle.kmip_commands.specs.declared.showing.Form.TheVariants.{Text, Canonical};
+ghost use Rattle.kmip_message_commands.specs.declared.showing.Form.TheVariants.{Text, Canonical};
 ghost use Rattle.kmip_choices.specs.Choices.{IsCheckOf, IsSimulationOf};
 ghost use Rattle.kmip_choices.specs.declared.choice.Choice.TheVariants.{Answer, AnswerStream};
 ghost use Rattle.kmip_choices.specs.declared.detail.Detail.TheVariants.{Runs, Exchanges, Diagram};
 
 use crate::detail::Detail;
 use crate::options::{ProbeOptions, RunOptions, ServeOptions};
-use kmip_commands::Form;
+use kmip_message_commands::Form;
 use std::alloc::{AllocError, Global};
 
 /// What the command line asks for.

@@ -4,17 +4,17 @@ use Rattle.std.proofs.lemmas.Bool.{cases_Bool}
 use Rattle.std.proofs.lemmas.List.Elements.{All-nil, All-cons, All-head, All-tail, All-append, All-take, All-weaker}
 use Rattle.std.specs.List.{All, AllZip, list_all, slice_get}
 use Rattle.kmip_objects.specs.Objects.{Object}
-use Rattle.kmip_messages.specs.RequestFits.{request_fits}
-use Rattle.kmip_messages.specs.declared.request.Request.{Request}
-use Rattle.kmip_messages.specs.Operations.{operation_of}
-use Rattle.kmip_batches.specs.Members.{may_have}
-use Rattle.kmip_batches.specs.Written.{requests_fit}
-use Rattle.kmip_chains.specs.Laws.{NextStepsStand, RevokesAreOfTheRevoked}
-use Rattle.kmip_chains.specs.declared.key.Key.{Key}
+use Rattle.kmip_batch_items.specs.RequestFits.{request_fits}
+use Rattle.kmip_batch_items.specs.declared.request.Request.{Request}
+use Rattle.kmip_batch_items.specs.Operations.{operation_of}
+use Rattle.kmip_messages.specs.Members.{may_have}
+use Rattle.kmip_messages.specs.Written.{requests_fit}
+use Rattle.kmip_plan.specs.ChainLaws.{NextStepsStand, RevokesAreOfTheRevoked}
+use Rattle.kmip_plan.specs.declared.key.Key.{Key}
 use Rattle.kmip_plan.specs.Laws.{KeysAreFound}
 use Rattle.kmip_plan.specs.Plans.{IsLawful, EachFits}
-use Rattle.kmip_knowledge.specs.Knowledge.{is_working}
-use Rattle.kmip_knowledge.specs.declared.knowledge.Knowledge.{Knowledge}
+use Rattle.kmip_client.specs.Knowledge.{is_working}
+use Rattle.kmip_client.specs.declared.knowledge.Knowledge.{Knowledge}
 use Rattle.kmip_client.specs.declared.question.Part.{Part}
 use Rattle.kmip_client.specs.Asking.{all_working_from, in_turn, next_places, at_place, at_places, requests_at, AreApart}
 use Rattle.kmip_client.specs.Clients.{ClientState, WorksAt, AreSettled, one_if, working_count}

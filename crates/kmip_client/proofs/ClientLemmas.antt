@@ -3,10 +3,10 @@ use Rattle.std.proofs.Common.{◌≡◌, ℕ, zero, suc, List, [], ◌∷◌, le
 use Rattle.std.proofs.lemmas.Bool.{cases_Bool}
 use Rattle.std.specs.List.{AllZip, slice_get}
 use Rattle.kmip_plan.specs.Plans.{IsLawful}
-use Rattle.kmip_chains.specs.declared.key.Key.{Key}
-use Rattle.kmip_knowledge.specs.declared.knowledge.Knowledge.{Knowledge}
+use Rattle.kmip_plan.specs.declared.key.Key.{Key}
+use Rattle.kmip_client.specs.declared.knowledge.Knowledge.{Knowledge}
 use Rattle.kmip_client.specs.Clients.{lost_working, changed_by, changed_at}
-use Rattle.kmip_knowledge.specs.Knowledge.{fresh_knowledge, is_working, lose}
+use Rattle.kmip_client.specs.Knowledge.{fresh_knowledge, is_working, lose}
 use Rattle.kmip_client.specs.Shapes.{IsShaped, AreShaped}
 use Rattle.kmip_client.proofs.CountLemmas.{fresh_count, lost_count}
 use Rattle.kmip_client.proofs.LearningLemmas.{lost_goes_on}

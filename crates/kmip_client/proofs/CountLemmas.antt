@@ -4,17 +4,17 @@ use Rattle.std.proofs.lemmas.Bool.{cases_Bool, and_parts, ltb-true, leb-true, le
 use Rattle.std.specs.List.{AllZip, slice_get}
 use Rattle.std.specs.Option.{is_some}
 use Rattle.kmip_objects.specs.Objects.{Object}
-use Rattle.kmip_chains.specs.declared.key.Key.{Key}
-use Rattle.kmip_chains.specs.declared.target.Target.{Target}
-use Rattle.kmip_chains.specs.declared.target.Target.TheVariants.{Created, Active, Revoked, Destroyed, Discarded}
-use Rattle.kmip_knowledge.specs.declared.clash.Clash.{Clash}
-use Rattle.kmip_knowledge.specs.declared.knowledge.Knowledge.{Knowledge}
-use Rattle.kmip_knowledge.specs.declared.knowledge.Verdict.TheVariants.{Working, Finished, Conflict}
+use Rattle.kmip_plan.specs.declared.key.Key.{Key}
+use Rattle.kmip_plan.specs.declared.target.Target.{Target}
+use Rattle.kmip_plan.specs.declared.target.Target.TheVariants.{Created, Active, Revoked, Destroyed, Discarded}
+use Rattle.kmip_client.specs.declared.clash.Clash.{Clash}
+use Rattle.kmip_client.specs.declared.knowledge.Knowledge.{Knowledge}
+use Rattle.kmip_client.specs.declared.knowledge.Verdict.TheVariants.{Working, Finished, Conflict}
 use Rattle.kmip_client.specs.Clients.{AreSettled, NoneWorks, SomeWorks, one_if, working_count, changed_by, changed_at, lost_working, verdict_at, VerdictsStay}
 use Rattle.kmip_client.specs.Held.{Held}
 use Rattle.kmip_client.specs.Shapes.{IsShaped}
 use Rattle.kmip_client.specs.Standing.{AreWithin, counts_of}
-use Rattle.kmip_knowledge.specs.Knowledge.{chain_length, fresh_knowledge, is_working, clash_verdict, verdict_of}
+use Rattle.kmip_client.specs.Knowledge.{chain_length, fresh_knowledge, is_working, clash_verdict, verdict_of}
 
 -- ---- the count
 

@@ -5,30 +5,30 @@ use Rattle.std.proofs.lemmas.Bool.Decides.{Decides-int_eq}
 use Rattle.std.specs.Option.{is_some, option_map_or, unwrap_or}
 use Rattle.std.specs.Ordering.{int_eq}
 use Rattle.kmip_objects.specs.Objects.{Object}
-use Rattle.kmip_messages.specs.declared.reply.Outcome.{Outcome}
-use Rattle.kmip_messages.specs.declared.reply.Outcome.TheVariants.{Created, Located, Attributes, Activated, Revoked, Destroyed, Failed}
-use Rattle.kmip_messages.specs.declared.reply.Reply.{Reply}
+use Rattle.kmip_batch_items.specs.declared.reply.Outcome.{Outcome}
+use Rattle.kmip_batch_items.specs.declared.reply.Outcome.TheVariants.{Created, Located, Attributes, Activated, Revoked, Destroyed, Failed}
+use Rattle.kmip_batch_items.specs.declared.reply.Reply.{Reply}
 use Rattle.kmip_objects.specs.declared.attributes.Attrs.{Attrs}
 use Rattle.kmip_objects.specs.declared.standard.TheConstants.{OBJECT_TYPE_SYMMETRIC_KEY}
 use Rattle.kmip_objects.specs.declared.step.Step.{Step}
 use Rattle.kmip_objects.specs.declared.step.Step.TheVariants as steps
-use Rattle.kmip_chains.specs.Chains.{step_place}
-use Rattle.kmip_chains.specs.Laws.{PlacesAreWithin, NextStepsStand}
+use Rattle.kmip_plan.specs.Chains.{step_place}
+use Rattle.kmip_plan.specs.ChainLaws.{PlacesAreWithin, NextStepsStand}
 use Rattle.kmip_plan.specs.Plans.{IsPlanned}
-use Rattle.kmip_chains.specs.declared.key.Key.{Key}
-use Rattle.kmip_knowledge.specs.declared.fault.HearFault.{HearFault}
-use Rattle.kmip_knowledge.specs.declared.fault.HearFault.TheVariants as faults
+use Rattle.kmip_plan.specs.declared.key.Key.{Key}
+use Rattle.kmip_client.specs.declared.fault.HearFault.{HearFault}
+use Rattle.kmip_client.specs.declared.fault.HearFault.TheVariants as faults
 use Rattle.kmip_client.specs.declared.hearing.Heard.{Heard}
-use Rattle.kmip_knowledge.specs.declared.knowledge.Knowledge.{Knowledge}
-use Rattle.kmip_knowledge.specs.declared.knowledge.Phase.{Phase}
-use Rattle.kmip_knowledge.specs.declared.knowledge.Phase.TheVariants as phases
+use Rattle.kmip_client.specs.declared.knowledge.Knowledge.{Knowledge}
+use Rattle.kmip_client.specs.declared.knowledge.Phase.{Phase}
+use Rattle.kmip_client.specs.declared.knowledge.Phase.TheVariants as phases
 use Rattle.kmip_client.specs.declared.subject.Subject.{Subject}
 use Rattle.kmip_client.specs.Clients.{lost_working, changed_at}
 use Rattle.kmip_client.specs.Hearing.{subject_of, heard_about}
 use Rattle.kmip_client.specs.Held.{IsHeld, Held}
 use Rattle.kmip_client.specs.Justified.{MayAsk, Justified}
-use Rattle.kmip_knowledge.specs.Knowledge.{chain_length, fresh_knowledge, is_working, lose}
-use Rattle.kmip_knowledge.specs.Learning.{is_known, is_other, is_number, is_planned, is_named, raise, enter, state_learnt, attributes_learnt, created_learnt, none_learnt, one_learnt, located_learnt, step_learnt, learn}
+use Rattle.kmip_client.specs.Knowledge.{chain_length, fresh_knowledge, is_working, lose}
+use Rattle.kmip_client.specs.Learning.{is_known, is_other, is_number, is_planned, is_named, raise, enter, state_learnt, attributes_learnt, created_learnt, none_learnt, one_learnt, located_learnt, step_learnt, learn}
 use Rattle.kmip_client.specs.Places.{uid_of, position}
 use Rattle.kmip_client.specs.Questions.{step_ask, phase_ask, request_about}
 use Rattle.kmip_client.specs.Shapes.{PhaseSuits}

@@ -4,14 +4,14 @@ use Rattle.std.proofs.lemmas.Bool.{and_parts}
 use Rattle.std.proofs.lemmas.List.Elements.{All-nil, All-head, All-tail}
 use Rattle.std.specs.List.{All, AllZip}
 use Rattle.kmip_objects.specs.Objects.{Object}
-use Rattle.kmip_messages.specs.BatchItems.{answer_fits}
-use Rattle.kmip_messages.specs.Fits.{outcome_fits}
-use Rattle.kmip_messages.specs.declared.reply.Reply.{Reply}
-use Rattle.kmip_batches.specs.Items.{replies_in}
-use Rattle.kmip_chains.specs.Laws.{StepsAreWithin, PlacesAreWithin}
-use Rattle.kmip_chains.specs.declared.key.Key.{Key}
-use Rattle.kmip_knowledge.specs.declared.fault.HearFault.{HearFault}
-use Rattle.kmip_knowledge.specs.declared.knowledge.Knowledge.{Knowledge}
+use Rattle.kmip_batch_items.specs.BatchItems.{answer_fits}
+use Rattle.kmip_batch_items.specs.Fits.{outcome_fits}
+use Rattle.kmip_batch_items.specs.declared.reply.Reply.{Reply}
+use Rattle.kmip_messages.specs.Items.{replies_in}
+use Rattle.kmip_plan.specs.ChainLaws.{StepsAreWithin, PlacesAreWithin}
+use Rattle.kmip_plan.specs.declared.key.Key.{Key}
+use Rattle.kmip_client.specs.declared.fault.HearFault.{HearFault}
+use Rattle.kmip_client.specs.declared.knowledge.Knowledge.{Knowledge}
 use Rattle.kmip_client.specs.declared.hearing.Heard.{Heard}
 use Rattle.kmip_client.specs.Clients.{working_count, VerdictsStay}
 use Rattle.kmip_client.specs.Hearing.{heard_in, heard_of, known_after_each, known_after_reply, subject_of}

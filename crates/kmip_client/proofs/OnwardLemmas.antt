@@ -2,19 +2,19 @@
 use Rattle.std.proofs.Common.{◌≡◌, ℕ, zero, suc, List, [], ◌∷◌, Some, subst, refl, sym, arith}
 use Rattle.std.specs.List.{slice_get}
 use Rattle.kmip_objects.specs.Objects.{Object}
-use Rattle.kmip_messages.specs.declared.reply.Outcome.{Outcome}
-use Rattle.kmip_messages.specs.declared.reply.Outcome.TheVariants.{Created, Located, Attributes, Activated, Revoked, Destroyed, Failed}
-use Rattle.kmip_messages.specs.declared.reply.Reply.{Reply}
-use Rattle.kmip_messages.specs.declared.request.Ask.{Ask}
-use Rattle.kmip_messages.specs.declared.request.Ask.TheVariants as asks
+use Rattle.kmip_batch_items.specs.declared.reply.Outcome.{Outcome}
+use Rattle.kmip_batch_items.specs.declared.reply.Outcome.TheVariants.{Created, Located, Attributes, Activated, Revoked, Destroyed, Failed}
+use Rattle.kmip_batch_items.specs.declared.reply.Reply.{Reply}
+use Rattle.kmip_batch_items.specs.declared.request.Ask.{Ask}
+use Rattle.kmip_batch_items.specs.declared.request.Ask.TheVariants as asks
 use Rattle.kmip_objects.specs.declared.attributes.Attrs.{Attrs}
-use Rattle.kmip_messages.specs.declared.request.Request.{Request}
+use Rattle.kmip_batch_items.specs.declared.request.Request.{Request}
 use Rattle.kmip_objects.specs.declared.step.Step.{Step}
 use Rattle.kmip_objects.specs.declared.step.Step.TheVariants as steps
 use Rattle.kmip_plan.specs.Laws.{KeysAreFound, FoundKeysStand}
 use Rattle.kmip_plan.specs.Plans.{IsLawful, IsPlanned, key_named}
-use Rattle.kmip_chains.specs.declared.key.Key.{Key}
-use Rattle.kmip_knowledge.specs.declared.knowledge.Knowledge.{Knowledge}
+use Rattle.kmip_plan.specs.declared.key.Key.{Key}
+use Rattle.kmip_client.specs.declared.knowledge.Knowledge.{Knowledge}
 use Rattle.kmip_client.specs.Held.{IsHeld, Held}
 use Rattle.kmip_client.specs.Justified.{StepIsDue, MayAsk, Justified}
 use Rattle.kmip_client.specs.Places.{GoesOnward, Onward}

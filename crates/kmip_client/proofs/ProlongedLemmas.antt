@@ -1,24 +1,24 @@
 -- What holds of a key holds of one that goes on from it.
 use Rattle.std.proofs.Common.{◌≡◌, ◌<◌, ℕ, true, List, [], ◌∷◌, Some, refl, ap, sym, ◌∙◌, arith}
 use Rattle.kmip_objects.specs.Objects.{Object}
-use Rattle.kmip_messages.specs.Operations.{operation_of}
+use Rattle.kmip_batch_items.specs.Operations.{operation_of}
 use Rattle.kmip_objects.specs.Attributes.{by_name}
-use Rattle.kmip_messages.specs.declared.reply.Outcome.{Outcome}
-use Rattle.kmip_messages.specs.declared.reply.Outcome.TheVariants.{Created, Located, Attributes, Activated, Revoked, Destroyed, Failed}
-use Rattle.kmip_messages.specs.declared.request.Ask.{Ask}
-use Rattle.kmip_messages.specs.declared.request.Ask.TheVariants as asks
+use Rattle.kmip_batch_items.specs.declared.reply.Outcome.{Outcome}
+use Rattle.kmip_batch_items.specs.declared.reply.Outcome.TheVariants.{Created, Located, Attributes, Activated, Revoked, Destroyed, Failed}
+use Rattle.kmip_batch_items.specs.declared.request.Ask.{Ask}
+use Rattle.kmip_batch_items.specs.declared.request.Ask.TheVariants as asks
 use Rattle.kmip_objects.specs.declared.attributes.Attrs.{Attrs}
 use Rattle.kmip_objects.specs.declared.attributes.KeyAttrs.{KeyAttrs}
-use Rattle.kmip_messages.specs.declared.request.Request.{Request}
+use Rattle.kmip_batch_items.specs.declared.request.Request.{Request}
 use Rattle.kmip_objects.specs.declared.step.Step.{Step}
 use Rattle.kmip_objects.specs.declared.step.Step.TheVariants as steps
-use Rattle.kmip_chains.specs.Chains.{step_place, is_revoked}
-use Rattle.kmip_chains.specs.Laws.{ReachedIsNoLess, StepsKeepTheirPlaces, StatesKeepTheirPlaces, PlacesAndSteps, RevokesAreOfTheRevoked}
+use Rattle.kmip_plan.specs.Chains.{step_place, is_revoked}
+use Rattle.kmip_plan.specs.ChainLaws.{ReachedIsNoLess, StepsKeepTheirPlaces, StatesKeepTheirPlaces, PlacesAndSteps, RevokesAreOfTheRevoked}
 use Rattle.kmip_plan.specs.Laws.{OldKeysAreFound}
 use Rattle.kmip_plan.specs.Plans.{IsLawful}
 use Rattle.kmip_plan.specs.Prolonging.{GoesOn, Prolongs}
-use Rattle.kmip_chains.specs.declared.key.Key.{Key}
-use Rattle.kmip_chains.specs.declared.target.Target.{Target}
+use Rattle.kmip_plan.specs.declared.key.Key.{Key}
+use Rattle.kmip_plan.specs.declared.target.Target.{Target}
 use Rattle.kmip_client.specs.Justified.{StepIsDue, MayAsk, Justified}
 use Rattle.kmip_client.specs.Truth.{IsShown, StepIsDone, TrueOutcome}
 use Rattle.kmip_client.proofs.SavingLemmas.{same_uid, further}

@@ -5,18 +5,18 @@ use Rattle.std.specs.List.{AllZip}
 use Rattle.std.specs.Option.{option_map, option_map_or}
 use Rattle.kmip_objects.specs.Objects.{Object, object_named}
 use Rattle.kmip_objects.specs.declared.attributes.KeyAttrs.{KeyAttrs}
-use Rattle.kmip_chains.specs.Chains.{place_reached}
-use Rattle.kmip_chains.specs.Laws.{ReachedIsNoLess}
-use Rattle.kmip_chains.specs.Chains.{LeadsOn}
+use Rattle.kmip_plan.specs.Chains.{place_reached}
+use Rattle.kmip_plan.specs.ChainLaws.{ReachedIsNoLess}
+use Rattle.kmip_plan.specs.Chains.{LeadsOn}
 use Rattle.kmip_plan.specs.Prolonging.{GoesOn, Prolongs}
-use Rattle.kmip_chains.specs.declared.target.Target.{Target}
+use Rattle.kmip_plan.specs.declared.target.Target.{Target}
 use Rattle.kmip_objects.specs.Ranges.{is_identifier}
-use Rattle.kmip_chains.specs.declared.key.Key.{Key}
+use Rattle.kmip_plan.specs.declared.key.Key.{Key}
 use Rattle.kmip_progress.specs.Suiting.{is_known, known_fits, nothing_known, Suits}
 use Rattle.kmip_progress.specs.declared.known.Known.{Known}
-use Rattle.kmip_knowledge.specs.declared.knowledge.Knowledge.{Knowledge}
+use Rattle.kmip_client.specs.declared.knowledge.Knowledge.{Knowledge}
 use Rattle.kmip_client.specs.Held.{TrueOf, TrueProgress, Held}
-use Rattle.kmip_knowledge.specs.Knowledge.{chain_length, lost_phase}
+use Rattle.kmip_client.specs.Knowledge.{chain_length, lost_phase}
 use Rattle.kmip_client.specs.Places.{uid_of, position}
 use Rattle.kmip_client.specs.Saving.{known_of, knowledge_from}
 use Rattle.kmip_client.specs.Shapes.{PhaseSuits, IsShaped}

@@ -7,8 +7,8 @@ use Rattle.std.specs.List.{slice_get, position_from}
 use Rattle.std.specs.Option.{option_map_or}
 use Rattle.kmip_plan.specs.Laws.{NamesAreDistinct}
 use Rattle.kmip_plan.specs.Plans.{IsLawful}
-use Rattle.kmip_chains.specs.Words.{is_text}
-use Rattle.kmip_chains.specs.declared.key.Key.{Key}
+use Rattle.kmip_plan.specs.TargetWords.{is_text}
+use Rattle.kmip_plan.specs.declared.key.Key.{Key}
 use Rattle.kmip_client.specs.Hearing.{is_named_at, place_named}
 
 first_at : {A : Type 0} (p : A → Bool) (from : ℕ) (xs : List A) (place : ℕ) (x : A) → slice_get xs place ≡ Some x → p x ≡ true

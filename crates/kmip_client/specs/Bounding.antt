@@ -1,11 +1,11 @@
 -- How many more exchanges a client makes at most, if no more is lost: by the identifiers and the counts alone
 -- that it knows.
--- Source: own (law). That it bounds what is left is a law of kmip_settling.
+-- Source: own (law). That it bounds what is left is a law of kmip_protocol.
 use Rattle.std.specs.Prelude.{ℕ, ◌+◌, ◌-◌, nat_le, List, [], ◌∷◌, if◌then◌else◌}
 use Rattle.std.specs.Option.{is_some}
-use Rattle.kmip_chains.specs.declared.key.Key.{Key}
-use Rattle.kmip_knowledge.specs.declared.knowledge.Knowledge.{Knowledge}
-use Rattle.kmip_knowledge.specs.Knowledge.{chain_length}
+use Rattle.kmip_plan.specs.declared.key.Key.{Key}
+use Rattle.kmip_client.specs.declared.knowledge.Knowledge.{Knowledge}
+use Rattle.kmip_client.specs.Knowledge.{chain_length}
 
 -- How many more exchanges are made for one key: none where it is finished. Else it is looked for, or checked
 -- where its identifier is known, and the steps that are not known to be done are asked; an answer that comes

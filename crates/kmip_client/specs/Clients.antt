@@ -4,13 +4,13 @@
 use Rattle.std.specs.Prelude.{◌≡◌, ◌≢◌, ◌<◌, ℕ, ◌+◌, length, Bool, true, false, cond, List, [], ◌∷◌, map, Option, Some, slice_get, slice_set, if◌then◌else◌}
 use Rattle.std.specs.List.{AllZip}
 use Rattle.std.specs.Option.{option_map_or, option_and_then}
-use Rattle.kmip_chains.specs.declared.key.Key.{Key}
-use Rattle.kmip_knowledge.specs.declared.knowledge.Knowledge.{Knowledge}
-use Rattle.kmip_knowledge.specs.declared.knowledge.Phase.{Phase}
-use Rattle.kmip_knowledge.specs.declared.knowledge.Phase.TheVariants.{Look, Make, Check, Go}
-use Rattle.kmip_knowledge.specs.declared.knowledge.Verdict.{Verdict}
-use Rattle.kmip_knowledge.specs.declared.knowledge.Verdict.TheVariants.{Working}
-use Rattle.kmip_knowledge.specs.Knowledge.{fresh_knowledge, lose, is_working, verdict_of}
+use Rattle.kmip_plan.specs.declared.key.Key.{Key}
+use Rattle.kmip_client.specs.declared.knowledge.Knowledge.{Knowledge}
+use Rattle.kmip_client.specs.declared.knowledge.Phase.{Phase}
+use Rattle.kmip_client.specs.declared.knowledge.Phase.TheVariants.{Look, Make, Check, Go}
+use Rattle.kmip_client.specs.declared.knowledge.Verdict.{Verdict}
+use Rattle.kmip_client.specs.declared.knowledge.Verdict.TheVariants.{Working}
+use Rattle.kmip_client.specs.Knowledge.{fresh_knowledge, lose, is_working, verdict_of}
 
 -- What a contract sees of a client: the keys of the plan, what is known of each, and the place at which the
 -- next key is looked for. The last number is how many keys a message asks about at most.

@@ -4,15 +4,15 @@
 use Rattle.std.specs.Prelude.{◌≡◌, ℕ, Bool, true, false, not, ◌&&◌, ◌||◌, ◌==◌, nat_le, nat_lt, List, [], ◌∷◌, Option, Some, None, Result, Ok, Err, slice_get, slice_set, if◌then◌else◌}
 use Rattle.std.specs.List.{position}
 use Rattle.std.specs.Option.{is_some, option_map_or, option_and_then}
-use Rattle.kmip_fields.specs.Faults.{is_no_memory}
-use Rattle.kmip_batches.specs.Batches.{replies_read}
-use Rattle.kmip_fields.specs.declared.fault.MessageFault.{MessageFault}
-use Rattle.kmip_messages.specs.declared.reply.Outcome.{Outcome}
-use Rattle.kmip_messages.specs.declared.reply.Outcome.TheVariants.{Failed}
-use Rattle.kmip_messages.specs.declared.reply.Reply.{Reply}
+use Rattle.kmip_batch_items.specs.Faults.{is_no_memory}
+use Rattle.kmip_messages.specs.Batches.{replies_read}
+use Rattle.kmip_batch_items.specs.declared.fault.MessageFault.{MessageFault}
+use Rattle.kmip_batch_items.specs.declared.reply.Outcome.{Outcome}
+use Rattle.kmip_batch_items.specs.declared.reply.Outcome.TheVariants.{Failed}
+use Rattle.kmip_batch_items.specs.declared.reply.Reply.{Reply}
 use Rattle.kmip_objects.specs.declared.step.Step.{Step}
 use Rattle.kmip_objects.specs.declared.step.Step.TheVariants.{Create, Activate, Revoke, Destroy}
-use Rattle.kmip_messages.specs.declared.standard.TheConstants.{
+use Rattle.kmip_batch_items.specs.declared.standard.TheConstants.{
   OPERATION_CREATE,
   OPERATION_LOCATE,
   OPERATION_GET_ATTRIBUTES,
@@ -20,18 +20,18 @@ use Rattle.kmip_messages.specs.declared.standard.TheConstants.{
   OPERATION_REVOKE,
   OPERATION_DESTROY,
 }
-use Rattle.kmip_chains.specs.Chains.{step_place}
-use Rattle.kmip_chains.specs.Words.{is_text}
-use Rattle.kmip_chains.specs.declared.key.Key.{Key}
-use Rattle.kmip_knowledge.specs.declared.fault.HearFault.{HearFault}
-use Rattle.kmip_knowledge.specs.declared.fault.HearFault.TheVariants as faults
+use Rattle.kmip_plan.specs.Chains.{step_place}
+use Rattle.kmip_plan.specs.TargetWords.{is_text}
+use Rattle.kmip_plan.specs.declared.key.Key.{Key}
+use Rattle.kmip_client.specs.declared.fault.HearFault.{HearFault}
+use Rattle.kmip_client.specs.declared.fault.HearFault.TheVariants as faults
 use Rattle.kmip_client.specs.declared.hearing.Heard.{Heard}
 use Rattle.kmip_client.specs.declared.hearing.News.{News}
 use Rattle.kmip_client.specs.declared.hearing.News.TheVariants as news
-use Rattle.kmip_knowledge.specs.declared.knowledge.Knowledge.{Knowledge}
+use Rattle.kmip_client.specs.declared.knowledge.Knowledge.{Knowledge}
 use Rattle.kmip_client.specs.declared.subject.Subject.{Subject}
-use Rattle.kmip_knowledge.specs.Knowledge.{is_working}
-use Rattle.kmip_knowledge.specs.Learning.{learn}
+use Rattle.kmip_client.specs.Knowledge.{is_working}
+use Rattle.kmip_client.specs.Learning.{learn}
 
 -- ---- whom a reply is about
 

@@ -2,12 +2,12 @@
 -- it asks next is left out, since an answer that is lost changes nothing else.
 -- Source: own (view).
 use Rattle.std.specs.Prelude.{ℕ, List, [], ◌∷◌, map, Option, Some, None, Result, Ok, Err}
-use Rattle.kmip_chains.specs.declared.key.Key.{Key}
+use Rattle.kmip_plan.specs.declared.key.Key.{Key}
 use Rattle.kmip_client.specs.Hearing.{hear}
-use Rattle.kmip_knowledge.specs.declared.clash.Clash.{Clash}
-use Rattle.kmip_knowledge.specs.declared.fault.HearFault.{HearFault}
+use Rattle.kmip_client.specs.declared.clash.Clash.{Clash}
+use Rattle.kmip_client.specs.declared.fault.HearFault.{HearFault}
 use Rattle.kmip_client.specs.declared.hearing.Heard.{Heard}
-use Rattle.kmip_knowledge.specs.declared.knowledge.Knowledge.{Knowledge}
+use Rattle.kmip_client.specs.declared.knowledge.Knowledge.{Knowledge}
 
 -- What is known of a key: its identifier, how many of its steps are done, and the clash that was found, if
 -- any.

@@ -2,25 +2,25 @@
 -- Source: own (law): each is proved of all plans and objects.
 use Rattle.std.specs.Prelude.{◌≡◌, ◌≢◌, ◌≤◌, ℕ, true, List, ◌++◌, length, map, drop, Option, Ok}
 use Rattle.kmip_objects.specs.Objects.{Object}
-use Rattle.kmip_messages.specs.declared.reply.Outcome.{Outcome}
-use Rattle.kmip_messages.specs.declared.reply.Reply.{Reply}
-use Rattle.kmip_messages.specs.declared.request.Request.{Request}
+use Rattle.kmip_batch_items.specs.declared.reply.Outcome.{Outcome}
+use Rattle.kmip_batch_items.specs.declared.reply.Reply.{Reply}
+use Rattle.kmip_batch_items.specs.declared.request.Request.{Request}
 use Rattle.kmip_plan.specs.Plans.{IsLawful}
 use Rattle.kmip_plan.specs.Prolonging.{GoesOn, Prolongs}
-use Rattle.kmip_chains.specs.declared.key.Key.{Key}
+use Rattle.kmip_plan.specs.declared.key.Key.{Key}
 use Rattle.kmip_progress.specs.Reading.{read_text}
 use Rattle.kmip_progress.specs.Suiting.{Suits, nothing_known, are_texts}
 use Rattle.kmip_progress.specs.declared.known.Known.{Known}
-use Rattle.kmip_knowledge.specs.declared.clash.Clash.{Clash}
-use Rattle.kmip_knowledge.specs.declared.knowledge.Knowledge.{Knowledge}
-use Rattle.kmip_knowledge.specs.declared.knowledge.Verdict.TheVariants.{Conflict}
+use Rattle.kmip_client.specs.declared.clash.Clash.{Clash}
+use Rattle.kmip_client.specs.declared.knowledge.Knowledge.{Knowledge}
+use Rattle.kmip_client.specs.declared.knowledge.Verdict.TheVariants.{Conflict}
 use Rattle.std.specs.List.{All}
 use Rattle.kmip_client.specs.Clients.{changed_at, lost_working, verdict_at, AreSettled, NoneWorks}
 use Rattle.kmip_client.specs.Hearing.{known_after_each}
 use Rattle.kmip_client.specs.Held.{TrueProgress, IsHeld, Held}
 use Rattle.kmip_client.specs.Justified.{MayAsk, Justified}
 use Rattle.kmip_client.specs.Known.{facts, heard}
-use Rattle.kmip_knowledge.specs.Knowledge.{is_working}
+use Rattle.kmip_client.specs.Knowledge.{is_working}
 use Rattle.kmip_client.specs.Places.{Onward, position}
 use Rattle.kmip_client.specs.Questions.{ask_about}
 use Rattle.kmip_client.specs.Truth.{TrueOutcome, TrueReply}

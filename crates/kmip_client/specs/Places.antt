@@ -4,9 +4,9 @@
 use Rattle.std.specs.Prelude.{◌≡◌, ◌≤◌, ℕ, List, Option, Some}
 use Rattle.std.specs.Option.{option_map, option_map_or}
 use Rattle.kmip_objects.specs.Objects.{Object, object_named}
-use Rattle.kmip_chains.specs.Chains.{place_reached}
+use Rattle.kmip_plan.specs.Chains.{place_reached}
 use Rattle.kmip_plan.specs.Plans.{IsPlanned}
-use Rattle.kmip_chains.specs.declared.key.Key.{Key}
+use Rattle.kmip_plan.specs.declared.key.Key.{Key}
 
 -- The identifier of the object with the key's name; none without an object.
 abbrev pub uid_of : Key → List Object → Option (List ℕ)

@@ -1,11 +1,11 @@
 -- What of a client's knowledge is kept from one run to the next.
 -- Source: own (choice).
 use Rattle.std.specs.Prelude.{List, map, None}
-use Rattle.kmip_chains.specs.declared.key.Key.{Key}
+use Rattle.kmip_plan.specs.declared.key.Key.{Key}
 use Rattle.kmip_progress.specs.declared.known.Known.{Known}
-use Rattle.kmip_knowledge.specs.declared.knowledge.Knowledge.{Knowledge}
+use Rattle.kmip_client.specs.declared.knowledge.Knowledge.{Knowledge}
 use Rattle.kmip_client.specs.Clients.{ClientState}
-use Rattle.kmip_knowledge.specs.Knowledge.{lost_phase}
+use Rattle.kmip_client.specs.Knowledge.{lost_phase}
 
 -- Of a key the identifier and the count are kept; neither a conflict nor what is asked next is.
 abbrev pub known_of : Knowledge → Known

@@ -3,14 +3,14 @@
 use Rattle.std.specs.Prelude.{◌≡◌, ◌≢◌, ◌≤◌, ◌<◌, ℕ, List, length, Option, Some, None, IfSome, IsTrue}
 use Rattle.std.specs.List.{AllZip}
 use Rattle.kmip_objects.specs.Ranges.{is_identifier}
-use Rattle.kmip_batches.specs.Members.{may_have}
+use Rattle.kmip_messages.specs.Members.{may_have}
 use Rattle.kmip_plan.specs.Plans.{IsLawful}
-use Rattle.kmip_chains.specs.declared.key.Key.{Key}
-use Rattle.kmip_knowledge.specs.declared.knowledge.Knowledge.{Knowledge}
-use Rattle.kmip_knowledge.specs.declared.knowledge.Phase.{Phase}
-use Rattle.kmip_knowledge.specs.declared.knowledge.Phase.TheVariants.{Look, Make, Check, Go}
+use Rattle.kmip_plan.specs.declared.key.Key.{Key}
+use Rattle.kmip_client.specs.declared.knowledge.Knowledge.{Knowledge}
+use Rattle.kmip_client.specs.declared.knowledge.Phase.{Phase}
+use Rattle.kmip_client.specs.declared.knowledge.Phase.TheVariants.{Look, Make, Check, Go}
 use Rattle.kmip_client.specs.Clients.{working_count}
-use Rattle.kmip_knowledge.specs.Knowledge.{chain_length}
+use Rattle.kmip_client.specs.Knowledge.{chain_length}
 
 -- What has to be known in a phase: no identifier where the object is looked for or is to be made, and one
 -- where it is checked. Where the next step is due, there is an identifier and a step is done. Own (view).

@@ -2,10 +2,10 @@
 -- Source: own (view).
 use Rattle.std.specs.Prelude.{◌≤◌, ℕ, List, [], ◌∷◌, map}
 use Rattle.std.specs.List.{AllZip}
-use Rattle.kmip_chains.specs.declared.key.Key.{Key}
-use Rattle.kmip_knowledge.specs.Knowledge.{chain_length, verdict_of}
-use Rattle.kmip_knowledge.specs.declared.knowledge.Knowledge.{Knowledge}
-use Rattle.kmip_knowledge.specs.declared.knowledge.Verdict.{Verdict}
+use Rattle.kmip_plan.specs.declared.key.Key.{Key}
+use Rattle.kmip_client.specs.Knowledge.{chain_length, verdict_of}
+use Rattle.kmip_client.specs.declared.knowledge.Knowledge.{Knowledge}
+use Rattle.kmip_client.specs.declared.knowledge.Verdict.{Verdict}
 
 -- How many steps of each key are known to be done.
 abbrev pub counts_of : List Knowledge → List ℕ

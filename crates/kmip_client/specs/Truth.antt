@@ -2,18 +2,18 @@
 -- Source: KMIP 2.1, Operations; own (law).
 use Rattle.std.specs.Prelude.{◌≡◌, ◌≤◌, ℕ, List, [], ◌∷◌, Option, Some, ⊤}
 use Rattle.std.specs.List.{All}
-use Rattle.kmip_batches.specs.Items.{replies_in}
+use Rattle.kmip_messages.specs.Items.{replies_in}
 use Rattle.kmip_objects.specs.Objects.{Object}
-use Rattle.kmip_messages.specs.declared.reply.Outcome.{Outcome}
-use Rattle.kmip_messages.specs.declared.reply.Outcome.TheVariants.{Created, Located, Attributes, Activated, Revoked, Destroyed, Failed}
-use Rattle.kmip_messages.specs.declared.reply.Reply.{Reply}
+use Rattle.kmip_batch_items.specs.declared.reply.Outcome.{Outcome}
+use Rattle.kmip_batch_items.specs.declared.reply.Outcome.TheVariants.{Created, Located, Attributes, Activated, Revoked, Destroyed, Failed}
+use Rattle.kmip_batch_items.specs.declared.reply.Reply.{Reply}
 use Rattle.kmip_objects.specs.declared.attributes.Attrs.{Attrs}
 use Rattle.kmip_objects.specs.declared.standard.TheConstants.{OBJECT_TYPE_SYMMETRIC_KEY}
 use Rattle.kmip_objects.specs.declared.step.Step.{Step}
 use Rattle.kmip_objects.specs.declared.step.Step.TheVariants as steps
-use Rattle.kmip_chains.specs.Chains.{step_place, place_of}
+use Rattle.kmip_plan.specs.Chains.{step_place, place_of}
 use Rattle.kmip_plan.specs.Plans.{key_named}
-use Rattle.kmip_chains.specs.declared.key.Key.{Key}
+use Rattle.kmip_plan.specs.declared.key.Key.{Key}
 use Rattle.kmip_client.specs.Places.{uid_of, position}
 
 -- What Get Attributes told is the plan's, and a state that the object of the key has had.

@@ -2,8 +2,8 @@
 ghost use Rattle.std.specs.Prelude.{◌≡◌, ◌≤◌, ◌++◌, List, [], length, drop, take, Some, IfOk, IsTrue, OnOk};
 ghost use Rattle.std.specs.List.{All, AllZip};
 ghost use Rattle.kmip_objects.specs.Objects.{Object};
-ghost use Rattle.kmip_messages.specs.Operations.{operation_of};
-ghost use Rattle.kmip_batches.specs.Members.{may_have};
+ghost use Rattle.kmip_batch_items.specs.Operations.{operation_of};
+ghost use Rattle.kmip_messages.specs.Members.{may_have};
 ghost use Rattle.kmip_plan.specs.Plans.{IsLawful, EachFits};
 ghost use Rattle.kmip_client.specs.Asking.{
   all_working_from,
@@ -20,12 +20,12 @@ ghost use Rattle.kmip_client.specs.Justified.{JustifiedMessage};
 ghost use Rattle.kmip_client.specs.Questions.{request_about};
 ghost use Rattle.kmip_client.specs.Shapes.{IsShaped};
 
+use crate::Knowledge;
 use crate::question::{Part, Parts, Question, request_about};
-use kmip_batches::write_request;
-use kmip_chains::Key;
-use kmip_chains::laws::steps_have_places;
-use kmip_knowledge::Knowledge;
-use kmip_messages::Request;
+use kmip_batch_items::Request;
+use kmip_messages::write_request;
+use kmip_plan::Key;
+use kmip_plan::chain_laws::steps_have_places;
 use kmip_plan::laws::keys_have_names;
 use kmip_ttlv::{Bytes, NoMemory};
 use std::alloc::Global;

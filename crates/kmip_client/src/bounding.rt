@@ -3,8 +3,8 @@ ghost use Rattle.std.specs.Prelude.{◌≡◌, ◌≤◌, ◌*◌, length};
 ghost use Rattle.kmip_client.specs.Bounding.{most_left, most_left_of};
 ghost use Rattle.kmip_plan.specs.Limits.{most_keys};
 
-use kmip_chains::{Key, chain_length};
-use kmip_knowledge::Knowledge;
+use crate::Knowledge;
+use kmip_plan::{Key, chain_length};
 
 /// How many more exchanges are made for all keys at most, if no more is lost.
 pub(crate) fn most_left(keys: &[Key], knowns: &[Knowledge]) -> usize

@@ -1,7 +1,7 @@
 //! A client of one plan.
 ghost use Rattle.std.specs.Prelude.{◌≡◌, List, ◌≤◌, ◌<◌, ◌*◌, length, map, None, Ok, IfOk, IfErr, IfSome, IsTrue, OnOk, OnErr, option_map};
 ghost use Rattle.std.specs.List.{AllZip};
-ghost use Rattle.kmip_batches.specs.Members.{may_have};
+ghost use Rattle.kmip_messages.specs.Members.{may_have};
 ghost use Rattle.kmip_client.specs.Asking.{next_places, next_question, after_ask, IsAbout};
 ghost use Rattle.kmip_plan.specs.Limits.{most_keys};
 ghost use Rattle.kmip_plan.specs.Plans.{IsLawful};
@@ -30,7 +30,7 @@ ghost use Rattle.kmip_client.specs.Justified.{JustifiedMessage};
 ghost use Rattle.kmip_client.specs.Shapes.{IsKept};
 ghost use Rattle.kmip_client.specs.Truth.{TrueMessage};
 ghost use Rattle.kmip_objects.specs.Objects.{Object};
-ghost use Rattle.kmip_knowledge.specs.Knowledge.{fresh_knowledge};
+ghost use Rattle.kmip_client.specs.Knowledge.{fresh_knowledge};
 
 use crate::batching::{next_places, question_at};
 use crate::bounding::most_left;
@@ -38,10 +38,9 @@ use crate::hearing::{Heard, hear_message};
 use crate::question::Question;
 use crate::saving::{all_knowledge, all_known, count_working};
 use crate::standing::{all_counts, all_verdicts, tells, verdict_of};
-use kmip_chains::Key;
-use kmip_chains::laws::{states_have_places, steps_have_places};
-use kmip_knowledge::{HearFault, Knowledge, Verdict};
-use kmip_plan::Plan;
+use crate::{HearFault, Knowledge, Verdict};
+use kmip_plan::chain_laws::{states_have_places, steps_have_places};
+use kmip_plan::{Key, Plan};
 use kmip_progress::Progress;
 use kmip_ttlv::{NoMemory, Text};
 use std::alloc::Global;
@@ -331,7 +330,7 @@ impl<'p> Client<'p> {
     /// key in conflict counts as one that is not finished. Takes no memory.
     ///
     /// That it bounds what is left, and never rises, is the law `losing_laws::left_is_bounded` of
-    /// kmip_settling.
+    /// kmip_protocol.
     pub fn most_left(&self) -> usize
         // It is the stated sum over the keys, by the identifiers and the counts alone that are known.
         ensures sum { result ≡ most_left self.now.keys self.now.knowns }

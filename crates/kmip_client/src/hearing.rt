@@ -1,12 +1,12 @@
 //! What a reply teaches a client.
 ghost use Rattle.std.specs.Prelude.{◌≡◌, ◌≤◌, ◌+◌, Ok, Err, IfOk, IfErr, IsTrue, OnErr, OnOk, Some, is_some, option_map};
 ghost use Rattle.std.specs.List.{All};
-ghost use Rattle.kmip_messages.specs.BatchItems.{answer_fits};
-ghost use Rattle.kmip_batches.specs.Items.{replies_in};
+ghost use Rattle.kmip_batch_items.specs.BatchItems.{answer_fits};
+ghost use Rattle.kmip_messages.specs.Items.{replies_in};
 ghost use Rattle.kmip_client.specs.Clients.{one_if, working_count};
 ghost use Rattle.kmip_plan.specs.Plans.{IsLawful};
-ghost use Rattle.kmip_knowledge.specs.Knowledge.{is_working};
-ghost use Rattle.kmip_knowledge.specs.Learning.{learn};
+ghost use Rattle.kmip_client.specs.Knowledge.{is_working};
+ghost use Rattle.kmip_client.specs.Learning.{learn};
 ghost use Rattle.kmip_client.specs.Hearing.{
   is_other_operation,
   has_failed,
@@ -23,10 +23,10 @@ ghost use Rattle.kmip_client.specs.Hearing.{
 };
 
 use crate::subject::{Subject, subject_of};
-use kmip_batches::read_reply;
-use kmip_chains::Key;
-use kmip_knowledge::{HearFault, Knowledge, learn};
-use kmip_messages::{MessageFault, Outcome, Reply};
+use crate::{HearFault, Knowledge, learn};
+use kmip_batch_items::{MessageFault, Outcome, Reply};
+use kmip_messages::read_reply;
+use kmip_plan::Key;
 use std::alloc::Global;
 
 /// What a reply was, that a client has learnt from.

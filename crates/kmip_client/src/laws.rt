@@ -2,8 +2,8 @@
 //! a function that does nothing.
 //!
 //! That the objects of a server go onward while it serves what may be asked, and that its replies tell the
-//! truth, is proved in kmip_schedule. That every key comes to its target over a link that loses nothing is
-//! proved in kmip_settling and kmip_session.
+//! truth, is proved in kmip_protocol. That every key comes to its target over a link that loses nothing is
+//! proved in kmip_protocol and kmip_runs.
 ghost use Rattle.kmip_progress.specs.Texts.{progress_text, progress_text_1};
 ghost use Rattle.kmip_client.specs.Laws.{
   OnwardToItself,
@@ -25,7 +25,7 @@ ghost use Rattle.kmip_client.specs.Laws.{
   AsksWhatItMay,
 };
 
-use kmip_chains::laws::{further_ways_keep_places, states_have_places, steps_have_places};
+use kmip_plan::chain_laws::{further_ways_keep_places, states_have_places, steps_have_places};
 use kmip_plan::laws::{keys_have_names, prolonged_keys_stand};
 use kmip_progress::laws::texts_are_prolonged;
 

@@ -10,11 +10,11 @@ ghost use Rattle.kmip_client.specs.Questions.{
 };
 ghost use Rattle.kmip_client.specs.Shapes.{IsShaped};
 
-use kmip_chains::{Key, chain};
-use kmip_knowledge::{Knowledge, Phase};
-use kmip_messages::{Ask, Request};
+use crate::{Knowledge, Phase};
+use kmip_batch_items::{Ask, Request};
 use kmip_objects::standard::{STORAGE_DESTROYED, STORAGE_ON_LINE};
 use kmip_objects::{Attrs, Step};
+use kmip_plan::{Key, chain};
 use kmip_ttlv::{Bytes, NoMemory, Text};
 use std::alloc::Global;
 use std::marker::Model;

@@ -3,8 +3,8 @@ ghost use Rattle.std.specs.Prelude.{◌≡◌, length, map, option_map, IfOk};
 ghost use Rattle.kmip_client.specs.Clients.{working_count};
 ghost use Rattle.kmip_client.specs.Saving.{known_of, knowledge_from};
 
-use kmip_chains::Key;
-use kmip_knowledge::{Knowledge, lost_phase};
+use crate::{Knowledge, lost_phase};
+use kmip_plan::Key;
 use kmip_progress::Known;
 use kmip_ttlv::{NoMemory, Text};
 use std::alloc::Global;

@@ -3,8 +3,8 @@ ghost use Rattle.std.specs.Prelude.{◌≡◌, length, IfOk};
 ghost use Rattle.kmip_client.specs.Clients.{tells, verdict_at};
 ghost use Rattle.kmip_client.specs.Standing.{counts_of, verdicts_of};
 
-use kmip_chains::Key;
-use kmip_knowledge::{Knowledge, Phase, Verdict};
+use crate::{Knowledge, Phase, Verdict};
+use kmip_plan::Key;
 use kmip_ttlv::NoMemory;
 use std::alloc::Global;
 

@@ -1,16 +1,16 @@
 //! Whom a reply is about.
 ghost use Rattle.std.specs.Prelude.{◌≡◌, [], ◌∷◌, option_map};
 ghost use Rattle.kmip_plan.specs.Plans.{IsLawful};
-ghost use Rattle.kmip_chains.specs.Words.{is_text};
+ghost use Rattle.kmip_plan.specs.TargetWords.{is_text};
 ghost use Rattle.kmip_client.specs.Hearing.{step_of, is_asked_of, is_named_at, place_named, subject_at, subject_in, subject_of};
 
-use kmip_chains::{Key, step_place};
-use kmip_messages::standard::{
+use kmip_batch_items::standard::{
     OPERATION_ACTIVATE, OPERATION_CREATE, OPERATION_DESTROY, OPERATION_GET_ATTRIBUTES,
     OPERATION_LOCATE, OPERATION_REVOKE,
 };
 use kmip_objects::Step;
 use kmip_plan::laws::keys_have_names;
+use kmip_plan::{Key, step_place};
 use kmip_ttlv::Bytes;
 
 /// The key and the operation that an id names.

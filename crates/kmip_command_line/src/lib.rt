@@ -1,6 +1,6 @@
 //! The words of the command line of `kmipctl`, and what they ask for.
 //!
-//! No clause says which words ask for what: the stored runs of kmipctl_runs try it.
+//! No clause says which words ask for what: the stored runs of rows_kmipctl try it.
 #![tactic(auto)]
 
 ghost use Rattle.std.specs.Prelude.{◌≡◌};
@@ -17,7 +17,7 @@ use clap::error::ErrorKind;
 use clap::{ArgMatches, Error};
 use command::program;
 use kmip_choices::{Choice, answer_of, form_of};
-use kmip_commands::{CommandFault, ExitStatus};
+use kmip_message_commands::{CommandFault, ExitStatus};
 use local::{check_choice, sim_choice};
 use network::{probe_choice, run_choice, serve_options};
 use std::alloc::Global;

@@ -6,7 +6,7 @@ use crate::option::{MOST_COUNT, MOST_SECONDS};
 use clap::error::ErrorKind;
 use clap::{ArgMatches, Error};
 use kmip_choices::{Choice, Peer, ProbeOptions, RunOptions, ServeOptions, Trust};
-use kmip_premises::is_prefix;
+use kmip_probe::is_prefix;
 use std::alloc::{AllocError, Global};
 use std::net::SocketAddrV4;
 

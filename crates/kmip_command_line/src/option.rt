@@ -9,7 +9,7 @@ use Absent::{Fine, Means, Wrong};
 use Value::{Flag, FlagUnless, Number, Text};
 use clap::builder::ValueParser;
 use clap::{Arg, ArgAction};
-use kmip_messages::standard::MOST_QUESTIONS;
+use kmip_batch_items::standard::MOST_QUESTIONS;
 use std::alloc::{AllocError, Global};
 
 /// The largest number of exchanges and of connections (own).

@@ -1,4 +1,4 @@
--- For the stream of kmip_commands: its lemmas are inductions over the bytes and the pieces of a stream, near no call of a
+-- For the stream of kmip_message_commands: its lemmas are inductions over the bytes and the pieces of a stream, near no call of a
 -- framer or of a law, and so no clause serves them.
 use Rattle.std.proofs.Common.{◌≡◌, ℕ, ◌<◌, ◌≤◌, List, [], ◌∷◌, ◌++◌, length, Some, None, refl, sym, ap, ◌∙◌, append_assoc}
 use Rattle.std.specs.List.{AllByRecursion}

@@ -1,5 +1,5 @@
 -- The head of a message: eight bytes with its tag, its type and how many bytes follow.
--- The tags of a message are those of `standard` of kmip_messages. How many bytes a head has, and a message at
+-- The tags of a message are those of `standard` of kmip_batch_items. How many bytes a head has, and a message at
 -- most, is in Limits of kmip_ttlv.
 -- Source: KMIP 2.1, Message Structure; TTLV Encoding. Own (limit): a message takes at most 8,192 bytes.
 -- Own (order): the order of the checks, as the standard says none.
@@ -8,7 +8,7 @@ use Rattle.byteorder.specs.Endian.{big_number}
 use Rattle.kmip_ttlv.specs.Limits.{head_size, most_bytes}
 use Rattle.kmip_ttlv.specs.Types.{byte_of_type}
 use Rattle.kmip_ttlv.specs.declared.item_type.ItemType.TheVariants.{Structure}
-use Rattle.kmip_messages.specs.declared.standard.TheConstants.{TAG_REQUEST_MESSAGE, TAG_RESPONSE_MESSAGE}
+use Rattle.kmip_batch_items.specs.declared.standard.TheConstants.{TAG_REQUEST_MESSAGE, TAG_RESPONSE_MESSAGE}
 use Rattle.kmip_frames.specs.declared.fault.FrameFault.{FrameFault}
 use Rattle.kmip_frames.specs.declared.fault.FrameFault.TheVariants.{BadHead, BadLength, TooLong}
 

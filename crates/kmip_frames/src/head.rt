@@ -6,7 +6,7 @@ ghost use Rattle.kmip_frames.specs.Framing.{fault_in, size_needed};
 
 use crate::fault::FrameFault;
 use byteorder::{BigEndian, ByteOrder};
-use kmip_messages::standard::{TAG_REQUEST_MESSAGE, TAG_RESPONSE_MESSAGE};
+use kmip_batch_items::standard::{TAG_REQUEST_MESSAGE, TAG_RESPONSE_MESSAGE};
 use kmip_ttlv::{HEAD_SIZE, ItemType, MAX_SIZE};
 
 /// The fault of the head that the bytes begin with: `None` where it is a message's, and also while

@@ -1,13 +1,8 @@
-mod IdentifierLemmas
-mod WrittenLemmas
-mod Readers
-mod AttributeLaws
-mod RequestLaws
-mod RequestSaid
-mod WholeLaws
+mod MemberLemmas
+mod HeaderLaws
+mod BatchLaws
 mod ReplyLaws
-mod ReplySaid
-mod AskedLemmas
-mod SaidLemmas
-pub mod BatchItemLaws
-pub mod BatchItemSizes
+mod SizeLemmas
+mod ByteLemmas
+mod LawLemmas
+pub mod ForCallers

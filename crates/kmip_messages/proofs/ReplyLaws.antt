@@ -1,250 +1,77 @@
--- The formats of replies are good: what is read is what is said, and what is written says it again.
-use Rattle.std.proofs.Common.{◌≡◌, ℕ, Bool, true, false, List, [], ◌∷◌, Option, Some, None, ◌==◌, ◌&&◌, ◌||◌, refl, sym, ap, ◌∙◌}
-use Rattle.std.proofs.lemmas.Bool.{and_parts, eqb-true}
-use Rattle.std.specs.Option.{option_map_or}
-use Rattle.kmip_ttlv.specs.Node.{Node}
-use Rattle.kmip_fields.specs.Formats.{integers, enumerations, texts, choose, Chosen}
-use Rattle.kmip_fields.specs.FormatLaws.{IsGood, IsPart}
-use Rattle.kmip_fields.proofs.ItemReads.{integer_kind, enumeration_kind, text_kind}
-use Rattle.kmip_fields.proofs.FormatParts.{required-part, optional-part, unread-part, repeated-part, structure-part, optional_structure-part, ranged-part, as_record-good, said_record-part, as_case-part, both-part, reversed-part, left-part, right-part, fixed-part, followed-part, told_by-part, refusing-part, choose-part}
-use Rattle.kmip_objects.specs.declared.attributes.Attrs.{Attrs}
-use Rattle.kmip_objects.specs.Ranges.{is_identifier}
-use Rattle.kmip_messages.specs.declared.reply.Outcome.{Outcome}
-use Rattle.kmip_messages.specs.declared.reply.Outcome.TheVariants.{Created, Located, Attributes, Activated, Revoked, Destroyed, Failed}
-use Rattle.kmip_messages.specs.declared.reply.Reply.{Reply}
-use Rattle.kmip_messages.specs.declared.standard.TheConstants.{TAG_RESPONSE_PAYLOAD, TAG_RESULT_STATUS, TAG_RESULT_REASON, STATUS_SUCCESS, STATUS_OPERATION_FAILED, OPERATION_CREATE, OPERATION_LOCATE, OPERATION_GET_ATTRIBUTES, OPERATION_ACTIVATE, OPERATION_REVOKE, OPERATION_DESTROY}
-use Rattle.kmip_messages.specs.BatchItems.{answer_fits}
-use Rattle.kmip_messages.specs.Fits.{is_own, outcome_fits}
-use Rattle.kmip_messages.specs.Parts.{id_format, identifier_format}
-use Rattle.kmip_messages.specs.Ranges.{is_batch_id, is_operation}
-use Rattle.kmip_messages.specs.ReplyFormats.{any_name_parts_format, attrs_format, in_created, in_located, in_attributes, in_activated, in_revoked, in_destroyed, in_failed, created_format, identifiers_format, object_format, answer_format, located_format, succeeded, success_of_format, success_format, failed_format, is_status, status_of, outcome_format, any_version_parts_format, answered_format}
-use Rattle.kmip_messages.proofs.AttributeLaws.{attrs_with-part}
-use Rattle.kmip_messages.proofs.Readers.{id_part, identifier_part, plain_part}
-use Rattle.kmip_messages.proofs.RequestLaws.{chosen, last_holds}
+-- The replies of a message: what is read of an item is what it says, and the written form of some replies says them.
+use Rattle.std.proofs.Common.{◌≡◌, ℤ, pos, true, List, [], ◌∷◌, ◌++◌, map, length, IsTrue, refl, sym, subst}
+use Rattle.std.specs.List.{list_all}
+use Rattle.std.proofs.lemmas.Bool.{and_parts}
+use Rattle.kmip_ttlv.specs.Node.{Node, node}
+use Rattle.kmip_ttlv.proofs.ReadSteps.{Reads, reads-bind, reads-as}
+use Rattle.kmip_batch_items.specs.declared.fault.MessageFault.TheVariants.{BatchCount}
+use Rattle.kmip_batch_items.specs.Formats.{inside}
+use Rattle.kmip_batch_items.specs.Siblings.{contents}
+use Rattle.kmip_batch_items.proofs.FormatParts.{reads}
+use Rattle.kmip_batch_items.proofs.ItemReads.{reads-guard}
+use Rattle.kmip_batch_items.specs.declared.reply.Reply.{Reply}
+use Rattle.kmip_batch_items.specs.declared.standard.TheConstants.{TAG_RESPONSE_MESSAGE, TAG_BATCH_ITEM}
+use Rattle.kmip_batch_items.specs.BatchItems.{IsAnswer, answer_fits, answer_item}
+use Rattle.kmip_batch_items.specs.ReplyFormats.{any_version_parts_format, answered_format}
+use Rattle.kmip_batch_items.proofs.BatchItemLaws.{message-law, answer-law, answer_written}
+use Rattle.kmip_messages.specs.Batches.{AreReplies, replies_at}
+use Rattle.kmip_messages.specs.Headers.{reply_header_format, reply_header_parts_format}
+use Rattle.kmip_messages.specs.Members.{may_have, is_count, SayEach}
+use Rattle.kmip_messages.specs.Written.{replies_item}
+use Rattle.kmip_messages.proofs.BatchLaws.{counts, counted}
+use Rattle.kmip_messages.proofs.HeaderLaws.{reply_header-part, reply_header_is, is_reply_header}
+use Rattle.kmip_messages.proofs.MemberLemmas.{reads-members_at, say_length, part_stands, items_stand}
 
--- ---- attributes
+replies_are : (n : Node) (message : List Node) (count : ℤ) (replies : List Reply) → n ≡ node TAG_RESPONSE_MESSAGE (inside message)
+    → (reply_header_format (pos 0)).Says message count → is_count count (length (contents TAG_BATCH_ITEM message)) ≡ true
+    → SayEach IsAnswer (contents TAG_BATCH_ITEM message) replies → AreReplies replies n
+replies_are n message count replies is header all answers =
+    let two = counts count (length (contents TAG_BATCH_ITEM message)) (length replies) all (say_length IsAnswer _ replies answers) in
+    record {
+      message = message;
+      is_message = is;
+      header = reply_header_is (pos 0) message (pos (length replies)) (subst ((reply_header_format (pos 0)).Says message) two.1 header);
+      within = two.0;
+      answers = answers;
+    }
 
-any_name_parts-part : IsPart any_name_parts_format
-unfolding any_name_parts_format
-any_name_parts-part = left-part _ _ refl (required-part texts _ text_kind) plain_part
+-- What is read of an item is the replies that it gives, and no others.
+pub replies-law : (n : Node) → Reads (replies_at n) (λ rs. AreReplies rs n)
+unfolding replies_at
+replies-law n = reads-as (replies_at n) _ (λ rs. AreReplies rs n)
+    (λ rs (message, is, (count, says, (_, all, answers))). replies_are n message count rs is says all answers)
+    (λ rs p. (
+      p.message,
+      p.is_message,
+      (
+        pos (length rs),
+        is_reply_header (pos 0) p.message (pos (length rs)) p.header,
+        (tt, counted (length (contents TAG_BATCH_ITEM p.message)) (length rs) p.within (say_length IsAnswer _ rs p.answers), p.answers),
+      ),
+    ))
+    (reads-bind _ _ _ _ (message-law TAG_RESPONSE_MESSAGE n) (λ message.
+    reads-bind _ _ _ _ (reads (reply_header_format (pos 0)) (reply_header-part (pos 0)).good message) (λ count.
+    reads-bind _ _ _ _ (reads-guard BatchCount (is_count count (length (contents TAG_BATCH_ITEM message)))) (λ all.
+    reads-members_at answered_format.read IsAnswer message answer-law))))
 
-attrs-part : IsPart attrs_format
-unfolding attrs_format
-attrs-part = attrs_with-part _ refl (optional_structure-part _ _ any_name_parts-part.good)
+-- ---- written
 
--- ---- payloads
+answers_written : (rs : List Reply) → list_all answer_fits rs ≡ true → SayEach IsAnswer (map (λ r. inside (answered_format.write r)) rs) rs
+answers_written [] fit = tt
+answers_written (r ∷ rest) fit =
+    let parts = and_parts (answer_fits r) (list_all answer_fits rest) fit in
+    ((answered_format.write r, refl, answer_written r parts.0), answers_written rest parts.1)
 
-created : (o : Outcome) (x : List ℕ) → in_created o ≡ Some x → Created x ≡ o
-created (Created uid) x e = cc
-created (Located uids) x e = absurd cc
-created (Attributes uid attrs) x e = absurd cc
-created (Activated uid) x e = absurd cc
-created (Revoked uid) x e = absurd cc
-created (Destroyed uid) x e = absurd cc
-created (Failed reason) x e = absurd cc
-
-located : (o : Outcome) (x : Option (List (List ℕ))) → in_located o ≡ Some x → Located (option_map_or (λ uids. uids) x []) ≡ o
-located (Created uid) x e = absurd cc
-located (Located uids) None e = absurd cc
-located (Located uids) (Some x) e = cc
-located (Attributes uid attrs) x e = absurd cc
-located (Activated uid) x e = absurd cc
-located (Revoked uid) x e = absurd cc
-located (Destroyed uid) x e = absurd cc
-located (Failed reason) x e = absurd cc
-
-attributes_told : (o : Outcome) (x : List ℕ × Attrs) → in_attributes o ≡ Some x → Attributes x.0 x.1 ≡ o
-attributes_told (Created uid) x e = absurd cc
-attributes_told (Located uids) x e = absurd cc
-attributes_told (Attributes uid attrs) x e = cc
-attributes_told (Activated uid) x e = absurd cc
-attributes_told (Revoked uid) x e = absurd cc
-attributes_told (Destroyed uid) x e = absurd cc
-attributes_told (Failed reason) x e = absurd cc
-
-activated : (o : Outcome) (x : List ℕ) → in_activated o ≡ Some x → Activated x ≡ o
-activated (Created uid) x e = absurd cc
-activated (Located uids) x e = absurd cc
-activated (Attributes uid attrs) x e = absurd cc
-activated (Activated uid) x e = cc
-activated (Revoked uid) x e = absurd cc
-activated (Destroyed uid) x e = absurd cc
-activated (Failed reason) x e = absurd cc
-
-revoked : (o : Outcome) (x : List ℕ) → in_revoked o ≡ Some x → Revoked x ≡ o
-revoked (Created uid) x e = absurd cc
-revoked (Located uids) x e = absurd cc
-revoked (Attributes uid attrs) x e = absurd cc
-revoked (Activated uid) x e = absurd cc
-revoked (Revoked uid) x e = cc
-revoked (Destroyed uid) x e = absurd cc
-revoked (Failed reason) x e = absurd cc
-
-destroyed : (o : Outcome) (x : List ℕ) → in_destroyed o ≡ Some x → Destroyed x ≡ o
-destroyed (Created uid) x e = absurd cc
-destroyed (Located uids) x e = absurd cc
-destroyed (Attributes uid attrs) x e = absurd cc
-destroyed (Activated uid) x e = absurd cc
-destroyed (Revoked uid) x e = absurd cc
-destroyed (Destroyed uid) x e = cc
-destroyed (Failed reason) x e = absurd cc
-
-failed : (o : Outcome) (x : Option ℕ) → in_failed o ≡ Some x → Failed x ≡ o
-failed (Created uid) x e = absurd cc
-failed (Located uids) x e = absurd cc
-failed (Attributes uid attrs) x e = absurd cc
-failed (Activated uid) x e = absurd cc
-failed (Revoked uid) x e = absurd cc
-failed (Destroyed uid) x e = absurd cc
-failed (Failed reason) x e = cc
-
-created-part : IsPart created_format
-unfolding created_format identifier_format
-created-part = right-part _ _ refl (unread-part _ _ (refl, tt)) identifier_part
-
-identifiers-part : IsPart identifiers_format
-unfolding identifiers_format
-identifiers-part = repeated-part texts _ is_identifier text_kind
-
-object-part : IsPart object_format
-unfolding object_format identifier_format
-object-part = both-part _ _ refl identifier_part (structure-part _ _ attrs-part.good)
-
-answer-part : (operation : ℕ) → IsPart (answer_format operation)
-unfolding answer_format
-answer-part operation =
-    choose-part _ _ _ (as_case-part _ _ _ created created-part)
-    (choose-part _ _ _ (as_case-part _ _ _ attributes_told object-part)
-    (choose-part _ _ _ (as_case-part _ _ _ activated identifier_part)
-    (choose-part _ _ _ (as_case-part _ _ _ revoked identifier_part)
-    (as_case-part _ _ _ destroyed identifier_part))))
-
-located-part : IsPart located_format
-unfolding located_format
-located-part = as_case-part _ _ _ located (optional_structure-part _ _ identifiers-part.good)
-
--- ---- outcomes
-
-success_of-part : (operation : ℕ) → IsPart (success_of_format operation)
-unfolding success_of_format
-success_of-part operation = refusing-part _ _ _ (choose-part _ _ _ located-part (structure-part _ _ (answer-part operation).good))
-
-success_of_tags : (operation : ℕ) → (success_of_format operation).tags ≡ TAG_RESPONSE_PAYLOAD ∷ TAG_RESPONSE_PAYLOAD ∷ []
-unfolding success_of_format located_format
-success_of_tags operation = refl
-
--- a case of the operation of this number
-of_case : (operation own : ℕ) (a b : Outcome) → succeeded b ≡ own → b ≡ a → (operation == own) ≡ true → succeeded a ≡ operation
-of_case operation own a b is same test = ap succeeded (sym same) ∙ is ∙ sym (eqb-true operation own test)
-
--- what a payload says is of its operation
-answer_is_own : (operation : ℕ) (payload : List Node) (a : Outcome) → is_operation operation ≡ true → (operation == OPERATION_LOCATE) ≡ false
-    → (answer_format operation).Says payload a → succeeded a ≡ operation
-unfolding answer_format
-answer_is_own operation payload a known not_locate says =
-    chosen (operation == OPERATION_CREATE) says (λ is (x, _, same). of_case operation OPERATION_CREATE a (Created x) refl same is) (λ not_create others.
-    chosen (operation == OPERATION_GET_ATTRIBUTES) others (λ is (x, _, same). of_case operation OPERATION_GET_ATTRIBUTES a (Attributes x.0 x.1) refl same is) (λ not_attributes others.
-    chosen (operation == OPERATION_ACTIVATE) others (λ is (x, _, same). of_case operation OPERATION_ACTIVATE a (Activated x) refl same is) (λ not_activate others.
-    chosen (operation == OPERATION_REVOKE) others (λ is (x, _, same). of_case operation OPERATION_REVOKE a (Revoked x) refl same is) (λ not_revoke last.
-    of_case operation OPERATION_DESTROY a (Destroyed last.0) refl last.2
-    (last_holds (operation == OPERATION_CREATE) (operation == OPERATION_LOCATE) (operation == OPERATION_GET_ATTRIBUTES) (operation == OPERATION_ACTIVATE)
-    (operation == OPERATION_REVOKE) (operation == OPERATION_DESTROY) known not_create not_locate not_attributes not_activate not_revoke)))))
-
-success_is_own : (operation : ℕ) (batch : List Node) (a : Outcome) → (success_of_format operation).Says batch a → succeeded a ≡ operation
-unfolding success_of_format located_format
-success_is_own operation batch a (known, says) =
-    chosen (operation == OPERATION_LOCATE) says (λ is (x, _, same). of_case operation OPERATION_LOCATE a _ refl same is) (λ other (payload, _, told).
-    answer_is_own operation payload a known other told)
-
-success-part : (asked : Option ℕ) → IsPart (success_format asked)
-unfolding success_format
-success-part asked = told_by-part _ _ _ _ _ success_of_tags success_is_own success_of-part
-
-failed-part : IsPart failed_format
-unfolding failed_format
-failed-part = as_case-part _ _ _ failed (optional-part enumerations _ enumeration_kind)
-
--- a success is no failure, as 0 is no operation
-success_status : (asked : Option ℕ) (batch : List Node) (o : Outcome) → (success_format asked).Says batch o → status_of o ≡ STATUS_SUCCESS
-unfolding success_format success_of_format
-success_status asked batch (Created uid) says = refl
-success_status asked batch (Located uids) says = refl
-success_status asked batch (Attributes uid attrs) says = refl
-success_status asked batch (Activated uid) says = refl
-success_status asked batch (Revoked uid) says = refl
-success_status asked batch (Destroyed uid) says = refl
-success_status asked batch (Failed reason) says = let known : is_operation 0 ≡ true = says.1.0 in absurd cc
-
-failed_status : (batch : List Node) (o : Outcome) → failed_format.Says batch o → status_of o ≡ STATUS_OPERATION_FAILED
-unfolding failed_format
-failed_status batch o (reason, _, same) = ap status_of (sym same)
-
-second : (x y : Bool) → (x || y) ≡ true → x ≡ false → y ≡ true
-second true y e d = absurd cc
-second false y e d = e
-
--- the status of what is said is the one that was read
-own_status : (asked : Option ℕ) (status : ℕ) (batch : List Node) (o : Outcome) → is_status status ≡ true
-    → Chosen (status == STATUS_SUCCESS) ((success_format asked).Says batch o) (failed_format.Says batch o) → status_of o ≡ status
-own_status asked status batch o known says =
-    chosen (status == STATUS_SUCCESS) says
-    (λ is success. success_status asked batch o success ∙ sym (eqb-true status STATUS_SUCCESS is))
-    (λ other failure. failed_status batch o failure ∙ sym (eqb-true status STATUS_OPERATION_FAILED (second _ _ known other)))
-
-outcome_tags : (asked : Option ℕ) → (outcome_format asked).tags ≡ TAG_RESULT_STATUS ∷ TAG_RESPONSE_PAYLOAD ∷ TAG_RESPONSE_PAYLOAD ∷ TAG_RESULT_REASON ∷ []
-unfolding outcome_format
-outcome_tags asked = refl
-
-status_tags : (asked : Option ℕ) (b : Bool) → (choose b (success_format asked) failed_format).tags ≡ TAG_RESPONSE_PAYLOAD ∷ TAG_RESPONSE_PAYLOAD ∷ TAG_RESULT_REASON ∷ []
-unfolding success_format failed_format
-status_tags asked b = refl
-
-outcome-part : (asked : Option ℕ) → IsPart (outcome_format asked)
-unfolding outcome_format
-outcome-part asked = said_record-part _ _ _ (λ ns p says. ap (λ s. (s, p.1)) (own_status asked p.0 ns p.1 says.0.1 says.1)) (λ o. refl)
-    (followed-part _ _ _ refl (λ status. status_tags asked (status == STATUS_SUCCESS)) (ranged-part _ _ _ (required-part enumerations _ enumeration_kind))
-    (λ status. choose-part _ _ _ (success-part asked) failed-part))
-
--- ---- the version, and the Batch Item
-
-pub any_version_parts-part : IsPart any_version_parts_format
-unfolding any_version_parts_format
-any_version_parts-part = fixed-part _ _ _ _ refl refl (both-part _ _ refl (required-part integers _ integer_kind) (required-part integers _ integer_kind))
-
-pub answered-good : IsGood answered_format
-unfolding answered_format id_format
-answered-good = as_record-good _ _ _ (λ ns p says. refl) (λ r. refl)
-    (followed-part _ _ _ refl (λ known. outcome_tags known.0) (reversed-part _ _ refl (optional-part enumerations _ enumeration_kind) id_part)
-    (λ known. outcome-part known.0)).good
-
--- ---- a reply in its ranges is one that the formats can say
-
-both : (a b : Bool) → a ≡ true → b ≡ true → (a && b) ≡ true
-both a b p q = rw (p, q) refl
-
-name_fits_any : (o : Option (List ℕ)) → option_map_or any_name_parts_format.fits o true ≡ true
-unfolding any_name_parts_format
-name_fits_any None = refl
-name_fits_any (Some text) = refl
-
-attrs_fit_any : (a : Attrs) → attrs_format.fits a ≡ true
-unfolding attrs_format
-attrs_fit_any a = both (option_map_or any_name_parts_format.fits a.name true) true (name_fits_any a.name) refl
-
-payload_fits : (o : Outcome) (asked : Option ℕ) → outcome_fits asked o ≡ true → (outcome_format asked).fits o ≡ true
-unfolding outcome_format success_format success_of_format answer_format located_format identifiers_format created_format object_format identifier_format failed_format
-payload_fits (Created uid) asked fits = fits
-payload_fits (Located uids) asked fits = fits
-payload_fits (Attributes uid attrs) asked fits =
-    let each = and_parts (is_own OPERATION_GET_ATTRIBUTES asked) (is_identifier uid) fits in
-    both (is_own OPERATION_GET_ATTRIBUTES asked) (is_identifier uid && attrs_format.fits attrs) each.0 (both (is_identifier uid) (attrs_format.fits attrs) each.1 (attrs_fit_any attrs))
-payload_fits (Activated uid) asked fits = fits
-payload_fits (Revoked uid) asked fits = fits
-payload_fits (Destroyed uid) asked fits = fits
-payload_fits (Failed reason) asked fits = refl
-
-pub answer_in_format : (r : Reply) → answer_fits r ≡ true → answered_format.fits r ≡ true
-unfolding answered_format id_format
-answer_in_format r fits =
-    let parts = and_parts (option_map_or is_batch_id r.id true) (outcome_fits r.operation r.outcome) fits in
-    both _ ((outcome_format r.operation).fits r.outcome) parts.0 (payload_fits r.outcome r.operation parts.1)
+-- The written form of some replies, at any time, gives them.
+pub replies_written : (rs : List Reply) (now : ℤ) → IsTrue (may_have (length rs)) → list_all answer_fits rs ≡ true → AreReplies rs (replies_item rs now)
+unfolding reply_header_format reply_header_parts_format any_version_parts_format
+replies_written rs now within fit =
+    let says = part_stands (reply_header_format now) answered_format.write (pos (length rs)) rs (reply_header-part now) refl refl in
+    let stand = items_stand (reply_header_format now) answered_format.write (pos (length rs)) rs (reply_header-part now) refl in
+    record {
+      message = (reply_header_format now).write (pos (length rs)) ++ map answer_item rs;
+      is_message = refl;
+      header = reply_header_is now ((reply_header_format now).write (pos (length rs)) ++ map answer_item rs) (pos (length rs)) says;
+      within = within;
+      answers = subst (λ cs. SayEach IsAnswer cs rs) (sym stand) (answers_written rs fit);
+    }

@@ -1,17 +1,11 @@
--- The values that the fields of a message may have, beside those of an object's attributes.
--- Source: KMIP 2.1, Message Structure, and Enumerations, Operation. Own (choice): the ranges.
-use Rattle.std.specs.Prelude.{ℕ, Bool, ◌||◌, ◌==◌, nat_le, List, length}
-use Rattle.kmip_messages.specs.declared.standard.TheConstants.{OPERATION_CREATE, OPERATION_LOCATE, OPERATION_GET_ATTRIBUTES, OPERATION_ACTIVATE, OPERATION_REVOKE, OPERATION_DESTROY}
+-- What is in range of a question that was read.
+-- Source: own (choice): the ranges of the fields.
+use Rattle.std.specs.Prelude.{true, IfOk, IfErr, IsTrue}
+use Rattle.std.specs.Option.{option_map_or}
+use Rattle.kmip_batch_items.specs.BatchItems.{Question}
+use Rattle.kmip_batch_items.specs.Ranges.{is_batch_id}
+use Rattle.kmip_batch_items.specs.RequestFits.{request_fits}
 
--- The most bytes of a Unique Batch Item ID. Own (limit).
-abbrev pub most_batch_id_bytes : ℕ
-most_batch_id_bytes = 128
-
--- whether these bytes may be a Unique Batch Item ID: at most 128
-abbrev pub is_batch_id : List ℕ → Bool
-is_batch_id s = nat_le (length s) most_batch_id_bytes
-
--- whether the number is one of the six operations
-abbrev pub is_operation : ℕ → Bool
-is_operation o = o == OPERATION_CREATE || o == OPERATION_LOCATE || o == OPERATION_GET_ATTRIBUTES
-    || o == OPERATION_ACTIVATE || o == OPERATION_REVOKE || o == OPERATION_DESTROY
+-- The values of a request are in their ranges, and so is a Unique Batch Item ID that a refusal carries.
+abbrev pub QuestionFits : Question → Type 0
+QuestionFits q = IfOk q (λ r. IsTrue (request_fits r)) × IfErr q (λ e. IsTrue (option_map_or is_batch_id e.id true))

@@ -1,37 +1,30 @@
-//! What requests ask and what replies say, one question and one reply at a time.
+//! Messages of KMIP with one to eight Batch Items, as bytes and as values.
 //!
-//! Messages are made of Batch Items. One of a request is a question: a request, or the refusal of one.
-//! One of a reply is a reply. Each part is described once, in `item_format` and `answered_format` of
-//! specs/. How it is read, in which order, and its written form follow from that. `IsQuestion` and
-//! `IsAnswer` say by hand what the items say. It is proved in both directions that the formats say just
-//! that (`question-law`, `answer-law`).
+//! What some bytes ask is a list of one to eight questions: `parts_in` of specs/, with what is refused,
+//! and `requests_in` without it. What they say is a list of at most eight replies, `replies_in`. Each is
+//! what kmip_batch_items says of one Batch Item (`IsQuestion`, `IsAnswer`). The server, the client, the
+//! links and all that is said of runs stand on these lists.
 //!
-//! Source: KMIP 2.1, Message Structure and Operations. The profile is in docs/DECISIONS.md.
+//! The module `laws` has public functions that do nothing. Their contracts are laws over the
+//! definitions, for whoever proves something above. Other crates have such modules, too.
+//!
+//! Source: KMIP 2.1, Message Structure. The profile is in docs/DECISIONS.md.
 #![tactic(auto)]
 
-pub mod attributes;
-mod building;
+mod batch;
 mod fitting;
-mod parts;
-mod ranges;
-mod refusal;
-mod reply;
+pub mod laws;
+mod members;
 mod reply_reading;
 mod reply_writing;
-mod request;
 mod request_reading;
 mod request_writing;
-pub mod standard;
 
-pub use building::{push, push_enumeration, version_item};
-pub use fitting::{answer_fits, answer_size, request_fits};
-pub use kmip_fields::MessageFault;
-pub use kmip_objects::{Attrs, KeyAttrs, KeyState, Step, Texts};
-pub use parts::{message_of, whole_item};
-pub use refusal::Refusal;
-pub use reply::{Outcome, Reply};
-pub use reply_reading::read_answer;
-pub use reply_writing::write_answer;
-pub use request::{Ask, Request};
-pub use request_reading::{is_version, read_question};
-pub use request_writing::write_question;
+pub use batch::{Batch, Questions};
+pub use fitting::{reply_fits, request_fits};
+pub use kmip_batch_items::{Ask, MessageFault, Outcome, Refusal, Reply, Request};
+pub use kmip_objects::{Attrs, KeyAttrs, KeyState, attrs_fit};
+pub use reply_reading::read_reply;
+pub use reply_writing::write_reply;
+pub use request_reading::read_request;
+pub use request_writing::write_request;

@@ -1,215 +1,122 @@
-//! Replies from bytes.
-ghost use Rattle.std.specs.Prelude.{◌≡◌};
-ghost use Rattle.kmip_ttlv.specs.Node.{content_of};
+//! Replies, from bytes.
+ghost use Rattle.std.specs.Prelude.{◌≡◌, ℤ, pos, false, List, [], Ok, IsTrue, IfOk, IfErr};
+ghost use Rattle.std.specs.List.{All};
+ghost use Rattle.kmip_ttlv.specs.Fitting.{IsInRange};
+ghost use Rattle.kmip_ttlv.specs.Node.{Node, content_of};
+ghost use Rattle.kmip_ttlv.specs.Spelling.{canon, Spells};
 ghost use Rattle.kmip_ttlv.specs.View.{view, views};
-ghost use Rattle.kmip_objects.specs.Ranges.{is_identifier};
-ghost use Rattle.kmip_fields.specs.Formats.{texts, value_in, optional_structure};
-ghost use Rattle.kmip_fields.specs.Reading.{Gives};
-ghost use Rattle.kmip_messages.specs.ReplyFormats.{
-  any_name_parts_format,
-  identifiers_format,
-  object_format,
-  answer_format,
-  located_format,
-  success_of_format,
-  success_format,
-  failed_format,
-  is_status,
-  outcome_format,
-  answered_format,
-};
+ghost use Rattle.kmip_batch_items.specs.Faults.{is_no_memory};
+ghost use Rattle.kmip_batch_items.specs.Reading.{Gives};
+ghost use Rattle.kmip_batch_items.specs.Siblings.{contents};
+ghost use Rattle.kmip_batch_items.specs.declared.reply.Reply.{Reply};
+ghost use Rattle.kmip_batch_items.specs.BatchItems.{answer_fits};
+ghost use Rattle.kmip_batch_items.specs.ReplyFormats.{answered_format};
+ghost use Rattle.kmip_messages.specs.Batches.{AreReplies, replies_at, replies_read};
+ghost use Rattle.kmip_messages.specs.Headers.{reply_header_format};
+ghost use Rattle.kmip_messages.specs.Items.{replies_in};
+ghost use Rattle.kmip_messages.specs.Members.{member_in, members_in};
+ghost use Rattle.kmip_messages.specs.Written.{replies_item, replies_fit};
 
-use crate::attributes::attrs_of;
-use crate::parts::{id_of, identifier_of};
-use crate::ranges::is_operation;
-use crate::reply::{Outcome, Reply};
-use crate::standard::{
-    NAME_TYPE_UNINTERPRETED_TEXT_STRING, OPERATION_ACTIVATE, OPERATION_CREATE,
-    OPERATION_GET_ATTRIBUTES, OPERATION_LOCATE, OPERATION_REVOKE, STATUS_OPERATION_FAILED,
-    STATUS_SUCCESS, TAG_ATTRIBUTES, TAG_NAME, TAG_NAME_TYPE, TAG_NAME_VALUE, TAG_OPERATION,
-    TAG_RESPONSE_PAYLOAD, TAG_RESULT_REASON, TAG_RESULT_STATUS, TAG_UNIQUE_IDENTIFIER,
+use crate::members::{all_structures, count_of, is_count};
+use kmip_batch_items::standard::{
+    TAG_BATCH_COUNT, TAG_BATCH_ITEM, TAG_PROTOCOL_VERSION, TAG_PROTOCOL_VERSION_MAJOR,
+    TAG_PROTOCOL_VERSION_MINOR, TAG_RESPONSE_HEADER, TAG_RESPONSE_MESSAGE, VERSION_MAJOR,
 };
-use kmip_fields::{
-    MessageFault, check, enumeration_if_any, structure_if_any, the_enumeration, the_structure,
-    the_text, within,
+use kmip_batch_items::{
+    MessageFault, Reply, check, message_of, read_answer, the_integer, the_structure, whole_item,
 };
-use kmip_objects::{Attrs, Texts, is_identifier};
-use kmip_ttlv::{Item, Tag, Text};
+use kmip_ttlv::{Item, Tag};
 use std::alloc::Global;
 
-/// The reply that the items of a Batch Item are.
+/// The replies of the message that all the bytes are, in their order.
 ///
 /// # Errors
-/// The first fault of the items, and `NoMemory` at want of memory.
-#[tactic(auto, unfolding(crate::specs::ReplyFormats::answered_format))]
-pub fn read_answer(alloc: Global, batch: &[Item]) -> Result<Reply, MessageFault>
-    ensures { Gives (λ r. r) result (answered_format.read (views batch.now)) }
+/// The first fault of the message or of one of its replies, which refuses the message whole, and
+/// `NoMemory` at want of memory.
+pub fn read_reply(alloc: Global, bytes: &[u8]) -> Result<Vec<Reply>, MessageFault>
+    // What is read are the replies of a Response Message that all the bytes spell, one to eight.
+    ensures found { IfOk result (λ v. (n : Node) × Spells n bytes.now × AreReplies v.items n) }
+    // Such replies are read, and no others, unless memory runs out.
+    ensures only { (rs : List Reply) (n : Node) → Spells n bytes.now → AreReplies rs n
+        → Gives (λ v. v.items) result (Ok rs) }
+    // What was written, at any time, is read back, unless memory runs out.
+    ensures back { (rs : List Reply) (now : ℤ) → IsTrue (replies_fit rs)
+        → IsInRange (replies_item rs now) → bytes.now ≡ canon (replies_item rs now)
+        → Gives (λ v. v.items) result (Ok rs) }
+    // It returns what `replies_read` gives, the replies or the first check that fails, unless memory ran out.
+    ensures exact { Gives (λ v. v.items) result (replies_read bytes.now) }
+    // Each reply is in its ranges, and each success stands under its own operation.
+    ensures fits { IfOk result (λ v. All (λ r. IsTrue (answer_fits r)) v.items) }
+    // The bytes say these replies, in their order.
+    ensures says { IfOk result (λ v. replies_in bytes.now ≡ v.items) }
+    // Bytes that are refused, but for want of memory, say nothing.
+    ensures refused { IfErr result (λ e. is_no_memory e ≡ false → replies_in bytes.now
+        ≡ []) }
 {
-    let id = id_of(alloc, batch)?;
-    let operation = enumeration_if_any(batch, TAG_OPERATION)?;
-    let outcome = outcome_of(alloc, operation, batch)?;
-    Ok(Reply {
-        operation,
-        id,
-        outcome,
-    })
+    whole_replies(alloc, bytes)
 }
 
-/// How the operation went.
-#[tactic(auto, unfolding(crate::specs::ReplyFormats::outcome_format))]
-fn outcome_of(
-    alloc: Global,
-    operation: Option<u32>,
-    batch: &[Item],
-) -> Result<Outcome, MessageFault>
-    ensures { Gives (λ o. o) result ((outcome_format operation).read (views batch.now)) }
+/// The same, by the order of the checks.
+#[tactic(auto, unfolding(crate::specs::Batches::replies_read))]
+fn whole_replies(alloc: Global, bytes: &[u8]) -> Result<Vec<Reply>, MessageFault>
+    ensures { Gives (λ v. v.items) result (replies_read bytes.now) }
 {
-    let status = the_enumeration(batch, TAG_RESULT_STATUS)?;
-    within(TAG_RESULT_STATUS, is_status(status))?;
-    if status == STATUS_SUCCESS {
-        let outcome = success_of(alloc, operation, batch)?;
-        Ok(outcome)
-    } else {
-        let outcome = failure_of(batch)?;
-        Ok(outcome)
+    let item = whole_item(alloc, bytes)?;
+    let replies = replies_of(alloc, &item)?;
+    Ok(replies)
+}
+
+/// The replies of the message that an item is.
+#[tactic(auto, unfolding(crate::specs::Batches::replies_at, crate::specs::Members::members_at))]
+fn replies_of(alloc: Global, item: &Item) -> Result<Vec<Reply>, MessageFault>
+    ensures { Gives (λ v. v.items) result (replies_at (view item.now)) }
+{
+    let message = message_of(item, TAG_RESPONSE_MESSAGE)?;
+    let count = header_of(message)?;
+    check(is_count(count, count_of(message)), MessageFault::BatchCount)?;
+    all_structures(message)?;
+    let replies = answers_of(alloc, message)?;
+    Ok(replies)
+}
+
+/// The count of a reply's header, whose version is 2 with any minor number.
+#[tactic(auto, unfolding(crate::specs::Headers::reply_header_format, crate::specs::Headers::reply_header_parts_format, kmip_batch_items::specs::ReplyFormats::any_version_parts_format))]
+fn header_of(message: &[Item]) -> Result<i32, MessageFault>
+    ensures { Gives (λ n. n) result ((reply_header_format (pos 0)).read (views message.now)) }
+{
+    let header = the_structure(message, TAG_RESPONSE_HEADER)?;
+    let version = the_structure(header, TAG_PROTOCOL_VERSION)?;
+    let major = the_integer(version, TAG_PROTOCOL_VERSION_MAJOR)?;
+    the_integer(version, TAG_PROTOCOL_VERSION_MINOR)?;
+    check(major == VERSION_MAJOR, MessageFault::Version)?;
+    let count = the_integer(header, TAG_BATCH_COUNT)?;
+    Ok(count)
+}
+
+/// The replies of the Batch Items of a message, in their order.
+fn answers_of(alloc: Global, message: &[Item]) -> Result<Vec<Reply>, MessageFault>
+    ensures { Gives (λ v. v.items) result
+        (members_in answered_format.read (contents TAG_BATCH_ITEM (views message.now))) }
+{
+    let mut replies = Vec::new(alloc);
+    for item in message {
+        if item.tag().number() == TAG_BATCH_ITEM {
+            let reply = answer_in(alloc, item)?;
+            replies.push(reply)?;
+        }
     }
+    Ok(replies)
 }
 
-fn is_status(status: u32) -> bool
-    ensures { result ≡ is_status status }
+/// The reply that a Batch Item is.
+#[tactic(auto, unfolding(crate::specs::Members::member_in))]
+fn answer_in(alloc: Global, item: &Item) -> Result<Reply, MessageFault>
+    ensures { Gives (λ r. r) result
+        (member_in answered_format.read (content_of (view item.now))) }
 {
-    status == STATUS_SUCCESS || status == STATUS_OPERATION_FAILED
-}
-
-/// A failure, with its reason where there is one.
-#[tactic(auto, unfolding(crate::specs::ReplyFormats::failed_format))]
-fn failure_of(batch: &[Item]) -> Result<Outcome, MessageFault>
-    ensures { Gives (λ o. o) result (failed_format.read (views batch.now)) }
-{
-    let reason = enumeration_if_any(batch, TAG_RESULT_REASON)?;
-    Ok(Outcome::Failed(reason))
-}
-
-/// A success of this operation, which has to be one of the six.
-#[tactic(auto, unfolding(crate::specs::ReplyFormats::success_format, crate::specs::ReplyFormats::success_of_format))]
-fn success_of(
-    alloc: Global,
-    operation: Option<u32>,
-    batch: &[Item],
-) -> Result<Outcome, MessageFault>
-    ensures { Gives (λ o. o) result ((success_format operation).read (views batch.now)) }
-{
-    let Some(operation) = operation else {
-        return Err(MessageFault::Missing(Tag::new(TAG_OPERATION)));
+    let Some(parts) = item.as_structure() else {
+        return Err(MessageFault::WrongType(Tag::new(TAG_BATCH_ITEM)));
     };
-    check(is_operation(operation), MessageFault::UnknownOperation)?;
-    if operation == OPERATION_LOCATE {
-        let outcome = located_of(alloc, batch)?;
-        Ok(outcome)
-    } else {
-        let payload = the_structure(batch, TAG_RESPONSE_PAYLOAD)?;
-        let outcome = answer_of(alloc, operation, payload)?;
-        Ok(outcome)
-    }
-}
-
-/// The identifiers that a Locate found; without a payload none.
-#[tactic(auto, unfolding(crate::specs::ReplyFormats::located_format))]
-fn located_of(alloc: Global, batch: &[Item]) -> Result<Outcome, MessageFault>
-    ensures { Gives (λ o. o) result (located_format.read (views batch.now)) }
-{
-    match structure_if_any(batch, TAG_RESPONSE_PAYLOAD)? {
-        None => Ok(Outcome::Located(Texts::new(alloc))),
-        Some(payload) => {
-            let uids = identifiers_of(alloc, payload)?;
-            Ok(Outcome::Located(uids))
-        }
-    }
-}
-
-/// The Unique Identifiers of a payload, of which there may be any number.
-#[tactic(auto, unfolding(crate::specs::ReplyFormats::identifiers_format))]
-fn identifiers_of(alloc: Global, payload: &[Item]) -> Result<Texts, MessageFault>
-    ensures { Gives (λ t. t) result (identifiers_format.read (views payload.now)) }
-{
-    let mut uids = Vec::new(alloc);
-    for item in payload {
-        if item.tag().number() == TAG_UNIQUE_IDENTIFIER {
-            let uid = identifier_in(alloc, item)?;
-            uids.push(uid)?;
-        }
-    }
-    Ok(Texts::from_vec(uids))
-}
-
-/// The identifier that an item is.
-#[tactic(auto, unfolding(kmip_fields::specs::Formats::value_in))]
-fn identifier_in(alloc: Global, item: &Item) -> Result<Text, MessageFault>
-    ensures { Gives (λ t. t) result
-        (value_in texts TAG_UNIQUE_IDENTIFIER is_identifier (content_of (view item.now))) }
-{
-    let Some(uid) = item.as_text_string() else {
-        return Err(MessageFault::WrongType(Tag::new(TAG_UNIQUE_IDENTIFIER)));
-    };
-    within(TAG_UNIQUE_IDENTIFIER, is_identifier(uid))?;
-    let uid = Text::copied(alloc, uid)?;
-    Ok(uid)
-}
-
-/// What the payload of an operation other than Locate says.
-#[tactic(auto, unfolding(crate::specs::ReplyFormats::answer_format, crate::specs::ReplyFormats::created_format))]
-fn answer_of(alloc: Global, operation: u32, payload: &[Item]) -> Result<Outcome, MessageFault>
-    ensures { Gives (λ o. o) result ((answer_format operation).read (views payload.now)) }
-{
-    match operation {
-        OPERATION_CREATE => {
-            let uid = identifier_of(alloc, payload)?;
-            Ok(Outcome::Created(uid))
-        }
-        OPERATION_GET_ATTRIBUTES => {
-            let (uid, attrs) = object_of(alloc, payload)?;
-            Ok(Outcome::Attributes(uid, attrs))
-        }
-        OPERATION_ACTIVATE => {
-            let uid = identifier_of(alloc, payload)?;
-            Ok(Outcome::Activated(uid))
-        }
-        OPERATION_REVOKE => {
-            let uid = identifier_of(alloc, payload)?;
-            Ok(Outcome::Revoked(uid))
-        }
-        _ => {
-            let uid = identifier_of(alloc, payload)?;
-            Ok(Outcome::Destroyed(uid))
-        }
-    }
-}
-
-/// The identifier and the attributes that a Get Attributes answers.
-#[tactic(auto, unfolding(crate::specs::ReplyFormats::object_format))]
-fn object_of(alloc: Global, payload: &[Item]) -> Result<(Text, Attrs), MessageFault>
-    ensures { Gives (λ p. p) result (object_format.read (views payload.now)) }
-{
-    let uid = identifier_of(alloc, payload)?;
-    let attributes = the_structure(payload, TAG_ATTRIBUTES)?;
-    let attrs = attrs_of(alloc, attributes)?;
-    Ok((uid, attrs))
-}
-
-/// The Name Value, of any text, where there is a Name.
-#[tactic(auto, unfolding(crate::specs::ReplyFormats::any_name_parts_format))]
-pub(crate) fn any_name_of(alloc: Global, attributes: &[Item]) -> Result<Option<Text>, MessageFault>
-    ensures { Gives (λ o. o) result
-        ((optional_structure TAG_NAME any_name_parts_format).read (views attributes.now)) }
-{
-    match structure_if_any(attributes, TAG_NAME)? {
-        None => Ok(None),
-        Some(parts) => {
-            let value = the_text(parts, TAG_NAME_VALUE)?;
-            let kind = the_enumeration(parts, TAG_NAME_TYPE)?;
-            within(TAG_NAME_TYPE, kind == NAME_TYPE_UNINTERPRETED_TEXT_STRING)?;
-            let name = Text::copied(alloc, value)?;
-            Ok(Some(name))
-        }
-    }
+    let reply = read_answer(alloc, parts)?;
+    Ok(reply)
 }

@@ -1,144 +1,64 @@
 //! Replies to bytes.
-ghost use Rattle.std.specs.Prelude.{◌≡◌, ◌++◌, ◌∷◌, [], None, IfOk, OnOk};
-ghost use Rattle.kmip_fields.specs.Formats.{inside};
-ghost use Rattle.kmip_messages.specs.Parts.{identifier_format};
-ghost use Rattle.kmip_messages.specs.BatchItems.{answer_item};
-ghost use Rattle.kmip_ttlv.specs.Node.{node, enumeration};
-ghost use Rattle.kmip_ttlv.specs.View.{view, views};
-ghost use Rattle.kmip_messages.specs.ReplyFormats.{
-  created_format,
-  identifiers_format,
-  object_format,
-  outcome_format,
-  answered_format,
-};
+ghost use Rattle.std.specs.Prelude.{◌≡◌, pos, length, IsTrue, IfOk};
+ghost use Rattle.kmip_ttlv.specs.Node.{node};
+ghost use Rattle.kmip_ttlv.specs.Spelling.{canon};
+ghost use Rattle.kmip_ttlv.specs.View.{view};
+ghost use Rattle.kmip_batch_items.specs.Formats.{inside};
+ghost use Rattle.kmip_messages.specs.Headers.{reply_header_parts_format};
+ghost use Rattle.kmip_messages.specs.Items.{replies_in};
+ghost use Rattle.kmip_messages.specs.Members.{may_have};
+ghost use Rattle.kmip_messages.specs.Written.{replies_item, replies_fit};
 
-use crate::attributes::attrs_item;
-use crate::building::{push, push_enumeration, push_id, uid_item};
-use crate::reply::{Outcome, Reply};
-use crate::standard::{
-    STATUS_OPERATION_FAILED, STATUS_SUCCESS, TAG_BATCH_ITEM, TAG_OBJECT_TYPE, TAG_OPERATION,
-    TAG_RESPONSE_PAYLOAD, TAG_RESULT_REASON, TAG_RESULT_STATUS,
-};
-use kmip_objects::Attrs;
-use kmip_objects::standard::OBJECT_TYPE_SYMMETRIC_KEY;
-use kmip_ttlv::{Item, NoMemory, Tag, Text};
+use crate::members::count_item;
+use kmip_batch_items::standard::{TAG_RESPONSE_HEADER, TAG_RESPONSE_MESSAGE, TAG_TIME_STAMP};
+use kmip_batch_items::{Reply, push, version_item, write_answer};
+use kmip_ttlv::{Item, NoMemory, Tag, write};
 use std::alloc::Global;
 
-/// The Batch Item that is the written form of a reply.
+/// The bytes of one message with these replies, in their order. It is written at `now`, in seconds
+/// since the start of 1970.
 ///
 /// # Errors
-/// Where there is no memory for it.
-#[tactic(auto, unfolding(crate::specs::ReplyFormats::answered_format, crate::specs::ReplyFormats::outcome_format, crate::specs::ReplyFormats::success_format, crate::specs::Parts::id_format))]
-pub fn write_answer(alloc: Global, reply: &Reply) -> Result<Item, NoMemory>
-    ensures { IfOk result (λ i. view i ≡ answer_item reply.now) }
+/// Where there is no memory for them.
+pub fn write_reply(alloc: Global, replies: &[Reply], now: i64) -> Result<Vec<u8>, NoMemory>
+    // The replies are one to eight, in their ranges and not too long together, as `reply_fits` tells.
+    requires { IsTrue (replies_fit replies.now) }
+    // The bytes are exactly the written form of `replies_item` at this time.
+    ensures bytes { IfOk result (λ v. v.items ≡ canon (replies_item replies.now now)) }
+    // The bytes say just these replies, in their order.
+    ensures says { IfOk result (λ v. replies_in v.items ≡ replies.now) }
 {
+    let item = message_item(alloc, replies, now)?;
+    let mut out = Vec::new(alloc);
+    write(&item, &mut out)?;
+    Ok(out)
+}
+
+/// The Response Message of the replies.
+#[tactic(auto, unfolding(crate::specs::Headers::reply_header_format))]
+fn message_item(alloc: Global, replies: &[Reply], now: i64) -> Result<Item, NoMemory>
+    requires { IsTrue (may_have (length replies.now)) }
+    ensures { IfOk result (λ i. view i ≡ replies_item replies.now now) }
+{
+    let header = header_item(alloc, replies.len(), now)?;
     let mut items = Vec::new(alloc);
-    push_enumeration(&mut items, TAG_OPERATION, reply.operation)?;
-    push_id(alloc, &mut items, &reply.id)?;
-    push_outcome(alloc, &mut items, &reply.outcome)?;
-    Ok(Item::structure(Tag::new(TAG_BATCH_ITEM), items))
-}
-
-/// Puts the status at the end, and then the reason or the payload.
-#[tactic(auto, unfolding(crate::specs::ReplyFormats::outcome_format, crate::specs::ReplyFormats::success_format, crate::specs::ReplyFormats::success_of_format, crate::specs::ReplyFormats::answer_format, crate::specs::ReplyFormats::located_format, crate::specs::ReplyFormats::failed_format))]
-fn push_outcome(alloc: Global, items: &mut Vec<Item>, outcome: &Outcome) -> Result<(), NoMemory>
-    ensures { OnOk result
-        (views items.new.items ≡ views items.old.items
-        ++ (outcome_format None).write outcome.now) }
-{
-    match outcome {
-        Outcome::Created(uid) => {
-            let payload = created_items(alloc, uid)?;
-            push_success(items, payload)?;
-            Ok(())
-        }
-        Outcome::Located(uids) => {
-            let payload = located_items(alloc, uids.as_slice())?;
-            push_success(items, payload)?;
-            Ok(())
-        }
-        Outcome::Attributes(uid, attrs) => {
-            let payload = attributes_items(alloc, uid, attrs)?;
-            push_success(items, payload)?;
-            Ok(())
-        }
-        Outcome::Activated(uid) | Outcome::Revoked(uid) | Outcome::Destroyed(uid) => {
-            let payload = identifier_items(alloc, uid)?;
-            push_success(items, payload)?;
-            Ok(())
-        }
-        Outcome::Failed(reason) => {
-            push(
-                items,
-                Item::enumeration(Tag::new(TAG_RESULT_STATUS), STATUS_OPERATION_FAILED),
-            )?;
-            push_enumeration(items, TAG_RESULT_REASON, *reason)?;
-            Ok(())
-        }
-    }
-}
-
-/// Puts the status Success and a payload of these items at the end.
-fn push_success(items: &mut Vec<Item>, payload: Vec<Item>) -> Result<(), NoMemory>
-    ensures { OnOk result
-        (views items.new.items ≡ views items.old.items
-        ++ node TAG_RESULT_STATUS (enumeration STATUS_SUCCESS)
-        ∷ node TAG_RESPONSE_PAYLOAD (inside (views payload.items)) ∷ []) }
-{
-    push(
-        items,
-        Item::enumeration(Tag::new(TAG_RESULT_STATUS), STATUS_SUCCESS),
-    )?;
-    push(
-        items,
-        Item::structure(Tag::new(TAG_RESPONSE_PAYLOAD), payload),
-    )?;
-    Ok(())
-}
-
-/// The payload of a Create.
-#[tactic(auto, unfolding(crate::specs::ReplyFormats::created_format, crate::specs::Parts::identifier_format))]
-fn created_items(alloc: Global, uid: &Text) -> Result<Vec<Item>, NoMemory>
-    ensures { IfOk result (λ v. views v.items ≡ created_format.write uid.now) }
-{
-    let object_type = Item::enumeration(Tag::new(TAG_OBJECT_TYPE), OBJECT_TYPE_SYMMETRIC_KEY);
-    let uid = uid_item(alloc, uid)?;
-    let items = vec![in alloc; object_type, uid]?;
-    Ok(items)
-}
-
-/// The payload of a Locate.
-#[tactic(auto, unfolding(crate::specs::ReplyFormats::identifiers_format, crate::specs::Parts::identifier_format))]
-fn located_items(alloc: Global, uids: &[Text]) -> Result<Vec<Item>, NoMemory>
-    ensures { IfOk result (λ v. views v.items ≡ identifiers_format.write uids.now) }
-{
-    let mut items = Vec::new(alloc);
-    for uid in uids {
-        let item = uid_item(alloc, uid)?;
+    push(&mut items, header)?;
+    for reply in replies {
+        let item = write_answer(alloc, reply)?;
         push(&mut items, item)?;
     }
-    Ok(items)
+    Ok(Item::structure(Tag::new(TAG_RESPONSE_MESSAGE), items))
 }
 
-/// The payload of a Get Attributes.
-#[tactic(auto, unfolding(crate::specs::ReplyFormats::object_format, crate::specs::Parts::identifier_format))]
-fn attributes_items(alloc: Global, uid: &Text, attrs: &Attrs) -> Result<Vec<Item>, NoMemory>
-    ensures { IfOk result (λ v. views v.items
-        ≡ object_format.write (uid.now, attrs.now)) }
+/// The Response Header of this many replies: version 2.1, the time, and their number.
+#[tactic(auto, unfolding(crate::specs::Headers::reply_header_parts_format))]
+fn header_item(alloc: Global, there: usize, now: i64) -> Result<Item, NoMemory>
+    requires { IsTrue (may_have there) }
+    ensures { IfOk result (λ i. view i ≡ node TAG_RESPONSE_HEADER
+        (inside ((reply_header_parts_format now).write (pos there)))) }
 {
-    let uid = uid_item(alloc, uid)?;
-    let attrs = attrs_item(alloc, attrs)?;
-    let items = vec![in alloc; uid, attrs]?;
-    Ok(items)
-}
-
-/// The payload of the operations that answer with an identifier alone.
-#[tactic(auto, unfolding(crate::specs::Parts::identifier_format))]
-fn identifier_items(alloc: Global, uid: &Text) -> Result<Vec<Item>, NoMemory>
-    ensures { IfOk result (λ v. views v.items ≡ identifier_format.write uid.now) }
-{
-    let uid = uid_item(alloc, uid)?;
-    let items = vec![in alloc; uid]?;
-    Ok(items)
+    let version = version_item(alloc)?;
+    let time = Item::date_time(Tag::new(TAG_TIME_STAMP), now);
+    let items = vec![in alloc; version, time, count_item(there)]?;
+    Ok(Item::structure(Tag::new(TAG_RESPONSE_HEADER), items))
 }

@@ -1,209 +1,154 @@
-//! Requests from bytes.
-ghost use Rattle.std.specs.Prelude.{◌≡◌, ◌<◌, ◌&&◌, true, IsTrue, IfOk, IfErr};
+//! The questions of a request, from bytes.
+ghost use Rattle.std.specs.Prelude.{◌≡◌, true, false, List, [], ◌∷◌, Ok, Err, IsTrue, IfOk, IfErr};
+ghost use Rattle.std.specs.List.{All};
 ghost use Rattle.std.specs.Option.{option_map_or};
-ghost use Rattle.std.specs.Ordering.{int_eq};
-ghost use Rattle.kmip_ttlv.specs.View.{views};
-ghost use Rattle.kmip_messages.specs.BatchItems.{question_at};
-ghost use Rattle.kmip_objects.specs.Ranges.{is_name, attrs_fit};
-ghost use Rattle.kmip_messages.specs.Ranges.{is_batch_id};
-ghost use Rattle.kmip_messages.specs.RequestFits.{ask_fits, request_fits};
-ghost use Rattle.kmip_fields.specs.Reading.{Gives};
-ghost use Rattle.kmip_messages.specs.RequestFormats.{
-  name_format,
-  key_attrs_format,
-  create_format,
-  locate_format,
-  revoke_format,
-  payload_format,
-  asked_format,
-};
+ghost use Rattle.kmip_ttlv.specs.Fitting.{IsInRange};
+ghost use Rattle.kmip_ttlv.specs.Node.{Node, content_of};
+ghost use Rattle.kmip_ttlv.specs.Spelling.{canon, Spells};
+ghost use Rattle.kmip_ttlv.specs.View.{view, views};
+ghost use Rattle.kmip_batch_items.specs.Faults.{is_no_memory};
+ghost use Rattle.kmip_batch_items.specs.Reading.{Gives};
+ghost use Rattle.kmip_batch_items.specs.Siblings.{contents};
+ghost use Rattle.kmip_batch_items.specs.declared.request.Request.{Request};
+ghost use Rattle.kmip_batch_items.specs.BatchItems.{question_at};
+ghost use Rattle.kmip_messages.specs.declared.batch.Batch.{Batch};
+ghost use Rattle.kmip_messages.specs.Batches.{is_undo, IsBatch, batch_at, batch_read};
+ghost use Rattle.kmip_messages.specs.Headers.{is_option, header_format};
+ghost use Rattle.kmip_messages.specs.Items.{refusal_of, parts_in, stops_with, stops_in};
+ghost use Rattle.kmip_messages.specs.Members.{member_in, members_in};
+ghost use Rattle.kmip_messages.specs.Ranges.{QuestionFits};
+ghost use Rattle.kmip_messages.specs.Written.{requests_item, batch_of, requests_fit};
 
-use crate::attributes::filter_of;
-use crate::parts::{id_of, identifier_of};
-use crate::ranges::is_operation;
-use crate::refusal::Refusal;
-use crate::request::{Ask, Request};
-use crate::standard::{
-    NAME_TYPE_UNINTERPRETED_TEXT_STRING, OPERATION_ACTIVATE, OPERATION_CREATE,
-    OPERATION_GET_ATTRIBUTES, OPERATION_LOCATE, OPERATION_REVOKE, TAG_ATTRIBUTES,
-    TAG_CRYPTOGRAPHIC_ALGORITHM, TAG_CRYPTOGRAPHIC_LENGTH, TAG_CRYPTOGRAPHIC_USAGE_MASK, TAG_NAME,
-    TAG_NAME_TYPE, TAG_NAME_VALUE, TAG_OBJECT_TYPE, TAG_OPERATION, TAG_REQUEST_PAYLOAD,
-    TAG_REVOCATION_REASON, TAG_REVOCATION_REASON_CODE, TAG_STORAGE_STATUS_MASK, VERSION_MAJOR,
-    VERSION_MINOR,
+use crate::batch::{Batch, Questions};
+use crate::members::{all_structures, count_of, is_count};
+use kmip_batch_items::standard::{
+    CONTINUE, STOP, TAG_BATCH_COUNT, TAG_BATCH_ERROR_CONTINUATION_OPTION, TAG_BATCH_ITEM,
+    TAG_PROTOCOL_VERSION, TAG_PROTOCOL_VERSION_MAJOR, TAG_PROTOCOL_VERSION_MINOR,
+    TAG_REQUEST_HEADER, TAG_REQUEST_MESSAGE, UNDO,
 };
-use kmip_fields::{
-    MessageFault, check, integer_if_any, only, the_enumeration, the_integer, the_structure,
-    the_text, within,
+use kmip_batch_items::{
+    MessageFault, Refusal, Request, check, enumeration_if_any, is_version, message_of,
+    read_question, the_integer, the_structure, whole_item, within,
 };
-use kmip_objects::standard::OBJECT_TYPE_SYMMETRIC_KEY;
-use kmip_objects::{KeyAttrs, is_algorithm, is_length, is_name, is_revocation_code, is_usage};
-use kmip_ttlv::{Item, Text};
+use kmip_ttlv::{Item, Tag};
 use std::alloc::Global;
 
-/// The question that the items of a Batch Item are: a request, or why it is refused.
+/// The questions of the request that all the bytes are.
 ///
 /// # Errors
-/// The fault of the Unique Batch Item ID or of the Operation, without which there is no question to
-/// answer, and `NoMemory` at want of memory.
-#[tactic(auto, unfolding(crate::specs::BatchItems::question_at, crate::specs::RequestFormats::known_format))]
-pub fn read_question(
-    alloc: Global,
-    batch: &[Item],
-) -> Result<Result<Request, Refusal>, MessageFault>
-    // The question is a request, or its refusal with the first fault after the Operation and the Unique Batch
-    // Item ID. There is none only where one of these is unlawful, unless memory runs out.
-    ensures exact { Gives (λ q. q) result (question_at (views batch.now)) }
-    // A request that is read is in its ranges.
-    ensures fits { IfOk result (λ q. IfOk q (λ r. IsTrue (request_fits r))) }
-    // A Unique Batch Item ID that a refusal carries is in its range.
-    ensures carries { IfOk result (λ q.
-        IfErr q (λ e. IsTrue (option_map_or is_batch_id e.id true))) }
+/// The first fault of the message, which refuses it whole, and `NoMemory` at want of memory.
+pub fn read_request(alloc: Global, bytes: &[u8]) -> Result<Batch, MessageFault>
+    // What is read are the questions of a Request Message that all the bytes spell, one to eight, with the
+    // header's option. Each is a request, or the first fault after its Operation and Unique Batch Item ID.
+    ensures found { IfOk result (λ b. (n : Node) × Spells n bytes.now × IsBatch b n) }
+    // Such questions are read, and no others, unless memory runs out.
+    ensures only { (b : Batch) (n : Node) → Spells n bytes.now → IsBatch b n
+        → Gives (λ x. x) result (Ok b) }
+    // What was written is read back, unless memory runs out.
+    ensures back { (rs : List Request) → IsTrue (requests_fit rs)
+        → IsInRange (requests_item rs) → bytes.now ≡ canon (requests_item rs)
+        → Gives (λ x. x) result (Ok (batch_of rs)) }
+    // It returns what `batch_read` gives, the questions or the first check that fails, unless memory ran out.
+    ensures exact { Gives (λ b. b) result (batch_read bytes.now) }
+    // Each request is in its ranges, and so is a Unique Batch Item ID that a refusal carries.
+    ensures fits { IfOk result (λ b. All QuestionFits b.items) }
+    // The bytes ask these questions, and the option says whether those after a failure are left.
+    ensures asks { IfOk result (λ b. (parts_in bytes.now ≡ b.items)
+        × (stops_in bytes.now ≡ stops_with b.option)) }
+    // Bytes that are refused, but for want of memory, count as one question that is refused and carries
+    // nothing. What would come after a failure counts as left.
+    ensures refused { IfErr result (λ e. is_no_memory e ≡ false
+        → (parts_in bytes.now ≡ Err (refusal_of e) ∷ []) × (stops_in bytes.now ≡ true)) }
 {
-    let id = id_of(alloc, batch)?;
-    let operation = the_enumeration(batch, TAG_OPERATION)?;
-    match ask_of(alloc, operation, batch) {
-        Ok(ask) => Ok(Ok(Request { id, ask })),
-        Err(MessageFault::NoMemory) => Err(MessageFault::NoMemory),
-        Err(fault) => Ok(Err(Refusal {
-            fault,
-            operation: Some(operation),
-            id,
-        })),
-    }
+    whole_batch(alloc, bytes)
 }
 
-/// Whether this is the Protocol Version of a request, 2.1.
-pub fn is_version(major: i32, minor: i32) -> bool
-    ensures { result ≡ (int_eq major VERSION_MAJOR && int_eq minor VERSION_MINOR) }
+/// The same, by the order of the checks.
+#[tactic(auto, unfolding(crate::specs::Batches::batch_read))]
+fn whole_batch(alloc: Global, bytes: &[u8]) -> Result<Batch, MessageFault>
+    ensures { Gives (λ b. b) result (batch_read bytes.now) }
 {
-    major == VERSION_MAJOR && minor == VERSION_MINOR
+    let item = whole_item(alloc, bytes)?;
+    let batch = batch_of(alloc, &item)?;
+    Ok(batch)
 }
 
-/// What the Batch Item with this operation asks.
-#[tactic(auto, unfolding(crate::specs::RequestFormats::asked_format))]
-fn ask_of(alloc: Global, operation: u32, batch: &[Item]) -> Result<Ask, MessageFault>
-    ensures exact { Gives (λ a. a) result ((asked_format operation).read (views batch.now)) }
-    ensures fits { IfOk result (λ a. IsTrue (ask_fits a)) }
+/// The questions of the request that an item is.
+#[tactic(auto, unfolding(crate::specs::Batches::batch_at, crate::specs::Members::members_at))]
+fn batch_of(alloc: Global, item: &Item) -> Result<Batch, MessageFault>
+    ensures { Gives (λ b. b) result (batch_at (view item.now)) }
 {
-    check(is_operation(operation), MessageFault::UnknownOperation)?;
-    let payload = the_structure(batch, TAG_REQUEST_PAYLOAD)?;
-    let ask = payload_of(alloc, operation, payload)?;
-    Ok(ask)
+    let message = message_of(item, TAG_REQUEST_MESSAGE)?;
+    let (option, count) = header_of(message)?;
+    check(is_count(count, count_of(message)), MessageFault::BatchCount)?;
+    check(!is_undo(option), MessageFault::Undo)?;
+    all_structures(message)?;
+    let items = questions_of(alloc, message)?;
+    Ok(Batch { option, items })
 }
 
-/// What the payload of one of the six operations asks.
-#[tactic(auto, unfolding(crate::specs::RequestFormats::payload_format))]
-fn payload_of(alloc: Global, operation: u32, payload: &[Item]) -> Result<Ask, MessageFault>
-    ensures exact { Gives (λ a. a) result ((payload_format operation).read (views payload.now)) }
-    ensures fits { IfOk result (λ a. IsTrue (ask_fits a)) }
+/// The option and the count of a request's header, whose version is 2.1.
+#[tactic(auto, unfolding(crate::specs::Headers::header_format, crate::specs::Headers::header_parts_format, crate::specs::Headers::option_format, kmip_batch_items::specs::RequestFormats::version_parts_format))]
+fn header_of(message: &[Item]) -> Result<(Option<u32>, i32), MessageFault>
+    ensures { Gives (λ p. p) result (header_format.read (views message.now)) }
 {
-    match operation {
-        OPERATION_CREATE => {
-            let attrs = create_of(alloc, payload)?;
-            Ok(Ask::Create(attrs))
-        }
-        OPERATION_LOCATE => {
-            let ask = locate_of(alloc, payload)?;
-            Ok(ask)
-        }
-        OPERATION_GET_ATTRIBUTES => {
-            let uid = identifier_of(alloc, payload)?;
-            Ok(Ask::GetAttributes(uid))
-        }
-        OPERATION_ACTIVATE => {
-            let uid = identifier_of(alloc, payload)?;
-            Ok(Ask::Activate(uid))
-        }
-        OPERATION_REVOKE => {
-            let ask = revoke_of(alloc, payload)?;
-            Ok(ask)
-        }
-        _ => {
-            let uid = identifier_of(alloc, payload)?;
-            Ok(Ask::Destroy(uid))
-        }
-    }
-}
-
-/// The attributes of the key that a Create asks for.
-#[tactic(auto, unfolding(crate::specs::RequestFormats::create_format))]
-fn create_of(alloc: Global, payload: &[Item]) -> Result<KeyAttrs, MessageFault>
-    ensures exact { Gives (λ k. k) result (create_format.read (views payload.now)) }
-    ensures fits { IfOk result (λ k. IsTrue (attrs_fit k)) }
-{
-    let object_type = the_enumeration(payload, TAG_OBJECT_TYPE)?;
-    within(TAG_OBJECT_TYPE, object_type == OBJECT_TYPE_SYMMETRIC_KEY)?;
-    let attributes = the_structure(payload, TAG_ATTRIBUTES)?;
-    let attrs = key_attrs_of(alloc, attributes)?;
-    Ok(attrs)
-}
-
-/// The four attributes of a new key.
-#[tactic(auto, unfolding(crate::specs::RequestFormats::key_attrs_format))]
-fn key_attrs_of(alloc: Global, attributes: &[Item]) -> Result<KeyAttrs, MessageFault>
-    ensures exact { Gives (λ k. k) result (key_attrs_format.read (views attributes.now)) }
-    ensures fits { IfOk result (λ k. IsTrue (attrs_fit k)) }
-{
-    only(
-        &[
-            TAG_NAME,
-            TAG_CRYPTOGRAPHIC_ALGORITHM,
-            TAG_CRYPTOGRAPHIC_LENGTH,
-            TAG_CRYPTOGRAPHIC_USAGE_MASK,
-        ],
-        attributes,
+    let header = the_structure(message, TAG_REQUEST_HEADER)?;
+    let version = the_structure(header, TAG_PROTOCOL_VERSION)?;
+    let major = the_integer(version, TAG_PROTOCOL_VERSION_MAJOR)?;
+    let minor = the_integer(version, TAG_PROTOCOL_VERSION_MINOR)?;
+    check(is_version(major, minor), MessageFault::Version)?;
+    let option = enumeration_if_any(header, TAG_BATCH_ERROR_CONTINUATION_OPTION)?;
+    within(
+        TAG_BATCH_ERROR_CONTINUATION_OPTION,
+        is_option_if_any(option),
     )?;
-    let name = name_of(alloc, attributes)?;
-    let algorithm = the_enumeration(attributes, TAG_CRYPTOGRAPHIC_ALGORITHM)?;
-    within(TAG_CRYPTOGRAPHIC_ALGORITHM, is_algorithm(algorithm))?;
-    let length = the_integer(attributes, TAG_CRYPTOGRAPHIC_LENGTH)?;
-    within(TAG_CRYPTOGRAPHIC_LENGTH, is_length(algorithm, length))?;
-    let usage = the_integer(attributes, TAG_CRYPTOGRAPHIC_USAGE_MASK)?;
-    within(TAG_CRYPTOGRAPHIC_USAGE_MASK, is_usage(usage))?;
-    Ok(KeyAttrs {
-        name,
-        algorithm,
-        length,
-        usage,
-    })
+    let count = the_integer(header, TAG_BATCH_COUNT)?;
+    Ok((option, count))
 }
 
-/// The Name Value of the one Name, which is an uninterpreted text.
-#[tactic(auto, unfolding(crate::specs::RequestFormats::name_parts_format))]
-pub(crate) fn name_of(alloc: Global, attributes: &[Item]) -> Result<Text, MessageFault>
-    ensures exact { Gives (λ s. s) result (name_format.read (views attributes.now)) }
-    ensures fits { IfOk result (λ s. IsTrue (is_name s)) }
+/// Whether there is no option, or one of the standard's three.
+fn is_option_if_any(option: Option<u32>) -> bool
+    ensures { result ≡ option_map_or is_option option true }
 {
-    let parts = the_structure(attributes, TAG_NAME)?;
-    let value = the_text(parts, TAG_NAME_VALUE)?;
-    within(TAG_NAME_VALUE, is_name(value))?;
-    let kind = the_enumeration(parts, TAG_NAME_TYPE)?;
-    within(TAG_NAME_TYPE, kind == NAME_TYPE_UNINTERPRETED_TEXT_STRING)?;
-    let name = Text::copied(alloc, value)?;
-    Ok(name)
+    match option {
+        Some(option) => option == CONTINUE || option == STOP || option == UNDO,
+        None => true,
+    }
 }
 
-/// A Locate: the mask and the attributes to look for.
-#[tactic(auto, unfolding(crate::specs::RequestFormats::locate_format))]
-fn locate_of(alloc: Global, payload: &[Item]) -> Result<Ask, MessageFault>
-    ensures exact { Gives (λ a. a) result (locate_format.read (views payload.now)) }
-    ensures fits { IfOk result (λ a. IsTrue (ask_fits a)) }
+/// Whether what was done before a failure is to be undone.
+fn is_undo(option: Option<u32>) -> bool
+    ensures { result ≡ is_undo option }
 {
-    let mask = integer_if_any(payload, TAG_STORAGE_STATUS_MASK)?;
-    let attributes = the_structure(payload, TAG_ATTRIBUTES)?;
-    let filter = filter_of(alloc, attributes)?;
-    Ok(Ask::Locate { mask, filter })
+    match option {
+        Some(option) => option == UNDO,
+        None => false,
+    }
 }
 
-/// A Revoke: the identifier and the reason's code.
-#[tactic(auto, unfolding(crate::specs::RequestFormats::revoke_format, crate::specs::RequestFormats::reason_format))]
-fn revoke_of(alloc: Global, payload: &[Item]) -> Result<Ask, MessageFault>
-    ensures exact { Gives (λ a. a) result (revoke_format.read (views payload.now)) }
-    ensures fits { IfOk result (λ a. IsTrue (ask_fits a)) }
+/// The questions of the Batch Items of a message, in their order.
+fn questions_of(alloc: Global, message: &[Item]) -> Result<Questions, MessageFault>
+    ensures { Gives (λ q. q) result
+        (members_in question_at (contents TAG_BATCH_ITEM (views message.now))) }
 {
-    let uid = identifier_of(alloc, payload)?;
-    let reason = the_structure(payload, TAG_REVOCATION_REASON)?;
-    let code = the_enumeration(reason, TAG_REVOCATION_REASON_CODE)?;
-    within(TAG_REVOCATION_REASON_CODE, is_revocation_code(code))?;
-    Ok(Ask::Revoke(uid, code))
+    let mut questions = Vec::with_capacity(alloc, count_of(message))?;
+    for item in message {
+        if item.tag().number() == TAG_BATCH_ITEM {
+            let question = question_in(alloc, item)?;
+            questions.push(question)?;
+        }
+    }
+    Ok(Questions::from_vec(questions))
+}
+
+/// The question that a Batch Item is.
+#[tactic(auto, unfolding(crate::specs::Members::member_in))]
+fn question_in(alloc: Global, item: &Item) -> Result<Result<Request, Refusal>, MessageFault>
+    ensures { Gives (λ q. q) result (member_in question_at (content_of (view item.now))) }
+{
+    let Some(parts) = item.as_structure() else {
+        return Err(MessageFault::WrongType(Tag::new(TAG_BATCH_ITEM)));
+    };
+    let question = read_question(alloc, parts)?;
+    Ok(question)
 }

@@ -1,126 +1,84 @@
 //! Requests to bytes.
-ghost use Rattle.std.specs.Prelude.{◌≡◌, IfOk};
+ghost use Rattle.std.specs.Prelude.{◌≡◌, pos, not, nat_le, length, map, Ok, IsTrue, IfOk};
 ghost use Rattle.kmip_ttlv.specs.Node.{node};
-ghost use Rattle.kmip_ttlv.specs.View.{view, views};
-ghost use Rattle.kmip_messages.specs.BatchItems.{question_item};
-ghost use Rattle.kmip_fields.specs.Formats.{inside};
-ghost use Rattle.kmip_messages.specs.Operations.{operation_of};
-ghost use Rattle.kmip_messages.specs.RequestFormats.{
-  key_attrs_format,
-  filter_format,
-  create_format,
-  locate_format,
-  revoke_format,
-  payload_format,
-  item_format,
-};
-ghost use Rattle.kmip_messages.specs.declared.request.Ask.TheVariants.{Locate, Revoke};
+ghost use Rattle.kmip_ttlv.specs.Spelling.{canon};
+ghost use Rattle.kmip_ttlv.specs.View.{view};
+ghost use Rattle.kmip_batch_items.specs.Formats.{inside};
+ghost use Rattle.kmip_messages.specs.Headers.{header_parts_format};
+ghost use Rattle.kmip_messages.specs.Items.{parts_in, stops_in, requests_in};
+ghost use Rattle.kmip_messages.specs.Members.{may_have};
+ghost use Rattle.kmip_messages.specs.Written.{option_for, requests_item, requests_fit};
 
-use crate::attributes::attrs_item;
-use crate::building::{name_item, push, push_enumeration, push_id, push_integer, uid_item};
-use crate::request::{Ask, Request};
-use crate::standard::{
-    TAG_ATTRIBUTES, TAG_BATCH_ITEM, TAG_CRYPTOGRAPHIC_ALGORITHM, TAG_CRYPTOGRAPHIC_LENGTH,
-    TAG_CRYPTOGRAPHIC_USAGE_MASK, TAG_OBJECT_TYPE, TAG_OPERATION, TAG_REQUEST_PAYLOAD,
-    TAG_REVOCATION_REASON, TAG_REVOCATION_REASON_CODE, TAG_STORAGE_STATUS_MASK,
+use crate::members::count_item;
+use kmip_batch_items::standard::{
+    CONTINUE, TAG_BATCH_ERROR_CONTINUATION_OPTION, TAG_REQUEST_HEADER, TAG_REQUEST_MESSAGE,
 };
-use kmip_objects::standard::OBJECT_TYPE_SYMMETRIC_KEY;
-use kmip_objects::{Attrs, KeyAttrs};
-use kmip_ttlv::{Item, NoMemory, Tag, Text};
+use kmip_batch_items::{Request, push, push_enumeration, version_item, write_question};
+use kmip_ttlv::{Item, NoMemory, Tag, write};
 use std::alloc::Global;
 
-/// The Batch Item that is the written form of a request.
+/// The bytes of one message with these requests, in their order. Where there are two or more, the
+/// server is asked to go on after a failure.
 ///
 /// # Errors
-/// Where there is no memory for it.
-#[tactic(auto, unfolding(crate::specs::RequestFormats::item_format, crate::specs::RequestFormats::known_format, crate::specs::RequestFormats::asked_format, crate::specs::Parts::id_format))]
-pub fn write_question(alloc: Global, request: &Request) -> Result<Item, NoMemory>
-    ensures { IfOk result (λ i. view i ≡ question_item request.now) }
+/// Where there is no memory for them.
+pub fn write_request(alloc: Global, requests: &[Request]) -> Result<Vec<u8>, NoMemory>
+    // The requests are one to eight and in their ranges, as `request_fits` tells.
+    requires { IsTrue (requests_fit requests.now) }
+    // The bytes are exactly the written form of `requests_item`.
+    ensures bytes { IfOk result (λ v. v.items ≡ canon (requests_item requests.now)) }
+    // The bytes ask just these requests, in their order.
+    ensures asks { IfOk result (λ v. requests_in v.items ≡ requests.now) }
+    // The questions of the bytes are these requests, in their order, and none is refused.
+    ensures parts { IfOk result (λ v. parts_in v.items ≡ map Ok requests.now) }
+    // The questions after a failure are left where there is one question alone, and not where there are more.
+    ensures stops { IfOk result (λ v. stops_in v.items
+        ≡ not (nat_le 2 (length requests.now))) }
 {
-    let payload = ask_items(alloc, &request.ask)?;
-    let mut items = Vec::new(alloc);
-    push_enumeration(&mut items, TAG_OPERATION, Some(request.ask.operation()))?;
-    push_id(alloc, &mut items, &request.id)?;
-    push(
-        &mut items,
-        Item::structure(Tag::new(TAG_REQUEST_PAYLOAD), payload),
-    )?;
-    Ok(Item::structure(Tag::new(TAG_BATCH_ITEM), items))
+    let item = message_item(alloc, requests)?;
+    let mut out = Vec::new(alloc);
+    write(&item, &mut out)?;
+    Ok(out)
 }
 
-/// The payload's items.
-#[tactic(auto, unfolding(crate::specs::RequestFormats::payload_format, crate::specs::Parts::identifier_format))]
-fn ask_items(alloc: Global, ask: &Ask) -> Result<Vec<Item>, NoMemory>
-    ensures { IfOk result (λ v. views v.items
-        ≡ (payload_format (operation_of ask.now)).write ask.now) }
+/// The Request Message of the requests.
+#[tactic(auto, unfolding(crate::specs::Headers::header_format))]
+fn message_item(alloc: Global, requests: &[Request]) -> Result<Item, NoMemory>
+    requires { IsTrue (may_have (length requests.now)) }
+    ensures { IfOk result (λ i. view i ≡ requests_item requests.now) }
 {
-    match ask {
-        Ask::Create(attrs) => {
-            let items = create_items(alloc, attrs)?;
-            Ok(items)
-        }
-        Ask::Locate { mask, filter } => {
-            let items = locate_items(alloc, *mask, filter)?;
-            Ok(items)
-        }
-        Ask::GetAttributes(uid) | Ask::Activate(uid) | Ask::Destroy(uid) => {
-            let uid = uid_item(alloc, uid)?;
-            let items = vec![in alloc; uid]?;
-            Ok(items)
-        }
-        Ask::Revoke(uid, code) => {
-            let items = revoke_items(alloc, uid, *code)?;
-            Ok(items)
-        }
+    let header = header_item(alloc, requests.len())?;
+    let mut items = Vec::new(alloc);
+    push(&mut items, header)?;
+    for request in requests {
+        let item = write_question(alloc, request)?;
+        push(&mut items, item)?;
     }
+    Ok(Item::structure(Tag::new(TAG_REQUEST_MESSAGE), items))
 }
 
-/// The payload of a Create.
-#[tactic(auto, unfolding(crate::specs::RequestFormats::create_format))]
-fn create_items(alloc: Global, attrs: &KeyAttrs) -> Result<Vec<Item>, NoMemory>
-    ensures { IfOk result (λ v. views v.items ≡ create_format.write attrs.now) }
+/// The Request Header of this many questions.
+#[tactic(auto, unfolding(crate::specs::Headers::header_parts_format, crate::specs::Headers::option_format, kmip_batch_items::specs::RequestFormats::version_parts_format, kmip_batch_items::specs::ReplyFormats::any_version_parts_format))]
+fn header_item(alloc: Global, there: usize) -> Result<Item, NoMemory>
+    requires { IsTrue (may_have there) }
+    ensures { IfOk result (λ i. view i ≡ node TAG_REQUEST_HEADER
+        (inside (header_parts_format.write (option_for there, pos there)))) }
 {
-    let object_type = Item::enumeration(Tag::new(TAG_OBJECT_TYPE), OBJECT_TYPE_SYMMETRIC_KEY);
-    let attrs = key_attrs_item(alloc, attrs)?;
-    let items = vec![in alloc; object_type, attrs]?;
-    Ok(items)
-}
-
-/// The Attributes of a new key.
-#[tactic(auto, unfolding(crate::specs::RequestFormats::key_attrs_format, crate::specs::RequestFormats::name_parts_format, crate::specs::ReplyFormats::any_name_parts_format))]
-fn key_attrs_item(alloc: Global, attrs: &KeyAttrs) -> Result<Item, NoMemory>
-    ensures { IfOk result (λ i. view i
-        ≡ node TAG_ATTRIBUTES (inside (key_attrs_format.write attrs.now))) }
-{
-    let name = name_item(alloc, &attrs.name)?;
-    let algorithm = Item::enumeration(Tag::new(TAG_CRYPTOGRAPHIC_ALGORITHM), attrs.algorithm);
-    let length = Item::integer(Tag::new(TAG_CRYPTOGRAPHIC_LENGTH), attrs.length);
-    let usage = Item::integer(Tag::new(TAG_CRYPTOGRAPHIC_USAGE_MASK), attrs.usage);
-    let items = vec![in alloc; name, algorithm, length, usage]?;
-    Ok(Item::structure(Tag::new(TAG_ATTRIBUTES), items))
-}
-
-/// The payload of a Locate.
-#[tactic(auto, unfolding(crate::specs::RequestFormats::locate_format, crate::specs::RequestFormats::filter_format, crate::specs::RequestFormats::name_parts_format, crate::specs::ReplyFormats::attrs_format, crate::specs::ReplyFormats::any_name_parts_format))]
-fn locate_items(alloc: Global, mask: Option<i32>, filter: &Attrs) -> Result<Vec<Item>, NoMemory>
-    ensures { IfOk result (λ v. views v.items ≡ locate_format.write (Locate mask filter.now)) }
-{
+    let version = version_item(alloc)?;
     let mut items = Vec::new(alloc);
-    push_integer(&mut items, TAG_STORAGE_STATUS_MASK, mask)?;
-    let filter = attrs_item(alloc, filter)?;
-    push(&mut items, filter)?;
-    Ok(items)
+    push(&mut items, version)?;
+    push_enumeration(
+        &mut items,
+        TAG_BATCH_ERROR_CONTINUATION_OPTION,
+        option_for(there),
+    )?;
+    push(&mut items, count_item(there))?;
+    Ok(Item::structure(Tag::new(TAG_REQUEST_HEADER), items))
 }
 
-/// The payload of a Revoke.
-#[tactic(auto, unfolding(crate::specs::RequestFormats::revoke_format, crate::specs::RequestFormats::reason_format, crate::specs::Parts::identifier_format))]
-fn revoke_items(alloc: Global, uid: &Text, code: u32) -> Result<Vec<Item>, NoMemory>
-    ensures { IfOk result (λ v. views v.items ≡ revoke_format.write (Revoke uid.now code)) }
+/// The Batch Error Continuation Option of this many questions.
+fn option_for(there: usize) -> Option<u32>
+    ensures { result ≡ option_for there }
 {
-    let uid = uid_item(alloc, uid)?;
-    let code = Item::enumeration(Tag::new(TAG_REVOCATION_REASON_CODE), code);
-    let parts = vec![in alloc; code]?;
-    let reason = Item::structure(Tag::new(TAG_REVOCATION_REASON), parts);
-    let items = vec![in alloc; uid, reason]?;
-    Ok(items)
+    if 2 <= there { Some(CONTINUE) } else { None }
 }

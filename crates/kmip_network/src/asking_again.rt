@@ -1,9 +1,9 @@
 //! A Locate that is sent again where no reply came.
 ghost use Rattle.std.specs.Prelude.{◌≡◌, IfErr};
 
-use kmip_batches::read_request;
-use kmip_messages::{Ask, Refusal, Request};
-use kmip_schedule::{Link, LinkFault};
+use kmip_batch_items::{Ask, Refusal, Request};
+use kmip_messages::read_request;
+use kmip_protocol::{Link, LinkFault};
 use std::alloc::Global;
 
 /// How often a message that asks one Locate is sent at most (own).

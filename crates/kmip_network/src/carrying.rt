@@ -8,11 +8,11 @@ use crate::told::standard_output;
 use crate::trouble::Trouble;
 use kmip_account::{Account, Teller, Watch};
 use kmip_choices::{Peer, RunOptions};
-use kmip_commands::ExitStatus;
-use kmip_progress_file::{LockFault, ProgressFile, ProgressLock};
-use kmip_run::{RunInput, batch_of};
-use kmip_running::{Keeper, Observed, SaveFault};
-use kmip_schedule::Link;
+use kmip_files::{LockFault, ProgressFile, ProgressLock};
+use kmip_message_commands::ExitStatus;
+use kmip_plan_commands::{RunInput, batch_of};
+use kmip_protocol::Link;
+use kmip_runs::{Keeper, Observed, SaveFault};
 use std::alloc::Global;
 use std::io::{BufWriter, ErrorKind};
 use std::time::Duration;
@@ -157,7 +157,7 @@ fn run_over<L: Link + Drop>(
     let mut link = Observed::new(link, Teller::new(account));
     let mut watch = Watch::new(account, first_wait(options), options.give_up);
     let mut writer = BufWriter::new(rt.alloc(), standard_output(rt))?;
-    let status = kmip_run::run_plan(
+    let status = kmip_plan_commands::run_plan(
         rt.alloc(),
         account.plan(),
         &input,

@@ -29,7 +29,7 @@ mod trouble;
 mod watching;
 
 pub use carrying::run_plan;
-pub use kmip_run::batch_of;
+pub use kmip_plan_commands::batch_of;
 pub use probing::probe_server;
 pub use reading::{PlanFile, plan_at, text_at};
 pub use serving::serve;

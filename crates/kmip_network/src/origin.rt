@@ -1,8 +1,7 @@
 //! Where, when and for which keys a progress was kept: the text of a file beside it.
 
-use kmip_chains::Key;
 use kmip_choices::Peer;
-use kmip_plan::algorithm_word;
+use kmip_plan::{Key, algorithm_word};
 use kmip_ttlv::{NoMemory, plain_text};
 use std::alloc::{AllocError, Global};
 use std::time::{SystemTime, UNIX_EPOCH};

@@ -6,10 +6,10 @@ use crate::told::standard_output;
 use crate::trouble::Trouble;
 use crate::watching::Watcher;
 use kmip_choices::{Peer, ProbeOptions};
-use kmip_commands::ExitStatus;
-use kmip_probe::run_probe;
-use kmip_running::Observed;
-use kmip_schedule::Link;
+use kmip_message_commands::ExitStatus;
+use kmip_probe_command::run_probe;
+use kmip_protocol::Link;
+use kmip_runs::Observed;
 use std::io::BufWriter;
 use std::time::Duration;
 

@@ -1,8 +1,8 @@
 //! The texts of files, and of plans among them.
 
 use crate::trouble::Trouble;
+use kmip_files::{MOST_FILE_BYTES, text_of};
 use kmip_plan::{Plan, PlanFault, read_plan};
-use kmip_progress_file::{MOST_FILE_BYTES, text_of};
 use std::io::{Error, ErrorKind};
 
 /// A plan, and its text.

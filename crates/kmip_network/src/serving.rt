@@ -3,7 +3,7 @@
 use crate::causes::tell_why;
 use crate::overhearing::{Hearing, Overheard, Saying};
 use kmip_choices::ServeOptions;
-use kmip_commands::{CommandFault, ExitStatus};
+use kmip_message_commands::{CommandFault, ExitStatus};
 use kmip_server::{IndexedStore, Server};
 use kmip_store::{MOST_ROOM, SEED};
 use kmip_transport::{StreamEnd, serve_stream};

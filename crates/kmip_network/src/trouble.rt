@@ -2,10 +2,10 @@
 
 use crate::causes::{Cannot, tell_cause, tell_why};
 use crate::told::tell_output;
-use kmip_check::push_refusal;
-use kmip_commands::{CommandFault, ExitStatus};
 use kmip_explaining::tell_refusal;
+use kmip_message_commands::{CommandFault, ExitStatus};
 use kmip_plan::PlanFault;
+use kmip_plan_commands::push_refusal;
 use kmip_progress::ProgressFault;
 use kmip_ttlv::NoMemory;
 use std::alloc::AllocError;

@@ -1,8 +1,8 @@
 //! What `probe` tells of its exchanges while it works.
 
 use kmip_account::tell_exchange;
-use kmip_running::Observer;
-use kmip_schedule::LinkFault;
+use kmip_protocol::LinkFault;
+use kmip_runs::Observer;
 
 /// Tells each exchange on standard error, if it is to.
 #[derive(Drop)]

@@ -1,5 +1,5 @@
 -- For lemma files above, which speak of ranges where no call stands near, so that no clause serves: the sizes of messages in
--- kmip_messages, and the identifiers of kmip_store and kmip_server.
+-- kmip_batch_items, and the identifiers of kmip_store and kmip_server.
 use Rattle.std.proofs.Common.{◌≡◌, ℕ, ◌≤◌, true, List, length, refl, lit<, arith}
 use Rattle.std.specs.Fmt.{decimal}
 use Rattle.std.proofs.lemmas.Bool.{and_parts, leb-true, le-leb}

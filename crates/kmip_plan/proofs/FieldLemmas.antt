@@ -7,16 +7,16 @@ use Rattle.kmip_ttlv.proofs.ReadSteps.{Reads, reads-as}
 use Rattle.toml.specs.Data.{Items, Members, no_members, member}
 use Rattle.kmip_plan.specs.declared.fault.PlanFault.{PlanFault}
 use Rattle.kmip_plan.specs.declared.fault.PlanFault.TheVariants as faults
-use Rattle.kmip_chains.specs.declared.target.Target.{Target}
+use Rattle.kmip_plan.specs.declared.target.Target.{Target}
 use Rattle.kmip_plan.specs.Fields.{if_so, algorithm_of, are_once, bit_of, mask_of, usage_in, usage_of, target_of}
 use Rattle.kmip_plan.specs.Plans.{IsUsage, IsAlgorithm}
 use Rattle.kmip_plan.specs.Reading.{need, guard, none_other}
 use Rattle.kmip_plan.specs.Tables.{text_at, array_at, has_only, first_other, times, all_words}
-use Rattle.kmip_chains.specs.Words.{target_word, target_of_word}
+use Rattle.kmip_plan.specs.TargetWords.{target_word, target_of_word}
 use Rattle.kmip_plan.specs.Words.{algorithm_of_word, is_usage_word}
 use Rattle.std.proofs.lemmas.Option.{same_Some}
 use Rattle.kmip_plan.proofs.OptionLemmas.{not_some}
-use Rattle.kmip_chains.proofs.TargetLemmas.{word_of_target, target_of_its_word}
+use Rattle.kmip_plan.proofs.TargetLemmas.{word_of_target, target_of_its_word}
 use Rattle.kmip_plan.proofs.WordLemmas.{word_of_algorithm, algorithm_of_its_word}
 
 -- ---- the steps of a reader

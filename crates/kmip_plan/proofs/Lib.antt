@@ -1,3 +1,6 @@
+mod ChainLemmas
+mod PlaceLemmas
+pub mod TargetLemmas
 mod OptionLemmas
 pub mod TableLemmas
 pub mod NameLemmas

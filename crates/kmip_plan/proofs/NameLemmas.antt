@@ -6,11 +6,11 @@ use Rattle.std.proofs.lemmas.Slice.Eq.{bytes_eq-Decides}
 use Rattle.std.specs.List.{list_all, slice_get}
 use Rattle.std.specs.Option.{option_copied}
 use Rattle.kmip_objects.specs.Ranges.{attrs_fit, is_compromise}
-use Rattle.kmip_chains.specs.declared.key.Key.{Key}
-use Rattle.kmip_chains.specs.Chains.{is_revoked}
+use Rattle.kmip_plan.specs.declared.key.Key.{Key}
+use Rattle.kmip_plan.specs.Chains.{is_revoked}
 use Rattle.kmip_plan.specs.Plans.{HaveNewNames, reason_fits, key_fits, key_named}
 use Rattle.kmip_plan.specs.Reading.{has_key_named}
-use Rattle.kmip_chains.specs.Words.{is_text}
+use Rattle.kmip_plan.specs.TargetWords.{is_text}
 use Rattle.std.proofs.lemmas.Option.{same_Some}
 use Rattle.kmip_plan.proofs.OptionLemmas.{not_some}
 

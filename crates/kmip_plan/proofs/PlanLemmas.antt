@@ -11,9 +11,9 @@ use Rattle.toml.specs.Parse.{parse_document}
 use Rattle.kmip_plan.specs.declared.fault.PlanFault.{PlanFault}
 use Rattle.kmip_plan.specs.declared.fault.PlanFault.TheVariants as faults
 use Rattle.kmip_plan.specs.declared.fault.Field.TheVariants as field
-use Rattle.kmip_chains.specs.declared.key.Key.{Key}
-use Rattle.kmip_chains.specs.declared.target.Target.{Target}
-use Rattle.kmip_chains.specs.Chains.{is_revoked}
+use Rattle.kmip_plan.specs.declared.key.Key.{Key}
+use Rattle.kmip_plan.specs.declared.target.Target.{Target}
+use Rattle.kmip_plan.specs.Chains.{is_revoked}
 use Rattle.kmip_plan.specs.Fields.{name_of, algorithm_of, length_of, usage_of, target_of, reason_in, reason_of}
 use Rattle.kmip_plan.specs.Limits.{most_keys}
 use Rattle.kmip_plan.specs.Plans.{IsKey, AreKeys, HaveNewNames, IsPlan, key_fits, IsLawful}

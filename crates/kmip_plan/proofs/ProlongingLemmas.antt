@@ -2,7 +2,7 @@
 use Rattle.std.proofs.Common.{◌≡◌, ◌↔◌, ℕ, zero, suc, ◌+◌, ◌<◌, ◌≤◌, List, [], ◌∷◌, length, drop, get_or, Some, refl, sym, ap, subst, ◌∙◌, add-one, arith}
 use Rattle.std.proofs.Math.Seq.{drop-cons}
 use Rattle.std.specs.List.{slice_get}
-use Rattle.kmip_chains.specs.declared.key.Key.{Key}
+use Rattle.kmip_plan.specs.declared.key.Key.{Key}
 use Rattle.kmip_plan.specs.Plans.{IsLawful, IsPlanned}
 use Rattle.kmip_plan.specs.Prolonging.{GoesOn, Prolongs}
 use Rattle.std.proofs.lemmas.Option.{same_Some}

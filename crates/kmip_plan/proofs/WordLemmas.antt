@@ -4,9 +4,9 @@ use Rattle.std.proofs.lemmas.Bool.{cases_Bool, eqb-true}
 use Rattle.std.proofs.lemmas.Slice.Eq.{bytes_eq-Decides}
 use Rattle.kmip_objects.specs.Ranges.{is_algorithm}
 use Rattle.kmip_objects.specs.declared.standard.TheConstants.{ALGORITHM_AES, ALGORITHM_HMAC_SHA256}
-use Rattle.kmip_chains.specs.declared.target.Target.{Target}
-use Rattle.kmip_chains.specs.declared.target.Target.TheVariants.{Created, Active, Revoked, Destroyed, Discarded}
-use Rattle.kmip_chains.specs.Words.{is_text, target_word, target_of_word}
+use Rattle.kmip_plan.specs.declared.target.Target.{Target}
+use Rattle.kmip_plan.specs.declared.target.Target.TheVariants.{Created, Active, Revoked, Destroyed, Discarded}
+use Rattle.kmip_plan.specs.TargetWords.{is_text, target_word, target_of_word}
 use Rattle.kmip_plan.specs.Words.{algorithm_word, algorithm_of_word, reason_of_word}
 use Rattle.std.proofs.lemmas.Option.{same_Some}
 use Rattle.kmip_plan.proofs.OptionLemmas.{not_some}

@@ -3,10 +3,10 @@
 use Rattle.std.specs.Prelude.{ℕ, ℤ, pos, Bool, true, false, ◌&&◌, ◌==◌, nat_le, List, codes, Option, Some, None, option_and_then, if◌then◌else◌}
 use Rattle.kmip_objects.specs.Ranges.{is_name, is_length}
 use Rattle.toml.specs.Data.{Data, Items, Members, get_member, as_str}
-use Rattle.kmip_chains.specs.declared.target.Target.{Target}
-use Rattle.kmip_chains.specs.Chains.{is_revoked}
+use Rattle.kmip_plan.specs.declared.target.Target.{Target}
+use Rattle.kmip_plan.specs.Chains.{is_revoked}
 use Rattle.kmip_plan.specs.Tables.{text_at, integer_at, array_at, times, all_words}
-use Rattle.kmip_chains.specs.Words.{target_of_word}
+use Rattle.kmip_plan.specs.TargetWords.{target_of_word}
 use Rattle.kmip_plan.specs.Words.{algorithm_of_word, reason_of_word, is_usage_word, usage_sum}
 
 -- A value that passes a test; none where it does not.

@@ -9,13 +9,13 @@ use Rattle.kmip_objects.specs.declared.state.KeyState.{KeyState}
 use Rattle.kmip_objects.specs.declared.state.KeyState.TheVariants.{PreActive}
 use Rattle.kmip_objects.specs.declared.step.Step.{Step}
 use Rattle.kmip_objects.specs.declared.step.Step.TheVariants.{Create, Revoke}
-use Rattle.kmip_chains.specs.declared.key.Key.{Key}
-use Rattle.kmip_chains.specs.declared.target.Target.{Target}
-use Rattle.kmip_chains.specs.Chains.{chain, states, step_at, state_after, moved_by, place_of, place_reached, step_place, is_revoked, key_bound, bound}
+use Rattle.kmip_plan.specs.declared.key.Key.{Key}
+use Rattle.kmip_plan.specs.declared.target.Target.{Target}
+use Rattle.kmip_plan.specs.Chains.{chain, states, step_at, state_after, moved_by, place_of, place_reached, step_place, is_revoked, key_bound, bound}
 use Rattle.kmip_plan.specs.Plans.{IsLawful, EachFits, key_fits, key_named, IsPlanned}
-use Rattle.kmip_chains.specs.Chains.{LeadsOn}
+use Rattle.kmip_plan.specs.Chains.{LeadsOn}
 use Rattle.kmip_plan.specs.Prolonging.{GoesOn, Prolongs}
-use Rattle.kmip_chains.specs.Words.{target_word, target_of_word}
+use Rattle.kmip_plan.specs.TargetWords.{target_word, target_of_word}
 
 -- A key at a place of a lawful plan is found by its name.
 abbrev pub KeysAreFound : Type 0

@@ -1,3 +1,11 @@
+-- What a key is to go through: the steps and the states on the way to each target.
+
+-- The words that name the targets in a plan.
+pub mod TargetWords
+-- The steps to a target, the states on the way, and the places of both.
+pub mod Chains
+-- What holds of all chains and of their words.
+pub mod ChainLaws
 -- Which tables of TOML are a plan, what holds of every plan, and when one plan takes over from another.
 
 -- The words of a plan and the numbers that they stand for.

@@ -4,14 +4,14 @@ use Rattle.std.specs.Prelude.{◌≡◌, ◌≤◌, ℕ, ℤ, pos, Bool, true, f
 use Rattle.std.specs.List.{find, list_all, slice_get}
 use Rattle.kmip_objects.specs.Ranges.{is_name, is_length, is_usage, attrs_fit}
 use Rattle.toml.specs.Data.{Items, no_items, item, Members}
-use Rattle.kmip_chains.specs.declared.key.Key.{Key}
-use Rattle.kmip_chains.specs.declared.target.Target.{Target}
-use Rattle.kmip_chains.specs.Chains.{is_revoked}
+use Rattle.kmip_plan.specs.declared.key.Key.{Key}
+use Rattle.kmip_plan.specs.declared.target.Target.{Target}
+use Rattle.kmip_plan.specs.Chains.{is_revoked}
 use Rattle.kmip_plan.specs.Fields.{are_once, mask_of, reason_of}
 use Rattle.kmip_plan.specs.Limits.{most_keys}
 use Rattle.kmip_plan.specs.Reading.{has_key_named}
 use Rattle.kmip_plan.specs.Tables.{text_at, integer_at, array_at, fields_of, is_top_field, is_key_field, has_only, all_words}
-use Rattle.kmip_chains.specs.Words.{is_text, target_word}
+use Rattle.kmip_plan.specs.TargetWords.{is_text, target_word}
 use Rattle.kmip_plan.specs.Words.{algorithm_word, is_usage_word}
 
 -- The table has an array of usage words, each once and no other words, and this is their mask, in its range.

@@ -2,8 +2,8 @@
 -- what the new one wants.
 -- Source: own (choice): a plan that is changed goes further, and takes back nothing that may have been done.
 use Rattle.std.specs.Prelude.{◌≡◌, true, List, [], ◌∷◌, ⊤}
-use Rattle.kmip_chains.specs.Chains.{is_revoked, LeadsOn}
-use Rattle.kmip_chains.specs.declared.key.Key.{Key}
+use Rattle.kmip_plan.specs.Chains.{is_revoked, LeadsOn}
+use Rattle.kmip_plan.specs.declared.key.Key.{Key}
 
 -- A key of the new plan goes on from one of the old plan: it has the same attributes, and the old way is a
 -- beginning of its own. A Revoke on the old way keeps its reason.

@@ -8,11 +8,11 @@ use Rattle.toml.specs.Parse.{parse_document}
 use Rattle.kmip_plan.specs.declared.fault.Field.TheVariants as field
 use Rattle.kmip_plan.specs.declared.fault.PlanFault.{PlanFault}
 use Rattle.kmip_plan.specs.declared.fault.PlanFault.TheVariants.{Toml, NoKeys, TooMany, Missing, Unknown, BadName, BadLength, BadUsage, BadTarget, BadReason, SameName, NoMemory}
-use Rattle.kmip_chains.specs.declared.key.Key.{Key}
+use Rattle.kmip_plan.specs.declared.key.Key.{Key}
 use Rattle.kmip_plan.specs.Fields.{name_of, algorithm_of, length_of, usage_of, target_of, reason_of}
 use Rattle.kmip_plan.specs.Limits.{most_keys}
 use Rattle.kmip_plan.specs.Tables.{array_at, fields_of, is_top_field, is_key_field, first_other, count}
-use Rattle.kmip_chains.specs.Words.{is_text}
+use Rattle.kmip_plan.specs.TargetWords.{is_text}
 
 -- A value that has to be there; else this fault.
 abbrev pub need : {A : Type 0} → PlanFault → Option A → Result A PlanFault

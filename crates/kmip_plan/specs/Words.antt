@@ -11,7 +11,7 @@ use Rattle.kmip_objects.specs.declared.standard.TheConstants.{
   REVOCATION_CESSATION_OF_OPERATION,
   REVOCATION_PRIVILEGE_WITHDRAWN,
 }
-use Rattle.kmip_chains.specs.Words.{is_text}
+use Rattle.kmip_plan.specs.TargetWords.{is_text}
 
 -- The word for a Cryptographic Algorithm of the profile; none for any other.
 abbrev pub algorithm_word : ℕ → Option (List ℕ)

@@ -6,10 +6,10 @@ ghost use Rattle.toml.specs.View.{view, array_view, table_view};
 ghost use Rattle.kmip_plan.specs.Fields.{if_so, name_of, algorithm_of, length_of, usage_in, usage_of, target_of, reason_of};
 ghost use Rattle.kmip_plan.specs.Words.{reason_of_word};
 
+use crate::Target;
 use crate::counts::{are_once, are_usages, mask_of};
 use crate::tables::{array_at, integer_at, text_at, value_at};
 use crate::words::{algorithm_of_word, reason_of_word};
-use kmip_chains::Target;
 use kmip_objects::standard::REVOCATION_UNSPECIFIED;
 use kmip_objects::{is_length, is_name};
 use toml::value::Array;

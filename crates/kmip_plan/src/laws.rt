@@ -15,7 +15,7 @@ ghost use Rattle.kmip_plan.specs.Laws.{
   OldKeysAreFound,
   NewPlansAreNoShorter,
 };
-ghost use Rattle.kmip_chains.specs.Laws.{WaysLeadToThemselves, WaysLeadOnAgain};
+ghost use Rattle.kmip_plan.specs.ChainLaws.{WaysLeadToThemselves, WaysLeadOnAgain};
 
 /// How the keys of a plan are found by their names.
 pub fn keys_have_names()

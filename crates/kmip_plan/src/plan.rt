@@ -2,11 +2,11 @@
 ghost use Rattle.std.specs.Prelude.{◌≡◌, ◌≤◌, ◌*◌, length, IfSome, IsTrue};
 ghost use Rattle.std.specs.List.{slice_get};
 ghost use Rattle.std.specs.Option.{option_copied};
-ghost use Rattle.kmip_chains.specs.Chains.{bound};
+ghost use Rattle.kmip_plan.specs.Chains.{bound};
 ghost use Rattle.kmip_plan.specs.Limits.{most_keys};
 ghost use Rattle.kmip_plan.specs.Plans.{IsLawful, EachFits, key_fits, key_named};
 
-use kmip_chains::{Key, chain_length};
+use crate::{Key, chain_length};
 use std::marker::Model;
 
 /// The keys of a plan in their order: 1 to 1,000, each in its ranges and with a name of its own. A
@@ -18,7 +18,7 @@ pub struct Plan {
 
 impl Model for Plan {
     ghost use Rattle.std.specs.Prelude.{List};
-    ghost use Rattle.kmip_chains.specs.declared.key.Key.{Key};
+    ghost use Rattle.kmip_plan.specs.declared.key.Key.{Key};
     ghost use Rattle.kmip_plan.specs.Plans.{IsLawful};
 
     ghost Value = { List Key };

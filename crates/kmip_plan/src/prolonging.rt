@@ -1,10 +1,10 @@
 //! Whether a plan takes over from an earlier one.
 ghost use Rattle.std.specs.Prelude.{◌≡◌, ◌↔◌, true, IsTrue};
-ghost use Rattle.kmip_chains.specs.Chains.{is_revoked};
+ghost use Rattle.kmip_plan.specs.Chains.{is_revoked};
 ghost use Rattle.kmip_plan.specs.Prolonging.{GoesOn, Prolongs};
 
+use crate::Key;
 use crate::plan::Plan;
-use kmip_chains::Key;
 use kmip_objects::KeyAttrs;
 
 /// Whether the new plan prolongs the old one: it begins with the keys of the old plan, in the same

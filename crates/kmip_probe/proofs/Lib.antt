@@ -1,5 +1,7 @@
-pub mod ToldLemmas
-pub mod EndLemmas
-pub mod MidwayLemmas
-pub mod StageLemmas
-pub mod TellingLemmas
+pub mod OwnOutcomes
+pub mod PuttingLemmas
+pub mod FittingLemmas
+pub mod ProbingLemmas
+pub mod KeptLemmas
+pub mod StandingLemmas
+pub mod ServedLemmas

@@ -1,19 +1,25 @@
-//! The command `probe`: tells in words which premises of the theorem a server keeps.
+//! Whether a server keeps the premises of the headline, by its answers to questions.
 //!
-//! It asks the questions of a probe over any link, and tells what their answers say, over any writer or
-//! in memory. That no line says no of a lawful server over a link that loses, delays and repeats is not
-//! proved: the stored runs of kmipctl_runs try some such links, and `make storm` some hundreds. They
-//! also try three more things. A server that breaks one premise is told by the line of that one. A peer
-//! that answers every question by the reply of a Locate gets no yes of what it was not asked about. Of
-//! a peer that refuses the looks, or all after them, the reason is told.
+//! A probe asks a server 25 questions about objects with two names of its own. Its answers say of each
+//! premise that it is kept, that it is broken, or that it could not be told.
+//!
+//! Source: KMIP 2.1, Operations. The questions and their order are own (choice).
 #![tactic(auto)]
 
-mod looking;
-mod premise;
-mod running;
+mod answer;
+mod finding;
+mod inquiry;
+mod judging;
+pub mod laws;
+mod probing;
 mod telling;
 mod unread;
-mod wording;
 
-pub use premise::{PREMISES, Premise, finding_of};
-pub use running::{probe_bytes, run_probe};
+pub use answer::Answer;
+pub use finding::{Attribute, Finding, Findings, Flaw};
+pub use inquiry::{
+    INQUIRIES, Inquiry, Kind, LOOKS, PREFIX_MAX, QUESTIONS, Which, is_prefix, name_of,
+};
+pub use judging::{findings, outcome_at, unread_at};
+pub use probing::{ask_on, is_free_at, probe};
+pub use unread::{ProtocolVersion, Unread, version_in};

@@ -1,180 +1,96 @@
-//! What a probe tells while it asks.
-ghost use Rattle.std.specs.Prelude.{◌≡◌, ◌≤◌, ◌+◌, ◌++◌, length, false, true, List, flat_map, IfErr, IfOk, OnOk, IsTrue};
-ghost use Rattle.std.specs.List.{All};
-ghost use Rattle.std.specs.Io.KnownBytes.{Appends};
-ghost use Rattle.kmip_commands.specs.Printing.{Fails};
-ghost use Rattle.kmip_schedule.specs.Past.{Names};
-ghost use Rattle.kmip_premises.specs.Answers.{IsLawful};
-ghost use Rattle.kmip_premises.specs.Asking.{is_free_at};
-ghost use Rattle.kmip_premises.specs.Inquiries.{is_prefix};
-ghost use Rattle.kmip_premises.specs.Serving.{IsUnprobed};
-ghost use Rattle.kmip_premises.specs.Standing.{AreServed};
-ghost use Rattle.kmip_probe.specs.LookText.{making_text};
-ghost use Rattle.kmip_premises.specs.Putting.{AsksOn};
-ghost use Rattle.kmip_probe.specs.Midway.{BreaksMidway, line_by};
-ghost use Rattle.kmip_probe.specs.ProbeText.{TellsEnd, WritesProbe, kept_text};
-ghost use Rattle.kmip_probe.specs.Wording.{report_text, rest_text};
+//! Which attributes of a new object are told.
+ghost use Rattle.std.specs.Prelude.{◌≡◌, ◌==◌, nat_eq, option_map};
+ghost use Rattle.std.specs.Cmp.Lexicographic.{pointwise};
+ghost use Rattle.std.specs.Ordering.{int_eq};
+ghost use Rattle.kmip_probe.specs.Telling.{attributes_told, cryptographic_flaw, first_flaw, flaw_of};
 
-use crate::looking::{making_text, unbegun_text};
-use crate::premise::{EARLY, EARLY_ANSWERS, LATE, LATE_ANSWERS, Premise};
-use crate::wording::{are_all_kept, lines_of, rest_of_report};
-use kmip_commands::{CommandFault, Printer};
-use kmip_premises::laws::the_profile_keeps_all;
-use kmip_premises::{Answer, LOOKS, QUESTIONS, ask_on, findings};
-use kmip_schedule::Link;
-use std::alloc::Global;
+use crate::finding::{Attribute, Finding, Flaw};
+use crate::inquiry::{KEY_BITS, KEY_USAGE};
+use kmip_batch_items::Outcome;
+use kmip_objects::standard::{ALGORITHM_AES, OBJECT_TYPE_SYMMETRIC_KEY};
+use kmip_objects::{Attrs, KeyState};
+use kmip_ttlv::Text;
 
-/// Asks the questions of a probe, and tells what their answers say. Says whether a premise is not seen
-/// to be kept. Where a name is not seen to be free, why nothing was made is printed.
-///
-/// # Errors
-///
-/// `NoMemory`, and the fault of the printer.
-pub(crate) fn tell<L: Link, P: Printer>(
-    alloc: Global,
-    prefix: &str,
-    link: &mut L,
-    printer: &mut P,
-) -> Result<bool, CommandFault>
-    requires { IsTrue (is_prefix prefix.now) }
-    ensures text { IfOk result (λ r. WritesProbe L.past L.honest prefix.now link.old link.new r
-        (P.contents printer.old) (P.contents printer.new)) }
-    ensures broken { IfErr result (λ fault. BreaksMidway fault P.own_fault P.IsWhole prefix.now
-        (P.contents printer.old) (P.contents printer.new)) }
-    ensures few { (names : Names) → L.honest link.old names
-        → length (L.past link.new).sent ≤ length (L.past link.old).sent + QUESTIONS }
-    ensures kept { (names : Names) → L.calm link.old names
-        → IsUnprobed prefix.now (L.past link.old) → IfOk result (λ r. (r ≡ false)
-        × Appends (P.contents printer.old) (P.contents printer.new)
-        (making_text prefix.now ++ kept_text)) }
+/// What an answer to Get Attributes says of a new object with the name.
+pub(crate) fn attributes_told(name: &str, outcome: Option<&Outcome>) -> Finding
+    ensures { result ≡ attributes_told name.now (option_map (λ o. o.now) outcome.entry) }
 {
-    the_profile_keeps_all();
-    let mut answers = Vec::new(alloc);
-    ask_on(alloc, prefix, link, LOOKS, &mut answers)?;
-    match unbegun_text(alloc, prefix, answers.as_slice())? {
-        Some(text) => print_refusal(text.as_str(), printer),
-        None => tell_on(alloc, prefix, link, printer, &mut answers),
+    match outcome {
+        Some(Outcome::Attributes(_, told)) => match first_flaw(name, told) {
+            Some(flaw) => Finding::Broken(flaw),
+            None => Finding::Kept,
+        },
+        Some(Outcome::Failed(_)) => Finding::Broken(Flaw::Refused),
+        _ => Finding::Untold,
     }
 }
 
-/// Tells which keys are to be made, asks on, and prints each line once the answers that decide it have
-/// come. Says whether a premise is not seen to be kept.
-///
-/// # Errors
-///
-/// `NoMemory`, and the fault of the printer.
-fn tell_on<L: Link, P: Printer>(
-    alloc: Global,
-    prefix: &str,
-    link: &mut L,
-    printer: &mut P,
-    answers: &mut Vec<Answer>,
-) -> Result<bool, CommandFault>
-    requires prefix { IsTrue (is_prefix prefix.now) }
-    requires lawful { All IsLawful answers.old.items }
-    requires two { length answers.old.items ≡ LOOKS }
-    requires first { IsTrue (is_free_at answers.old.items 0) }
-    requires second { IsTrue (is_free_at answers.old.items 1) }
-    ensures onward { (more : List Answer) × (answers.new.items ≡ answers.old.items ++ more) }
-    ensures asked { (names : Names) → L.honest link.old names → IfOk result (λ r. AsksOn prefix.now
-        answers.old.items answers.new.items (L.past link.old) (L.past link.new)) }
-    ensures text { IfOk result (λ r. TellsEnd (λ f. making_text prefix.now ++ report_text f)
-        prefix.now answers.new.items r (P.contents printer.old) (P.contents printer.new)) }
-    ensures all { IfOk result (λ r. length answers.new.items ≡ QUESTIONS) }
-    ensures broken { IfErr result (λ fault. BreaksMidway fault P.own_fault P.IsWhole prefix.now
-        (P.contents printer.old) (P.contents printer.new)) }
-    ensures few { (names : Names) → L.honest link.old names
-        → length (L.past link.new).sent + LOOKS ≤ length (L.past link.old).sent + QUESTIONS }
-    ensures served { (names : Names) → L.calm link.old names
-        → AreServed prefix.now answers.old.items (L.past link.old)
-        → IfOk result (λ r. AreServed prefix.now answers.new.items (L.past link.new)) }
+/// The first flaw of the attributes of a new object with the name.
+fn first_flaw(name: &str, told: &Attrs) -> Option<Flaw>
+    ensures { result ≡ first_flaw name.now told.now }
 {
-    print_making(alloc, prefix, printer)?;
-    ask_on(alloc, prefix, link, EARLY_ANSWERS, answers)?;
-    print_lines(alloc, prefix, answers.as_slice(), &EARLY, printer)?;
-    ask_on(alloc, prefix, link, LATE_ANSWERS, answers)?;
-    print_lines(alloc, prefix, answers.as_slice(), &LATE, printer)?;
-    ask_on(alloc, prefix, link, QUESTIONS, answers)?;
-    print_rest(alloc, prefix, answers.as_slice(), printer)
+    let kind = number_flaw(
+        Attribute::ObjectType,
+        told.object_type,
+        OBJECT_TYPE_SYMMETRIC_KEY,
+    );
+    let state = number_flaw(Attribute::State, told.state, KeyState::PreActive.number());
+    kind.or(name_flaw(name, &told.name))
+        .or(cryptographic_flaw(told))
+        .or(state)
 }
 
-/// Prints why nothing was made; that is refused.
-///
-/// # Errors
-///
-/// The fault of the printer.
-fn print_refusal<P: Printer>(text: &str, printer: &mut P) -> Result<bool, CommandFault>
-    ensures text { IfOk result (λ r. (r ≡ true)
-        × Appends (P.contents printer.old) (P.contents printer.new) text.now) }
-    ensures broken { IfErr result (λ fault. Fails fault P.own_fault P.IsWhole
-        (P.contents printer.old) (P.contents printer.new)) }
+/// The first flaw of the algorithm, the length and the usage.
+fn cryptographic_flaw(told: &Attrs) -> Option<Flaw>
+    ensures { result ≡ cryptographic_flaw told.now }
 {
-    printer.print(text.as_bytes())?;
-    Ok(true)
+    number_flaw(
+        Attribute::CryptographicAlgorithm,
+        told.algorithm,
+        ALGORITHM_AES,
+    )
+    .or(integer_flaw(Attribute::CryptographicLength, told.length, KEY_BITS))
+    .or(integer_flaw(Attribute::CryptographicUsageMask, told.usage, KEY_USAGE))
 }
 
-/// Prints which keys are to be made.
-///
-/// # Errors
-///
-/// `NoMemory`, and the fault of the printer.
-fn print_making<P: Printer>(
-    alloc: Global,
-    prefix: &str,
-    printer: &mut P,
-) -> Result<(), CommandFault>
-    ensures text { OnOk result (Appends (P.contents printer.old) (P.contents printer.new)
-        (making_text prefix.now)) }
-    ensures broken { IfErr result (λ fault. Fails fault P.own_fault P.IsWhole
-        (P.contents printer.old) (P.contents printer.new)) }
+/// The flaw of the name.
+fn name_flaw(name: &str, told: &Option<Text>) -> Option<Flaw>
+    ensures { result ≡ flaw_of Attribute.Name
+        (option_map (λ n. pointwise nat_eq n name.now) told.now) }
 {
-    let text = making_text(alloc, prefix)?;
-    printer.print(text.as_str().as_bytes())?;
-    Ok(())
+    match told {
+        Some(told) => flaw_of(Attribute::Name, Some(told.as_str() == name)),
+        None => flaw_of(Attribute::Name, None),
+    }
 }
 
-/// Prints the lines of these premises, by the answers that have come.
-///
-/// # Errors
-///
-/// `NoMemory`, and the fault of the printer.
-fn print_lines<P: Printer>(
-    alloc: Global,
-    prefix: &str,
-    answers: &[Answer],
-    premises: &[Premise],
-    printer: &mut P,
-) -> Result<(), CommandFault>
-    ensures text { OnOk result (Appends (P.contents printer.old) (P.contents printer.new)
-        (flat_map (line_by prefix.now answers.now) premises.now)) }
-    ensures broken { IfErr result (λ fault. Fails fault P.own_fault P.IsWhole
-        (P.contents printer.old) (P.contents printer.new)) }
+/// The flaw of an attribute that is a number.
+fn number_flaw(attribute: Attribute, told: Option<u32>, own: u32) -> Option<Flaw>
+    ensures { result ≡ flaw_of attribute (option_map (λ n. n == own) told) }
 {
-    let findings = findings(alloc, prefix, answers)?;
-    let text = lines_of(alloc, &findings, premises)?;
-    printer.print(text.as_str().as_bytes())?;
-    Ok(())
+    match told {
+        Some(told) => flaw_of(attribute, Some(told == own)),
+        None => flaw_of(attribute, None),
+    }
 }
 
-/// Prints what is told of all the answers after the lines before, and says whether a premise is not
-/// seen to be kept.
-///
-/// # Errors
-///
-/// `NoMemory`, and the fault of the printer.
-fn print_rest<P: Printer>(
-    alloc: Global,
-    prefix: &str,
-    answers: &[Answer],
-    printer: &mut P,
-) -> Result<bool, CommandFault>
-    ensures text { IfOk result (λ r. TellsEnd rest_text prefix.now answers.now r
-        (P.contents printer.old) (P.contents printer.new)) }
-    ensures broken { IfErr result (λ fault. Fails fault P.own_fault P.IsWhole
-        (P.contents printer.old) (P.contents printer.new)) }
+/// The flaw of an attribute that is a number with a sign.
+fn integer_flaw(attribute: Attribute, told: Option<i32>, own: i32) -> Option<Flaw>
+    ensures { result ≡ flaw_of attribute (option_map (λ n. int_eq n own) told) }
 {
-    let findings = findings(alloc, prefix, answers)?;
-    let text = rest_of_report(alloc, &findings)?;
-    printer.print(text.as_str().as_bytes())?;
-    Ok(!are_all_kept(&findings))
+    match told {
+        Some(told) => flaw_of(attribute, Some(told == own)),
+        None => flaw_of(attribute, None),
+    }
+}
+
+/// The flaw of an attribute that is missing, or is another than it was made with.
+fn flaw_of(attribute: Attribute, is_own: Option<bool>) -> Option<Flaw>
+    ensures { result ≡ flaw_of attribute is_own }
+{
+    match is_own {
+        None => Some(Flaw::Missing(attribute)),
+        Some(false) => Some(Flaw::Different(attribute)),
+        Some(true) => None,
+    }
 }

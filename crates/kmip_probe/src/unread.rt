@@ -1,102 +1,67 @@
-//! Why a reply can't be read, in words.
-ghost use Rattle.std.specs.Prelude.{◌≡◌, ◌++◌, IfOk, OnOk, string_bytes};
-ghost use Rattle.kmip_probe.specs.LookText.{fault_text, items_text, reason_text, tag_text, unread_text, version_text};
+//! A message that can't be read as replies.
+ghost use Rattle.std.specs.Prelude.{◌≡◌, ◌≤◌, ◌-◌, take, drop};
+ghost use Rattle.kmip_probe.specs.Unreadable.{version_in, version_of};
 
-use kmip_fields::MessageFault;
-use kmip_premises::{ProtocolVersion, Unread};
-use kmip_ttlv::{NoMemory, Tag, TtlvFault};
-use std::alloc::Global;
+use kmip_batch_items::MessageFault;
 
-/// Why a reply can't be read: another version, where its number is known, or the fault and what it is
-/// about.
-///
-/// # Errors
-/// Where there is no memory.
-pub(crate) fn unread_text(alloc: Global, unread: Unread) -> Result<String, NoMemory>
-    ensures { IfOk result (λ text. string_bytes text ≡ unread_text unread) }
-{
-    let why = reason_text(alloc, &unread.fault, unread.version)?;
-    let mut text = format!(in alloc; "the server's reply can't be read (")?;
-    text.push_str(why.as_str())?;
-    text.push_str(")")?;
-    Ok(text)
+/// Why a message can't be read as replies, and which version it says that it has.
+#[derive(Clone, Copy)]
+pub struct Unread {
+    /// What is wrong with it; never want of memory.
+    pub fault: MessageFault,
+    /// Its Protocol Version, where its header begins with one.
+    pub version: Option<ProtocolVersion>,
 }
 
-/// Another version, where its number is known, or the fault and what it is about.
+/// A Protocol Version of KMIP.
+#[derive(Clone, Copy)]
+pub struct ProtocolVersion {
+    /// Protocol Version Major, 0 to 255.
+    pub major: u8,
+    /// Protocol Version Minor, 0 to 255.
+    pub minor: u8,
+}
+
+/// What stands before the major number in the bytes of a message: the head of the Protocol Version,
+/// that of its first item, and the first three bytes of that item's value.
 ///
-/// # Errors
-/// Where there is no memory.
-fn reason_text(
-    alloc: Global,
-    fault: &MessageFault,
-    version: Option<ProtocolVersion>,
-) -> Result<String, NoMemory>
-    ensures { IfOk result (λ text. string_bytes text ≡ reason_text fault.now version) }
+/// Source: KMIP 2.1, Message Structure; TTLV Encoding.
+pub const VERSION_HEAD: [u8; 19] = [
+    0x42, 0, 0x69, 1, 0, 0, 0, 0x20, 0x42, 0, 0x6A, 2, 0, 0, 0, 4, 0, 0, 0,
+];
+
+/// What stands between the two numbers: padding, the head of the second item, and the first three
+/// bytes of its value.
+pub const MINOR_HEAD: [u8; 15] = [0, 0, 0, 0, 0x42, 0, 0x6B, 2, 0, 0, 0, 4, 0, 0, 0];
+
+/// The Protocol Version in the header of a message: none where the bytes have none at its place, or
+/// one of its numbers is above 255.
+pub fn version_in(bytes: &[u8]) -> Option<ProtocolVersion>
+    ensures { result ≡ version_in bytes.now }
 {
-    match (fault, version) {
-        (MessageFault::Version, Some(version)) => version_text(alloc, version),
-        _ => fault_text(alloc, fault),
+    if part_of(bytes, 16, 35) != VERSION_HEAD.as_slice()
+        || part_of(bytes, 36, 51) != MINOR_HEAD.as_slice()
+    {
+        return None;
+    }
+    version_of(bytes.get(35).copied(), bytes.get(51).copied())
+}
+
+/// The version of these numbers, where both are there.
+fn version_of(major: Option<u8>, minor: Option<u8>) -> Option<ProtocolVersion>
+    ensures { result ≡ version_of major minor }
+{
+    match (major, minor) {
+        (Some(major), Some(minor)) => Some(ProtocolVersion { major, minor }),
+        (None, _) | (_, None) => None,
     }
 }
 
-/// The version that a server answers in.
-///
-/// # Errors
-/// Where there is no memory.
-fn version_text(alloc: Global, version: ProtocolVersion) -> Result<String, NoMemory>
-    ensures { IfOk result (λ text. string_bytes text ≡ version_text version) }
+/// The bytes from one place on and before another.
+fn part_of(bytes: &[u8], from: usize, to: usize) -> &[u8]
+    requires { from ≤ to }
+    ensures { result.now ≡ take (to - from) (drop from bytes.now) }
 {
-    let (major, minor) = (version.major, version.minor);
-    let mut text = format!(in alloc; "Version: it answers in KMIP {major}")?;
-    let behind = format!(in alloc; ".{minor}")?;
-    text.push_str(behind.as_str())?;
-    Ok(text)
-}
-
-/// The name of a fault, and the tag that it is about or what is wrong with the items.
-///
-/// # Errors
-/// Where there is no memory.
-fn fault_text(alloc: Global, fault: &MessageFault) -> Result<String, NoMemory>
-    ensures { IfOk result (λ text. string_bytes text ≡ fault_text fault.now) }
-{
-    let mut text = String::new(alloc);
-    text.push_str(fault.name())?;
-    push_tag(alloc, fault.tag(), &mut text)?;
-    push_items(alloc, fault.items(), &mut text)?;
-    Ok(text)
-}
-
-/// Appends a tag as six hexadecimal digits, where there is one.
-///
-/// # Errors
-/// Where there is no memory.
-fn push_tag(alloc: Global, tag: Option<Tag>, text: &mut String) -> Result<(), NoMemory>
-    ensures { OnOk result (string_bytes text.new ≡ string_bytes text.old ++ tag_text tag) }
-{
-    if let Some(tag) = tag {
-        let digits = hex::encode(alloc, &tag.number().to_be_bytes()[1..])?;
-        text.push_str(" ")?;
-        text.push_str(digits.as_str())?;
-    }
-    Ok(())
-}
-
-/// Appends what is wrong with the items, where something is.
-///
-/// # Errors
-/// Where there is no memory.
-fn push_items(alloc: Global, fault: Option<TtlvFault>, text: &mut String) -> Result<(), NoMemory>
-    ensures { OnOk result (string_bytes text.new ≡ string_bytes text.old ++ items_text fault) }
-{
-    let Some(fault) = fault else {
-        return Ok(());
-    };
-    text.push_str(": ")?;
-    text.push_str(fault.name())?;
-    if let Some(at) = fault.offset() {
-        let place = format!(in alloc; " at {at}")?;
-        text.push_str(place.as_str())?;
-    }
-    Ok(())
+    let end = to.min(bytes.len());
+    &bytes[from.min(end)..end]
 }

@@ -1,14 +1,13 @@
 //! The commands, over standard input, files and standard output.
 
-use kmip_check::{check_after_bytes, run_check, run_check_after};
 use kmip_choices::{Choice, Detail};
-use kmip_commands::{ExitStatus, Form, run_answer, run_answer_stream, run_show};
 use kmip_explaining::{tell_prolonging, tell_refusal};
+use kmip_message_commands::{ExitStatus, Form, run_answer, run_answer_stream, run_show};
 use kmip_network::{
     Trouble, batch_of, plan_at, probe_server, run_plan, serve, standard_input, standard_output,
     text_at,
 };
-use kmip_sim::run_sim;
+use kmip_plan_commands::{check_after_bytes, run_check, run_check_after, run_sim};
 use kmip_ttlv::NoMemory;
 use std::io;
 use std::io::{BufReader, BufWriter, IsTerminal};

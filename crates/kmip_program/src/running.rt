@@ -4,7 +4,7 @@ use crate::address::WrongAddress;
 use crate::doing::carry_out;
 use crate::streams::open_closed_streams;
 use kmip_command_line::{chosen, status_of};
-use kmip_commands::{CommandFault, ExitStatus};
+use kmip_message_commands::{CommandFault, ExitStatus};
 use kmip_network::Trouble;
 use kmip_ttlv::NoMemory;
 use std::io::ErrorKind;

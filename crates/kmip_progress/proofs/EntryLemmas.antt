@@ -9,8 +9,8 @@ use Rattle.std.proofs.lemmas.List.{append-nil}
 use Rattle.kmip_objects.specs.Ranges.{is_name, is_identifier}
 use Rattle.kmip_ttlv.proofs.ReadSteps.{Reads, reads-ok, reads-bind, reads-as}
 use Rattle.kmip_plan.specs.Fields.{if_so}
-use Rattle.kmip_chains.specs.Words.{target_word, target_of_word}
-use Rattle.kmip_chains.specs.declared.target.Target.{Target}
+use Rattle.kmip_plan.specs.TargetWords.{target_word, target_of_word}
+use Rattle.kmip_plan.specs.declared.target.Target.{Target}
 use Rattle.kmip_progress.specs.declared.entry.Entry.{Entry}
 use Rattle.kmip_progress.specs.declared.entry.Format.{Format}
 use Rattle.kmip_progress.specs.declared.entry.Format.TheVariants.{One, Two}

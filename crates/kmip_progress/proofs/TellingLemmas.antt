@@ -4,13 +4,13 @@ use Rattle.std.specs.List.{list_all}
 use Rattle.std.specs.Option.{option_map_or}
 use Rattle.std.proofs.lemmas.Bool.{cases_Bool, and_parts, and_from, leb-true, le-leb, eqb-true, eq-eqb}
 use Rattle.std.proofs.lemmas.List.{length-take}
-use Rattle.kmip_chains.specs.Chains.{chain, is_revoked}
-use Rattle.kmip_chains.specs.Chains.{LeadsOn}
+use Rattle.kmip_plan.specs.Chains.{chain, is_revoked}
+use Rattle.kmip_plan.specs.Chains.{LeadsOn}
 use Rattle.kmip_plan.specs.Prolonging.{GoesOn, Prolongs}
-use Rattle.kmip_chains.specs.Words.{is_text}
-use Rattle.kmip_chains.specs.declared.key.Key.{Key}
-use Rattle.kmip_chains.specs.declared.target.Target.{Target}
-use Rattle.kmip_chains.specs.declared.target.Target.TheVariants.{Created, Active, Revoked, Destroyed, Discarded}
+use Rattle.kmip_plan.specs.TargetWords.{is_text}
+use Rattle.kmip_plan.specs.declared.key.Key.{Key}
+use Rattle.kmip_plan.specs.declared.target.Target.{Target}
+use Rattle.kmip_plan.specs.declared.target.Target.TheVariants.{Created, Active, Revoked, Destroyed, Discarded}
 use Rattle.kmip_progress.specs.declared.entry.Entry.{Entry}
 use Rattle.kmip_progress.specs.declared.entry.Format.{Format}
 use Rattle.kmip_progress.specs.declared.entry.Format.TheVariants.{One, Two}

@@ -8,10 +8,10 @@ use Rattle.std.proofs.lemmas.Bool.{cases_Bool, and_parts, and_from}
 use Rattle.kmip_objects.specs.Ranges.{is_name, is_name_byte}
 use Rattle.kmip_ttlv.proofs.ReadSteps.{Reads, reads-ok, reads-bind, reads-as}
 use Rattle.kmip_plan.specs.Plans.{IsLawful}
-use Rattle.kmip_chains.specs.Words.{is_text, target_word}
-use Rattle.kmip_chains.specs.declared.key.Key.{Key}
-use Rattle.kmip_chains.specs.declared.target.Target.{Target}
-use Rattle.kmip_chains.specs.declared.target.Target.TheVariants.{Created, Active, Revoked, Destroyed, Discarded}
+use Rattle.kmip_plan.specs.TargetWords.{is_text, target_word}
+use Rattle.kmip_plan.specs.declared.key.Key.{Key}
+use Rattle.kmip_plan.specs.declared.target.Target.{Target}
+use Rattle.kmip_plan.specs.declared.target.Target.TheVariants.{Created, Active, Revoked, Destroyed, Discarded}
 use Rattle.kmip_progress.specs.declared.entry.Entry.{Entry}
 use Rattle.kmip_progress.specs.declared.entry.Format.{Format}
 use Rattle.kmip_progress.specs.declared.entry.Format.TheVariants.{One, Two}

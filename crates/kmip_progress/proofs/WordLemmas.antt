@@ -12,11 +12,11 @@ use Rattle.hex.specs.Hex.{decode_of, encode_lower, lower_digits}
 use Rattle.hex.specs.declared.error.FromHexError.{FromHexError}
 use Rattle.hex.proofs.HexLemmas.{decode_of-encode_lower, length-encode_with}
 use Rattle.kmip_objects.specs.Ranges.{is_identifier}
-use Rattle.kmip_chains.specs.Chains.{is_revoked}
+use Rattle.kmip_plan.specs.Chains.{is_revoked}
 use Rattle.kmip_plan.specs.Fields.{if_so}
-use Rattle.kmip_chains.specs.Words.{is_text, target_word, target_of_word}
-use Rattle.kmip_chains.specs.declared.target.Target.{Target}
-use Rattle.kmip_chains.specs.declared.target.Target.TheVariants.{Created, Active, Revoked, Destroyed, Discarded}
+use Rattle.kmip_plan.specs.TargetWords.{is_text, target_word, target_of_word}
+use Rattle.kmip_plan.specs.declared.target.Target.{Target}
+use Rattle.kmip_plan.specs.declared.target.Target.TheVariants.{Created, Active, Revoked, Destroyed, Discarded}
 use Rattle.kmip_progress.specs.declared.entry.Format.TheVariants.{Two}
 use Rattle.kmip_progress.specs.declared.fault.ProgressFault.{ProgressFault}
 use Rattle.kmip_progress.specs.declared.fault.ProgressFault.TheVariants as faults

@@ -1,7 +1,7 @@
 -- The text that is written is its head, the lines of the keys and its end.
 use Rattle.std.proofs.Common.{◌≡◌, ◌≤◌, ℕ, suc, List, [], ◌∷◌, ◌++◌, length, drop, map, codes, refl, sym, ◌∙◌, ap, append_assoc}
 use Rattle.std.proofs.lemmas.List.{drop_all, append-nil}
-use Rattle.kmip_chains.specs.declared.key.Key.{Key}
+use Rattle.kmip_plan.specs.declared.key.Key.{Key}
 use Rattle.kmip_progress.specs.declared.entry.Format.{Format}
 use Rattle.kmip_progress.specs.declared.entry.Format.TheVariants.{Two}
 use Rattle.kmip_progress.specs.declared.known.Known.{Known}

@@ -5,12 +5,12 @@ use Rattle.std.specs.List.{slice_split}
 use Rattle.std.specs.Option.{option_map_or}
 use Rattle.kmip_objects.specs.Ranges.{is_name}
 use Rattle.kmip_ttlv.specs.Binding.{◌>>=◌}
-use Rattle.kmip_chains.specs.Chains.{chain}
+use Rattle.kmip_plan.specs.Chains.{chain}
 use Rattle.kmip_plan.specs.Fields.{if_so}
-use Rattle.kmip_chains.specs.Words.{is_text, target_of_word}
-use Rattle.kmip_chains.specs.declared.key.Key.{Key}
-use Rattle.kmip_chains.specs.declared.target.Target.{Target}
-use Rattle.kmip_chains.specs.declared.target.Target.TheVariants.{Created, Active, Revoked, Destroyed, Discarded}
+use Rattle.kmip_plan.specs.TargetWords.{is_text, target_of_word}
+use Rattle.kmip_plan.specs.declared.key.Key.{Key}
+use Rattle.kmip_plan.specs.declared.target.Target.{Target}
+use Rattle.kmip_plan.specs.declared.target.Target.TheVariants.{Created, Active, Revoked, Destroyed, Discarded}
 use Rattle.kmip_progress.specs.declared.entry.Entry.{Entry}
 use Rattle.kmip_progress.specs.declared.entry.Format.{Format}
 use Rattle.kmip_progress.specs.declared.entry.Format.TheVariants.{One, Two}

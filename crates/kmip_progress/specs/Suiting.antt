@@ -5,8 +5,8 @@ use Rattle.std.specs.List.{list_all, AllZip}
 use Rattle.std.specs.Option.{option_map_or}
 use Rattle.std.specs.Str.{is_utf8}
 use Rattle.kmip_objects.specs.Ranges.{is_identifier}
-use Rattle.kmip_chains.specs.Chains.{chain}
-use Rattle.kmip_chains.specs.declared.key.Key.{Key}
+use Rattle.kmip_plan.specs.Chains.{chain}
+use Rattle.kmip_plan.specs.declared.key.Key.{Key}
 use Rattle.kmip_progress.specs.declared.known.Known.{Known}
 
 -- Nothing is known of a key: it has no identifier, and no step is done.

@@ -3,12 +3,12 @@
 use Rattle.std.specs.Prelude.{◌≡◌, ◌≤◌, ℕ, Bool, true, false, not, ◌&&◌, nat_le, List, [], ◌∷◌, ◌++◌, length, map, codes, decimal, Option, Some, None, IfSome, if◌then◌else◌}
 use Rattle.std.specs.List.{list_all, join_with_byte}
 use Rattle.kmip_objects.specs.Ranges.{is_name}
-use Rattle.kmip_chains.specs.Chains.{chain, is_revoked}
+use Rattle.kmip_plan.specs.Chains.{chain, is_revoked}
 use Rattle.kmip_plan.specs.Plans.{reason_fits}
-use Rattle.kmip_chains.specs.Chains.{LeadsOn}
-use Rattle.kmip_chains.specs.Words.{target_word}
-use Rattle.kmip_chains.specs.declared.key.Key.{Key}
-use Rattle.kmip_chains.specs.declared.target.Target.{Target}
+use Rattle.kmip_plan.specs.Chains.{LeadsOn}
+use Rattle.kmip_plan.specs.TargetWords.{target_word}
+use Rattle.kmip_plan.specs.declared.key.Key.{Key}
+use Rattle.kmip_plan.specs.declared.target.Target.{Target}
 use Rattle.kmip_progress.specs.declared.entry.Entry.{Entry}
 use Rattle.kmip_progress.specs.declared.entry.Format.{Format}
 use Rattle.kmip_progress.specs.declared.entry.Format.TheVariants.{One, Two}

@@ -6,10 +6,10 @@ use Rattle.std.specs.Result.{result_ok}
 use Rattle.std.specs.Str.{is_utf8}
 use Rattle.hex.specs.Hex.{encode_lower, decode_of}
 use Rattle.kmip_objects.specs.Ranges.{is_identifier}
-use Rattle.kmip_chains.specs.Chains.{is_revoked}
+use Rattle.kmip_plan.specs.Chains.{is_revoked}
 use Rattle.kmip_plan.specs.Fields.{if_so}
-use Rattle.kmip_chains.specs.Words.{is_text}
-use Rattle.kmip_chains.specs.declared.target.Target.{Target}
+use Rattle.kmip_plan.specs.TargetWords.{is_text}
+use Rattle.kmip_plan.specs.declared.target.Target.{Target}
 
 -- The word of a value that may be missing: a hyphen stands for none.
 abbrev pub word_or_hyphen : Option (List ℕ) → List ℕ

@@ -3,7 +3,7 @@ ghost use Rattle.std.specs.Prelude.{◌≡◌};
 ghost use Rattle.kmip_progress.specs.Reading.{format_of_head};
 
 use crate::known::Known;
-use kmip_chains::Target;
+use kmip_plan::Target;
 use kmip_ttlv::Text;
 
 /// How a text is laid out. Format 2 is written, both are read.

@@ -2,8 +2,8 @@
 ghost use Rattle.std.specs.Prelude.{◌≡◌};
 ghost use Rattle.kmip_progress.specs.Suiting.{is_known, known_fits};
 
-use kmip_chains::{Key, chain_length};
 use kmip_objects::is_identifier;
+use kmip_plan::{Key, chain_length};
 use kmip_ttlv::Text;
 
 /// What is known of one key of a plan.

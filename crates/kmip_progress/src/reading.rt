@@ -3,7 +3,7 @@ ghost use Rattle.std.specs.Prelude.{◌≡◌, ◌==◌, ◌++◌, [], IfOk, OnO
 ghost use Rattle.std.specs.Option.{option_map_or};
 ghost use Rattle.kmip_objects.specs.Ranges.{is_name};
 ghost use Rattle.kmip_plan.specs.Fields.{if_so};
-ghost use Rattle.kmip_chains.specs.Words.{is_text};
+ghost use Rattle.kmip_plan.specs.TargetWords.{is_text};
 ghost use Rattle.kmip_progress.specs.Reading.{need, guard, body_of, format_in, known_in, entry_1, entry_2, entry_in, entries_in, speaks_of, keys_behind, all_known, entries_of_text, read_text, GivesProgress};
 ghost use Rattle.kmip_progress.specs.Suiting.{nothing_known};
 
@@ -11,8 +11,8 @@ use crate::entry::{Entry, Format};
 use crate::fault::ProgressFault;
 use crate::known::{Known, is_known};
 use crate::words::{done_of_word, identifier_in, leads_on, lines, number_in, reason_in, words};
-use kmip_chains::{Key, Target};
 use kmip_objects::is_name;
+use kmip_plan::{Key, Target};
 use kmip_ttlv::Text;
 use std::alloc::{AllocError, Global};
 

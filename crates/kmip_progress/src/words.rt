@@ -8,8 +8,8 @@ ghost use Rattle.kmip_progress.specs.Words.{done_of_word, reason_of_word, reason
 
 use crate::fault::ProgressFault;
 use hex::FromHexError;
-use kmip_chains::Target;
 use kmip_objects::is_identifier;
+use kmip_plan::Target;
 use kmip_ttlv::Text;
 use std::alloc::{AllocError, Global};
 

@@ -6,7 +6,7 @@ ghost use Rattle.kmip_progress.specs.Texts.{key_line, key_lines, end_line, progr
 ghost use Rattle.kmip_progress.specs.Words.{reason_word, identifier_word};
 
 use crate::known::Known;
-use kmip_chains::Key;
+use kmip_plan::Key;
 use std::alloc::{AllocError, Global};
 
 /// The text of what is known of these keys.

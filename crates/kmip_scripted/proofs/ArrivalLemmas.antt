@@ -6,13 +6,13 @@ use Rattle.std.proofs.lemmas.Grind.{flat_map-append}
 use Rattle.std.proofs.lemmas.List.Elements.{All-head, All-tail}
 use Rattle.kmip_objects.specs.Objects.{DistinctNames, DistinctUids, Object}
 use Rattle.kmip_objects.specs.declared.state.KeyState.TheVariants.{PreActive}
-use Rattle.kmip_messages.specs.BatchItems.{Question}
-use Rattle.kmip_messages.specs.declared.reply.Outcome.{Outcome}
-use Rattle.kmip_messages.specs.declared.reply.Reply.{Reply}
-use Rattle.kmip_messages.specs.declared.request.Ask.{Ask}
-use Rattle.kmip_messages.specs.declared.request.Request.{Request}
-use Rattle.kmip_batches.specs.Items.{parts_in, replies_in, stops_in}
-use Rattle.kmip_batches.specs.Members.{may_have}
+use Rattle.kmip_batch_items.specs.BatchItems.{Question}
+use Rattle.kmip_batch_items.specs.declared.reply.Outcome.{Outcome}
+use Rattle.kmip_batch_items.specs.declared.reply.Reply.{Reply}
+use Rattle.kmip_batch_items.specs.declared.request.Ask.{Ask}
+use Rattle.kmip_batch_items.specs.declared.request.Request.{Request}
+use Rattle.kmip_messages.specs.Items.{parts_in, replies_in, stops_in}
+use Rattle.kmip_messages.specs.Members.{may_have}
 use Rattle.kmip_store.specs.Stock.{Stock}
 use Rattle.kmip_server.specs.Batching.{AreBegun, AreServedInTurn, GrownBy, batch_reply, effect_by, effects_in, stock_after_batch}
 use Rattle.kmip_server.specs.Messages.{IsServedBy}
@@ -21,9 +21,9 @@ use Rattle.kmip_server.specs.ServerStep.{ServerStep}
 use Rattle.kmip_server.specs.ServerStep as rows
 use Rattle.kmip_server.specs.Shown.{HasLawfulObjects, objects_in, room_in}
 use Rattle.kmip_server.specs.declared.effect.Effect.{Effect}
-use Rattle.kmip_schedule.specs.Calm.{AreTaken, IsTaken}
-use Rattle.kmip_schedule.specs.Moves.{Delivered, Serves, Unanswered}
-use Rattle.kmip_schedule.specs.Past.{Names, Past}
+use Rattle.kmip_protocol.specs.Calm.{AreTaken, IsTaken}
+use Rattle.kmip_protocol.specs.Moves.{Delivered, Serves, Unanswered}
+use Rattle.kmip_protocol.specs.Past.{Names, Past}
 use Rattle.kmip_scripted.specs.Arriving.{ArrivalLaws}
 use Rattle.kmip_scripted.specs.Scenes.{Scene, WasAsked, past_in}
 use Rattle.kmip_scripted.specs.Serving.{IsHalfServed, with_served}

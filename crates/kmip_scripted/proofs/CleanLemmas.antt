@@ -3,17 +3,17 @@ use Rattle.std.proofs.Common.{◌≡◌, ◌==◌, ◌+◌, ◌-◌, ◌≤◌, 
 use Rattle.std.specs.List.{All, slice_get}
 use Rattle.std.proofs.lemmas.Bool.{cases_Bool, eqb-false, or_parts}
 use Rattle.std.proofs.lemmas.Option.{same_Some}
-use Rattle.kmip_batches.specs.Items.{parts_in, replies_in, requests_in, stops_in}
+use Rattle.kmip_messages.specs.Items.{parts_in, replies_in, requests_in, stops_in}
 use Rattle.kmip_server.specs.Batching.{batch_reply}
-use Rattle.kmip_schedule.specs.Calm.{AreTaken}
-use Rattle.kmip_schedule.specs.Clean.{Disturbances, HasRoom, IsClean, IsCounted, strange_handed}
-use Rattle.kmip_schedule.specs.Exchanges.{with_asked}
-use Rattle.kmip_schedule.specs.Laws.{DeliveriesJoin, NothingIsDelivered}
-use Rattle.kmip_schedule.specs.Moves.{Delivered}
-use Rattle.kmip_schedule.specs.Past.{Names}
+use Rattle.kmip_protocol.specs.Calm.{AreTaken}
+use Rattle.kmip_protocol.specs.Clean.{Disturbances, HasRoom, IsClean, IsCounted, strange_handed}
+use Rattle.kmip_protocol.specs.Exchanges.{with_asked}
+use Rattle.kmip_protocol.specs.Laws.{DeliveriesJoin, NothingIsDelivered}
+use Rattle.kmip_protocol.specs.Moves.{Delivered}
+use Rattle.kmip_protocol.specs.Past.{Names}
 use Rattle.kmip_scripted.specs.declared.script.Word.{Word}
 use Rattle.kmip_scripted.specs.declared.script.Word.TheVariants.{Pass, LoseRequest, LoseReply, Cut, Stale, Again, Save, Prolong, Restart}
-use Rattle.kmip_losses.specs.Counting.{counted, every_name}
+use Rattle.kmip_scripted.specs.Counting.{counted, every_name}
 use Rattle.kmip_scripted.specs.Disturbing.{is_disturbed, is_repeated}
 use Rattle.kmip_scripted.specs.Early.{AreOfEarlier, IsEarly, IsOfEarlier, asked_only}
 use Rattle.kmip_scripted.specs.Scenes.{Scene, disturbances_in, past_in, with_disturbances}

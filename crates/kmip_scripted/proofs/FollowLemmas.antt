@@ -3,16 +3,16 @@ use Rattle.std.proofs.Common.{◌≡◌, ℕ, pos, Bool, false, List, [], ◌∷
 use Rattle.std.specs.List.{All, Contains, flat_map}
 use Rattle.std.proofs.lemmas.Grind.{flat_map-append}
 use Rattle.std.proofs.lemmas.List.Elements.{All-contains_itself, All-weaker, Contains-append_right}
-use Rattle.kmip_batches.specs.Items.{parts_in, replies_in, requests_in, stops_in}
+use Rattle.kmip_messages.specs.Items.{parts_in, replies_in, requests_in, stops_in}
 use Rattle.kmip_server.specs.Batching.{batch_reply}
-use Rattle.kmip_schedule.specs.Calm.{AreTaken, Calmly}
-use Rattle.kmip_schedule.specs.Clean.{Disturbances, strange_handed}
-use Rattle.kmip_schedule.specs.Exchanges.{AreGiven, HandsOver, with_asked}
-use Rattle.kmip_schedule.specs.Moves.{Delivered}
-use Rattle.kmip_schedule.specs.Past.{Names}
+use Rattle.kmip_protocol.specs.Calm.{AreTaken, Calmly}
+use Rattle.kmip_protocol.specs.Clean.{Disturbances, strange_handed}
+use Rattle.kmip_protocol.specs.Exchanges.{AreGiven, HandsOver, with_asked}
+use Rattle.kmip_protocol.specs.Moves.{Delivered}
+use Rattle.kmip_protocol.specs.Past.{Names}
 use Rattle.kmip_scripted.specs.declared.script.Word.{Word}
 use Rattle.kmip_scripted.specs.declared.script.Word.TheVariants.{Pass, LoseRequest, LoseReply, Cut, Stale, Again, Save, Prolong, Restart}
-use Rattle.kmip_losses.specs.Counting.{counted, every_name}
+use Rattle.kmip_scripted.specs.Counting.{counted, every_name}
 use Rattle.kmip_scripted.specs.Disturbing.{is_disturbed, is_repeated}
 use Rattle.kmip_scripted.specs.Scenes.{Scene, WasAsked, disturbances_in, past_in, with_disturbances}
 use Rattle.kmip_scripted.specs.Words.{AreBegun, IsBegun, after_words, before_play, exchange, exchange_word, message_at, play, played, with_request, with_words, words_after_exchange}

@@ -1,3 +1,4 @@
+mod RequestLemmas
 pub mod ArrivalLemmas
 pub mod WordLemmas
 pub mod FollowLemmas

@@ -2,11 +2,11 @@
 use Rattle.std.proofs.Common.{◌≡◌, ◌≤◌, ◌<◌, ◌+◌, ℕ, Bool, true, false, List, [], ◌∷◌, ◌++◌, drop, length, get_or, Option, Result, Ok, Err, IfOk, IsTrue, rules, refl, sym, ap, subst, ◌∙◌, arith, append_assoc, ◌⊎◌, inl, inr}
 use Rattle.std.proofs.lemmas.List.{drop_more, drop_all}
 use Rattle.std.proofs.lemmas.List.Elements.{All-cons, All-head, All-nil, All-tail}
-use Rattle.kmip_session.specs.declared.campaigning.Run.{Run}
-use Rattle.kmip_session.specs.declared.campaigning.Start.{Start}
-use Rattle.kmip_session.specs.declared.campaigning.Start.TheVariants.{Fresh, Same}
-use Rattle.kmip_session.specs.Campaign.{MayBatch}
-use Rattle.kmip_batches.specs.Members.{may_have}
+use Rattle.kmip_runs.specs.declared.campaigning.Run.{Run}
+use Rattle.kmip_runs.specs.declared.campaigning.Start.{Start}
+use Rattle.kmip_runs.specs.declared.campaigning.Start.TheVariants.{Fresh, Same}
+use Rattle.kmip_runs.specs.Campaign.{MayBatch}
+use Rattle.kmip_messages.specs.Members.{may_have}
 use Rattle.kmip_scripted.specs.declared.runs.Part.{Part}
 use Rattle.kmip_scripted.specs.declared.script.Word.{Word}
 use Rattle.kmip_scripted.specs.declared.script.Word.TheVariants as words

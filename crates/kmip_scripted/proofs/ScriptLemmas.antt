@@ -11,7 +11,7 @@ use Rattle.std.specs.Result.{result_ok}
 use Rattle.std.specs.Str.{all_ascii_digits}
 use Rattle.std.specs.Str.Parse.{ParsesUnsigned}
 use Rattle.std.proofs.lemmas.Str.Parse.{IsNumeralModel, digits_value_short, numerals_by_fold, parse_gives}
-use Rattle.kmip_chains.specs.Words.{is_text}
+use Rattle.kmip_plan.specs.TargetWords.{is_text}
 use Rattle.kmip_scripted.specs.ScriptReading.{at_space, before_space, followed_by, number_in, numbered_word, plain_word, restart_in, with_front, word_by, word_in, words_from, words_of_line}
 use Rattle.kmip_scripted.specs.ScriptTexts.{IsNumber, IsNumbered, IsWord, is_digit, lines_in, most_lines, value_behind, without_empty_end}
 use Rattle.kmip_scripted.specs.declared.fault.ScriptFault.{ScriptFault}

@@ -5,8 +5,8 @@ use Rattle.std.specs.List.{filter_map}
 use Rattle.std.specs.Result.{result_ok}
 use Rattle.kmip_objects.specs.ObjectLaws.{OneMore, StaysDistinct}
 use Rattle.kmip_objects.specs.Objects.{DistinctNames, DistinctUids, object_named, object_with}
-use Rattle.kmip_batches.specs.Items.{parts_in, requests_in}
-use Rattle.kmip_schedule.specs.Laws.{DeliveriesJoin, NothingIsDelivered, TakenIsDelivered, WhatIsDoneJoins}
+use Rattle.kmip_messages.specs.Items.{parts_in, requests_in}
+use Rattle.kmip_protocol.specs.Laws.{DeliveriesJoin, NothingIsDelivered, TakenIsDelivered, WhatIsDoneJoins}
 
 -- The laws of the crates below, on which the arrival of a message rests.
 pub record ArrivalLaws : Type 0 where

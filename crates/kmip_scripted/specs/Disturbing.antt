@@ -1,7 +1,7 @@
 -- Which exchanges over a link in memory go amiss, and so are counted as disturbed.
 -- Source: own (choice): the standard does not say when an exchange goes amiss.
 use Rattle.std.specs.Prelude.{◌==◌, ◌+◌, ℕ, Bool, true, false, not, ◌||◌, List, [], ◌∷◌, Option}
-use Rattle.kmip_losses.specs.Counting as losses
+use Rattle.kmip_scripted.specs.Counting as losses
 use Rattle.kmip_scripted.specs.declared.script.Word.{Word}
 use Rattle.kmip_scripted.specs.declared.script.Word.TheVariants.{Pass, Again}
 

@@ -1,8 +1,8 @@
 -- Private: what the words before an exchange deliver, where none of it is the message of the exchange.
 -- Source: own (view): it may as well have happened before the message was asked.
 use Rattle.std.specs.Prelude.{◌≡◌, ℕ, List, [], ◌∷◌, ⊤}
-use Rattle.kmip_schedule.specs.Moves.{Delivered}
-use Rattle.kmip_schedule.specs.Past.{Names}
+use Rattle.kmip_protocol.specs.Moves.{Delivered}
+use Rattle.kmip_protocol.specs.Past.{Names}
 use Rattle.kmip_scripted.specs.declared.script.Word.{Word}
 use Rattle.kmip_scripted.specs.declared.script.Word.TheVariants.{Again}
 use Rattle.kmip_scripted.specs.Scenes.{Scene, past_in}

@@ -1,3 +1,7 @@
+-- Which exchanges a link counts, and how its counts rise.
+
+-- When an exchange is disturbed, and the counts after an exchange.
+pub mod Counting
 -- What a script says, and what a link in memory does that follows it.
 
 -- what a link in memory holds, and what that says of the past

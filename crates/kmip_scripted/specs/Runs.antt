@@ -2,12 +2,12 @@
 -- it may make, and whether it is saved.
 -- Source: own (text): the table of a script's words.
 use Rattle.std.specs.Prelude.{ℕ, ◌+◌, Bool, true, false, List, [], ◌∷◌, filter, length, Option, Some, None, if◌then◌else◌}
-use Rattle.kmip_chains.specs.Chains.{bound}
-use Rattle.kmip_chains.specs.declared.key.Key.{Key}
-use Rattle.kmip_session.specs.Campaign.{saves}
-use Rattle.kmip_session.specs.declared.campaigning.Run.{Run}
-use Rattle.kmip_session.specs.declared.campaigning.Start.{Start}
-use Rattle.kmip_session.specs.declared.campaigning.Start.TheVariants.{Fresh, Same, Saved}
+use Rattle.kmip_plan.specs.Chains.{bound}
+use Rattle.kmip_plan.specs.declared.key.Key.{Key}
+use Rattle.kmip_runs.specs.Campaign.{saves}
+use Rattle.kmip_runs.specs.declared.campaigning.Run.{Run}
+use Rattle.kmip_runs.specs.declared.campaigning.Start.{Start}
+use Rattle.kmip_runs.specs.declared.campaigning.Start.TheVariants.{Fresh, Same, Saved}
 use Rattle.kmip_scripted.specs.declared.runs.Part.{Part}
 use Rattle.kmip_scripted.specs.declared.script.Word.{Word}
 use Rattle.kmip_scripted.specs.declared.script.Word.TheVariants.{Save, Prolong, Restart}

@@ -3,12 +3,12 @@
 -- Source: own (view), over KMIP 2.1, Message Structure.
 use Rattle.std.specs.Prelude.{ℕ, List, [], Option}
 use Rattle.std.specs.List.{All, Contains, flat_map}
-use Rattle.kmip_batches.specs.Items.{replies_in, requests_in}
+use Rattle.kmip_messages.specs.Items.{replies_in, requests_in}
 use Rattle.kmip_server.specs.Shown.{objects_in, room_in}
 use Rattle.kmip_store.specs.Stock.{Stock}
 use Rattle.kmip_server.specs.declared.effect.Effect.{Effect}
-use Rattle.kmip_schedule.specs.Clean.{Disturbances}
-use Rattle.kmip_schedule.specs.Past.{Past}
+use Rattle.kmip_protocol.specs.Clean.{Disturbances}
+use Rattle.kmip_protocol.specs.Past.{Past}
 use Rattle.kmip_scripted.specs.declared.script.Word.{Word}
 
 -- What a link in memory holds.

@@ -3,7 +3,7 @@
 -- `read_script` tie this file to it.
 use Rattle.std.specs.Prelude.{◌≡◌, ℕ, ◌+◌, ◌==◌, nat_lt, nat_le, ◌&&◌, List, [], ◌∷◌, ◌++◌, codes, length, option_map, Option, Some, None, Result, Ok, Err, if◌then◌else◌}
 use Rattle.std.specs.List.{list_all}
-use Rattle.kmip_chains.specs.Words.{is_text}
+use Rattle.kmip_plan.specs.TargetWords.{is_text}
 use Rattle.kmip_scripted.specs.ScriptTexts.{is_digit, lines_in, most_lines, value_behind}
 use Rattle.kmip_scripted.specs.declared.fault.ScriptFault.{ScriptFault}
 use Rattle.kmip_scripted.specs.declared.fault.ScriptFault.TheVariants.{Line, NoMemory}

@@ -1,7 +1,7 @@
 -- What a message does that arrives at the server of a link.
 -- Source: own (view), over KMIP 2.1, Message Structure; Operations.
 use Rattle.std.specs.Prelude.{◌≡◌, pos, ℕ, List, [], ◌∷◌, ◌++◌}
-use Rattle.kmip_batches.specs.Items.{parts_in, stops_in}
+use Rattle.kmip_messages.specs.Items.{parts_in, stops_in}
 use Rattle.kmip_server.specs.Batching.{AreBegun, batch_reply, effects_in, stock_after_batch}
 use Rattle.kmip_server.specs.declared.effect.Effect.{Effect}
 use Rattle.kmip_scripted.specs.Scenes.{Scene}

@@ -3,12 +3,12 @@
 use Rattle.std.specs.Prelude.{◌≡◌, ◌⊎◌, ◌==◌, ◌-◌, ◌<◌, ℕ, nat_le, pos, Bool, true, false, not, ◌&&◌, List, [], ◌∷◌, ◌++◌, filter, length, Option, Some, None, if◌then◌else◌}
 use Rattle.std.specs.List.{slice_get}
 use Rattle.std.specs.Option.{option_flatten}
-use Rattle.kmip_batches.specs.Items.{requests_in}
+use Rattle.kmip_messages.specs.Items.{requests_in}
 use Rattle.kmip_server.specs.Batching.{batch_reply}
-use Rattle.kmip_schedule.specs.Clean.{strange_handed}
+use Rattle.kmip_protocol.specs.Clean.{strange_handed}
 use Rattle.kmip_scripted.specs.declared.script.Word.{Word}
 use Rattle.kmip_scripted.specs.declared.script.Word.TheVariants.{Pass, LoseRequest, LoseReply, Cut, Stale, Again, Save, Prolong, Restart}
-use Rattle.kmip_losses.specs.Counting.{counted, every_name}
+use Rattle.kmip_scripted.specs.Counting.{counted, every_name}
 use Rattle.kmip_scripted.specs.Disturbing.{is_disturbed, is_repeated}
 use Rattle.kmip_scripted.specs.Scenes.{Scene, disturbances_in, with_disturbances}
 use Rattle.kmip_scripted.specs.Serving.{IsHalfServed, with_served}

@@ -1,12 +1,12 @@
 //! The exchanges that go amiss, and so are counted as disturbed.
 ghost use Rattle.std.specs.Prelude.{◌≡◌, ◌==◌, ◌+◌, IfOk, length, option_map};
-ghost use Rattle.kmip_batches.specs.Items.{requests_in};
-ghost use Rattle.kmip_losses.specs.Counting.{counted, every_name};
-ghost use Rattle.kmip_schedule.specs.Clean.{strange_handed};
+ghost use Rattle.kmip_messages.specs.Items.{requests_in};
+ghost use Rattle.kmip_scripted.specs.Counting.{counted, every_name};
+ghost use Rattle.kmip_protocol.specs.Clean.{strange_handed};
 ghost use Rattle.kmip_scripted.specs.Disturbing.{is_disturbed, is_pass, is_repeated};
 
+use crate::Counts;
 use crate::script::Word;
-use kmip_losses::Counts;
 use kmip_ttlv::NoMemory;
 use std::alloc::Global;
 use std::collections::VecDeque;
@@ -30,7 +30,7 @@ pub(crate) fn counts_after(
         (strange_handed every_name request.now (option_map (λ m. m.now) answer.entry)) counts) }
 {
     let amiss = !is_pass(word) || repeated;
-    kmip_losses::counts_after(alloc, counts, request, amiss, answer)
+    crate::counts_after(alloc, counts, request, amiss, answer)
 }
 
 /// Whether the word is `pass`.

@@ -1,11 +1,11 @@
 //! What an exchange and the end of a run do, word by word.
 ghost use Rattle.std.specs.Prelude.{◌≡◌, ◌⊎◌, ℕ, List, length, [], pos, true, false, Some, None, IfOk, OnErr, OnOk, option_map};
-ghost use Rattle.kmip_batches.specs.Items.{parts_in, replies_in, stops_in};
+ghost use Rattle.kmip_messages.specs.Items.{parts_in, replies_in, stops_in};
 ghost use Rattle.kmip_server.specs.Batching.{batch_reply};
-ghost use Rattle.kmip_schedule.specs.Calm.{AreTaken, Calmly};
-ghost use Rattle.kmip_schedule.specs.Clean.{IsCounted};
-ghost use Rattle.kmip_schedule.specs.Moves.{Delivered};
-ghost use Rattle.kmip_schedule.specs.Past.{Names};
+ghost use Rattle.kmip_protocol.specs.Calm.{AreTaken, Calmly};
+ghost use Rattle.kmip_protocol.specs.Clean.{IsCounted};
+ghost use Rattle.kmip_protocol.specs.Moves.{Delivered};
+ghost use Rattle.kmip_protocol.specs.Past.{Names};
 ghost use Rattle.kmip_scripted.specs.declared.script.Word.TheVariants.{Pass};
 ghost use Rattle.kmip_scripted.specs.Disturbing.{is_repeated};
 ghost use Rattle.kmip_scripted.specs.Early.{AreOfEarlier, IsEarly, IsOfEarlier, asked_only};
@@ -13,12 +13,12 @@ ghost use Rattle.kmip_scripted.specs.Scenes.{WasAsked, disturbances_in, past_in}
 ghost use Rattle.kmip_scripted.specs.Serving.{IsHalfServed, with_served};
 ghost use Rattle.kmip_scripted.specs.Words.{AreBegun, HasStopped, IsBegun, IsHalfDelivered, IsHalfDone, IsHalfPlayed, IsPlaying, IsPreparing, StepsOn, after_word, after_run, after_words, before_play, exchange, exchange_word, message_at, play, played, with_delivered};
 ghost use Rattle.kmip_scripted.specs.Wanting.{IsWanting};
-ghost use Rattle.kmip_schedule.specs.Exchanges.{HandsOver, with_asked};
+ghost use Rattle.kmip_protocol.specs.Exchanges.{HandsOver, with_asked};
 
 use crate::script::Word;
 use crate::scripted::Scripted;
 use crate::words::goes_on;
-use kmip_schedule::laws::{deliveries_join, deliveries_keep_the_requests};
+use kmip_protocol::laws::{deliveries_join, deliveries_keep_the_requests};
 use kmip_server::Records;
 use kmip_ttlv::NoMemory;
 use std::alloc::Global;

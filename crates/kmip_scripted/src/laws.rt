@@ -1,12 +1,12 @@
 //! What holds of links in memory and of the runs of their scripts, as the contracts of functions that
 //! do nothing.
 ghost use Rattle.std.specs.Prelude.{◌≡◌, []};
-ghost use Rattle.kmip_schedule.specs.Past.{Names};
+ghost use Rattle.kmip_protocol.specs.Past.{Names};
 ghost use Rattle.kmip_scripted.specs.Laws.{EndsStay, HeadsMakeNoRun, RunsGoOn};
 ghost use Rattle.kmip_scripted.specs.Scenes.{Scene, disturbances_in, past_in};
 
 use crate::scripted::Scripted;
-use kmip_schedule::Link;
+use kmip_protocol::Link;
 use kmip_server::Records;
 
 /// The runs of a script are those that a link which follows it ends, one by one. A law, which does

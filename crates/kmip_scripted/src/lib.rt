@@ -1,8 +1,14 @@
 //! A link to a server in memory that does what a script says.
 //!
 //! A script says what is lost, delayed and repeated, and where a run ends.
+//!
+//! What a link counts of its disturbed exchanges.
+//!
+//! It counts how many were disturbed, how many requests these sent, and how many replies they handed over
+//! about other keys than those that were asked about.
 #![tactic(auto)]
 
+mod counting;
 mod disturbing;
 mod fault;
 mod following;
@@ -15,6 +21,7 @@ mod scripted;
 mod serving;
 mod words;
 
+pub use counting::{Counts, counts_after};
 pub use fault::ScriptFault;
 pub use reading::read_script;
 pub use script::{Script, Word};

@@ -1,18 +1,18 @@
 //! The link in memory as a link.
 ghost use Rattle.std.specs.Prelude.{◌≡◌, ◌≢◌, [], length, true, Err, IfOk, OnErr, OnOk, option_map};
-ghost use Rattle.kmip_schedule.specs.Calm.{CalmlyEnded, CalmlyExchanged};
-ghost use Rattle.kmip_schedule.specs.Clean.{Counted, IsRoomy};
-ghost use Rattle.kmip_schedule.specs.Ending.{Ended};
-ghost use Rattle.kmip_schedule.specs.Exchanges.{Exchanged, answer_in};
-ghost use Rattle.kmip_schedule.specs.Moves.{Delivered};
-ghost use Rattle.kmip_schedule.specs.Past.{Names};
-ghost use Rattle.kmip_schedule.specs.Losses.{IsInMemory};
+ghost use Rattle.kmip_protocol.specs.Calm.{CalmlyEnded, CalmlyExchanged};
+ghost use Rattle.kmip_protocol.specs.Clean.{Counted, IsRoomy};
+ghost use Rattle.kmip_protocol.specs.Ending.{Ended};
+ghost use Rattle.kmip_protocol.specs.Exchanges.{Exchanged, answer_in};
+ghost use Rattle.kmip_protocol.specs.Moves.{Delivered};
+ghost use Rattle.kmip_protocol.specs.Past.{Names};
+ghost use Rattle.kmip_protocol.specs.Losses.{IsInMemory};
 ghost use Rattle.kmip_scripted.specs.Following.{Follows};
 ghost use Rattle.kmip_scripted.specs.Scenes.{disturbances_in, past_in};
 ghost use Rattle.kmip_scripted.specs.Words.{AreBegun, IsBegun, after_run, exchange};
 
 use crate::scripted::Scripted;
-use kmip_schedule::{Link, LinkFault};
+use kmip_protocol::{Link, LinkFault};
 use kmip_server::Records;
 use kmip_ttlv::NoMemory;
 use std::alloc::Global;

@@ -2,8 +2,8 @@
 ghost use Rattle.std.specs.Prelude.{◌≡◌, ◌≤◌, ◌<◌, ◌+◌, ◌*◌, ◌++◌, [], ◌∷◌, List, ℕ, false, filter, length, map, OnOk, IfOk};
 ghost use Rattle.std.specs.List.{All, position};
 ghost use Rattle.kmip_plan.specs.Limits.{most_keys};
-ghost use Rattle.kmip_session.specs.Campaign.{MayBatch, saves};
-ghost use Rattle.kmip_session.specs.declared.campaigning.Start.TheVariants.{Fresh};
+ghost use Rattle.kmip_runs.specs.Campaign.{MayBatch, saves};
+ghost use Rattle.kmip_runs.specs.declared.campaigning.Start.TheVariants.{Fresh};
 ghost use Rattle.kmip_scripted.specs.Runs.{left_of, lists_of, runs_from, runs_of, start_at, with_last_saved, words_before, words_behind};
 ghost use Rattle.kmip_scripted.specs.Words.{is_prolong, prolongings};
 ghost use Rattle.kmip_scripted.specs.declared.script.Word.{Word as WordLem};
@@ -11,7 +11,7 @@ ghost use Rattle.kmip_scripted.specs.declared.script.Word.{Word as WordLem};
 use crate::script::{Script, Word};
 use crate::words::is_prolong;
 use kmip_plan::{Plan, bound};
-use kmip_session::{Run, Start};
+use kmip_runs::{Run, Start};
 use kmip_ttlv::NoMemory;
 use std::alloc::Global;
 

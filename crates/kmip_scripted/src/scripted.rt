@@ -1,26 +1,26 @@
 //! A link in memory that follows a script.
 ghost use Rattle.std.specs.Prelude.{◌≡◌, ℕ, List, ◌++◌, [], ◌∷◌, pos, drop, length, IfOk, OnErr, OnOk, option_map};
-ghost use Rattle.kmip_batches.specs.Items.{parts_in, replies_in, requests_in, stops_in};
+ghost use Rattle.kmip_messages.specs.Items.{parts_in, replies_in, requests_in, stops_in};
 ghost use Rattle.kmip_server.specs.Batching.{AreServedInTurn, batch_reply, effects_in};
 ghost use Rattle.kmip_server.specs.Shown.{HasLawfulObjects};
-ghost use Rattle.kmip_schedule.specs.Calm.{AreTaken};
-ghost use Rattle.kmip_schedule.specs.Clean.{strange_handed};
-ghost use Rattle.kmip_schedule.specs.Moves.{Delivered};
-ghost use Rattle.kmip_schedule.specs.Past.{Names};
-ghost use Rattle.kmip_losses.specs.Counting.{counted, every_name};
+ghost use Rattle.kmip_protocol.specs.Calm.{AreTaken};
+ghost use Rattle.kmip_protocol.specs.Clean.{strange_handed};
+ghost use Rattle.kmip_protocol.specs.Moves.{Delivered};
+ghost use Rattle.kmip_protocol.specs.Past.{Names};
+ghost use Rattle.kmip_scripted.specs.Counting.{counted, every_name};
 ghost use Rattle.kmip_scripted.specs.Disturbing.{is_disturbed, is_repeated};
 ghost use Rattle.kmip_scripted.specs.Early.{asked_only};
 ghost use Rattle.kmip_scripted.specs.Scenes.{WasAsked, disturbances_in, past_in, scene_of, with_disturbances};
 ghost use Rattle.kmip_scripted.specs.Serving.{IsHalfServed, with_served};
 ghost use Rattle.kmip_scripted.specs.Words.{answer_at, exchange_word, first_of, message_at, word_at, next_words, with_ended, with_request, with_words, words_after_exchange, words_after_run};
 
+use crate::Counts;
 use crate::disturbing::{counts_after, is_repeated};
 use crate::script::{Script, Word};
 use crate::serving::{arrival_laws, serve_logged};
 use crate::words::{
     first_word, next_exchange_word, take_ending_word, take_exchange_word, take_restarts,
 };
-use kmip_losses::Counts;
 use kmip_server::{Effect, Records, Server};
 use kmip_ttlv::{Bytes, NoMemory};
 use std::alloc::Global;

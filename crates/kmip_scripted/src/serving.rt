@@ -1,13 +1,13 @@
 //! A message that arrives: what the server makes of it, and what joins the lists.
 ghost use Rattle.std.specs.Prelude.{◌≡◌, ◌++◌, [], ◌∷◌, pos, OnErr, OnOk};
-ghost use Rattle.kmip_batches.specs.Items.{parts_in, replies_in, stops_in};
+ghost use Rattle.kmip_messages.specs.Items.{parts_in, replies_in, stops_in};
 ghost use Rattle.kmip_server.specs.Batching.{AreBegun, AreServedInTurn, GrownBy, batch_reply, effects_in, stock_after_batch};
 ghost use Rattle.kmip_server.specs.Shown.{HasLawfulObjects};
 ghost use Rattle.kmip_scripted.specs.Arriving.{ArrivalLaws};
 
-use kmip_batches::laws::question_laws;
+use kmip_messages::laws::question_laws;
 use kmip_objects::laws::{added_laws, restated_laws};
-use kmip_schedule::laws::{deliveries_join, what_is_done_joins, what_is_taken_is_delivered};
+use kmip_protocol::laws::{deliveries_join, what_is_done_joins, what_is_taken_is_delivered};
 use kmip_server::{Effect, Records, Server};
 use kmip_ttlv::{Bytes, NoMemory};
 use std::alloc::Global;

@@ -4,17 +4,17 @@ use Rattle.std.specs.List.{All, AllByRecursion}
 use Rattle.std.specs.Option.{option_map_or}
 use Rattle.std.proofs.lemmas.Bool.{and_parts, cases_Bool}
 use Rattle.std.proofs.lemmas.List.Elements.{recursion_from_All}
-use Rattle.kmip_messages.specs.BatchItems.{Question}
-use Rattle.kmip_messages.specs.Ranges.{is_batch_id}
-use Rattle.kmip_messages.specs.RequestFits.{ask_fits}
-use Rattle.kmip_batches.specs.Ranges.{QuestionFits}
+use Rattle.kmip_batch_items.specs.BatchItems.{Question}
+use Rattle.kmip_batch_items.specs.Ranges.{is_batch_id}
+use Rattle.kmip_batch_items.specs.RequestFits.{ask_fits}
+use Rattle.kmip_messages.specs.Ranges.{QuestionFits}
 use Rattle.kmip_ttlv.specs.Spelling.{canon}
-use Rattle.kmip_batches.specs.Items as items
-use Rattle.kmip_batches.specs.Written.{replies_item}
-use Rattle.kmip_messages.specs.declared.refusal.Refusal.{Refusal}
-use Rattle.kmip_messages.specs.declared.reply.Reply.{Reply}
-use Rattle.kmip_messages.specs.declared.request.Ask.{Ask}
-use Rattle.kmip_messages.specs.declared.request.Request.{Request}
+use Rattle.kmip_messages.specs.Items as items
+use Rattle.kmip_messages.specs.Written.{replies_item}
+use Rattle.kmip_batch_items.specs.declared.refusal.Refusal.{Refusal}
+use Rattle.kmip_batch_items.specs.declared.reply.Reply.{Reply}
+use Rattle.kmip_batch_items.specs.declared.request.Ask.{Ask}
+use Rattle.kmip_batch_items.specs.declared.request.Request.{Request}
 use Rattle.kmip_store.specs.Stock.{IsKept, Stock}
 use Rattle.kmip_server.specs.Answering.{Tells}
 use Rattle.kmip_server.specs.Batching as batch

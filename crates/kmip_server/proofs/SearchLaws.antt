@@ -11,10 +11,10 @@ use Rattle.kmip_objects.specs.Attributes.{by_name, has_given}
 use Rattle.kmip_objects.specs.Searching.{every_state}
 use Rattle.kmip_objects.specs.declared.state.KeyState.{KeyState}
 use Rattle.kmip_objects.specs.declared.state.KeyState.TheVariants.{PreActive, Active, Deactivated, Compromised, Destroyed, DestroyedCompromised}
-use Rattle.kmip_messages.specs.declared.reply.Outcome.{Outcome}
-use Rattle.kmip_messages.specs.declared.reply.Outcome.TheVariants.{Located}
-use Rattle.kmip_messages.specs.declared.request.Ask.{Ask}
-use Rattle.kmip_messages.specs.declared.request.Ask.TheVariants.{Locate}
+use Rattle.kmip_batch_items.specs.declared.reply.Outcome.{Outcome}
+use Rattle.kmip_batch_items.specs.declared.reply.Outcome.TheVariants.{Located}
+use Rattle.kmip_batch_items.specs.declared.request.Ask.{Ask}
+use Rattle.kmip_batch_items.specs.declared.request.Ask.TheVariants.{Locate}
 use Rattle.kmip_objects.specs.declared.attributes.Attrs.{Attrs}
 use Rattle.kmip_server.specs.Laws.{LocateFindsAllNamed, LocateFindsTheName}
 use Rattle.kmip_server.specs.ServerStep as rules_of

@@ -2,19 +2,19 @@
 -- Source: own (view).
 use Rattle.std.specs.Prelude.{◌≡◌, ℕ, ℤ, List, length, Some, Result, Ok, Err, if◌then◌else◌}
 use Rattle.kmip_ttlv.specs.Spelling.{canon}
-use Rattle.kmip_messages.specs.declared.reply.Outcome.{Outcome}
-use Rattle.kmip_messages.specs.declared.reply.Reply.{Reply}
+use Rattle.kmip_batch_items.specs.declared.reply.Outcome.{Outcome}
+use Rattle.kmip_batch_items.specs.declared.reply.Reply.{Reply}
 use Rattle.kmip_objects.specs.Ranges.{is_compromise}
-use Rattle.kmip_messages.specs.Operations.{operation_of}
-use Rattle.kmip_messages.specs.declared.reply.Outcome.TheVariants.{Created, Activated, Revoked, Destroyed, Failed}
-use Rattle.kmip_messages.specs.declared.request.Ask.{Ask}
-use Rattle.kmip_messages.specs.declared.request.Ask.TheVariants as asks
-use Rattle.kmip_messages.specs.declared.request.Request.{Request}
-use Rattle.kmip_messages.specs.declared.standard.TheConstants.{REASON_FEATURE_NOT_SUPPORTED}
+use Rattle.kmip_batch_items.specs.Operations.{operation_of}
+use Rattle.kmip_batch_items.specs.declared.reply.Outcome.TheVariants.{Created, Activated, Revoked, Destroyed, Failed}
+use Rattle.kmip_batch_items.specs.declared.request.Ask.{Ask}
+use Rattle.kmip_batch_items.specs.declared.request.Ask.TheVariants as asks
+use Rattle.kmip_batch_items.specs.declared.request.Request.{Request}
+use Rattle.kmip_batch_items.specs.declared.standard.TheConstants.{REASON_FEATURE_NOT_SUPPORTED}
 use Rattle.kmip_store.specs.declared.fault.StoreFault.{StoreFault}
 use Rattle.kmip_store.specs.Stock.{Stock, identifier_at}
-use Rattle.kmip_batches.specs.Items.{replies_in}
-use Rattle.kmip_batches.specs.Written.{replies_item}
+use Rattle.kmip_messages.specs.Items.{replies_in}
+use Rattle.kmip_messages.specs.Written.{replies_item}
 use Rattle.kmip_server.specs.Reasons.{store_reason}
 use Rattle.kmip_server.specs.Serving.{answer}
 

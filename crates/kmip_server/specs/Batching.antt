@@ -4,10 +4,10 @@
 use Rattle.std.specs.Prelude.{◌≡◌, ℕ, ℤ, Bool, true, false, ◌&&◌, ◌⊎◌, List, [], ◌∷◌, ◌++◌, Option, None, Ok, Err, option_to_list, if◌then◌else◌}
 use Rattle.kmip_ttlv.specs.Spelling.{canon}
 use Rattle.kmip_objects.specs.Objects.{Object}
-use Rattle.kmip_messages.specs.BatchItems.{Question}
-use Rattle.kmip_messages.specs.declared.reply.Reply.{Reply}
-use Rattle.kmip_batches.specs.Items.{parts_in, stops_in}
-use Rattle.kmip_batches.specs.Written.{replies_item}
+use Rattle.kmip_batch_items.specs.BatchItems.{Question}
+use Rattle.kmip_batch_items.specs.declared.reply.Reply.{Reply}
+use Rattle.kmip_messages.specs.Items.{parts_in, stops_in}
+use Rattle.kmip_messages.specs.Written.{replies_item}
 use Rattle.kmip_store.specs.Stock.{Stock}
 use Rattle.kmip_server.specs.Again.{has_failed}
 use Rattle.kmip_server.specs.Effects.{effect_of}

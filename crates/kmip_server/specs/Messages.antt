@@ -1,10 +1,10 @@
 -- What a server makes of a question: it is a step of the server, and its reply says how that went.
 -- Source: KMIP 2.1, Message Structure; Operations.
 use Rattle.std.specs.Prelude.{◌≡◌, Some, Result, Ok, Err}
-use Rattle.kmip_messages.specs.Operations.{operation_of}
-use Rattle.kmip_messages.specs.declared.refusal.Refusal.{Refusal}
-use Rattle.kmip_messages.specs.declared.reply.Reply.{Reply}
-use Rattle.kmip_messages.specs.declared.request.Request.{Request}
+use Rattle.kmip_batch_items.specs.Operations.{operation_of}
+use Rattle.kmip_batch_items.specs.declared.refusal.Refusal.{Refusal}
+use Rattle.kmip_batch_items.specs.declared.reply.Reply.{Reply}
+use Rattle.kmip_batch_items.specs.declared.request.Request.{Request}
 use Rattle.kmip_store.specs.Stock.{Stock}
 use Rattle.kmip_server.specs.ServerStep.{ServerStep}
 use Rattle.kmip_server.specs.Serving.{refusal_reply}

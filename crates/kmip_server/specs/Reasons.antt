@@ -1,8 +1,8 @@
 -- The Result Reason that answers each fault.
 -- Source: KMIP 2.1, Enumerations, Result Reason; which reason answers which fault is own (choice).
 use Rattle.std.specs.Prelude.{ℕ, Option, Some, None}
-use Rattle.kmip_fields.specs.declared.fault.MessageFault.{MessageFault}
-use Rattle.kmip_fields.specs.declared.fault.MessageFault.TheVariants.{
+use Rattle.kmip_batch_items.specs.declared.fault.MessageFault.{MessageFault}
+use Rattle.kmip_batch_items.specs.declared.fault.MessageFault.TheVariants.{
   Ttlv,
   NotMessage,
   Version,
@@ -15,7 +15,7 @@ use Rattle.kmip_fields.specs.declared.fault.MessageFault.TheVariants.{
   NoMemory,
   Undo,
 }
-use Rattle.kmip_messages.specs.declared.standard.TheConstants.{
+use Rattle.kmip_batch_items.specs.declared.standard.TheConstants.{
   REASON_INVALID_MESSAGE,
   REASON_OPERATION_NOT_SUPPORTED,
   REASON_FEATURE_NOT_SUPPORTED,

@@ -6,13 +6,13 @@ use Rattle.std.specs.Prelude.{◌≡◌, ℕ, ◌<◌, ◌≤◌, ℤ, List, [],
 use Rattle.kmip_objects.specs.Lifecycle.{after}
 use Rattle.kmip_objects.specs.Objects.{Object, object_named, object_with, all_restated}
 use Rattle.kmip_objects.specs.Ranges.{is_compromise, is_identifier}
-use Rattle.kmip_messages.specs.declared.reply.Outcome.{Outcome}
-use Rattle.kmip_messages.specs.declared.reply.Outcome.TheVariants.{Created, Located, Attributes, Activated, Revoked, Destroyed, Failed}
-use Rattle.kmip_messages.specs.declared.request.Ask.{Ask}
-use Rattle.kmip_messages.specs.declared.request.Ask.TheVariants.{Create, Locate, GetAttributes, Activate, Revoke, Destroy}
+use Rattle.kmip_batch_items.specs.declared.reply.Outcome.{Outcome}
+use Rattle.kmip_batch_items.specs.declared.reply.Outcome.TheVariants.{Created, Located, Attributes, Activated, Revoked, Destroyed, Failed}
+use Rattle.kmip_batch_items.specs.declared.request.Ask.{Ask}
+use Rattle.kmip_batch_items.specs.declared.request.Ask.TheVariants.{Create, Locate, GetAttributes, Activate, Revoke, Destroy}
 use Rattle.kmip_objects.specs.declared.attributes.Attrs.{Attrs}
 use Rattle.kmip_objects.specs.declared.attributes.KeyAttrs.{KeyAttrs}
-use Rattle.kmip_messages.specs.declared.standard.TheConstants.{
+use Rattle.kmip_batch_items.specs.declared.standard.TheConstants.{
   REASON_FEATURE_NOT_SUPPORTED,
   REASON_ITEM_NOT_FOUND,
   REASON_NON_UNIQUE_NAME,

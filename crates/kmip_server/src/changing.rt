@@ -1,13 +1,13 @@
 //! The change that a question asks for.
 ghost use Rattle.std.specs.Prelude.{◌≡◌, OnErr, OnOk, IfOk, IsTrue};
-ghost use Rattle.kmip_messages.specs.RequestFits.{ask_fits};
+ghost use Rattle.kmip_batch_items.specs.RequestFits.{ask_fits};
 ghost use Rattle.kmip_objects.specs.Ranges.{attrs_fit};
 ghost use Rattle.kmip_server.specs.Answering.{outcome_then, promised_outcome};
 ghost use Rattle.kmip_server.specs.Serving.{answer};
 ghost use Rattle.kmip_store.specs.Stepping.{Becomes};
 ghost use Rattle.kmip_store.specs.Stock.{create};
 
-use kmip_messages::Ask;
+use kmip_batch_items::Ask;
 use kmip_objects::{KeyAttrs, is_compromise};
 use kmip_store::{Records, StoreFault};
 use kmip_ttlv::NoMemory;

@@ -1,13 +1,13 @@
 //! A step that took effect.
 ghost use Rattle.std.specs.Prelude.{◌≡◌, ◌++◌, Some, OnErr, OnOk, IfOk, IsTrue, option_to_list};
-ghost use Rattle.kmip_messages.specs.RequestFits.{ask_fits};
+ghost use Rattle.kmip_batch_items.specs.RequestFits.{ask_fits};
 ghost use Rattle.kmip_server.specs.Answering.{outcome_then, promised_outcome};
 ghost use Rattle.kmip_server.specs.Effects.{effect_asked, effect_of, effect_on};
 ghost use Rattle.kmip_server.specs.Serving.{answer};
 ghost use Rattle.kmip_server.specs.Shown.{objects_in};
 
 use crate::changing::carry_out;
-use kmip_messages::Ask;
+use kmip_batch_items::Ask;
 use kmip_objects::{Step, is_compromise};
 use kmip_store::{Records, StoreFault};
 use kmip_ttlv::{NoMemory, Text};

@@ -2,8 +2,8 @@
 ghost use Rattle.std.specs.Prelude.{◌≡◌};
 ghost use Rattle.kmip_server.specs.Reasons.{message_reason, store_reason};
 
-use kmip_messages::MessageFault;
-use kmip_messages::standard::{
+use kmip_batch_items::MessageFault;
+use kmip_batch_items::standard::{
     REASON_FEATURE_NOT_SUPPORTED, REASON_INVALID_FIELD, REASON_INVALID_MESSAGE,
     REASON_ITEM_NOT_FOUND, REASON_MISSING_DATA, REASON_NON_UNIQUE_NAME,
     REASON_OPERATION_NOT_SUPPORTED, REASON_SERVER_FULL, REASON_WRONG_STATE,

@@ -1,6 +1,6 @@
 //! A server over the records of one store.
 ghost use Rattle.std.specs.Prelude.{◌≡◌, ◌++◌, List, OnErr, OnOk, IfOk};
-ghost use Rattle.kmip_batches.specs.Items.{parts_in, replies_in, stops_in};
+ghost use Rattle.kmip_messages.specs.Items.{parts_in, replies_in, stops_in};
 ghost use Rattle.kmip_server.specs.Answering.{Tells};
 ghost use Rattle.kmip_server.specs.Batching.{batch_reply, effects_in, replies_to, stock_after_batch, AreBegun, AreServedInTurn, GrownBy, IsCutShort};
 ghost use Rattle.kmip_server.specs.Shown.{HasLawfulObjects};
@@ -10,8 +10,8 @@ ghost use Rattle.kmip_store.specs.Stock.{IsKept};
 use crate::batching::{answer_all, refuse_batch};
 use crate::effect::Effect;
 use crate::laws::{serving_is_a_step, serving_keeps_the_records};
-use kmip_batches::laws::question_laws;
-use kmip_batches::read_request;
+use kmip_messages::laws::question_laws;
+use kmip_messages::read_request;
 use kmip_store::Records;
 use kmip_ttlv::NoMemory;
 use std::alloc::Global;

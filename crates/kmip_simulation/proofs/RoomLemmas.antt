@@ -1,9 +1,9 @@
 -- A new server has room for the keys of any plan.
 use Rattle.std.proofs.Common.{◌≡◌, ◌+◌, ◌≤◌, List, [], ◌∷◌, length, arith}
-use Rattle.kmip_chains.specs.declared.key.Key.{Key}
+use Rattle.kmip_plan.specs.declared.key.Key.{Key}
 use Rattle.kmip_plan.specs.Plans.{IsLawful}
-use Rattle.kmip_schedule.specs.Past.{Past}
-use Rattle.kmip_settling.specs.Needs.{missing}
+use Rattle.kmip_protocol.specs.Past.{Past}
+use Rattle.kmip_protocol.specs.Needs.{missing}
 use Rattle.kmip_store.specs.Stock.{most_room}
 
 -- no more objects are missing than there are keys

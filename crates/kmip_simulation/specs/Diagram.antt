@@ -7,8 +7,8 @@ use Rattle.kmip_scripted.specs.Scenes.{Scene}
 use Rattle.kmip_scripted.specs.Words.{answer_at, message_at, word_at}
 use Rattle.kmip_scripted.specs.declared.script.Word.{Word}
 use Rattle.kmip_scripted.specs.declared.script.Word.TheVariants.{LoseRequest, LoseReply, Cut, Stale}
-use Rattle.kmip_wording.specs.Questions.{question_text}
-use Rattle.kmip_wording.specs.Answers.{answer_text}
+use Rattle.kmip_trace.specs.Questions.{question_text}
+use Rattle.kmip_trace.specs.Answers.{answer_text}
 use Rattle.kmip_simulation.specs.declared.moment.Moment.{Moment}
 use Rattle.kmip_simulation.specs.declared.moment.Moment.TheVariants.{Begun, Repeated, Exchanged, Ended}
 use Rattle.kmip_simulation.specs.Moments.{moments_of}

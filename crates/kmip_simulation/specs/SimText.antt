@@ -4,17 +4,17 @@ use Rattle.std.specs.Prelude.{ℕ, ◌+◌, ◌-◌, Bool, false, List, [], ◌�
 use Rattle.std.specs.Fmt.{decimal}
 use Rattle.std.specs.List.{flat_map, slice_get}
 use Rattle.std.specs.Option.{option_map_or}
-use Rattle.kmip_batches.specs.Items.{requests_in}
+use Rattle.kmip_messages.specs.Items.{requests_in}
 use Rattle.kmip_objects.specs.Objects.{Object}
-use Rattle.kmip_messages.specs.declared.request.Request.{Request}
+use Rattle.kmip_batch_items.specs.declared.request.Request.{Request}
 use Rattle.kmip_server.specs.Shown.{objects_in}
 use Rattle.kmip_scripted.specs.Scenes.{Scene}
-use Rattle.kmip_session.specs.Stops.{is_all_finished, stop_name}
-use Rattle.kmip_session.specs.declared.campaigning.CampaignEnd.{CampaignEnd}
-use Rattle.kmip_session.specs.declared.campaigning.RunEnd.{RunEnd}
+use Rattle.kmip_runs.specs.Stops.{is_all_finished, stop_name}
+use Rattle.kmip_runs.specs.declared.campaigning.CampaignEnd.{CampaignEnd}
+use Rattle.kmip_runs.specs.declared.campaigning.RunEnd.{RunEnd}
 use Rattle.kmip_ttlv.specs.declared.fault.NoMemory.{NoMemory as Want}
-use Rattle.kmip_wording.specs.Names.{state_word}
-use Rattle.kmip_wording.specs.Questions.{requests_text}
+use Rattle.kmip_trace.specs.Names.{state_word}
+use Rattle.kmip_trace.specs.Questions.{requests_text}
 
 -- the texts of things one after the other, each with its number, from this one on
 abbrev pub numbered_text : {X : Type 0} → (ℕ → X → List ℕ) → ℕ → List X → List ℕ

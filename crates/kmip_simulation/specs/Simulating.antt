@@ -2,20 +2,20 @@
 -- Source: own.
 use Rattle.std.specs.Prelude.{◌≡◌, ℕ, ⊤, List, [], length, filter, map, replicate, take, None}
 use Rattle.std.specs.List.{All, AllZip}
-use Rattle.kmip_chains.specs.declared.key.Key.{Key}
+use Rattle.kmip_plan.specs.declared.key.Key.{Key}
 use Rattle.kmip_client.specs.Held.{TrueProgress}
-use Rattle.kmip_schedule.specs.Machine.{IsMirrored}
-use Rattle.kmip_schedule.specs.Past.{Names}
-use Rattle.kmip_schedule.specs.Safe.{Safe}
-use Rattle.kmip_schedule.specs.Sound.{Opening, Sound}
-use Rattle.kmip_session.specs.Campaign.{CalmLink, HasNoConflict, IsEnd, Settles, reported, saves}
-use Rattle.kmip_session.specs.Driving.{WentOn}
-use Rattle.kmip_session.specs.Ending.{AreEnded}
-use Rattle.kmip_session.specs.Losing.{AllOutlast}
-use Rattle.kmip_session.specs.Remembering.{AreKnown}
-use Rattle.kmip_session.specs.Campaigns.{AreInTurn, CalmStart, IsTrueFor, last_plan}
-use Rattle.kmip_session.specs.declared.campaigning.CampaignEnd.{CampaignEnd}
-use Rattle.kmip_session.specs.declared.campaigning.Run.{Run}
+use Rattle.kmip_protocol.specs.Machine.{IsMirrored}
+use Rattle.kmip_protocol.specs.Past.{Names}
+use Rattle.kmip_protocol.specs.Safe.{Safe}
+use Rattle.kmip_protocol.specs.Sound.{Opening, Sound}
+use Rattle.kmip_runs.specs.Campaign.{CalmLink, HasNoConflict, IsEnd, Settles, reported, saves}
+use Rattle.kmip_runs.specs.Driving.{WentOn}
+use Rattle.kmip_runs.specs.Ending.{AreEnded}
+use Rattle.kmip_runs.specs.Losing.{AllOutlast}
+use Rattle.kmip_runs.specs.Remembering.{AreKnown}
+use Rattle.kmip_runs.specs.Campaigns.{AreInTurn, CalmStart, IsTrueFor, last_plan}
+use Rattle.kmip_runs.specs.declared.campaigning.CampaignEnd.{CampaignEnd}
+use Rattle.kmip_runs.specs.declared.campaigning.Run.{Run}
 use Rattle.kmip_store.specs.Stock.{empty_stock, most_room}
 use Rattle.kmip_scripted.specs.Following.{Follows}
 use Rattle.kmip_scripted.specs.Runs.{lists_of, runs_of}

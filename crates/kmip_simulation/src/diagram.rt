@@ -3,7 +3,7 @@ ghost use Rattle.std.specs.Prelude.{◌≡◌, ◌++◌, Some, codes, OnOk, opti
 ghost use Rattle.std.specs.Fmt.{decimal};
 ghost use Rattle.std.specs.List.{flat_map};
 ghost use Rattle.kmip_scripted.specs.Words.{answer_at, message_at, word_at};
-ghost use Rattle.kmip_wording.specs.Answers.{answer_text};
+ghost use Rattle.kmip_trace.specs.Answers.{answer_text};
 ghost use Rattle.kmip_simulation.specs.Tracing.{ended_text};
 ghost use Rattle.kmip_simulation.specs.Diagram.{
   again_arrow,
@@ -29,8 +29,8 @@ use crate::moments::moments_of;
 use crate::tracing::{early_request, push_ended};
 use kmip_scripted::{Scripted, Word};
 use kmip_server::IndexedStore;
+use kmip_trace::{push_answer, push_question};
 use kmip_ttlv::NoMemory;
-use kmip_wording::{push_answer, push_question};
 use std::alloc::Global;
 
 /// The first lines of a diagram: what is drawn, and between whom.

@@ -1,21 +1,21 @@
 //! A campaign over a link in memory that follows a script.
 ghost use Rattle.std.specs.Prelude.{◌≡◌, List, length, map, IfOk, IsTrue};
 ghost use Rattle.std.specs.List.{All};
-ghost use Rattle.kmip_batches.specs.Members.{may_have};
-ghost use Rattle.kmip_chains.specs.declared.key.Key.{Key};
-ghost use Rattle.kmip_schedule.specs.Sound.{Opening, Sound};
+ghost use Rattle.kmip_messages.specs.Members.{may_have};
+ghost use Rattle.kmip_plan.specs.declared.key.Key.{Key};
+ghost use Rattle.kmip_protocol.specs.Sound.{Opening, Sound};
 ghost use Rattle.kmip_scripted.specs.Scenes.{past_in};
 ghost use Rattle.kmip_scripted.specs.Words.{prolongings};
-ghost use Rattle.kmip_session.specs.Campaign.{MayBatch};
-ghost use Rattle.kmip_session.specs.Campaigns.{AreProlonged};
+ghost use Rattle.kmip_runs.specs.Campaign.{MayBatch};
+ghost use Rattle.kmip_runs.specs.Campaigns.{AreProlonged};
 ghost use Rattle.kmip_simulation.specs.Simulating.{AreSimulated, IsCarriedOut, IsSimulated, IsSimulatedAgain, first_scene, in_batches};
 ghost use Rattle.kmip_simulation.specs.SimText.{is_last_finished};
 
 use kmip_plan::Plan;
-use kmip_schedule::laws::{nothing_done_is_sound, opening_is_mirrored};
+use kmip_protocol::laws::{nothing_done_is_sound, opening_is_mirrored};
+use kmip_runs::{CampaignEnd, Run, campaign, campaigns};
 use kmip_scripted::{Script, Scripted};
 use kmip_server::{IndexedStore, Server};
-use kmip_session::{CampaignEnd, Run, campaign, campaigns};
 use kmip_store::{MOST_ROOM, SEED};
 use kmip_ttlv::NoMemory;
 use std::alloc::Global;

@@ -20,8 +20,8 @@ use crate::moment::Moment;
 use crate::moments::moments_of;
 use kmip_scripted::{Scripted, Word};
 use kmip_server::IndexedStore;
+use kmip_trace::{push_answer, push_question};
 use kmip_ttlv::NoMemory;
-use kmip_wording::{push_answer, push_question};
 use std::alloc::Global;
 
 /// Appends all that happened over a link that followed these words, in its order. A line each for an

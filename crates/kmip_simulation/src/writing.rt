@@ -17,13 +17,13 @@ ghost use Rattle.kmip_simulation.specs.SimText.{
 };
 
 use crate::simulating::Simulation;
-use kmip_messages::Request;
+use kmip_batch_items::Request;
+use kmip_runs::RunEnd;
 use kmip_scripted::Scripted;
 use kmip_server::{IndexedStore, Records};
-use kmip_session::RunEnd;
 use kmip_store::Row;
+use kmip_trace::{push_requests, requests_in, state_word};
 use kmip_ttlv::NoMemory;
-use kmip_wording::{push_requests, requests_in, state_word};
 use std::alloc::Global;
 
 /// Appends what is written of a simulation: each run that has ended with its report, and then, unless

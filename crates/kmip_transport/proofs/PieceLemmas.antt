@@ -8,8 +8,8 @@ use Rattle.std.proofs.Common.{append_assoc, min}
 use Rattle.kmip_ttlv.specs.Limits.{head_size}
 use Rattle.kmip_frames.specs.Framing.{size_needed, wants, held_after, count_taken}
 use Rattle.kmip_frames.specs.Laws.{ShortBytesLackAHead, SizesAreBounded, MoreChangesNothing}
-use Rattle.kmip_schedule.specs.declared.link.LinkFault.{LinkFault}
-use Rattle.kmip_schedule.specs.declared.link.LinkFault.TheVariants.{Io, Frame, NoMemory}
+use Rattle.kmip_protocol.specs.declared.link.LinkFault.{LinkFault}
+use Rattle.kmip_protocol.specs.declared.link.LinkFault.TheVariants.{Io, Frame, NoMemory}
 use Rattle.kmip_transport.specs.Receiving.{Takes, IsUnfinished, IsHandedOver, Receives}
 
 -- a piece that is no longer than what is lacking is taken whole

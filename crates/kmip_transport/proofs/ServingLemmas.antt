@@ -9,9 +9,9 @@ use Rattle.kmip_frames.specs.declared.fault.FrameFault.{FrameFault}
 use Rattle.kmip_frames.specs.Framing.{fault_in}
 use Rattle.kmip_frames.specs.Laws.{ShortBytesLackAHead, FaultsNeedNoMore}
 use Rattle.kmip_frames.specs.Streams.{IsMessage, joined}
-use Rattle.kmip_schedule.specs.declared.link.LinkFault.{LinkFault}
-use Rattle.kmip_schedule.specs.declared.link.LinkFault.TheVariants as faults
-use Rattle.kmip_batches.specs.Items.{parts_in, stops_in}
+use Rattle.kmip_protocol.specs.declared.link.LinkFault.{LinkFault}
+use Rattle.kmip_protocol.specs.declared.link.LinkFault.TheVariants as faults
+use Rattle.kmip_messages.specs.Items.{parts_in, stops_in}
 use Rattle.kmip_server.specs.Batching.{batch_reply, stock_after_batch, AreBegun, GrownBy}
 use Rattle.kmip_server.specs.declared.effect.Effect.{Effect}
 use Rattle.kmip_store.specs.Stock.{Stock}

@@ -1,10 +1,10 @@
 -- What a contract sees of a link over streams, and what happens to it.
 -- Source: own (view). Nothing is known of what goes over a network: no clause speaks of its bytes.
 use Rattle.std.specs.Prelude.{ℕ, ◌+◌, List, Bool, true, false, ◌&&◌, not, [], Option, Some, None, Result, Ok, Err}
-use Rattle.kmip_schedule.specs.Clean.{Disturbances}
-use Rattle.kmip_schedule.specs.Past.{Past}
-use Rattle.kmip_schedule.specs.declared.link.LinkFault.{LinkFault}
-use Rattle.kmip_schedule.specs.declared.link.LinkFault.TheVariants.{Io, Frame, NoMemory}
+use Rattle.kmip_protocol.specs.Clean.{Disturbances}
+use Rattle.kmip_protocol.specs.Past.{Past}
+use Rattle.kmip_protocol.specs.declared.link.LinkFault.{LinkFault}
+use Rattle.kmip_protocol.specs.declared.link.LinkFault.TheVariants.{Io, Frame, NoMemory}
 
 -- How often the network has failed, and whether a stream is open. Whether that one was held after the reply
 -- to an earlier request, and whether streams are held after replies at all, or closed there.

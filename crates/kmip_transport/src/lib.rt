@@ -8,7 +8,7 @@
 //!
 //! As a `Link` both `StreamLink` (over TCP and over a Unix socket) and `Loopback` keep the clauses of that
 //! trait. They are never said to be honest or calm. That an exchange takes no longer than its limit is no
-//! clause: the tests of kmip_conformance_transport see it.
+//! clause: the tests of test_transport see it.
 #![tactic(auto)]
 
 mod dial;
@@ -23,7 +23,7 @@ mod stream_link;
 mod timed;
 
 pub use dial::{Dial, Tcp, Unix};
-pub use kmip_schedule::{Link, LinkFault};
+pub use kmip_protocol::{Link, LinkFault};
 pub use loopback::Loopback;
 pub use receiving::{receive_from_bytes, receive_message};
 pub use sending::send_message;

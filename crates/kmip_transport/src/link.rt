@@ -1,18 +1,18 @@
 //! The links over streams as links. Nothing is claimed of what a network does.
 ghost use Rattle.std.specs.Prelude.{◌≡◌, ◌≤◌, ◌<◌, ⊤, length, Ok, Err, None, IfErr};
-ghost use Rattle.kmip_schedule.specs.Calm.{CalmlyExchanged, CalmlyEnded};
-ghost use Rattle.kmip_schedule.specs.Clean.{Counted, IsRoomy};
-ghost use Rattle.kmip_schedule.specs.Ending.{Ended};
-ghost use Rattle.kmip_schedule.specs.Exchanges.{Exchanged, answer_in};
-ghost use Rattle.kmip_schedule.specs.Faults.{most_failures};
-ghost use Rattle.kmip_schedule.specs.Losses.{IsInMemory};
-ghost use Rattle.kmip_schedule.specs.Moves.{Delivered};
-ghost use Rattle.kmip_schedule.specs.Past.{Names};
+ghost use Rattle.kmip_protocol.specs.Calm.{CalmlyExchanged, CalmlyEnded};
+ghost use Rattle.kmip_protocol.specs.Clean.{Counted, IsRoomy};
+ghost use Rattle.kmip_protocol.specs.Ending.{Ended};
+ghost use Rattle.kmip_protocol.specs.Exchanges.{Exchanged, answer_in};
+ghost use Rattle.kmip_protocol.specs.Faults.{most_failures};
+ghost use Rattle.kmip_protocol.specs.Losses.{IsInMemory};
+ghost use Rattle.kmip_protocol.specs.Moves.{Delivered};
+ghost use Rattle.kmip_protocol.specs.Past.{Names};
 ghost use Rattle.kmip_transport.specs.Links.{closed, link_after, none_counted, none_ended, opened, unknown_past};
 
 use crate::dial::Dial;
 use crate::stream_link::StreamLink;
-use kmip_schedule::{Link, LinkFault};
+use kmip_protocol::{Link, LinkFault};
 use std::alloc::Global;
 
 /// Never known to be honest or calm: a network may do anything.

@@ -6,7 +6,7 @@ use crate::receiving::receive_message;
 use crate::sending::send_message;
 use crate::stream_link::TcpLink;
 use kmip_frames::Framer;
-use kmip_schedule::{Link, LinkFault};
+use kmip_protocol::{Link, LinkFault};
 use kmip_server::{Records, Server};
 use kmip_ttlv::NoMemory;
 use std::alloc::Global;

@@ -9,7 +9,7 @@ ghost use Rattle.kmip_transport.specs.Receiving.{Takes, Receives, IsHandedOver};
 use crate::source::{InMemory, Source};
 use kmip_frames::laws::sizes;
 use kmip_frames::{FrameFault, Framer};
-use kmip_schedule::LinkFault;
+use kmip_protocol::LinkFault;
 use std::alloc::Global;
 use std::io::{Error, ErrorKind, Read};
 

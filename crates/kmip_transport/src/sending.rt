@@ -3,7 +3,7 @@ ghost use Rattle.std.specs.Prelude.{◌≡◌, OnOk, OnErr, IfErr};
 ghost use Rattle.std.specs.Io.KnownBytes.{Appends, Keeps};
 
 use crate::sink::Sink;
-use kmip_schedule::LinkFault;
+use kmip_protocol::LinkFault;
 use std::io::Write;
 
 /// Writes the bytes of a message, and sends on what the writer holds back. Takes no memory.

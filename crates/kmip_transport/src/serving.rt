@@ -9,7 +9,7 @@ use crate::sink::{Gathered, Sink};
 use crate::source::{InMemory, Source};
 use kmip_frames::laws::{sizes, stream_laws};
 use kmip_frames::{FrameFault, Framer};
-use kmip_schedule::LinkFault;
+use kmip_protocol::LinkFault;
 use kmip_server::{Records, Server};
 use std::alloc::Global;
 use std::io::{Read, Write};

@@ -1,9 +1,9 @@
 //! Where bytes go: a writer, or memory, which fails only where there is none.
 ghost use Rattle.std.specs.Prelude.{◌≡◌, ℕ, List, Option, OnOk, OnErr, IfErr, IsOk};
 ghost use Rattle.std.specs.Io.KnownBytes.{Appends, Keeps};
-ghost use Rattle.kmip_schedule.specs.declared.link.LinkFault.{LinkFault};
+ghost use Rattle.kmip_protocol.specs.declared.link.LinkFault.{LinkFault};
 
-use kmip_schedule::LinkFault;
+use kmip_protocol::LinkFault;
 use std::io::Write;
 
 /// What bytes are written to.
@@ -39,7 +39,7 @@ pub(crate) trait Sink {
 
 /// Every writer. It fails by `Io`, and may have taken any part.
 impl<W: Write> Sink for W {
-    ghost use Rattle.kmip_schedule.specs.declared.link.LinkFault.TheVariants.{Io};
+    ghost use Rattle.kmip_protocol.specs.declared.link.LinkFault.TheVariants.{Io};
 
     ghost contents = { λ writer. W.contents writer };
 
@@ -70,7 +70,7 @@ pub(crate) struct Gathered {
 
 impl Sink for Gathered {
     ghost use Rattle.std.specs.Prelude.{Some};
-    ghost use Rattle.kmip_schedule.specs.declared.link.LinkFault.TheVariants.{NoMemory};
+    ghost use Rattle.kmip_protocol.specs.declared.link.LinkFault.TheVariants.{NoMemory};
 
     ghost contents = { λ sink. Some sink.bytes.items };
 

@@ -1,7 +1,7 @@
 //! A link over streams: one is held from exchange to exchange, as long as each has a reply. Where a stream
 //! that was held brings none, each exchange has a stream of its own from then on.
 ghost use Rattle.std.specs.Prelude.{◌≡◌, ◌<◌, ◌≤◌, true, false, Ok, None, OnOk, IfErr};
-ghost use Rattle.kmip_schedule.specs.Faults.{most_failures};
+ghost use Rattle.kmip_protocol.specs.Faults.{most_failures};
 ghost use Rattle.kmip_transport.specs.Links.{answered, closed, failed, link_after, lost, opened};
 
 use crate::dial::{Dial, Tcp, Unix};
@@ -9,7 +9,7 @@ use crate::receiving::receive_message;
 use crate::sending::send_message;
 use crate::timed::Timed;
 use kmip_frames::Framer;
-use kmip_schedule::LinkFault;
+use kmip_protocol::LinkFault;
 use std::alloc::Global;
 use std::marker::Model;
 use std::time::{Duration, Instant};

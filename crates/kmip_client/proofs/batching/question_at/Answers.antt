@@ -4,11 +4,11 @@ use Rattle.std.proofs.lemmas.Bool.{and_parts, leb-true}
 use Rattle.std.proofs.lemmas.List.{drop_more}
 use Rattle.std.specs.List.{All, cons_option}
 use Rattle.kmip_ttlv.specs.Spelling.{canon}
-use Rattle.kmip_messages.specs.declared.standard.TheConstants.{MOST_QUESTIONS}
-use Rattle.kmip_batches.specs.Written.{requests_item}
-use Rattle.kmip_batches.specs.Items.{parts_in, requests_in, stops_in}
-use Rattle.kmip_chains.specs.declared.key.Key.{Key}
-use Rattle.kmip_knowledge.specs.declared.knowledge.Knowledge.{Knowledge}
+use Rattle.kmip_batch_items.specs.declared.standard.TheConstants.{MOST_QUESTIONS}
+use Rattle.kmip_messages.specs.Written.{requests_item}
+use Rattle.kmip_messages.specs.Items.{parts_in, requests_in, stops_in}
+use Rattle.kmip_plan.specs.declared.key.Key.{Key}
+use Rattle.kmip_client.specs.declared.knowledge.Knowledge.{Knowledge}
 use Rattle.kmip_client.specs.Asking.{at_place, at_places, part_about, requests_at}
 use Rattle.kmip_client.specs.Justified.{Justified}
 use Rattle.kmip_client.specs.Questions.{request_about}

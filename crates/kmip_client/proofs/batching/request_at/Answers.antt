@@ -1,7 +1,7 @@
 -- What stands at the place is what was asked for.
 use Rattle.std.proofs.Common.{◌≡◌, ◌∙◌, length, Some, refl, sym, ap}
 use Rattle.std.proofs.lemmas.Option.{slice_get_read}
-use Rattle.kmip_messages.specs.declared.request.Request.{Request}
+use Rattle.kmip_batch_items.specs.declared.request.Request.{Request}
 use Rattle.kmip_client.specs.Asking.{at_place, part_about}
 use Rattle.kmip_client.specs.Questions.{request_about}
 use Rattle.kmip_client.specs.Shapes.{IsShaped}

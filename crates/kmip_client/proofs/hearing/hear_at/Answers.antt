@@ -4,7 +4,7 @@ use Rattle.std.proofs.lemmas.Bool.{ltb-true}
 use Rattle.std.proofs.lemmas.Option.{slice_get_read}
 use Rattle.std.specs.List.{slice_get}
 use Rattle.kmip_client.specs.Clients.{one_if}
-use Rattle.kmip_knowledge.specs.Knowledge.{is_working}
+use Rattle.kmip_client.specs.Knowledge.{is_working}
 use Rattle.kmip_client.proofs.CountLemmas.{counted_one}
 use Rattle.kmip_client.proofs.HeardLemmas.{count_after}
 use Rattle.kmip_client.proofs.hearing.hear_at.Goals as goal

@@ -1,7 +1,7 @@
 -- What was heard, and then what is heard of the replies that are left, is all; so it is with what is known.
 use Rattle.std.proofs.Common.{◌≡◌, ◌≤◌, ◌+◌, ◌++◌, length}
 use Rattle.std.specs.Vec.{vec_len, vec_capacity}
-use Rattle.kmip_batches.specs.Items.{replies_in}
+use Rattle.kmip_messages.specs.Items.{replies_in}
 use Rattle.kmip_client.specs.Hearing.{hear_each, known_after_each}
 use Rattle.kmip_client.specs.Clients.{working_count}
 use Rattle.kmip_client.proofs.hearing.hear_message.Given as goal

@@ -2,7 +2,7 @@
 use Rattle.std.proofs.Common.{◌≡◌, ◌+◌, ◌∷◌, drop, sym, ap, ◌∙◌, map, arith}
 use Rattle.std.proofs.lemmas.List.{drop_more}
 use Rattle.std.proofs.lemmas.List.Sums.{sum_by-cons}
-use Rattle.kmip_chains.specs.Chains.{bound, key_bound}
+use Rattle.kmip_plan.specs.Chains.{bound, key_bound}
 use Rattle.kmip_plan.proofs.plan.bound_of.Goals as goal
 
 pub loop-key-preserved : goal.loop-key-preserved

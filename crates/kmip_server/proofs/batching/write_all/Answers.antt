@@ -1,5 +1,5 @@
 -- Short replies have a written form together.
-use Rattle.kmip_batches.proofs.ForCallers.{short_replies_fit}
+use Rattle.kmip_messages.proofs.ForCallers.{short_replies_fit}
 use Rattle.kmip_server.proofs.batching.write_all.Goals as goal
 
 pub write_reply-requires : goal.write_reply-requires

@@ -1,7 +1,7 @@
 -- Piece by piece.
 use Rattle.std.proofs.Common.{◌++◌, Some, codes, ap, ◌∙◌}
 use Rattle.std.specs.Fmt.{decimal}
-use Rattle.kmip_wording.specs.Answers.{answer_text}
+use Rattle.kmip_trace.specs.Answers.{answer_text}
 use Rattle.kmip_simulation.specs.Diagram.{drawn_text}
 use Rattle.kmip_simulation.proofs.MomentLemmas.{three_joined}
 use Rattle.kmip_simulation.proofs.diagram.draw_earlier.Goals as goal

@@ -3,8 +3,8 @@ use Rattle.std.proofs.Common.{◌≡◌, ℕ, ◌+◌, ◌<◌, List, [], ◌∷
 use Rattle.std.proofs.lemmas.List.{drop_more, length-append, map-append}
 use Rattle.std.proofs.lemmas.List.Elements.{All-push}
 use Rattle.std.specs.List.{All}
-use Rattle.kmip_session.specs.Campaign.{MayBatch}
-use Rattle.kmip_session.specs.declared.campaigning.Run.{Run}
+use Rattle.kmip_runs.specs.Campaign.{MayBatch}
+use Rattle.kmip_runs.specs.declared.campaigning.Run.{Run}
 use Rattle.kmip_simulation.specs.Simulating.{in_batches}
 use Rattle.kmip_simulation.proofs.simulating.all_in_batches.Goals as goal
 

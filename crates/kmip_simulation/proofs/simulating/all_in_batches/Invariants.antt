@@ -1,7 +1,7 @@
 -- The lists so far, and then those that are left, are all; and each run so far asks about so many keys at once.
 use Rattle.std.proofs.Common.{◌≡◌, ◌++◌, drop, length, map}
 use Rattle.std.specs.List.{All}
-use Rattle.kmip_session.specs.Campaign.{MayBatch}
+use Rattle.kmip_runs.specs.Campaign.{MayBatch}
 use Rattle.kmip_simulation.specs.Simulating.{in_batches}
 use Rattle.kmip_simulation.proofs.simulating.all_in_batches.Given as goal
 

@@ -1,7 +1,7 @@
 -- The link in memory is honest whatever its script, so the premises of the headline are met.
 use Rattle.std.specs.Prelude.{⊤}
 use Rattle.kmip_scripted.specs.Scenes.{past_in}
-use Rattle.kmip_session.specs.Campaign.{GoodLink}
+use Rattle.kmip_runs.specs.Campaign.{GoodLink}
 use Rattle.kmip_simulation.proofs.simulating.carry_out.Goals as goal
 
 pub returns : goal.returns

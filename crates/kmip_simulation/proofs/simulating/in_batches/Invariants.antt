@@ -1,6 +1,6 @@
 -- The runs so far, and then those that are left, are all; and each so far asks about so many keys at once.
 use Rattle.std.proofs.Common.{◌≡◌, ◌++◌, drop}
-use Rattle.kmip_session.specs.Campaign.{MayBatch}
+use Rattle.kmip_runs.specs.Campaign.{MayBatch}
 use Rattle.kmip_simulation.specs.Simulating.{in_batches}
 use Rattle.kmip_simulation.proofs.simulating.in_batches.Given as goal
 

@@ -1,10 +1,10 @@
 -- Nothing has happened yet over the new link, so what the campaign makes of it is good.
 use Rattle.std.proofs.Common.{◌≡◌, refl, subst, sym, ap, ◌∙◌}
-use Rattle.kmip_schedule.specs.Sound.{Opening}
+use Rattle.kmip_protocol.specs.Sound.{Opening}
 use Rattle.kmip_scripted.specs.Runs.{runs_of}
 use Rattle.kmip_scripted.specs.Scenes.{past_in}
 use Rattle.kmip_scripted.specs.Words.{next_words}
-use Rattle.kmip_session.specs.Campaign.{MayBatch}
+use Rattle.kmip_runs.specs.Campaign.{MayBatch}
 use Rattle.kmip_simulation.specs.Simulating.{IsCarriedOut, first_scene, in_batches}
 use Rattle.kmip_simulation.proofs.RoomLemmas.{has_room}
 use Rattle.kmip_simulation.proofs.simulating.simulate.Goals as goal

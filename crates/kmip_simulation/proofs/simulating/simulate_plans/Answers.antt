@@ -3,15 +3,15 @@ use Rattle.std.proofs.Common.{◌≡◌, List, Vec, Global, length, map, subst, 
 use Rattle.std.proofs.lemmas.List.{length-map}
 use Rattle.std.specs.List.{All}
 use Rattle.std.specs.Prelude.{⊤, None}
-use Rattle.kmip_schedule.specs.Sound.{Opening}
+use Rattle.kmip_protocol.specs.Sound.{Opening}
 use Rattle.kmip_scripted.specs.Runs.{lists_of}
 use Rattle.kmip_scripted.specs.Following.{Follows}
 use Rattle.kmip_scripted.specs.Scenes.{Scene, past_in}
-use Rattle.kmip_session.specs.Campaign.{MayBatch}
-use Rattle.kmip_session.specs.declared.campaigning.Run.{Run}
-use Rattle.kmip_session.specs.Campaigns.{AreInTurn, CalmStart, GoodStart, first_plan, last_plan}
+use Rattle.kmip_runs.specs.Campaign.{MayBatch}
+use Rattle.kmip_runs.specs.declared.campaigning.Run.{Run}
+use Rattle.kmip_runs.specs.Campaigns.{AreInTurn, CalmStart, GoodStart, first_plan, last_plan}
 use Rattle.kmip_simulation.specs.Simulating.{HasNoWord, in_batches}
-use Rattle.kmip_session.specs.Ending.{AreEnded}
+use Rattle.kmip_runs.specs.Ending.{AreEnded}
 use Rattle.kmip_simulation.proofs.PlansLemmas.{second_is}
 use Rattle.kmip_simulation.proofs.simulating.simulate_plans.Goals as goal
 

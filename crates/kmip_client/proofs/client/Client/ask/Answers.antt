@@ -5,11 +5,11 @@ use Rattle.std.proofs.lemmas.Option.{get_or_from_slice_get, slice_get_within}
 use Rattle.std.proofs.lemmas.Slice.Zip.{AllZip-long}
 use Rattle.std.specs.List.{All, slice_get}
 use Rattle.std.specs.Option.{option_map_or}
-use Rattle.kmip_messages.specs.declared.standard.TheConstants.{MOST_QUESTIONS}
-use Rattle.kmip_batches.specs.Members.{may_have}
-use Rattle.kmip_chains.specs.declared.key.Key.{Key}
+use Rattle.kmip_batch_items.specs.declared.standard.TheConstants.{MOST_QUESTIONS}
+use Rattle.kmip_messages.specs.Members.{may_have}
+use Rattle.kmip_plan.specs.declared.key.Key.{Key}
 use Rattle.kmip_plan.specs.Plans.{IsLawful}
-use Rattle.kmip_knowledge.specs.declared.knowledge.Knowledge.{Knowledge}
+use Rattle.kmip_client.specs.declared.knowledge.Knowledge.{Knowledge}
 use Rattle.kmip_client.specs.Asking.{AreApart, after_ask, in_turn, next_places, turn_behind}
 use Rattle.kmip_client.specs.Clients.{ClientState, WorksAt, AreSettled, working_count}
 use Rattle.kmip_client.specs.Shapes.{IsShaped}

@@ -1,6 +1,6 @@
 -- The counts stay until an exchange is handed over; and where no word is left, and the server has room, then too. An exchange ends no run.
 use Rattle.std.proofs.Common.{Ok, ap, refl, subst, ◌∙◌}
-use Rattle.kmip_schedule.specs.Clean.{IsRoomy}
+use Rattle.kmip_protocol.specs.Clean.{IsRoomy}
 use Rattle.kmip_scripted.specs.Scenes.{disturbances_in}
 use Rattle.kmip_scripted.proofs.CallLemmas.{follows_exchange}
 use Rattle.kmip_scripted.proofs.CountLemmas.{calm_is_kept, exchange_begun_keeps, no_fewer}

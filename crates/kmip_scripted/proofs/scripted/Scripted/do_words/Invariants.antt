@@ -1,7 +1,7 @@
 -- What the words that are left will do is what all were to do; what is done of them is a beginning.
 use Rattle.std.proofs.Common.{◌≡◌, ℕ, List, false, length}
-use Rattle.kmip_schedule.specs.Moves.{Delivered}
-use Rattle.kmip_schedule.specs.Past.{Names}
+use Rattle.kmip_protocol.specs.Moves.{Delivered}
+use Rattle.kmip_protocol.specs.Past.{Names}
 use Rattle.kmip_scripted.specs.Early.{AreOfEarlier, IsEarly}
 use Rattle.kmip_scripted.specs.Scenes.{Scene, past_in}
 use Rattle.kmip_scripted.specs.Words.{AreBegun, after_words}

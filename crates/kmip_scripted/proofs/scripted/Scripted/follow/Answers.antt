@@ -1,12 +1,12 @@
 -- The request was asked, things happened, the word was done, and its answer was handed over.
 use Rattle.std.proofs.Common.{sym, ap, subst, ◌∙◌, inr, length, option_map}
 use Rattle.std.proofs.lemmas.Result.{IfOk-from_err}
-use Rattle.kmip_batches.specs.Items.{requests_in}
-use Rattle.kmip_schedule.specs.Clean.{strange_handed}
-use Rattle.kmip_schedule.specs.Moves.{Delivered}
-use Rattle.kmip_schedule.specs.Past.{Names}
-use Rattle.kmip_schedule.specs.Exchanges.{with_asked}
-use Rattle.kmip_losses.specs.Counting.{counted, every_name}
+use Rattle.kmip_messages.specs.Items.{requests_in}
+use Rattle.kmip_protocol.specs.Clean.{strange_handed}
+use Rattle.kmip_protocol.specs.Moves.{Delivered}
+use Rattle.kmip_protocol.specs.Past.{Names}
+use Rattle.kmip_protocol.specs.Exchanges.{with_asked}
+use Rattle.kmip_scripted.specs.Counting.{counted, every_name}
 use Rattle.kmip_scripted.specs.Disturbing.{is_disturbed}
 use Rattle.kmip_scripted.specs.Scenes.{disturbances_in, past_in}
 use Rattle.kmip_scripted.proofs.CleanLemmas.{is_counted}

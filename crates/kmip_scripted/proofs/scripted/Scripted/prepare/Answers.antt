@@ -1,6 +1,6 @@
 -- The request was asked, and then things happened.
 use Rattle.std.proofs.Common.{true, refl, inr}
-use Rattle.kmip_schedule.specs.Past.{Names}
+use Rattle.kmip_protocol.specs.Past.{Names}
 use Rattle.kmip_scripted.specs.Scenes.{past_in}
 use Rattle.kmip_scripted.proofs.CleanLemmas.{prepared_early, request_joins}
 use Rattle.kmip_scripted.proofs.FollowLemmas.{joined_past, still_asked}

@@ -1,9 +1,9 @@
 -- The word that is taken is no part of the past.
 use Rattle.std.proofs.Common.{pos, subst, ◌∙◌}
-use Rattle.kmip_batches.specs.Items.{parts_in, replies_in, stops_in}
+use Rattle.kmip_messages.specs.Items.{parts_in, replies_in, stops_in}
 use Rattle.kmip_server.specs.Batching.{batch_reply}
-use Rattle.kmip_schedule.specs.Calm.{AreTaken}
-use Rattle.kmip_schedule.specs.Moves.{Delivered}
+use Rattle.kmip_protocol.specs.Calm.{AreTaken}
+use Rattle.kmip_protocol.specs.Moves.{Delivered}
 use Rattle.kmip_scripted.specs.Scenes.{WasAsked, past_in}
 use Rattle.kmip_scripted.proofs.scripted.Scripted.take_and_play.Goals as goal
 

@@ -1,0 +1,250 @@
+-- The formats of replies are good: what is read is what is said, and what is written says it again.
+use Rattle.std.proofs.Common.{◌≡◌, ℕ, Bool, true, false, List, [], ◌∷◌, Option, Some, None, ◌==◌, ◌&&◌, ◌||◌, refl, sym, ap, ◌∙◌}
+use Rattle.std.proofs.lemmas.Bool.{and_parts, eqb-true}
+use Rattle.std.specs.Option.{option_map_or}
+use Rattle.kmip_ttlv.specs.Node.{Node}
+use Rattle.kmip_batch_items.specs.Formats.{integers, enumerations, texts, choose, Chosen}
+use Rattle.kmip_batch_items.specs.FormatLaws.{IsGood, IsPart}
+use Rattle.kmip_batch_items.proofs.ItemReads.{integer_kind, enumeration_kind, text_kind}
+use Rattle.kmip_batch_items.proofs.FormatParts.{required-part, optional-part, unread-part, repeated-part, structure-part, optional_structure-part, ranged-part, as_record-good, said_record-part, as_case-part, both-part, reversed-part, left-part, right-part, fixed-part, followed-part, told_by-part, refusing-part, choose-part}
+use Rattle.kmip_objects.specs.declared.attributes.Attrs.{Attrs}
+use Rattle.kmip_objects.specs.Ranges.{is_identifier}
+use Rattle.kmip_batch_items.specs.declared.reply.Outcome.{Outcome}
+use Rattle.kmip_batch_items.specs.declared.reply.Outcome.TheVariants.{Created, Located, Attributes, Activated, Revoked, Destroyed, Failed}
+use Rattle.kmip_batch_items.specs.declared.reply.Reply.{Reply}
+use Rattle.kmip_batch_items.specs.declared.standard.TheConstants.{TAG_RESPONSE_PAYLOAD, TAG_RESULT_STATUS, TAG_RESULT_REASON, STATUS_SUCCESS, STATUS_OPERATION_FAILED, OPERATION_CREATE, OPERATION_LOCATE, OPERATION_GET_ATTRIBUTES, OPERATION_ACTIVATE, OPERATION_REVOKE, OPERATION_DESTROY}
+use Rattle.kmip_batch_items.specs.BatchItems.{answer_fits}
+use Rattle.kmip_batch_items.specs.Fits.{is_own, outcome_fits}
+use Rattle.kmip_batch_items.specs.Parts.{id_format, identifier_format}
+use Rattle.kmip_batch_items.specs.Ranges.{is_batch_id, is_operation}
+use Rattle.kmip_batch_items.specs.ReplyFormats.{any_name_parts_format, attrs_format, in_created, in_located, in_attributes, in_activated, in_revoked, in_destroyed, in_failed, created_format, identifiers_format, object_format, answer_format, located_format, succeeded, success_of_format, success_format, failed_format, is_status, status_of, outcome_format, any_version_parts_format, answered_format}
+use Rattle.kmip_batch_items.proofs.AttributeLaws.{attrs_with-part}
+use Rattle.kmip_batch_items.proofs.Readers.{id_part, identifier_part, plain_part}
+use Rattle.kmip_batch_items.proofs.RequestLaws.{chosen, last_holds}
+
+-- ---- attributes
+
+any_name_parts-part : IsPart any_name_parts_format
+unfolding any_name_parts_format
+any_name_parts-part = left-part _ _ refl (required-part texts _ text_kind) plain_part
+
+attrs-part : IsPart attrs_format
+unfolding attrs_format
+attrs-part = attrs_with-part _ refl (optional_structure-part _ _ any_name_parts-part.good)
+
+-- ---- payloads
+
+created : (o : Outcome) (x : List ℕ) → in_created o ≡ Some x → Created x ≡ o
+created (Created uid) x e = cc
+created (Located uids) x e = absurd cc
+created (Attributes uid attrs) x e = absurd cc
+created (Activated uid) x e = absurd cc
+created (Revoked uid) x e = absurd cc
+created (Destroyed uid) x e = absurd cc
+created (Failed reason) x e = absurd cc
+
+located : (o : Outcome) (x : Option (List (List ℕ))) → in_located o ≡ Some x → Located (option_map_or (λ uids. uids) x []) ≡ o
+located (Created uid) x e = absurd cc
+located (Located uids) None e = absurd cc
+located (Located uids) (Some x) e = cc
+located (Attributes uid attrs) x e = absurd cc
+located (Activated uid) x e = absurd cc
+located (Revoked uid) x e = absurd cc
+located (Destroyed uid) x e = absurd cc
+located (Failed reason) x e = absurd cc
+
+attributes_told : (o : Outcome) (x : List ℕ × Attrs) → in_attributes o ≡ Some x → Attributes x.0 x.1 ≡ o
+attributes_told (Created uid) x e = absurd cc
+attributes_told (Located uids) x e = absurd cc
+attributes_told (Attributes uid attrs) x e = cc
+attributes_told (Activated uid) x e = absurd cc
+attributes_told (Revoked uid) x e = absurd cc
+attributes_told (Destroyed uid) x e = absurd cc
+attributes_told (Failed reason) x e = absurd cc
+
+activated : (o : Outcome) (x : List ℕ) → in_activated o ≡ Some x → Activated x ≡ o
+activated (Created uid) x e = absurd cc
+activated (Located uids) x e = absurd cc
+activated (Attributes uid attrs) x e = absurd cc
+activated (Activated uid) x e = cc
+activated (Revoked uid) x e = absurd cc
+activated (Destroyed uid) x e = absurd cc
+activated (Failed reason) x e = absurd cc
+
+revoked : (o : Outcome) (x : List ℕ) → in_revoked o ≡ Some x → Revoked x ≡ o
+revoked (Created uid) x e = absurd cc
+revoked (Located uids) x e = absurd cc
+revoked (Attributes uid attrs) x e = absurd cc
+revoked (Activated uid) x e = absurd cc
+revoked (Revoked uid) x e = cc
+revoked (Destroyed uid) x e = absurd cc
+revoked (Failed reason) x e = absurd cc
+
+destroyed : (o : Outcome) (x : List ℕ) → in_destroyed o ≡ Some x → Destroyed x ≡ o
+destroyed (Created uid) x e = absurd cc
+destroyed (Located uids) x e = absurd cc
+destroyed (Attributes uid attrs) x e = absurd cc
+destroyed (Activated uid) x e = absurd cc
+destroyed (Revoked uid) x e = absurd cc
+destroyed (Destroyed uid) x e = cc
+destroyed (Failed reason) x e = absurd cc
+
+failed : (o : Outcome) (x : Option ℕ) → in_failed o ≡ Some x → Failed x ≡ o
+failed (Created uid) x e = absurd cc
+failed (Located uids) x e = absurd cc
+failed (Attributes uid attrs) x e = absurd cc
+failed (Activated uid) x e = absurd cc
+failed (Revoked uid) x e = absurd cc
+failed (Destroyed uid) x e = absurd cc
+failed (Failed reason) x e = cc
+
+created-part : IsPart created_format
+unfolding created_format identifier_format
+created-part = right-part _ _ refl (unread-part _ _ (refl, tt)) identifier_part
+
+identifiers-part : IsPart identifiers_format
+unfolding identifiers_format
+identifiers-part = repeated-part texts _ is_identifier text_kind
+
+object-part : IsPart object_format
+unfolding object_format identifier_format
+object-part = both-part _ _ refl identifier_part (structure-part _ _ attrs-part.good)
+
+answer-part : (operation : ℕ) → IsPart (answer_format operation)
+unfolding answer_format
+answer-part operation =
+    choose-part _ _ _ (as_case-part _ _ _ created created-part)
+    (choose-part _ _ _ (as_case-part _ _ _ attributes_told object-part)
+    (choose-part _ _ _ (as_case-part _ _ _ activated identifier_part)
+    (choose-part _ _ _ (as_case-part _ _ _ revoked identifier_part)
+    (as_case-part _ _ _ destroyed identifier_part))))
+
+located-part : IsPart located_format
+unfolding located_format
+located-part = as_case-part _ _ _ located (optional_structure-part _ _ identifiers-part.good)
+
+-- ---- outcomes
+
+success_of-part : (operation : ℕ) → IsPart (success_of_format operation)
+unfolding success_of_format
+success_of-part operation = refusing-part _ _ _ (choose-part _ _ _ located-part (structure-part _ _ (answer-part operation).good))
+
+success_of_tags : (operation : ℕ) → (success_of_format operation).tags ≡ TAG_RESPONSE_PAYLOAD ∷ TAG_RESPONSE_PAYLOAD ∷ []
+unfolding success_of_format located_format
+success_of_tags operation = refl
+
+-- a case of the operation of this number
+of_case : (operation own : ℕ) (a b : Outcome) → succeeded b ≡ own → b ≡ a → (operation == own) ≡ true → succeeded a ≡ operation
+of_case operation own a b is same test = ap succeeded (sym same) ∙ is ∙ sym (eqb-true operation own test)
+
+-- what a payload says is of its operation
+answer_is_own : (operation : ℕ) (payload : List Node) (a : Outcome) → is_operation operation ≡ true → (operation == OPERATION_LOCATE) ≡ false
+    → (answer_format operation).Says payload a → succeeded a ≡ operation
+unfolding answer_format
+answer_is_own operation payload a known not_locate says =
+    chosen (operation == OPERATION_CREATE) says (λ is (x, _, same). of_case operation OPERATION_CREATE a (Created x) refl same is) (λ not_create others.
+    chosen (operation == OPERATION_GET_ATTRIBUTES) others (λ is (x, _, same). of_case operation OPERATION_GET_ATTRIBUTES a (Attributes x.0 x.1) refl same is) (λ not_attributes others.
+    chosen (operation == OPERATION_ACTIVATE) others (λ is (x, _, same). of_case operation OPERATION_ACTIVATE a (Activated x) refl same is) (λ not_activate others.
+    chosen (operation == OPERATION_REVOKE) others (λ is (x, _, same). of_case operation OPERATION_REVOKE a (Revoked x) refl same is) (λ not_revoke last.
+    of_case operation OPERATION_DESTROY a (Destroyed last.0) refl last.2
+    (last_holds (operation == OPERATION_CREATE) (operation == OPERATION_LOCATE) (operation == OPERATION_GET_ATTRIBUTES) (operation == OPERATION_ACTIVATE)
+    (operation == OPERATION_REVOKE) (operation == OPERATION_DESTROY) known not_create not_locate not_attributes not_activate not_revoke)))))
+
+success_is_own : (operation : ℕ) (batch : List Node) (a : Outcome) → (success_of_format operation).Says batch a → succeeded a ≡ operation
+unfolding success_of_format located_format
+success_is_own operation batch a (known, says) =
+    chosen (operation == OPERATION_LOCATE) says (λ is (x, _, same). of_case operation OPERATION_LOCATE a _ refl same is) (λ other (payload, _, told).
+    answer_is_own operation payload a known other told)
+
+success-part : (asked : Option ℕ) → IsPart (success_format asked)
+unfolding success_format
+success-part asked = told_by-part _ _ _ _ _ success_of_tags success_is_own success_of-part
+
+failed-part : IsPart failed_format
+unfolding failed_format
+failed-part = as_case-part _ _ _ failed (optional-part enumerations _ enumeration_kind)
+
+-- a success is no failure, as 0 is no operation
+success_status : (asked : Option ℕ) (batch : List Node) (o : Outcome) → (success_format asked).Says batch o → status_of o ≡ STATUS_SUCCESS
+unfolding success_format success_of_format
+success_status asked batch (Created uid) says = refl
+success_status asked batch (Located uids) says = refl
+success_status asked batch (Attributes uid attrs) says = refl
+success_status asked batch (Activated uid) says = refl
+success_status asked batch (Revoked uid) says = refl
+success_status asked batch (Destroyed uid) says = refl
+success_status asked batch (Failed reason) says = let known : is_operation 0 ≡ true = says.1.0 in absurd cc
+
+failed_status : (batch : List Node) (o : Outcome) → failed_format.Says batch o → status_of o ≡ STATUS_OPERATION_FAILED
+unfolding failed_format
+failed_status batch o (reason, _, same) = ap status_of (sym same)
+
+second : (x y : Bool) → (x || y) ≡ true → x ≡ false → y ≡ true
+second true y e d = absurd cc
+second false y e d = e
+
+-- the status of what is said is the one that was read
+own_status : (asked : Option ℕ) (status : ℕ) (batch : List Node) (o : Outcome) → is_status status ≡ true
+    → Chosen (status == STATUS_SUCCESS) ((success_format asked).Says batch o) (failed_format.Says batch o) → status_of o ≡ status
+own_status asked status batch o known says =
+    chosen (status == STATUS_SUCCESS) says
+    (λ is success. success_status asked batch o success ∙ sym (eqb-true status STATUS_SUCCESS is))
+    (λ other failure. failed_status batch o failure ∙ sym (eqb-true status STATUS_OPERATION_FAILED (second _ _ known other)))
+
+outcome_tags : (asked : Option ℕ) → (outcome_format asked).tags ≡ TAG_RESULT_STATUS ∷ TAG_RESPONSE_PAYLOAD ∷ TAG_RESPONSE_PAYLOAD ∷ TAG_RESULT_REASON ∷ []
+unfolding outcome_format
+outcome_tags asked = refl
+
+status_tags : (asked : Option ℕ) (b : Bool) → (choose b (success_format asked) failed_format).tags ≡ TAG_RESPONSE_PAYLOAD ∷ TAG_RESPONSE_PAYLOAD ∷ TAG_RESULT_REASON ∷ []
+unfolding success_format failed_format
+status_tags asked b = refl
+
+outcome-part : (asked : Option ℕ) → IsPart (outcome_format asked)
+unfolding outcome_format
+outcome-part asked = said_record-part _ _ _ (λ ns p says. ap (λ s. (s, p.1)) (own_status asked p.0 ns p.1 says.0.1 says.1)) (λ o. refl)
+    (followed-part _ _ _ refl (λ status. status_tags asked (status == STATUS_SUCCESS)) (ranged-part _ _ _ (required-part enumerations _ enumeration_kind))
+    (λ status. choose-part _ _ _ (success-part asked) failed-part))
+
+-- ---- the version, and the Batch Item
+
+pub any_version_parts-part : IsPart any_version_parts_format
+unfolding any_version_parts_format
+any_version_parts-part = fixed-part _ _ _ _ refl refl (both-part _ _ refl (required-part integers _ integer_kind) (required-part integers _ integer_kind))
+
+pub answered-good : IsGood answered_format
+unfolding answered_format id_format
+answered-good = as_record-good _ _ _ (λ ns p says. refl) (λ r. refl)
+    (followed-part _ _ _ refl (λ known. outcome_tags known.0) (reversed-part _ _ refl (optional-part enumerations _ enumeration_kind) id_part)
+    (λ known. outcome-part known.0)).good
+
+-- ---- a reply in its ranges is one that the formats can say
+
+both : (a b : Bool) → a ≡ true → b ≡ true → (a && b) ≡ true
+both a b p q = rw (p, q) refl
+
+name_fits_any : (o : Option (List ℕ)) → option_map_or any_name_parts_format.fits o true ≡ true
+unfolding any_name_parts_format
+name_fits_any None = refl
+name_fits_any (Some text) = refl
+
+attrs_fit_any : (a : Attrs) → attrs_format.fits a ≡ true
+unfolding attrs_format
+attrs_fit_any a = both (option_map_or any_name_parts_format.fits a.name true) true (name_fits_any a.name) refl
+
+payload_fits : (o : Outcome) (asked : Option ℕ) → outcome_fits asked o ≡ true → (outcome_format asked).fits o ≡ true
+unfolding outcome_format success_format success_of_format answer_format located_format identifiers_format created_format object_format identifier_format failed_format
+payload_fits (Created uid) asked fits = fits
+payload_fits (Located uids) asked fits = fits
+payload_fits (Attributes uid attrs) asked fits =
+    let each = and_parts (is_own OPERATION_GET_ATTRIBUTES asked) (is_identifier uid) fits in
+    both (is_own OPERATION_GET_ATTRIBUTES asked) (is_identifier uid && attrs_format.fits attrs) each.0 (both (is_identifier uid) (attrs_format.fits attrs) each.1 (attrs_fit_any attrs))
+payload_fits (Activated uid) asked fits = fits
+payload_fits (Revoked uid) asked fits = fits
+payload_fits (Destroyed uid) asked fits = fits
+payload_fits (Failed reason) asked fits = refl
+
+pub answer_in_format : (r : Reply) → answer_fits r ≡ true → answered_format.fits r ≡ true
+unfolding answered_format id_format
+answer_in_format r fits =
+    let parts = and_parts (option_map_or is_batch_id r.id true) (outcome_fits r.operation r.outcome) fits in
+    both _ ((outcome_format r.operation).fits r.outcome) parts.0 (payload_fits r.outcome r.operation parts.1)

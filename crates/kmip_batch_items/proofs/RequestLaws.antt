@@ -1,0 +1,216 @@
+-- The formats of requests are good: what is read is what is said, and what is written says it again.
+use Rattle.std.proofs.Common.{◌≡◌, ℕ, ℤ, Bool, true, false, List, ◌∷◌, [], Option, Some, None, ◌==◌, ◌&&◌, ◌||◌, refl, sym, ap, ◌∙◌}
+use Rattle.std.proofs.lemmas.Bool.{eqb-true, and_parts}
+use Rattle.std.specs.Option.{option_map_or}
+use Rattle.kmip_ttlv.specs.Node.{Node}
+use Rattle.kmip_batch_items.specs.Formats.{integers, enumerations, texts, Chosen}
+use Rattle.kmip_batch_items.specs.FormatLaws.{IsGood, IsPart}
+use Rattle.kmip_batch_items.proofs.ItemReads.{integer_kind, enumeration_kind, text_kind}
+use Rattle.kmip_batch_items.proofs.FormatParts.{required-part, optional-part, structure-part, ranged-part, fixed-part, present-part, as_record-good, as_record-part, as_case-good, both-part, reversed-part, left-part, right-part, followed-part, closed-good, refusing-part, choose-good}
+use Rattle.kmip_objects.specs.declared.attributes.KeyAttrs.{KeyAttrs}
+use Rattle.kmip_objects.specs.declared.attributes.Attrs.{Attrs}
+use Rattle.kmip_objects.specs.Ranges.{is_name, is_algorithm, is_length, is_usage, attrs_fit}
+use Rattle.kmip_batch_items.specs.declared.request.Ask.{Ask}
+use Rattle.kmip_batch_items.specs.declared.request.Ask.TheVariants.{Create, Locate, GetAttributes, Activate, Revoke, Destroy}
+use Rattle.kmip_batch_items.specs.declared.request.Request.{Request}
+use Rattle.kmip_batch_items.specs.declared.standard.TheConstants.{TAG_REQUEST_PAYLOAD, OPERATION_CREATE, OPERATION_LOCATE, OPERATION_GET_ATTRIBUTES, OPERATION_ACTIVATE, OPERATION_REVOKE, OPERATION_DESTROY}
+use Rattle.kmip_batch_items.specs.Operations.{operation_of}
+use Rattle.kmip_batch_items.specs.Parts.{id_format, identifier_format}
+use Rattle.kmip_batch_items.specs.Ranges.{is_batch_id, is_operation}
+use Rattle.kmip_batch_items.specs.RequestFits.{ask_fits, request_fits}
+use Rattle.kmip_batch_items.specs.RequestFormats.{name_parts_format, name_format, key_attrs_format, filter_format, in_create, in_locate, in_get_attributes, in_activate, in_revoke, in_destroy, create_format, locate_format, reason_format, revoke_format, payload_format, version_parts_format, known_format, asked_format, item_format}
+use Rattle.kmip_batch_items.proofs.AttributeLaws.{attrs_with-part}
+use Rattle.kmip_batch_items.proofs.Readers.{id_part, identifier_part, plain_part}
+
+-- ---- attributes
+
+name_parts-part : IsPart name_parts_format
+unfolding name_parts_format
+name_parts-part = left-part _ _ refl (ranged-part _ _ _ (required-part texts _ text_kind)) plain_part
+
+name-part : IsPart name_format
+name-part = structure-part _ _ name_parts-part.good
+
+key_attrs-good : IsGood key_attrs_format
+unfolding key_attrs_format
+key_attrs-good = closed-good _ (as_record-part _ _ _ (λ p. refl) (λ k. refl)
+    (both-part _ _ refl name-part (both-part _ _ refl
+    (ranged-part _ _ _ (both-part _ _ refl (ranged-part _ _ _ (required-part enumerations _ enumeration_kind)) (required-part integers _ integer_kind)))
+    (ranged-part _ _ _ (required-part integers _ integer_kind))))).good
+
+filter-good : IsGood filter_format
+unfolding filter_format
+filter-good = closed-good _ (attrs_with-part _ refl (present-part _ name-part)).good
+
+-- ---- payloads
+
+create-good : IsGood create_format
+unfolding create_format
+create-good = (right-part _ _ refl (fixed-part _ _ _ _ refl refl (required-part enumerations _ enumeration_kind)) (structure-part _ _ key_attrs-good)).good
+
+created : (a : Ask) (x : KeyAttrs) → in_create a ≡ Some x → Create x ≡ a
+created (Create k) x e = cc
+created (Locate storage filter) x e = absurd cc
+created (GetAttributes uid) x e = absurd cc
+created (Activate uid) x e = absurd cc
+created (Revoke uid code) x e = absurd cc
+created (Destroy uid) x e = absurd cc
+
+located : (a : Ask) (x : Option ℤ × Attrs) → in_locate a ≡ Some x → Locate x.0 x.1 ≡ a
+located (Create k) x e = absurd cc
+located (Locate storage filter) x e = cc
+located (GetAttributes uid) x e = absurd cc
+located (Activate uid) x e = absurd cc
+located (Revoke uid code) x e = absurd cc
+located (Destroy uid) x e = absurd cc
+
+attributes_asked : (a : Ask) (x : List ℕ) → in_get_attributes a ≡ Some x → GetAttributes x ≡ a
+attributes_asked (Create k) x e = absurd cc
+attributes_asked (Locate storage filter) x e = absurd cc
+attributes_asked (GetAttributes uid) x e = cc
+attributes_asked (Activate uid) x e = absurd cc
+attributes_asked (Revoke uid code) x e = absurd cc
+attributes_asked (Destroy uid) x e = absurd cc
+
+activated : (a : Ask) (x : List ℕ) → in_activate a ≡ Some x → Activate x ≡ a
+activated (Create k) x e = absurd cc
+activated (Locate storage filter) x e = absurd cc
+activated (GetAttributes uid) x e = absurd cc
+activated (Activate uid) x e = cc
+activated (Revoke uid code) x e = absurd cc
+activated (Destroy uid) x e = absurd cc
+
+revoked : (a : Ask) (x : List ℕ × ℕ) → in_revoke a ≡ Some x → Revoke x.0 x.1 ≡ a
+revoked (Create k) x e = absurd cc
+revoked (Locate storage filter) x e = absurd cc
+revoked (GetAttributes uid) x e = absurd cc
+revoked (Activate uid) x e = absurd cc
+revoked (Revoke uid code) x e = cc
+revoked (Destroy uid) x e = absurd cc
+
+destroyed : (a : Ask) (x : List ℕ) → in_destroy a ≡ Some x → Destroy x ≡ a
+destroyed (Create k) x e = absurd cc
+destroyed (Locate storage filter) x e = absurd cc
+destroyed (GetAttributes uid) x e = absurd cc
+destroyed (Activate uid) x e = absurd cc
+destroyed (Revoke uid code) x e = absurd cc
+destroyed (Destroy uid) x e = cc
+
+locate-good : IsGood locate_format
+unfolding locate_format
+locate-good = as_case-good _ _ _ located (both-part _ _ refl (optional-part integers _ integer_kind) (structure-part _ _ filter-good)).good
+
+reason-part : IsPart reason_format
+unfolding reason_format
+reason-part = ranged-part _ _ _ (required-part enumerations _ enumeration_kind)
+
+revoke-good : IsGood revoke_format
+unfolding revoke_format identifier_format
+revoke-good = as_case-good _ _ _ revoked (both-part _ _ refl identifier_part (structure-part _ _ reason-part.good)).good
+
+payload-good : (operation : ℕ) → IsGood (payload_format operation)
+unfolding payload_format
+payload-good operation =
+    choose-good _ _ _ (as_case-good _ _ _ created create-good)
+    (choose-good _ _ _ locate-good
+    (choose-good _ _ _ (as_case-good _ _ _ attributes_asked identifier_part.good)
+    (choose-good _ _ _ (as_case-good _ _ _ activated identifier_part.good)
+    (choose-good _ _ _ revoke-good
+    (as_case-good _ _ _ destroyed identifier_part.good)))))
+
+-- ---- what a payload says is of its operation
+
+pub chosen : {P Q X : Type 0} (b : Bool) → Chosen b P Q → (b ≡ true → P → X) → (b ≡ false → Q → X) → X
+chosen true says first second = first refl says
+chosen false says first second = second refl says
+
+-- the last of the tests, where one of them holds and those before it do not
+pub last_holds : (a b c d e f : Bool) → (a || b || c || d || e || f) ≡ true → a ≡ false → b ≡ false → c ≡ false → d ≡ false → e ≡ false → f ≡ true
+last_holds a b c d e f known ha hb hc hd he = rw (ha, hb, hc, hd, he) at known
+
+-- a case of the operation of this number
+of_case : (operation own : ℕ) (a b : Ask) → operation_of b ≡ own → b ≡ a → (operation == own) ≡ true → operation_of a ≡ operation
+of_case operation own a b is same test = ap operation_of (sym same) ∙ is ∙ sym (eqb-true operation own test)
+
+payload_is_own : (operation : ℕ) (payload : List Node) (a : Ask) → is_operation operation ≡ true → (payload_format operation).Says payload a
+    → operation_of a ≡ operation
+unfolding payload_format locate_format revoke_format
+payload_is_own operation payload a known says =
+    chosen (operation == OPERATION_CREATE) says (λ is (x, _, same). of_case operation OPERATION_CREATE a (Create x) refl same is) (λ not_create others.
+    chosen (operation == OPERATION_LOCATE) others (λ is (x, _, same). of_case operation OPERATION_LOCATE a (Locate x.0 x.1) refl same is) (λ not_locate others.
+    chosen (operation == OPERATION_GET_ATTRIBUTES) others (λ is (x, _, same). of_case operation OPERATION_GET_ATTRIBUTES a (GetAttributes x) refl same is) (λ not_attributes others.
+    chosen (operation == OPERATION_ACTIVATE) others (λ is (x, _, same). of_case operation OPERATION_ACTIVATE a (Activate x) refl same is) (λ not_activate others.
+    chosen (operation == OPERATION_REVOKE) others (λ is (x, _, same). of_case operation OPERATION_REVOKE a (Revoke x.0 x.1) refl same is) (λ not_revoke last.
+    of_case operation OPERATION_DESTROY a (Destroy last.0) refl last.2
+    (last_holds (operation == OPERATION_CREATE) (operation == OPERATION_LOCATE) (operation == OPERATION_GET_ATTRIBUTES) (operation == OPERATION_ACTIVATE)
+    (operation == OPERATION_REVOKE) (operation == OPERATION_DESTROY) known not_create not_locate not_attributes not_activate not_revoke))))))
+
+-- ---- the version, and the Batch Item
+
+pub version_parts-part : IsPart version_parts_format
+unfolding version_parts_format
+version_parts-part = fixed-part _ _ _ _ refl refl (both-part _ _ refl (required-part integers _ integer_kind) (required-part integers _ integer_kind))
+
+pub known-part : IsPart known_format
+unfolding known_format id_format
+known-part = reversed-part _ _ refl (required-part enumerations _ enumeration_kind) id_part
+
+pub asked-part : (operation : ℕ) → IsPart (asked_format operation)
+unfolding asked_format
+asked-part operation = refusing-part _ _ _ (structure-part _ _ (payload-good operation))
+
+asked_tags : (operation : ℕ) → (asked_format operation).tags ≡ TAG_REQUEST_PAYLOAD ∷ []
+unfolding asked_format
+asked_tags operation = refl
+
+pub asked_is_own : (operation : ℕ) (batch : List Node) (a : Ask) → (asked_format operation).Says batch a → operation_of a ≡ operation
+unfolding asked_format
+asked_is_own operation batch a (known, (payload, _, says)) = payload_is_own operation payload a known says
+
+pub item-good : IsGood item_format
+unfolding item_format known_format id_format
+item-good = as_record-good _ _ _ (λ ns p says. ap (λ o. ((o, p.0.1), p.1)) (asked_is_own p.0.0 ns p.1 says.1)) (λ r. refl)
+    (followed-part _ _ _ refl (λ known. asked_tags known.0) known-part (λ known. asked-part known.0)).good
+
+-- ---- a request in its ranges is one that the formats can say
+
+both : (a b : Bool) → a ≡ true → b ≡ true → (a && b) ≡ true
+both a b p q = rw (p, q) refl
+
+key_fits : (k : KeyAttrs) → attrs_fit k ≡ true → create_format.fits k ≡ true
+unfolding create_format key_attrs_format name_parts_format
+key_fits k fits =
+    let last = and_parts _ (is_usage k.usage) fits in
+    let middle = and_parts _ (is_length k.algorithm k.length) last.0 in
+    let first = and_parts (is_name k.name) (is_algorithm k.algorithm) middle.0 in
+    rw (first.0, first.1, middle.1, last.1) refl
+
+filter_fits : (o : Option (List ℕ)) → option_map_or is_name o false ≡ true → option_map_or name_format.fits o false ≡ true
+unfolding name_parts_format
+filter_fits None fits = fits
+filter_fits (Some text) fits = both (is_name text) true fits refl
+
+payload_fits : (a : Ask) → ask_fits a ≡ true → (payload_format (operation_of a)).fits a ≡ true
+unfolding payload_format locate_format filter_format revoke_format reason_format identifier_format
+payload_fits (Create k) fits = key_fits k fits
+payload_fits (Locate storage filter) fits = both (option_map_or name_format.fits filter.name false) true (filter_fits filter.name fits) refl
+payload_fits (GetAttributes uid) fits = fits
+payload_fits (Activate uid) fits = fits
+payload_fits (Revoke uid code) fits = fits
+payload_fits (Destroy uid) fits = fits
+
+-- the number of what is asked is that of an operation
+pub asked_is_operation : (a : Ask) → is_operation (operation_of a) ≡ true
+asked_is_operation (Create k) = refl
+asked_is_operation (Locate storage filter) = refl
+asked_is_operation (GetAttributes uid) = refl
+asked_is_operation (Activate uid) = refl
+asked_is_operation (Revoke uid code) = refl
+asked_is_operation (Destroy uid) = refl
+
+pub item_fits : (r : Request) → request_fits r ≡ true → item_format.fits r ≡ true
+unfolding item_format known_format id_format asked_format
+item_fits r fits =
+    let parts = and_parts (option_map_or is_batch_id r.id true) (ask_fits r.ask) fits in
+    both (option_map_or is_batch_id r.id true) (is_operation (operation_of r.ask) && (payload_format (operation_of r.ask)).fits r.ask) parts.0
+    (both (is_operation (operation_of r.ask)) ((payload_format (operation_of r.ask)).fits r.ask) (asked_is_operation r.ask) (payload_fits r.ask parts.1))

@@ -1,3 +1,0 @@
-mod ChainLemmas
-mod PlaceLemmas
-pub mod TargetLemmas

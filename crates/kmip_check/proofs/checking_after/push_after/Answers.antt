@@ -1,8 +1,0 @@
--- The earlier plan is what was read.
-use Rattle.std.proofs.Common.{◌↔◌, Ok, IsTrue, IfOk, subst, sym}
-use Rattle.kmip_check.specs.Checking.{IsRefusedAfter}
-use Rattle.kmip_check.proofs.checking_after.push_after.Goals as goal
-
-pub returns-in-Ok-clause-refused : goal.returns-in-Ok-clause-refused
-returns-in-Ok-clause-refused c =
-    subst (λ read. IfOk c.push_comparison.result (λ r. IsTrue r ↔ IsRefusedAfter (Ok c.args.plan.now) read)) (sym c.in-Ok.ensures.exact) c.push_comparison.ensures.refused

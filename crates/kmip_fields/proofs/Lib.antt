@@ -1,5 +1,0 @@
-mod SiblingLemmas
-pub mod ItemReads
-pub mod TagLemmas
-mod ExtentLemmas
-pub mod FormatParts

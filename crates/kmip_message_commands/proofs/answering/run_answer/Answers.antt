@@ -1,0 +1,18 @@
+-- What the command wrote, and then the line of a fault.
+use Rattle.kmip_message_commands.specs.Printing.{Prints, Tells}
+use Rattle.kmip_message_commands.specs.AnswerText.{answer_lines, answer_text}
+use Rattle.kmip_message_commands.specs.Judging.{has_refused_line}
+use Rattle.kmip_message_commands.proofs.FinishingLemmas.{finished_whole, finished_front}
+use Rattle.kmip_message_commands.proofs.answering.run_answer.Goals as goal
+
+pub returns-clause-text : goal.returns-clause-text
+returns-clause-text g c =
+    finished_whole _ _ _ _ (λ new _. Prints answer_text (g.R.Read.remaining c.args.reader.now) (g.W.Write.contents c.args.writer.now) new) c.finished.ensures c.answer-ended.ensures.text
+
+pub returns-clause-refused : goal.returns-clause-refused
+returns-clause-refused g c =
+    finished_whole _ _ _ _ (λ _ refused. Tells has_refused_line (g.R.Read.remaining c.args.reader.now) refused) c.finished.ensures c.answer-ended.ensures.refused
+
+pub returns-clause-broken : goal.returns-clause-broken
+returns-clause-broken g c =
+    finished_front answer_lines _ _ _ _ _ _ c.finished.ensures c.answer-ended.ensures.broken

@@ -1,0 +1,73 @@
+//! Where the text of a command goes: to a writer, or into memory, which fails only where there is none.
+ghost use Rattle.std.specs.Prelude.{◌≡◌, ℕ, List, Option, OnOk, OnErr, IfErr};
+ghost use Rattle.std.specs.Io.KnownBytes.{Appends, Keeps};
+ghost use Rattle.kmip_message_commands.specs.declared.fault.CommandFault.{CommandFault};
+
+use crate::fault::CommandFault;
+use crate::replies::{push_text, send};
+use std::io::Write;
+
+/// What a command prints its text on: a writer, or a text in memory (`Printed`).
+pub trait Printer {
+    /// The bytes that were printed, where they are known.
+    ghost contents: { Self → Option (List ℕ) };
+
+    /// The only fault that it has. Who prints on any printer cannot name it, so it fails only where
+    /// the printer does.
+    ghost own_fault: { CommandFault };
+
+    /// That it takes all of a text, or nothing.
+    ghost IsWhole: { Type 0 };
+
+    /// Prints a text, and sends it on.
+    ///
+    /// # Errors
+    ///
+    /// The fault of the printer.
+    fn print(&mut self, text: &[u8]) -> Result<(), CommandFault>
+        // Exactly the text is printed.
+        ensures text { OnOk result (Appends (contents self.old) (contents self.new) text.now) }
+        // A fault is the printer's own.
+        ensures fault { IfErr result (λ f. f ≡ own_fault) }
+        // A printer that takes all of a text or nothing is at a fault as it was.
+        ensures kept { IsWhole → OnErr result (Keeps (contents self.old) (contents self.new)) };
+}
+
+/// Every writer. It fails by `Output`, and may have taken any part of the text.
+impl<W: Write> Printer for W {
+    ghost use Rattle.kmip_message_commands.specs.declared.fault.CommandFault.TheVariants.{Output};
+
+    ghost contents = { λ writer. W.contents writer };
+
+    ghost own_fault = { Output };
+
+    ghost IsWhole = { ⊥ };
+
+    fn print(&mut self, text: &[u8]) -> Result<(), CommandFault> {
+        send(text, false, self)
+    }
+}
+
+/// A text in memory, which grows at its end. It fails by `NoMemory`, and is as it was then.
+#[derive(Drop)]
+pub struct Printed {
+    pub text: Vec<u8>,
+}
+
+impl Printer for Printed {
+    ghost use Rattle.std.specs.Prelude.{Some};
+    ghost use Rattle.kmip_message_commands.specs.declared.fault.CommandFault.TheVariants.{NoMemory};
+
+    ghost contents = { λ printed. Some printed.text.items };
+
+    ghost own_fault = { NoMemory };
+
+    ghost IsWhole = { Unit {0} };
+
+    fn print(&mut self, text: &[u8]) -> Result<(), CommandFault> {
+        match push_text(text, &mut self.text) {
+            Ok(()) => Ok(()),
+            Err(_) => Err(CommandFault::NoMemory),
+        }
+    }
+}

@@ -1,0 +1,163 @@
+//! The loops over the lines of a command's input: of a reader, and of bytes in memory.
+ghost use Rattle.std.specs.Prelude.{◌≡◌, ◌++◌, ℕ, List, Some, IfOk, OnOk, IfErr, OnErr};
+ghost use Rattle.kmip_message_commands.specs.Judging.{is_saying_refused, saying_of};
+ghost use Rattle.kmip_message_commands.specs.LineText.{Response, saying_text, state_after_saying, RespondsTo, BreaksOffAt};
+ghost use Rattle.kmip_message_commands.specs.Printing.{UnlessOutput};
+
+use crate::fault::CommandFault;
+use crate::judging::{Judged, judge};
+use crate::lines::{NextLine, first_line, read_line};
+use crate::replies::{REFUSED_HEX, REFUSED_LENGTH, flush, push_text, send};
+use kmip_ttlv::NoMemory;
+use std::alloc::Global;
+use std::io::{BufRead, Write};
+
+/// How a command responds to a message of its input.
+pub(crate) trait Respond {
+    /// What the responses depend on.
+    ghost State: { Type 0 };
+
+    /// The state that the command is in.
+    ghost state: { Self → State };
+
+    /// What is written for a message, the state after it, whether it is refused, and in which states
+    /// the command is over: no line is looked at any more.
+    ghost response: { Response State };
+
+    /// What holds of the state between two messages.
+    ghost IsReady: { State → Type 0 };
+
+    /// Appends what is printed for the message, and says whether the message is refused.
+    ///
+    /// # Errors
+    ///
+    /// Where there is no memory; then the text may have grown by anything.
+    fn respond(
+        &mut self,
+        alloc: Global,
+        message: &[u8],
+        text: &mut Vec<u8>,
+    ) -> Result<bool, NoMemory>
+        requires { IsReady (state self.old) }
+        ensures text { OnOk result (text.new.items
+            ≡ text.old.items ++ response.text (state self.old) message.now) }
+        ensures after { OnOk result (state self.new
+            ≡ response.after (state self.old) message.now) }
+        ensures refused { IfOk result (λ r. r ≡ response.refuses message.now) };
+
+    /// Whether the command is over: it looks at no further line.
+    fn is_over(&self) -> bool
+        ensures { result ≡ response.over (state self.now) };
+
+    /// A message leaves the command ready for the next: a law, which does nothing.
+    fn stays_ready()
+        ensures { (s : State) (message : List ℕ) → IsReady s
+            → IsReady (response.after s message) };
+}
+
+/// Responds to each line of the reader in order until the command is over, and says whether a line
+/// was refused. A refused line prints why, and does not end the command. The text of a line is made
+/// whole before it is written, and nothing else is written.
+///
+/// # Errors
+///
+/// `Input` where the reader fails, `Output` where the writer does, and `NoMemory`.
+pub(crate) fn respond_to_lines<C: Respond, R: BufRead, W: Write>(
+    alloc: Global,
+    command: &mut C,
+    reader: &mut R,
+    writer: &mut W,
+) -> Result<bool, CommandFault>
+    requires { C.IsReady (C.state command.old) }
+    ensures whole { IfOk result (RespondsTo C.response (R.remaining reader.old)
+        (C.state command.old) (C.state command.new)
+        (W.contents writer.old) (W.contents writer.new)) }
+    ensures broken { IfErr result (λ fault. UnlessOutput fault (BreaksOffAt C.response
+        (R.remaining reader.old) (C.state command.old)
+        (W.contents writer.old) (W.contents writer.new))) }
+{
+    C::stays_ready();
+    let mut line = Vec::new(alloc);
+    let mut text = Vec::new(alloc);
+    let mut has_refused = false;
+    for _ in 0..u64::MAX {
+        let NextLine::Line { has_more } = read_line(reader, writer, &mut line)? else {
+            flush(writer)?;
+            return Ok(has_refused);
+        };
+        text.clear();
+        let is_refused = line_text(alloc, command, line.as_slice(), &mut text)?;
+        has_refused |= is_refused;
+        let is_over = command.is_over();
+        send(text.as_slice(), has_more && !is_over, writer)?;
+        if is_over {
+            return Ok(has_refused);
+        }
+    }
+    Err(CommandFault::Input)
+}
+
+/// Does the same with the lines of bytes in memory: appends their texts to `output`.
+///
+/// # Errors
+///
+/// Where there is no memory; then `output` has grown by the texts of some first lines, each whole.
+pub(crate) fn respond_to_bytes<C: Respond>(
+    alloc: Global,
+    command: &mut C,
+    input: &[u8],
+    output: &mut Vec<u8>,
+) -> Result<bool, NoMemory>
+    requires { C.IsReady (C.state command.old) }
+    ensures whole { IfOk result (RespondsTo C.response (Some input.now)
+        (C.state command.old) (C.state command.new)
+        (Some output.old.items) (Some output.new.items)) }
+    ensures broken { OnErr result (BreaksOffAt C.response (Some input.now) (C.state command.old)
+        (Some output.old.items) (Some output.new.items)) }
+{
+    C::stays_ready();
+    let mut rest = input;
+    let mut text = Vec::new(alloc);
+    let mut has_refused = false;
+    while !rest.is_empty() {
+        let (line, after) = first_line(rest);
+        rest = after;
+        text.clear();
+        let is_refused = line_text(alloc, command, line, &mut text)?;
+        has_refused |= is_refused;
+        push_text(text.as_slice(), output)?;
+        if command.is_over() {
+            return Ok(has_refused);
+        }
+    }
+    Ok(has_refused)
+}
+
+/// Appends what is printed for a line, and says whether the line is refused.
+fn line_text<C: Respond>(
+    alloc: Global,
+    command: &mut C,
+    line: &[u8],
+    text: &mut Vec<u8>,
+) -> Result<bool, NoMemory>
+    requires { C.IsReady (C.state command.old) }
+    ensures text { OnOk result (text.new.items ≡ text.old.items
+        ++ saying_text C.response.text (C.state command.old) (saying_of line.now)) }
+    ensures after { OnOk result (C.state command.new
+        ≡ state_after_saying C.response.after (C.state command.old) (saying_of line.now)) }
+    ensures refused { IfOk result (λ r. r
+        ≡ is_saying_refused C.response.refuses (saying_of line.now)) }
+{
+    match judge(alloc, line)? {
+        Judged::Empty => Ok(false),
+        Judged::Long => {
+            push_text(REFUSED_LENGTH, text)?;
+            Ok(true)
+        }
+        Judged::NotHex => {
+            push_text(REFUSED_HEX, text)?;
+            Ok(true)
+        }
+        Judged::Message(message) => command.respond(alloc, message.as_slice(), text),
+    }
+}

@@ -1,0 +1,322 @@
+//! The command `answer --stream`: the lines of its input are pieces of one stream of messages, and
+//! each reply of one server is a line of its output.
+ghost use Rattle.std.specs.Prelude.{◌≡◌, ◌≤◌, ◌<◌, ◌++◌, [], length, take, None, Some, IfOk, OnOk, IfErr, OnErr, IfSome};
+ghost use Rattle.kmip_frames.specs.Framing.{fault_in};
+ghost use Rattle.kmip_frames.specs.Streams.{BeginsWithNoMessage};
+ghost use Rattle.kmip_message_commands.specs.AnswerText.{first_stock};
+ghost use Rattle.kmip_message_commands.specs.Bytewise.{StreamState, IsReady, piece_text, state_after_piece, streams};
+ghost use Rattle.kmip_message_commands.specs.Printing.{IfFailed, IfWhole, UnlessOutput, fault_line};
+ghost use Rattle.kmip_message_commands.specs.StreamText.{end_of, stream_refusal_text, cut_text, tail_text, is_whole, IsWritten, IsAnswered, IsStreamAnswered, IsBrokenOff};
+
+use crate::answering::{new_server, push_reply};
+use crate::exit_status::ExitStatus;
+use crate::fault::CommandFault;
+use crate::finishing::finished;
+use crate::replies::{push_text, send};
+use crate::responding::{Respond, respond_to_bytes, respond_to_lines};
+use kmip_frames::{FrameFault, Framer};
+use kmip_server::{IndexedStore, Server};
+use kmip_ttlv::NoMemory;
+use std::alloc::Global;
+use std::io::{BufRead, Write};
+
+/// How a stream of messages ended.
+#[derive(Clone, Copy, Debug)]
+pub enum InputEnd {
+    /// After a whole message, or before the first.
+    Whole,
+    /// Inside a message, of which this many bytes came: 1 to 8,191.
+    Cut(usize),
+    /// At a head that is no message's.
+    Refused(FrameFault),
+}
+
+/// What became of the lines of a stream.
+#[derive(Clone, Copy, Debug)]
+pub struct StreamOutcome {
+    pub end: InputEnd,
+    /// Whether a line was refused, up to the one that ended the stream.
+    pub has_refused: bool,
+}
+
+impl StreamOutcome {
+    /// Whether all was messages: no line was refused, and the stream neither refused nor cut.
+    pub fn is_whole(self) -> bool
+        ensures { result ≡ is_whole self }
+    {
+        !self.has_refused && matches!(self.end, InputEnd::Whole)
+    }
+}
+
+/// Runs `answer --stream`, prints the line of a fault, unless it is one of the writer, and says how the
+/// program ends.
+pub fn run_answer_stream<R: BufRead, W: Write>(
+    alloc: Global,
+    reader: &mut R,
+    writer: &mut W,
+) -> ExitStatus
+    // It never ends with `Usage`. Where it ends with `Done` or `Refused`, the stream was answered, as
+    // *lines* and *stream* of `answer_stream` say. It is `Done` exactly where no line was refused and the
+    // stream was neither refused nor cut; then the replies to its messages are all that was written.
+    ensures whole { IfWhole result (IsStreamAnswered (R.remaining reader.old)
+        (W.contents writer.old) (W.contents writer.new)) }
+    // Where it ends with `Failed`, what was written is what some first lines say, but for the line of a
+    // cut at their end, and then the line of the fault. Of a writer that failed, nothing is said.
+    ensures broken { IfFailed result (λ fault. UnlessOutput fault (IfSome (R.remaining reader.old)
+        (λ input. IsBrokenOff input (fault_line fault)
+        (W.contents writer.old) (W.contents writer.new)))) }
+{
+    let ended = is_any_refused(alloc, reader, writer);
+    finished(ended, writer)
+}
+
+/// Answers the stream, and says whether a line was refused, or the stream refused or cut.
+fn is_any_refused<R: BufRead, W: Write>(
+    alloc: Global,
+    reader: &mut R,
+    writer: &mut W,
+) -> Result<bool, CommandFault>
+    ensures whole { IfOk result (IsStreamAnswered (R.remaining reader.old)
+        (W.contents writer.old) (W.contents writer.new)) }
+    ensures broken { IfErr result (λ fault. UnlessOutput fault (IfSome (R.remaining reader.old)
+        (λ input. IsBrokenOff input [] (W.contents writer.old) (W.contents writer.new)))) }
+{
+    let outcome = answer_stream(alloc, reader, writer)?;
+    Ok(!outcome.is_whole())
+}
+
+/// Answers the messages of the stream that the lines of the reader are pieces of, each as soon as it
+/// is whole, and says how the stream ended. A refused line prints why, and the stream goes on after
+/// it. A head that is no message's prints its fault and ends the command; bytes left at the end print
+/// how many they are.
+///
+/// # Errors
+///
+/// `Input` where the reader fails, `Output` where the writer does, and `NoMemory`. Unless the writer
+/// failed, what is printed for some first lines is written, for each the whole.
+pub fn answer_stream<R: BufRead, W: Write>(
+    alloc: Global,
+    reader: &mut R,
+    writer: &mut W,
+) -> Result<StreamOutcome, CommandFault>
+    // What is written, how the stream ends (whole, cut or refused) and whether a line is refused are
+    // exactly what the lines in turn say.
+    ensures lines { IfOk result (λ outcome. IfSome (R.remaining reader.old)
+        (λ input. IsWritten input outcome (W.contents writer.old) (W.contents writer.new))) }
+    // What is left of the stream after its whole messages says how it ends. Where no line is refused,
+    // what is written is the replies of one server to exactly the messages of the stream, then the line
+    // of its end, and nothing else.
+    ensures stream { IfOk result (λ outcome. IfSome (R.remaining reader.old)
+        (λ input. IsAnswered input outcome (W.contents writer.old) (W.contents writer.new))) }
+    // Where it breaks off, what was written is what some first lines say, but for the line of a cut at
+    // their end. Of a writer that failed, nothing is said.
+    ensures broken { IfErr result (λ fault. UnlessOutput fault (IfSome (R.remaining reader.old)
+        (λ input. IsBrokenOff input [] (W.contents writer.old) (W.contents writer.new)))) }
+{
+    let mut streamer = Streamer::new(alloc)?;
+    stream_lines(alloc, &mut streamer, reader, writer)
+}
+
+/// Does it with a streamer before its first byte.
+fn stream_lines<R: BufRead, W: Write>(
+    alloc: Global,
+    streamer: &mut Streamer,
+    reader: &mut R,
+    writer: &mut W,
+) -> Result<StreamOutcome, CommandFault>
+    requires { (streamer.old.server ≡ first_stock) × (streamer.old.framer ≡ []) }
+    ensures lines { IfOk result (λ outcome. IfSome (R.remaining reader.old)
+        (λ input. IsWritten input outcome (W.contents writer.old) (W.contents writer.new))) }
+    ensures stream { IfOk result (λ outcome. IfSome (R.remaining reader.old)
+        (λ input. IsAnswered input outcome (W.contents writer.old) (W.contents writer.new))) }
+    ensures broken { IfErr result (λ fault. UnlessOutput fault (IfSome (R.remaining reader.old)
+        (λ input. IsBrokenOff input [] (W.contents writer.old) (W.contents writer.new)))) }
+{
+    let has_refused = respond_to_lines(alloc, streamer, reader, writer)?;
+    let end = streamer.end();
+    let mut tail = Vec::new(alloc);
+    push_tail(alloc, end, &mut tail)?;
+    send(tail.as_slice(), false, writer)?;
+    Ok(StreamOutcome { end, has_refused })
+}
+
+/// Does in memory what `answer_stream` does: appends what is printed for the lines of `input` to
+/// `output`, and says how the stream ended.
+///
+/// # Errors
+/// Where there is no memory; then what is printed for some first lines was appended, for each the
+/// whole.
+pub fn answer_stream_bytes(
+    alloc: Global,
+    input: &[u8],
+    output: &mut Vec<u8>,
+) -> Result<StreamOutcome, NoMemory>
+    // What is appended, how the stream ends and whether a line is refused are exactly what the lines in
+    // turn say.
+    ensures lines { IfOk result (λ outcome. IsWritten input.now outcome
+        (Some output.old.items) (Some output.new.items)) }
+    // What is left of the stream after its whole messages says how it ends. Where no line is refused,
+    // what is appended is the replies of one server to exactly the messages of the stream, then the line
+    // of its end, and nothing else.
+    ensures stream { IfOk result (λ outcome. IsAnswered input.now outcome
+        (Some output.old.items) (Some output.new.items)) }
+    // At want of memory, what was appended is what some first lines say, but for the line of a cut at
+    // their end.
+    ensures broken { OnErr result (IsBrokenOff input.now []
+        (Some output.old.items) (Some output.new.items)) }
+{
+    let mut streamer = Streamer::new(alloc)?;
+    stream_bytes(alloc, &mut streamer, input, output)
+}
+
+/// Does it with a streamer before its first byte.
+fn stream_bytes(
+    alloc: Global,
+    streamer: &mut Streamer,
+    input: &[u8],
+    output: &mut Vec<u8>,
+) -> Result<StreamOutcome, NoMemory>
+    requires { (streamer.old.server ≡ first_stock) × (streamer.old.framer ≡ []) }
+    ensures lines { IfOk result (λ outcome. IsWritten input.now outcome
+        (Some output.old.items) (Some output.new.items)) }
+    ensures stream { IfOk result (λ outcome. IsAnswered input.now outcome
+        (Some output.old.items) (Some output.new.items)) }
+    ensures broken { OnErr result (IsBrokenOff input.now []
+        (Some output.old.items) (Some output.new.items)) }
+{
+    let has_refused = respond_to_bytes(alloc, streamer, input, output)?;
+    let end = streamer.end();
+    let mut tail = Vec::new(alloc);
+    push_tail(alloc, end, &mut tail)?;
+    push_text(tail.as_slice(), output)?;
+    Ok(StreamOutcome { end, has_refused })
+}
+
+/// Answers the messages of a stream by a server's replies.
+#[derive(Drop)]
+struct Streamer {
+    server: Server<IndexedStore>,
+    framer: Framer,
+}
+
+impl Streamer {
+    /// A server without rows, before the first byte.
+    fn new(alloc: Global) -> Result<Streamer, NoMemory>
+        ensures { IfOk result (λ s. (s.server ≡ first_stock) × (s.framer ≡ [])) }
+    {
+        let Ok(framer) = Framer::new(alloc) else {
+            return Err(NoMemory);
+        };
+        let server = new_server(alloc);
+        Ok(Streamer { server, framer })
+    }
+
+    /// How the stream ends here.
+    fn end(&self) -> InputEnd
+        ensures { result ≡ end_of self.now.framer }
+    {
+        if let Some(fault) = self.framer.fault() {
+            return InputEnd::Refused(fault);
+        }
+        match self.framer.pending() {
+            0 => InputEnd::Whole,
+            left => InputEnd::Cut(left),
+        }
+    }
+
+    /// Takes the piece up to the end of a message, which is answered, or to its own end, and says how
+    /// many bytes it took. A head that is no message's prints its fault: then all are taken.
+    fn advance(
+        &mut self,
+        alloc: Global,
+        piece: &[u8],
+        text: &mut Vec<u8>,
+    ) -> Result<usize, NoMemory>
+        requires begins { BeginsWithNoMessage self.old.framer }
+        requires lawful { fault_in self.old.framer ≡ None }
+        ensures text { IfOk result (λ count. text.new.items ≡ text.old.items
+            ++ piece_text (self.old.server, self.old.framer) (take count piece.now)) }
+        ensures after { IfOk result (λ count. (self.new.server, self.new.framer)
+            ≡ state_after_piece (self.old.server, self.old.framer) (take count piece.now)) }
+        ensures within { IfOk result (λ count. count ≤ length piece.now) }
+        ensures some { IfOk result (λ count. 0 < length piece.now → 0 < count) }
+    {
+        let count = match self.framer.feed(piece) {
+            Ok(count) => count,
+            Err(fault) => {
+                push_refusal(alloc, fault, text)?;
+                return Ok(piece.len());
+            }
+        };
+        let Ok(next) = self.framer.next(alloc) else {
+            return Err(NoMemory);
+        };
+        let Some(message) = next else {
+            return Ok(count);
+        };
+        push_reply(alloc, &mut self.server, message.as_slice(), text)?;
+        Ok(count)
+    }
+}
+
+impl Respond for Streamer {
+    ghost State = { StreamState };
+
+    ghost state = { λ s. (s.server, s.framer) };
+
+    ghost response = { streams };
+
+    ghost IsReady = { IsReady };
+
+    fn respond(
+        &mut self,
+        alloc: Global,
+        message: &[u8],
+        text: &mut Vec<u8>,
+    ) -> Result<bool, NoMemory> {
+        let mut rest = message;
+        while !rest.is_empty() && !self.is_over() {
+            let count = self.advance(alloc, rest, text)?;
+            let (_, after) = rest.split_at(count);
+            rest = after;
+        }
+        Ok(false)
+    }
+
+    fn is_over(&self) -> bool {
+        self.framer.fault().is_some()
+    }
+
+    fn stays_ready() {}
+}
+
+/// Appends the fault of a head, by its number and name.
+#[tactic(auto, unfolding(crate::specs::StreamText::stream_refusal_text))]
+fn push_refusal(alloc: Global, fault: FrameFault, text: &mut Vec<u8>) -> Result<(), NoMemory>
+    ensures { OnOk result (text.new.items ≡ text.old.items ++ stream_refusal_text fault) }
+{
+    let number = fault.number();
+    let name = fault.name();
+    let line = format!(in alloc; "stream refused: {number} {name}\n")?;
+    push_text(line.as_str().as_bytes(), text)
+}
+
+/// Appends how many bytes are left of a stream that is cut. The fault of one that is refused was
+/// printed when it came.
+fn push_tail(alloc: Global, end: InputEnd, text: &mut Vec<u8>) -> Result<(), NoMemory>
+    ensures { OnOk result (text.new.items ≡ text.old.items ++ tail_text end) }
+{
+    match end {
+        InputEnd::Whole | InputEnd::Refused(_) => Ok(()),
+        InputEnd::Cut(left) => push_cut(alloc, left, text),
+    }
+}
+
+/// Appends how many bytes are left of a stream.
+#[tactic(auto, unfolding(crate::specs::StreamText::cut_text))]
+fn push_cut(alloc: Global, left: usize, text: &mut Vec<u8>) -> Result<(), NoMemory>
+    ensures { OnOk result (text.new.items ≡ text.old.items ++ cut_text left) }
+{
+    let line = format!(in alloc; "stream cut: {left}\n")?;
+    push_text(line.as_str().as_bytes(), text)
+}

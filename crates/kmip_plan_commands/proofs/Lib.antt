@@ -1,0 +1,4 @@
+mod CheckingLemmas
+pub mod CourseLemmas
+pub mod LineLemmas
+pub mod StandingLemmas

@@ -1,0 +1,32 @@
+-- What is told has come of the exchanges.
+use Rattle.std.proofs.Common.{rules, refl, inl, inr}
+use Rattle.kmip_runs.specs.declared.keeper.SaveFault.TheVariants as faults
+use Rattle.kmip_plan_commands.proofs.CourseLemmas.{came_stop, came_unsaved}
+use Rattle.kmip_plan_commands.proofs.running.told_of_exchanges.Goals as goal
+
+pub returns-in_ok-text-in-Ok : goal.returns-in_ok-text-in-Ok
+returns-in_ok-text-in-Ok g c = record {
+  text = inl (record {
+    knowns = c.carry_out-ended.new.client.knowns;
+    stop = c.in-Ok.stop;
+    exchanges = c.carry_out-ended.result.1;
+    has_come = came_stop _ _ _ g.L.Link.disturbances _ _ g.K.Keeper.refusals _ _ _ c.args.client.now c.carry_out-ended.new.client c.args.link.now c.carry_out-ended.new.link c.args.keeper.now c.carry_out-ended.new.keeper c.carry_out-ended.result.0 c.in-Ok.stop c.carry_out-ended.result.1 c.in-Ok.is (search rules) c.carry_out-ended.ensures.known c.carry_out-ended.ensures.kept c.carry_out-ended.ensures.saved c.carry_out-ended.ensures.settles c.carry_out-ended.ensures.outlasts c.carry_out-ended.ensures.output c.carry_out-ended.ensures.limit c.carry_out-ended.ensures.given_up;
+    in_memory = search rules;
+    stands = search rules;
+    within = search rules;
+    refused_is = search rules;
+    text_is = rw (c.into_bytes.ensures.value, c.in_ok-text-in-Ok.ensures, c.carry_out-ended.ensures.kept.keys_stay) refl;
+  });
+  safe = search rules;
+  few = search rules;
+}
+
+pub returns-in_ok-text-in-Err-Output-clause-text :
+    goal.returns-in_ok-text-in-Err-Output-clause-text
+returns-in_ok-text-in-Err-Output-clause-text g c = inr (record {
+  knowns = c.carry_out-ended.new.client.knowns;
+  exchanges = c.carry_out-ended.result.1;
+  has_come = came_unsaved _ _ _ g.L.Link.disturbances _ _ g.K.Keeper.refusals _ _ _ c.args.client.now c.carry_out-ended.new.client c.args.link.now c.carry_out-ended.new.link c.args.keeper.now c.carry_out-ended.new.keeper c.carry_out-ended.result.0 c.in-Err-Output.field-0 faults.Output c.carry_out-ended.result.1 c.in-Err-Output.is (search rules) c.carry_out-ended.ensures.known c.carry_out-ended.ensures.kept c.carry_out-ended.ensures.saved c.carry_out-ended.ensures.settles c.carry_out-ended.ensures.outlasts c.carry_out-ended.ensures.output c.carry_out-ended.ensures.limit c.carry_out-ended.ensures.given_up;
+  refused_is = search rules;
+  text_is = search rules;
+})

@@ -1,0 +1,14 @@
+-- What `check` writes.
+
+-- what is written for a plan, alone or after an earlier one
+pub mod Checking
+-- What the definitions of this crate are for: what the command `sim` writes, and how it ends.
+pub mod Simulating
+-- What `run` writes, what its exchanges come to, and what stays safe.
+
+-- what is written for a plan, a progress and the exchanges that were made
+pub mod RunText
+-- what came of the exchanges, and what stays safe over an honest link
+pub mod Course
+-- the line that says how far a run is
+pub mod StandingText

@@ -1,0 +1,36 @@
+//! The commands over a plan: `check`, `sim` and `run`.
+//!
+//! The command `check`: what a plan asks for, and whether it prolongs an earlier one.
+//!
+//! `check` and `check_after` do the work and return a fault as a value. `run_check` and
+//! `run_check_after` also print the fault and say how the program ends. `check_bytes` and
+//! `check_after_bytes` do the same work in memory, where nothing but memory can fail. `push_refusal` is
+//! for the other commands that read a plan.
+//!
+//! The command `sim` of `kmipctl`: plays a plan over a network that follows a script.
+//!
+//! `sim` does the work and returns a fault as a value; `run_sim` also prints the fault and says how the
+//! program ends. `sim_bytes` does the same work in memory, where nothing but memory can fail.
+//!
+//! The command `run`: carries out a plan, saves its progress, and reports on it.
+#![tactic(auto)]
+
+mod batch;
+mod beginning;
+mod checking;
+mod checking_after;
+mod running;
+mod simulating;
+mod spent;
+mod standing;
+mod telling;
+
+pub use batch::batch_of;
+pub use beginning::begin;
+pub use checking::{check, check_bytes, push_refusal, run_check};
+pub use checking_after::{check_after, check_after_bytes, run_check_after};
+pub use kmip_choices::Detail;
+pub use running::{RunInput, run, run_bytes, run_plan, run_run};
+pub use simulating::{run_sim, sim, sim_bytes};
+pub use spent::Spent;
+pub use standing::standing_line;

@@ -1,7 +1,0 @@
-pub mod OwnOutcomes
-pub mod PuttingLemmas
-pub mod FittingLemmas
-pub mod ProbingLemmas
-pub mod KeptLemmas
-pub mod StandingLemmas
-pub mod ServedLemmas

@@ -1,0 +1,164 @@
+-- What one exchange does, by the laws of what may happen.
+use Rattle.std.proofs.Common.{◌≡◌, ◌⊎◌, ℕ, Bool, true, false, List, [], ◌∷◌, ◌++◌, Option, Some, None, Result, Ok, Err, refl, sym, ap, subst, ◌∙◌, inl, inr, IfOk, ◌≤◌, ◌+◌, length, arith}
+use Rattle.std.proofs.lemmas.List.{length-append}
+use Rattle.std.specs.Prelude.{◌&&◌, option_map, option_and_then, slice_get, if◌then◌else◌}
+use Rattle.std.specs.Option.{option_map_or}
+use Rattle.std.proofs.lemmas.Option.{same_Some}
+use Rattle.std.proofs.lemmas.Slice.Eq.{bytes_eq-Decides}
+use Rattle.kmip_messages.specs.Items.{parts_in, replies_in, stops_in, SaidAreRead}
+use Rattle.kmip_batch_items.specs.declared.reply.Reply.{Reply}
+use Rattle.kmip_batch_items.specs.declared.request.Request.{Request}
+use Rattle.kmip_protocol.specs.Calm.{AreTaken, CalmlyExchanged, IsServed}
+use Rattle.kmip_protocol.specs.Exchanges.{Exchanged, HandsOver, with_asked}
+use Rattle.kmip_protocol.specs.Laws.{DeliveriesKeepTheRequests}
+use Rattle.kmip_protocol.specs.Losses.{or_loss}
+use Rattle.kmip_protocol.specs.Past.{Names, Past}
+use Rattle.kmip_protocol.specs.declared.link.LinkFault.{LinkFault}
+use Rattle.kmip_protocol.specs.declared.link.LinkFault.TheVariants as faults
+use Rattle.kmip_server.specs.ServerStep.{ServerStep}
+use Rattle.kmip_batch_items.specs.declared.reply.Outcome.{Outcome}
+use Rattle.kmip_batch_items.specs.declared.request.Ask.{Ask}
+use Rattle.kmip_protocol.specs.Moves.{HasFailed}
+use Rattle.kmip_probe.specs.Answers.{answer_marked, answer_read, answer_to, answer_with, is_asked_for, is_of, marker_of}
+use Rattle.kmip_probe.specs.Asking.{is_free_at, next_inquiry, request_for, uid_of}
+use Rattle.kmip_probe.specs.Inquiries.{ask_of, name_of}
+use Rattle.kmip_probe.specs.Putting.{HasReplied, HasSent, HasServed, HasServedNext}
+use Rattle.kmip_probe.specs.declared.answer.Answer.TheVariants.{Told}
+use Rattle.kmip_probe.specs.declared.inquiry.TheConstants.{INQUIRIES}
+use Rattle.kmip_probe.specs.declared.inquiry.Inquiry.{Inquiry}
+use Rattle.kmip_probe.proofs.OwnOutcomes.{of_kind}
+use Rattle.kmip_probe.specs.declared.answer.Answer.{Answer}
+
+-- ---- over an honest link
+
+sent_over : DeliveriesKeepTheRequests → (names : Names) (old new : Past) (message : List ℕ) (says : Option (List ℕ) → Answer) (answer : Answer)
+    (given handed : Option (List ℕ)) → HandsOver names old message given new → handed ≡ given → answer ≡ says handed → HasSent message says answer old new
+sent_over l names old new message says answer given handed hands is told =
+    let grows = l names (with_asked message old) hands.between hands.delivered in
+    record {
+      given = given;
+      sent = ap (λ p. p.sent) hands.is ∙ ap (λ xs. xs ++ message ∷ []) grows.sent;
+      handed = ap (λ p. p.handed) hands.is ∙ ap (λ xs. xs ++ given ∷ []) grows.handed;
+      answer_is = told ∙ ap says is;
+    }
+
+pub sent_by : DeliveriesKeepTheRequests → (names : Names) (old new : Past) (message : List ℕ) (says : Option (List ℕ) → Answer) (answer : Answer)
+    (exchanged : Result (Option (List ℕ)) LinkFault) (handed : Option (List ℕ)) → Exchanged names old message exchanged new → or_loss exchanged ≡ Some handed → answer ≡ says handed
+    → HasSent message says answer old new
+sent_by l names old new message says answer (Ok given) handed hands is told =
+    sent_over l names old new message says answer given handed hands (sym (same_Some given handed is)) told
+sent_by l names old new message says answer (Err faults.Io) handed hands is told =
+    sent_over l names old new message says answer None handed hands (sym (same_Some None handed is)) told
+sent_by l names old new message says answer (Err faults.Frame) handed hands is told =
+    sent_over l names old new message says answer None handed hands (sym (same_Some None handed is)) told
+sent_by l names old new message says answer (Err faults.NoMemory) handed hands is told = absurd cc
+
+-- ---- at most one message is sent, whatever comes of it
+
+one_more : (message : List ℕ) (old : Past) (sent : List (List ℕ)) → sent ≡ old.sent ++ message ∷ [] → length sent ≤ length old.sent + 1
+one_more message old sent is = omega (arith, ap length is, length-append old.sent (message ∷ []))
+
+over_one : DeliveriesKeepTheRequests → (names : Names) (old new : Past) (message : List ℕ) (given : Option (List ℕ)) → HandsOver names old message given new
+    → length new.sent ≤ length old.sent + 1
+over_one l names old new message given hands =
+    let grows = l names (with_asked message old) hands.between hands.delivered in
+    one_more message old new.sent (ap (λ p. p.sent) hands.is ∙ ap (λ xs. xs ++ message ∷ []) grows.sent)
+
+none_more : (old new : Past) → new.sent ≡ old.sent → length new.sent ≤ length old.sent + 1
+none_more old new same = omega (arith, ap length same)
+
+pub few_by : DeliveriesKeepTheRequests → (names : Names) (old new : Past) (message : List ℕ) (exchanged : Result (Option (List ℕ)) LinkFault)
+    → Exchanged names old message exchanged new → length new.sent ≤ length old.sent + 1
+few_by l names old new message (Ok given) hands = over_one l names old new message given hands
+few_by l names old new message (Err faults.Io) hands = over_one l names old new message None hands
+few_by l names old new message (Err faults.Frame) hands = over_one l names old new message None hands
+few_by l names old new message (Err faults.NoMemory) (inl delivered) = none_more old new (l names old new delivered).sent
+few_by l names old new message (Err faults.NoMemory) (inr delivered) = none_more old new (l names (with_asked message old) new delivered).sent
+
+-- ---- over a calm link
+
+one_taken : (stops : Bool) (replies : List Reply) (old new : Past) (request : Request) → AreTaken stops (Ok request ∷ []) replies old new
+    → (reply : Reply) × (replies ≡ reply ∷ []) × IsServed request reply old new
+one_taken stops [] old new request taken = absurd taken
+one_taken stops (reply ∷ []) old new request (between, served, inl (stop, none, same)) = (reply, refl, subst (IsServed request reply old) (sym same) served)
+one_taken stops (reply ∷ []) old new request (between, served, inr (go, same)) = (reply, refl, subst (IsServed request reply old) (sym same) served)
+one_taken stops (reply ∷ second ∷ replies) old new request (between, served, inl (stop, none, same)) = absurd cc
+one_taken stops (reply ∷ second ∷ replies) old new request (between, served, inr (go, rest)) = absurd rest
+
+pub replied_by : SaidAreRead → (names : Names) (old new : Past) (message : List ℕ) (request : Request) (number : ℕ) (prefix : List ℕ) (answer : Answer)
+    (exchanged : Result (Option (List ℕ)) LinkFault) (handed : Option (List ℕ)) → parts_in message ≡ Ok request ∷ [] → CalmlyExchanged names old message exchanged new
+    → or_loss exchanged ≡ Some handed → answer ≡ answer_to number prefix handed → HasReplied request number prefix answer old new
+replied_by read names old new message request number prefix answer (Ok given) handed asks calmly is told =
+    let (reply, only, served) = one_taken (stops_in message) (replies_in calmly.given) (with_asked message old) calmly.between request
+    (subst (λ parts. AreTaken (stops_in message) parts (replies_in calmly.given) (with_asked message old) calmly.between) asks calmly.taken) in
+    record {
+      reply = reply;
+      step = subst (λ p. ServerStep old.room old.objects request.ask reply.outcome p.objects) (sym calmly.is)
+          (subst (λ p. ServerStep old.room old.objects request.ask reply.outcome p.objects) (sym served.is) served.serves.step);
+      id_is = served.serves.id_is;
+      answer_is = told ∙ ap (answer_to number prefix) (sym (same_Some given handed is) ∙ calmly.answer_is)
+          ∙ ap (answer_read number prefix calmly.given) (read calmly.given reply [] only);
+      room_is = ap (λ p. p.room) calmly.is ∙ ap (λ p. p.room) served.is;
+    }
+replied_by read names old new message request number prefix answer (Err faults.Io) handed asks calmly is told = absurd calmly
+replied_by read names old new message request number prefix answer (Err faults.Frame) handed asks calmly is told = absurd calmly
+replied_by read names old new message request number prefix answer (Err faults.NoMemory) handed asks calmly is told = absurd cc
+
+-- ---- what holds of a result
+
+pub weaken : {A E : Type 0} {P Q : A → Type 0} → (result : Result A E) → ((value : A) → P value → Q value) → IfOk result P → IfOk result Q
+weaken (Ok value) further holds = further value holds
+weaken (Err fault) further holds = tt
+
+-- ---- the question that follows some answers
+
+marked : (number : ℕ) (prefix : List ℕ) (asked : Option Ask) (request : Request)
+    → option_map (λ ask. record { id = Some (marker_of number prefix); ask = ask }) asked ≡ Some request → request.id ≡ Some (marker_of number prefix)
+marked number prefix None request is = absurd cc
+marked number prefix (Some ask) request is = ap (λ (r : Request). r.id) (sym (same_Some (record { id = Some (marker_of number prefix); ask = ask }) request is))
+
+asked_by : (number : ℕ) (prefix : List ℕ) (asked : Option Ask) (request : Request)
+    → option_map (λ ask. record { id = Some (marker_of number prefix); ask = ask }) asked ≡ Some request → asked ≡ Some request.ask
+asked_by number prefix None request is = absurd cc
+asked_by number prefix (Some ask) request is =
+    ap (λ (r : Request). Some r.ask) (same_Some (record { id = Some (marker_of number prefix); ask = ask }) request is)
+
+-- the question that follows is the one of the number of the answers
+numbered : (before : List Answer) (inquiry : Inquiry) (free : Bool) → (if free then slice_get INQUIRIES (length before) else None) ≡ Some inquiry
+    → slice_get INQUIRIES (length before) ≡ Some inquiry
+numbered before inquiry true is = is
+numbered before inquiry false none = absurd cc
+
+own_id : (number : ℕ) (prefix : List ℕ) (outcome : Outcome) → answer_marked number prefix (Some (marker_of number prefix)) outcome ≡ Told outcome
+own_id number prefix outcome = rw ((bytes_eq-Decides (marker_of number prefix) (marker_of number prefix)).1 refl) refl
+
+refused_without : (number : ℕ) (prefix : List ℕ) (outcome : Outcome) → HasFailed outcome → answer_marked number prefix None outcome ≡ Told outcome
+refused_without number prefix outcome (reason, is) = rw is refl
+
+marked_told : (number : ℕ) (prefix : List ℕ) (id : Option (List ℕ)) (outcome : Outcome) → (id ≡ Some (marker_of number prefix)) ⊎ ((id ≡ None) × HasFailed outcome)
+    → answer_marked number prefix id outcome ≡ Told outcome
+marked_told number prefix id outcome (inl own) = rw own (own_id number prefix outcome)
+marked_told number prefix id outcome (inr (none, failed)) = rw none (refused_without number prefix outcome failed)
+
+told_by : (number : ℕ) (prefix : List ℕ) (id : Option (List ℕ)) (outcome : Outcome) → is_asked_for number outcome ≡ true
+    → (id ≡ Some (marker_of number prefix)) ⊎ ((id ≡ None) × HasFailed outcome) → answer_with number prefix id outcome ≡ Told outcome
+told_by number prefix id outcome asked own = rw asked (marked_told number prefix id outcome own)
+
+with_own : (id own : Option (List ℕ)) (marker : List ℕ) (outcome : Outcome) → own ≡ Some marker → (id ≡ own) ⊎ ((id ≡ None) × HasFailed outcome)
+    → (id ≡ Some marker) ⊎ ((id ≡ None) × HasFailed outcome)
+with_own id own marker outcome is (inl same) = inl (same ∙ is)
+with_own id own marker outcome is (inr none) = inr none
+
+pub served_by : (prefix : List ℕ) (before : List Answer) (inquiry : Inquiry) (request : Request) (number : ℕ) (answer : Answer) (old new : Past)
+    → next_inquiry before ≡ Some inquiry → request_for prefix before inquiry ≡ Some request → number ≡ length before
+    → HasReplied request number prefix answer old new → HasServedNext prefix before answer old new
+served_by prefix before inquiry request number answer old new next asked count replied =
+    let own = marked (length before) prefix (ask_of inquiry.1 (name_of inquiry.0 prefix) (uid_of inquiry.0 before)) request asked in
+    let id = with_own replied.reply.id request.id (marker_of number prefix) replied.reply.outcome (own ∙ ap (λ n. Some (marker_of n prefix)) (sym count)) replied.id_is in
+    let kind = of_kind inquiry.1 (name_of inquiry.0 prefix) (uid_of inquiry.0 before) request.ask replied.reply.outcome old.room old.objects new.objects
+    (asked_by (length before) prefix (ask_of inquiry.1 (name_of inquiry.0 prefix) (uid_of inquiry.0 before)) request asked) replied.step in
+    let place = ap (slice_get INQUIRIES) count ∙ numbered before inquiry (is_free_at before 0 && is_free_at before 1) next in
+    let wanted : is_asked_for number replied.reply.outcome ≡ true =
+    ap (λ found. option_map_or (λ (i : Inquiry). is_of i.1 replied.reply.outcome) found false) place ∙ kind in
+    subst (λ (r : Option Request). HasServed r answer old new) (sym (ap (option_and_then (request_for prefix before)) next ∙ asked))
+    (replied.reply.outcome, replied.step, replied.answer_is ∙ told_by number prefix replied.reply.id replied.reply.outcome wanted id, replied.room_is)

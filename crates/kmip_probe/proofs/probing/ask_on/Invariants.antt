@@ -1,0 +1,22 @@
+-- As many questions as turns were asked, each as it should be.
+use Rattle.std.proofs.Common.{◌≡◌, ◌≤◌, ◌+◌, ◌++◌, List, length}
+use Rattle.std.specs.List.{All}
+use Rattle.kmip_protocol.specs.Past.{Names}
+use Rattle.kmip_probe.specs.Answers.{IsLawful}
+use Rattle.kmip_probe.specs.Putting.{AsksOn}
+use Rattle.kmip_probe.specs.Standing.{AreServed}
+use Rattle.kmip_probe.specs.declared.answer.Answer.{Answer}
+use Rattle.kmip_probe.proofs.probing.ask_on.Given as goal
+
+abbrev pub invariant-loop : goal.invariant-loop
+invariant-loop g l = record {
+  count : length l.answers.items ≡ l.counter;
+  lawful : All IsLawful l.answers.items;
+  onward : (more : List Answer) × (l.answers.items ≡ l.initial.answers.items ++ more);
+  asked : (names : Names) → g.L.Link.honest l.initial.link names
+      → g.L.Link.honest l.link names × AsksOn l.prefix l.initial.answers.items l.answers.items (g.L.Link.past l.initial.link) (g.L.Link.past l.link);
+  few : (names : Names) → g.L.Link.honest l.initial.link names
+      → length (g.L.Link.past l.link).sent + length l.initial.answers.items ≤ length (g.L.Link.past l.initial.link).sent + l.counter;
+  served : (names : Names) → g.L.Link.calm l.initial.link names → AreServed l.prefix l.initial.answers.items (g.L.Link.past l.initial.link)
+      → g.L.Link.calm l.link names × AreServed l.prefix l.answers.items (g.L.Link.past l.link);
+}

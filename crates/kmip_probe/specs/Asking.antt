@@ -1,0 +1,76 @@
+-- What a probe asks next, and what its answers are.
+-- Source: own (choice), over KMIP 2.1, Operations; what says which messages and answers there were is own
+-- (view).
+use Rattle.std.specs.Prelude.{◌≡◌, ℕ, Bool, true, false, ◌&&◌, List, [], ◌∷◌, ◌++◌, length, take, drop, flat_map, slice_get, Option, Some, None, option_map, option_and_then, option_to_list, if◌then◌else◌}
+use Rattle.std.specs.Option.{option_map_or}
+use Rattle.kmip_ttlv.specs.Spelling.{canon}
+use Rattle.kmip_messages.specs.Written.{requests_item}
+use Rattle.kmip_batch_items.specs.declared.reply.Outcome.{Outcome}
+use Rattle.kmip_batch_items.specs.declared.reply.Outcome.TheVariants.{Located}
+use Rattle.kmip_batch_items.specs.declared.request.Request.{Request}
+use Rattle.kmip_probe.specs.Answers.{answer_to, marker_of, outcome_in, uids_told}
+use Rattle.kmip_probe.specs.Inquiries.{ask_of, name_of}
+use Rattle.kmip_probe.specs.declared.answer.Answer.{Answer}
+use Rattle.kmip_probe.specs.declared.answer.Answer.TheVariants.{Nothing}
+use Rattle.kmip_probe.specs.declared.inquiry.TheConstants.{INQUIRIES}
+use Rattle.kmip_probe.specs.declared.inquiry.Inquiry.{Inquiry}
+use Rattle.kmip_probe.specs.declared.inquiry.Which.{Which}
+use Rattle.kmip_probe.specs.declared.inquiry.Which.TheVariants.{First, Second}
+
+-- a Locate has found nothing
+abbrev pub finds_none : Option Outcome → Bool
+finds_none (Some (Located [])) = true
+finds_none outcome = false
+
+-- the answer is a Locate that has found nothing
+abbrev pub is_free : Answer → Bool
+is_free answer = finds_none (outcome_in answer)
+
+-- the answer at a place leaves a name free: it is a Locate that has found nothing, or there is none yet
+abbrev pub is_free_at : List Answer → ℕ → Bool
+is_free_at answers place = option_map_or is_free (slice_get answers place) true
+
+-- The next question: none after the last one, and none after the first two where a name is there, or it could
+-- not be told.
+abbrev pub next_inquiry : List Answer → Option Inquiry
+next_inquiry answers = if is_free_at answers 0 && is_free_at answers 1 then slice_get INQUIRIES (length answers) else None
+
+-- the identifiers that answers give a name: the first name before its object is destroyed, the second where
+-- its object is made
+abbrev pub uids_of : Which → List Answer → List (List ℕ)
+uids_of First answers = flat_map uids_told (take 6 (drop 2 answers))
+uids_of Second answers = flat_map uids_told (take 1 (drop 13 answers))
+
+-- the identifier that the answers give a name first; it is taken for the name's own
+abbrev pub uid_of : Which → List Answer → Option (List ℕ)
+uid_of which answers = slice_get (uids_of which answers) 0
+
+-- a question as it is asked after these answers, with the id of its number
+abbrev pub request_for : List ℕ → List Answer → Inquiry → Option Request
+request_for prefix answers inquiry = option_map
+    (λ ask. record { id = Some (marker_of (length answers) prefix); ask = ask })
+    (ask_of inquiry.1 (name_of inquiry.0 prefix) (uid_of inquiry.0 answers))
+
+-- the message that is sent next, of one question; none where the question can't be asked
+abbrev pub message_after : List ℕ → List Answer → Option (List ℕ)
+message_after prefix answers =
+    option_map (λ request. canon (requests_item (request ∷ []))) (option_and_then (request_for prefix answers) (next_inquiry answers))
+
+-- all that was sent for some answers, where these answers came before
+abbrev pub messages_from : List ℕ → List Answer → List Answer → List (List ℕ)
+messages_from prefix before [] = []
+messages_from prefix before (answer ∷ answers) =
+    option_to_list (message_after prefix before) ++ messages_from prefix (before ++ answer ∷ []) answers
+
+-- One more answer: what was handed over next says it; where no message was sent there is none.
+abbrev pub IsNext : List ℕ → List Answer → Option (List ℕ) → Answer → List (Option (List ℕ)) → List (Option (List ℕ)) → Type 0
+IsNext prefix before None answer handed rest = (answer ≡ Nothing) × (rest ≡ handed)
+IsNext prefix before (Some message) answer handed rest =
+    (given : Option (List ℕ)) × (handed ≡ given ∷ rest) × (answer ≡ answer_to (length before) prefix given)
+
+-- the answers are what was handed over, in turn, where these answers came before
+abbrev pub AreAnswers : List ℕ → List Answer → List Answer → List (Option (List ℕ)) → Type 0
+AreAnswers prefix before [] handed = handed ≡ []
+AreAnswers prefix before (answer ∷ answers) handed =
+    (rest : List (Option (List ℕ))) × IsNext prefix before (message_after prefix before) answer handed rest
+    × AreAnswers prefix (before ++ answer ∷ []) answers rest

@@ -1,0 +1,39 @@
+-- What a probe asks about the objects of two names of its own.
+-- Source: KMIP 2.1, Operations; Enumerations and Masks, Storage Status Mask. The names, the attributes and
+-- the reason are own (choice).
+use Rattle.std.specs.Prelude.{ℕ, Bool, ◌&&◌, nat_le, List, ◌++◌, length, codes, Option, Some}
+use Rattle.std.specs.Option.{option_map}
+use Rattle.kmip_batch_items.specs.declared.request.Ask.{Ask}
+use Rattle.kmip_batch_items.specs.declared.request.Ask.TheVariants as asks
+use Rattle.kmip_objects.specs.Ranges.{is_name}
+use Rattle.kmip_objects.specs.Attributes.{by_name}
+use Rattle.kmip_objects.specs.declared.attributes.KeyAttrs.{KeyAttrs}
+use Rattle.kmip_objects.specs.declared.standard.TheConstants.{ALGORITHM_AES, REVOCATION_UNSPECIFIED}
+use Rattle.kmip_probe.specs.declared.inquiry.TheConstants.{PREFIX_MAX, KEY_BITS, KEY_USAGE}
+use Rattle.kmip_probe.specs.declared.inquiry.Kind.{Kind}
+use Rattle.kmip_probe.specs.declared.inquiry.Kind.TheVariants.{Locate, Create, GetAttributes, Activate, Revoke, Destroy}
+use Rattle.kmip_probe.specs.declared.inquiry.Which.{Which}
+use Rattle.kmip_probe.specs.declared.inquiry.Which.TheVariants.{First, Second}
+
+-- what a probe's names begin with: the name of a key, so short that each of them is one too
+abbrev pub is_prefix : List ℕ → Bool
+is_prefix s = is_name s && nat_le (length s) PREFIX_MAX
+
+-- the two names of a probe
+abbrev pub name_of : Which → List ℕ → List ℕ
+name_of First prefix = prefix ++ codes "-1"
+name_of Second prefix = prefix ++ codes "-2"
+
+-- the attributes of an object with such a name: AES with 256 bits, to encrypt and decrypt
+abbrev pub attributes_with : List ℕ → KeyAttrs
+attributes_with name = record { name = name; algorithm = ALGORITHM_AES; length = KEY_BITS; usage = KEY_USAGE }
+
+-- what is asked about the object with the name, where it has this identifier; nothing where none is known
+-- that the question needs
+abbrev pub ask_of : Kind → List ℕ → Option (List ℕ) → Option Ask
+ask_of (Locate mask) name uid = Some (asks.Locate mask (by_name name))
+ask_of Create name uid = Some (asks.Create (attributes_with name))
+ask_of GetAttributes name uid = option_map asks.GetAttributes uid
+ask_of Activate name uid = option_map asks.Activate uid
+ask_of Revoke name uid = option_map (λ u. asks.Revoke u REVOCATION_UNSPECIFIED) uid
+ask_of Destroy name uid = option_map asks.Destroy uid

@@ -1,0 +1,274 @@
+//! The questions, one after the other over a link.
+ghost use Rattle.std.specs.Prelude.{◌≡◌, ◌⊎◌, ◌≤◌, ◌<◌, ◌+◌, ◌-◌, ◌++◌, [], ◌∷◌, ℕ, Some, None, Option, List, length, map, take, drop, flat_map, slice_get, IfOk, OnOk, IsTrue, option_map};
+ghost use Rattle.std.specs.List.{All};
+ghost use Rattle.kmip_protocol.specs.Past.{Names};
+ghost use Rattle.kmip_ttlv.specs.Spelling.{canon};
+ghost use Rattle.kmip_batch_items.specs.RequestFits.{request_fits};
+ghost use Rattle.kmip_messages.specs.Written.{requests_item};
+ghost use Rattle.kmip_probe.specs.Answers.{answer_to, uids_told, IsLawful};
+ghost use Rattle.kmip_probe.specs.Asking.{is_free_at, next_inquiry, uid_of, request_for, messages_from, AreAnswers};
+ghost use Rattle.kmip_probe.specs.Inquiries.{is_prefix};
+ghost use Rattle.kmip_probe.specs.Serving.{IsUnprobed, outcomes_of};
+ghost use Rattle.kmip_probe.specs.Standing.{AreServed, ProbeLaws};
+ghost use Rattle.kmip_probe.specs.Putting.{AsksOn, HasAsked, HasReplied, HasSent, HasServedNext};
+
+use crate::answer::{Answer, answer_to};
+use crate::inquiry::{Inquiry, QUESTIONS, Which, ask_of, inquiry_at, name_of};
+use kmip_batch_items::{Ask, Request};
+use kmip_messages::laws::answer_laws;
+use kmip_messages::write_request;
+use kmip_objects::laws::{added_laws, found_laws, restated_laws};
+use kmip_protocol::laws::deliveries_keep_the_requests;
+use kmip_protocol::{Link, answer_or_loss};
+use kmip_ttlv::{Bytes, NoMemory, Text};
+use std::alloc::Global;
+
+/// Asks the questions of a probe over the link, one after the other, and returns what came of each. Where one
+/// of the names is there already, or it could not be told, nothing more is asked, and nothing was made. A
+/// question about an identifier that no answer told is passed over.
+///
+/// # Errors
+/// Where there is no memory; what was made until then stays.
+pub fn probe<L: Link>(alloc: Global, prefix: &str, link: &mut L) -> Result<Vec<Answer>, NoMemory>
+    // The prefix can begin names: it is the name of a key, of at most 62 characters.
+    requires { IsTrue (is_prefix prefix.now) }
+    // No question is left: none follows these answers.
+    ensures whole { IfOk result (λ answers. next_inquiry answers.items ≡ None) }
+    // Over a link that is honest for some names, at most 25 messages are sent, however it ends.
+    ensures few { (names : Names) → L.honest link.old names
+        → length (L.past link.new).sent ≤ length (L.past link.old).sent + QUESTIONS }
+    // Over a link that is honest for some names, which it is after it too, the messages sent are the stated
+    // questions, each as it is asked after the answers before it.
+    ensures sent { (names : Names) → L.honest link.old names → L.honest link.new names
+        × IfOk result (λ answers. (L.past link.new).sent
+        ≡ (L.past link.old).sent ++ messages_from prefix.now [] answers.items) }
+    // Over a link that is honest for some names, the answers are what was handed over, in turn.
+    ensures heard { (names : Names) → L.honest link.old names → IfOk result (λ answers.
+        (given : List (Option (List ℕ))) × ((L.past link.new).handed
+        ≡ (L.past link.old).handed ++ given) × AreAnswers prefix.now [] answers.items given) }
+    // Let the link be calm for some names. Let names and identifiers of the server's objects be distinct, the
+    // two names of the probe be free, and there be room for two more objects. Then the answers are those of
+    // the profile, question by question.
+    ensures kept { (names : Names) → L.calm link.old names
+        → IsUnprobed prefix.now (L.past link.old) → IfOk result (λ answers. (first second : List ℕ)
+        × (answers.items ≡ map Answer.Told (outcomes_of prefix.now first second))) }
+{
+    let mut answers = Vec::new(alloc);
+    ask_on(alloc, prefix, link, QUESTIONS, &mut answers)?;
+    Ok(answers)
+}
+
+/// Asks on after the answers that have come, one question after the other over the link, until there are
+/// `most`, and appends what came of each. Where one of the names is there already, or it could not be told,
+/// nothing more is asked. A question about an identifier that no answer told is passed over.
+///
+/// # Errors
+/// Where there is no memory; what came until then is appended, and what was made stays.
+pub fn ask_on<L: Link>(
+    alloc: Global,
+    prefix: &str,
+    link: &mut L,
+    most: usize,
+    answers: &mut Vec<Answer>,
+) -> Result<(), NoMemory>
+    // The prefix can begin names: it is the name of a key, of at most 62 characters.
+    requires prefix { IsTrue (is_prefix prefix.now) }
+    // The identifiers that the answers tell are in their range.
+    requires lawful { All IsLawful answers.old.items }
+    // No more answers have come than are wanted.
+    requires fewer { length answers.old.items ≤ most }
+    // No more are wanted than a probe has questions.
+    requires most { most ≤ QUESTIONS }
+    // The identifiers that the answers tell are in their range, those that came among them.
+    ensures lawful { All IsLawful answers.new.items }
+    // The answers that had come stay, and more may follow them.
+    ensures onward { (more : List Answer) × (answers.new.items ≡ answers.old.items ++ more) }
+    // Unless memory ran out, there are as many answers as are wanted, or no question is left.
+    ensures whole { OnOk result ((next_inquiry answers.new.items ≡ None)
+        ⊎ (length answers.new.items ≡ most)) }
+    // There are at most as many answers as are wanted.
+    ensures most { length answers.new.items ≤ most }
+    // Over a link that is honest for some names, at most one message is sent for each answer that was still
+    // wanted, however it ends.
+    ensures few { (names : Names) → L.honest link.old names
+        → length (L.past link.new).sent + length answers.old.items
+        ≤ length (L.past link.old).sent + most }
+    // Over such a link, unless memory ran out, at most one message is sent for each answer that came.
+    ensures each { (names : Names) → L.honest link.old names → OnOk result
+        (length (L.past link.new).sent + length answers.old.items
+        ≤ length (L.past link.old).sent + length answers.new.items) }
+    // Over such a link, which it is after it too, and unless memory ran out: where the answers before had
+    // come of the first questions, those after it have come of these and of the next ones.
+    ensures asked { (names : Names) → L.honest link.old names → L.honest link.new names
+        × OnOk result (AsksOn prefix.now answers.old.items answers.new.items
+        (L.past link.old) (L.past link.new)) }
+    // Over a link that is calm for some names, unless memory ran out: where the answers before were those of
+    // the profile, all answers after it are. The link is then calm for these names still.
+    ensures served { (names : Names) → L.calm link.old names
+        → AreServed prefix.now answers.old.items (L.past link.old) → OnOk result
+        (L.calm link.new names × AreServed prefix.now answers.new.items (L.past link.new)) }
+{
+    laws_below();
+    L::calm_laws();
+    for _ in answers.len()..most {
+        let Some(inquiry) = next_inquiry(answers.as_slice()) else {
+            return Ok(());
+        };
+        let answer = put(alloc, prefix, link, inquiry, answers.as_slice())?;
+        answers.push(answer)?;
+    }
+    Ok(())
+}
+
+/// The laws of the crates below.
+fn laws_below()
+    ensures { ProbeLaws }
+{
+    found_laws();
+    added_laws();
+    restated_laws();
+}
+
+/// The question that follows these answers, where one does.
+fn next_inquiry(answers: &[Answer]) -> Option<Inquiry>
+    ensures { result ≡ next_inquiry answers.now }
+{
+    if !is_free_at(answers, 0) || !is_free_at(answers, 1) {
+        return None;
+    }
+    inquiry_at(answers.len())
+}
+
+/// Whether the answer at a place leaves a name free: it is a Locate that has found nothing, or there is none
+/// yet.
+pub fn is_free_at(answers: &[Answer], place: usize) -> bool
+    ensures { result ≡ is_free_at answers.now place }
+{
+    match answers.get(place) {
+        Some(answer) => answer.is_free(),
+        None => true,
+    }
+}
+
+/// The answers of the questions from one number on and before another.
+pub(crate) fn part(answers: &[Answer], from: usize, to: usize) -> &[Answer]
+    requires { from ≤ to }
+    ensures { result.now ≡ take (to - from) (drop from answers.now) }
+{
+    let end = to.min(answers.len());
+    &answers[from.min(end)..end]
+}
+
+/// The identifier that answers give a name.
+pub(crate) fn uid_of(which: Which, answers: &[Answer]) -> Option<&Text>
+    ensures { option_map (λ uid. uid.now) result ≡ uid_of which answers.now }
+{
+    match which {
+        Which::First => first_uid(part(answers, 2, 8)),
+        Which::Second => first_uid(part(answers, 13, 14)),
+    }
+}
+
+/// The first identifier that is told.
+fn first_uid(answers: &[Answer]) -> Option<&Text>
+    ensures { option_map (λ uid. uid.now) result ≡ slice_get (flat_map uids_told answers.now) 0 }
+{
+    for answer in answers {
+        if let Some(uid) = answer.uids().first() {
+            return Some(uid);
+        }
+    }
+    None
+}
+
+/// Puts a question over the link, where it can be asked, and reads what comes back.
+///
+/// # Errors
+/// Where there is no memory.
+fn put<L: Link>(
+    alloc: Global,
+    prefix: &str,
+    link: &mut L,
+    inquiry: Inquiry,
+    answers: &[Answer],
+) -> Result<Answer, NoMemory>
+    requires few { length answers.now < QUESTIONS }
+    requires prefix { IsTrue (is_prefix prefix.now) }
+    requires lawful { All IsLawful answers.now }
+    requires next { next_inquiry answers.now ≡ Some inquiry }
+    ensures lawful { IfOk result IsLawful }
+    ensures asked { (names : Names) → L.honest link.old names → L.honest link.new names
+        × IfOk result (λ answer. HasAsked prefix.now answers.now answer (L.past link.old)
+        (L.past link.new)) }
+    ensures few { (names : Names) → L.honest link.old names
+        → length (L.past link.new).sent ≤ length (L.past link.old).sent + 1 }
+    ensures served { (names : Names) → L.calm link.old names → L.calm link.new names
+        × IfOk result (λ answer. HasServedNext prefix.now answers.now answer (L.past link.old)
+        (L.past link.new)) }
+{
+    L::calm_laws();
+    let Some(request) = request_for(alloc, prefix, inquiry, answers)? else {
+        return Ok(Answer::Nothing);
+    };
+    ask(alloc, prefix, link, answers.len() as u8, &request)
+}
+
+/// Sends a request in a message of its own, and answers what comes back says of the question of
+/// its number.
+///
+/// # Errors
+/// Where there is no memory.
+fn ask<L: Link>(
+    alloc: Global,
+    prefix: &str,
+    link: &mut L,
+    number: u8,
+    request: &Request,
+) -> Result<Answer, NoMemory>
+    requires { IsTrue (request_fits request.now) }
+    ensures lawful { IfOk result IsLawful }
+    ensures asked { (names : Names) → L.honest link.old names → L.honest link.new names
+        × IfOk result (λ answer. HasSent (canon (requests_item (request.now ∷ [])))
+        (answer_to number prefix.now) answer (L.past link.old) (L.past link.new)) }
+    ensures few { (names : Names) → L.honest link.old names
+        → length (L.past link.new).sent ≤ length (L.past link.old).sent + 1 }
+    ensures served { (names : Names) → L.calm link.old names → L.calm link.new names
+        × IfOk result (λ answer. HasReplied request.now number prefix.now answer
+        (L.past link.old) (L.past link.new)) }
+{
+    deliveries_keep_the_requests();
+    answer_laws();
+    L::calm_laws();
+    let bytes = write_request(alloc, std::slice::from_ref(request))?;
+    let Ok(handed) = answer_or_loss(link.exchange(alloc, bytes.as_slice())) else {
+        return Err(NoMemory);
+    };
+    answer_to(alloc, number, prefix, handed)
+}
+
+/// The question as it is asked after these answers; none where it needs an identifier and none is
+/// known.
+///
+/// # Errors
+/// Where there is no memory.
+fn request_for(
+    alloc: Global,
+    prefix: &str,
+    inquiry: Inquiry,
+    answers: &[Answer],
+) -> Result<Option<Request>, NoMemory>
+    requires few { length answers.now < QUESTIONS }
+    ensures { IfOk result (λ request. request ≡ request_for prefix.now answers.now inquiry) }
+{
+    let Inquiry(which, kind) = inquiry;
+    let name = name_of(alloc, which, prefix)?;
+    let Some(ask) = ask_of(alloc, kind, name, uid_of(which, answers))? else {
+        return Ok(None);
+    };
+    let mut id = vec![in alloc; answers.len() as u8]?;
+    id.extend_from_slice(prefix.as_bytes())?;
+    Ok(Some(Request {
+        id: Some(Bytes::from_vec(id)),
+        ask,
+    }))
+}

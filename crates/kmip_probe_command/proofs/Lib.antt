@@ -1,0 +1,5 @@
+pub mod ToldLemmas
+pub mod EndLemmas
+pub mod MidwayLemmas
+pub mod StageLemmas
+pub mod TellingLemmas

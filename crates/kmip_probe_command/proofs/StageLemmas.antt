@@ -1,0 +1,141 @@
+-- What is told early is what all answers tell.
+use Rattle.std.proofs.Common.{◌≡◌, ◌≤◌, ◌<◌, ◌+◌, ℕ, List, [], ◌∷◌, ◌++◌, length, take, drop, flat_map, true, false, Some, None, Option, refl, sym, ap, ◌∙◌, arith, append-nil}
+use Rattle.std.proofs.lemmas.List.{append_assoc, drop-append-le, get_or_append_left, length-drop, take-append-le}
+use Rattle.std.proofs.lemmas.List.Concat.{flat_map-append}
+use Rattle.kmip_probe.specs.Judging.{AreFindings, answer_at, names_are_unique, is_destroyed, names_stay_used, steps_count_once, active_is_kept, found_at, objects_are_found, destroyed_are_found, attributes_are_told}
+use Rattle.kmip_probe.specs.declared.answer.Answer.{Answer}
+use Rattle.kmip_probe.specs.declared.answer.Answer.TheVariants.{Nothing}
+use Rattle.kmip_probe.specs.declared.finding.Findings.{Findings}
+use Rattle.kmip_probe_command.specs.Midway.{line_by}
+use Rattle.kmip_probe_command.specs.Wording.{ending_text, line_text, premise_line, report_text, rest_text}
+use Rattle.kmip_probe_command.specs.declared.premise.Premise.{Premise}
+use Rattle.kmip_probe_command.specs.declared.premise.Premise.TheVariants as premise
+use Rattle.kmip_probe_command.specs.declared.premise.TheConstants.{EARLY, LATE, PREMISES}
+
+-- ---- what more answers leave
+
+at : (answers more : List Answer) (number : ℕ) → number < length answers → answer_at (answers ++ more) number ≡ answer_at answers number
+at answers more number less = get_or_append_left answers more Nothing number less
+
+part : (answers more : List Answer) (from count : ℕ) → from + count ≤ length answers → take count (drop from (answers ++ more)) ≡ take count (drop from answers)
+part answers more from count within =
+    ap (take count) (drop-append-le from answers more (omega (arith, within)))
+    ∙ take-append-le count (drop from answers) more (omega (arith, within, length-drop from answers))
+
+pub unique_stays : (answers more : List Answer) → 8 ≤ length answers → names_are_unique (answers ++ more) ≡ names_are_unique answers
+unique_stays answers more all =
+    let uids = part answers more 2 6 (omega (arith, all)) in
+    let second = at answers more 2 (omega (arith, all)) in
+    let third = at answers more 3 (omega (arith, all)) in
+    let last = at answers more 7 (omega (arith, all)) in rw (uids, second, third, last) refl
+
+destroyed_stays : (answers more : List Answer) → 23 ≤ length answers → is_destroyed (answers ++ more) ≡ is_destroyed answers
+destroyed_stays answers more all =
+    let first = at answers more 16 (omega (arith, all)) in
+    let second = at answers more 17 (omega (arith, all)) in rw (first, second) refl
+
+used_stays : (answers more : List Answer) → 23 ≤ length answers → names_stay_used (answers ++ more) ≡ names_stay_used answers
+used_stays answers more all =
+    let first = at answers more 16 (omega (arith, all)) in
+    let second = at answers more 17 (omega (arith, all)) in
+    let known = part answers more 2 6 (omega (arith, all)) in
+    let uids = part answers more 18 5 (omega (arith, all)) in
+    let again = at answers more 18 (omega (arith, all)) in
+    let last = at answers more 22 (omega (arith, all)) in rw (first, second, known, uids, again, last) refl
+
+once_stays : (answers more : List Answer) → 23 ≤ length answers → steps_count_once (answers ++ more) ≡ steps_count_once answers
+once_stays answers more all =
+    let a = at answers more 9 (omega (arith, all)) in
+    let b = at answers more 10 (omega (arith, all)) in
+    let c = at answers more 11 (omega (arith, all)) in
+    let d = at answers more 12 (omega (arith, all)) in
+    let e = at answers more 16 (omega (arith, all)) in
+    let f = at answers more 17 (omega (arith, all)) in rw (a, b, c, d, e, f) refl
+
+active_stays : (answers more : List Answer) → 23 ≤ length answers → active_is_kept (answers ++ more) ≡ active_is_kept answers
+active_stays answers more all =
+    let a = at answers more 14 (omega (arith, all)) in
+    let b = at answers more 15 (omega (arith, all)) in rw (a, b) refl
+
+found_stays : (answers more : List Answer) → 23 ≤ length answers → objects_are_found (answers ++ more) ≡ objects_are_found answers
+found_stays answers more all =
+    let uids = part answers more 2 6 (omega (arith, all)) in
+    let a = at answers more 7 (omega (arith, all)) in rw (uids, a) refl
+
+destroyed_found_stays : (answers more : List Answer) → 23 ≤ length answers → destroyed_are_found (answers ++ more) ≡ destroyed_are_found answers
+destroyed_found_stays answers more all =
+    let first = at answers more 16 (omega (arith, all)) in
+    let second = at answers more 17 (omega (arith, all)) in
+    let uids = part answers more 2 6 (omega (arith, all)) in
+    let a = at answers more 22 (omega (arith, all)) in rw (first, second, uids, a) refl
+
+told_stays : (prefix : List ℕ) (answers more : List Answer) → 23 ≤ length answers → attributes_are_told prefix (answers ++ more) ≡ attributes_are_told prefix answers
+told_stays prefix answers more all = let a = at answers more 8 (omega (arith, all)) in rw a refl
+
+-- ---- the lines
+
+pub early_stays : (prefix : List ℕ) (answers later more : List Answer) → later ≡ answers ++ more → 8 ≤ length answers
+    → flat_map (line_by prefix later) EARLY ≡ flat_map (line_by prefix answers) EARLY
+early_stays prefix answers later more is all =
+    ap (λ xs. flat_map (line_by prefix xs) EARLY) is
+    ∙ ap (λ finding. line_text premise.NamesAreUnique finding ++ []) (unique_stays answers more all)
+
+late_lines : (prefix : List ℕ) (answers more : List Answer) → 23 ≤ length answers
+    → flat_map (line_by prefix (answers ++ more)) LATE ≡ flat_map (line_by prefix answers) LATE
+late_lines prefix answers more all =
+    let used = used_stays answers more all in
+    let once = once_stays answers more all in
+    let active = active_stays answers more all in
+    let found = found_stays answers more all in
+    let destroyed = destroyed_found_stays answers more all in
+    let told = told_stays prefix answers more all in rw (used, once, active, found, destroyed, told) refl
+
+pub late_stays : (prefix : List ℕ) (answers later more : List Answer) → later ≡ answers ++ more → 23 ≤ length answers
+    → flat_map (line_by prefix later) LATE ≡ flat_map (line_by prefix answers) LATE
+late_stays prefix answers later more is all = ap (λ xs. flat_map (line_by prefix xs) LATE) is ∙ late_lines prefix answers more all
+
+line_is : (prefix : List ℕ) (answers : List Answer) (findings : Findings) → AreFindings prefix answers findings → (p : Premise)
+    → premise_line findings p ≡ line_by prefix answers p
+line_is prefix answers findings are premise.NamesAreUnique = ap (line_text premise.NamesAreUnique) are.unique
+line_is prefix answers findings are premise.NamesStayUsed = ap (line_text premise.NamesStayUsed) are.used
+line_is prefix answers findings are premise.StepsCountOnce = ap (line_text premise.StepsCountOnce) are.once
+line_is prefix answers findings are premise.ActiveIsKept = ap (line_text premise.ActiveIsKept) are.active
+line_is prefix answers findings are premise.ObjectsAreFound = ap (line_text premise.ObjectsAreFound) are.found
+line_is prefix answers findings are premise.DestroyedAreFound = ap (line_text premise.DestroyedAreFound) are.destroyed
+line_is prefix answers findings are premise.AttributesAreTold = ap (line_text premise.AttributesAreTold) are.told
+line_is prefix answers findings are premise.IdsAreEchoed = ap (line_text premise.IdsAreEchoed) are.echoed
+
+pub lines_are : (prefix : List ℕ) (answers : List Answer) (findings : Findings) → AreFindings prefix answers findings → (ps : List Premise)
+    → flat_map (premise_line findings) ps ≡ flat_map (line_by prefix answers) ps
+lines_are prefix answers findings are [] = refl
+lines_are prefix answers findings are (p ∷ ps) =
+    ap (λ line. line ++ flat_map (premise_line findings) ps) (line_is prefix answers findings are p)
+    ∙ ap (λ lines. line_by prefix answers p ++ lines) (lines_are prefix answers findings are ps)
+
+-- ---- all together
+
+-- the lines of a list in three parts, and an end
+parts : {X : Type 0} (f : X → List ℕ) (early late last : List X) (end : List ℕ)
+    → flat_map f (early ++ (late ++ last)) ++ end ≡ flat_map f early ++ (flat_map f late ++ (flat_map f last ++ end))
+parts f early late last end =
+    ap (λ lines. lines ++ end) (flat_map-append f early (late ++ last) ∙ ap (λ lines. flat_map f early ++ lines) (flat_map-append f late last))
+    ∙ append_assoc (flat_map f early) (flat_map f late ++ flat_map f last) end
+    ∙ ap (λ lines. flat_map f early ++ lines) (append_assoc (flat_map f late) (flat_map f last) end)
+
+report_in_parts : (findings : Findings) → report_text findings ≡ flat_map (premise_line findings) EARLY ++ (flat_map (premise_line findings) LATE ++ rest_text findings)
+report_in_parts findings =
+    parts (premise_line findings) EARLY LATE (premise.IdsAreEchoed ∷ []) (ending_text findings)
+    ∙ ap (λ line. flat_map (premise_line findings) EARLY ++ (flat_map (premise_line findings) LATE ++ (line ++ ending_text findings)))
+    (append-nil (premise_line findings premise.IdsAreEchoed))
+
+-- what was told early, late and at last is the report
+pub report_is : (prefix : List ℕ) (early late all more rest : List Answer) (findings : Findings) → late ≡ early ++ more → all ≡ late ++ rest
+    → 8 ≤ length early → 23 ≤ length late → AreFindings prefix all findings
+    → flat_map (line_by prefix early) EARLY ++ (flat_map (line_by prefix late) LATE ++ rest_text findings) ≡ report_text findings
+report_is prefix early late all more rest findings is_late is_all eight most are =
+    let first = sym (early_stays prefix early late more is_late eight)
+    ∙ sym (early_stays prefix late all rest is_all (omega (arith, most))) ∙ sym (lines_are prefix all findings are EARLY) in
+    let later = sym (late_stays prefix late all rest is_all most) ∙ sym (lines_are prefix all findings are LATE) in
+    ap (λ lines. lines ++ (flat_map (line_by prefix late) LATE ++ rest_text findings)) first
+    ∙ ap (λ lines. flat_map (premise_line findings) EARLY ++ (lines ++ rest_text findings)) later
+    ∙ sym (report_in_parts findings)

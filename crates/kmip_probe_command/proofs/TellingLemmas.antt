@@ -1,0 +1,196 @@
+-- What a probe tells of its answers, from the looks to the sum.
+use Rattle.std.proofs.Common.{◌≡◌, ◌≤◌, ◌⊎◌, ℕ, List, [], ◌∷◌, ◌++◌, length, map, take, flat_map, not, true, false, Option, Some, None, Result, Ok, Err, IfOk, Bool, if◌then◌else◌, refl, sym, ap, subst, ◌∙◌, inl, inr, arith, append-nil, IsTrue}
+use Rattle.std.specs.List.{concat}
+use Rattle.std.specs.Io.KnownBytes.{Appends}
+use Rattle.std.proofs.KnownBytes.{Appends-trans}
+use Rattle.std.proofs.lemmas.List.{append_assoc, length-append}
+use Rattle.kmip_probe.specs.Asking.{is_free_at, next_inquiry}
+use Rattle.kmip_probe.specs.Inquiries.{name_of}
+use Rattle.kmip_probe.specs.Judging.{AreFindings, answer_at}
+use Rattle.kmip_probe.specs.Laws.{ProfileKeepsAll}
+use Rattle.kmip_probe.specs.Putting.{AreAsked, AsksOn}
+use Rattle.kmip_probe.specs.Serving.{outcomes_of}
+use Rattle.kmip_probe.specs.Standing.{AreServed}
+use Rattle.kmip_probe.specs.declared.answer.Answer.TheVariants.{Told}
+use Rattle.kmip_probe.specs.declared.inquiry.Which.TheVariants.{First, Second}
+use Rattle.kmip_protocol.specs.Past.{Names, Past}
+use Rattle.kmip_probe.specs.declared.answer.Answer.{Answer}
+use Rattle.kmip_probe.specs.declared.finding.Findings.{Findings}
+use Rattle.kmip_probe.proofs.ProbingLemmas.{so_many}
+use Rattle.kmip_probe.proofs.ServedLemmas.{all_served, goes_on}
+use Rattle.kmip_probe_command.specs.LookText.{looked_text, making_text, unbegun_text}
+use Rattle.kmip_probe_command.specs.Midway.{line_by, lines_by}
+use Rattle.kmip_probe_command.specs.ProbeText.{TellsEnd, TellsFrom, WritesProbe, kept_text}
+use Rattle.kmip_message_commands.specs.declared.fault.CommandFault.{CommandFault}
+use Rattle.kmip_probe_command.specs.Wording.{report_text, rest_text}
+use Rattle.kmip_probe_command.specs.declared.premise.Premise.TheVariants as premise
+use Rattle.kmip_probe_command.specs.declared.premise.TheConstants.{EARLY, LATE}
+use Rattle.kmip_probe_command.proofs.StageLemmas.{early_stays, report_is}
+use Rattle.kmip_probe_command.proofs.ToldLemmas.{told_all}
+
+-- ---- how many answers there are
+
+free_stays : (answers more : List Answer) → length answers ≡ 2
+    → (is_free_at (answers ++ more) 0 ≡ is_free_at answers 0) × (is_free_at (answers ++ more) 1 ≡ is_free_at answers 1)
+free_stays [] more two = absurd (omega (arith, two))
+free_stays (a ∷ []) more two = absurd (omega (arith, two))
+free_stays (a ∷ b ∷ answers) more two = (refl, refl)
+
+pub still_free : (answers all more : List Answer) → all ≡ answers ++ more → length answers ≡ 2 → (place : ℕ) → (place ≡ 0) ⊎ (place ≡ 1)
+    → is_free_at all place ≡ is_free_at answers place
+still_free answers all more is two place (inl first) = rw (first, is) (free_stays answers more two).0
+still_free answers all more is two place (inr second) = rw (second, is) (free_stays answers more two).1
+
+-- behind two free names, as many as are wanted
+pub all_there : (answers all more : List Answer) (most : ℕ) → all ≡ answers ++ more → length answers ≡ 2
+    → IsTrue (is_free_at answers 0) → IsTrue (is_free_at answers 1)
+    → length all ≤ most → most ≤ 25 → (next_inquiry all ≡ None) ⊎ (length all ≡ most) → length all ≡ most
+all_there answers all more most is two first second fewer few whole =
+    so_many all most (still_free answers all more is two 0 (inl refl) ∙ first) (still_free answers all more is two 1 (inr refl) ∙ second) fewer few whole
+
+-- ---- what was written
+
+-- the line of the keys
+pub one_line : (prefix : List ℕ) (old new : Option (List ℕ)) → Appends old new (making_text prefix) → Appends old new (concat (making_text prefix ∷ []))
+one_line prefix old new named = subst (Appends old new) (sym (append-nil (making_text prefix))) named
+
+-- and the first line
+pub two_lines : (prefix : List ℕ) (early : List Answer) (old making new : Option (List ℕ)) → Appends old making (making_text prefix)
+    → Appends making new (flat_map (line_by prefix early) EARLY) → Appends old new (concat (making_text prefix ∷ map (line_by prefix early) EARLY))
+two_lines prefix early old making new named told = Appends-trans old making new (making_text prefix) (flat_map (line_by prefix early) EARLY) named told
+
+joined : (making line others : List ℕ) → making ++ (line ++ []) ++ others ≡ making ++ (line ++ others)
+joined making line others = append_assoc making (line ++ []) others ∙ ap (λ first. making ++ (first ++ others)) (append-nil line)
+
+-- and the next six
+pub eight_lines : (prefix : List ℕ) (early late more : List Answer) (old making first new : Option (List ℕ)) → late ≡ early ++ more → 8 ≤ length early
+    → Appends old making (making_text prefix) → Appends making first (flat_map (line_by prefix early) EARLY)
+    → Appends first new (flat_map (line_by prefix late) LATE)
+    → Appends old new (concat (making_text prefix ∷ map (line_by prefix late) (EARLY ++ LATE)))
+eight_lines prefix early late more old making first new is eight named told later =
+    let same = subst (Appends making first) (sym (early_stays prefix early late more is eight)) told in
+    let lines = Appends-trans old making first (making_text prefix) (flat_map (line_by prefix late) EARLY) named same in
+    let all = Appends-trans old first new (making_text prefix ++ flat_map (line_by prefix late) EARLY) (flat_map (line_by prefix late) LATE) lines later in
+    subst (Appends old new) (joined (making_text prefix) (line_by prefix late premise.NamesAreUnique) (flat_map (line_by prefix late) LATE)) all
+
+-- and all others
+pub told_report : (prefix : List ℕ) (early late all more rest : List Answer) (refused : Bool) (old making first second new : Option (List ℕ))
+    → late ≡ early ++ more → all ≡ late ++ rest → 8 ≤ length early → 23 ≤ length late
+    → Appends old making (making_text prefix) → Appends making first (flat_map (line_by prefix early) EARLY)
+    → Appends first second (flat_map (line_by prefix late) LATE) → TellsEnd rest_text prefix all refused second new
+    → TellsEnd (λ findings. making_text prefix ++ report_text findings) prefix all refused old new
+told_report prefix early late all more rest refused old making first second new is_late is_all eight most named told later (findings, are, refused_is, ended) =
+    let lines = flat_map (line_by prefix early) EARLY in
+    let others = flat_map (line_by prefix late) LATE in
+    let behind = Appends-trans first second new others (rest_text findings) later ended in
+    let report = Appends-trans making first new lines (others ++ rest_text findings) told behind in
+    let whole = Appends-trans old making new (making_text prefix) (lines ++ (others ++ rest_text findings)) named report in (
+      findings,
+      are,
+      refused_is,
+      subst (λ text. Appends old new (making_text prefix ++ text)) (report_is prefix early late all more rest findings is_late is_all eight most are) whole,
+    )
+
+-- ---- where the report was told
+
+pub told_if : {A : Type 0} (result : Result A CommandFault) (P Q : A → Type 0) → ((a : A) → P a → Q a) → IfOk result P → IfOk result Q
+told_if (Ok a) P Q further holds = further a holds
+told_if (Err fault) P Q further holds = tt
+
+pub always : {A : Type 0} (result : Result A CommandFault) (P : Type 0) → P → IfOk result (λ a. P)
+always (Ok a) P holds = holds
+always (Err fault) P holds = tt
+
+-- ---- answers behind answers
+
+pub farther : (first second third : List Answer) → (more : List Answer) × (second ≡ first ++ more) → (more : List Answer) × (third ≡ second ++ more)
+    → (more : List Answer) × (third ≡ first ++ more)
+farther first second third (more, is) (others, is_then) =
+    (more ++ others, is_then ∙ ap (λ xs. xs ++ others) is ∙ append_assoc first more others)
+
+pub counted : (answers all : List Answer) (most : ℕ) → (more : List Answer) × (all ≡ answers ++ more) → length answers ≡ 2
+    → IsTrue (is_free_at answers 0) → IsTrue (is_free_at answers 1)
+    → length all ≤ most → most ≤ 25 → (next_inquiry all ≡ None) ⊎ (length all ≡ most) → length all ≡ most
+counted answers all most (more, is) two first second fewer few whole = all_there answers all more most is two first second fewer few whole
+
+-- ---- the two parts of a probe
+
+looked_at : (first second : Bool) (why other : List ℕ) → (if first then (if second then None else Some why) else Some other) ≡ None
+    → (first ≡ true) × (second ≡ true)
+looked_at true true why other none = (refl, refl)
+looked_at true false why other none = absurd cc
+looked_at false second why other none = absurd cc
+
+-- where no reason was told, both names are free
+pub looked_free : (prefix : List ℕ) (answers : List Answer) → unbegun_text prefix answers ≡ None
+    → (is_free_at answers 0 ≡ true) × (is_free_at answers 1 ≡ true)
+looked_free prefix answers none =
+    looked_at (is_free_at answers 0) (is_free_at answers 1) (looked_text (name_of Second prefix) (answer_at answers 1))
+    (looked_text (name_of First prefix) (answer_at answers 0)) none
+
+pub still_begun : (prefix : List ℕ) (answers all : List Answer) → (more : List Answer) × (all ≡ answers ++ more) → length answers ≡ 2
+    → unbegun_text prefix answers ≡ None → unbegun_text prefix all ≡ None
+still_begun prefix answers all (more, is) two none =
+    let (first, second) = looked_free prefix answers none in
+    let still_first = still_free answers all more is two 0 (inl refl) ∙ first in
+    let still_second = still_free answers all more is two 1 (inr refl) ∙ second in rw (still_first, still_second) refl
+
+-- why nothing was made was told
+pub told_unbegun : {L : Type 0} (past : L → Past) (honest : L → Names → Type 0) (prefix : List ℕ) (answers : List Answer) (before after : L) (refused : Bool)
+    (text : List ℕ) (old new : Option (List ℕ)) → ((names : Names) → honest before names → AreAsked prefix answers (past before) (past after))
+    → Some text ≡ unbegun_text prefix answers → (refused ≡ true) × Appends old new text → WritesProbe past honest prefix before after refused old new
+told_unbegun past honest prefix answers before after refused text old new asked is (refused_is, written) = record {
+  answers = answers;
+  text = text;
+  asked = asked;
+  tells = subst (λ unbegun. TellsFrom prefix answers unbegun refused text) is (refused_is, refl);
+  written = written;
+}
+
+told_begun : {L : Type 0} (past : L → Past) (honest : L → Names → Type 0) (prefix : List ℕ) (answers : List Answer) (before after : L) (refused : Bool)
+    (old new : Option (List ℕ)) → ((names : Names) → honest before names → AreAsked prefix answers (past before) (past after))
+    → unbegun_text prefix answers ≡ None → TellsEnd (λ findings. making_text prefix ++ report_text findings) prefix answers refused old new
+    → WritesProbe past honest prefix before after refused old new
+told_begun past honest prefix answers before after refused old new asked none (findings, are, refused_is, written) = record {
+  answers = answers;
+  text = making_text prefix ++ report_text findings;
+  asked = asked;
+  tells =
+      subst (λ unbegun. TellsFrom prefix answers unbegun refused (making_text prefix ++ report_text findings)) (sym none)
+      (findings, are, refused_is, refl);
+  written = written;
+}
+
+-- what was found was told, of all questions that were asked
+pub told_on : {L : Type 0} (past : L → Past) (honest : L → Names → Type 0) (prefix : List ℕ) (begun answers : List Answer) (before between after : L)
+    (result : Result Bool CommandFault) (old new : Option (List ℕ))
+    → ((names : Names) → honest before names → honest between names × AreAsked prefix begun (past before) (past between))
+    → ((names : Names) → honest between names → IfOk result (λ r. AsksOn prefix begun answers (past between) (past after)))
+    → unbegun_text prefix answers ≡ None
+    → IfOk result (λ r. TellsEnd (λ findings. making_text prefix ++ report_text findings) prefix answers r old new)
+    → IfOk result (λ r. WritesProbe past honest prefix before after r old new)
+told_on past honest prefix begun answers before between after (Ok r) old new asked further none tells =
+    told_begun past honest prefix answers before after r old new
+    (λ names honest_before. let (still, first) = asked names honest_before in further names still (past before) first) none tells
+told_on past honest prefix begun answers before between after (Err fault) old new asked further none tells = tt
+
+-- ---- over a calm link to a server of the profile
+
+-- both names are seen to be free
+pub kept_looks : (prefix : List ℕ) (answers : List Answer) (p : Past) → length answers ≤ 2 → (next_inquiry answers ≡ None) ⊎ (length answers ≡ 2)
+    → AreServed prefix answers p → unbegun_text prefix answers ≡ None
+kept_looks prefix answers p fewer (inl none) served = absurd (goes_on prefix answers p (omega (arith, fewer)) served none)
+kept_looks prefix answers p fewer (inr two) served =
+    let is = served.answers_are ∙ ap (λ n. map Told (take n (outcomes_of prefix served.first served.second))) two in rw is refl
+
+-- and every premise is told as kept
+pub kept_on : ProfileKeepsAll → (prefix : List ℕ) (answers : List Answer) (p : Past) (result : Result Bool CommandFault) (old new : Option (List ℕ))
+    → IfOk result (λ r. AreServed prefix answers p) → IfOk result (λ r. length answers ≡ 25)
+    → IfOk result (λ r. TellsEnd (λ findings. making_text prefix ++ report_text findings) prefix answers r old new)
+    → IfOk result (λ r. (r ≡ false) × Appends old new (making_text prefix ++ kept_text))
+kept_on l prefix answers p (Err fault) old new served all tells = tt
+kept_on l prefix answers p (Ok r) old new served all (findings, are, refused_is, written) =
+    let (first, second, is) = all_served prefix answers p all served in
+    let (all_kept, report) = told_all prefix (map Told (outcomes_of prefix first second)) findings (l prefix first second)
+    (subst (λ xs. AreFindings prefix xs findings) is are) in
+    (refused_is ∙ ap not all_kept, subst (λ text. Appends old new (making_text prefix ++ text)) report written)

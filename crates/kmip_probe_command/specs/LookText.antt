@@ -1,0 +1,97 @@
+-- What `probe` writes of its looks at the two names: why nothing was made, or which keys are about to be.
+-- Source: own (text): what the program prints.
+use Rattle.std.specs.Prelude.{ℕ, List, [], ◌∷◌, ◌++◌, codes, Option, Some, None, if◌then◌else◌}
+use Rattle.std.specs.Fmt.{decimal}
+use Rattle.hex.specs.Hex.{encode_lower}
+use Rattle.byteorder.specs.Endian.{big_bytes}
+use Rattle.kmip_ttlv.specs.Faults.{fault_name, fault_offset}
+use Rattle.kmip_ttlv.specs.Showing.{plain_text}
+use Rattle.kmip_ttlv.specs.declared.fault.TtlvFault.{TtlvFault}
+use Rattle.kmip_batch_items.specs.Faults.{message_fault_items, message_fault_name, message_fault_tag}
+use Rattle.kmip_batch_items.specs.declared.fault.MessageFault.{MessageFault}
+use Rattle.kmip_batch_items.specs.declared.fault.MessageFault.TheVariants.{Version}
+use Rattle.kmip_batch_items.specs.declared.reply.Outcome.{Outcome}
+use Rattle.kmip_batch_items.specs.declared.reply.Outcome.TheVariants.{Located, Failed}
+use Rattle.kmip_message_commands.specs.Showing.{offset_text}
+use Rattle.kmip_probe.specs.Answers.{outcome_in, unread_in}
+use Rattle.kmip_probe.specs.Asking.{is_free_at}
+use Rattle.kmip_probe.specs.Inquiries.{name_of}
+use Rattle.kmip_probe.specs.Judging.{answer_at}
+use Rattle.kmip_probe.specs.declared.answer.Answer.{Answer}
+use Rattle.kmip_probe.specs.declared.inquiry.Which.TheVariants.{First, Second}
+use Rattle.kmip_probe.specs.declared.unread.ProtocolVersion.{ProtocolVersion}
+use Rattle.kmip_probe.specs.declared.unread.Unread.{Unread}
+
+-- The line of two keys that are about to be made.
+abbrev pub pair_text : List ℕ → List ℕ → List ℕ
+pair_text first second = codes "making two keys: " ++ first ++ codes " and " ++ second ++ codes "\n"
+
+-- The line of the two keys that a probe with this prefix is about to make.
+unfoldable pub making_text : List ℕ → List ℕ
+making_text prefix = pair_text (name_of First prefix) (name_of Second prefix)
+
+-- The line that says that an object has the name, and so nothing was made.
+unfoldable pub used_text : List ℕ → List ℕ → List ℕ
+used_text name uid = name ++ codes " is used already, and nothing was made; its object is " ++ plain_text uid ++ codes "\n"
+
+-- The line that says why it could not be told whether the name is free, and that nothing was made.
+unfoldable pub unsure_text : List ℕ → List ℕ → List ℕ
+unsure_text why name = why ++ codes ": whether " ++ name ++ codes " is free could not be told; nothing was made\n"
+
+-- The tag that a fault is about, as six hexadecimal digits, where there is one.
+abbrev pub tag_text : Option ℕ → List ℕ
+tag_text (Some tag) = codes " " ++ encode_lower (big_bytes 3 tag)
+tag_text None = []
+
+-- What is wrong with the items, where there is a fault of them.
+abbrev pub items_text : Option TtlvFault → List ℕ
+items_text (Some fault) = codes ": " ++ fault_name fault ++ offset_text (fault_offset fault)
+items_text None = []
+
+-- A fault of a reply: its name, and what it is about.
+abbrev pub fault_text : MessageFault → List ℕ
+fault_text fault = message_fault_name fault ++ tag_text (message_fault_tag fault) ++ items_text (message_fault_items fault)
+
+-- The version that a server answers in.
+abbrev pub version_text : ProtocolVersion → List ℕ
+version_text version = codes "Version: it answers in KMIP " ++ decimal version.major ++ codes "." ++ decimal version.minor
+
+-- Why a reply can't be read: another version, where its number is known, or else the fault.
+abbrev pub reason_text : MessageFault → Option ProtocolVersion → List ℕ
+reason_text Version (Some version) = version_text version
+reason_text fault version = fault_text fault
+
+-- That the server's reply can't be read, and why.
+abbrev pub unread_text : Unread → List ℕ
+unread_text unread = codes "the server's reply can't be read (" ++ reason_text unread.fault unread.version ++ codes ")"
+
+-- That the look was refused, with the number of the Result Reason where there is one.
+abbrev pub refused_text : Option ℕ → List ℕ
+refused_text (Some reason) = codes "refused, reason " ++ decimal reason
+refused_text None = codes "refused"
+
+-- That the look was answered by no reply that tells it, or by one that can't be read.
+abbrev pub silent_text : Option Unread → List ℕ
+silent_text (Some unread) = unread_text unread
+silent_text None = codes "no reply"
+
+-- Why it could not be told whether a name is free.
+abbrev pub why_text : Option Outcome → Option Unread → List ℕ
+why_text (Some (Failed reason)) unread = refused_text reason
+why_text outcome unread = silent_text unread
+
+-- What is told by the outcome of the look at a name, or by why its reply can't be read.
+abbrev pub look_text : List ℕ → Option Outcome → Option Unread → List ℕ
+look_text name (Some (Located (uid ∷ uids))) unread = used_text name uid
+look_text name outcome unread = unsure_text (why_text outcome unread) name
+
+-- What is told by the answer to the look at a name that is not seen to be free.
+abbrev pub looked_text : List ℕ → Answer → List ℕ
+looked_text name answer = look_text name (outcome_in answer) (unread_in answer)
+
+-- What is told where a name is not seen to be free, the first one first. None where both are free.
+abbrev pub unbegun_text : List ℕ → List Answer → Option (List ℕ)
+unbegun_text prefix answers =
+    if is_free_at answers 0
+    then (if is_free_at answers 1 then None else Some (looked_text (name_of Second prefix) (answer_at answers 1)))
+    else Some (looked_text (name_of First prefix) (answer_at answers 0))

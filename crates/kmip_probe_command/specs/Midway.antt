@@ -1,0 +1,68 @@
+-- What `probe` has written where it breaks off: the first lines of what is told of the answers that have
+-- come.
+-- Source: own (text): what the program prints.
+use Rattle.std.specs.Prelude.{◌≡◌, ◌≤◌, ◌⊎◌, ℕ, List, [], ◌∷◌, ◌++◌, length, map, Option}
+use Rattle.std.specs.Io.KnownBytes.{Appends}
+use Rattle.std.specs.List.{concat}
+use Rattle.kmip_message_commands.specs.declared.fault.CommandFault.{CommandFault}
+use Rattle.kmip_message_commands.specs.declared.fault.CommandFault.TheVariants.{NoMemory}
+use Rattle.kmip_probe.specs.Judging.{
+  active_is_kept,
+  attributes_are_told,
+  destroyed_are_found,
+  ids_are_echoed,
+  names_are_unique,
+  names_stay_used,
+  objects_are_found,
+  steps_count_once,
+}
+use Rattle.kmip_probe.specs.declared.answer.Answer.{Answer}
+use Rattle.kmip_probe.specs.declared.finding.Finding.{Finding}
+use Rattle.kmip_probe_command.specs.LookText.{making_text}
+use Rattle.kmip_probe_command.specs.Wording.{line_text}
+use Rattle.kmip_probe_command.specs.declared.premise.Premise.{Premise}
+use Rattle.kmip_probe_command.specs.declared.premise.Premise.TheVariants as premise
+use Rattle.kmip_probe_command.specs.declared.premise.TheConstants.{PREMISES}
+
+-- What answers say of a premise.
+abbrev pub finding_by : List ℕ → List Answer → Premise → Finding
+finding_by prefix answers premise.NamesAreUnique = names_are_unique answers
+finding_by prefix answers premise.NamesStayUsed = names_stay_used answers
+finding_by prefix answers premise.StepsCountOnce = steps_count_once answers
+finding_by prefix answers premise.ActiveIsKept = active_is_kept answers
+finding_by prefix answers premise.ObjectsAreFound = objects_are_found answers
+finding_by prefix answers premise.DestroyedAreFound = destroyed_are_found answers
+finding_by prefix answers premise.AttributesAreTold = attributes_are_told prefix answers
+finding_by prefix answers premise.IdsAreEchoed = ids_are_echoed answers
+
+-- The line of a premise by answers.
+abbrev pub line_by : List ℕ → List Answer → Premise → List ℕ
+line_by prefix answers p = line_text p (finding_by prefix answers p)
+
+-- The lines that are told in turn: which keys are to be made, and what is found of each premise.
+abbrev pub lines_by : List ℕ → List Answer → List (List ℕ)
+lines_by prefix answers = making_text prefix ∷ map (line_by prefix answers) PREMISES
+
+-- How many answers have come before these lines are told. They are those to both looks, then those to the
+-- Locates before the first object is destroyed, and then those to all questions about it.
+abbrev pub answers_before : List (List ℕ) → ℕ
+answers_before [] = 0
+answers_before (making ∷ []) = 2
+answers_before (making ∷ unique ∷ []) = 8
+answers_before (making ∷ unique ∷ used ∷ lines) = 23
+
+-- The first of these lines were written, as far as the answers that have come decide them, and then
+-- `tail`.
+pub record TellsSome (prefix tail : List ℕ) (old new : Option (List ℕ)) : Type 0 where
+  pub answers : List Answer
+  pub told : List (List ℕ)
+  pub left : List (List ℕ)
+  pub whole : lines_by prefix answers ≡ told ++ left
+  pub decided : answers_before told ≤ length answers
+  pub written : Appends old new (concat told ++ tail)
+
+-- Private: a probe broke off, for want of memory, or by the fault of its printer, which holds whole texts
+-- if it takes all or nothing.
+abbrev pub BreaksMidway : CommandFault → CommandFault → Type 0 → List ℕ → Option (List ℕ) → Option (List ℕ) → Type 0
+BreaksMidway fault own_fault IsWhole prefix old new =
+    ((fault ≡ NoMemory) × TellsSome prefix [] old new) ⊎ ((fault ≡ own_fault) × (IsWhole → TellsSome prefix [] old new))

@@ -1,0 +1,180 @@
+//! What a probe tells while it asks.
+ghost use Rattle.std.specs.Prelude.{◌≡◌, ◌≤◌, ◌+◌, ◌++◌, length, false, true, List, flat_map, IfErr, IfOk, OnOk, IsTrue};
+ghost use Rattle.std.specs.List.{All};
+ghost use Rattle.std.specs.Io.KnownBytes.{Appends};
+ghost use Rattle.kmip_message_commands.specs.Printing.{Fails};
+ghost use Rattle.kmip_protocol.specs.Past.{Names};
+ghost use Rattle.kmip_probe.specs.Answers.{IsLawful};
+ghost use Rattle.kmip_probe.specs.Asking.{is_free_at};
+ghost use Rattle.kmip_probe.specs.Inquiries.{is_prefix};
+ghost use Rattle.kmip_probe.specs.Serving.{IsUnprobed};
+ghost use Rattle.kmip_probe.specs.Standing.{AreServed};
+ghost use Rattle.kmip_probe_command.specs.LookText.{making_text};
+ghost use Rattle.kmip_probe.specs.Putting.{AsksOn};
+ghost use Rattle.kmip_probe_command.specs.Midway.{BreaksMidway, line_by};
+ghost use Rattle.kmip_probe_command.specs.ProbeText.{TellsEnd, WritesProbe, kept_text};
+ghost use Rattle.kmip_probe_command.specs.Wording.{report_text, rest_text};
+
+use crate::looking::{making_text, unbegun_text};
+use crate::premise::{EARLY, EARLY_ANSWERS, LATE, LATE_ANSWERS, Premise};
+use crate::wording::{are_all_kept, lines_of, rest_of_report};
+use kmip_message_commands::{CommandFault, Printer};
+use kmip_probe::laws::the_profile_keeps_all;
+use kmip_probe::{Answer, LOOKS, QUESTIONS, ask_on, findings};
+use kmip_protocol::Link;
+use std::alloc::Global;
+
+/// Asks the questions of a probe, and tells what their answers say. Says whether a premise is not seen
+/// to be kept. Where a name is not seen to be free, why nothing was made is printed.
+///
+/// # Errors
+///
+/// `NoMemory`, and the fault of the printer.
+pub(crate) fn tell<L: Link, P: Printer>(
+    alloc: Global,
+    prefix: &str,
+    link: &mut L,
+    printer: &mut P,
+) -> Result<bool, CommandFault>
+    requires { IsTrue (is_prefix prefix.now) }
+    ensures text { IfOk result (λ r. WritesProbe L.past L.honest prefix.now link.old link.new r
+        (P.contents printer.old) (P.contents printer.new)) }
+    ensures broken { IfErr result (λ fault. BreaksMidway fault P.own_fault P.IsWhole prefix.now
+        (P.contents printer.old) (P.contents printer.new)) }
+    ensures few { (names : Names) → L.honest link.old names
+        → length (L.past link.new).sent ≤ length (L.past link.old).sent + QUESTIONS }
+    ensures kept { (names : Names) → L.calm link.old names
+        → IsUnprobed prefix.now (L.past link.old) → IfOk result (λ r. (r ≡ false)
+        × Appends (P.contents printer.old) (P.contents printer.new)
+        (making_text prefix.now ++ kept_text)) }
+{
+    the_profile_keeps_all();
+    let mut answers = Vec::new(alloc);
+    ask_on(alloc, prefix, link, LOOKS, &mut answers)?;
+    match unbegun_text(alloc, prefix, answers.as_slice())? {
+        Some(text) => print_refusal(text.as_str(), printer),
+        None => tell_on(alloc, prefix, link, printer, &mut answers),
+    }
+}
+
+/// Tells which keys are to be made, asks on, and prints each line once the answers that decide it have
+/// come. Says whether a premise is not seen to be kept.
+///
+/// # Errors
+///
+/// `NoMemory`, and the fault of the printer.
+fn tell_on<L: Link, P: Printer>(
+    alloc: Global,
+    prefix: &str,
+    link: &mut L,
+    printer: &mut P,
+    answers: &mut Vec<Answer>,
+) -> Result<bool, CommandFault>
+    requires prefix { IsTrue (is_prefix prefix.now) }
+    requires lawful { All IsLawful answers.old.items }
+    requires two { length answers.old.items ≡ LOOKS }
+    requires first { IsTrue (is_free_at answers.old.items 0) }
+    requires second { IsTrue (is_free_at answers.old.items 1) }
+    ensures onward { (more : List Answer) × (answers.new.items ≡ answers.old.items ++ more) }
+    ensures asked { (names : Names) → L.honest link.old names → IfOk result (λ r. AsksOn prefix.now
+        answers.old.items answers.new.items (L.past link.old) (L.past link.new)) }
+    ensures text { IfOk result (λ r. TellsEnd (λ f. making_text prefix.now ++ report_text f)
+        prefix.now answers.new.items r (P.contents printer.old) (P.contents printer.new)) }
+    ensures all { IfOk result (λ r. length answers.new.items ≡ QUESTIONS) }
+    ensures broken { IfErr result (λ fault. BreaksMidway fault P.own_fault P.IsWhole prefix.now
+        (P.contents printer.old) (P.contents printer.new)) }
+    ensures few { (names : Names) → L.honest link.old names
+        → length (L.past link.new).sent + LOOKS ≤ length (L.past link.old).sent + QUESTIONS }
+    ensures served { (names : Names) → L.calm link.old names
+        → AreServed prefix.now answers.old.items (L.past link.old)
+        → IfOk result (λ r. AreServed prefix.now answers.new.items (L.past link.new)) }
+{
+    print_making(alloc, prefix, printer)?;
+    ask_on(alloc, prefix, link, EARLY_ANSWERS, answers)?;
+    print_lines(alloc, prefix, answers.as_slice(), &EARLY, printer)?;
+    ask_on(alloc, prefix, link, LATE_ANSWERS, answers)?;
+    print_lines(alloc, prefix, answers.as_slice(), &LATE, printer)?;
+    ask_on(alloc, prefix, link, QUESTIONS, answers)?;
+    print_rest(alloc, prefix, answers.as_slice(), printer)
+}
+
+/// Prints why nothing was made; that is refused.
+///
+/// # Errors
+///
+/// The fault of the printer.
+fn print_refusal<P: Printer>(text: &str, printer: &mut P) -> Result<bool, CommandFault>
+    ensures text { IfOk result (λ r. (r ≡ true)
+        × Appends (P.contents printer.old) (P.contents printer.new) text.now) }
+    ensures broken { IfErr result (λ fault. Fails fault P.own_fault P.IsWhole
+        (P.contents printer.old) (P.contents printer.new)) }
+{
+    printer.print(text.as_bytes())?;
+    Ok(true)
+}
+
+/// Prints which keys are to be made.
+///
+/// # Errors
+///
+/// `NoMemory`, and the fault of the printer.
+fn print_making<P: Printer>(
+    alloc: Global,
+    prefix: &str,
+    printer: &mut P,
+) -> Result<(), CommandFault>
+    ensures text { OnOk result (Appends (P.contents printer.old) (P.contents printer.new)
+        (making_text prefix.now)) }
+    ensures broken { IfErr result (λ fault. Fails fault P.own_fault P.IsWhole
+        (P.contents printer.old) (P.contents printer.new)) }
+{
+    let text = making_text(alloc, prefix)?;
+    printer.print(text.as_str().as_bytes())?;
+    Ok(())
+}
+
+/// Prints the lines of these premises, by the answers that have come.
+///
+/// # Errors
+///
+/// `NoMemory`, and the fault of the printer.
+fn print_lines<P: Printer>(
+    alloc: Global,
+    prefix: &str,
+    answers: &[Answer],
+    premises: &[Premise],
+    printer: &mut P,
+) -> Result<(), CommandFault>
+    ensures text { OnOk result (Appends (P.contents printer.old) (P.contents printer.new)
+        (flat_map (line_by prefix.now answers.now) premises.now)) }
+    ensures broken { IfErr result (λ fault. Fails fault P.own_fault P.IsWhole
+        (P.contents printer.old) (P.contents printer.new)) }
+{
+    let findings = findings(alloc, prefix, answers)?;
+    let text = lines_of(alloc, &findings, premises)?;
+    printer.print(text.as_str().as_bytes())?;
+    Ok(())
+}
+
+/// Prints what is told of all the answers after the lines before, and says whether a premise is not
+/// seen to be kept.
+///
+/// # Errors
+///
+/// `NoMemory`, and the fault of the printer.
+fn print_rest<P: Printer>(
+    alloc: Global,
+    prefix: &str,
+    answers: &[Answer],
+    printer: &mut P,
+) -> Result<bool, CommandFault>
+    ensures text { IfOk result (λ r. TellsEnd rest_text prefix.now answers.now r
+        (P.contents printer.old) (P.contents printer.new)) }
+    ensures broken { IfErr result (λ fault. Fails fault P.own_fault P.IsWhole
+        (P.contents printer.old) (P.contents printer.new)) }
+{
+    let findings = findings(alloc, prefix, answers)?;
+    let text = rest_of_report(alloc, &findings)?;
+    printer.print(text.as_str().as_bytes())?;
+    Ok(!are_all_kept(&findings))
+}

@@ -1,0 +1,251 @@
+//! What is printed of a probe.
+ghost use Rattle.std.specs.Prelude.{◌≡◌, ◌++◌, codes, flat_map, IfOk, OnOk, string_bytes};
+ghost use Rattle.std.specs.List.{list_all, list_any};
+ghost use Rattle.std.specs.Fmt.{decimal};
+ghost use Rattle.kmip_probe_command.specs.Wording.{
+  are_all_kept,
+  ending_text,
+  finding_of,
+  finding_text,
+  flaw_text,
+  is_broken,
+  is_kept,
+  is_unsafe,
+  listed,
+  premise_line,
+  rest_text,
+  risk_line,
+  sum_text,
+};
+
+use crate::premise::{PREMISES, Premise, finding_of};
+use kmip_probe::{Finding, Findings, Flaw};
+use kmip_ttlv::{NoMemory, plain_text};
+use std::alloc::Global;
+
+/// How a premise is broken, in words.
+///
+/// # Errors
+/// Where there is no memory.
+fn flaw_text(alloc: Global, flaw: &Flaw) -> Result<String, NoMemory>
+    ensures { IfOk result (λ text. string_bytes text ≡ flaw_text flaw.now) }
+{
+    let text = match flaw {
+        Flaw::SecondObject(uid) => {
+            let uid = plain_text(alloc, uid.as_str())?;
+            format!(in alloc; "a second object {uid} was made")?
+        }
+        Flaw::StepTwice(step) => format!(in alloc; "{} succeeded twice", step.word())?,
+        Flaw::ActiveDestroyed => format!(in alloc; "its Destroy succeeded")?,
+        Flaw::NotFound => format!(in alloc; "mask 5 does not find it")?,
+        Flaw::Missing(attribute) => format!(in alloc; "{} is missing", attribute.name())?,
+        Flaw::Different(attribute) => format!(in alloc; "{} is another", attribute.name())?,
+        Flaw::Refused => format!(in alloc; "it is refused")?,
+        Flaw::NoId => format!(in alloc; "a reply has none, or another")?,
+    };
+    Ok(text)
+}
+
+/// What is found of a premise, in words.
+///
+/// # Errors
+/// Where there is no memory.
+fn finding_text(alloc: Global, finding: &Finding) -> Result<String, NoMemory>
+    ensures { IfOk result (λ text. string_bytes text ≡ finding_text finding.now) }
+{
+    let text = match finding {
+        Finding::Kept => format!(in alloc; "yes")?,
+        Finding::Broken(flaw) => {
+            let flaw = flaw_text(alloc, flaw)?;
+            format!(in alloc; "no ({flaw})")?
+        }
+        Finding::Untold => format!(in alloc; "could not be told")?,
+    };
+    Ok(text)
+}
+
+/// The line of a premise.
+///
+/// # Errors
+/// Where there is no memory.
+fn premise_line(alloc: Global, findings: &Findings, premise: Premise) -> Result<String, NoMemory>
+    ensures { IfOk result (λ text. string_bytes text ≡ premise_line findings.now premise) }
+{
+    let found = finding_text(alloc, finding_of(findings, premise))?;
+    let line = format!(in alloc; "{}: {found}\n", premise.text())?;
+    Ok(line)
+}
+
+/// Whether a premise is seen to be kept.
+fn is_kept(finding: &Finding) -> bool
+    ensures { result ≡ is_kept finding.now }
+{
+    matches!(finding, Finding::Kept)
+}
+
+/// Whether it is seen to be broken.
+fn is_broken(finding: &Finding) -> bool
+    ensures { result ≡ is_broken finding.now }
+{
+    matches!(finding, Finding::Broken(_))
+}
+
+/// Whether every premise is kept.
+pub(crate) fn are_all_kept(findings: &Findings) -> bool
+    ensures { result ≡ are_all_kept findings.now }
+{
+    PREMISES
+        .iter()
+        .all(|premise| is_kept(finding_of(findings, *premise)))
+}
+
+/// Whether a premise is broken.
+fn has_broken(findings: &Findings) -> bool
+    ensures { result ≡ list_any (λ p. is_broken (finding_of findings.now p)) PREMISES }
+{
+    PREMISES
+        .iter()
+        .any(|premise| is_broken(finding_of(findings, *premise)))
+}
+
+/// Whether a premise is broken without which a key may be made twice or destroyed too early.
+fn is_any_unsafe(findings: &Findings) -> bool
+    ensures { result ≡ list_any (is_unsafe findings.now) PREMISES }
+{
+    PREMISES.iter().any(|premise| is_unsafe(findings, *premise))
+}
+
+/// Whether the premise is broken, and is one without which a key may be made twice or destroyed too
+/// early.
+fn is_unsafe(findings: &Findings, premise: Premise) -> bool
+    ensures { result ≡ is_unsafe findings.now premise }
+{
+    !premise.is_for_progress() && is_broken(finding_of(findings, premise))
+}
+
+/// The line that sums up.
+fn sum_text(findings: &Findings) -> &'static str
+    ensures { result.now ≡ sum_text findings.now }
+{
+    if are_all_kept(findings) {
+        return "the promise holds here: each key is made once, and its steps are made once and in order\n";
+    }
+    if is_any_unsafe(findings) {
+        return "the promise does not hold here\n";
+    }
+    if has_broken(findings) {
+        return "no key is made twice or destroyed too early here, but keys may stay unfinished\n";
+    }
+    "not all could be told: see the reasons, or probe again with another prefix\n"
+}
+
+/// What may go wrong by a premise: a line where it is broken.
+fn risk_line(findings: &Findings, premise: Premise) -> &'static str
+    ensures { result.now ≡ risk_line findings.now premise }
+{
+    if is_broken(finding_of(findings, premise)) {
+        return premise.risk();
+    }
+    ""
+}
+
+/// The reasons, as they are listed.
+///
+/// # Errors
+/// Where there is no memory.
+fn listed(alloc: Global, reasons: &[u32]) -> Result<String, NoMemory>
+    ensures { IfOk result (λ text. string_bytes text ≡ listed reasons.now) }
+{
+    let Some((first, rest)) = reasons.split_first() else {
+        return Ok(format!(in alloc; "none")?);
+    };
+    let mut text = format!(in alloc; "{first}")?;
+    push_rest(alloc, rest, &mut text)?;
+    Ok(text)
+}
+
+/// Appends the reasons after the first.
+///
+/// # Errors
+/// Where there is no memory.
+fn push_rest(alloc: Global, reasons: &[u32], text: &mut String) -> Result<(), NoMemory>
+    ensures { OnOk result (string_bytes text.new ≡ string_bytes text.old
+        ++ flat_map (λ n. codes ", " ++ decimal n) reasons.now) }
+{
+    for reason in reasons {
+        let more = format!(in alloc; ", {reason}")?;
+        text.push_str(more.as_str())?;
+    }
+    Ok(())
+}
+
+/// What is printed of what a probe found after the lines that are told before it ends: the line of the
+/// last premise, the reasons, what may go wrong, and the sum.
+///
+/// # Errors
+/// Where there is no memory.
+pub(crate) fn rest_of_report(alloc: Global, findings: &Findings) -> Result<String, NoMemory>
+    ensures { IfOk result (λ text. string_bytes text ≡ rest_text findings.now) }
+{
+    let mut text = premise_line(alloc, findings, Premise::IdsAreEchoed)?;
+    let end = ending_text(alloc, findings)?;
+    text.push_str(end.as_str())?;
+    Ok(text)
+}
+
+/// What is printed after the lines of the premises.
+///
+/// # Errors
+/// Where there is no memory.
+fn ending_text(alloc: Global, findings: &Findings) -> Result<String, NoMemory>
+    ensures { IfOk result (λ text. string_bytes text ≡ ending_text findings.now) }
+{
+    let reasons = listed(alloc, findings.reasons.as_slice())?;
+    let mut text = format!(in alloc; "reasons seen: {reasons}\n")?;
+    let risks = risk_lines(alloc, findings)?;
+    text.push_str(risks.as_str())?;
+    text.push_str(sum_text(findings))?;
+    Ok(text)
+}
+
+/// The lines of some premises.
+///
+/// # Errors
+/// Where there is no memory.
+pub(crate) fn lines_of(
+    alloc: Global,
+    findings: &Findings,
+    premises: &[Premise],
+) -> Result<String, NoMemory>
+    ensures { IfOk result (λ text. string_bytes text
+        ≡ flat_map (premise_line findings.now) premises.now) }
+{
+    let mut text = String::new(alloc);
+    for premise in premises {
+        let line = premise_line(alloc, findings, *premise)?;
+        text.push_str(line.as_str())?;
+    }
+    Ok(text)
+}
+
+/// The lines of what may go wrong.
+///
+/// # Errors
+/// Where there is no memory.
+fn risk_lines(alloc: Global, findings: &Findings) -> Result<String, NoMemory>
+    ensures { IfOk result (λ text. string_bytes text
+        ≡ flat_map (risk_line findings.now) PREMISES) }
+{
+    let mut text = String::new(alloc);
+    for premise in premises() {
+        text.push_str(risk_line(findings, *premise))?;
+    }
+    Ok(text)
+}
+
+/// The premises, in the order in which they are told.
+fn premises() -> &'static [Premise]
+    ensures { result.now ≡ PREMISES }
+{
+    &PREMISES
+}

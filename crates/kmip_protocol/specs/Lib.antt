@@ -1,0 +1,45 @@
+-- What may happen between a client and its server, and what holds of it: the words in which the headline is
+-- said.
+
+-- the number and the name of each fault of a link, and how many failures there may be
+pub mod Faults
+-- all that was ever asked, answered and done, and the objects that are there
+pub mod Past
+-- what may happen next, whatever the network and the server do
+pub mod Moves
+-- what holds of the past for the keys of a plan at all times
+pub mod Sound
+-- what an exchange over an honest link does to the past
+pub mod Exchanges
+-- what a failed exchange is to whoever made it
+pub mod Losses
+-- what an exchange over a calm link does to the past
+pub mod Calm
+-- which exchanges go as they should, and what a link counts of the others
+pub mod Clean
+-- where the runs ended that were ended over a link
+pub mod Ending
+-- the headline: when a past is safe
+pub mod Safe
+-- the plan machine, and when a past is an image of it
+pub mod Machine
+-- the laws of all that may happen
+pub mod Laws
+-- private: the laws of the crates below that the laws here rest on
+pub mod Lawbook
+-- How near a client is to its end, by the questions that its keys still need.
+
+-- how many questions the keys still need over a calm link
+pub mod Needs
+-- when a client comes to its end over a calm link
+pub mod Ready
+-- what a client knows once its message has an answer, or none
+pub mod Turns
+-- the laws of clients over a calm link
+pub mod SettlingLaws
+-- how many questions may be left over a link that goes on losing
+pub mod Losing
+-- the laws of clients over such a link
+pub mod LosingLaws
+-- private: the laws of the crates below that the laws here rest on
+pub mod SettlingLawbook

@@ -1,3 +1,0 @@
-pub mod CourseLemmas
-pub mod LineLemmas
-pub mod StandingLemmas

@@ -1,8 +1,0 @@
--- What `run` writes, what its exchanges come to, and what stays safe.
-
--- what is written for a plan, a progress and the exchanges that were made
-pub mod RunText
--- what came of the exchanges, and what stays safe over an honest link
-pub mod Course
--- the line that says how far a run is
-pub mod StandingText

@@ -1,9 +1,0 @@
-pub mod WentLemmas
-pub mod SavedLemmas
-pub mod SightLemmas
-pub mod CarryLemmas
-pub mod EndingLemmas
-pub mod LosingLemmas
-pub mod WaitLemmas
-pub mod RefusalLemmas
-pub mod PatienceLemmas

@@ -1,0 +1,121 @@
+-- What is good stays so over an exchange.
+use Rattle.std.proofs.Common.{◌≡◌, ℕ, List, [], ◌∷◌, Option, Some, None, Result, IfSome, option_map, sym, subst, refl, ◌∙◌, arith}
+use Rattle.std.specs.List.{AllZip}
+use Rattle.kmip_objects.specs.Objects.{Object}
+use Rattle.kmip_plan.specs.Plans.{IsLawful}
+use Rattle.kmip_plan.specs.declared.key.Key.{Key}
+use Rattle.kmip_client.specs.Asking.{after_ask}
+use Rattle.kmip_client.specs.Clients.{ClientState}
+use Rattle.kmip_client.specs.Held.{Held}
+use Rattle.kmip_client.specs.Justified.{JustifiedMessage}
+use Rattle.kmip_client.specs.Shapes.{IsKept}
+use Rattle.kmip_client.specs.Truth.{TrueMessage}
+use Rattle.kmip_client.specs.declared.knowledge.Knowledge.{Knowledge}
+use Rattle.kmip_client.specs.declared.question.Question.{Question}
+use Rattle.kmip_protocol.specs.Exchanges.{AreGiven, Exchanged}
+use Rattle.kmip_protocol.specs.Past.{Names, Past, is_planned}
+use Rattle.kmip_protocol.specs.Sound.{Sound}
+use Rattle.kmip_protocol.specs.declared.link.LinkFault.{LinkFault}
+use Rattle.kmip_runs.specs.Driving.{IsGood, Keeps, WentOn}
+use Rattle.kmip_runs.specs.Lawbook.{Lawbook}
+use Rattle.kmip_protocol.specs.Losses.{or_loss}
+use Rattle.kmip_runs.proofs.KnownLemmas.{handed_over}
+
+-- ---- nothing is taken back
+
+kept_itself : (knowns : List Knowledge) → AllZip IsKept knowns knowns
+kept_itself [] = tt
+kept_itself (known ∷ knowns) = (record { identifier_kept = λ uid is. is; done_kept = omega arith }, kept_itself knowns)
+
+kept_then : (a b c : List Knowledge) → AllZip IsKept a b → AllZip IsKept b c → AllZip IsKept a c
+kept_then [] [] [] first second = tt
+kept_then [] [] (z ∷ c) first second = absurd second
+kept_then [] (y ∷ b) c first second = absurd first
+kept_then (x ∷ a) [] c first second = absurd first
+kept_then (x ∷ a) (y ∷ b) [] first second = absurd second
+kept_then (x ∷ a) (y ∷ b) (z ∷ c) first second = (
+  record {
+    identifier_kept = λ uid is. second.0.identifier_kept uid (first.0.identifier_kept uid is);
+    done_kept = omega (arith, first.0.done_kept, second.0.done_kept);
+  },
+  kept_then a b c first.1 second.1,
+)
+
+pub keeps_itself : (c : ClientState) → Keeps c c
+keeps_itself c = record { keys_stay = refl; batch_stays = refl; kept = kept_itself c.knowns }
+
+pub keeps_then : (a b c : ClientState) → Keeps a b → Keeps b c → Keeps a c
+keeps_then a b c first second =
+    record { keys_stay = second.keys_stay ∙ first.keys_stay; batch_stays = second.batch_stays ∙ first.batch_stays; kept = kept_then a.knowns b.knowns c.knowns first.kept second.kept }
+
+pub keeps_asked : (c next : ClientState) → next ≡ after_ask c → Keeps c next
+keeps_asked c next is = subst (λ n. Keeps c n) (sym is) (record { keys_stay = refl; batch_stays = refl; kept = kept_itself c.knowns })
+
+-- ---- what goes on
+
+pub went_nowhere : (l : Lawbook) (keys : List Key) (p : Past) → WentOn keys p p
+went_nowhere l keys p = record { onward = l.itself keys p.objects; mirrored = λ image. image }
+
+pub went_then : (l : Lawbook) (keys : List Key) (old between new : Past) → WentOn keys old between → WentOn keys between new → WentOn keys old new
+went_then l keys old between new first second = record {
+  onward = l.twice keys old.objects between.objects new.objects first.onward second.onward;
+  mirrored = λ image. second.mirrored (first.mirrored image);
+}
+
+-- what holds of the bytes that were handed over
+pub if_handed : {X : Type 0} (P : List ℕ → Type 0) (answer : Option X) (bytes : X → List ℕ) → IfSome (option_map bytes answer) P → IfSome answer (λ x. P (bytes x))
+if_handed P None bytes so = tt
+if_handed P (Some x) bytes so = so
+
+module _ {L : Type 0} (past : L → Past) (honest : L → Names → Type 0) where
+  -- what is good is good once the question is asked, and the question may be
+  pub good_asked : (c next : ClientState) (link : L) (asked : Option Question) (question : Question) → next ≡ after_ask c → asked ≡ Some question
+      → ((objects : List Object) → Held objects c.keys c.knowns → IfSome asked (λ q. JustifiedMessage c.keys objects q.bytes)) → IsGood past honest c link
+      → IsGood past honest next link × JustifiedMessage next.keys (past link).objects question.bytes
+  good_asked c next link asked question is some may good =
+      let objects = (past link).objects in
+      let just = subst (λ o. IfSome o (λ q. JustifiedMessage c.keys objects q.bytes)) some (may objects good.held) in
+      subst (λ n. IsGood past honest n link × JustifiedMessage n.keys objects question.bytes) (sym is)
+      (record { honest_for = good.honest_for; sound = good.sound; held = good.held }, just)
+
+  -- what an exchange leaves: all is sound still, and what was known is true still
+  pub record Left (c : ClientState) (old new : L) : Type 0 where
+    pub honest_for : honest new (is_planned c.keys)
+    pub sound : Sound c.keys (past new)
+    pub held : Held (past new).objects c.keys c.knowns
+    pub on : WentOn c.keys (past old) (past new)
+
+  pub left : (l : Lawbook) (c : ClientState) (old new : L) (sent : List ℕ) (answered : Result (Option (List ℕ)) LinkFault) → IsLawful c.keys
+      → IsGood past honest c old → JustifiedMessage c.keys (past old).objects sent
+      → ((names : Names) → honest old names → honest new names × Exchanged names (past old) sent answered (past new)) → Left c old new
+  left l c old new sent answered lawful good just goes =
+      let step = goes (is_planned c.keys) good.honest_for in
+      let kept = l.exchanges c.keys (past old) (past new) sent answered good.sound just step.1 in
+      record {
+        honest_for = step.0;
+        sound = kept.0;
+        held = l.known_for_good c.keys c.knowns (past old).objects (past new).objects lawful kept.1 good.held;
+        on = record {
+          onward = kept.1;
+          mirrored = λ image. l.images c.keys (past old) (past new) sent answered good.sound image just step.1;
+        };
+      }
+
+  -- what was handed over is true
+  pub told : (l : Lawbook) (keys : List Key) (old new : Past) (sent : List ℕ) (answered : Result (Option (List ℕ)) LinkFault) (answer : Option (List ℕ)) → Sound keys new
+      → or_loss answered ≡ Some answer → Exchanged (is_planned keys) old sent answered new → IfSome answer (TrueMessage keys new.objects)
+  told l keys old new sent answered None sound is done = tt
+  told l keys old new sent answered (Some given) sound is done =
+      let hands = handed_over (is_planned keys) old new sent answered (Some given) is done in
+      l.answers keys new given sound (subst (λ (p : Past). AreGiven p given) (sym hands.is) hands.given)
+
+  pub good_left : (c next : ClientState) (old new : L) → Left c old new → next.keys ≡ c.keys → Held (past new).objects next.keys next.knowns
+      → IsGood past honest next new × WentOn c.keys (past old) (past new)
+  good_left c next old new l keys held = (
+    record {
+      honest_for = subst (λ ks. honest new (is_planned ks)) (sym keys) l.honest_for;
+      sound = subst (λ ks. Sound ks (past new)) (sym keys) l.sound;
+      held = held;
+    },
+    l.on,
+  )

@@ -1,0 +1,101 @@
+-- Over a link that goes on losing each exchange is paid for: by one that is left no more, or by what a disturbed one costs.
+use Rattle.std.proofs.Common.{◌≡◌, ◌≤◌, ℕ, suc, ◌+◌, List, [], ◌∷◌, length, Option, Some, None, Result, Ok, Err, inl, inr, sym, ap, subst, refl, ◌∙◌, arith}
+use Rattle.std.proofs.lemmas.List.Elements.{All-head, All-tail}
+use Rattle.std.specs.List.{All}
+use Rattle.kmip_plan.specs.Chains.{bound}
+use Rattle.kmip_plan.specs.Plans.{IsLawful}
+use Rattle.kmip_client.specs.Asking.{requests_at}
+use Rattle.kmip_client.specs.Clients.{AreSettled, ClientState, WorksAt}
+use Rattle.kmip_plan.specs.declared.key.Key.{Key}
+use Rattle.kmip_client.specs.declared.knowledge.Knowledge.{Knowledge}
+use Rattle.kmip_client.specs.declared.question.Question.{Question}
+use Rattle.kmip_protocol.specs.Clean.{Counted, Disturbances, IsCounted}
+use Rattle.kmip_protocol.specs.Exchanges.{Exchanged, HandsOver}
+use Rattle.kmip_protocol.specs.Past.{Names, Past, is_planned}
+use Rattle.kmip_protocol.specs.declared.link.LinkFault.{LinkFault}
+use Rattle.kmip_protocol.specs.declared.link.LinkFault.TheVariants.{Io, Frame, NoMemory}
+use Rattle.kmip_protocol.specs.Losing.{left_all}
+use Rattle.kmip_protocol.specs.Needs.{need_all}
+use Rattle.kmip_protocol.specs.Turns.{known_then, taught}
+use Rattle.kmip_runs.specs.Driving.{AreFinished, IsGood, IsToBePut}
+use Rattle.kmip_runs.specs.Lawbook.{Lawbook}
+use Rattle.kmip_runs.specs.Losing.{ArePaid, cost, left_for}
+use Rattle.kmip_protocol.specs.Losses.{or_loss}
+use Rattle.kmip_runs.proofs.KnownLemmas.{handed_over}
+
+answer_is : (x y : Option (List ℕ)) → Some x ≡ Some y → x ≡ y
+answer_is x y is = cc
+
+-- what was counted, where memory did not run out
+counted : (names : Names) (old new : Past) (sent : List ℕ) (answered : Result (Option (List ℕ)) LinkFault) (answer : Option (List ℕ)) (d e : Disturbances)
+    → or_loss answered ≡ Some answer → Counted names old sent answered new d e → IsCounted names old sent answer new d e
+counted names old new sent (Ok own) answer d e is done = subst (λ a. IsCounted names old sent a new d e) (answer_is own answer is) done
+counted names old new sent (Err Io) answer d e is done = subst (λ a. IsCounted names old sent a new d e) (answer_is None answer is) done
+counted names old new sent (Err Frame) answer d e is done = subst (λ a. IsCounted names old sent a new d e) (answer_is None answer is) done
+counted names old new sent (Err NoMemory) answer d e is done = absurd cc
+
+-- a message has a request for each key that it asks about
+as_many_asked : (keys : List Key) (knowns : List Knowledge) (places : List ℕ) → All (WorksAt keys knowns) places → length (requests_at keys knowns places) ≡ length places
+as_many_asked keys knowns [] works = refl
+as_many_asked keys knowns (place ∷ places) works =
+    let first = All-head (WorksAt keys knowns) place places works in
+    rw (first.key_is, first.known_is) (ap suc (as_many_asked keys knowns places (All-tail (WorksAt keys knowns) place places works)))
+
+pub paid_none : (left : ℕ) (d : Disturbances) → ArePaid 0 left left d d
+paid_none left d = omega arith
+
+pub paid_then : (m n a b c : ℕ) (d e f : Disturbances) → ArePaid m a b d e → ArePaid n b c e f → ArePaid (m + n) a c d f
+paid_then m n a b c d e f first second = omega (arith, first, second)
+
+module _ {L : Type 0} (past : L → Past) (honest : L → Names → Type 0) (counts : L → Disturbances) where
+  pub paid_one : Lawbook → (c next : ClientState) (x y : L) (sent : List ℕ) (answered : Result (Option (List ℕ)) LinkFault) (question : Question)
+      (answer : Option (List ℕ)) → IsLawful c.keys → IsToBePut c question → sent ≡ question.bytes
+      → ((names : Names) → honest x names → honest y names × Exchanged names (past x) sent answered (past y))
+      → ((names : Names) → honest x names → Counted names (past x) sent answered (past y) (counts x) (counts y)) → or_loss answered ≡ Some answer
+      → IsGood past honest c x → next.keys ≡ c.keys → next ≡ taught question answer c
+      → ArePaid 1 (left_for c (past x)) (left_for next (past y)) (counts x) (counts y)
+  paid_one l c next x y sent answered question answer lawful put bytes goes counting is good keys learnt =
+      subst (λ ks. ArePaid 1 (left_for c (past x)) (left_all ks next.knowns (past y)) (counts x) (counts y)) (sym keys)
+      (subst (λ (s : ClientState). ArePaid 1 (left_for c (past x)) (left_all c.keys s.knowns (past y)) (counts x) (counts y)) (sym learnt)
+      (paid (subst (λ b. IsCounted names (past x) b answer (past y) (counts x) (counts y)) bytes
+      (counted names (past x) (past y) sent answered answer (counts x) (counts y) is (counting names good.honest_for)))))
+    where
+      names : Names
+      names = is_planned c.keys
+
+      hands : HandsOver names (past x) question.bytes answer (past y)
+      hands = subst (λ b. HandsOver names (past x) b answer (past y)) bytes
+          (handed_over names (past x) (past y) sent answered answer is (goes names good.honest_for).1)
+
+      paid : IsCounted names (past x) question.bytes answer (past y) (counts x) (counts y)
+          → ArePaid 1 (left_for c (past x)) (left_all c.keys (known_then c.keys question answer c.knowns) (past y)) (counts x) (counts y)
+      paid (inl (clean, same)) =
+          let nearer = l.clean c.keys (past x) (past y) c.knowns put.places question answer lawful good.sound good.held put.about clean in
+          let even = ap cost same in
+          omega (arith, nearer, even, put.about.some)
+      paid (inr (strange, enough, more)) =
+          let costs = l.disturbed c.keys (past x) (past y) c.knowns put.places question answer lawful good.sound good.held put.about hands in
+          let many = ap length put.about.asks ∙ as_many_asked c.keys c.knowns put.places put.about.works in
+          let all = ap cost more in
+          omega (arith, costs, enough, many, all)
+
+  -- where no more may be left all keys are finished
+  pub paid_off : Lawbook → (c : ClientState) (x : L) → IsGood past honest c x → left_for c (past x) ≡ 0 → AreFinished c.keys c.knowns
+  paid_off l c x good none =
+      let needs = l.needs_left c.keys (past x) c.knowns in
+      let nothing : need_all c.keys c.knowns (past x).objects ≡ 0 = omega (arith, needs, none) in
+      l.needless c.keys (past x).objects c.knowns good.held nothing
+
+  -- so it is after as many exchanges as a plan may take, and what the disturbed ones cost
+  pub paid_limit : Lawbook → (c now : ClientState) (x y : L) (limit : ℕ) → IsLawful c.keys → IsGood past honest c x → IsGood past honest now y
+      → ArePaid limit (left_for c (past x)) (left_for now (past y)) (counts x) (counts y)
+      → bound c.keys + length c.keys + cost (counts y) ≤ limit + cost (counts x) → AreFinished now.keys now.knowns
+  paid_limit l c now x y limit lawful good still paid enough =
+      let most = l.left_bounded c.keys (past x) c.knowns lawful good.sound good.held in
+      let none : left_for now (past y) ≡ 0 = omega (arith, paid, enough, most) in
+      paid_off l now y still none
+
+  -- and where no key is worked on
+  pub paid_end : Lawbook → (c : ClientState) (x : L) → IsGood past honest c x → AreSettled c.keys c.knowns → AreFinished c.keys c.knowns
+  paid_end l c x good settled =
+      l.needless c.keys (past x).objects c.knowns good.held (l.needed c.keys (past x).objects c.knowns good.held settled)

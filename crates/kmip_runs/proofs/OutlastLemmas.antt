@@ -1,0 +1,56 @@
+-- Runs in turn over a link that goes on losing.
+use Rattle.std.proofs.Common.{◌≡◌, ◌≢◌, ℕ, suc, List, [], ◌∷◌, ◌++◌, take, slice_get, Some, sym, subst, refl, ◌∙◌}
+use Rattle.std.specs.List.{All}
+use Rattle.kmip_plan.specs.declared.key.Key.{Key}
+use Rattle.kmip_progress.specs.declared.known.Known.{Known}
+use Rattle.kmip_client.specs.Clients.{ClientState}
+use Rattle.kmip_client.specs.Held.{Held, TrueProgress}
+use Rattle.kmip_protocol.specs.Clean.{Disturbances}
+use Rattle.kmip_protocol.specs.Past.{Names, Past}
+use Rattle.kmip_runs.specs.CampaignParts.{IsNoted, Standing}
+use Rattle.kmip_runs.specs.Driving.{IsGood}
+use Rattle.kmip_runs.specs.Losing.{AllOutlast, HasOutlasted, IsEnough, Outlasts}
+use Rattle.kmip_runs.specs.declared.campaigning.Run.{Run}
+use Rattle.kmip_runs.specs.declared.campaigning.RunEnd.{RunEnd}
+use Rattle.kmip_runs.specs.declared.stop.Stop.{Stop}
+use Rattle.kmip_runs.specs.declared.stop.Stop.TheVariants as stops
+use Rattle.kmip_runs.proofs.CampaignLemmas.{good_with}
+use Rattle.kmip_runs.proofs.OrderLemmas.{one_further}
+
+-- one more run behind all others
+outlast_push : (keys : List Key) (runs : List Run) (ends : List RunEnd) (run : Run) (end : RunEnd) (d e f : Disturbances) → AllOutlast keys runs ends d e
+    → Outlasts keys run end e f → AllOutlast keys (runs ++ run ∷ []) (ends ++ end ∷ []) d f
+outlast_push keys [] [] run end d e f is one = (f, subst (λ x. Outlasts keys run end x f) is one, refl)
+outlast_push keys [] (other ∷ ends) run end d e f is one = absurd is
+outlast_push keys (other ∷ runs) [] run end d e f is one = absurd is
+outlast_push keys (other ∷ runs) (first ∷ ends) run end d e f is one = (is.0, is.1, outlast_push keys runs ends run end is.0 e f is.2 one)
+
+pub outlast_none : (keys : List Key) (runs : List Run) (ends : List RunEnd) (d e : Disturbances) → ends ≡ [] → e ≡ d → AllOutlast keys (take 0 runs) ends d e
+outlast_none keys [] ends d e none same = rw none same
+outlast_none keys (run ∷ runs) ends d e none same = rw none same
+
+pub outlast_more : (keys : List Key) (runs : List Run) (at : ℕ) (run : Run) (ends nexts : List RunEnd) (d e f : Disturbances) → slice_get runs at ≡ Some run
+    → AllOutlast keys (take at runs) ends d e → HasOutlasted keys run ends nexts e f → AllOutlast keys (take (suc at) runs) nexts d f
+outlast_more keys runs at run ends nexts d e f is all one =
+    subst (λ front. AllOutlast keys front nexts d f) (sym (one_further runs at run is))
+    (subst (λ es. AllOutlast keys (take at runs ++ run ∷ []) es d f) (sym one.joined) (outlast_push keys (take at runs) ends run one.end d e f all one.outlasts))
+
+module _ {L : Type 0} (past : L → Past) (honest : L → Names → Type 0) (counts : L → Disturbances) (keys : List Key) where
+  -- begun, driven, noted and closed
+  pub outlasted_run : (run : Run) (a b c : ClientState) (x y z : L) (driven : Stop × ℕ) (ends nexts : List RunEnd) (saved : List (List Known))
+      → a.keys ≡ keys → b.keys ≡ keys → c.keys ≡ keys
+      → (All (TrueProgress (past x).objects keys) saved → Held (past x).objects a.keys a.knowns → Held (past x).objects b.keys b.knowns)
+      → (IsGood past honest b x → driven.0 ≢ stops.NoMemory → IsEnough b.keys run.limit (counts x) (counts y) → driven.0 ≡ stops.AllFinished)
+      → driven.0 ≢ stops.NoMemory → IsNoted c.keys run c.knowns driven ends nexts → (counts z ≡ counts y)
+      → Standing past honest keys a x ends saved → HasOutlasted keys run ends nexts (counts x) (counts z)
+  outlasted_run run a b c x y z driven ends nexts saved a_keys b_keys c_keys begun outlasts memory noted same standing =
+      let held = begun standing.noted.true_saved standing.good.held in
+      let good = good_with past honest a b x (b_keys ∙ sym a_keys) standing.good held in
+      record {
+        end = noted.end;
+        joined = noted.joined;
+        outlasts = λ enough.
+            noted.stop_is
+            ∙ outlasts good memory
+            (subst (λ ks. IsEnough ks run.limit (counts x) (counts y)) (sym b_keys) (subst (λ d. IsEnough keys run.limit (counts x) d) same enough));
+      }

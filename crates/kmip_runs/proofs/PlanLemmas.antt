@@ -1,0 +1,444 @@
+-- What holds between the runs on two plans.
+use Rattle.std.proofs.Common.{◌≡◌, ◌≢◌, ◌≤◌, ◌<◌, ◌⊎◌, ℕ, zero, suc, List, [], ◌∷◌, ◌++◌, ◌+◌, drop, flat_map, length, map, take, slice_get, get_or, is_some, true, Some, None, Ok, Err, Option, option_map, IfOk, IfSome, IsTrue, Result, refl, sym, ap, subst, ◌∙◌, inl, inr, append-nil, arith}
+use Rattle.std.specs.Prelude.{⊤}
+use Rattle.std.specs.List.{All, AllZip}
+use Rattle.std.proofs.Math.Dec.{ltb}
+use Rattle.std.proofs.lemmas.Bool.{cases_Bool, ltb-false, ltb-true}
+use Rattle.std.proofs.lemmas.Option.{slice_get_past, slice_get_read}
+use Rattle.std.proofs.lemmas.List.{length-append, map-append}
+use Rattle.std.proofs.lemmas.List.Elements.{All-append, All-map, All-nil, All-weaker}
+use Rattle.std.proofs.lemmas.Slice.Zip.{AllZip-long}
+use Rattle.kmip_plan.specs.Plans.{IsLawful}
+use Rattle.kmip_plan.specs.Prolonging.{Prolongs}
+use Rattle.kmip_plan.specs.declared.key.Key.{Key}
+use Rattle.kmip_progress.specs.Laws.{TextsAreProlonged}
+use Rattle.kmip_progress.specs.Reading.{read_text}
+use Rattle.kmip_progress.specs.Suiting.{Suits, are_texts, known_fits, nothing_known}
+use Rattle.kmip_progress.specs.Texts.{progress_text}
+use Rattle.kmip_progress.specs.declared.fault.ProgressFault.{ProgressFault}
+use Rattle.kmip_progress.specs.declared.known.Known.{Known}
+use Rattle.kmip_client.specs.Held.{TrueProgress}
+use Rattle.kmip_client.specs.Saving.{known_of}
+use Rattle.kmip_client.specs.declared.knowledge.Knowledge.{Knowledge}
+use Rattle.kmip_protocol.specs.Past.{AreAmong, Names, Past, is_planned}
+use Rattle.kmip_protocol.specs.Sound.{Sound}
+use Rattle.kmip_runs.specs.Campaign.{CalmLink, GoodLink}
+use Rattle.kmip_runs.specs.CampaignParts.{AreSame, CampaignLaws, HasRunAll}
+use Rattle.kmip_runs.specs.Campaigns.{AreInTurn, AreParts, AreProlonged, CalmStart, GoodStart, IsPart, IsTrueFor, LastIsShort, Part, carried_over, first_plan, last_plan, part_ends, part_saved}
+use Rattle.kmip_runs.specs.CampaignsParts.{HasRunBroken, HasRunPart, HasRunPlans, HasRunWhole, IsGoodFor, IsReadFor, PlansLaws}
+use Rattle.kmip_runs.specs.Remembering.{AreKnownFrom, Shows, saved_after, saved_from}
+use Rattle.kmip_runs.specs.declared.campaigning.CampaignEnd.{CampaignEnd}
+use Rattle.kmip_runs.specs.declared.campaigning.Run.{Run}
+use Rattle.kmip_runs.specs.declared.campaigning.RunEnd.{RunEnd}
+use Rattle.kmip_runs.proofs.CampaignLemmas.{true_onward}
+use Rattle.kmip_runs.proofs.LastLemmas.{noted_for_both, noted_for_none, noted_for_onward, noted_over, true_over}
+use Rattle.kmip_runs.proofs.RememberLemmas.{flat_push}
+use Rattle.kmip_runs.proofs.RunLemmas.{known_if}
+use Rattle.kmip_runs.proofs.PartLemmas.{first_is, last_prolongs, last_short, next_prolongs, parts_all, parts_broken, parts_if, parts_long, parts_more, take_none}
+
+-- ---- what was saved, read for the next plan
+
+same_read : (a b : List Known) → ◌≡◌ {A = Result (List Known) ProgressFault} (Ok a) (Ok b) → a ≡ b
+same_read a b is = cc
+
+pub read_is : TextsAreProlonged → (new old : List Key) (saved read : List Known) (text given : List ℕ) → IsLawful old → Prolongs new old → Suits old saved
+    → IsTrue (are_texts saved) → text ≡ progress_text old saved → given ≡ text → read_text new given ≡ Ok read → read ≡ carried_over new saved
+read_is prolonged new old saved read text given lawful prolongs suits texts is same reads =
+    same_read read (saved ++ map (λ key. nothing_known) (drop (length old) new))
+    (sym reads ∙ ap (λ t. read_text new t) (same ∙ is) ∙ prolonged new old saved lawful prolongs suits texts)
+    ∙ ap (λ n. saved ++ map (λ key. nothing_known) (drop n new)) (sym (AllZip-long (λ key known. known_fits key known ≡ true) old saved suits))
+
+-- ---- no more is noted than there was room made for
+
+take_few : {A : Type 0} (n : ℕ) (xs : List A) → length (take n xs) ≤ length xs
+take_few zero [] = omega arith
+take_few zero (x ∷ xs) = omega arith
+take_few (suc n) [] = omega arith
+take_few (suc n) (x ∷ xs) = omega (arith, take_few n xs)
+
+pub few_ends : {A B : Type 0} (R : A → B → Type 0) (xs : List A) (ys : List B) → AllZip R (take (length ys) xs) ys → length ys ≤ length xs
+few_ends R xs ys zipped = omega (arith, AllZip-long R (take (length ys) xs) ys zipped, take_few (length ys) xs)
+
+one_saved : (run : Run) (knowns : List Knowledge) (saved : List (List Known)) → length (saved_after run knowns saved) ≤ length saved + 1
+one_saved run knowns saved = elim (cases_Bool run.save) [
+  | inl save ↦ rw save (omega (arith, length-append saved (map known_of knowns ∷ [])))
+  | inr none ↦ rw none (omega arith)
+]
+
+saves_few : (saved : List (List Known)) (runs : List Run) (known : List (List Knowledge)) → length (saved_from saved runs known) ≤ length saved + length known
+saves_few saved [] known = omega arith
+saves_few saved (run ∷ runs) [] = omega arith
+saves_few saved (run ∷ runs) (knowns ∷ known) =
+    omega (arith, saves_few (saved_after run knowns saved) runs known, one_saved run knowns saved)
+
+pub few_saved : (keys : List Key) (carried : List (List Known)) (runs : List Run) (ends : List RunEnd) (saved : List (List Known)) (honest whole : Type 0) (old new : Past)
+    → AreKnownFrom keys carried runs ends saved honest whole old new → length ends ≤ length runs → length saved ≤ length runs
+few_saved keys carried runs ends saved honest whole old new is few =
+    let as_many = AllZip-long (Shows keys) is.known ends is.shown in
+    let most = saves_few carried runs is.known in
+    omega (arith, as_many, most, few, ap length is.saved_are, length-append carried saved)
+
+-- ---- the runs of one plan
+
+pub known_for : (keys : List Key) (carried : List (List Known)) (runs : List Run) (ends : List RunEnd) (saved : List (List Known)) (honest other whole : Type 0) (old new : Past)
+    → (other → honest) → AreKnownFrom keys carried runs ends saved honest whole old new → AreKnownFrom keys carried runs ends saved other whole old new
+known_for keys carried runs ends saved honest other whole old new to is = record {
+  known = is.known;
+  shown = is.shown;
+  kept = is.kept;
+  saved_are = is.saved_are;
+  until = is.until;
+  heard = λ holds. is.heard (to holds);
+  grown = λ holds. is.grown (to holds);
+  few_more = λ holds. is.few_more (to holds);
+  no_more = is.no_more;
+}
+
+pub if_ok_more : {A E : Type 0} (P Q : A → Type 0) (r : Result A E) → ((a : A) → P a → Q a) → IfOk r P → IfOk r Q
+if_ok_more P Q (Ok a) to holds = to a holds
+if_ok_more P Q (Err e) to holds = tt
+
+pub read_for : (next : Option (List Key)) (carried saved given read : List (List Known)) → given ≡ saved → IsReadFor next (carried ++ given) read
+    → IsReadFor next (carried ++ saved) read
+read_for next carried saved given read same is = subst (λ s. IsReadFor next (carried ++ s) read) same is
+
+-- ---- what was carried over twice
+
+drop_none : {A : Type 0} (xs : List A) → drop 0 xs ≡ xs
+drop_none [] = refl
+drop_none (x ∷ xs) = refl
+
+over_nothing : (keys next : List Key) → length keys ≤ length next → carried_over next (map (λ key. nothing_known) keys) ≡ map (λ key. nothing_known) next
+over_nothing [] next few = ap (λ ks. map (λ key. nothing_known) ks) (drop_none next)
+over_nothing (key ∷ keys) [] few = absurd (omega (arith, few))
+over_nothing (key ∷ keys) (n ∷ next) few = ap (λ rest. nothing_known ∷ rest) (over_nothing keys next (omega (arith, few)))
+
+over_twice : (keys next : List Key) (saved : List Known) → length keys ≤ length next → carried_over next (carried_over keys saved) ≡ carried_over next saved
+over_twice keys next [] few =
+    ap (λ ks. carried_over next (map (λ key. nothing_known) ks)) (drop_none keys) ∙ over_nothing keys next few
+    ∙ sym (ap (λ ks. map (λ key. nothing_known) ks) (drop_none next))
+over_twice [] next (known ∷ saved) few = ap (λ s. carried_over next s) (append-nil (known ∷ saved))
+over_twice (key ∷ keys) [] (known ∷ saved) few = absurd (omega (arith, few))
+over_twice (key ∷ keys) (n ∷ next) (known ∷ saved) few = ap (λ rest. known ∷ rest) (over_twice keys next saved (omega (arith, few)))
+
+over_all : (keys next : List Key) (saved : List (List Known)) → length keys ≤ length next → map (carried_over next) (map (carried_over keys) saved) ≡ map (carried_over next) saved
+over_all keys next [] few = refl
+over_all keys next (one ∷ saved) few = ap (λ o. o ∷ map (carried_over next) (map (carried_over keys) saved)) (over_twice keys next one few)
+    ∙ ap (λ rest. carried_over next one ∷ rest) (over_all keys next saved few)
+
+-- what was carried over to a plan, and what was saved under it, carried over to the next
+over_both : (keys next : List Key) (old more new carried : List (List Known)) → length keys ≤ length next → carried ≡ map (carried_over keys) old → new ≡ old ++ more
+    → map (carried_over next) (carried ++ more) ≡ map (carried_over next) new
+over_both keys next old more new carried few is joined =
+    map-append (carried_over next) carried more ∙ ap (λ front. front ++ map (carried_over next) more) (ap (map (carried_over next)) is ∙ over_all keys next old few)
+    ∙ sym (map-append (carried_over next) old more) ∙ ap (map (carried_over next)) (sym joined)
+
+if_some : {A : Type 0} (P : A → Type 0) (o : Option A) (a : A) → o ≡ Some a → IfSome o P → P a
+if_some P o a is holds = subst (λ option. IfSome option P) is holds
+
+-- ---- places that there are
+
+some_none : {A X : Type 0} (a : A) → Some a ≡ None → X
+some_none a is = absurd cc
+
+there_is : {A : Type 0} (xs : List A) (place : ℕ) → slice_get xs place ≢ None → place < length xs
+there_is [] place some = absurd (some refl)
+there_is (x ∷ xs) zero some = omega arith
+there_is (x ∷ xs) (suc place) some = let below = there_is xs place some in omega (arith, below)
+
+take_long : {A : Type 0} (xs : List A) (place : ℕ) (x : A) → slice_get xs place ≡ Some x → length (take place xs) ≡ place
+take_long [] place x is = absurd cc
+take_long (y ∷ xs) zero x is = refl
+take_long (y ∷ xs) (suc place) x is = ap (λ n. suc n) (take_long xs place x is)
+
+-- all that stands before the runs on the plan at a place
+module _ {L : Type 0} (past : L → Past) (honest calm : L → Names → Type 0) (plans : List (List Key)) (runs : List (List Run)) where
+  pub record Reached (start link : L) (place : ℕ) (ends : List RunEnd) (saved carried : List (List Known)) : Type 0 where
+    pub good : IsGoodFor past honest (last_plan plans) start link ends saved
+    pub sound : (keys : List Key) → slice_get plans place ≡ Some keys → IsLawful keys → Sound keys (past link)
+    pub carried_true : (keys : List Key) → slice_get plans place ≡ Some keys → All (TrueProgress (past link).objects keys) carried
+
+  pub record Turning (start link : L) (place : ℕ) (end : CampaignEnd) (carried : List (List Known)) : Type 0 where
+    pub parts : List Part
+    pub ends_are : end.runs.items ≡ flat_map part_ends parts
+    pub saved_are : end.saved.items ≡ flat_map part_saved parts
+    pub each : AreParts (take place plans) (take place runs) [] parts (honest start (is_planned (last_plan plans))) (CalmStart past calm plans start) ⊤ (past start) (past link)
+    pub carried_are : (keys : List Key) → slice_get plans place ≡ Some keys → (carried ≡ map (carried_over keys) end.saved.items) × All (Suits keys) carried
+    pub honest_still : (names : Names) → honest start names → honest link names
+    pub stands : GoodStart past honest plans start → Reached start link place end.runs.items end.saved.items carried
+    pub calmly : CalmStart past calm plans start → CalmLink past calm (last_plan plans) link
+
+  -- before the first plan
+  pub turning_none : CampaignLaws → PlansLaws → (x : L) (end : CampaignEnd) (last : List Key) (carried : List (List Known)) → end.runs.items ≡ [] → end.saved.items ≡ [] → carried ≡ []
+      → AreProlonged plans → IsLawful (last_plan plans) → IsLawful (first_plan plans) → slice_get plans 0 ≡ Some (first_plan plans) → Turning x x 0 end carried
+  turning_none r l x end last carried no_end none_saved none prolonged lawful first_lawful is =
+      let prolongs = last_prolongs l plans 0 (first_plan plans) prolonged is in
+      record {
+        parts = [];
+        ends_are = no_end;
+        saved_are = none_saved;
+        each = (λ holds. take_none plans, refl);
+        carried_are = λ keys at. rw (none, none_saved) (refl, All-nil (Suits keys));
+        honest_still = λ names holds. holds;
+        stands = λ start. record {
+          good = record {
+            good = record { honest_for = start.honest_for; sound = l.sound (last_plan plans) (first_plan plans) (past x) first_lawful lawful prolongs start.none_further start.sound };
+            went = record { onward = r.itself (last_plan plans) (past x).objects; mirrored = λ image. image };
+            noted = noted_for_none (last_plan plans) (past x) end.runs.items end.saved.items no_end none_saved;
+          };
+          sound = λ keys at lawful_keys. subst (λ ks. Sound ks (past x)) (first_is plans keys at) start.sound;
+          carried_true = λ keys at. rw none (All-nil (TrueProgress (past x).objects keys));
+        };
+        calmly = λ start. record {
+          calm_for = start.calm_for;
+          sound = l.sound (last_plan plans) (first_plan plans) (past x) first_lawful lawful prolongs start.none_further start.sound;
+          roomy = start.roomy;
+        };
+      }
+
+  -- what the runs on the plan at a place leave, whole or broken off
+  pub record Turned (start link : L) (place : ℕ) (end : CampaignEnd) (whole : Type 0) : Type 0 where
+    pub parts : List Part
+    pub ends_are : end.runs.items ≡ flat_map part_ends parts
+    pub saved_are : end.saved.items ≡ flat_map part_saved parts
+    pub each : AreParts (take (suc place) plans) (take (suc place) runs) [] parts (honest start (is_planned (last_plan plans))) (CalmStart past calm plans start) whole (past start)
+        (past link)
+    pub good : GoodStart past honest plans start → IsGoodFor past honest (last_plan plans) start link end.runs.items end.saved.items
+
+  -- what is honest and calm for the names of the last plan is so for those of each
+  module _ (r : CampaignLaws) (l : PlansLaws) (prolonged : AreProlonged plans) (lawful : IsLawful (last_plan plans))
+      (calm_honest : (link : L) (names : Names) → calm link names → honest link names)
+      (fewer : (link : L) (names few : Names) → AreAmong few names → (honest link names → honest link few) × (calm link names → calm link few)) where
+    good_of : (start x : L) (place : ℕ) (end : CampaignEnd) (keys : List Key) (carried : List (List Known)) → slice_get plans place ≡ Some keys → IsLawful keys
+        → Turning start x place end carried → GoodStart past honest plans start → GoodLink past honest keys x
+    good_of start x place end keys carried is lawful_keys before begun =
+        let names = l.names (last_plan plans) keys lawful (last_prolongs l plans place keys prolonged is) in
+        record {
+          honest_for = (fewer x (is_planned (last_plan plans)) (is_planned keys) names).0 (before.honest_still (is_planned (last_plan plans)) begun.honest_for);
+          sound = (before.stands begun).sound keys is lawful_keys;
+        }
+
+    begun_of : (start : L) → CalmStart past calm plans start → GoodStart past honest plans start
+    begun_of start begun =
+        record { honest_for = calm_honest start (is_planned (last_plan plans)) begun.calm_for; sound = begun.sound; none_further = begun.none_further }
+
+    calm_of : (start x : L) (place : ℕ) (end : CampaignEnd) (keys : List Key) (carried : List (List Known)) → slice_get plans place ≡ Some keys → IsLawful keys
+        → Turning start x place end carried → CalmStart past calm plans start → CalmLink past calm keys x
+    calm_of start x place end keys carried is lawful_keys before begun =
+        let prolongs = last_prolongs l plans place keys prolonged is in
+        let names = l.names (last_plan plans) keys lawful prolongs in
+        let far = before.calmly begun in
+        record {
+          calm_for = (fewer x (is_planned (last_plan plans)) (is_planned keys) names).1 far.calm_for;
+          sound = (before.stands (begun_of start begun)).sound keys is lawful_keys;
+          roomy = let less = l.miss (last_plan plans) keys (past x).objects prolongs in omega (arith, far.roomy, less);
+        }
+
+    part_of : (start x y : L) (place : ℕ) (keys : List Key) (list : List Run) (old : CampaignEnd) (carried : List (List Known)) (whole : Type 0) → IsLawful keys
+        → slice_get plans place ≡ Some keys → (before : Turning start x place old carried) (part : CampaignEnd) → HasRunAll past honest calm keys carried list part x y
+        → (whole → part.fault ≡ None)
+        → IsPart keys (map (carried_over keys) ([] ++ flat_map part_saved before.parts)) list (record { ends = part.runs.items; saved = part.saved.items })
+        (honest start (is_planned (last_plan plans))) (CalmStart past calm plans start) whole (past x) (past y)
+    part_of start x y place keys list old carried whole lawful_keys is before part all to =
+        let names = l.names (last_plan plans) keys lawful (last_prolongs l plans place keys prolonged is) in
+        let carried_is : carried ≡ map (carried_over keys) (flat_map part_saved before.parts) = (before.carried_are keys is).0 ∙ ap (map (carried_over keys)) before.saved_are in
+        record {
+          order = all.order;
+          complete = λ holds. all.complete (to holds);
+          known = subst (λ cs. AreKnownFrom keys cs list part.runs.items part.saved.items (honest start (is_planned (last_plan plans))) whole (past x) (past y)) carried_is
+              (known_for keys carried list part.runs.items part.saved.items (honest x (is_planned keys)) (honest start (is_planned (last_plan plans))) whole (past x) (past y)
+              (λ holds. (fewer x (is_planned (last_plan plans)) (is_planned keys) names).0 (before.honest_still (is_planned (last_plan plans)) holds))
+              (known_if keys carried list part.runs.items part.saved.items (honest x (is_planned keys)) (part.fault ≡ None) whole (past x) (past y) to all.known));
+          settles = λ begun holds.
+              (all.settles (calm_of start x place old keys carried is lawful_keys before begun)
+              ((before.stands (begun_of start begun)).carried_true keys is) (to holds)).0;
+        }
+
+    -- the runs on the plan at a place were made
+    turned : (start x y : L) (place : ℕ) (keys : List Key) (list : List Run) (old new : CampaignEnd) (carried : List (List Known)) (whole : Type 0) → IsLawful keys
+        → slice_get plans place ≡ Some keys → slice_get runs place ≡ Some list → Turning start x place old carried
+        → (ran : HasRunPart past honest calm keys carried list x y old new) → (whole → ran.part.fault ≡ None) → Turned start y place new whole
+    turned start x y place keys list old new carried whole lawful_keys is so before ran to =
+        let part : Part = record { ends = ran.part.runs.items; saved = ran.part.saved.items } in
+        let prolongs = last_prolongs l plans place keys prolonged is in
+        record {
+          parts = before.parts ++ part ∷ [];
+          ends_are = ran.runs_are ∙ ap (λ ends. ends ++ ran.part.runs.items) before.ends_are ∙ flat_push part_ends before.parts part;
+          saved_are = ran.saved_are ∙ ap (λ saved. saved ++ ran.part.saved.items) before.saved_are ∙ flat_push part_saved before.parts part;
+          each = parts_more (honest start (is_planned (last_plan plans))) (CalmStart past calm plans start) plans runs [] before.parts place keys list part whole (past start)
+              (past x) (past y) is so before.each (part_of start x y place keys list old carried whole lawful_keys is before ran.part ran.all to);
+          good = λ begun.
+              let reached = before.stands begun in
+              let (camp, kept) = ran.all.stands (good_of start x place old keys carried is lawful_keys before begun) (reached.carried_true keys is) in
+              let (last, went) = kept.good (last_plan plans) lawful prolongs reached.good.good in
+              record {
+                good = last;
+                went = record {
+                  onward = r.twice (last_plan plans) (past start).objects (past x).objects (past y).objects reached.good.went.onward went.onward;
+                  mirrored = λ image. went.mirrored (reached.good.went.mirrored image);
+                };
+                noted = rw (ran.runs_are, ran.saved_are)
+                    (noted_for_both (last_plan plans) (past y) old.runs.items ran.part.runs.items old.saved.items ran.part.saved.items
+                    (noted_for_onward r (last_plan plans) (past x) (past y) old.runs.items old.saved.items lawful went.onward reached.good.noted)
+                    (noted_over r l (last_plan plans) keys (past y) ran.part.runs.items ran.part.saved.items lawful prolongs camp.noted));
+              };
+        }
+
+    -- and are whole
+    pub turning_more : (start x y : L) (place : ℕ) (keys : List Key) (after : Option (List Key)) (list : List Run) (old new : CampaignEnd) (carried read : List (List Known))
+        → IsLawful keys → slice_get plans place ≡ Some keys → slice_get runs place ≡ Some list → after ≡ slice_get plans (suc place)
+        → ((a b : List Key) → Prolongs a b → length b ≤ length a)
+        → Turning start x place old carried → HasRunWhole past honest calm keys after carried list x y old new read → Turning start y (suc place) new read
+    turning_more start x y place keys after list old new carried read lawful_keys is so next_is longer before ran =
+        let end = turned start x y place keys list old new carried ⊤ lawful_keys is so before ran.ran (λ holds. ran.whole) in
+        let all = ran.ran.all in
+        let reads = λ (next : List Key) (at : slice_get plans (suc place) ≡ Some next). if_some (λ ks. (read ≡ map (carried_over ks) (carried ++ ran.ran.part.saved.items)) × All (Suits ks) read)
+        after next (next_is ∙ at) ran.read_is in
+        record {
+          parts = end.parts;
+          ends_are = end.ends_are;
+          saved_are = end.saved_are;
+          each = end.each;
+          carried_are = λ next at. (
+            (reads next at).0
+                ∙ over_both keys next old.saved.items ran.ran.part.saved.items new.saved.items carried (longer next keys (next_prolongs plans place keys next prolonged is at))
+                (before.carried_are keys is).0 ran.ran.saved_are,
+            (reads next at).1,
+          );
+          honest_still = λ names holds. all.honest_still names (before.honest_still names holds);
+          stands = λ begun.
+              let reached = before.stands begun in
+              let (camp, kept) = all.stands (good_of start x place old keys carried is lawful_keys before begun) (reached.carried_true keys is) in
+              let (last, went) = kept.good (last_plan plans) lawful (last_prolongs l plans place keys prolonged is) reached.good.good in
+              record {
+                good = end.good begun;
+                sound = λ next at lawful_next.
+                    l.between (last_plan plans) next keys (past y) lawful_keys lawful_next lawful (next_prolongs plans place keys next prolonged is at)
+                    (last_prolongs l plans (suc place) next prolonged at) camp.good.sound last.sound;
+                carried_true = λ next at.
+                    let prolongs = next_prolongs plans place keys next prolonged is at in
+                    let objects = (past y).objects in
+                    let over = λ (saved : List (List Known)) (holds : All (TrueProgress objects keys) saved). All-weaker (TrueProgress objects keys) (IsTrueFor objects next)
+                    (λ one holds. true_over l objects next keys one prolongs holds) saved holds in
+                    subst (λ rs. All (TrueProgress objects next) rs) (sym (reads next at).0)
+                    (All-map (TrueProgress objects next) (carried_over next) (carried ++ ran.ran.part.saved.items)
+                    (All-append (IsTrueFor objects next) carried ran.ran.part.saved.items
+                    (over carried (true_onward r keys (past x).objects objects carried lawful_keys camp.on.onward (reached.carried_true keys is)))
+                    (over ran.ran.part.saved.items camp.noted.true_saved)));
+              };
+          calmly = λ begun.
+              let reached = before.stands (begun_of start begun) in
+              let kept = (all.stands (good_of start x place old keys carried is lawful_keys before (begun_of start begun)) (reached.carried_true keys is)).1 in
+              kept.calmly ran.whole (last_plan plans) lawful (last_prolongs l plans place keys prolonged is) (before.calmly begun);
+        }
+
+    -- or one of them has no end, or nothing was carried over to the next plan
+    broken_of : (start x y : L) (place : ℕ) (keys : List Key) (next : Option (List Key)) (list : List Run) (old new : CampaignEnd) (carried : List (List Known))
+        → slice_get plans place ≡ Some keys → slice_get runs place ≡ Some list → next ≡ slice_get plans (suc place) → (before : Turning start x place old carried)
+        → (broken : HasRunBroken past honest calm keys next carried list x y old new)
+        → (length (before.parts ++ record { ends = broken.ran.part.runs.items; saved = broken.ran.part.saved.items } ∷ []) < length plans)
+        ⊎ LastIsShort runs (before.parts ++ record { ends = broken.ran.part.runs.items; saved = broken.ran.part.saved.items } ∷ [])
+    broken_of start x y place keys next list old new carried is so next_is before broken =
+        let part : Part = record { ends = broken.ran.part.runs.items; saved = broken.ran.part.saved.items } in
+        let long : length before.parts ≡ place =
+        parts_long (honest start (is_planned (last_plan plans))) (CalmStart past calm plans start) (take place plans) (take place runs) [] before.parts (past start) (past x) before.each
+        ∙ take_long plans place keys is in
+        elim broken.why [
+          | inl short ↦ inr (last_short runs before.parts part place list long so short)
+          | inr some ↦
+              let below = there_is plans (suc place) (λ none. some (next_is ∙ none)) in
+              inl (omega (arith, below, long, length-append before.parts (part ∷ [])))
+        ]
+
+    -- or the runs on it were broken off, or none was made
+    plans_broken : (start y : L) (place : ℕ) (end : CampaignEnd) (whole : Type 0) → (whole → ⊥) → (turned : Turned start y place end whole)
+        → (length turned.parts < length plans) ⊎ LastIsShort runs turned.parts → HasRunPlans past honest calm plans runs whole start y end
+    plans_broken start y place end whole none turned broken = record {
+      good = turned.good;
+      in_turn = record {
+        parts = turned.parts;
+        ends_are = turned.ends_are;
+        saved_are = turned.saved_are;
+        each = parts_broken (honest start (is_planned (last_plan plans))) (CalmStart past calm plans start) plans runs [] turned.parts (suc place) whole (past start) (past y)
+            none turned.each;
+        broken = λ but. broken;
+      };
+    }
+
+    pub run_broken : (start x y : L) (place : ℕ) (keys : List Key) (next : Option (List Key)) (list : List Run) (old new : CampaignEnd) (carried : List (List Known)) (whole : Type 0)
+        → (whole → ⊥) → IsLawful keys → slice_get plans place ≡ Some keys → slice_get runs place ≡ Some list → next ≡ slice_get plans (suc place)
+        → Turning start x place old carried → HasRunBroken past honest calm keys next carried list x y old new → HasRunPlans past honest calm plans runs whole start y new
+    unfolding turned
+    run_broken start x y place keys next list old new carried whole none lawful_keys is so next_is before broken =
+        plans_broken start y place new whole none
+        (turned start x y place keys list old new carried whole lawful_keys is so before broken.ran (λ holds. absurd (none holds)))
+        (broken_of start x y place keys next list old new carried is so next_is before broken)
+
+    pub plans_left : (start x : L) (place : ℕ) (keys : List Key) (old new : CampaignEnd) (carried : List (List Known)) (whole : Type 0) → (whole → ⊥)
+        → slice_get plans place ≡ Some keys → Turning start x place old carried → AreSame old new → HasRunPlans past honest calm plans runs whole start x new
+    plans_left start x place keys old new carried whole none is before same = record {
+      good = λ begun.
+          subst (λ ends. IsGoodFor past honest (last_plan plans) start x ends new.saved.items) (sym same.same_runs)
+          (subst (λ saved. IsGoodFor past honest (last_plan plans) start x old.runs.items saved) (sym same.same_saved) (before.stands begun).good);
+      in_turn = record {
+        parts = before.parts;
+        ends_are = same.same_runs ∙ before.ends_are;
+        saved_are = same.same_saved ∙ before.saved_are;
+        each = parts_broken (honest start (is_planned (last_plan plans))) (CalmStart past calm plans start) plans runs [] before.parts place whole (past start) (past x) none
+            (parts_if (honest start (is_planned (last_plan plans))) (CalmStart past calm plans start) (take place plans) (take place runs) [] before.parts ⊤ whole (past start)
+            (past x) (λ holds. tt) before.each);
+        broken = λ but.
+            let below = there_is plans place (λ no. some_none keys (sym is ∙ no)) in
+            let long =
+            parts_long (honest start (is_planned (last_plan plans))) (CalmStart past calm plans start) (take place plans) (take place runs) [] before.parts (past start) (past x) before.each
+            ∙ take_long plans place keys is in
+            inl (omega (arith, below, long));
+      };
+    }
+
+    -- the runs on all plans were made
+    pub plans_all : (start x : L) (place : ℕ) (end : CampaignEnd) (carried : List (List Known)) (whole : Type 0) → whole → place ≡ length plans → length runs ≡ length plans
+        → Turning start x place end carried → HasRunPlans past honest calm plans runs whole start x end
+    plans_all start x place end carried whole is all as_many before = record {
+      good = λ begun. (before.stands begun).good;
+      in_turn = record {
+        parts = before.parts;
+        ends_are = before.ends_are;
+        saved_are = before.saved_are;
+        each = parts_all (honest start (is_planned (last_plan plans))) (CalmStart past calm plans start) plans runs [] before.parts place whole (past start) (past x) all as_many
+            before.each;
+        broken = λ but. absurd (but is);
+      };
+    }
+
+pub in_turn_if : (plans : List (List Key)) (runs : List (List Run)) (ends : List RunEnd) (saved : List (List Known)) (honest calm whole other : Type 0) (old new : Past)
+    → (other → whole) → (whole → other) → AreInTurn plans runs ends saved honest calm whole old new → AreInTurn plans runs ends saved honest calm other old new
+in_turn_if plans runs ends saved honest calm whole other old new to back are = record {
+  parts = are.parts;
+  ends_are = are.ends_are;
+  saved_are = are.saved_are;
+  each = parts_if honest calm plans runs [] are.parts whole other old new to are.each;
+  broken = λ but. are.broken (λ is. but (back is));
+}
+
+-- ---- what stands at a place
+
+pub list_at : {V A : Type 0} (items : V → List A) (lists : List V) (place : ℕ) (v : V) (list : List A) → slice_get lists place ≡ Some v → list ≡ items v
+    → slice_get (map items lists) place ≡ Some list
+list_at items [] place v list is same = absurd cc
+list_at items (first ∷ lists) zero v list is same = let one : first ≡ v = cc in ap (λ w. Some (items w)) one ∙ ap Some (sym same)
+list_at items (first ∷ lists) (suc place) v list is same = list_at items lists place v list is same
+
+pub some_not : {A : Type 0} (o : Option A) → is_some o ≡ true → o ≢ None
+some_not None is = λ none. absurd cc
+some_not (Some a) is = λ none. absurd cc
+
+pub if_next : {R : Type 0} (view : R → List Key) (plans : List (List Key)) (place : ℕ) (keys : List Key) (after : Option R) → AreProlonged plans
+    → slice_get plans place ≡ Some keys → option_map view after ≡ slice_get plans (suc place) → IfSome after (λ next. Prolongs (view next) keys)
+if_next view plans place keys None prolonged is then = tt
+if_next view plans place keys (Some next) prolonged is then = next_prolongs plans place keys (view next) prolonged is (sym then)
+
+pub lookup_is : {R : Type 0} (view : R → List Key) (plans : List (List Key)) (place : ℕ) (found : Option R) → is_some found ≡ ltb place (length plans)
+    → IfSome found (λ x. view x ≡ get_or plans place (view x)) → option_map view found ≡ slice_get plans place
+lookup_is view plans place None there value = sym (slice_get_past plans place (ltb-false place (length plans) (sym there)))
+lookup_is view plans place (Some x) there value = sym (slice_get_read plans (length plans) place (view x) refl (ltb-true place (length plans) (sym there)) value)

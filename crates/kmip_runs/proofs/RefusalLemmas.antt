@@ -1,0 +1,19 @@
+-- What a keeper could not write.
+use Rattle.std.proofs.Common.{◌≡◌, ℕ, ◌≤◌, Result, Ok, Err, OnOk, OnErr, inl, inr, sym, ◌∙◌, arith}
+use Rattle.kmip_runs.specs.declared.stop.Stop.{Stop}
+use Rattle.kmip_runs.specs.declared.stop.Stop.TheVariants as stops
+use Rattle.kmip_runs.specs.Refusals.{HasRisen}
+use Rattle.kmip_runs.specs.declared.keeper.SaveFault.{SaveFault}
+use Rattle.kmip_runs.specs.declared.keeper.SaveFault.TheVariants as faults
+
+-- what rose from a later count rose from an earlier one
+pub rises_from : (a b c : ℕ) → a ≤ b → HasRisen b c → HasRisen a c
+rises_from a b c at_most (inl less) = inl (omega (arith, at_most, less))
+rises_from a b c at_most (inr last) = inr last
+
+-- the end of the run writes nothing
+pub output_before : {V E : Type 0} (closed : Result V E) (result last : Result Stop SaveFault) → OnOk closed (last ≡ result) → OnErr closed (OnOk result (last ≡ Ok stops.NoMemory))
+    → OnErr result (last ≡ result) → last ≡ Err faults.Output → result ≡ Err faults.Output
+output_before (Ok v) result last same stop fault is = sym same ∙ is
+output_before (Err e) (Ok s) last same stop fault is = let both : Ok stops.NoMemory ≡ Err faults.Output = sym stop ∙ is in absurd cc
+output_before (Err e) (Err f) last same stop fault is = sym fault ∙ is

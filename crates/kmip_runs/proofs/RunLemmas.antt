@@ -1,0 +1,198 @@
+-- Private: what holds between two runs of a campaign.
+use Rattle.std.proofs.Common.{◌≡◌, ◌≢◌, ℕ, suc, Option, None, Result, Ok, Err, OnErr, OnOk, ◌+◌, List, [], ◌∷◌, ◌++◌, length, filter, take, slice_get, Some, sym, ap, subst, refl, ◌∙◌, arith}
+use Rattle.std.specs.Prelude.{⊤}
+use Rattle.std.proofs.lemmas.List.{length-append}
+use Rattle.std.proofs.lemmas.List.Elements.{All-nil}
+use Rattle.std.specs.List.{All, AllZip}
+use Rattle.std.specs.Result.{result_err}
+use Rattle.kmip_objects.specs.Objects.{Object}
+use Rattle.kmip_plan.specs.Plans.{IsLawful}
+use Rattle.kmip_plan.specs.declared.key.Key.{Key}
+use Rattle.kmip_progress.specs.Suiting.{Suits}
+use Rattle.kmip_progress.specs.declared.known.Known.{Known}
+use Rattle.kmip_client.specs.Clients.{ClientState, fresh}
+use Rattle.kmip_client.specs.Held.{Held, TrueProgress}
+use Rattle.kmip_protocol.specs.Past.{Names, Past, is_planned}
+use Rattle.kmip_runs.specs.Campaign.{CalmLink, GoodLink, IsEnd, Settles, saves}
+use Rattle.kmip_runs.specs.CampaignParts.{Campaigned, CampaignLaws, HasRun, HasSettled, Standing}
+use Rattle.kmip_runs.specs.Driving.{IsGood, KeepsFurther, WentOn}
+use Rattle.kmip_runs.specs.Remembering.{AreKnownFrom}
+use Rattle.kmip_runs.specs.declared.campaigning.CampaignEnd.{CampaignEnd}
+use Rattle.kmip_runs.specs.declared.campaigning.Run.{Run}
+use Rattle.kmip_runs.specs.declared.campaigning.RunEnd.{RunEnd}
+use Rattle.kmip_runs.specs.declared.stop.Stop.{Stop}
+use Rattle.kmip_runs.specs.declared.stop.Stop.TheVariants as stops
+use Rattle.kmip_runs.proofs.CampaignLemmas.{campaigned, good_with, noted_none, opened, true_onward}
+use Rattle.kmip_runs.proofs.FurtherLemmas.{further_nowhere, further_then}
+use Rattle.kmip_runs.proofs.OrderLemmas.{ends_more, saved_long, saves_more, zip_more}
+use Rattle.kmip_runs.proofs.RememberLemmas.{Recalled, recalled_more, recalled_none}
+
+pub record Running {L : Type 0} (past : L → Past) (honest calm : L → Names → Type 0) (keys : List Key) (carried : List (List Known)) (c : ClientState) (start link : L) (runs : List Run) (ends : List RunEnd) (saved : List (List Known)) (at : ℕ) : Type 0 where
+  pub keys_are : c.keys ≡ keys
+  pub suits : All (Suits keys) saved
+  pub stands : GoodLink past honest keys start → All (TrueProgress (past start).objects keys) carried
+      → Standing past honest keys c link ends saved × WentOn keys (past start) (past link)
+  pub honest_still : (names : Names) → honest start names → honest link names
+  pub further : GoodLink past honest keys start → All (TrueProgress (past start).objects keys) carried
+      → KeepsFurther past honest calm keys ⊤ start link
+  pub each : AllZip (IsEnd keys) (take at runs) ends
+  pub settled : CalmLink past calm keys start → All (TrueProgress (past start).objects keys) carried → AllZip (Settles keys) (take at runs) ends × CalmLink past calm keys link
+  pub as_many_ends : length ends ≡ at
+  pub recalled : Recalled past honest keys carried runs c start link ends saved
+  pub as_many : length saved ≡ length (filter saves (take at runs))
+
+one_longer : (old new : List RunEnd) (end : RunEnd) (at : ℕ) → length old ≡ at → new ≡ old ++ end ∷ [] → length new ≡ suc at
+one_longer old new end at is joined = ap length joined ∙ length-append old (end ∷ []) ∙ omega (arith, is)
+
+take-none : (runs : List Run) → take 0 runs ≡ []
+take-none [] = refl
+take-none (run ∷ runs) = refl
+
+none_each : (R : Run → RunEnd → Type 0) (runs : List Run) → AllZip R (take 0 runs) []
+none_each R runs = subst (λ rs. AllZip R rs []) (sym (take-none runs)) tt
+
+module _ {L : Type 0} (past : L → Past) (honest calm : L → Names → Type 0) (keys : List Key) (carried : List (List Known)) where
+  -- what was carried over is true still
+  pub carried_on : CampaignLaws → (start link : L) → IsLawful keys → WentOn keys (past start) (past link) → All (TrueProgress (past start).objects keys) carried
+      → All (TrueProgress (past link).objects keys) carried
+  carried_on l start link lawful went holds = true_onward l keys (past start).objects (past link).objects carried lawful went.onward holds
+
+  -- what stands after one more run, whether it was broken off or not
+  pub ran_on : CampaignLaws → (a b : ClientState) (start x y : L) (runs : List Run) (at : ℕ) (whole : Type 0) (ends nexts : List RunEnd) (saved kept : List (List Known))
+      → IsLawful keys → Running past honest calm keys carried a start x runs ends saved at
+      → (Standing past honest keys a x ends saved → All (TrueProgress (past x).objects keys) carried
+      → Standing past honest keys b y nexts kept × WentOn keys (past x) (past y))
+      → (Standing past honest keys a x ends saved → All (TrueProgress (past x).objects keys) carried → KeepsFurther past honest calm keys whole x y)
+      → GoodLink past honest keys start → All (TrueProgress (past start).objects keys) carried
+      → Standing past honest keys b y nexts kept × WentOn keys (past start) (past y) × KeepsFurther past honest calm keys whole start y
+  ran_on l a b start x y runs at whole ends nexts saved kept lawful before stands further good holds =
+      let (standing, went) = before.stands good holds in
+      let now = carried_on l start x lawful went holds in
+      let (then, on) = stands standing now in (
+        then,
+        record { onward = l.twice keys (past start).objects (past x).objects (past y).objects went.onward on.onward; mirrored = λ image. on.mirrored (went.mirrored image) },
+        further_then past honest calm l.twice keys start x y ⊤ whole (λ is. tt) (before.further good holds) (further standing now),
+      )
+
+  pub ran_off : CampaignLaws → (a b : ClientState) (start x y : L) (runs : List Run) (at : ℕ) (whole : Type 0) (ends nexts : List RunEnd) (saved kept : List (List Known))
+      → IsLawful keys → b.keys ≡ keys → Running past honest calm keys carried a start x runs ends saved at
+      → (Standing past honest keys a x ends saved → All (TrueProgress (past x).objects keys) carried
+      → Standing past honest keys b y nexts kept × WentOn keys (past x) (past y))
+      → (Standing past honest keys a x ends saved → All (TrueProgress (past x).objects keys) carried → KeepsFurther past honest calm keys whole x y)
+      → GoodLink past honest keys start → All (TrueProgress (past start).objects keys) carried
+      → Campaigned past honest keys start y nexts kept × KeepsFurther past honest calm keys whole start y
+  ran_off l a b start x y runs at whole ends nexts saved kept lawful b_keys before stands further good holds =
+      let (standing, went, kept_further) = ran_on l a b start x y runs at whole ends nexts saved kept lawful before stands further good holds in
+      (campaigned past honest keys b start y nexts kept b_keys (standing, went), kept_further)
+
+  -- and one more run
+  pub running_more : CampaignLaws → (a b : ClientState) (start x y : L) (runs : List Run) (at : ℕ) (run : Run) (old new : CampaignEnd) → IsLawful keys
+      → slice_get runs at ≡ Some run → Running past honest calm keys carried a start x runs old.runs.items old.saved.items at → b.keys ≡ keys → All (Suits keys) new.saved.items
+      → (Standing past honest keys a x old.runs.items old.saved.items → All (TrueProgress (past x).objects keys) carried
+      → Standing past honest keys b y new.runs.items new.saved.items × WentOn keys (past x) (past y))
+      → ((names : Names) → honest x names → honest y names)
+      → (Standing past honest keys a x old.runs.items old.saved.items → All (TrueProgress (past x).objects keys) carried → KeepsFurther past honest calm keys ⊤ x y)
+      → HasRun past honest keys carried run a b x y old new → ((link : L) (names : Names) → calm link names → honest link names)
+      → (Standing past honest keys a x old.runs.items old.saved.items → All (TrueProgress (past x).objects keys) carried → CalmLink past calm keys x
+      → HasSettled keys run old.runs.items new.runs.items × CalmLink past calm keys y) → Running past honest calm keys carried b start y runs new.runs.items new.saved.items (at + 1)
+  running_more l a b start x y runs at run old new lawful is before b_keys suits stands still further ran calm_honest settles =
+      let e : at + 1 ≡ suc at = omega arith in
+      subst (λ n. Running past honest calm keys carried b start y runs new.runs.items new.saved.items n) (sym e)
+      (record {
+        keys_are = b_keys;
+        suits = suits;
+        stands = λ good holds.
+            let on = ran_on l a b start x y runs at ⊤ old.runs.items new.runs.items old.saved.items new.saved.items lawful before stands further good holds in
+            (on.0, on.1);
+        honest_still = λ names honestly. still names (before.honest_still names honestly);
+        further = λ good holds.
+            (ran_on l a b start x y runs at ⊤ old.runs.items new.runs.items old.saved.items new.saved.items lawful before stands further good holds).2;
+        each = ends_more keys runs at run old.runs.items new.runs.items is before.each b.knowns ran.driven ran.ended.noted;
+        settled = λ calmly holds.
+            let first = before.settled calmly holds in
+            let good : GoodLink past honest keys start = record { honest_for = calm_honest start (is_planned keys) calmly.calm_for; sound = calmly.sound } in
+            let (standing, went) = before.stands good holds in
+            let second = settles standing (carried_on l start x lawful went holds) first.1 in (
+              zip_more (Settles keys) runs at run old.runs.items new.runs.items second.0.end is first.0 second.0.joined second.0.settles,
+              second.1,
+            );
+        as_many_ends = one_longer old.runs.items new.runs.items ran.ended.noted.end at before.as_many_ends ran.ended.noted.joined;
+        recalled = recalled_more past honest keys carried runs a b start x y run old new at is before.as_many_ends before.recalled ran;
+        as_many = saves_more runs at run (length old.saved.items) (length new.saved.items) is before.as_many
+            (saved_long run b.knowns old.saved.items new.saved.items ran.ended.saved_are);
+      })
+
+  -- before the first
+  pub running_none : CampaignLaws → (c : ClientState) (x : L) (runs : List Run) (ends : List RunEnd) (saved : List (List Known)) → c ≡ fresh keys
+      → ((objects : List Object) → Held objects c.keys c.knowns) → ends ≡ [] → saved ≡ [] → Running past honest calm keys carried c x x runs ends saved 0
+  running_none l c x runs ends saved is held no_end none_saved =
+      let c_keys = ap (λ (s : ClientState). s.keys) is in
+      record {
+        keys_are = c_keys;
+        suits = rw none_saved (All-nil (Suits keys));
+        stands = λ good holds. opened past honest l keys c x ends saved c_keys (held (past x).objects) no_end none_saved good;
+        honest_still = λ names honestly. honestly;
+        further = λ good holds. further_nowhere past honest calm l.itself keys x ⊤;
+        each = rw no_end (none_each (IsEnd keys) runs);
+        settled = λ calmly holds. (rw no_end (none_each (Settles keys) runs), calmly);
+        as_many_ends = ap length no_end;
+        recalled = recalled_none past honest keys carried runs c x ends saved (ap (λ (s : ClientState). s.knowns) is) no_end none_saved;
+        as_many = ap length none_saved ∙ sym (ap (λ rs. length (filter saves rs)) (take-none runs));
+      }
+
+  -- no client was there to begin with
+  pub ran_nothing : CampaignLaws → (x : L) (whole : Type 0) (ends : List RunEnd) (saved : List (List Known)) → ends ≡ [] → saved ≡ [] → GoodLink past honest keys x
+      → Campaigned past honest keys x x ends saved × KeepsFurther past honest calm keys whole x x
+  ran_nothing l x whole ends saved no_end none_saved good = (
+    record {
+      good = good;
+      on = record { onward = l.itself keys (past x).objects; mirrored = λ image. image };
+      noted = noted_none (past x).objects keys ends saved no_end none_saved;
+    },
+    further_nowhere past honest calm l.itself keys x whole,
+  )
+
+  -- a run is begun and driven
+  pub driven_further : (a b : ClientState) (x y : L) (stop : Stop) (ends : List RunEnd) (saved : List (List Known)) → a.keys ≡ keys → b.keys ≡ keys
+      → (All (TrueProgress (past x).objects keys) saved → Held (past x).objects a.keys a.knowns → Held (past x).objects b.keys b.knowns)
+      → (IsGood past honest b x → KeepsFurther past honest calm b.keys (stop ≢ stops.NoMemory) x y) → Standing past honest keys a x ends saved
+      → KeepsFurther past honest calm keys (stop ≢ stops.NoMemory) x y
+  driven_further a b x y stop ends saved a_keys b_keys begun further standing =
+      subst (λ ks. KeepsFurther past honest calm ks (stop ≢ stops.NoMemory) x y) b_keys
+      (further (good_with past honest a b x (b_keys ∙ sym a_keys) standing.good (begun standing.noted.true_saved standing.good.held)))
+
+-- ---- all runs
+
+pub if_ok : {E P : Type 0} (r : Result (Unit {0}) E) → r ≡ Ok tt → OnOk r P → P
+if_ok (Ok tt) is holds = holds
+if_ok (Err e) is holds = absurd cc
+
+pub no_runs : (runs : List Run) → length runs ≡ 0 → runs ≡ []
+no_runs [] none = refl
+no_runs (run ∷ runs) none = absurd (omega (arith, none))
+
+pub ok_of : {E : Type 0} (r : Result (Unit {0}) E) (fault : Option E) → fault ≡ result_err r → fault ≡ None → r ≡ Ok tt
+ok_of (Ok tt) fault is none = refl
+ok_of (Err e) fault is none = let both : Some e ≡ None = sym is ∙ none in absurd cc
+
+pub of_ok : {E : Type 0} (r : Result (Unit {0}) E) (fault : Option E) → fault ≡ result_err r → r ≡ Ok tt → fault ≡ None
+of_ok (Ok tt) fault is ok = is
+of_ok (Err e) fault is ok = absurd cc
+
+pub if_fault : {E P : Type 0} (r : Result (Unit {0}) E) (fault : Option E) → fault ≡ result_err r → fault ≢ None → OnErr r P → P
+if_fault (Ok tt) fault is some holds = absurd (some is)
+if_fault (Err e) fault is some holds = holds
+
+pub known_if : (keys : List Key) (carried : List (List Known)) (runs : List Run) (ends : List RunEnd) (saved : List (List Known)) (honest whole other : Type 0) (old new : Past)
+    → (other → whole) → AreKnownFrom keys carried runs ends saved honest whole old new → AreKnownFrom keys carried runs ends saved honest other old new
+known_if keys carried runs ends saved honest whole other old new to known = record {
+  known = known.known;
+  shown = known.shown;
+  kept = known.kept;
+  saved_are = known.saved_are;
+  until = known.until;
+  heard = known.heard;
+  grown = known.grown;
+  few_more = known.few_more;
+  no_more = λ is. known.no_more (to is);
+}

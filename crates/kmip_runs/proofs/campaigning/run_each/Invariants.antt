@@ -1,0 +1,24 @@
+-- As many runs have ended as were begun, and all is good between two of them; each was ended over the link, and outlasts what it loses.
+use Rattle.std.proofs.Common.{[], length, take}
+use Rattle.std.specs.List.{All}
+use Rattle.std.specs.Prelude.{⊤}
+use Rattle.kmip_client.specs.Held.{TrueProgress}
+use Rattle.kmip_protocol.specs.Past.{is_planned}
+use Rattle.kmip_runs.specs.Campaign.{GoodLink}
+use Rattle.kmip_runs.specs.Ending.{EndsJoin}
+use Rattle.kmip_runs.specs.Losing.{AllOutlast}
+use Rattle.kmip_runs.proofs.RunLemmas.{Running}
+use Rattle.kmip_runs.proofs.TurnedRunLemmas.{TurnedSoFar}
+use Rattle.kmip_runs.proofs.campaigning.run_each.Given as goal
+
+abbrev pub invariant-loop-place : goal.invariant-loop-place
+invariant-loop-place g l = record {
+  running : Running g.L.Link.past g.L.Link.honest g.L.Link.calm l.fn.plan l.fn.carried l.client l.fn.link l.link l.runs l.end.runs.items l.end.saved.items l.place;
+  ended : g.L.Link.honest l.fn.link (is_planned l.fn.plan)
+      → EndsJoin [] l.end.runs.items ⊤ (length (g.L.Link.past l.fn.link).sent) (length (g.L.Link.past l.link).sent) (g.L.Link.ended l.fn.link) (g.L.Link.ended l.link);
+  outlasted : GoodLink g.L.Link.past g.L.Link.honest l.fn.plan l.fn.link → All (TrueProgress (g.L.Link.past l.fn.link).objects l.fn.plan) l.fn.carried
+      → AllOutlast l.fn.plan (take l.place l.runs) l.end.runs.items (g.L.Link.disturbances l.fn.link) (g.L.Link.disturbances l.link);
+  followed : g.L.Link.follows l.fn.link l.link;
+  turned : TurnedSoFar l.fn.plan l.fn.carried l.runs l.client (g.L.Link.honest l.fn.link (is_planned l.fn.plan)) (g.L.Link.past l.fn.link) (g.L.Link.past l.link)
+      l.end.runs.items l.end.saved.items;
+}

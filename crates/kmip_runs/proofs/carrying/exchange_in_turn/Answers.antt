@@ -1,0 +1,112 @@
+-- Exchange by exchange.
+use Rattle.std.proofs.Common.{◌≡◌, ◌∙◌, Ok, ap, length, sym, refl, rules, arith}
+use Rattle.kmip_protocol.specs.Past.{is_planned}
+use Rattle.kmip_runs.specs.Losing.{left_for}
+use Rattle.kmip_runs.specs.declared.stop.Stop.TheVariants as stops
+use Rattle.kmip_runs.proofs.CarryLemmas.{carried_none, carried_then, carried_unbegun, carrying_more, carrying_none, drove}
+use Rattle.kmip_runs.proofs.RefusalLemmas.{rises_from}
+use Rattle.kmip_runs.proofs.CarryLosingLemmas.{limit_in_memory, paid_none}
+use Rattle.kmip_runs.proofs.PatienceLemmas.{still_patient}
+use Rattle.kmip_runs.proofs.carrying.exchange_in_turn.Goals as goal
+use Rattle.kmip_runs.proofs.carrying.exchange_in_turn.Goals.{else-made-limit-via-then-made-limit+else-not-go_on, else-made-limit-via-else-made-limit}
+
+pub returns-then-limit-eq0-clause-carried : goal.returns-then-limit-eq0-clause-carried
+returns-then-limit-eq0-clause-carried g c =
+    let past = g.L.Link.past in
+    let honest = g.L.Link.honest in
+    let calm = g.L.Link.calm in
+    let e = c.drive-stop.ensures in
+    let none : c.drive-stop.result.1 ≡ 0 = omega (arith, e.within) in
+    carried_none past honest calm g.K.Keeper.keeps g.K.Keeper.saved c.args.client.now c.drive-stop.new.client c.args.link.now c.drive-stop.new.link
+    c.args.keeper.now c.drive-stop.result none
+    (drove past honest calm c.args.client.now c.drive-stop.new.client c.args.link.now c.drive-stop.new.link c.drive-stop.result e.good e.goes e.known e.broken e.grown e.kept
+    e.calm)
+
+pub loop-made-init : goal.loop-made-init
+loop-made-init g c = record {
+  carrying =
+      carrying_none g.L.Link.past g.L.Link.honest g.L.Link.calm g.K.Keeper.keeps g.K.Keeper.saved c.laws_below.ensures c.args.client.now c.args.link.now c.args.keeper.now;
+  as_many = search rules;
+  patient = refl;
+  counted = omega arith;
+  ended = λ honest. refl;
+  paid = λ good. paid_none (left_for c.args.client.now (g.L.Link.past c.args.link.now)) (g.L.Link.disturbances c.args.link.now);
+}
+
+pub returns-then-not-is_at_limit-clause-carried : goal.returns-then-not-is_at_limit-clause-carried
+returns-then-not-is_at_limit-clause-carried g c =
+    let step = c.exchange_once-carried in
+    carried_then g.L.Link.past g.L.Link.honest g.L.Link.calm g.K.Keeper.keeps g.K.Keeper.saved c.laws_below.ensures c.args.client.now c.loop-made.client
+    step.new.client c.args.link.now c.loop-made.link step.new.link c.args.keeper.now c.loop-made.keeper step.new.keeper step.result.0 c.loop-made.made step.result.1
+    c.plan-plan.ensures.lawful c.loop-made.invariant.carrying.carried step.ensures.carried
+
+pub loop-made-preserved : goal.loop-made-preserved
+loop-made-preserved g c =
+    let step = c.exchange_once-carried in
+    let tired = g.P.Patience.has_given_up in
+    let limit : step.result.0 ≡ Ok stops.Limit = search rules in
+    record {
+      carrying =
+          carrying_more g.L.Link.past g.L.Link.honest g.L.Link.calm g.K.Keeper.keeps g.K.Keeper.saved c.laws_below.ensures c.args.client.now c.loop-made.client
+          step.new.client c.args.link.now c.loop-made.link step.new.link c.args.keeper.now c.loop-made.keeper step.new.keeper step.result.0 c.loop-made.made step.result.1
+          c.plan-plan.ensures.lawful c.loop-made.invariant.carrying step.ensures.carried limit (step.ensures.limit limit) step.ensures.stands;
+      as_many = c.tell.ensures.as_many ∙ c.loop-made.invariant.as_many ∙ ap length (sym step.ensures.carried.went.keeps.keys_stay);
+      patient =
+          elim c.else-made-limit.branch [
+            | else-made-limit-via-then-made-limit+else-not-go_on w ↦
+                let still = still_patient (tired c.tell.new.patience) (tired w.go_on.new.self) w.go_on.result w.if-not-go_on.false w.go_on.ensures.says w.go_on.ensures.for_good in
+                ap tired w.patience-is ∙ still ∙ c.tell.ensures.stays ∙ c.loop-made.invariant.patient
+            | else-made-limit-via-else-made-limit w ↦ ap tired w.patience-is ∙ c.tell.ensures.stays ∙ c.loop-made.invariant.patient
+          ];
+      counted = omega (arith, c.loop-made.invariant.counted, step.ensures.counted);
+      ended = λ honest.
+          let still = (c.loop-made.invariant.carrying.carried.went.known honest).0 in
+          step.ensures.ended (is_planned c.args.client.now.keys) still ∙ c.loop-made.invariant.ended honest;
+      paid = λ good.
+          let first = c.loop-made.invariant.paid good in
+          let second = step.ensures.losing (c.loop-made.invariant.carrying.carried.went.good good) (limit_in_memory step.result.0 limit) in
+          let one = step.ensures.limit limit in
+          omega (arith, first, second, one);
+    }
+
+pub returns-in_default-clause-carried : goal.returns-in_default-clause-carried
+returns-in_default-clause-carried g c =
+    carried_unbegun g.L.Link.past g.L.Link.honest g.L.Link.calm g.K.Keeper.keeps g.K.Keeper.saved c.laws_below.ensures c.args.client.now c.args.link.now c.args.keeper.now
+
+pub returns-then-not-go_on-clause-carried : goal.returns-then-not-go_on-clause-carried
+returns-then-not-go_on-clause-carried g c =
+    let step = c.exchange_once-carried in
+    let limit : step.result.0 ≡ Ok stops.Limit = search rules in
+    let more =
+    carrying_more g.L.Link.past g.L.Link.honest g.L.Link.calm g.K.Keeper.keeps g.K.Keeper.saved c.laws_below.ensures c.args.client.now c.loop-made.client
+    step.new.client c.args.link.now c.loop-made.link step.new.link c.args.keeper.now c.loop-made.keeper step.new.keeper step.result.0 c.loop-made.made step.result.1
+    c.plan-plan.ensures.lawful c.loop-made.invariant.carrying step.ensures.carried limit (step.ensures.limit limit) step.ensures.stands in
+    more.carried
+
+pub returns-then-not-is_at_limit-clause-ended : goal.returns-then-not-is_at_limit-clause-ended
+returns-then-not-is_at_limit-clause-ended g c = λ honest.
+    let still = (c.loop-made.invariant.carrying.carried.went.known honest).0 in
+    c.exchange_once-carried.ensures.ended (is_planned c.args.client.now.keys) still ∙ c.loop-made.invariant.ended honest
+
+pub returns-then-limit-eq0-clause-losing : goal.returns-then-limit-eq0-clause-losing
+returns-then-limit-eq0-clause-losing g c = λ good memory.
+    let e = c.drive-stop.ensures in
+    let none : c.drive-stop.result.1 ≡ 0 = omega (arith, e.within) in
+    let paid = e.losing good (λ is. memory (ap Ok is)) in
+    omega (arith, none, paid)
+
+pub returns-then-not-is_at_limit-clause-losing : goal.returns-then-not-is_at_limit-clause-losing
+returns-then-not-is_at_limit-clause-losing g c = λ good memory.
+    let first = c.loop-made.invariant.paid good in
+    let second = c.exchange_once-carried.ensures.losing (c.loop-made.invariant.carrying.carried.went.good good) memory in
+    omega (arith, first, second)
+
+pub returns-clause-losing : goal.returns-clause-losing
+returns-clause-losing g c = λ good memory.
+    let made : c.loop-made.made ≡ c.args.limit = omega (arith, c.loop-made-test.false, c.loop-made.auto.made-end) in
+    let paid = c.loop-made.invariant.paid good in
+    omega (arith, made, paid)
+
+pub returns-then-not-is_at_limit-clause-output : goal.returns-then-not-is_at_limit-clause-output
+returns-then-not-is_at_limit-clause-output g c = λ is.
+    rises_from _ _ _ c.loop-made.invariant.counted (c.exchange_once-carried.ensures.output is)

@@ -1,0 +1,101 @@
+-- Runs in turn: what their ends report, and what is to hold of each end.
+-- Source: own (view); what is own (limit) says so.
+use Rattle.std.specs.Prelude.{◌≡◌, ◌≢◌, ◌≤◌, ℕ, ⊤, Bool, List, [], ◌∷◌, ◌++◌, ◌+◌, length, map, take, flat_map, string_bytes, IsTrue}
+use Rattle.std.specs.List.{All, Contains}
+use Rattle.kmip_messages.specs.Members.{may_have}
+use Rattle.kmip_plan.specs.Chains.{bound, chain}
+use Rattle.kmip_plan.specs.declared.key.Key.{Key}
+use Rattle.kmip_progress.specs.declared.known.Known.{Known}
+use Rattle.kmip_client.specs.Knowledge.{chain_length}
+use Rattle.kmip_client.specs.declared.clash.Clash.{Clash}
+use Rattle.kmip_client.specs.declared.knowledge.Verdict.{Verdict}
+use Rattle.kmip_client.specs.declared.knowledge.Verdict.TheVariants.{Working, Finished, Conflict}
+use Rattle.kmip_protocol.specs.Past.{Past, Names, is_planned}
+use Rattle.kmip_protocol.specs.Sound.{Sound}
+use Rattle.kmip_server.specs.declared.effect.Effect.{Effect}
+use Rattle.kmip_protocol.specs.Needs.{missing}
+use Rattle.kmip_runs.specs.Reporting.{report_text}
+use Rattle.kmip_runs.specs.declared.campaigning.Run.{Run}
+use Rattle.kmip_runs.specs.declared.campaigning.RunEnd.{RunEnd}
+use Rattle.kmip_runs.specs.declared.stop.Stop.{Stop}
+use Rattle.kmip_runs.specs.declared.stop.Stop.TheVariants as stops
+
+-- The link is honest for the plan's names, and all that has happened over it is sound.
+pub record GoodLink {L : Type 0} (past : L → Past) (honest : L → Names → Type 0) (keys : List Key) (link : L) : Type 0 where
+  pub honest_for : honest link (is_planned keys)
+  pub sound : Sound keys (past link)
+
+-- the first steps of a key's chain, as many as are counted
+abbrev pub steps_counted : Key → ℕ → List Effect
+steps_counted key count = map (λ step. record { name = key.attrs.name; step = step }) (take count (chain key.target))
+
+-- the steps that these counts report, key by key in the order of the plan
+abbrev pub reported_by : List Key → List ℕ → List Effect
+reported_by [] counts = []
+reported_by (key ∷ keys) [] = []
+reported_by (key ∷ keys) (count ∷ counts) = steps_counted key count ++ reported_by keys counts
+
+-- the steps that are reported done, by the ends of runs and by what was saved
+abbrev pub reported : List Key → List RunEnd → List (List Known) → List Effect
+reported keys ends saved =
+    flat_map (λ (end : RunEnd). reported_by keys end.counts.items) ends ++ flat_map (λ progress. reported_by keys (map (λ known. known.done) progress)) saved
+
+-- the verdict is no conflict
+abbrev pub IsNoClash : Verdict → Type 0
+IsNoClash verdict = (clash : Clash) → verdict ≢ Conflict clash
+
+-- the run did not stop in conflict, and no key is in conflict at its end
+abbrev pub HasNoConflict : RunEnd → Type 0
+HasNoConflict end = (end.stop ≢ stops.Conflict) × All IsNoClash end.verdicts.items
+
+-- some key is in conflict
+abbrev pub HasClash : RunEnd → Type 0
+HasClash end = (clash : Clash) × Contains end.verdicts.items (Conflict clash)
+
+-- how a run stands that stopped for this reason. With `AllFinished` every key is finished. With `Limit` it
+-- made as many exchanges as it may, and a key is worked on. With `Conflict` none is worked on, and one is in
+-- conflict. No run that has an end stopped for want of memory.
+abbrev pub StopsSo : Stop → Run → RunEnd → Type 0
+StopsSo stops.AllFinished run end = All (λ verdict. verdict ≡ Finished) end.verdicts.items
+StopsSo stops.Limit run end = (end.exchanges ≡ run.limit) × Contains end.verdicts.items Working
+StopsSo stops.Conflict run end = All (λ verdict. verdict ≢ Working) end.verdicts.items × HasClash end
+StopsSo stops.NoMemory run end = ⊥
+
+-- No more steps are counted than lead to the target, and the key is finished exactly where all are counted.
+pub record IsFull (key : Key) (count : ℕ) (verdict : Verdict) : Type 0 where
+  pub few : count ≤ chain_length key
+  pub done : verdict ≡ Finished → count ≡ chain_length key
+  pub finished : count ≡ chain_length key → verdict ≡ Finished
+
+-- the count and the verdict of each key agree, as `IsFull` says
+abbrev pub AreFull : List Key → List ℕ → List Verdict → Type 0
+AreFull [] [] [] = ⊤
+AreFull (key ∷ keys) (count ∷ counts) (verdict ∷ verdicts) = IsFull key count verdict × AreFull keys counts verdicts
+AreFull keys counts verdicts = ⊥
+
+-- The end is one of this run. Its report is that of its own counts and verdicts, which agree key by key. It
+-- stopped for a reason that they bear out, after no more exchanges than the run may make.
+pub record IsEnd (keys : List Key) (run : Run) (end : RunEnd) : Type 0 where
+  pub report_is : string_bytes end.report ≡ report_text keys end.counts.items end.verdicts.items
+  pub stops : StopsSo end.stop run end
+  pub within : end.exchanges ≤ run.limit
+  pub full : AreFull keys end.counts.items end.verdicts.items
+
+-- The link is calm for the plan's names, all that has happened over it is sound, and there is room for the
+-- objects that are missing.
+pub record CalmLink {L : Type 0} (past : L → Past) (calm : L → Names → Type 0) (keys : List Key) (link : L) : Type 0 where
+  pub calm_for : calm link (is_planned keys)
+  pub sound : Sound keys (past link)
+  pub roomy : length (past link).objects + missing keys (past link).objects ≤ (past link).room
+
+-- a run that may make as many exchanges as the plan's bound finishes all keys within that bound
+abbrev pub Settles : List Key → Run → RunEnd → Type 0
+Settles keys run end = bound keys ≤ run.limit → (end.stop ≡ stops.AllFinished) × (end.exchanges ≤ bound keys)
+
+-- each of the runs asks about one to eight keys at once. Own (limit).
+abbrev pub MayBatch : List Run → Type 0
+MayBatch runs = All (λ (run : Run). IsTrue (may_have run.batch)) runs
+
+-- what is known at the end of the run is saved
+abbrev pub saves : Run → Bool
+saves run = run.save

@@ -1,0 +1,106 @@
+-- Runs on plans of which each prolongs the one before, the plans in turn.
+-- Source: own (view); what is own (choice) says so.
+use Rattle.std.specs.Prelude.{◌≡◌, ◌≢◌, ◌⊎◌, ◌≤◌, ◌<◌, ⊤, List, [], ◌∷◌, ◌++◌, ◌+◌, drop, filter, flat_map, length, map, take}
+use Rattle.std.specs.List.{AllZip}
+use Rattle.kmip_objects.specs.Objects.{Object}
+use Rattle.kmip_plan.specs.Prolonging.{Prolongs}
+use Rattle.kmip_plan.specs.declared.key.Key.{Key}
+use Rattle.kmip_progress.specs.Suiting.{nothing_known}
+use Rattle.kmip_progress.specs.declared.known.Known.{Known}
+use Rattle.kmip_client.specs.Held.{TrueProgress}
+use Rattle.kmip_protocol.specs.Past.{Names, Past, is_planned}
+use Rattle.kmip_protocol.specs.Sound.{NoneIsFurther, Sound}
+use Rattle.kmip_protocol.specs.Needs.{missing}
+use Rattle.kmip_runs.specs.Campaign.{IsEnd, Settles, saves}
+use Rattle.kmip_runs.specs.Remembering.{AreKnownFrom}
+use Rattle.kmip_runs.specs.declared.campaigning.Run.{Run}
+use Rattle.kmip_runs.specs.declared.campaigning.RunEnd.{RunEnd}
+
+-- each plan prolongs the one before it
+abbrev pub AreProlonged : List (List Key) → Type 0
+AreProlonged [] = ⊤
+AreProlonged (keys ∷ []) = ⊤
+AreProlonged (keys ∷ next ∷ plans) = Prolongs next keys × AreProlonged (next ∷ plans)
+
+-- the first of the plans, and none of its keys where there is no plan
+abbrev pub first_plan : List (List Key) → List Key
+first_plan [] = []
+first_plan (keys ∷ plans) = keys
+
+-- the last of the plans, and none of its keys where there is no plan
+abbrev pub last_plan : List (List Key) → List Key
+last_plan [] = []
+last_plan (keys ∷ []) = keys
+last_plan (keys ∷ next ∷ plans) = last_plan (next ∷ plans)
+
+-- The link is honest for the names of the last plan, and all that has happened over it is sound for the
+-- first. No name that only later plans have is on an object.
+pub record GoodStart {L : Type 0} (past : L → Past) (honest : L → Names → Type 0) (plans : List (List Key)) (link : L) : Type 0 where
+  pub honest_for : honest link (is_planned (last_plan plans))
+  pub sound : Sound (first_plan plans) (past link)
+  pub none_further : NoneIsFurther (last_plan plans) (first_plan plans) (past link).objects
+
+-- The link is calm for the names of the last plan, and all that has happened over it is sound for the first.
+-- No name that only later plans have is on an object, and there is room for the objects that the last plan
+-- misses.
+pub record CalmStart {L : Type 0} (past : L → Past) (calm : L → Names → Type 0) (plans : List (List Key)) (link : L) : Type 0 where
+  pub calm_for : calm link (is_planned (last_plan plans))
+  pub sound : Sound (first_plan plans) (past link)
+  pub none_further : NoneIsFurther (last_plan plans) (first_plan plans) (past link).objects
+  pub roomy : length (past link).objects + missing (last_plan plans) (past link).objects ≤ (past link).room
+
+-- what was saved under a plan, as its text is read for one that prolongs it: nothing is known of the further
+-- keys. Own (choice).
+abbrev pub carried_over : List Key → List Known → List Known
+carried_over keys saved = saved ++ map (λ key. nothing_known) (drop (length saved) keys)
+
+-- what was saved, carried over to a plan, is true of that plan
+abbrev pub IsTrueFor : List Object → List Key → List Known → Type 0
+IsTrueFor objects keys saved = TrueProgress objects keys (carried_over keys saved)
+
+-- what the runs on one plan noted: their ends, and what was saved
+pub record Part : Type 0 where
+  pub ends : List RunEnd
+  pub saved : List (List Known)
+
+-- the ends that the runs on one plan noted
+abbrev pub part_ends : Part → List RunEnd
+part_ends part = part.ends
+
+-- what the runs on one plan saved
+abbrev pub part_saved : Part → List (List Known)
+part_saved part = part.saved
+
+-- These runs were made on a plan, between two pasts, as in a campaign on this plan alone that finds what was
+-- carried over to it.
+pub record IsPart (keys : List Key) (carried : List (List Known)) (runs : List Run) (part : Part) (honest calm whole : Type 0) (old new : Past) : Type 0 where
+  pub order : AllZip (IsEnd keys) (take (length part.ends) runs) part.ends
+  pub complete : whole → AllZip (IsEnd keys) runs part.ends × (length part.saved ≡ length (filter saves runs))
+  pub known : AreKnownFrom keys carried runs part.ends part.saved honest whole old new
+  pub settles : calm → whole → AllZip (Settles keys) runs part.ends
+
+-- The lists of runs were made on the plans in turn, the last of them whole or broken off. What was saved so
+-- far is carried over to each plan.
+abbrev pub AreParts : List (List Key) → List (List Run) → List (List Known) → List Part → Type 0 → Type 0 → Type 0 → Past → Past → Type 0
+AreParts plans runs saved [] honest calm whole old new = (whole → plans ≡ []) × (old ≡ new)
+AreParts [] runs saved (part ∷ parts) honest calm whole old new = ⊥
+AreParts (keys ∷ plans) [] saved (part ∷ parts) honest calm whole old new = ⊥
+AreParts (keys ∷ plans) (list ∷ runs) saved (part ∷ parts) honest calm whole old new =
+    (between : Past) × IsPart keys (map (carried_over keys) saved) list part honest calm (whole ⊎ (parts ≢ [])) old between
+    × AreParts plans runs (saved ++ part.saved) parts honest calm whole between new
+
+-- the last of these parts has fewer ends than its list has runs
+abbrev pub LastIsShort : List (List Run) → List Part → Type 0
+LastIsShort runs [] = ⊥
+LastIsShort [] (part ∷ parts) = ⊥
+LastIsShort (list ∷ runs) (part ∷ []) = length part.ends < length list
+LastIsShort (list ∷ runs) (part ∷ next ∷ parts) = LastIsShort runs (next ∷ parts)
+
+-- What is noted is what the runs on the plans noted, one plan after the other. Where memory ran out, the last
+-- part lacks an end, or there are fewer parts than plans.
+pub record AreInTurn (plans : List (List Key)) (runs : List (List Run)) (ends : List RunEnd) (saved : List (List Known)) (honest calm whole : Type 0) (old new : Past) : Type 0 where
+  pub parts : List Part
+  pub ends_are : ends ≡ flat_map part_ends parts
+  pub saved_are : saved ≡ flat_map part_saved parts
+  pub each : AreParts plans runs [] parts honest calm whole old new
+  pub broken : (whole → ⊥) → (length parts < length plans) ⊎ LastIsShort runs parts

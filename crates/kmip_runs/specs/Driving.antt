@@ -1,0 +1,193 @@
+-- What a run of exchanges does: what it keeps, what it asks, what the client learns of it, and why it ends.
+-- Source: own (view); what is own (law) says so.
+use Rattle.std.specs.Prelude.{◌≡◌, ◌⊎◌, ◌≤◌, ◌<◌, ◌+◌, ℕ, IsSome, map, List, [], ◌∷◌, ◌++◌, length, flat_map, Option, Some, None, ⊤}
+use Rattle.std.specs.List.{All, AllZip}
+use Rattle.kmip_messages.specs.Items.{requests_in}
+use Rattle.kmip_objects.specs.Objects.{Object, object_named}
+use Rattle.kmip_messages.specs.Written.{requests_item}
+use Rattle.kmip_batch_items.specs.declared.request.Request.{Request}
+use Rattle.kmip_plan.specs.Plans.{IsLawful, IsPlanned}
+use Rattle.kmip_plan.specs.Prolonging.{Prolongs}
+use Rattle.kmip_plan.specs.declared.key.Key.{Key}
+use Rattle.kmip_ttlv.specs.Spelling.{canon}
+use Rattle.kmip_client.specs.Asking.{AreApart, IsAbout, requests_at}
+use Rattle.kmip_client.specs.Clients.{ClientState, fresh, NoneWorks, SomeWorks, WorksAt, verdict_at}
+use Rattle.kmip_client.specs.Held.{Held}
+use Rattle.kmip_client.specs.Places.{Onward, position}
+use Rattle.kmip_client.specs.Knowledge.{chain_length}
+use Rattle.kmip_client.specs.Shapes.{IsKept}
+use Rattle.kmip_client.specs.Standing.{counts_of, verdicts_of}
+use Rattle.kmip_client.specs.declared.clash.Clash.{Clash}
+use Rattle.kmip_client.specs.declared.knowledge.Knowledge.{Knowledge}
+use Rattle.kmip_client.specs.declared.knowledge.Verdict.TheVariants.{Finished, Conflict}
+use Rattle.kmip_client.specs.declared.question.Part.{Part}
+use Rattle.kmip_client.specs.declared.question.Question.{Question}
+use Rattle.kmip_protocol.specs.Machine.{IsMirrored}
+use Rattle.kmip_protocol.specs.Past.{Past, Names, is_planned}
+use Rattle.kmip_protocol.specs.Sound.{Sound}
+use Rattle.kmip_client.specs.Known.{facts, known_after}
+use Rattle.kmip_protocol.specs.SettlingLaws.{NoneIsMade}
+use Rattle.kmip_protocol.specs.Needs.{need_all}
+use Rattle.kmip_protocol.specs.Ready.{IsReady}
+use Rattle.kmip_runs.specs.Campaign.{CalmLink, GoodLink}
+use Rattle.kmip_runs.specs.declared.stop.Stop.{Stop}
+use Rattle.kmip_runs.specs.declared.stop.Stop.TheVariants as stops
+use Rattle.kmip_runs.specs.declared.turn_fault.TurnFault.{TurnFault}
+use Rattle.kmip_runs.specs.declared.turn_fault.TurnFault.TheVariants.{Unmade, Unheard}
+
+-- The link is honest for the plan's names, all that has happened over it is sound, and what the client knows
+-- is true.
+pub record IsGood {L : Type 0} (past : L → Past) (honest : L → Names → Type 0) (c : ClientState) (link : L) : Type 0 where
+  pub honest_for : honest link (is_planned c.keys)
+  pub sound : Sound c.keys (past link)
+  pub held : Held (past link).objects c.keys c.knowns
+
+-- The link is calm for the plan's names, and the client is ready to settle.
+pub record IsSettling {L : Type 0} (past : L → Past) (calm : L → Names → Type 0) (c : ClientState) (link : L) : Type 0 where
+  pub calm_for : calm link (is_planned c.keys)
+  pub ready : IsReady (past link).room c.keys (past link).objects c.knowns
+
+-- The link is calm for the plan's names, none of them has an object, there is room for all, and the client
+-- knows nothing yet, however many keys its messages ask about.
+pub record IsUntouched {L : Type 0} (past : L → Past) (calm : L → Names → Type 0) (c : ClientState) (link : L) : Type 0 where
+  pub calm_for : calm link (is_planned c.keys)
+  pub fresh_is : c ≡ record (fresh c.keys) { batch = c.batch }
+  pub none_made : NoneIsMade c.keys (past link).objects
+  pub roomy : length (past link).objects + length c.keys ≤ (past link).room
+
+-- Each key of the plan has an object at the end of its chain, and the counts and verdicts say so.
+pub record IsComplete (keys : List Key) (objects : List Object) (knowns : List Knowledge) : Type 0 where
+  pub at_end : (key : Key) → IsPlanned keys key → IsSome (object_named key.attrs.name objects) × (position key objects ≡ chain_length key)
+  pub counts : counts_of knowns ≡ map chain_length keys
+  pub verdicts : verdicts_of keys knowns ≡ map (λ key. Finished) keys
+
+-- each message that the client sends asks about one key: it asks about no more at once, or the plan has one
+-- key
+abbrev pub AsksOne : ClientState → Type 0
+AsksOne c = (c.batch ≡ 1) ⊎ (length c.keys ≡ 1)
+
+-- how many questions all keys still need
+abbrev pub need : ClientState → Past → ℕ
+need c p = need_all c.keys c.knowns p.objects
+
+-- The link is calm and the client ready still. This many exchanges were made, and all keys need at least as
+-- many fewer questions; where each message asks one, exactly as many fewer. Own (law).
+pub record Nearer {L : Type 0} (past : L → Past) (calm : L → Names → Type 0) (c next : ClientState) (x y : L) (made : ℕ) : Type 0 where
+  pub settling : IsSettling past calm next y
+  pub nearer : made + need next (past y) ≤ need c (past x)
+  pub exactly : AsksOne c → made + need next (past y) ≡ need c (past x)
+
+-- The objects have gone onward for each key, and a past that was an image of the plan machine still is. Own
+-- (law).
+pub record WentOn (keys : List Key) (old new : Past) : Type 0 where
+  pub onward : Onward keys old.objects new.objects
+  pub mirrored : IsMirrored keys old → IsMirrored keys new
+
+-- What is kept for a plan that prolongs this one, while this one is carried out. Over a link that is honest
+-- for its names, what was sound for it stays so, its objects go onward, and an image of its machine stays
+-- one. Over a calm one there is room still for the objects that it misses, where memory did not run out. Own
+-- (law).
+pub record KeepsFurther {L : Type 0} (past : L → Past) (honest calm : L → Names → Type 0) (keys : List Key) (whole : Type 0) (old new : L) : Type 0 where
+  pub good : (further : List Key) → IsLawful further → Prolongs further keys → GoodLink past honest further old
+      → GoodLink past honest further new × WentOn further (past old) (past new)
+  pub calmly : whole → (further : List Key) → IsLawful further → Prolongs further keys → CalmLink past calm further old
+      → CalmLink past calm further new
+
+-- The bytes ask about one key of the plan or more, at most `most` and each once. They ask what a phase of
+-- each key asks, in its one written form.
+pub record IsQuestion (keys : List Key) (most : ℕ) (bytes : List ℕ) : Type 0 where
+  pub knowns : List Knowledge
+  pub places : List ℕ
+  pub some : 1 ≤ length places
+  pub few : length places ≤ most
+  pub works : All (WorksAt keys knowns) places
+  pub apart : AreApart places
+  pub written : bytes ≡ canon (requests_item (requests_at keys knowns places))
+
+-- This many exchanges were made, each with a message about at most `most` keys of the plan, and nothing else
+-- was asked. The facts known now are those known before and what the exchanges handed over.
+pub record Learnt (keys : List Key) (most : ℕ) (old new : Past) (knowns nexts : List Knowledge) (exchanges : ℕ) : Type 0 where
+  pub questions : List (List ℕ)
+  pub answers : List (Option (List ℕ))
+  pub sent_are : new.sent ≡ old.sent ++ questions
+  pub handed_are : new.handed ≡ old.handed ++ answers
+  pub requests_are : new.requests ≡ old.requests ++ flat_map requests_in questions
+  pub as_many_questions : length questions ≡ exchanges
+  pub as_many_answers : length answers ≡ exchanges
+  pub each : All (IsQuestion keys most) questions
+  pub known_is : facts nexts ≡ facts (known_after keys knowns answers)
+
+-- Nothing that was asked, sent or handed over is taken back. Own (law).
+pub record Grown (old new : Past) : Type 0 where
+  pub requests : (more : List Request) × (new.requests ≡ old.requests ++ more)
+  pub sent : (more : List (List ℕ)) × (new.sent ≡ old.sent ++ more)
+  pub handed : (more : List (Option (List ℕ))) × (new.handed ≡ old.handed ++ more)
+
+-- The questions of one more message about keys of the plan joined those asked.
+pub record AsksMore (keys : List Key) (most : ℕ) (old new : Past) : Type 0 where
+  pub question : List ℕ
+  pub is_question : IsQuestion keys most question
+  pub requests_are : new.requests ≡ old.requests ++ requests_in question
+
+-- The exchange in which memory ran out was not made: nothing was sent or handed over. At most the questions
+-- of one message joined those asked.
+pub record IsUnmade (keys : List Key) (most : ℕ) (old new : Past) : Type 0 where
+  pub asked : (new.requests ≡ old.requests) ⊎ AsksMore keys most old new
+  pub sent_stays : new.sent ≡ old.sent
+  pub handed_stays : new.handed ≡ old.handed
+
+-- One more exchange was made, and a reply came, from which there was no memory to learn.
+pub record IsUnheard (keys : List Key) (most : ℕ) (old new : Past) : Type 0 where
+  pub question : List ℕ
+  pub reply : List ℕ
+  pub is_question : IsQuestion keys most question
+  pub requests_are : new.requests ≡ old.requests ++ requests_in question
+  pub sent_are : new.sent ≡ old.sent ++ question ∷ []
+  pub handed_are : new.handed ≡ old.handed ++ Some reply ∷ []
+
+-- Private: what a turn leaves in which memory ran out, by where it did.
+abbrev pub IsBrokenOff : List Key → ℕ → Past → Past → TurnFault → Type 0
+IsBrokenOff keys most old new Unmade = IsUnmade keys most old new
+IsBrokenOff keys most old new Unheard = IsUnheard keys most old new
+
+-- This many exchanges were made until memory ran out. What they handed over was learnt, but for the last
+-- reply, where there was no memory to learn from it.
+pub record LearntUntil (keys : List Key) (most : ℕ) (old new : Past) (knowns nexts : List Knowledge) (exchanges : ℕ) : Type 0 where
+  pub between : Past
+  pub heard : ℕ
+  pub learnt : Learnt keys most old between knowns nexts heard
+  pub broken : ((exchanges ≡ heard) × IsUnmade keys most between new) ⊎ ((exchanges ≡ heard + 1) × IsUnheard keys most between new)
+
+-- Private: each part of a message is about a key of the plan.
+abbrev pub AreParts : List Key → List Part → Type 0
+AreParts keys parts = All (λ (part : Part). part.key < length keys) parts
+
+-- Private: a message that the client may send: about keys that it works on, at most as many as it asks about
+-- at once.
+pub record IsToBePut (c : ClientState) (question : Question) : Type 0 where
+  pub places : List ℕ
+  pub about : IsAbout c.keys c.knowns places question
+  pub few : length places ≤ c.batch
+
+-- The plan stays, and how many keys are asked about at once, and no identifier or count is taken back. Own
+-- (law).
+pub record Keeps (old new : ClientState) : Type 0 where
+  pub keys_stay : new.keys ≡ old.keys
+  pub batch_stays : new.batch ≡ old.batch
+  pub kept : AllZip IsKept old.knowns new.knowns
+
+-- some key of the plan is in conflict
+abbrev pub SomeClash : List Key → List Knowledge → Type 0
+SomeClash keys knowns = (place : ℕ) × (clash : Clash) × (place < length keys) × (verdict_at keys knowns place ≡ Conflict clash)
+
+-- each key of the plan is finished
+abbrev pub AreFinished : List Key → List Knowledge → Type 0
+AreFinished keys knowns = (place : ℕ) → place < length keys → verdict_at keys knowns place ≡ Finished
+
+-- how the keys stand where a run stops for this reason: with `AllFinished` each is finished, with `Limit` one
+-- is worked on, and with `Conflict` none is worked on and one is in conflict
+abbrev pub Stands : Stop → List Key → List Knowledge → Type 0
+Stands stops.AllFinished keys knowns = AreFinished keys knowns
+Stands stops.Limit keys knowns = SomeWorks keys knowns
+Stands stops.Conflict keys knowns = NoneWorks keys knowns × SomeClash keys knowns
+Stands stops.NoMemory keys knowns = ⊤

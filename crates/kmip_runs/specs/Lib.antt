@@ -1,0 +1,40 @@
+-- What runs of exchanges over a link do: what they ask, learn, report and save, and what holds after them.
+
+-- why a run stops: the number and the name of each reason
+pub mod Stops
+-- the report of a run, line by line
+pub mod Reporting
+-- what is promised of a campaign: good and calm links, what is reported done, and what each end shows
+pub mod Campaign
+-- what a run of exchanges keeps, asks and learns, how it stands when it stops, and how near its end it is
+pub mod Driving
+-- what the turns of a run make of a client
+pub mod Turning
+-- what exchanges over a link that goes on losing cost, and how many are enough
+pub mod Losing
+-- where the runs of a campaign were ended over the link
+pub mod Ending
+-- what is known at the end of each run, and what was asked and heard for it
+pub mod Remembering
+-- the runs client by client: what each begins with, and what its turns make of that
+pub mod TurnedRuns
+-- campaigns on several plans, of which each prolongs the one before it
+pub mod Campaigns
+-- private: what the parts of a campaign keep
+pub mod CampaignParts
+-- private: what the parts of a campaign on several plans keep
+pub mod CampaignsParts
+-- private: the laws of the crates below that runs rest on
+pub mod Lawbook
+-- What a run saves of a plan that it carries out, and how long it waits.
+
+-- which texts are saved, and what each of them says
+pub mod Saved
+-- that a text could not be written
+pub mod Refusals
+-- how long a run waits that does not get on
+pub mod Waits
+-- private: what the parts of a run keep
+pub mod Carried
+-- private: when a run gets on by an exchange
+pub mod Sights

@@ -1,0 +1,48 @@
+-- What is reported of the keys of a plan: a line for each key, with how many of its steps are done and how it
+-- stands, and a line that counts the finished keys.
+-- Source: own (text).
+use Rattle.std.specs.Prelude.{ℕ, Bool, true, false, List, [], ◌∷◌, ◌++◌, length, filter, codes, decimal}
+use Rattle.kmip_plan.specs.TargetWords.{target_word}
+use Rattle.kmip_plan.specs.declared.key.Key.{Key}
+use Rattle.kmip_client.specs.Knowledge.{chain_length}
+use Rattle.kmip_client.specs.declared.clash.Clash.TheVariants.{Attributes, State, TwoObjects}
+use Rattle.kmip_client.specs.declared.knowledge.Verdict.{Verdict}
+use Rattle.kmip_client.specs.declared.knowledge.Verdict.TheVariants.{Working, Finished, Conflict}
+
+-- how a verdict is printed
+abbrev pub verdict_word : Verdict → List ℕ
+verdict_word Working = codes "working"
+verdict_word Finished = codes "finished"
+verdict_word (Conflict Attributes) = codes "conflict attributes"
+verdict_word (Conflict State) = codes "conflict state"
+verdict_word (Conflict TwoObjects) = codes "conflict two-objects"
+
+-- the line of a key: its name, its target, how many of its steps are done, and its verdict
+abbrev pub report_line : Key → ℕ → Verdict → List ℕ
+report_line key done verdict =
+    key.attrs.name ++ codes " " ++ target_word key.target ++ codes " " ++ decimal done ++ codes "/" ++ decimal (chain_length key) ++ codes " "
+    ++ verdict_word verdict ++ codes "\n"
+
+-- the lines of all keys, in the order of the plan
+abbrev pub report_lines : List Key → List ℕ → List Verdict → List ℕ
+report_lines [] counts verdicts = []
+report_lines (key ∷ keys) [] verdicts = []
+report_lines (key ∷ keys) (done ∷ counts) [] = []
+report_lines (key ∷ keys) (done ∷ counts) (verdict ∷ verdicts) = report_line key done verdict ++ report_lines keys counts verdicts
+
+-- the verdict is that the key is finished
+abbrev pub is_finished : Verdict → Bool
+is_finished Finished = true
+is_finished verdict = false
+
+-- how many of the verdicts are that a key is finished
+abbrev pub finished_count : List Verdict → ℕ
+finished_count verdicts = length (filter is_finished verdicts)
+
+-- the last line: how many keys are finished, and how many there are
+abbrev pub sum_line : List Key → List Verdict → List ℕ
+sum_line keys verdicts = codes "finished " ++ decimal (finished_count verdicts) ++ codes " of " ++ decimal (length keys) ++ codes "\n"
+
+-- the report: a line for each key, and the last line
+abbrev pub report_text : List Key → List ℕ → List Verdict → List ℕ
+report_text keys counts verdicts = report_lines keys counts verdicts ++ sum_line keys verdicts

@@ -1,0 +1,89 @@
+-- What is saved while a plan is carried out: after each exchange a text of what is then known.
+-- Source: own (view): the standard knows no plan, and no progress that is kept.
+use Rattle.std.specs.Prelude.{◌≡◌, ◌≢◌, ◌≤◌, ◌+◌, ◌⊎◌, ℕ, ⊤, List, [], ◌∷◌, ◌++◌, length, map, Result, Ok, Err}
+use Rattle.std.specs.List.{All, AllZip}
+use Rattle.kmip_plan.specs.declared.key.Key.{Key}
+use Rattle.kmip_progress.specs.Texts.{progress_text}
+use Rattle.kmip_client.specs.Clients.{ClientState}
+use Rattle.kmip_client.specs.Held.{Held}
+use Rattle.kmip_client.specs.Saving.{known_of}
+use Rattle.kmip_client.specs.Shapes.{IsKept}
+use Rattle.kmip_client.specs.declared.knowledge.Knowledge.{Knowledge}
+use Rattle.kmip_protocol.specs.Past.{Past}
+use Rattle.kmip_runs.specs.Driving.{Learnt}
+use Rattle.kmip_runs.specs.declared.stop.Stop.{Stop}
+use Rattle.kmip_runs.specs.declared.stop.Stop.TheVariants as stops
+use Rattle.kmip_runs.specs.declared.keeper.SaveFault.{SaveFault}
+
+-- What is known at a moment, and all that has happened by then.
+pub record Moment : Type 0 where
+  pub knowns : List Knowledge
+  pub past : Past
+
+-- What a client knows now, and what has happened over its link.
+abbrev pub moment : {L : Type 0} → (L → Past) → ClientState → L → Moment
+moment past c link = record { knowns = c.knowns; past = past link }
+
+-- The progress text of what is known at a moment.
+abbrev pub text_at : List Key → Moment → List ℕ
+text_at keys moment = progress_text keys (map known_of moment.knowns)
+
+-- The last of some moments, or the one before them where there is none.
+abbrev pub last_moment : Moment → List Moment → Moment
+last_moment before [] = before
+last_moment before (moment ∷ moments) = last_moment moment moments
+
+-- Each moment is one exchange later than the one before it, and what is new was taught by what that
+-- exchange handed over.
+abbrev pub AreInTurn : List Key → ℕ → Moment → List Moment → Type 0
+AreInTurn keys most before [] = ⊤
+AreInTurn keys most before (moment ∷ moments) =
+    Learnt keys most before.past moment.past before.knowns moment.knowns 1 × AreInTurn keys most moment moments
+
+-- No moment takes back an identifier or a count that was known before.
+abbrev pub AreKept : List Knowledge → List Moment → Type 0
+AreKept knowns [] = ⊤
+AreKept knowns (moment ∷ moments) = AllZip IsKept knowns moment.knowns × AreKept moment.knowns moments
+
+-- It did not stop for want of memory. A text that was not saved is no want of memory here.
+abbrev pub IsInMemory : Result Stop SaveFault → Type 0
+IsInMemory result = result ≢ Ok stops.NoMemory
+
+-- Memory did not run out, and no text was left unsaved.
+abbrev pub IsWhole : Result Stop SaveFault → Type 0
+IsWhole (Ok stop) = stop ≢ stops.NoMemory
+IsWhole (Err fault) = ⊥
+
+-- A run was left with keys that are worked on, or memory ran out.
+abbrev pub IsLeft : Result Stop SaveFault → Type 0
+IsLeft result = (result ≡ Ok stops.Limit) ⊎ (result ≡ Ok stops.NoMemory)
+
+-- How many exchanges have no text: none where all was saved, one where the last text was not, and at most
+-- one where memory ran out.
+abbrev pub AreUnsaved : Result Stop SaveFault → ℕ → Type 0
+AreUnsaved (Ok stops.AllFinished) count = count ≡ 0
+AreUnsaved (Ok stops.Limit) count = count ≡ 0
+AreUnsaved (Ok stops.Conflict) count = count ≡ 0
+AreUnsaved (Ok stops.NoMemory) count = count ≤ 1
+AreUnsaved (Err fault) count = count ≡ 1
+
+-- Which texts were saved between two moments, `old` before and `new` after: for each exchange one, of
+-- what was then known. The last exchange may have none, as `AreUnsaved` says. No moment, and not the end,
+-- takes back an identifier or a count.
+-- Over an honest link each moment is one exchange later than the one before, with what that exchange
+-- taught. Unless memory ran out, the end has what the exchanges without a text taught beyond the last
+-- moment. Where all was saved, the text of what is known at the end is that of the last moment, or of the
+-- start where there is none.
+-- Where all was good at the start, what each text says is true of the objects at the end.
+pub record AreSaved (keys : List Key) (most : ℕ) (good honest : Type 0) (begun ended : Moment) (result : Result Stop SaveFault) (exchanges : ℕ) (old new : List (List ℕ)) : Type 0 where
+  pub moments : List Moment
+  pub texts_are : new ≡ old ++ map (text_at keys) moments
+  pub unsaved : ℕ
+  pub are_unsaved : AreUnsaved result unsaved
+  pub as_many : length moments + unsaved ≡ exchanges
+  pub kept : AreKept begun.knowns (moments ++ ended ∷ [])
+  pub taught : honest → AreInTurn keys most begun moments
+  pub rest : honest → IsInMemory result
+      → Learnt keys most (last_moment begun moments).past ended.past (last_moment begun moments).knowns ended.knowns unsaved
+  pub true_of : good → All (λ (moment : Moment). Held ended.past.objects keys moment.knowns) moments
+  pub last_is : honest → IsWhole result → text_at keys ended ≡ text_at keys (last_moment begun moments)

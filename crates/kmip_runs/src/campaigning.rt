@@ -1,0 +1,448 @@
+//! Runs in turn over one link, each from nothing, from the run before it or from a saved progress.
+ghost use Rattle.std.specs.Prelude.{◌≡◌, ◌≢◌, ◌≤◌, ◌<◌, ◌⊎◌, ℕ, List, [], ◌++◌, length, filter, take, Some, None, Ok, IfOk, OnErr, OnOk, IfSome, option_map, IsTrue};
+ghost use Rattle.std.specs.List.{All, AllZip, Contains};
+ghost use Rattle.kmip_objects.specs.Objects.{Object};
+ghost use Rattle.kmip_messages.specs.Members.{may_have};
+ghost use Rattle.kmip_client.specs.Held.{Held, TrueProgress};
+ghost use Rattle.kmip_progress.specs.Suiting.{Suits};
+ghost use Rattle.kmip_protocol.specs.Machine.{IsMirrored};
+ghost use Rattle.kmip_protocol.specs.Past.{Names, is_planned};
+ghost use Rattle.kmip_protocol.specs.Safe.{Safe};
+ghost use Rattle.kmip_protocol.specs.Sound.{Opening};
+ghost use Rattle.kmip_runs.specs.Campaign.{CalmLink, GoodLink, HasNoConflict, IsEnd, MayBatch, Settles, reported, saves};
+ghost use Rattle.kmip_runs.specs.CampaignParts.{
+  CampaignLaws,
+  Campaigned,
+  HasRun,
+  HasRunAll,
+  HasSettled,
+  IsBroken,
+  Standing,
+};
+ghost use Rattle.kmip_runs.specs.Driving.{KeepsFurther, WentOn};
+ghost use Rattle.kmip_runs.specs.Ending.{AreEnded, EndsJoin};
+ghost use Rattle.kmip_runs.specs.Losing.{AllOutlast, HasOutlasted};
+ghost use Rattle.kmip_runs.specs.Remembering.{AreKnown, AreKnownFrom, resumed, saved_numbered, start_knowns};
+ghost use Rattle.kmip_runs.specs.TurnedRuns.{AreTurnedFrom, RanTurned, begin_client, resumed_client};
+
+use crate::driving::drive;
+use crate::ending::{close_run, ending_of, note};
+use crate::stop::Stop;
+use kmip_client::laws::{onward_is_an_order, truth_is_for_good};
+use kmip_client::{Client, Verdict};
+use kmip_plan::Plan;
+use kmip_plan::chain_laws::steps_have_places;
+use kmip_plan::laws::keys_have_names;
+use kmip_progress::Progress;
+use kmip_protocol::Link;
+use kmip_protocol::laws::{
+    deliveries_keep_sound, objects_go_onward, opening_is_mirrored, sound_is_safe, the_image_is_kept,
+};
+use kmip_protocol::settling_laws::sound_is_ready;
+use kmip_ttlv::NoMemory;
+use std::alloc::Global;
+
+/// What a run begins with.
+#[derive(Clone, Copy)]
+pub enum Start {
+    /// Nothing is known.
+    Fresh,
+    /// What was known at the end of the run before; nothing in the first run.
+    Same,
+    /// The saved progress of this number, from 1; nothing where there is none.
+    Saved(usize),
+}
+
+/// A run: what it begins with, and how many exchanges it may make at most. Each of its messages asks about at
+/// most `batch` keys, 1 to 8. `save` says whether what is known at its end is saved.
+#[derive(Clone, Copy)]
+pub struct Run {
+    pub start: Start,
+    pub limit: usize,
+    pub batch: usize,
+    pub save: bool,
+}
+
+/// How a run ended.
+#[derive(Drop)]
+pub struct RunEnd {
+    /// Why it stopped; never by want of memory.
+    pub stop: Stop,
+    /// How many exchanges it made.
+    pub exchanges: usize,
+    /// How many steps of each key are known to be done, in the order of the plan.
+    pub counts: Vec<usize>,
+    /// The verdict on each key, in the order of the plan.
+    pub verdicts: Vec<Verdict>,
+    /// The report of these counts and verdicts.
+    pub report: String,
+}
+
+/// How a campaign ended: the ends of its runs and what was saved, in order, and whether it ended for want of
+/// memory.
+#[derive(Drop)]
+pub struct CampaignEnd {
+    pub runs: Vec<RunEnd>,
+    pub saved: Vec<Progress>,
+    pub fault: Option<NoMemory>,
+}
+
+/// The headline: makes the runs of a plan in turn over one link, and ends each run over the link. A run
+/// begins with nothing, with what was known at the end of the run before, or with a progress that an earlier
+/// run saved.
+///
+/// Want of memory ends the campaign and keeps what was done. A run that it stopped has no end, and `fault`
+/// says that memory ran out.
+///
+/// Below, a link is good (`GoodLink`) where it is honest for the plan's names, and all that has happened over
+/// it is sound. What is said of a good link is so whatever the runs are, and wherever memory ran out. What is
+/// said of any link asks nothing of it. The head of lib.rt explains these words, one by one.
+pub fn campaign<L: Link>(alloc: Global, plan: &Plan, link: &mut L, runs: &[Run]) -> CampaignEnd
+    // Each run asks about one to eight keys at once.
+    requires { MayBatch runs.now }
+    // Over a good link, the past after the campaign is safe for all that its ends and its saves report done.
+    // Each planned name is on at most one object, with the attributes of the plan. What took effect on it is
+    // the first steps of its chain, each once and in order, and every step reported is among these. A request
+    // that comes again after its step took effect changes no object.
+    ensures safe { GoodLink L.past L.honest plan.now link.old
+        → Safe plan.now (L.past link.new)
+        (reported plan.now result.runs.items result.saved.items) }
+    // Over a good link the past is an image of a run of the plan machine, where nothing of the plan had
+    // happened before, or where the past was such an image before.
+    ensures machine { GoodLink L.past L.honest plan.now link.old
+        → (Opening plan.now (L.past link.old) → IsMirrored plan.now (L.past link.new))
+        × (IsMirrored plan.now (L.past link.old) → IsMirrored plan.now (L.past link.new)) }
+    // Over a good link no run stops in conflict, and no end has a key in conflict.
+    ensures no_conflict { GoodLink L.past L.honest plan.now link.old
+        → All HasNoConflict result.runs.items }
+    // A good link is good after the campaign too, so that another campaign may follow.
+    ensures sound { GoodLink L.past L.honest plan.now link.old
+        → GoodLink L.past L.honest plan.now link.new }
+    // Over a good link each saved progress is true of the objects that are there after the campaign.
+    ensures true_saved { GoodLink L.past L.honest plan.now link.old
+        → All (TrueProgress (L.past link.new).objects plan.now) result.saved.items }
+    // Over a good link the object of each planned name keeps its identifier and never goes back, and a past
+    // that was an image of the plan machine still is.
+    ensures goes { GoodLink L.past L.honest plan.now link.old
+        → WentOn plan.now (L.past link.old) (L.past link.new) }
+    // Over any link the ends are those of the first runs, in order. Each is borne out by its own counts and
+    // verdicts (`IsEnd`): its report, the reason why it stopped, and its number of exchanges within the
+    // limit.
+    ensures order { AllZip (IsEnd plan.now) (take (length result.runs.items) runs.now)
+        result.runs.items }
+    // Unless memory ran out, over any link each run has its end, and as much was saved as the runs say.
+    ensures complete { result.fault ≡ None → AllZip (IsEnd plan.now) runs.now result.runs.items
+        × (length result.saved.items ≡ length (filter saves runs.now)) }
+    // For each end there is a knowledge that it shows. This takes back no identifier and no count of what the
+    // run began with: nothing, what was known at the end before, or what was saved. What was saved is exactly
+    // what was known at the ends of the runs that say so. Where the link is honest for the plan's names,
+    // sound or not, each exchange that the ends count sent one message. It asks about keys of the plan, each
+    // once, and about no more of them than the run asks about at once. What is known at an end is what its
+    // run began with and what its exchanges handed over. Nothing else was asked, sent or handed over until
+    // the last end, and later only where memory ran out: then the next run sent no more messages than its
+    // limit.
+    ensures known { AreKnown plan.now runs.now result.runs.items result.saved.items
+        (L.honest link.old (is_planned plan.now)) (result.fault ≡ None)
+        (L.past link.old) (L.past link.new) }
+    // Client by client: each run begins with a client that knows nothing, with that of the run before, or
+    // with one that goes on from a save. The turns of the run, one for each exchange that its end counts,
+    // made of it the client that the end shows. Where the link is honest for the plan's names, the messages
+    // that were sent until the last end are the questions of these turns, and what was handed over are their
+    // answers. Unless memory ran out, nothing was sent or handed over later.
+    ensures turned { AreTurnedFrom plan.now [] runs.now result.runs.items
+        (L.honest link.old (is_planned plan.now)) (result.fault ≡ None)
+        (L.past link.old) (L.past link.new) }
+    // Where the link is calm for the plan's names, all that has happened over it is sound, and there is room
+    // for the objects that are missing (`CalmLink`): unless memory ran out, so it is after the campaign. And
+    // each run that may make as many exchanges as the plan's bound finishes every key within that bound,
+    // whatever it began with.
+    ensures settles { CalmLink L.past L.calm plan.now link.old → result.fault ≡ None
+        → AllZip (Settles plan.now) runs.now result.runs.items
+        × CalmLink L.past L.calm plan.now link.new }
+    // Over a good link, unless memory ran out, each run finishes every key if it may make enough exchanges,
+    // whatever it began with. Enough are the plan's bound, one for each key, and what the disturbed ones of
+    // its own exchanges cost. A disturbed exchange costs one, two for each request that it sent, and one for
+    // each reply about another key that the link counts. It is no premise that the link ever stops losing.
+    ensures outlasts { GoodLink L.past L.honest plan.now link.old → result.fault ≡ None
+        → AllOutlast plan.now runs.now result.runs.items (L.disturbances link.old)
+        (L.disturbances link.new) }
+    // Where memory ran out, some run has no end.
+    ensures fewer { result.fault ≢ None → length result.runs.items < length runs.now }
+    // Where the link is honest for the plan's names, the runs that have ends are those that were ended over
+    // it, each right after its last exchange, and no other run was.
+    ensures ended { L.honest link.old (is_planned plan.now) → AreEnded result.runs.items
+        (length (L.past link.old).sent) (L.ended link.old) (L.ended link.new) }
+    // Unless memory ran out, the link after the campaign is what calls made of the link before, as the link
+    // itself tells it (`follows`).
+    ensures followed { result.fault ≡ None → L.follows link.old link.new }
+{
+    laws_of_runs();
+    plan.keys();
+    let carried = Vec::new(alloc);
+    run_all(alloc, plan, link, runs, carried.as_slice())
+}
+
+/// The laws of the crates below.
+pub(crate) fn laws_of_runs()
+    ensures { CampaignLaws }
+{
+    keys_have_names();
+    steps_have_places();
+    onward_is_an_order();
+    truth_is_for_good();
+    deliveries_keep_sound();
+    objects_go_onward();
+    the_image_is_kept();
+    opening_is_mirrored();
+    sound_is_safe();
+    sound_is_ready();
+}
+
+/// Makes the runs of a plan in turn, where this was saved under earlier plans, as it is read for the
+/// plan. Want of memory ends them, and keeps what was done.
+pub(crate) fn run_all<L: Link>(
+    alloc: Global,
+    plan: &Plan,
+    link: &mut L,
+    runs: &[Run],
+    carried: &[Progress],
+) -> CampaignEnd
+    requires carried { All (Suits plan.now) carried.now }
+    requires batches { MayBatch runs.now }
+    ensures all { HasRunAll L.past L.honest L.calm plan.now carried.now runs.now result
+        link.old link.new }
+    ensures outlasts { GoodLink L.past L.honest plan.now link.old
+        → All (TrueProgress (L.past link.old).objects plan.now) carried.now → result.fault ≡ None
+        → AllOutlast plan.now runs.now result.runs.items (L.disturbances link.old)
+        (L.disturbances link.new) }
+    ensures ended { L.honest link.old (is_planned plan.now) → EndsJoin [] result.runs.items
+        (result.fault ≡ None) (length (L.past link.old).sent) (length (L.past link.new).sent)
+        (L.ended link.old) (L.ended link.new) }
+    ensures followed { result.fault ≡ None → L.follows link.old link.new }
+    ensures turned { AreTurnedFrom plan.now carried.now runs.now result.runs.items
+        (L.honest link.old (is_planned plan.now)) (result.fault ≡ None)
+        (L.past link.old) (L.past link.new) }
+{
+    let mut end = CampaignEnd {
+        runs: Vec::new(alloc),
+        saved: Vec::new(alloc),
+        fault: None,
+    };
+    let fault = run_each(alloc, plan, link, runs, carried, &mut end).err();
+    end.fault = fault;
+    end
+}
+
+/// Makes the runs in turn, and notes how each ended.
+///
+/// # Errors
+/// Where there is no memory; what was done is noted.
+fn run_each<L: Link>(
+    alloc: Global,
+    plan: &Plan,
+    link: &mut L,
+    runs: &[Run],
+    carried: &[Progress],
+    end: &mut CampaignEnd,
+) -> Result<(), NoMemory>
+    requires no_end { end.old.runs.items ≡ [] }
+    requires none_saved { end.old.saved.items ≡ [] }
+    requires carried { All (Suits plan.now) carried.now }
+    requires batches { MayBatch runs.now }
+    ensures suits { All (Suits plan.now) end.new.saved.items }
+    ensures stands { GoodLink L.past L.honest plan.now link.old
+        → All (TrueProgress (L.past link.old).objects plan.now) carried.now
+        → Campaigned L.past L.honest plan.now link.old link.new end.new.runs.items
+        end.new.saved.items
+        × KeepsFurther L.past L.honest L.calm plan.now (result ≡ Ok tt) link.old link.new }
+    ensures honest { (names : Names) → L.honest link.old names → L.honest link.new names }
+    ensures order { AllZip (IsEnd plan.now) (take (length end.new.runs.items) runs.now)
+        end.new.runs.items }
+    ensures complete { OnOk result (AllZip (IsEnd plan.now) runs.now end.new.runs.items
+        × (length end.new.saved.items ≡ length (filter saves runs.now))) }
+    ensures known { AreKnownFrom plan.now carried.now runs.now end.new.runs.items
+        end.new.saved.items (L.honest link.old (is_planned plan.now)) (result ≡ Ok tt)
+        (L.past link.old) (L.past link.new) }
+    ensures turned { AreTurnedFrom plan.now carried.now runs.now end.new.runs.items
+        (L.honest link.old (is_planned plan.now)) (result ≡ Ok tt)
+        (L.past link.old) (L.past link.new) }
+    ensures settles { CalmLink L.past L.calm plan.now link.old
+        → All (TrueProgress (L.past link.old).objects plan.now) carried.now
+        → OnOk result (AllZip (Settles plan.now) runs.now end.new.runs.items
+        × CalmLink L.past L.calm plan.now link.new) }
+    ensures outlasts { GoodLink L.past L.honest plan.now link.old
+        → All (TrueProgress (L.past link.old).objects plan.now) carried.now
+        → OnOk result (AllOutlast plan.now runs.now end.new.runs.items
+        (L.disturbances link.old) (L.disturbances link.new)) }
+    ensures fewer { OnErr result (length end.new.runs.items < length runs.now) }
+    ensures ended { L.honest link.old (is_planned plan.now) → EndsJoin [] end.new.runs.items
+        (result ≡ Ok tt) (length (L.past link.old).sent) (length (L.past link.new).sent)
+        (L.ended link.old) (L.ended link.new) }
+    ensures followed { OnOk result (L.follows link.old link.new) }
+{
+    laws_of_runs();
+    L::calm_laws();
+    plan.keys();
+    if runs.is_empty() {
+        return Ok(());
+    }
+    let mut client = Client::fresh(alloc, plan)?;
+    for place in 0..runs.len() {
+        one_run(alloc, plan, &mut client, link, runs[place], carried, end)?;
+    }
+    Ok(())
+}
+
+/// Makes a run, and notes how it ended.
+///
+/// # Errors
+/// Where there is no memory; what was done is noted.
+fn one_run<'p, L: Link>(
+    alloc: Global,
+    plan: &'p Plan,
+    client: &mut Client<'p>,
+    link: &mut L,
+    run: Run,
+    carried: &[Progress],
+    end: &mut CampaignEnd,
+) -> Result<(), NoMemory>
+    requires keys { client.old.keys ≡ plan.now }
+    requires carried { All (Suits plan.now) carried.now }
+    requires batch { IsTrue (may_have run.batch) }
+    requires suits { All (Suits plan.now) end.old.saved.items }
+    ensures keys { client.new.keys ≡ plan.now }
+    ensures suits { All (Suits plan.now) end.new.saved.items }
+    ensures stands { Standing L.past L.honest plan.now client.old link.old end.old.runs.items
+        end.old.saved.items
+        → All (TrueProgress (L.past link.old).objects plan.now) carried.now
+        → Standing L.past L.honest plan.now client.new link.new end.new.runs.items
+        end.new.saved.items × WentOn plan.now (L.past link.old) (L.past link.new) }
+    ensures honest { (names : Names) → L.honest link.old names → L.honest link.new names }
+    ensures further { Standing L.past L.honest plan.now client.old link.old end.old.runs.items
+        end.old.saved.items
+        → All (TrueProgress (L.past link.old).objects plan.now) carried.now
+        → KeepsFurther L.past L.honest L.calm plan.now (result ≡ Ok tt) link.old link.new }
+    ensures ran { OnOk result (HasRun L.past L.honest plan.now carried.now run client.old
+        client.new link.old link.new end.old end.new) }
+    ensures turned { OnOk result (RanTurned plan.now
+        (begin_client plan.now run client.old (carried.now ++ end.old.saved.items)) client.new
+        (L.honest link.old (is_planned plan.now)) (L.past link.old) (L.past link.new)
+        end.old.runs.items end.new.runs.items) }
+    ensures broken { OnErr result (IsBroken L.past L.honest plan.now run link.old link.new
+        end.old end.new) }
+    ensures settles { Standing L.past L.honest plan.now client.old link.old end.old.runs.items
+        end.old.saved.items
+        → All (TrueProgress (L.past link.old).objects plan.now) carried.now
+        → CalmLink L.past L.calm plan.now link.old
+        → OnOk result (HasSettled plan.now run end.old.runs.items end.new.runs.items
+        × CalmLink L.past L.calm plan.now link.new) }
+    ensures outlasts { Standing L.past L.honest plan.now client.old link.old end.old.runs.items
+        end.old.saved.items
+        → All (TrueProgress (L.past link.old).objects plan.now) carried.now
+        → OnOk result (HasOutlasted plan.now run end.old.runs.items end.new.runs.items
+        (L.disturbances link.old) (L.disturbances link.new)) }
+    ensures ended { L.honest link.old (is_planned plan.now) → EndsJoin end.old.runs.items
+        end.new.runs.items (result ≡ Ok tt) (length (L.past link.old).sent)
+        (length (L.past link.new).sent) (L.ended link.old) (L.ended link.new) }
+    ensures followed { OnOk result (L.follows link.old link.new) }
+{
+    laws_of_runs();
+    L::calm_laws();
+    plan.keys();
+    begin(alloc, plan, client, carried, end.saved.as_slice(), run)?;
+    let driven = drive(alloc, client, link, run.limit);
+    let ending = ending_of(alloc, client, run, driven, end)?;
+    close_run(alloc, link)?;
+    note(ending, end);
+    Ok(())
+}
+
+/// Gives the client what its run begins with, and how many keys it is to ask about at once.
+///
+/// # Errors
+/// Where there is no memory; the client is then as it was.
+fn begin<'p>(
+    alloc: Global,
+    plan: &'p Plan,
+    client: &mut Client<'p>,
+    carried: &[Progress],
+    saved: &[Progress],
+    run: Run,
+) -> Result<(), NoMemory>
+    requires keys { client.old.keys ≡ plan.now }
+    requires batch { IsTrue (may_have run.batch) }
+    requires carried { All (Suits plan.now) carried.now }
+    requires suits { All (Suits plan.now) saved.now }
+    ensures keys { client.new.keys ≡ plan.now }
+    ensures held { (objects : List Object) → All (TrueProgress objects plan.now) carried.now
+        → All (TrueProgress objects plan.now) saved.now
+        → Held objects client.old.keys client.old.knowns
+        → Held objects client.new.keys client.new.knowns }
+    ensures begun { OnOk result (client.new.knowns
+        ≡ start_knowns plan.now run.start client.old.knowns (carried.now ++ saved.now)) }
+    ensures client { OnOk result (client.new
+        ≡ begin_client plan.now run client.old (carried.now ++ saved.now)) }
+    ensures batch { OnOk result (client.new.batch ≡ run.batch) }
+{
+    let number = match run.start {
+        Start::Same => {
+            client.set_batch(run.batch);
+            return Ok(());
+        }
+        Start::Fresh => 0,
+        Start::Saved(number) => number,
+    };
+    *client = client_from(alloc, plan, carried, saved, number)?;
+    client.set_batch(run.batch);
+    Ok(())
+}
+
+/// The saved progress of a number, from 1; what was carried over from earlier plans comes first.
+fn saved_at<'s>(
+    carried: &'s [Progress],
+    saved: &'s [Progress],
+    number: usize,
+) -> Option<&'s Progress>
+    ensures value { option_map (λ progress. progress.now) result
+        ≡ saved_numbered number (carried.now ++ saved.now) }
+    ensures member { IfSome result (λ progress. Contains carried.now progress.now
+        ⊎ Contains saved.now progress.now) }
+{
+    if number == 0 {
+        return None;
+    }
+    let place = number - 1;
+    if place < carried.len() {
+        return carried.get(place);
+    }
+    saved.get(place - carried.len())
+}
+
+/// A client that begins with the saved progress of a number, from 1, or with nothing where there is
+/// none; what was carried over from earlier plans comes first.
+///
+/// # Errors
+/// Where there is no memory for it.
+fn client_from<'p>(
+    alloc: Global,
+    plan: &'p Plan,
+    carried: &[Progress],
+    saved: &[Progress],
+    number: usize,
+) -> Result<Client<'p>, NoMemory>
+    requires carried { All (Suits plan.now) carried.now }
+    requires suits { All (Suits plan.now) saved.now }
+    ensures keys { IfOk result (λ client. client.keys ≡ plan.now) }
+    ensures held { (objects : List Object) → All (TrueProgress objects plan.now) carried.now
+        → All (TrueProgress objects plan.now) saved.now
+        → IfOk result (λ client. Held objects client.keys client.knowns) }
+    ensures known { IfOk result (λ client. client.knowns
+        ≡ resumed plan.now (saved_numbered number (carried.now ++ saved.now))) }
+    ensures client { IfOk result (λ client. client
+        ≡ resumed_client plan.now (saved_numbered number (carried.now ++ saved.now))) }
+{
+    match saved_at(carried, saved, number) {
+        Some(progress) => Client::resume(alloc, plan, progress),
+        None => Client::fresh(alloc, plan),
+    }
+}

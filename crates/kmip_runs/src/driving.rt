@@ -1,0 +1,473 @@
+//! Runs of exchanges, until no key is worked on any more or as many were made as may be.
+ghost use Rattle.std.specs.Prelude.{◌≡◌, ◌≢◌, ◌≤◌, ◌<◌, ◌+◌, ℕ, List, length, filter, false, Some, None, IfOk, IfErr, IsOk, IsSome, IfSome, OnErr, OnOk, ◌++◌, option_map};
+ghost use Rattle.std.specs.List.{list_any};
+ghost use Rattle.kmip_objects.specs.Objects.{Object};
+ghost use Rattle.kmip_client.specs.Clients.{one_if, AreSettled};
+ghost use Rattle.kmip_client.specs.Held.{Held};
+ghost use Rattle.kmip_client.specs.Hearing.{hear};
+ghost use Rattle.kmip_client.specs.Justified.{JustifiedMessage};
+ghost use Rattle.kmip_client.specs.Truth.{TrueMessage};
+ghost use Rattle.kmip_plan.specs.Chains.{bound};
+ghost use Rattle.kmip_protocol.specs.Past.{Names, is_planned};
+ghost use Rattle.kmip_runs.specs.Driving.{
+  AsksOne,
+  IsBrokenOff,
+  IsGood,
+  IsSettling,
+  IsToBePut,
+  IsUntouched,
+  IsComplete,
+  KeepsFurther,
+  need,
+  AreParts,
+  Nearer,
+  WentOn,
+  Learnt,
+  LearntUntil,
+  Grown,
+  Keeps,
+  Stands,
+};
+ghost use Rattle.kmip_client.specs.Known.{facts};
+ghost use Rattle.kmip_protocol.specs.Past.{Past};
+ghost use Rattle.kmip_runs.specs.Lawbook.{Lawbook};
+ghost use Rattle.kmip_runs.specs.Losing.{ArePaid, IsEnough, left_for};
+ghost use Rattle.kmip_runs.specs.Turning.{IsAnswered, IsGivenUp, IsTurned, TakesTurn, messages_made};
+ghost use Rattle.kmip_protocol.specs.Needs.{chains_and_looks};
+ghost use Rattle.kmip_protocol.specs.Turns.{answers_part, is_unanswered, lost_each, taught, taught_by};
+
+use crate::stop::Stop;
+use crate::turn_fault::TurnFault;
+use kmip_client::laws::{
+    onward_is_an_order, prolonged_plans_keep_the_truth, the_settled_are_not_worked_on,
+    truth_is_for_good, what_is_known_was_heard, what_is_true_is_no_conflict,
+};
+use kmip_client::{Client, HearFault, Heard, Part, Question, Verdict};
+use kmip_plan::chain_laws::states_have_places;
+use kmip_plan::laws::keys_have_names;
+use kmip_protocol::laws::{
+    answers_are_true, deliveries_keep_sound, exchanges_keep_sound, objects_go_onward,
+    prolonged_plans_are_sound, the_image_is_kept,
+};
+use kmip_protocol::losing_laws::{a_losing_turn_is_bounded, left_is_bounded};
+use kmip_protocol::settling_laws::{
+    a_calm_turn_is_nearer, needs_are_bounded, nothing_made_is_ready,
+    room_is_left_for_prolonged_plans, sound_is_ready, the_finished_stand_at_the_end,
+    who_needs_nothing_is_finished,
+};
+use kmip_protocol::{Link, answer_or_loss};
+use kmip_ttlv::NoMemory;
+use std::alloc::Global;
+
+/// Sends one message after the other over the link, and learns from what comes back. It goes on until no key
+/// of the plan is worked on any more, or `limit` exchanges were made. Each message asks about as many keys as
+/// the client asks about at once. Returns why it stopped, and how many exchanges were made.
+///
+/// An exchange that lacked memory was not made. One whose reply came was made, also where there was no memory
+/// to learn from the reply.
+///
+/// Each key that a message asks about and that no reply of what comes back answers is looked at again: where
+/// nothing comes, where it is no message, and where its replies are to other questions or teach nothing.
+///
+/// Below, all is good (`IsGood`) where the link is honest for the plan's names, all that has happened over it
+/// is sound, and what the client knows is true.
+pub fn drive<L: Link>(
+    alloc: Global,
+    client: &mut Client<'_>,
+    link: &mut L,
+    limit: usize,
+) -> (Stop, usize)
+    // Where all was good before, all is good after it, however it stops.
+    ensures good { IsGood L.past L.honest client.old link.old
+        → IsGood L.past L.honest client.new link.new }
+    // Where all was good before, the object of each planned name keeps its identifier and never goes back,
+    // and a past that was an image of the plan machine still is.
+    ensures goes { IsGood L.past L.honest client.old link.old
+        → WentOn client.old.keys (L.past link.old) (L.past link.new) }
+    // Where the link is honest for the plan's names, it is so after it. Unless memory ran out, each exchange
+    // that is counted sent one message about keys of the plan, each once, and no more of them than the client
+    // asks about at once. Nothing else was asked, sent or handed over. What is known of identifiers, counts
+    // and conflicts is what was known before and what these exchanges handed over.
+    ensures known { L.honest link.old (is_planned client.old.keys)
+        → L.honest link.new (is_planned client.old.keys)
+        × (result.0 ≢ Stop.NoMemory → Learnt client.old.keys client.old.batch (L.past link.old)
+        (L.past link.new) client.old.knowns client.new.knowns result.1) }
+    // Where memory ran out over such a link, so it is of the exchanges that are counted, but nothing was
+    // learnt from a last reply for which there was no memory. An exchange that lacked memory itself is not
+    // counted: it sent and handed over nothing, and may have asked one message.
+    ensures broken { L.honest link.old (is_planned client.old.keys) → result.0 ≡ Stop.NoMemory
+        → LearntUntil client.old.keys client.old.batch (L.past link.old) (L.past link.new)
+        client.old.knowns client.new.knowns result.1 }
+    // Over any link the client took as many turns as exchanges are counted. In each it asked its next
+    // question, and learnt from an answer or that none came. Where memory ran out, it may then have given up
+    // one more question. Where the link is honest for the plan's names, the messages sent are these
+    // questions, and unless memory ran out, what was handed over are these answers.
+    ensures turned { IsTurned (L.honest link.old (is_planned client.old.keys)) result.0 result.1
+        client.old client.new (L.past link.old) (L.past link.new) }
+    // Where the link is honest for the plan's names, at most `limit` messages are sent.
+    ensures few { L.honest link.old (is_planned client.old.keys)
+        → length (L.past link.new).sent ≤ length (L.past link.old).sent + limit }
+    // Where the link is honest for the plan's names, nothing that was asked, sent or handed over is taken
+    // back.
+    ensures grown { L.honest link.old (is_planned client.old.keys)
+        → Grown (L.past link.old) (L.past link.new) }
+    // Over any link the plan stays, and how many keys are asked about at once, and no identifier or count
+    // that was known is taken back.
+    ensures kept { Keeps client.old client.new }
+    // It stops with `AllFinished` only where every key is finished, and with `Limit` only where one is worked
+    // on. It stops with `Conflict` only where none is worked on and one is in conflict.
+    ensures stands { Stands result.0 client.new.keys client.new.knowns }
+    // With `Limit` it has made exactly `limit` exchanges.
+    ensures limit { result.0 ≡ Stop.Limit → result.1 ≡ limit }
+    // It makes at most `limit` exchanges.
+    ensures within { result.1 ≤ limit }
+    // Where the link is calm and the client ready (`IsSettling`), and `limit` is at least the plan's bound:
+    // unless memory ran out, it stops with `AllFinished`. It makes no more exchanges than the keys still need
+    // questions, and at most the bound. It makes exactly as many as they need where each message asks one
+    // (`AsksOne`).
+    ensures settles { IsSettling L.past L.calm client.old link.old
+        → bound client.old.keys ≤ limit → result.0 ≢ Stop.NoMemory
+        → (result.0 ≡ Stop.AllFinished) × (result.1 ≤ need client.old (L.past link.old))
+        × (AsksOne client.old → result.1 ≡ need client.old (L.past link.old))
+        × (result.1 ≤ bound client.old.keys) }
+    // Where the link is calm and the client ready, both are so after it, unless memory ran out. Each exchange
+    // brought down what the keys need by one question at least, and by exactly one where each message asks
+    // one.
+    ensures calm { IsSettling L.past L.calm client.old link.old → result.0 ≢ Stop.NoMemory
+        → Nearer L.past L.calm client.old client.new link.old link.new result.1 }
+    // Where all was good, with no premise of calm, and unless memory ran out: the exchanges that were made
+    // and those that may be left are at most those that might be left before, and what the disturbed ones
+    // cost. Such sums of several calls in a row add up.
+    ensures losing { IsGood L.past L.honest client.old link.old → result.0 ≢ Stop.NoMemory
+        → ArePaid result.1 (left_for client.old (L.past link.old))
+        (left_for client.new (L.past link.new)) (L.disturbances link.old)
+        (L.disturbances link.new) }
+    // Where all was good, and unless memory ran out: if `limit` is at least the plan's bound, one for each
+    // key, and what its own disturbed exchanges cost, it stops with `AllFinished`.
+    ensures outlasts { IsGood L.past L.honest client.old link.old → result.0 ≢ Stop.NoMemory
+        → IsEnough client.old.keys limit (L.disturbances link.old) (L.disturbances link.new)
+        → result.0 ≡ Stop.AllFinished }
+    // Where the link is calm, no planned name has an object, there is room for all and nothing is known
+    // (`IsUntouched`), and `limit` is at least the plan's bound: unless memory ran out, it stops with
+    // `AllFinished`. It makes at most as many exchanges as all chains have steps, and one more for each key.
+    // It makes exactly as many where each message asks one. Then each object is at the end of its chain, and
+    // counts and verdicts say so.
+    ensures finishes { IsUntouched L.past L.calm client.old link.old
+        → bound client.old.keys ≤ limit → result.0 ≢ Stop.NoMemory
+        → (result.0 ≡ Stop.AllFinished) × (result.1 ≤ chains_and_looks client.old.keys)
+        × (AsksOne client.old → result.1 ≡ chains_and_looks client.old.keys)
+        × IsComplete client.old.keys (L.past link.new).objects client.new.knowns }
+    // Where all was good, it does not stop in conflict.
+    ensures no_conflict { IsGood L.past L.honest client.old link.old
+        → result.0 ≢ Stop.Conflict }
+    // A link that is honest for some names is so after it.
+    ensures honest { (names : Names) → L.honest link.old names → L.honest link.new names }
+    // Over a link that is honest for some names it ends no run.
+    ensures ended { (names : Names) → L.honest link.old names
+        → L.ended link.new ≡ L.ended link.old }
+    // Where all was good, what holds for a plan that prolongs the client's is kept. Over a link that is
+    // honest for its names, what was sound for it stays so, its objects go onward, and an image of its
+    // machine stays one. Over a calm link with room for what that plan misses, there is room still, unless
+    // memory ran out.
+    ensures further { IsGood L.past L.honest client.old link.old → KeepsFurther L.past L.honest
+        L.calm client.old.keys (result.0 ≢ Stop.NoMemory) link.old link.new }
+    // Unless memory ran out, the link after it is what calls made of the link before, as the link itself
+    // tells it.
+    ensures followed { result.0 ≢ Stop.NoMemory → L.follows link.old link.new }
+{
+    laws_below();
+    L::calm_laws();
+    let _plan = client.plan();
+    for made in 0..limit {
+        match turn(alloc, client, link) {
+            Ok(true) => {}
+            Ok(false) => return (stop_of(client), made),
+            Err(fault) => return (Stop::NoMemory, made + fault.exchanges()),
+        }
+    }
+    (stop_of(client), limit)
+}
+
+/// The laws of the crates below.
+fn laws_below()
+    ensures { Lawbook }
+{
+    keys_have_names();
+    states_have_places();
+    onward_is_an_order();
+    truth_is_for_good();
+    what_is_known_was_heard();
+    the_settled_are_not_worked_on();
+    what_is_true_is_no_conflict();
+    exchanges_keep_sound();
+    answers_are_true();
+    deliveries_keep_sound();
+    objects_go_onward();
+    the_image_is_kept();
+    nothing_made_is_ready();
+    a_calm_turn_is_nearer();
+    needs_are_bounded();
+    who_needs_nothing_is_finished();
+    the_finished_stand_at_the_end();
+    sound_is_ready();
+    prolonged_plans_are_sound();
+    prolonged_plans_keep_the_truth();
+    room_is_left_for_prolonged_plans();
+    left_is_bounded();
+    a_losing_turn_is_bounded();
+}
+
+/// The next message, and what comes of it; false where no key is worked on.
+///
+/// # Errors
+/// Where there is no memory; the client is then as it was, or the keys that were asked about are
+/// looked at again.
+fn turn<L: Link>(alloc: Global, client: &mut Client<'_>, link: &mut L) -> Result<bool, TurnFault>
+    ensures good { IsGood L.past L.honest client.old link.old
+        → IsGood L.past L.honest client.new link.new }
+    ensures goes { IsGood L.past L.honest client.old link.old
+        → WentOn client.old.keys (L.past link.old) (L.past link.new) }
+    ensures known { L.honest link.old (is_planned client.old.keys)
+        → L.honest link.new (is_planned client.old.keys)
+        × IfOk result (λ asked. Learnt client.old.keys client.old.batch (L.past link.old)
+        (L.past link.new) client.old.knowns client.new.knowns (one_if asked)) }
+    ensures broken { L.honest link.old (is_planned client.old.keys) → IfErr result (λ fault.
+        (facts client.new.knowns ≡ facts client.old.knowns)
+        × IsBrokenOff client.old.keys client.old.batch (L.past link.old) (L.past link.new) fault) }
+    ensures lost { IfErr result (IsGivenUp (L.honest link.old (is_planned client.old.keys))
+        client.old client.new (L.past link.old) (L.past link.new)) }
+    ensures turned { IfOk result (λ asked. TakesTurn (L.honest link.old (is_planned client.old.keys))
+        asked client.old client.new (L.past link.old) (L.past link.new)) }
+    ensures grown { L.honest link.old (is_planned client.old.keys)
+        → Grown (L.past link.old) (L.past link.new) }
+    ensures kept { Keeps client.old client.new }
+    ensures none { IfOk result (λ asked. asked ≡ false
+        → AreSettled client.new.keys client.new.knowns) }
+    ensures calm { IsSettling L.past L.calm client.old link.old → IfOk result (λ asked.
+        Nearer L.past L.calm client.old client.new link.old link.new (one_if asked)) }
+    ensures losing { IsGood L.past L.honest client.old link.old → IfOk result (λ asked.
+        ArePaid (one_if asked) (left_for client.old (L.past link.old))
+        (left_for client.new (L.past link.new)) (L.disturbances link.old)
+        (L.disturbances link.new)) }
+    ensures honest { (names : Names) → L.honest link.old names → L.honest link.new names }
+    ensures ended { (names : Names) → L.honest link.old names
+        → L.ended link.new ≡ L.ended link.old }
+    ensures further { IsGood L.past L.honest client.old link.old → KeepsFurther L.past L.honest
+        L.calm client.old.keys (IsOk result) link.old link.new }
+    ensures followed { OnOk result (L.follows link.old link.new) }
+{
+    laws_below();
+    L::calm_laws();
+    let Some(question) = client.ask(alloc)? else {
+        return Ok(false);
+    };
+    put(alloc, client, link, &question)?;
+    Ok(true)
+}
+
+/// Puts the message over the link, and learns from what comes back.
+///
+/// # Errors
+/// Where there is no memory; the keys that it asks about are then looked at again.
+fn put<L: Link>(
+    alloc: Global,
+    client: &mut Client<'_>,
+    link: &mut L,
+    question: &Question,
+) -> Result<(), TurnFault>
+    requires { IsToBePut client.old question.now }
+    ensures good { IsGood L.past L.honest client.old link.old
+        → JustifiedMessage client.old.keys (L.past link.old).objects question.now.bytes
+        → IsGood L.past L.honest client.new link.new
+        × WentOn client.old.keys (L.past link.old) (L.past link.new) }
+    ensures known { L.honest link.old (is_planned client.old.keys)
+        → L.honest link.new (is_planned client.old.keys)
+        × OnOk result (Learnt client.old.keys client.old.batch (L.past link.old)
+        (L.past link.new) client.old.knowns client.new.knowns 1) }
+    ensures broken { L.honest link.old (is_planned client.old.keys) → IfErr result (λ fault.
+        (facts client.new.knowns ≡ facts client.old.knowns)
+        × IsBrokenOff client.old.keys client.old.batch (L.past link.old) (L.past link.new) fault) }
+    ensures lost { OnErr result (client.new ≡ taught question.now None client.old) }
+    ensures sent { L.honest link.old (is_planned client.old.keys) → IfErr result (λ fault.
+        (L.past link.new).sent
+        ≡ (L.past link.old).sent ++ messages_made fault question.now.bytes) }
+    ensures answered { OnOk result (IsAnswered
+        (L.honest link.old (is_planned client.old.keys)) question.now client.old client.new
+        (L.past link.old) (L.past link.new)) }
+    ensures grown { L.honest link.old (is_planned client.old.keys)
+        → Grown (L.past link.old) (L.past link.new) }
+    ensures kept { Keeps client.old client.new }
+    ensures calm { IsSettling L.past L.calm client.old link.old → OnOk result (
+        Nearer L.past L.calm client.old client.new link.old link.new 1) }
+    ensures losing { IsGood L.past L.honest client.old link.old → OnOk result (ArePaid 1
+        (left_for client.old (L.past link.old)) (left_for client.new (L.past link.new))
+        (L.disturbances link.old) (L.disturbances link.new)) }
+    ensures honest { (names : Names) → L.honest link.old names → L.honest link.new names }
+    ensures ended { (names : Names) → L.honest link.old names
+        → L.ended link.new ≡ L.ended link.old }
+    ensures further { IsGood L.past L.honest client.old link.old
+        → JustifiedMessage client.old.keys (L.past link.old).objects question.now.bytes
+        → KeepsFurther L.past L.honest L.calm client.old.keys (IsOk result) link.old link.new }
+    ensures followed { OnOk result (L.follows link.old link.new) }
+{
+    laws_below();
+    L::calm_laws();
+    let _plan = client.plan();
+    let Ok(answer) = answer_or_loss(link.exchange(alloc, question.bytes.as_slice())) else {
+        lose_each(client, question.parts.as_slice());
+        return Err(TurnFault::Unmade);
+    };
+    learn(alloc, client, question, answer)
+}
+
+/// Learns from the answer to the message; where there is none, the keys that it asks about are
+/// looked at again.
+///
+/// # Errors
+/// Where there is no memory; the keys are then looked at again.
+fn learn(
+    alloc: Global,
+    client: &mut Client<'_>,
+    question: &Question,
+    answer: Option<Vec<u8>>,
+) -> Result<(), TurnFault>
+    requires { AreParts client.old.keys question.now.parts }
+    ensures taught { OnOk result (client.new
+        ≡ taught question.now (option_map (λ v. v.items) answer) client.old) }
+    ensures lost { OnErr result (client.new ≡ taught question.now None client.old) }
+    ensures unheard { IfErr result (λ fault. (fault ≡ TurnFault.Unheard) × IsSome answer) }
+    ensures kept { Keeps client.old client.new }
+    ensures held { (objects : List Object) → Held objects client.old.keys client.old.knowns
+        → IfSome answer (λ v. TrueMessage client.old.keys objects v.items)
+        → Held objects client.new.keys client.new.knowns }
+{
+    let Some(reply) = answer else {
+        lose_each(client, question.parts.as_slice());
+        return Ok(());
+    };
+    hear(alloc, client, question.parts.as_slice(), reply.as_slice())
+}
+
+/// Learns from bytes that have come; the keys of the parts of a message that they do not answer are
+/// looked at again.
+///
+/// # Errors
+/// Where there is no memory; the keys of all parts are then looked at again.
+fn hear(
+    alloc: Global,
+    client: &mut Client<'_>,
+    parts: &[Part],
+    reply: &[u8],
+) -> Result<(), TurnFault>
+    requires { AreParts client.old.keys parts.now }
+    ensures taught { OnOk result (client.new ≡ record client.old {
+      knowns =
+          taught_by client.old.keys parts.now client.old.knowns
+          (hear client.old.keys client.old.knowns reply.now);
+    }) }
+    ensures lost { OnErr result (client.new ≡ record client.old {
+      knowns =
+          lost_each client.old.keys parts.now client.old.knowns;
+    }) }
+    ensures unheard { IfErr result (λ fault. fault ≡ TurnFault.Unheard) }
+    ensures kept { Keeps client.old client.new }
+    ensures held { (objects : List Object) → Held objects client.old.keys client.old.knowns
+        → TrueMessage client.old.keys objects reply.now
+        → Held objects client.new.keys client.new.knowns }
+{
+    match client.hear(alloc, reply) {
+        Ok(heard) => {
+            lose_unanswered(client, parts, heard.as_slice());
+            Ok(())
+        }
+        Err(fault) => {
+            lose_each(client, parts);
+            unless_no_memory(fault)
+        }
+    }
+}
+
+/// The keys of these parts are looked at again.
+fn lose_each(client: &mut Client<'_>, parts: &[Part])
+    requires { AreParts client.old.keys parts.now }
+    ensures lost { client.new ≡ record client.old {
+      knowns =
+          lost_each client.old.keys parts.now client.old.knowns;
+    } }
+    ensures kept { Keeps client.old client.new }
+    ensures held { (objects : List Object) → Held objects client.old.keys client.old.knowns
+        → Held objects client.new.keys client.new.knowns }
+{
+    for part in parts {
+        client.lost(part.key);
+    }
+}
+
+/// The keys of the parts that nothing of what was heard answers are looked at again.
+fn lose_unanswered(client: &mut Client<'_>, parts: &[Part], heard: &[Result<Heard, HearFault>])
+    requires { AreParts client.old.keys parts.now }
+    ensures lost { client.new ≡ record client.old {
+      knowns = lost_each client.old.keys
+          (filter (is_unanswered heard.now) parts.now) client.old.knowns;
+    } }
+    ensures kept { Keeps client.old client.new }
+    ensures held { (objects : List Object) → Held objects client.old.keys client.old.knowns
+        → Held objects client.new.keys client.new.knowns }
+{
+    for part in parts {
+        if !is_answered(part, heard) {
+            client.lost(part.key);
+        }
+    }
+}
+
+/// Whether something of what was heard answers the part of the message.
+fn is_answered(part: &Part, heard: &[Result<Heard, HearFault>]) -> bool
+    ensures { result ≡ list_any (answers_part part.now) heard.now }
+{
+    heard.iter().any(|member| answers_part(part, member))
+}
+
+/// Whether what was heard of a reply is about the part's key, and answers its operation.
+fn answers_part(part: &Part, heard: &Result<Heard, HearFault>) -> bool
+    ensures { result ≡ answers_part part.now heard.now }
+{
+    match heard {
+        Ok(heard) => heard.key == part.key && heard.operation == part.operation,
+        Err(_) => false,
+    }
+}
+
+/// A refusal is passed over, want of memory is not.
+///
+/// # Errors
+/// Where the fault is that there is no memory.
+fn unless_no_memory(fault: HearFault) -> Result<(), TurnFault>
+    ensures passed { OnOk result (fault ≢ HearFault.NoMemory) }
+    ensures unheard { IfErr result (λ e. e ≡ TurnFault.Unheard) }
+{
+    match fault {
+        HearFault::NoMemory => Err(TurnFault::Unheard),
+        HearFault::Unreadable(_)
+        | HearFault::StrangerId
+        | HearFault::WrongOperation
+        | HearFault::OtherIdentifier
+        | HearFault::OtherName => Ok(()),
+    }
+}
+
+/// Why a run stops that makes no further exchange.
+fn stop_of(client: &Client<'_>) -> Stop
+    ensures stands { Stands result client.now.keys client.now.knowns }
+    ensures in_memory { result ≢ Stop.NoMemory }
+{
+    if client.working() > 0 {
+        return Stop::Limit;
+    }
+    for place in 0..client.plan().count() {
+        if let Verdict::Conflict(_) = client.verdict(place) {
+            return Stop::Conflict;
+        }
+    }
+    Stop::AllFinished
+}

@@ -1,0 +1,144 @@
+//! The end of a run: made while there may be no memory for it, then noted.
+ghost use Rattle.std.specs.Prelude.{◌≡◌, ◌++◌, ◌∷◌, [], List, length, map, Some, None, IfOk, IfSome, OnErr, OnOk, if◌then◌else◌};
+ghost use Rattle.kmip_client.specs.Held.{Held, TrueProgress};
+ghost use Rattle.kmip_client.specs.Saving.{known_of};
+ghost use Rattle.kmip_objects.specs.Objects.{Object};
+ghost use Rattle.kmip_progress.specs.Suiting.{Suits};
+ghost use Rattle.kmip_protocol.specs.Ending.{EndedAt};
+ghost use Rattle.kmip_protocol.specs.Moves.{Delivered};
+ghost use Rattle.kmip_protocol.specs.Past.{Names};
+ghost use Rattle.kmip_runs.specs.CampaignParts.{AreSame, HasRoom, IsEnding, IsEndOf, saved_with};
+
+use crate::campaigning::{CampaignEnd, Run, RunEnd};
+use crate::reporting::report_of;
+use crate::stop::Stop;
+use kmip_client::Client;
+use kmip_progress::Progress;
+use kmip_protocol::{Link, LinkFault};
+use kmip_ttlv::NoMemory;
+use std::alloc::Global;
+
+/// How a run ended, and what is saved of it, before both are noted.
+#[derive(Drop)]
+pub(crate) struct Ending {
+    pub(crate) run: RunEnd,
+    pub(crate) saved: Option<Progress>,
+}
+
+/// How a run ended, and what is saved of it where the run says so; and there is room to note both.
+///
+/// # Errors
+/// Where there is no memory, or was none in the run.
+pub(crate) fn ending_of(
+    alloc: Global,
+    client: &Client<'_>,
+    run: Run,
+    driven: (Stop, usize),
+    end: &mut CampaignEnd,
+) -> Result<Ending, NoMemory>
+    ensures same { AreSame end.old end.new }
+    ensures room { OnOk result (HasRoom end.new) }
+    ensures is { IfOk result (IsEnding client.now.keys run client.now.knowns driven) }
+    ensures suits { IfOk result (λ ending. IfSome ending.saved (Suits client.now.keys)) }
+    ensures held { (objects : List Object) → Held objects client.now.keys client.now.knowns
+        → IfOk result (λ ending. IfSome ending.saved (TrueProgress objects client.now.keys)) }
+{
+    let run_end = end_of(alloc, client, driven)?;
+    let saved = saved_of(alloc, client, run.save)?;
+    end.runs.reserve(1)?;
+    end.saved.reserve(1)?;
+    Ok(Ending {
+        run: run_end,
+        saved,
+    })
+}
+
+/// Notes how a run ended, and what is saved of it, where there is room for both. Takes no memory.
+pub(crate) fn note(ending: Ending, end: &mut CampaignEnd)
+    requires { HasRoom end.old }
+    ensures runs { end.new.runs.items ≡ end.old.runs.items ++ ending.run ∷ [] }
+    ensures saved { end.new.saved.items ≡ saved_with ending.saved end.old.saved.items }
+{
+    let Ending { run, saved } = ending;
+    end.runs.push_reserved(run);
+    let Some(progress) = saved else {
+        return;
+    };
+    end.saved.push_reserved(progress);
+}
+
+/// What is known, where it is to be saved.
+///
+/// # Errors
+/// Where there is no memory for it.
+fn saved_of(alloc: Global, client: &Client<'_>, save: bool) -> Result<Option<Progress>, NoMemory>
+    ensures saved { IfOk result (λ saved. saved
+        ≡ (if save then Some (map known_of client.now.knowns) else None)) }
+    ensures suits { IfOk result (λ saved. IfSome saved (Suits client.now.keys)) }
+    ensures held { (objects : List Object) → Held objects client.now.keys client.now.knowns
+        → IfOk result (λ saved. IfSome saved (TrueProgress objects client.now.keys)) }
+{
+    if !save {
+        return Ok(None);
+    }
+    let progress = client.progress(alloc)?;
+    Ok(Some(progress))
+}
+
+/// How a run has ended.
+///
+/// # Errors
+/// Where there is no memory, or was none in the run.
+fn end_of(alloc: Global, client: &Client<'_>, driven: (Stop, usize)) -> Result<RunEnd, NoMemory>
+    ensures { IfOk result (IsEndOf client.now.keys client.now.knowns driven.0 driven.1) }
+{
+    let (stop, exchanges) = driven;
+    if stop.is_no_memory() {
+        return Err(NoMemory);
+    }
+    let counts = client.counts(alloc)?;
+    let verdicts = client.verdicts(alloc)?;
+    let keys = client.plan().keys();
+    let report = report_of(alloc, keys, counts.as_slice(), verdicts.as_slice())?;
+    Ok(RunEnd {
+        stop,
+        exchanges,
+        counts,
+        verdicts,
+        report,
+    })
+}
+
+/// Ends a run over the link; a failure of the network is passed over.
+///
+/// # Errors
+/// Where there is no memory; the end of the run is then not noted, and no failure of the network was met.
+pub fn close_run<L: Link>(alloc: Global, link: &mut L) -> Result<(), NoMemory>
+    // A link that is honest for some names is so after it, and what happened in between is a delivery beside
+    // these names.
+    ensures honest { (names : Names) → L.honest link.old names → L.honest link.new names
+        × Delivered names (L.past link.old) (L.past link.new) }
+    // A link that is calm for some names is so after it, and unless memory ran out nothing happened.
+    ensures calm { (names : Names) → L.calm link.old names → L.calm link.new names
+        × OnOk result (L.past link.new ≡ L.past link.old) }
+    // Over a link that is honest for some names, no exchange is counted as disturbed by it.
+    ensures undisturbed { (names : Names) → L.honest link.old names
+        → L.disturbances link.new ≡ L.disturbances link.old }
+    // Over a link that is honest for some names, and unless memory ran out, the end is noted after those
+    // before it, by how many messages had been sent.
+    ensures ended { (names : Names) → L.honest link.old names → OnOk result (
+        EndedAt (length (L.past link.old).sent) (L.ended link.old) (L.ended link.new)) }
+    // Where memory ran out over such a link, no end is noted.
+    ensures unended { (names : Names) → L.honest link.old names → OnErr result (
+        L.ended link.new ≡ L.ended link.old) }
+    // Unless memory ran out, the link after it is what calls made of the link before, as the link itself
+    // tells it.
+    ensures followed { OnOk result (L.follows link.old link.new) }
+    // Where memory ran out, no failure of the network was counted.
+    ensures wanting { OnErr result (L.failures link.new ≡ L.failures link.old) }
+{
+    match link.end_run(alloc) {
+        Ok(()) | Err(LinkFault::Io) | Err(LinkFault::Frame) => Ok(()),
+        Err(LinkFault::NoMemory) => Err(NoMemory),
+    }
+}

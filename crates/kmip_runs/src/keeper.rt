@@ -1,0 +1,58 @@
+//! Who keeps the texts that are saved.
+ghost use Rattle.std.specs.Prelude.{◌≡◌, ◌≤◌, ◌++◌, ◌∷◌, [], ℕ, List, IfErr, OnErr, OnOk};
+ghost use Rattle.kmip_runs.specs.Refusals.{HasRisen};
+ghost use Rattle.kmip_runs.specs.declared.keeper.SaveFault.TheVariants as faults;
+
+use kmip_ttlv::NoMemory;
+use std::alloc::Global;
+use thiserror::Error;
+
+/// Keeps a text, in place of the one before it. It says of itself which texts it saved, and whether it
+/// keeps what it is given.
+pub trait Keeper {
+    /// Each text that was saved, the first one first.
+    ghost saved: { Self → List (List ℕ) };
+
+    /// That it keeps what it is given, whole or not at all. Of a file no contract can say so.
+    ghost keeps: { Self → Type 0 };
+
+    /// How often it could not write a text, up to 2^64 - 1.
+    ghost refusals: { Self → ℕ };
+
+    /// Saves a text in place of the one saved last. Who implements it promises that whatever happens,
+    /// and at whatever moment it ends, one of the two can be read back, and whole.
+    ///
+    /// # Errors
+    /// `Output` where the text could not be written, `NoMemory` where there is no memory. The text
+    /// saved last is then still the one that is read back.
+    fn save(&mut self, alloc: Global, text: &[u8]) -> Result<(), SaveFault>
+        // Where it keeps what it is given, it does so still. At `Ok` this text joins those that were
+        // saved; at a fault none does.
+        ensures kept { keeps self.old → keeps self.new
+            × OnOk result (saved self.new ≡ saved self.old ++ text.now ∷ [])
+            × OnErr result (saved self.new ≡ saved self.old) }
+        // The count of refusals never falls.
+        ensures counted { refusals self.old ≤ refusals self.new }
+        // `Output` is answered only where the count of refusals has risen, or stands at its last value,
+        // 2^64 - 1.
+        ensures output { IfErr result (λ fault. fault ≡ SaveFault.Output
+            → HasRisen (refusals self.old) (refusals self.new)) };
+}
+
+/// Why a text was not saved.
+#[derive(Clone, Copy, Debug, Error)]
+pub enum SaveFault {
+    /// It could not be written.
+    #[error("the text could not be written")]
+    Output,
+    #[error("no memory")]
+    NoMemory,
+}
+
+impl From<NoMemory> for SaveFault {
+    ghost from_gives = { λ _ e. e ≡ faults.NoMemory };
+
+    fn from(_e: NoMemory) -> SaveFault {
+        SaveFault::NoMemory
+    }
+}

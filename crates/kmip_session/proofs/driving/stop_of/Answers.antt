@@ -1,5 +1,0 @@
--- A key is worked on where their number is more than none.
-use Rattle.kmip_session.proofs.driving.stop_of.Goals as goal
-
-pub returns-then-working-gt0-clause-stands : goal.returns-then-working-gt0-clause-stands
-returns-then-working-gt0-clause-stands c = c.working.ensures.some c.if-working-gt0.true

@@ -1,0 +1,76 @@
+//! What comes of a message whose bytes are changed, one at a time.
+ghost use Rattle.std.specs.Prelude.{◌≡◌, ◌<◌, length};
+
+use kmip_messages::{read_reply, read_request};
+use std::alloc::{AllocError, Global};
+use std::test::Fail;
+
+/// Prints, place by place, the bytes there with which a message is still read as a request or a reply.
+pub fn print_taken(rt: &HostRuntime, bytes: &mut [u8]) -> Result<(), Fail> {
+    for place in 0..bytes.len() {
+        let tolds = taken_at(rt.alloc(), bytes, place)?;
+        print_ranges(rt, place, tolds.as_slice())?;
+    }
+    Ok(())
+}
+
+/// What a message is with each byte in turn at a place, which has its own again in the end.
+fn taken_at(alloc: Global, bytes: &mut [u8], place: usize) -> Result<Vec<String>, AllocError>
+    requires { place < length bytes.old }
+    ensures { length bytes.new ≡ length bytes.old }
+{
+    let own = bytes[place];
+    let mut tolds = Vec::new(alloc);
+    for value in 0..=255 {
+        bytes[place] = value;
+        let told = String::from_str(alloc, kind_of(alloc, bytes))?;
+        tolds.push(told)?;
+    }
+    bytes[place] = own;
+    Ok(tolds)
+}
+
+/// What these bytes are read as: a request none of whose questions is refused, a reply, or nothing.
+fn kind_of(alloc: Global, bytes: &[u8]) -> &'static str {
+    if is_request(alloc, bytes) {
+        "request"
+    } else if read_reply(alloc, bytes).is_ok() {
+        "reply"
+    } else {
+        ""
+    }
+}
+
+fn is_request(alloc: Global, bytes: &[u8]) -> bool {
+    match read_request(alloc, bytes) {
+        Ok(batch) => batch.items.as_slice().iter().all(Result::is_ok),
+        Err(_) => false,
+    }
+}
+
+/// Prints what is told where a byte at a place has which values, one range of them after the other.
+pub fn print_ranges(rt: &HostRuntime, place: usize, tolds: &[String]) -> Result<(), Fail> {
+    let mut first: usize = 0;
+    for (value, told) in tolds.iter().enumerate() {
+        let after = value.wrapping_add(1);
+        if tolds.get(after) != Some(told) {
+            print_range(rt, place, first, value, told.as_str())?;
+            first = after;
+        }
+    }
+    Ok(())
+}
+
+/// Prints what is told where a byte at a place has one of a range of values; nothing where nothing is told.
+fn print_range(
+    rt: &HostRuntime,
+    place: usize,
+    first: usize,
+    last: usize,
+    told: &str,
+) -> Result<(), Fail> {
+    if !told.is_empty() {
+        rt.println(format_args!("    {place}: {first:02x} to {last:02x}: {told}"))?;
+    }
+    Ok(())
+}

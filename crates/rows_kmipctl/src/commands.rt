@@ -1,0 +1,205 @@
+//! The commands that a block carries out, each in three forms: as the program calls it, over a reader and a
+//! writer, and in memory.
+
+use crate::readers::PieceReader;
+use crate::writers::NotingWriter;
+use kmip_choices::{Choice, Detail};
+use kmip_command_line::chosen;
+use kmip_message_commands::{
+    CommandFault, ExitStatus, Form, answer, answer_bytes, answer_stream, answer_stream_bytes,
+    finished, run_answer, run_answer_stream, run_show, show_bytes, show_lines,
+};
+use kmip_plan_commands::{
+    batch_of, check, check_after, check_after_bytes, check_bytes, run_check, run_check_after,
+    run_sim, sim, sim_bytes,
+};
+use std::alloc::Global;
+use std::fs;
+use std::test::Fail;
+
+/// How a command is called.
+#[derive(Clone, Copy, Debug)]
+pub(crate) enum Call {
+    Program,
+    ReaderAndWriter,
+    Memory,
+}
+
+/// A command, with the texts of the files that it names.
+#[derive(Drop)]
+pub(crate) enum Command {
+    Answer,
+    AnswerStream,
+    Show(Form),
+    Check(String),
+    CheckAfter { plan: String, earlier: String },
+    Simulate(Simulated),
+}
+
+/// What is simulated.
+#[derive(Drop)]
+pub(crate) struct Simulated {
+    plan: String,
+    further: Option<String>,
+    script: String,
+    detail: Detail,
+    batch: u64,
+}
+
+impl Simulated {
+    fn further(&self) -> Option<&str> {
+        match &self.further {
+            Some(text) => Some(text.as_str()),
+            None => None,
+        }
+    }
+}
+
+/// The command that these words ask for; a file `-` in them is this input.
+pub(crate) fn command_of(rt: &HostRuntime, words: &[String], input: &str) -> Result<Command, Fail> {
+    let Ok(choice) = chosen(rt.alloc(), words) else {
+        return Err(Fail::new("a command"));
+    };
+    command_for(rt, &choice, input)
+}
+
+/// The command that is asked for, with the texts of its files.
+fn command_for(rt: &HostRuntime, choice: &Choice, input: &str) -> Result<Command, Fail> {
+    match choice {
+        Choice::Answer => Ok(Command::Answer),
+        Choice::AnswerStream => Ok(Command::AnswerStream),
+        Choice::Show(form) => Ok(Command::Show(*form)),
+        Choice::Check(path) => Ok(Command::Check(file_text(rt, path.as_str(), input)?)),
+        Choice::CheckAfter { plan, earlier } => Ok(Command::CheckAfter {
+            plan: file_text(rt, plan.as_str(), input)?,
+            earlier: file_text(rt, earlier.as_str(), input)?,
+        }),
+        Choice::Simulate {
+            plan,
+            further,
+            script,
+            detail,
+            batch,
+        } => Ok(Command::Simulate(Simulated {
+            plan: file_text(rt, plan.as_str(), input)?,
+            further: match further {
+                Some(path) => Some(file_text(rt, path.as_str(), input)?),
+                None => None,
+            },
+            script: file_text(rt, script.as_str(), input)?,
+            detail: *detail,
+            batch: *batch,
+        })),
+        _ => Err(Fail::new("a command that has these forms")),
+    }
+}
+
+/// The text of a file, or the input.
+fn file_text(rt: &HostRuntime, path: &str, input: &str) -> Result<String, Fail> {
+    if path == "-" {
+        return Ok(String::from_str(rt.alloc(), input)?);
+    }
+    Ok(fs::read_to_string(rt, path)?)
+}
+
+impl Command {
+    /// Carries it out by this call, and says how the program ends then.
+    pub(crate) fn end(
+        &self,
+        call: Call,
+        alloc: Global,
+        reader: &mut PieceReader<'_>,
+        writer: &mut NotingWriter,
+    ) -> ExitStatus {
+        let ended = match call {
+            Call::Program => return self.run(alloc, reader, writer),
+            Call::ReaderAndWriter => self.carry_out(alloc, reader, writer),
+            Call::Memory => self.carry_out_in_memory(alloc, reader.rest, &mut writer.written),
+        };
+        finished(ended, writer)
+    }
+
+    /// Runs it as the program does.
+    fn run(
+        &self,
+        alloc: Global,
+        reader: &mut PieceReader<'_>,
+        writer: &mut NotingWriter,
+    ) -> ExitStatus {
+        match self {
+            Command::Answer => run_answer(alloc, reader, writer),
+            Command::AnswerStream => run_answer_stream(alloc, reader, writer),
+            Command::Show(form) => run_show(alloc, *form, reader, writer),
+            Command::Check(plan) => run_check(alloc, plan.as_str(), writer),
+            Command::CheckAfter { plan, earlier } => {
+                run_check_after(alloc, plan.as_str(), earlier.as_str(), writer)
+            }
+            Command::Simulate(case) => run_sim(
+                alloc,
+                case.detail,
+                batch_of(case.batch),
+                case.plan.as_str(),
+                case.further(),
+                case.script.as_str(),
+                writer,
+            ),
+        }
+    }
+
+    /// Carries it out over the reader and the writer, and says whether something was refused.
+    fn carry_out(
+        &self,
+        alloc: Global,
+        reader: &mut PieceReader<'_>,
+        writer: &mut NotingWriter,
+    ) -> Result<bool, CommandFault> {
+        match self {
+            Command::Answer => answer(alloc, reader, writer),
+            Command::AnswerStream => Ok(!answer_stream(alloc, reader, writer)?.is_whole()),
+            Command::Show(form) => show_lines(alloc, *form, reader, writer),
+            Command::Check(plan) => check(alloc, plan.as_str(), writer),
+            Command::CheckAfter { plan, earlier } => {
+                check_after(alloc, plan.as_str(), earlier.as_str(), writer)
+            }
+            Command::Simulate(case) => sim(
+                alloc,
+                case.detail,
+                batch_of(case.batch),
+                case.plan.as_str(),
+                case.further(),
+                case.script.as_str(),
+                writer,
+            ),
+        }
+    }
+
+    /// The same in memory.
+    fn carry_out_in_memory(
+        &self,
+        alloc: Global,
+        input: &[u8],
+        output: &mut Vec<u8>,
+    ) -> Result<bool, CommandFault> {
+        match self {
+            Command::Answer => Ok(answer_bytes(alloc, input, output)?),
+            Command::AnswerStream => Ok(!answer_stream_bytes(alloc, input, output)?.is_whole()),
+            Command::Show(form) => Ok(show_bytes(alloc, *form, input, output)?),
+            Command::Check(plan) => Ok(check_bytes(alloc, plan.as_str(), output)?),
+            Command::CheckAfter { plan, earlier } => Ok(check_after_bytes(
+                alloc,
+                plan.as_str(),
+                earlier.as_str(),
+                output,
+            )?),
+            Command::Simulate(case) => Ok(sim_bytes(
+                alloc,
+                case.detail,
+                batch_of(case.batch),
+                case.plan.as_str(),
+                case.further(),
+                case.script.as_str(),
+                output,
+            )?),
+        }
+    }
+}

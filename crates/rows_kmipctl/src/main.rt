@@ -1,0 +1,61 @@
+//! `kmipctl` once more, for its stored runs. Standard input has one command after the other. What is
+//! printed are these commands, what each writes, and its exit status; or what a command asks for.
+//! Commands over links in memory are lines too, of which `rows_links` tells.
+//!
+//! A line of standard input is one of
+//!
+//!     # WORDS              a remark
+//!     file NAME            the lines behind it, up to a line `end`, are the file
+//!     $ kmipctl WORDS      a command line, in which `%20` is a space of a word
+//!     taken kmipctl WORDS  a command line, in which `PORT` is a port that is taken meanwhile
+//!     serve kmipctl WORDS  the command `serve`: what it writes, with `PORT` in the place of its port
+//!     ? kmipctl WORDS      the same, of which no more is done than to say what it asks for
+//!     < kmipctl WORDS      the same of `answer`, `show`, `check` and `sim`, whose input are the lines
+//!                          behind it, up to a line `end`, and a file `-` too. It is carried out as the
+//!                          program does it, over a reader and a writer, and in memory: what the first
+//!                          tells is printed, and what another tells only where that is something else
+//!     < kmipctl WORDS | WAY, ..    the same, carried out in this way
+//!     exchanges            the lines behind it, up to a line `end`, are a question and replies to it in
+//!                          hexadecimal: what is told of each exchange
+//!     probe WORDS          a probe over a link in memory
+//!     runs of PLAN         runs over such a link: the lines behind it, up to a line `end`, say which
+//!
+//! The way in which a command is carried out is told by
+//!
+//!     in pieces of 7 and 1000       the reader gives its bytes in pieces of so many; once more of so many
+//!     interrupted                   the reader is interrupted before each piece
+//!     then failing                  the reader fails behind its bytes
+//!     without the last line feed    the last line of the input lacks it
+//!     room for 10                   the writer has room for so many bytes; what it has is not printed
+//!     in memory alone               it is not carried out in the other forms
+//!     cut at each byte              once more with the line of the input cut into two, at each byte in turn
+//!     telling its outcome           what became of the stream is printed too
+//!     telling when it is sent on    how much was written at each flush is printed too
+//!
+//! A line of a file or of the input of a command stands for itself, in which `%0D` is a carriage
+//! return, or is one of
+//!
+//!     times COUNT: TEXT           so many times this text, in which `/` is a line feed; none stands behind it
+//!     numbers FROM..TO: TEXT      the same for each of these numbers, which stands in the place of `#`, or in
+//!                                 that of `@` as the value of a Text String
+//!     gives                       the lines behind it are no input: they are what is to be written first, of
+//!                                 which is printed whether it is
+#![tactic(auto)]
+
+mod commands;
+mod forms;
+mod readers;
+mod repeating;
+mod serving;
+mod transcript;
+mod ways;
+mod wording;
+mod writers;
+
+use crate::transcript::Commands;
+use std::test::Fail;
+use test_support::carry_out;
+
+fn main(rt: HostRuntime) -> Result<(), Fail> {
+    carry_out::<Commands>(&rt)
+}

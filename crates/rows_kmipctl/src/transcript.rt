@@ -1,0 +1,102 @@
+//! Commands and the files that they name.
+
+use crate::forms::take_input;
+use crate::repeating::text_of;
+use crate::serving::{run_at_taken_port, run_serve};
+use crate::wording::tell_exchanges;
+use kmip_command_line::chosen;
+use kmip_message_commands::ExitStatus;
+use kmip_program::run_words;
+use rows_links::{hold_runs, take_probe};
+use std::test::Fail;
+use std::{fs, io};
+use test_support::Transcript;
+
+/// Commands, files and remarks.
+pub(crate) struct Commands;
+
+impl Transcript for Commands {
+    fn begins(line: &str) -> bool {
+        line == "exchanges"
+            || line.starts_with("file ")
+            || line.starts_with("< ")
+            || line.starts_with("runs of ")
+    }
+
+    fn take_line(rt: &HostRuntime, line: &str) -> Result<(), Fail> {
+        take_command(rt, line)?;
+        take_probe(rt, line)
+    }
+
+    fn take_block(rt: &HostRuntime, head: &str, lines: &str) -> Result<(), Fail> {
+        if head.starts_with("runs of ") {
+            return hold_runs(rt, head, lines);
+        }
+        take_text(rt, head, lines)
+    }
+}
+
+/// A line is printed, and a command in it carried out or told.
+fn take_command(rt: &HostRuntime, line: &str) -> Result<(), Fail> {
+    rt.println(line)?;
+    if let Some(words) = line.strip_prefix("serve ") {
+        let status = run_serve(rt, words)?;
+        print_status(rt, status)?;
+    }
+    if let Some(words) = line.strip_prefix("taken ") {
+        let status = run_at_taken_port(rt, words)?;
+        print_status(rt, status)?;
+    }
+    if let Some(words) = line.strip_prefix("$ ") {
+        let words = words_of(rt, words)?;
+        let status = run_words(rt, words.as_slice());
+        print_status(rt, status)?;
+    }
+    if let Some(words) = line.strip_prefix("? ") {
+        let words = words_of(rt, words)?;
+        print_choice(rt, words.as_slice())?;
+    }
+    Ok(())
+}
+
+/// A file is written, or a command carried out whose input these lines are.
+fn take_text(rt: &HostRuntime, head: &str, lines: &str) -> Result<(), Fail> {
+    if let Some(name) = head.strip_prefix("file ") {
+        return write_file(rt, name, lines);
+    }
+    rt.println(head)?;
+    let Some(words) = head.strip_prefix("< ") else {
+        return tell_exchanges(rt, lines);
+    };
+    let (words, way) = words.split_once(" | ").unwrap_or((words, ""));
+    let words = words_of(rt, words)?;
+    take_input(rt, words.as_slice(), way, lines)
+}
+
+/// A file of these lines, as a block has them.
+fn write_file(rt: &HostRuntime, name: &str, lines: &str) -> Result<(), Fail> {
+    let text = text_of(rt.alloc(), lines)?;
+    fs::write(rt, name, text.as_str())?;
+    Ok(())
+}
+
+fn print_status(rt: &HostRuntime, status: ExitStatus) -> io::Result<()> {
+    rt.println(format_args!("exit status {}", status.code()))
+}
+
+/// What the words ask for, with each option, or the text where they ask for no command.
+fn print_choice(rt: &HostRuntime, words: &[String]) -> io::Result<()> {
+    match chosen(rt.alloc(), words) {
+        Ok(choice) => rt.println(format_args!("{choice:?}")),
+        Err(error) => rt.print(&error),
+    }
+}
+
+/// The words of a command line, the program's name first; `%20` in one is a space.
+pub(crate) fn words_of(rt: &HostRuntime, line: &str) -> io::Result<Vec<String>> {
+    let mut words = Vec::new(rt.alloc());
+    for word in line.split(' ') {
+        words.push(word.replace(rt.alloc(), "%20", " ")?)?;
+    }
+    Ok(words)
+}

@@ -1,0 +1,12 @@
+//! What the programs of tests share: known messages, and transcripts.
+#![tactic(auto)]
+
+mod transcript;
+mod vectors;
+
+pub use transcript::{Transcript, carry_out};
+pub use vectors::{
+    ACTIVATE_1, ACTIVATE_1_REPLY, ALL, ASK_ACTIVATE, CREATE_K1, CREATE_K1_LOOSE_REPLY,
+    CREATE_K1_REPLY, DESTROY_1, INVALID_MESSAGE_REPLY, LOCATE_A_AND_B, LOCATE_A_AND_B_NONE,
+    LOCATE_K1, LOCATE_K1_FOUND, LOCATE_K1_NONE, NAME_USED_REPLY, WRONG_STATE_REPLY, changed,
+};
