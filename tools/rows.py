@@ -35,7 +35,8 @@ def output_of(crate):
             with tempfile.TemporaryDirectory() as there:
                 for file in data:
                     shutil.copy(file, there)
-                done = subprocess.run([built.resolve()], stdin=stdin, stdout=subprocess.PIPE, cwd=there, timeout=MOST_SECONDS)
+                done = subprocess.run([built.resolve()], stdin=stdin, stdout=subprocess.PIPE,
+                                      stderr=subprocess.DEVNULL, cwd=there, timeout=MOST_SECONDS)
             return done.stdout, 'the program that is built'
         words = ['rt', 'try', '--seconds', str(MOST_SECONDS)]
         for file in data:
