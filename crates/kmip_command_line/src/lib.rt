@@ -20,7 +20,7 @@ use kmip_choices::{Choice, answer_of, form_of};
 use kmip_message_commands::{CommandFault, ExitStatus};
 use local::{check_choice, sim_choice};
 use network::{probe_choice, run_choice, serve_options};
-use std::alloc::Global;
+use std::alloc::{AllocError, Global};
 
 /// What the words ask for; the first is the program's name.
 ///
@@ -44,8 +44,14 @@ fn choice_of(alloc: Global, command: &str, options: &ArgMatches<'_>) -> Result<C
         "run" => run_choice(alloc, options),
         "probe" => probe_choice(alloc, options),
         "serve" => Ok(Choice::Serve(serve_options(options))),
-        _ => Ok(answer_of(options.get_flag("stream"))),
+        "answer" => Ok(answer_of(options.get_flag("stream"))),
+        _unknown => Err(unknown_command(alloc)?),
     }
+}
+
+/// The fault of a command that the program does not have. The parser of the words lets none through.
+fn unknown_command(alloc: Global) -> Result<Error, AllocError> {
+    program(alloc)?.error(ErrorKind::InvalidSubcommand, "there is no such command")
 }
 
 /// How the program ends after it printed the text of `error`: `Done` for help and the version, and
