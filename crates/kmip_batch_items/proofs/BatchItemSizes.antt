@@ -5,26 +5,32 @@ use Rattle.std.proofs.lemmas.Bool.{and_parts}
 use Rattle.kmip_ttlv.specs.Fitting.{HasWholeGroups, depth}
 use Rattle.kmip_ttlv.specs.Sizes.{size}
 use Rattle.kmip_batch_items.specs.declared.reply.Reply.{Reply}
+use Rattle.kmip_batch_items.specs.declared.request.Ask.{Ask}
 use Rattle.kmip_batch_items.specs.declared.request.Request.{Request}
 use Rattle.kmip_batch_items.specs.BatchItems.{question_item, answer_item, answer_fits}
 use Rattle.kmip_batch_items.specs.Fits.{outcome_fits}
 use Rattle.kmip_batch_items.specs.MessageSizes.{IsBrief, IsCapped, number_size}
+use Rattle.kmip_batch_items.specs.Operations.{ask_operation, operation_of}
 use Rattle.kmip_batch_items.specs.Parts.{id_format}
 use Rattle.kmip_batch_items.specs.Ranges.{is_batch_id}
 use Rattle.kmip_batch_items.specs.ReplyFormats.{outcome_format, answered_format}
 use Rattle.kmip_batch_items.specs.RequestFits.{ask_fits, request_fits}
 use Rattle.kmip_batch_items.specs.RequestFormats.{known_format, asked_format, item_format}
 use Rattle.kmip_batch_items.proofs.ReplyLaws.{answered-good}
-use Rattle.kmip_batch_items.proofs.RequestLaws.{item-good}
+use Rattle.kmip_batch_items.proofs.RequestLaws.{number_with, item-good}
 use Rattle.kmip_batch_items.proofs.WrittenLemmas.{IsWithin, ask_within, brief_bound, id_bound, number_bound, outcome_depth}
 
 -- ---- a question in its ranges
 
+asked_within : (a : Ask) → ask_fits a ≡ true → IsWithin 408 5 ((asked_format (operation_of a)).extent a)
+unfolding asked_format
+asked_within a fits = rw (number_with (ask_operation a)) (omega (arith, ask_within a fits))
+
 question_within : (r : Request) → request_fits r ≡ true → IsWithin 567 5 (item_format.extent r)
-unfolding item_format known_format asked_format id_format
+unfolding item_format known_format id_format
 question_within r fits =
     let parts = and_parts (option_map_or is_batch_id r.id true) (ask_fits r.ask) fits in
-    omega (arith, id_bound r.id parts.0, ask_within r.ask parts.1)
+    omega (arith, id_bound r.id parts.0, asked_within r.ask parts.1)
 
 pub question_depth : (r : Request) → request_fits r ≡ true → depth (question_item r) ≤ 6
 question_depth r fits = omega (arith, (item-good.spans r).deep, (question_within r fits).1)

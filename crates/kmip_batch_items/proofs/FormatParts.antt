@@ -6,7 +6,7 @@ use Rattle.std.specs.Option.{option_map, option_map_or}
 use Rattle.kmip_ttlv.specs.Node.{Node, node, Content}
 use Rattle.kmip_ttlv.proofs.ReadSteps.{Reads, not_ok, reads-ok, reads-bind, reads-as}
 use Rattle.kmip_batch_items.specs.declared.fault.MessageFault.{MessageFault}
-use Rattle.kmip_batch_items.specs.Formats.{Format, Kind, inside, if_given, given, structures, required, optional, unread, repeated, structure_of, read_if_any, SaysIfAny, optional_structure, tested, ranged, fixed, present, as_record, as_case, ◌⊗◌, ◌⊗ʳ◌, ◌◁◌, ◌▷◌, followed, read_told, told_by, closed, refusing, choose}
+use Rattle.kmip_batch_items.specs.Formats.{Format, Kind, inside, if_given, given, structures, required, optional, unread, repeated, structure_of, read_if_any, SaysIfAny, optional_structure, tested, ranged, fixed, present, as_record, as_case, ◌⊗◌, ◌⊗ʳ◌, ◌◁◌, ◌▷◌, followed, read_told, told, told_by, closed, choose}
 use Rattle.kmip_batch_items.specs.FormatLaws.{IsFlat, IsFlatKind, Spans, IsGood, Agree, avoid, apart, IsPart}
 use Rattle.kmip_batch_items.specs.Siblings.{contents}
 use Rattle.kmip_batch_items.specs.Standing.{AtMostOnce, HaveTags}
@@ -300,6 +300,26 @@ followed-part tags f g others same part other = record {
       both_look f (g p.0) part (other p.0) ns ms p.0 p.1 (subst (λ ts. Agree (f.tags ++ ts) ns ms) (sym (same p.0)) agree) says;
 }
 
+-- a part that a key tells, with a key or without one
+pub told-part : {K A : Type 0} (fault : MessageFault) (known : Option K) (tags : List ℕ) (g : K → Format A) → ((k : K) → (g k).tags ≡ tags)
+    → ((k : K) → IsPart (g k)) → IsPart (told fault known tags g)
+told-part fault None tags g same part = record {
+  good = good_by (told fault None tags g)
+      (λ ns. record { sound = λ a e. not_ok fault a e; complete = λ a says. absurd cc })
+      (λ a fits. absurd cc)
+      (λ a. tt)
+      (λ a. spans_if_any (λ k. (g k).extent a) (λ k. (g k).write a) (λ k. (part k).good.spans a) None);
+  looks = λ ns ms a agree says. says;
+}
+told-part fault (Some k) tags g same part = record {
+  good = good_by (told fault (Some k) tags g)
+      (λ ns. reads (g k) (part k).good ns)
+      (part k).good.written
+      (λ a. subst (λ ts. HaveTags ts ((g k).write a)) (same k) ((part k).good.has a))
+      (part k).good.spans;
+  looks = λ ns ms a agree says. (part k).looks ns ms a (subst (λ ts. Agree ts ns ms) (sym (same k)) agree) says;
+}
+
 -- what is read goes by the key that is known, which is that of what is said
 told_read : {A : Type 0} (fault : MessageFault) (key : A → ℕ) (known : Option ℕ) (tags : List ℕ) (g : ℕ → Format A)
     → ((k : ℕ) (ns : List Node) (a : A) → (g k).Says ns a → key a ≡ k) → ((k : ℕ) → IsPart (g k)) → (ns : List Node)
@@ -343,18 +363,6 @@ closed-good f good = good_by (closed f)
     (reads-bind _ _ _ _ (reads-only f.tags ns) (λ u. reads f good ns)))
     (λ a fits. (good.has a, good.written a fits))
     good.has good.spans
-
-pub refusing-part : {A : Type 0} (fault : MessageFault) (test : Bool) (f : Format A) → IsPart f → IsPart (refusing fault test f)
-refusing-part fault test f part = record {
-  good = good_by (refusing fault test f)
-      (λ ns. reads-as _ _ ((refusing fault test f).Says ns)
-      (λ a q. (q.1, q.2))
-      (λ a says. (tt, says.0, says.1))
-      (reads-bind _ _ _ _ (reads-guard fault test) (λ u. reads f part.good ns)))
-      (λ a fits. let each = and_parts test (f.fits a) fits in (each.0, part.good.written a each.1))
-      part.good.has part.good.spans;
-  looks = λ ns ms a agree says. (says.0, part.looks ns ms a agree says.1);
-}
 
 pub choose-good : {A : Type 0} (b : Bool) (f g : Format A) → IsGood f → IsGood g → IsGood (choose b f g)
 choose-good true f g good other = record {

@@ -1,26 +1,29 @@
 -- The formats of replies are good: what is read is what is said, and what is written says it again.
-use Rattle.std.proofs.Common.{◌≡◌, ℕ, Bool, true, false, List, [], ◌∷◌, Option, Some, None, ◌==◌, ◌&&◌, ◌||◌, refl, sym, ap, ◌∙◌}
+use Rattle.std.proofs.Common.{◌≡◌, ℕ, Bool, true, false, List, [], ◌∷◌, Option, Some, None, ◌==◌, ◌&&◌, ◌||◌, IsTrue, refl, sym, ap, ◌∙◌}
 use Rattle.std.proofs.lemmas.Bool.{and_parts, eqb-true}
 use Rattle.std.specs.Option.{option_map_or}
 use Rattle.kmip_ttlv.specs.Node.{Node}
-use Rattle.kmip_batch_items.specs.Formats.{integers, enumerations, texts, choose, Chosen}
+use Rattle.kmip_batch_items.specs.Formats.{integers, enumerations, texts, SaysTold, choose, Chosen}
 use Rattle.kmip_batch_items.specs.FormatLaws.{IsGood, IsPart}
 use Rattle.kmip_batch_items.proofs.ItemReads.{integer_kind, enumeration_kind, text_kind}
-use Rattle.kmip_batch_items.proofs.FormatParts.{required-part, optional-part, unread-part, repeated-part, structure-part, optional_structure-part, ranged-part, as_record-good, said_record-part, as_case-part, both-part, reversed-part, left-part, right-part, fixed-part, followed-part, told_by-part, refusing-part, choose-part}
+use Rattle.kmip_batch_items.proofs.FormatParts.{required-part, optional-part, unread-part, repeated-part, structure-part, optional_structure-part, ranged-part, as_record-good, said_record-part, as_case-part, both-part, reversed-part, left-part, right-part, fixed-part, followed-part, told-part, told_by-part, choose-part}
 use Rattle.kmip_objects.specs.declared.attributes.Attrs.{Attrs}
 use Rattle.kmip_objects.specs.Ranges.{is_identifier}
+use Rattle.kmip_batch_items.specs.declared.operation.Operation.{Operation}
+use Rattle.kmip_batch_items.specs.declared.operation.Operation.TheVariants as operations
 use Rattle.kmip_batch_items.specs.declared.reply.Outcome.{Outcome}
 use Rattle.kmip_batch_items.specs.declared.reply.Outcome.TheVariants.{Created, Located, Attributes, Activated, Revoked, Destroyed, Failed}
 use Rattle.kmip_batch_items.specs.declared.reply.Reply.{Reply}
-use Rattle.kmip_batch_items.specs.declared.standard.TheConstants.{TAG_RESPONSE_PAYLOAD, TAG_RESULT_STATUS, TAG_RESULT_REASON, STATUS_SUCCESS, STATUS_OPERATION_FAILED, OPERATION_CREATE, OPERATION_LOCATE, OPERATION_GET_ATTRIBUTES, OPERATION_ACTIVATE, OPERATION_REVOKE, OPERATION_DESTROY}
+use Rattle.kmip_batch_items.specs.declared.standard.TheConstants.{TAG_RESPONSE_PAYLOAD, TAG_RESULT_STATUS, TAG_RESULT_REASON, STATUS_SUCCESS, STATUS_OPERATION_FAILED, OPERATION_GET_ATTRIBUTES}
 use Rattle.kmip_batch_items.specs.BatchItems.{answer_fits}
 use Rattle.kmip_batch_items.specs.Fits.{is_own, outcome_fits}
+use Rattle.kmip_batch_items.specs.Operations.{operation_number, operation_with}
 use Rattle.kmip_batch_items.specs.Parts.{id_format, identifier_format}
-use Rattle.kmip_batch_items.specs.Ranges.{is_batch_id, is_operation}
-use Rattle.kmip_batch_items.specs.ReplyFormats.{any_name_parts_format, attrs_format, in_created, in_located, in_attributes, in_activated, in_revoked, in_destroyed, in_failed, created_format, identifiers_format, object_format, answer_format, located_format, succeeded, success_of_format, success_format, failed_format, is_status, status_of, outcome_format, any_version_parts_format, answered_format}
+use Rattle.kmip_batch_items.specs.Ranges.{is_batch_id}
+use Rattle.kmip_batch_items.specs.ReplyFormats.{any_name_parts_format, attrs_format, in_created, in_located, in_attributes, in_activated, in_revoked, in_destroyed, in_failed, created_format, identifiers_format, object_format, named_format, located_format, answer_format, succeeded, success_of_format, success_format, failed_format, is_status, status_of, outcome_format, any_version_parts_format, answered_format}
 use Rattle.kmip_batch_items.proofs.AttributeLaws.{attrs_with-part}
 use Rattle.kmip_batch_items.proofs.Readers.{id_part, identifier_part, plain_part}
-use Rattle.kmip_batch_items.proofs.RequestLaws.{chosen, last_holds}
+use Rattle.kmip_batch_items.proofs.RequestLaws.{with_number}
 
 -- ---- attributes
 
@@ -110,51 +113,61 @@ object-part : IsPart object_format
 unfolding object_format identifier_format
 object-part = both-part _ _ refl identifier_part (structure-part _ _ attrs-part.good)
 
-answer-part : (operation : ℕ) → IsPart (answer_format operation)
-unfolding answer_format
-answer-part operation =
-    choose-part _ _ _ (as_case-part _ _ _ created created-part)
-    (choose-part _ _ _ (as_case-part _ _ _ attributes_told object-part)
-    (choose-part _ _ _ (as_case-part _ _ _ activated identifier_part)
-    (choose-part _ _ _ (as_case-part _ _ _ revoked identifier_part)
-    (as_case-part _ _ _ destroyed identifier_part))))
+named-part : IsPart named_format
+unfolding named_format
+named-part = structure-part _ _ identifier_part.good
 
 located-part : IsPart located_format
 unfolding located_format
 located-part = as_case-part _ _ _ located (optional_structure-part _ _ identifiers-part.good)
 
+answer-part : (operation : Operation) → IsPart (answer_format operation)
+unfolding answer_format
+answer-part operations.Create = as_case-part _ _ _ created (structure-part _ _ created-part.good)
+answer-part operations.Locate = located-part
+answer-part operations.GetAttributes = as_case-part _ _ _ attributes_told (structure-part _ _ object-part.good)
+answer-part operations.Activate = as_case-part _ _ _ activated named-part
+answer-part operations.Revoke = as_case-part _ _ _ revoked named-part
+answer-part operations.Destroy = as_case-part _ _ _ destroyed named-part
+
+answer_tags : (operation : Operation) → (answer_format operation).tags ≡ TAG_RESPONSE_PAYLOAD ∷ []
+unfolding answer_format named_format located_format
+answer_tags operations.Create = refl
+answer_tags operations.Locate = refl
+answer_tags operations.GetAttributes = refl
+answer_tags operations.Activate = refl
+answer_tags operations.Revoke = refl
+answer_tags operations.Destroy = refl
+
 -- ---- outcomes
 
-success_of-part : (operation : ℕ) → IsPart (success_of_format operation)
+success_of-part : (number : ℕ) → IsPart (success_of_format number)
 unfolding success_of_format
-success_of-part operation = refusing-part _ _ _ (choose-part _ _ _ located-part (structure-part _ _ (answer-part operation).good))
+success_of-part number = told-part _ _ _ _ answer_tags answer-part
 
-success_of_tags : (operation : ℕ) → (success_of_format operation).tags ≡ TAG_RESPONSE_PAYLOAD ∷ TAG_RESPONSE_PAYLOAD ∷ []
-unfolding success_of_format located_format
-success_of_tags operation = refl
-
--- a case of the operation of this number
-of_case : (operation own : ℕ) (a b : Outcome) → succeeded b ≡ own → b ≡ a → (operation == own) ≡ true → succeeded a ≡ operation
-of_case operation own a b is same test = ap succeeded (sym same) ∙ is ∙ sym (eqb-true operation own test)
+success_of_tags : (number : ℕ) → (success_of_format number).tags ≡ TAG_RESPONSE_PAYLOAD ∷ []
+unfolding success_of_format
+success_of_tags number = refl
 
 -- what a payload says is of its operation
-answer_is_own : (operation : ℕ) (payload : List Node) (a : Outcome) → is_operation operation ≡ true → (operation == OPERATION_LOCATE) ≡ false
-    → (answer_format operation).Says payload a → succeeded a ≡ operation
-unfolding answer_format
-answer_is_own operation payload a known not_locate says =
-    chosen (operation == OPERATION_CREATE) says (λ is (x, _, same). of_case operation OPERATION_CREATE a (Created x) refl same is) (λ not_create others.
-    chosen (operation == OPERATION_GET_ATTRIBUTES) others (λ is (x, _, same). of_case operation OPERATION_GET_ATTRIBUTES a (Attributes x.0 x.1) refl same is) (λ not_attributes others.
-    chosen (operation == OPERATION_ACTIVATE) others (λ is (x, _, same). of_case operation OPERATION_ACTIVATE a (Activated x) refl same is) (λ not_activate others.
-    chosen (operation == OPERATION_REVOKE) others (λ is (x, _, same). of_case operation OPERATION_REVOKE a (Revoked x) refl same is) (λ not_revoke last.
-    of_case operation OPERATION_DESTROY a (Destroyed last.0) refl last.2
-    (last_holds (operation == OPERATION_CREATE) (operation == OPERATION_LOCATE) (operation == OPERATION_GET_ATTRIBUTES) (operation == OPERATION_ACTIVATE)
-    (operation == OPERATION_REVOKE) (operation == OPERATION_DESTROY) known not_create not_locate not_attributes not_activate not_revoke)))))
+answer_is_own : (operation : Operation) (batch : List Node) (a : Outcome) → (answer_format operation).Says batch a → succeeded a ≡ operation_number operation
+unfolding answer_format located_format
+answer_is_own operations.Create batch a (x, _, same) = ap succeeded (sym same)
+answer_is_own operations.Locate batch a (x, _, same) = ap succeeded (sym same)
+answer_is_own operations.GetAttributes batch a (x, _, same) = ap succeeded (sym same)
+answer_is_own operations.Activate batch a (x, _, same) = ap succeeded (sym same)
+answer_is_own operations.Revoke batch a (x, _, same) = ap succeeded (sym same)
+answer_is_own operations.Destroy batch a (x, _, same) = ap succeeded (sym same)
 
-success_is_own : (operation : ℕ) (batch : List Node) (a : Outcome) → (success_of_format operation).Says batch a → succeeded a ≡ operation
-unfolding success_of_format located_format
-success_is_own operation batch a (known, says) =
-    chosen (operation == OPERATION_LOCATE) says (λ is (x, _, same). of_case operation OPERATION_LOCATE a _ refl same is) (λ other (payload, _, told).
-    answer_is_own operation payload a known other told)
+-- what is said goes by the operation of the number, where there is one
+told_own : (number : ℕ) (known : Option Operation) (batch : List Node) (a : Outcome) → operation_with number ≡ known
+    → SaysTold answer_format known batch a → succeeded a ≡ number
+told_own number None batch a is says = absurd cc
+told_own number (Some operation) batch a is says = answer_is_own operation batch a says ∙ with_number number operation is
+
+success_is_own : (number : ℕ) (batch : List Node) (a : Outcome) → (success_of_format number).Says batch a → succeeded a ≡ number
+unfolding success_of_format
+success_is_own number batch a says = told_own number (operation_with number) batch a refl says
 
 success-part : (asked : Option ℕ) → IsPart (success_format asked)
 unfolding success_format
@@ -173,11 +186,15 @@ success_status asked batch (Attributes uid attrs) says = refl
 success_status asked batch (Activated uid) says = refl
 success_status asked batch (Revoked uid) says = refl
 success_status asked batch (Destroyed uid) says = refl
-success_status asked batch (Failed reason) says = let known : is_operation 0 ≡ true = says.1.0 in absurd cc
+success_status asked batch (Failed reason) says = let none : IsTrue false = says.1 in absurd cc
 
 failed_status : (batch : List Node) (o : Outcome) → failed_format.Says batch o → status_of o ≡ STATUS_OPERATION_FAILED
 unfolding failed_format
 failed_status batch o (reason, _, same) = ap status_of (sym same)
+
+chosen : {P Q X : Type 0} (b : Bool) → Chosen b P Q → (b ≡ true → P → X) → (b ≡ false → Q → X) → X
+chosen true says first second = first refl says
+chosen false says first second = second refl says
 
 second : (x y : Bool) → (x || y) ≡ true → x ≡ false → y ≡ true
 second true y e d = absurd cc
@@ -191,11 +208,11 @@ own_status asked status batch o known says =
     (λ is success. success_status asked batch o success ∙ sym (eqb-true status STATUS_SUCCESS is))
     (λ other failure. failed_status batch o failure ∙ sym (eqb-true status STATUS_OPERATION_FAILED (second _ _ known other)))
 
-outcome_tags : (asked : Option ℕ) → (outcome_format asked).tags ≡ TAG_RESULT_STATUS ∷ TAG_RESPONSE_PAYLOAD ∷ TAG_RESPONSE_PAYLOAD ∷ TAG_RESULT_REASON ∷ []
+outcome_tags : (asked : Option ℕ) → (outcome_format asked).tags ≡ TAG_RESULT_STATUS ∷ TAG_RESPONSE_PAYLOAD ∷ TAG_RESULT_REASON ∷ []
 unfolding outcome_format
 outcome_tags asked = refl
 
-status_tags : (asked : Option ℕ) (b : Bool) → (choose b (success_format asked) failed_format).tags ≡ TAG_RESPONSE_PAYLOAD ∷ TAG_RESPONSE_PAYLOAD ∷ TAG_RESULT_REASON ∷ []
+status_tags : (asked : Option ℕ) (b : Bool) → (choose b (success_format asked) failed_format).tags ≡ TAG_RESPONSE_PAYLOAD ∷ TAG_RESULT_REASON ∷ []
 unfolding success_format failed_format
 status_tags asked b = refl
 
@@ -232,7 +249,7 @@ unfolding attrs_format
 attrs_fit_any a = both (option_map_or any_name_parts_format.fits a.name true) true (name_fits_any a.name) refl
 
 payload_fits : (o : Outcome) (asked : Option ℕ) → outcome_fits asked o ≡ true → (outcome_format asked).fits o ≡ true
-unfolding outcome_format success_format success_of_format answer_format located_format identifiers_format created_format object_format identifier_format failed_format
+unfolding outcome_format success_format success_of_format answer_format named_format located_format identifiers_format created_format object_format identifier_format failed_format
 payload_fits (Created uid) asked fits = fits
 payload_fits (Located uids) asked fits = fits
 payload_fits (Attributes uid attrs) asked fits =

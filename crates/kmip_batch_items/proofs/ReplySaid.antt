@@ -9,7 +9,7 @@ use Rattle.kmip_batch_items.specs.declared.reply.Outcome.{Outcome}
 use Rattle.kmip_batch_items.specs.declared.reply.Outcome.TheVariants.{Created, Located, Attributes, Activated, Revoked, Destroyed, Failed}
 use Rattle.kmip_batch_items.specs.declared.standard.TheConstants.{TAG_RESPONSE_PAYLOAD}
 use Rattle.kmip_batch_items.specs.Replies.{IsObject, AreFound, IsOutcome}
-use Rattle.kmip_batch_items.specs.ReplyFormats.{created_format, identifiers_format, object_format, answer_format, located_format, success_of_format, success_format, failed_format, outcome_format}
+use Rattle.kmip_batch_items.specs.ReplyFormats.{created_format, identifiers_format, object_format, named_format, answer_format, located_format, success_of_format, success_format, failed_format, outcome_format}
 use Rattle.kmip_batch_items.proofs.Readers.{identifier_is, is_identifier_said}
 use Rattle.kmip_batch_items.proofs.AttributeLaws.{attrs_are, are_attrs}
 
@@ -44,39 +44,39 @@ is_object payload uid attrs p = (is_identifier_said payload uid p.is_identifier,
 -- ---- outcomes
 
 pub outcome_is : (batch : List Node) (asked : Option ℕ) (o : Outcome) → (outcome_format asked).Says batch o → IsOutcome batch asked o
-unfolding outcome_format success_format success_of_format located_format answer_format created_format failed_format
-outcome_is batch asked (Created uid) ((status, _), (own, (_, (payload, stands, (x, (_, says), same))))) = subst (IsOutcome batch asked) same (record {
+unfolding outcome_format success_format success_of_format located_format answer_format named_format created_format failed_format
+outcome_is batch asked (Created uid) ((status, _), (own, (x, (payload, stands, (_, says)), same))) = subst (IsOutcome batch asked) same (record {
   is_own = own;
   has_status = status;
   payload = payload;
   has_payload = stands;
   says = identifier_is payload x says;
 })
-outcome_is batch asked (Located uids) ((status, _), (own, (_, (x, says, same)))) =
+outcome_is batch asked (Located uids) ((status, _), (own, (x, says, same))) =
     let are = found_are batch x says in
     subst (IsOutcome batch asked) same (record { is_own = own; has_status = status; payload = are.0; has_payload = are.1; says = are.2 })
-outcome_is batch asked (Attributes uid attrs) ((status, _), (own, (_, (payload, stands, (x, says, same))))) = subst (IsOutcome batch asked) same (record {
+outcome_is batch asked (Attributes uid attrs) ((status, _), (own, (x, (payload, stands, says), same))) = subst (IsOutcome batch asked) same (record {
   is_own = own;
   has_status = status;
   payload = payload;
   has_payload = stands;
   says = object_is payload x.0 x.1 says;
 })
-outcome_is batch asked (Activated uid) ((status, _), (own, (_, (payload, stands, (x, says, same))))) = subst (IsOutcome batch asked) same (record {
+outcome_is batch asked (Activated uid) ((status, _), (own, (x, (payload, stands, says), same))) = subst (IsOutcome batch asked) same (record {
   is_own = own;
   has_status = status;
   payload = payload;
   has_payload = stands;
   says = identifier_is payload x says;
 })
-outcome_is batch asked (Revoked uid) ((status, _), (own, (_, (payload, stands, (x, says, same))))) = subst (IsOutcome batch asked) same (record {
+outcome_is batch asked (Revoked uid) ((status, _), (own, (x, (payload, stands, says), same))) = subst (IsOutcome batch asked) same (record {
   is_own = own;
   has_status = status;
   payload = payload;
   has_payload = stands;
   says = identifier_is payload x says;
 })
-outcome_is batch asked (Destroyed uid) ((status, _), (own, (_, (payload, stands, (x, says, same))))) = subst (IsOutcome batch asked) same (record {
+outcome_is batch asked (Destroyed uid) ((status, _), (own, (x, (payload, stands, says), same))) = subst (IsOutcome batch asked) same (record {
   is_own = own;
   has_status = status;
   payload = payload;
@@ -86,16 +86,16 @@ outcome_is batch asked (Destroyed uid) ((status, _), (own, (_, (payload, stands,
 outcome_is batch asked (Failed reason) ((status, _), (x, says, same)) = subst (IsOutcome batch asked) same (record { has_status = status; has_reason = says })
 
 pub is_outcome : (batch : List Node) (asked : Option ℕ) (o : Outcome) → IsOutcome batch asked o → (outcome_format asked).Says batch o
-unfolding outcome_format success_format success_of_format located_format answer_format created_format failed_format
+unfolding outcome_format success_format success_of_format located_format answer_format named_format created_format failed_format
 is_outcome batch asked (Created uid) p =
-    ((p.has_status, refl), (p.is_own, (refl, (p.payload, p.has_payload, (uid, (tt, is_identifier_said p.payload uid p.says), refl)))))
-is_outcome batch asked (Located uids) p = ((p.has_status, refl), (p.is_own, (refl, are_found batch p.payload uids p.has_payload p.says)))
+    ((p.has_status, refl), (p.is_own, (uid, (p.payload, p.has_payload, (tt, is_identifier_said p.payload uid p.says)), refl)))
+is_outcome batch asked (Located uids) p = ((p.has_status, refl), (p.is_own, are_found batch p.payload uids p.has_payload p.says))
 is_outcome batch asked (Attributes uid attrs) p =
-    ((p.has_status, refl), (p.is_own, (refl, (p.payload, p.has_payload, ((uid, attrs), is_object p.payload uid attrs p.says, refl)))))
+    ((p.has_status, refl), (p.is_own, ((uid, attrs), (p.payload, p.has_payload, is_object p.payload uid attrs p.says), refl)))
 is_outcome batch asked (Activated uid) p =
-    ((p.has_status, refl), (p.is_own, (refl, (p.payload, p.has_payload, (uid, is_identifier_said p.payload uid p.says, refl)))))
+    ((p.has_status, refl), (p.is_own, (uid, (p.payload, p.has_payload, is_identifier_said p.payload uid p.says), refl)))
 is_outcome batch asked (Revoked uid) p =
-    ((p.has_status, refl), (p.is_own, (refl, (p.payload, p.has_payload, (uid, is_identifier_said p.payload uid p.says, refl)))))
+    ((p.has_status, refl), (p.is_own, (uid, (p.payload, p.has_payload, is_identifier_said p.payload uid p.says), refl)))
 is_outcome batch asked (Destroyed uid) p =
-    ((p.has_status, refl), (p.is_own, (refl, (p.payload, p.has_payload, (uid, is_identifier_said p.payload uid p.says, refl)))))
+    ((p.has_status, refl), (p.is_own, (uid, (p.payload, p.has_payload, is_identifier_said p.payload uid p.says), refl)))
 is_outcome batch asked (Failed reason) p = ((p.has_status, refl), (reason, p.has_reason, refl))

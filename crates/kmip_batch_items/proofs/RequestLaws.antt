@@ -1,22 +1,25 @@
 -- The formats of requests are good: what is read is what is said, and what is written says it again.
-use Rattle.std.proofs.Common.{◌≡◌, ℕ, ℤ, Bool, true, false, List, ◌∷◌, [], Option, Some, None, ◌==◌, ◌&&◌, ◌||◌, refl, sym, ap, ◌∙◌}
+use Rattle.std.proofs.Common.{◌≡◌, ℕ, ℤ, Bool, true, false, List, ◌∷◌, [], Option, Some, None, ◌==◌, ◌&&◌, if◌then◌else◌, refl, sym, ap, subst, ◌∙◌}
 use Rattle.std.proofs.lemmas.Bool.{eqb-true, and_parts}
+use Rattle.std.specs.List.{find}
 use Rattle.std.specs.Option.{option_map_or}
 use Rattle.kmip_ttlv.specs.Node.{Node}
-use Rattle.kmip_batch_items.specs.Formats.{integers, enumerations, texts, Chosen}
+use Rattle.kmip_batch_items.specs.Formats.{integers, enumerations, texts, structure_of, SaysTold}
 use Rattle.kmip_batch_items.specs.FormatLaws.{IsGood, IsPart}
-use Rattle.kmip_batch_items.proofs.ItemReads.{integer_kind, enumeration_kind, text_kind}
-use Rattle.kmip_batch_items.proofs.FormatParts.{required-part, optional-part, structure-part, ranged-part, fixed-part, present-part, as_record-good, as_record-part, as_case-good, both-part, reversed-part, left-part, right-part, followed-part, closed-good, refusing-part, choose-good}
+use Rattle.kmip_batch_items.proofs.ItemReads.{same_some, integer_kind, enumeration_kind, text_kind}
+use Rattle.kmip_batch_items.proofs.FormatParts.{required-part, optional-part, structure-part, ranged-part, fixed-part, present-part, as_record-good, as_record-part, as_case-good, both-part, reversed-part, left-part, right-part, followed-part, told-part, closed-good}
 use Rattle.kmip_objects.specs.declared.attributes.KeyAttrs.{KeyAttrs}
 use Rattle.kmip_objects.specs.declared.attributes.Attrs.{Attrs}
 use Rattle.kmip_objects.specs.Ranges.{is_name, is_algorithm, is_length, is_usage, attrs_fit}
+use Rattle.kmip_batch_items.specs.declared.operation.Operation.{Operation}
+use Rattle.kmip_batch_items.specs.declared.operation.Operation.TheVariants as operations
 use Rattle.kmip_batch_items.specs.declared.request.Ask.{Ask}
 use Rattle.kmip_batch_items.specs.declared.request.Ask.TheVariants.{Create, Locate, GetAttributes, Activate, Revoke, Destroy}
 use Rattle.kmip_batch_items.specs.declared.request.Request.{Request}
-use Rattle.kmip_batch_items.specs.declared.standard.TheConstants.{TAG_REQUEST_PAYLOAD, OPERATION_CREATE, OPERATION_LOCATE, OPERATION_GET_ATTRIBUTES, OPERATION_ACTIVATE, OPERATION_REVOKE, OPERATION_DESTROY}
-use Rattle.kmip_batch_items.specs.Operations.{operation_of}
+use Rattle.kmip_batch_items.specs.declared.standard.TheConstants.{TAG_REQUEST_PAYLOAD}
+use Rattle.kmip_batch_items.specs.Operations.{operation_number, all_operations, operation_with, ask_operation, operation_of}
 use Rattle.kmip_batch_items.specs.Parts.{id_format, identifier_format}
-use Rattle.kmip_batch_items.specs.Ranges.{is_batch_id, is_operation}
+use Rattle.kmip_batch_items.specs.Ranges.{is_batch_id}
 use Rattle.kmip_batch_items.specs.RequestFits.{ask_fits, request_fits}
 use Rattle.kmip_batch_items.specs.RequestFormats.{name_parts_format, name_format, key_attrs_format, filter_format, in_create, in_locate, in_get_attributes, in_activate, in_revoke, in_destroy, create_format, locate_format, reason_format, revoke_format, payload_format, version_parts_format, known_format, asked_format, item_format}
 use Rattle.kmip_batch_items.proofs.AttributeLaws.{attrs_with-part}
@@ -108,42 +111,49 @@ revoke-good : IsGood revoke_format
 unfolding revoke_format identifier_format
 revoke-good = as_case-good _ _ _ revoked (both-part _ _ refl identifier_part (structure-part _ _ reason-part.good)).good
 
-payload-good : (operation : ℕ) → IsGood (payload_format operation)
+payload-good : (operation : Operation) → IsGood (payload_format operation)
 unfolding payload_format
-payload-good operation =
-    choose-good _ _ _ (as_case-good _ _ _ created create-good)
-    (choose-good _ _ _ locate-good
-    (choose-good _ _ _ (as_case-good _ _ _ attributes_asked identifier_part.good)
-    (choose-good _ _ _ (as_case-good _ _ _ activated identifier_part.good)
-    (choose-good _ _ _ revoke-good
-    (as_case-good _ _ _ destroyed identifier_part.good)))))
+payload-good operations.Create = as_case-good _ _ _ created create-good
+payload-good operations.Locate = locate-good
+payload-good operations.GetAttributes = as_case-good _ _ _ attributes_asked identifier_part.good
+payload-good operations.Activate = as_case-good _ _ _ activated identifier_part.good
+payload-good operations.Revoke = revoke-good
+payload-good operations.Destroy = as_case-good _ _ _ destroyed identifier_part.good
 
--- ---- what a payload says is of its operation
+-- ---- operations and their numbers
 
-pub chosen : {P Q X : Type 0} (b : Bool) → Chosen b P Q → (b ≡ true → P → X) → (b ≡ false → Q → X) → X
-chosen true says first second = first refl says
-chosen false says first second = second refl says
+-- the number of an operation is that of no other
+pub number_with : (operation : Operation) → operation_with (operation_number operation) ≡ Some operation
+number_with operations.Create = refl
+number_with operations.Locate = refl
+number_with operations.GetAttributes = refl
+number_with operations.Activate = refl
+number_with operations.Revoke = refl
+number_with operations.Destroy = refl
 
--- the last of the tests, where one of them holds and those before it do not
-pub last_holds : (a b c d e f : Bool) → (a || b || c || d || e || f) ≡ true → a ≡ false → b ≡ false → c ≡ false → d ≡ false → e ≡ false → f ≡ true
-last_holds a b c d e f known ha hb hc hd he = rw (ha, hb, hc, hd, he) at known
+-- the value that is found passes the test
+found_passes : {A : Type 0} (test : A → Bool) (first : A) (b : Bool) (rest : Option A) (x : A) → test first ≡ b → (rest ≡ Some x → test x ≡ true)
+    → (if b then Some first else rest) ≡ Some x → test x ≡ true
+found_passes test first true rest x passes later is = subst (λ y. test y ≡ true) (same_some first x is) passes
+found_passes test first false rest x passes later is = later is
 
--- a case of the operation of this number
-of_case : (operation own : ℕ) (a b : Ask) → operation_of b ≡ own → b ≡ a → (operation == own) ≡ true → operation_of a ≡ operation
-of_case operation own a b is same test = ap operation_of (sym same) ∙ is ∙ sym (eqb-true operation own test)
+find_passes : {A : Type 0} (test : A → Bool) (all : List A) (x : A) → find test all ≡ Some x → test x ≡ true
+find_passes test [] x is = absurd cc
+find_passes test (first ∷ rest) x is = found_passes test first (test first) (find test rest) x refl (λ e. find_passes test rest x e) is
 
-payload_is_own : (operation : ℕ) (payload : List Node) (a : Ask) → is_operation operation ≡ true → (payload_format operation).Says payload a
-    → operation_of a ≡ operation
+-- the operation of a number has that number
+pub with_number : (number : ℕ) (operation : Operation) → operation_with number ≡ Some operation → operation_number operation ≡ number
+with_number number operation is = sym (eqb-true number (operation_number operation) (find_passes (λ o. number == operation_number o) all_operations operation is))
+
+-- what a payload says is of its operation
+payload_is_own : (operation : Operation) (payload : List Node) (a : Ask) → (payload_format operation).Says payload a → ask_operation a ≡ operation
 unfolding payload_format locate_format revoke_format
-payload_is_own operation payload a known says =
-    chosen (operation == OPERATION_CREATE) says (λ is (x, _, same). of_case operation OPERATION_CREATE a (Create x) refl same is) (λ not_create others.
-    chosen (operation == OPERATION_LOCATE) others (λ is (x, _, same). of_case operation OPERATION_LOCATE a (Locate x.0 x.1) refl same is) (λ not_locate others.
-    chosen (operation == OPERATION_GET_ATTRIBUTES) others (λ is (x, _, same). of_case operation OPERATION_GET_ATTRIBUTES a (GetAttributes x) refl same is) (λ not_attributes others.
-    chosen (operation == OPERATION_ACTIVATE) others (λ is (x, _, same). of_case operation OPERATION_ACTIVATE a (Activate x) refl same is) (λ not_activate others.
-    chosen (operation == OPERATION_REVOKE) others (λ is (x, _, same). of_case operation OPERATION_REVOKE a (Revoke x.0 x.1) refl same is) (λ not_revoke last.
-    of_case operation OPERATION_DESTROY a (Destroy last.0) refl last.2
-    (last_holds (operation == OPERATION_CREATE) (operation == OPERATION_LOCATE) (operation == OPERATION_GET_ATTRIBUTES) (operation == OPERATION_ACTIVATE)
-    (operation == OPERATION_REVOKE) (operation == OPERATION_DESTROY) known not_create not_locate not_attributes not_activate not_revoke))))))
+payload_is_own operations.Create payload a (x, _, same) = ap ask_operation (sym same)
+payload_is_own operations.Locate payload a (x, _, same) = ap ask_operation (sym same)
+payload_is_own operations.GetAttributes payload a (x, _, same) = ap ask_operation (sym same)
+payload_is_own operations.Activate payload a (x, _, same) = ap ask_operation (sym same)
+payload_is_own operations.Revoke payload a (x, _, same) = ap ask_operation (sym same)
+payload_is_own operations.Destroy payload a (x, _, same) = ap ask_operation (sym same)
 
 -- ---- the version, and the Batch Item
 
@@ -155,17 +165,24 @@ pub known-part : IsPart known_format
 unfolding known_format id_format
 known-part = reversed-part _ _ refl (required-part enumerations _ enumeration_kind) id_part
 
-pub asked-part : (operation : ℕ) → IsPart (asked_format operation)
+pub asked-part : (number : ℕ) → IsPart (asked_format number)
 unfolding asked_format
-asked-part operation = refusing-part _ _ _ (structure-part _ _ (payload-good operation))
+asked-part number = told-part _ _ _ _ (λ operation. refl) (λ operation. structure-part _ _ (payload-good operation))
 
-asked_tags : (operation : ℕ) → (asked_format operation).tags ≡ TAG_REQUEST_PAYLOAD ∷ []
+asked_tags : (number : ℕ) → (asked_format number).tags ≡ TAG_REQUEST_PAYLOAD ∷ []
 unfolding asked_format
-asked_tags operation = refl
+asked_tags number = refl
 
-pub asked_is_own : (operation : ℕ) (batch : List Node) (a : Ask) → (asked_format operation).Says batch a → operation_of a ≡ operation
+-- what is said goes by the operation of the number, where there is one
+told_own : (number : ℕ) (known : Option Operation) (batch : List Node) (a : Ask) → operation_with number ≡ known
+    → SaysTold (λ operation. structure_of TAG_REQUEST_PAYLOAD (payload_format operation)) known batch a → operation_of a ≡ number
+told_own number None batch a is says = absurd cc
+told_own number (Some operation) batch a is (payload, _, says) =
+    ap operation_number (payload_is_own operation payload a says) ∙ with_number number operation is
+
+pub asked_is_own : (number : ℕ) (batch : List Node) (a : Ask) → (asked_format number).Says batch a → operation_of a ≡ number
 unfolding asked_format
-asked_is_own operation batch a (known, (payload, _, says)) = payload_is_own operation payload a known says
+asked_is_own number batch a says = told_own number (operation_with number) batch a refl says
 
 pub item-good : IsGood item_format
 unfolding item_format known_format id_format
@@ -190,7 +207,7 @@ unfolding name_parts_format
 filter_fits None fits = fits
 filter_fits (Some text) fits = both (is_name text) true fits refl
 
-payload_fits : (a : Ask) → ask_fits a ≡ true → (payload_format (operation_of a)).fits a ≡ true
+payload_fits : (a : Ask) → ask_fits a ≡ true → (payload_format (ask_operation a)).fits a ≡ true
 unfolding payload_format locate_format filter_format revoke_format reason_format identifier_format
 payload_fits (Create k) fits = key_fits k fits
 payload_fits (Locate storage filter) fits = both (option_map_or name_format.fits filter.name false) true (filter_fits filter.name fits) refl
@@ -199,18 +216,12 @@ payload_fits (Activate uid) fits = fits
 payload_fits (Revoke uid code) fits = fits
 payload_fits (Destroy uid) fits = fits
 
--- the number of what is asked is that of an operation
-pub asked_is_operation : (a : Ask) → is_operation (operation_of a) ≡ true
-asked_is_operation (Create k) = refl
-asked_is_operation (Locate storage filter) = refl
-asked_is_operation (GetAttributes uid) = refl
-asked_is_operation (Activate uid) = refl
-asked_is_operation (Revoke uid code) = refl
-asked_is_operation (Destroy uid) = refl
+asked_fits : (a : Ask) → ask_fits a ≡ true → (asked_format (operation_of a)).fits a ≡ true
+unfolding asked_format
+asked_fits a fits = rw (number_with (ask_operation a)) (payload_fits a fits)
 
 pub item_fits : (r : Request) → request_fits r ≡ true → item_format.fits r ≡ true
-unfolding item_format known_format id_format asked_format
+unfolding item_format known_format id_format
 item_fits r fits =
     let parts = and_parts (option_map_or is_batch_id r.id true) (ask_fits r.ask) fits in
-    both (option_map_or is_batch_id r.id true) (is_operation (operation_of r.ask) && (payload_format (operation_of r.ask)).fits r.ask) parts.0
-    (both (is_operation (operation_of r.ask)) ((payload_format (operation_of r.ask)).fits r.ask) (asked_is_operation r.ask) (payload_fits r.ask parts.1))
+    both (option_map_or is_batch_id r.id true) ((asked_format (operation_of r.ask)).fits r.ask) parts.0 (asked_fits r.ask parts.1)

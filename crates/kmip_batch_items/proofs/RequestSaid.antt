@@ -4,19 +4,19 @@ use Rattle.std.proofs.lemmas.Bool.{eqb-true, and_parts}
 use Rattle.std.proofs.lemmas.Bool.Decides.{Decides-int_eq}
 use Rattle.std.specs.Ordering.{int_eq}
 use Rattle.kmip_ttlv.specs.Node.{Node, integer, enumeration}
-use Rattle.kmip_batch_items.specs.Formats.{structure_of}
+use Rattle.kmip_batch_items.specs.Formats.{structure_of, SaysTold}
 use Rattle.kmip_batch_items.specs.Standing.{Once}
 use Rattle.kmip_objects.specs.declared.attributes.KeyAttrs.{KeyAttrs}
 use Rattle.kmip_objects.specs.declared.standard.TheConstants.{OBJECT_TYPE_SYMMETRIC_KEY}
 use Rattle.kmip_batch_items.specs.declared.request.Ask.{Ask}
 use Rattle.kmip_batch_items.specs.declared.request.Ask.TheVariants.{Create, Locate, GetAttributes, Activate, Revoke, Destroy}
-use Rattle.kmip_batch_items.specs.declared.standard.TheConstants.{TAG_OPERATION, TAG_PROTOCOL_VERSION, TAG_PROTOCOL_VERSION_MAJOR, TAG_PROTOCOL_VERSION_MINOR, TAG_OBJECT_TYPE, VERSION_MAJOR, VERSION_MINOR}
-use Rattle.kmip_batch_items.specs.Operations.{operation_of}
+use Rattle.kmip_batch_items.specs.declared.standard.TheConstants.{TAG_OPERATION, TAG_REQUEST_PAYLOAD, TAG_PROTOCOL_VERSION, TAG_PROTOCOL_VERSION_MAJOR, TAG_PROTOCOL_VERSION_MINOR, TAG_OBJECT_TYPE, VERSION_MAJOR, VERSION_MINOR}
+use Rattle.kmip_batch_items.specs.Operations.{ask_operation, operation_of}
 use Rattle.kmip_batch_items.specs.RequestFormats.{key_attrs_format, create_format, locate_format, reason_format, revoke_format, payload_format, version_parts_format, asked_format}
 use Rattle.kmip_batch_items.specs.Requests.{IsVersion, IsKeyAttrs, IsCreate, IsPayload, IsAsk}
 use Rattle.kmip_batch_items.proofs.Readers.{identifier_is, is_identifier_said}
 use Rattle.kmip_batch_items.proofs.AttributeLaws.{name_is, is_name_said, filter_is, is_filter}
-use Rattle.kmip_batch_items.proofs.RequestLaws.{asked_is_operation}
+use Rattle.kmip_batch_items.proofs.RequestLaws.{number_with}
 
 -- two numbers that were tested
 same_number : (x y : ℤ) → int_eq x y ≡ true → x ≡ y
@@ -58,7 +58,7 @@ unfolding create_format
 is_create payload k p = ((OBJECT_TYPE_SYMMETRIC_KEY, p.object_type, refl), (p.attributes, p.stands, is_key p.attributes k p.are))
 
 -- what the payload of its own operation says
-payload_is : (payload : List Node) (a : Ask) → (payload_format (operation_of a)).Says payload a → IsPayload payload a
+payload_is : (payload : List Node) (a : Ask) → (payload_format (ask_operation a)).Says payload a → IsPayload payload a
 unfolding payload_format locate_format revoke_format reason_format
 payload_is payload (Create k) (x, says, same) = subst (IsPayload payload) same (create_is payload x says)
 payload_is payload (Locate storage filter) (x, (mask, (attributes, stands, are)), same) =
@@ -69,7 +69,7 @@ payload_is payload (Revoke uid code) (x, (identifier, (reason, stands, (says, in
     subst (IsPayload payload) same (record { identifier = identifier_is payload x.0 identifier; reason = reason; stands = stands; says = says; in_range = in_range })
 payload_is payload (Destroy uid) (x, says, same) = subst (IsPayload payload) same (identifier_is payload x says)
 
-is_payload : (payload : List Node) (a : Ask) → IsPayload payload a → (payload_format (operation_of a)).Says payload a
+is_payload : (payload : List Node) (a : Ask) → IsPayload payload a → (payload_format (ask_operation a)).Says payload a
 unfolding payload_format locate_format revoke_format reason_format
 is_payload payload (Create k) p = (k, is_create payload k p, refl)
 is_payload payload (Locate storage filter) p = ((storage, filter), (p.mask, (p.attributes, p.stands, is_filter p.attributes filter p.are)), refl)
@@ -98,8 +98,10 @@ is_version header p = (p.parts, p.stands, ((VERSION_MAJOR, VERSION_MINOR), (p.ma
 pub ask_is : (batch : List Node) (a : Ask) → (asked_format (operation_of a)).Says batch a
     → Once TAG_OPERATION (enumeration (operation_of a)) batch → IsAsk batch a
 unfolding asked_format
-ask_is batch a (_, (payload, stands, says)) operation = record { operation = operation; payload = payload; stands = stands; says = payload_is payload a says }
+ask_is batch a told operation =
+    let says = subst (λ known. SaysTold (λ o. structure_of TAG_REQUEST_PAYLOAD (payload_format o)) known batch a) (number_with (ask_operation a)) told in
+    record { operation = operation; payload = says.0; stands = says.1; says = payload_is says.0 a says.2 }
 
 pub is_ask : (batch : List Node) (a : Ask) → IsAsk batch a → (asked_format (operation_of a)).Says batch a
 unfolding asked_format
-is_ask batch a p = (asked_is_operation a, (p.payload, p.stands, is_payload p.payload a p.says))
+is_ask batch a p = rw (number_with (ask_operation a)) (p.payload, p.stands, is_payload p.payload a p.says)

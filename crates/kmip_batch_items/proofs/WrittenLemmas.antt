@@ -12,10 +12,10 @@ use Rattle.kmip_batch_items.specs.declared.reply.Outcome.{Outcome}
 use Rattle.kmip_batch_items.specs.declared.reply.Outcome.TheVariants.{Created, Located, Attributes, Activated, Revoked, Destroyed, Failed}
 use Rattle.kmip_batch_items.specs.Fits.{outcome_fits}
 use Rattle.kmip_batch_items.specs.MessageSizes.{IsBrief, number_size, text_size}
-use Rattle.kmip_batch_items.specs.Operations.{operation_of}
+use Rattle.kmip_batch_items.specs.Operations.{ask_operation}
 use Rattle.kmip_batch_items.specs.Parts.{id_format, identifier_format}
 use Rattle.kmip_batch_items.specs.Ranges.{is_batch_id}
-use Rattle.kmip_batch_items.specs.ReplyFormats.{any_name_parts_format, attrs_format, created_format, identifiers_format, object_format, answer_format, located_format, success_of_format, success_format, failed_format, outcome_format}
+use Rattle.kmip_batch_items.specs.ReplyFormats.{any_name_parts_format, attrs_format, created_format, identifiers_format, object_format, named_format, answer_format, located_format, success_of_format, success_format, failed_format, outcome_format}
 use Rattle.kmip_batch_items.specs.RequestFits.{ask_fits}
 use Rattle.kmip_batch_items.specs.RequestFormats.{name_parts_format, name_format, key_attrs_format, filter_format, create_format, locate_format, reason_format, revoke_format, payload_format}
 
@@ -48,7 +48,7 @@ name_within (Some s) h = omega (arith, text_bound s 64 (name_length s h))
 
 -- ---- requests
 
-pub ask_within : (a : Ask) → ask_fits a ≡ true → IsWithin 400 4 ((payload_format (operation_of a)).extent a)
+pub ask_within : (a : Ask) → ask_fits a ≡ true → IsWithin 400 4 ((payload_format (ask_operation a)).extent a)
 unfolding payload_format create_format key_attrs_format name_parts_format locate_format filter_format revoke_format reason_format identifier_format
 ask_within (Create k) h = omega (arith, text_bound k.name 64 (name_length k.name (and_parts _ _ (and_parts _ _ (and_parts _ _ h).0).0).0))
 ask_within (Locate storage filter) h = omega (arith, name_within filter.name h, number_bound)
@@ -60,7 +60,7 @@ ask_within (Destroy uid) h = omega (arith, uid_bound uid h)
 -- ---- replies
 
 pub outcome_depth : (asked : Option ℕ) (o : Outcome) → ((outcome_format asked).extent o).depth ≤ 4
-unfolding outcome_format success_format success_of_format answer_format created_format object_format located_format identifiers_format identifier_format attrs_format any_name_parts_format failed_format
+unfolding outcome_format success_format success_of_format answer_format named_format created_format object_format located_format identifiers_format identifier_format attrs_format any_name_parts_format failed_format
 outcome_depth asked (Attributes uid attrs) = omega (arith, at_most 2 attrs.name)
 outcome_depth asked o = omega arith
 
@@ -72,7 +72,7 @@ uids_bound (uid ∷ uids) h =
     omega (arith, uid_bound uid parts.0, uids_bound uids parts.1)
 
 pub brief_bound : (asked : Option ℕ) (o : Outcome) → outcome_fits asked o ≡ true → IsBrief o → ((outcome_format asked).extent o).size ≤ 400
-unfolding outcome_format success_format success_of_format answer_format created_format object_format located_format identifier_format attrs_format any_name_parts_format name_parts_format failed_format
+unfolding outcome_format success_format success_of_format answer_format named_format created_format object_format located_format identifier_format attrs_format any_name_parts_format name_parts_format failed_format
 brief_bound asked (Created uid) fits brief = omega (arith, uid_bound uid (and_parts _ _ fits).1)
 brief_bound asked (Located uids) fits brief = omega (arith, uids_bound uids (and_parts _ _ fits).1, brief)
 brief_bound asked (Attributes uid attrs) fits brief =

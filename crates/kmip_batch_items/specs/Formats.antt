@@ -310,9 +310,26 @@ followed tags f g = record {
 
 -- What is read of the part that a key tells. Where the key, which was read before, is not there, the fault is
 -- this.
-abbrev pub read_told : {A : Type 0} → MessageFault → (ℕ → Format A) → Option ℕ → List Node → Result A MessageFault
+abbrev pub read_told : {K A : Type 0} → MessageFault → (K → Format A) → Option K → List Node → Result A MessageFault
 read_told fault g None ns = Err fault
 read_told fault g (Some key) ns = (g key).read ns
+
+-- There is a key, and the part that it tells says the value.
+abbrev pub SaysTold : {K A : Type 0} → (K → Format A) → Option K → List Node → A → Type 0
+SaysTold g None ns a = IsTrue false
+SaysTold g (Some key) ns a = (g key).Says ns a
+
+-- A part that a key tells, where there is one. Else the fault is this, and no item is looked at. The part has
+-- these tags, whatever the key is.
+abbrev pub told : {K A : Type 0} → MessageFault → Option K → List ℕ → (K → Format A) → Format A
+told fault known tags g = record {
+  tags = tags;
+  fits = λ a. option_map_or (λ key. (g key).fits a) known false;
+  write = λ a. if_given (λ key. (g key).write a) known;
+  extent = λ a. extent_if_any (λ key. (g key).extent a) known;
+  read = λ ns. read_told fault g known ns;
+  Says = λ ns a. SaysTold g known ns a;
+}
 
 -- A part that a key tells, where the key was read before. Without the key the fault is this. What is written
 -- goes by the value's own key. A value fits, and is said, only where that is the key that was read.
@@ -337,17 +354,6 @@ closed f = record {
   extent = f.extent;
   read = λ ns. only f.tags ns >>= λ u. f.read ns;
   Says = λ ns a. HaveTags f.tags ns × f.Says ns a;
-}
-
--- A part where a test holds. Else the fault is this, and no item is looked at.
-abbrev pub refusing : {A : Type 0} → MessageFault → Bool → Format A → Format A
-refusing fault test f = record {
-  tags = f.tags;
-  fits = λ a. test && f.fits a;
-  write = f.write;
-  extent = f.extent;
-  read = λ ns. guard fault test >>= λ u. f.read ns;
-  Says = λ ns a. IsTrue test × f.Says ns a;
 }
 
 -- The first holds where the test does, and the second where the test does not.

@@ -14,9 +14,9 @@ pub mod Faults
 pub mod FormatLaws
 -- What one Batch Item of a message says, how it is read and written, and which values may stand in it.
 
--- The number of the operation that is asked.
+-- The operations and their numbers.
 pub mod Operations
--- The ranges of a Unique Batch Item ID and of an operation.
+-- The range of a Unique Batch Item ID.
 pub mod Ranges
 -- Which requests have their values in range.
 pub mod RequestFits

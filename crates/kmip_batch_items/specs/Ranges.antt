@@ -1,7 +1,6 @@
 -- The values that the fields of a message may have, beside those of an object's attributes.
--- Source: KMIP 2.1, Message Structure, and Enumerations, Operation. Own (choice): the ranges.
-use Rattle.std.specs.Prelude.{ℕ, Bool, ◌||◌, ◌==◌, nat_le, List, length}
-use Rattle.kmip_batch_items.specs.declared.standard.TheConstants.{OPERATION_CREATE, OPERATION_LOCATE, OPERATION_GET_ATTRIBUTES, OPERATION_ACTIVATE, OPERATION_REVOKE, OPERATION_DESTROY}
+-- Source: KMIP 2.1, Message Structure. Own (choice): the ranges.
+use Rattle.std.specs.Prelude.{ℕ, Bool, nat_le, List, length}
 
 -- The most bytes of a Unique Batch Item ID. Own (limit).
 abbrev pub most_batch_id_bytes : ℕ
@@ -10,8 +9,3 @@ most_batch_id_bytes = 128
 -- whether these bytes may be a Unique Batch Item ID: at most 128
 abbrev pub is_batch_id : List ℕ → Bool
 is_batch_id s = nat_le (length s) most_batch_id_bytes
-
--- whether the number is one of the six operations
-abbrev pub is_operation : ℕ → Bool
-is_operation o = o == OPERATION_CREATE || o == OPERATION_LOCATE || o == OPERATION_GET_ATTRIBUTES
-    || o == OPERATION_ACTIVATE || o == OPERATION_REVOKE || o == OPERATION_DESTROY

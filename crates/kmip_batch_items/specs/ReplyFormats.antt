@@ -9,17 +9,19 @@ use Rattle.std.specs.Option.{option_map_or}
 use Rattle.std.specs.Ordering.{int_eq}
 use Rattle.kmip_ttlv.specs.Node.{enumeration}
 use Rattle.kmip_batch_items.specs.declared.fault.MessageFault.TheVariants.{Version, Missing, UnknownOperation}
-use Rattle.kmip_batch_items.specs.Formats.{Format, integers, enumerations, texts, required, optional, unread, repeated, structure_of, optional_structure, ranged, fixed, as_record, as_case, ◌⊗◌, ◌⊗ʳ◌, ◌◁◌, ◌▷◌, followed, told_by, refusing, choose}
+use Rattle.kmip_batch_items.specs.Formats.{Format, integers, enumerations, texts, required, optional, unread, repeated, structure_of, optional_structure, ranged, fixed, as_record, as_case, ◌⊗◌, ◌⊗ʳ◌, ◌◁◌, ◌▷◌, followed, told, told_by, choose}
 use Rattle.kmip_objects.specs.declared.attributes.Attrs.{Attrs}
 use Rattle.kmip_objects.specs.declared.standard.TheConstants.{OBJECT_TYPE_SYMMETRIC_KEY}
 use Rattle.kmip_objects.specs.Ranges.{is_identifier}
+use Rattle.kmip_batch_items.specs.declared.operation.Operation.{Operation}
+use Rattle.kmip_batch_items.specs.declared.operation.Operation.TheVariants as operations
 use Rattle.kmip_batch_items.specs.declared.reply.Outcome.{Outcome}
 use Rattle.kmip_batch_items.specs.declared.reply.Outcome.TheVariants.{Created, Located, Attributes, Activated, Revoked, Destroyed, Failed}
 use Rattle.kmip_batch_items.specs.declared.reply.Reply.{Reply}
 use Rattle.kmip_batch_items.specs.declared.standard.TheConstants.{TAG_PROTOCOL_VERSION_MAJOR, TAG_PROTOCOL_VERSION_MINOR, TAG_OPERATION, TAG_RESULT_STATUS, TAG_RESULT_REASON, TAG_RESPONSE_PAYLOAD, TAG_OBJECT_TYPE, TAG_ATTRIBUTES, TAG_NAME, TAG_NAME_VALUE, TAG_UNIQUE_IDENTIFIER, VERSION_MAJOR, VERSION_MINOR, STATUS_SUCCESS, STATUS_OPERATION_FAILED, OPERATION_CREATE, OPERATION_LOCATE, OPERATION_GET_ATTRIBUTES, OPERATION_ACTIVATE, OPERATION_REVOKE, OPERATION_DESTROY}
 use Rattle.kmip_batch_items.specs.Attributes.{attrs_with}
+use Rattle.kmip_batch_items.specs.Operations.{operation_with}
 use Rattle.kmip_batch_items.specs.Parts.{id_format, identifier_format, plain_format}
-use Rattle.kmip_batch_items.specs.Ranges.{is_operation}
 
 -- ---- a Batch Item of a reply, item by item
 
@@ -119,19 +121,23 @@ identifiers_format = repeated texts TAG_UNIQUE_IDENTIFIER is_identifier
 unfoldable pub object_format : Format (List ℕ × Attrs)
 object_format = identifier_format ⊗ structure_of TAG_ATTRIBUTES attrs_format
 
--- the payload of one of the six operations but Locate
-unfoldable pub answer_format : ℕ → Format Outcome
-answer_format operation =
-    choose (operation == OPERATION_CREATE) (as_case Created in_created created_format)
-    (choose (operation == OPERATION_GET_ATTRIBUTES) (as_case (λ p. Attributes p.0 p.1) in_attributes object_format)
-    (choose (operation == OPERATION_ACTIVATE) (as_case Activated in_activated identifier_format)
-    (choose (operation == OPERATION_REVOKE) (as_case Revoked in_revoked identifier_format)
-    (as_case Destroyed in_destroyed identifier_format))))
+-- the identifier alone, in the payload, which has to be there
+unfoldable pub named_format : Format (List ℕ)
+named_format = structure_of TAG_RESPONSE_PAYLOAD identifier_format
 
 -- The payload of a Locate, which may be there. Without it nothing was found.
 unfoldable pub located_format : Format Outcome
 located_format = as_case (λ found. Located (option_map_or (λ uids. uids) found [])) in_located
     (optional_structure TAG_RESPONSE_PAYLOAD identifiers_format)
+
+-- the Response Payload of a success of an operation
+unfoldable pub answer_format : Operation → Format Outcome
+answer_format operations.Create = as_case Created in_created (structure_of TAG_RESPONSE_PAYLOAD created_format)
+answer_format operations.Locate = located_format
+answer_format operations.GetAttributes = as_case (λ p. Attributes p.0 p.1) in_attributes (structure_of TAG_RESPONSE_PAYLOAD object_format)
+answer_format operations.Activate = as_case Activated in_activated named_format
+answer_format operations.Revoke = as_case Revoked in_revoked named_format
+answer_format operations.Destroy = as_case Destroyed in_destroyed named_format
 
 -- ---- outcomes
 
@@ -145,15 +151,15 @@ succeeded (Revoked uid) = OPERATION_REVOKE
 succeeded (Destroyed uid) = OPERATION_DESTROY
 succeeded (Failed reason) = 0
 
--- The Response Payload of a success of this operation. It has to be one of the six, or it is unknown.
+-- The Response Payload of a success of the operation of this number. There has to be such an operation, or it
+-- is unknown.
 unfoldable pub success_of_format : ℕ → Format Outcome
-success_of_format operation = refusing UnknownOperation (is_operation operation)
-    (choose (operation == OPERATION_LOCATE) located_format (structure_of TAG_RESPONSE_PAYLOAD (answer_format operation)))
+success_of_format number = told UnknownOperation (operation_with number) (TAG_RESPONSE_PAYLOAD ∷ []) answer_format
 
 -- The Response Payload of a success of the operation that the Batch Item names. Where it names none, the
 -- Operation is missing.
 unfoldable pub success_format : Option ℕ → Format Outcome
-success_format asked = told_by (Missing TAG_OPERATION) succeeded asked (TAG_RESPONSE_PAYLOAD ∷ TAG_RESPONSE_PAYLOAD ∷ []) success_of_format
+success_format asked = told_by (Missing TAG_OPERATION) succeeded asked (TAG_RESPONSE_PAYLOAD ∷ []) success_of_format
 
 -- The Result Reason of a failure, where there is one. No payload is looked at.
 unfoldable pub failed_format : Format Outcome
@@ -171,7 +177,7 @@ status_of outcome = STATUS_SUCCESS
 -- the Result Status, and then the payload or the reason
 unfoldable pub outcome_format : Option ℕ → Format Outcome
 outcome_format asked = as_record (λ p. p.1) (λ o. (status_of o, o))
-    (followed (TAG_RESPONSE_PAYLOAD ∷ TAG_RESPONSE_PAYLOAD ∷ TAG_RESULT_REASON ∷ [])
+    (followed (TAG_RESPONSE_PAYLOAD ∷ TAG_RESULT_REASON ∷ [])
     (ranged TAG_RESULT_STATUS is_status (required enumerations TAG_RESULT_STATUS))
     (λ status. choose (status == STATUS_SUCCESS) (success_format asked) failed_format))
 
@@ -186,5 +192,5 @@ any_version_parts_format = fixed Version (λ p. int_eq p.0 VERSION_MAJOR) (VERSI
 -- Operation is written first.
 unfoldable pub answered_format : Format Reply
 answered_format = as_record (λ p. record { operation = p.0.0; id = p.0.1; outcome = p.1 }) (λ r. ((r.operation, r.id), r.outcome))
-    (followed (TAG_RESULT_STATUS ∷ TAG_RESPONSE_PAYLOAD ∷ TAG_RESPONSE_PAYLOAD ∷ TAG_RESULT_REASON ∷ [])
+    (followed (TAG_RESULT_STATUS ∷ TAG_RESPONSE_PAYLOAD ∷ TAG_RESULT_REASON ∷ [])
     (optional enumerations TAG_OPERATION ⊗ʳ id_format) (λ known. outcome_format known.0))

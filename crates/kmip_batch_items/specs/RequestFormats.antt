@@ -7,19 +7,20 @@
 use Rattle.std.specs.Prelude.{ℕ, ℤ, ◌==◌, ◌&&◌, List, [], ◌∷◌, Option, Some, None}
 use Rattle.std.specs.Ordering.{int_eq}
 use Rattle.kmip_batch_items.specs.declared.fault.MessageFault.TheVariants.{Version, OutOfRange, UnknownOperation}
-use Rattle.kmip_batch_items.specs.Formats.{Format, integers, enumerations, texts, required, optional, structure_of, ranged, fixed, present, as_record, as_case, ◌⊗◌, ◌⊗ʳ◌, ◌◁◌, ◌▷◌, followed, closed, refusing, choose}
+use Rattle.kmip_batch_items.specs.Formats.{Format, integers, enumerations, texts, required, optional, structure_of, ranged, fixed, present, as_record, as_case, ◌⊗◌, ◌⊗ʳ◌, ◌◁◌, ◌▷◌, followed, told, closed}
 use Rattle.kmip_objects.specs.declared.attributes.KeyAttrs.{KeyAttrs}
 use Rattle.kmip_objects.specs.declared.attributes.Attrs.{Attrs}
 use Rattle.kmip_objects.specs.declared.standard.TheConstants.{OBJECT_TYPE_SYMMETRIC_KEY}
 use Rattle.kmip_objects.specs.Ranges.{is_name, is_algorithm, is_length, is_usage, is_revocation_code}
+use Rattle.kmip_batch_items.specs.declared.operation.Operation.{Operation}
+use Rattle.kmip_batch_items.specs.declared.operation.Operation.TheVariants as operations
 use Rattle.kmip_batch_items.specs.declared.request.Ask.{Ask}
 use Rattle.kmip_batch_items.specs.declared.request.Ask.TheVariants.{Create, Locate, GetAttributes, Activate, Revoke, Destroy}
 use Rattle.kmip_batch_items.specs.declared.request.Request.{Request}
-use Rattle.kmip_batch_items.specs.declared.standard.TheConstants.{TAG_PROTOCOL_VERSION_MAJOR, TAG_PROTOCOL_VERSION_MINOR, TAG_OPERATION, TAG_REQUEST_PAYLOAD, TAG_OBJECT_TYPE, TAG_ATTRIBUTES, TAG_NAME, TAG_NAME_VALUE, TAG_CRYPTOGRAPHIC_ALGORITHM, TAG_CRYPTOGRAPHIC_LENGTH, TAG_CRYPTOGRAPHIC_USAGE_MASK, TAG_STORAGE_STATUS_MASK, TAG_REVOCATION_REASON, TAG_REVOCATION_REASON_CODE, VERSION_MAJOR, VERSION_MINOR, OPERATION_CREATE, OPERATION_LOCATE, OPERATION_GET_ATTRIBUTES, OPERATION_ACTIVATE, OPERATION_REVOKE}
-use Rattle.kmip_batch_items.specs.Operations.{operation_of}
+use Rattle.kmip_batch_items.specs.declared.standard.TheConstants.{TAG_PROTOCOL_VERSION_MAJOR, TAG_PROTOCOL_VERSION_MINOR, TAG_OPERATION, TAG_REQUEST_PAYLOAD, TAG_OBJECT_TYPE, TAG_ATTRIBUTES, TAG_NAME, TAG_NAME_VALUE, TAG_CRYPTOGRAPHIC_ALGORITHM, TAG_CRYPTOGRAPHIC_LENGTH, TAG_CRYPTOGRAPHIC_USAGE_MASK, TAG_STORAGE_STATUS_MASK, TAG_REVOCATION_REASON, TAG_REVOCATION_REASON_CODE, VERSION_MAJOR, VERSION_MINOR}
+use Rattle.kmip_batch_items.specs.Operations.{operation_with, operation_of}
 use Rattle.kmip_batch_items.specs.Attributes.{attrs_with}
 use Rattle.kmip_batch_items.specs.Parts.{id_format, identifier_format, plain_format}
-use Rattle.kmip_batch_items.specs.Ranges.{is_operation}
 
 -- ---- a Batch Item of a request, item by item
 
@@ -140,15 +141,14 @@ reason_format = ranged TAG_REVOCATION_REASON_CODE is_revocation_code (required e
 unfoldable pub revoke_format : Format Ask
 revoke_format = as_case (λ p. Revoke p.0 p.1) in_revoke (identifier_format ⊗ structure_of TAG_REVOCATION_REASON reason_format)
 
--- the payload of one of the six operations
-unfoldable pub payload_format : ℕ → Format Ask
-payload_format operation =
-    choose (operation == OPERATION_CREATE) (as_case Create in_create create_format)
-    (choose (operation == OPERATION_LOCATE) locate_format
-    (choose (operation == OPERATION_GET_ATTRIBUTES) (as_case GetAttributes in_get_attributes identifier_format)
-    (choose (operation == OPERATION_ACTIVATE) (as_case Activate in_activate identifier_format)
-    (choose (operation == OPERATION_REVOKE) revoke_format
-    (as_case Destroy in_destroy identifier_format)))))
+-- the payload of an operation
+unfoldable pub payload_format : Operation → Format Ask
+payload_format operations.Create = as_case Create in_create create_format
+payload_format operations.Locate = locate_format
+payload_format operations.GetAttributes = as_case GetAttributes in_get_attributes identifier_format
+payload_format operations.Activate = as_case Activate in_activate identifier_format
+payload_format operations.Revoke = revoke_format
+payload_format operations.Destroy = as_case Destroy in_destroy identifier_format
 
 -- ---- the version, and the Batch Item
 
@@ -162,9 +162,10 @@ version_parts_format = fixed Version (λ p. int_eq p.0 VERSION_MAJOR && int_eq p
 unfoldable pub known_format : Format (ℕ × Option (List ℕ))
 known_format = required enumerations TAG_OPERATION ⊗ʳ id_format
 
--- The Request Payload of this operation. It has to be one of the six, or it is unknown.
+-- The Request Payload of the operation of this number. There has to be such an operation, or it is unknown.
 unfoldable pub asked_format : ℕ → Format Ask
-asked_format operation = refusing UnknownOperation (is_operation operation) (structure_of TAG_REQUEST_PAYLOAD (payload_format operation))
+asked_format number = told UnknownOperation (operation_with number) (TAG_REQUEST_PAYLOAD ∷ [])
+    (λ operation. structure_of TAG_REQUEST_PAYLOAD (payload_format operation))
 
 -- The Batch Item of a request: its Operation and Unique Batch Item ID, and then its payload.
 unfoldable pub item_format : Format Request

@@ -122,7 +122,7 @@ fn are_identifiers(uids: &[Text]) -> bool
 }
 
 /// How many bytes an outcome takes in its Batch Item, or more than a message may have.
-#[tactic(auto, unfolding(crate::specs::ReplyFormats::outcome_format, crate::specs::ReplyFormats::success_format, crate::specs::ReplyFormats::success_of_format, crate::specs::ReplyFormats::answer_format, crate::specs::ReplyFormats::created_format, crate::specs::ReplyFormats::object_format, crate::specs::ReplyFormats::located_format, crate::specs::ReplyFormats::failed_format, crate::specs::Parts::identifier_format))]
+#[tactic(auto, unfolding(crate::specs::ReplyFormats::outcome_format, crate::specs::ReplyFormats::success_format, crate::specs::ReplyFormats::success_of_format, crate::specs::ReplyFormats::answer_format, crate::specs::ReplyFormats::named_format, crate::specs::ReplyFormats::created_format, crate::specs::ReplyFormats::object_format, crate::specs::ReplyFormats::located_format, crate::specs::ReplyFormats::failed_format, crate::specs::Parts::identifier_format))]
 fn outcome_size(outcome: &Outcome) -> usize
     ensures size { (asked : Option ℕ)
         → IsCapped result ((outcome_format asked).extent outcome.now).size }

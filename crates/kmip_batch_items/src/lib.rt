@@ -23,6 +23,7 @@ mod building;
 mod fault;
 mod fields;
 mod fitting;
+mod operation;
 mod parts;
 mod ranges;
 mod refusal;
@@ -42,6 +43,7 @@ pub use fields::{
 };
 pub use fitting::{answer_fits, answer_size, request_fits};
 pub use kmip_objects::{Attrs, KeyAttrs, KeyState, Step, Texts};
+pub use operation::Operation;
 pub use parts::{message_of, whole_item};
 pub use refusal::Refusal;
 pub use reply::{Outcome, Reply};

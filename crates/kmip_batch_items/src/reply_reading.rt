@@ -3,12 +3,13 @@ ghost use Rattle.std.specs.Prelude.{◌≡◌};
 ghost use Rattle.kmip_ttlv.specs.Node.{content_of};
 ghost use Rattle.kmip_ttlv.specs.View.{view, views};
 ghost use Rattle.kmip_objects.specs.Ranges.{is_identifier};
-ghost use Rattle.kmip_batch_items.specs.Formats.{texts, value_in, optional_structure};
+ghost use Rattle.kmip_batch_items.specs.Formats.{texts, value_in, structure_of, optional_structure};
 ghost use Rattle.kmip_batch_items.specs.Reading.{Gives};
 ghost use Rattle.kmip_batch_items.specs.ReplyFormats.{
   any_name_parts_format,
   identifiers_format,
   object_format,
+  named_format,
   answer_format,
   located_format,
   success_of_format,
@@ -20,18 +21,17 @@ ghost use Rattle.kmip_batch_items.specs.ReplyFormats.{
 };
 
 use crate::attributes::attrs_of;
+use crate::operation::Operation;
 use crate::parts::{id_of, identifier_of};
-use crate::ranges::is_operation;
 use crate::reply::{Outcome, Reply};
 use crate::standard::{
-    NAME_TYPE_UNINTERPRETED_TEXT_STRING, OPERATION_ACTIVATE, OPERATION_CREATE,
-    OPERATION_GET_ATTRIBUTES, OPERATION_LOCATE, OPERATION_REVOKE, STATUS_OPERATION_FAILED,
-    STATUS_SUCCESS, TAG_ATTRIBUTES, TAG_NAME, TAG_NAME_TYPE, TAG_NAME_VALUE, TAG_OPERATION,
-    TAG_RESPONSE_PAYLOAD, TAG_RESULT_REASON, TAG_RESULT_STATUS, TAG_UNIQUE_IDENTIFIER,
+    NAME_TYPE_UNINTERPRETED_TEXT_STRING, STATUS_OPERATION_FAILED, STATUS_SUCCESS, TAG_ATTRIBUTES,
+    TAG_NAME, TAG_NAME_TYPE, TAG_NAME_VALUE, TAG_OPERATION, TAG_RESPONSE_PAYLOAD,
+    TAG_RESULT_REASON, TAG_RESULT_STATUS, TAG_UNIQUE_IDENTIFIER,
 };
 use crate::{
-    MessageFault, check, enumeration_if_any, structure_if_any, the_enumeration, the_structure,
-    the_text, within,
+    MessageFault, enumeration_if_any, structure_if_any, the_enumeration, the_structure, the_text,
+    within,
 };
 use kmip_objects::{Attrs, Texts, is_identifier};
 use kmip_ttlv::{Item, Tag, Text};
@@ -90,27 +90,19 @@ fn failure_of(batch: &[Item]) -> Result<Outcome, MessageFault>
     Ok(Outcome::Failed(reason))
 }
 
-/// A success of this operation, which has to be one of the six.
+/// A success of the operation of this number, which has to be one of the profile.
 #[tactic(auto, unfolding(crate::specs::ReplyFormats::success_format, crate::specs::ReplyFormats::success_of_format))]
-fn success_of(
-    alloc: Global,
-    operation: Option<u32>,
-    batch: &[Item],
-) -> Result<Outcome, MessageFault>
-    ensures { Gives (λ o. o) result ((success_format operation).read (views batch.now)) }
+fn success_of(alloc: Global, number: Option<u32>, batch: &[Item]) -> Result<Outcome, MessageFault>
+    ensures { Gives (λ o. o) result ((success_format number).read (views batch.now)) }
 {
-    let Some(operation) = operation else {
+    let Some(number) = number else {
         return Err(MessageFault::Missing(Tag::new(TAG_OPERATION)));
     };
-    check(is_operation(operation), MessageFault::UnknownOperation)?;
-    if operation == OPERATION_LOCATE {
-        let outcome = located_of(alloc, batch)?;
-        Ok(outcome)
-    } else {
-        let payload = the_structure(batch, TAG_RESPONSE_PAYLOAD)?;
-        let outcome = answer_of(alloc, operation, payload)?;
-        Ok(outcome)
-    }
+    let Some(operation) = Operation::with_number(number) else {
+        return Err(MessageFault::UnknownOperation);
+    };
+    let outcome = answer_of(alloc, operation, batch)?;
+    Ok(outcome)
 }
 
 /// The identifiers that a Locate found; without a payload none.
@@ -156,40 +148,56 @@ fn identifier_in(alloc: Global, item: &Item) -> Result<Text, MessageFault>
     Ok(uid)
 }
 
-/// What the payload of an operation other than Locate says.
-#[tactic(auto, unfolding(crate::specs::ReplyFormats::answer_format, crate::specs::ReplyFormats::created_format))]
-fn answer_of(alloc: Global, operation: u32, payload: &[Item]) -> Result<Outcome, MessageFault>
-    ensures { Gives (λ o. o) result ((answer_format operation).read (views payload.now)) }
+/// What the payload of a success of this operation says.
+#[tactic(auto, unfolding(crate::specs::ReplyFormats::answer_format, crate::specs::ReplyFormats::created_format, crate::specs::ReplyFormats::named_format))]
+fn answer_of(alloc: Global, operation: Operation, batch: &[Item]) -> Result<Outcome, MessageFault>
+    ensures { Gives (λ o. o) result ((answer_format operation).read (views batch.now)) }
 {
     match operation {
-        OPERATION_CREATE => {
-            let uid = identifier_of(alloc, payload)?;
+        Operation::Create => {
+            let uid = named_of(alloc, batch)?;
             Ok(Outcome::Created(uid))
         }
-        OPERATION_GET_ATTRIBUTES => {
-            let (uid, attrs) = object_of(alloc, payload)?;
+        Operation::Locate => {
+            let outcome = located_of(alloc, batch)?;
+            Ok(outcome)
+        }
+        Operation::GetAttributes => {
+            let (uid, attrs) = object_of(alloc, batch)?;
             Ok(Outcome::Attributes(uid, attrs))
         }
-        OPERATION_ACTIVATE => {
-            let uid = identifier_of(alloc, payload)?;
+        Operation::Activate => {
+            let uid = named_of(alloc, batch)?;
             Ok(Outcome::Activated(uid))
         }
-        OPERATION_REVOKE => {
-            let uid = identifier_of(alloc, payload)?;
+        Operation::Revoke => {
+            let uid = named_of(alloc, batch)?;
             Ok(Outcome::Revoked(uid))
         }
-        _ => {
-            let uid = identifier_of(alloc, payload)?;
+        Operation::Destroy => {
+            let uid = named_of(alloc, batch)?;
             Ok(Outcome::Destroyed(uid))
         }
     }
 }
 
+/// The identifier in the payload, which has to be there.
+#[tactic(auto, unfolding(crate::specs::ReplyFormats::named_format))]
+fn named_of(alloc: Global, batch: &[Item]) -> Result<Text, MessageFault>
+    ensures { Gives (λ t. t) result (named_format.read (views batch.now)) }
+{
+    let payload = the_structure(batch, TAG_RESPONSE_PAYLOAD)?;
+    let uid = identifier_of(alloc, payload)?;
+    Ok(uid)
+}
+
 /// The identifier and the attributes that a Get Attributes answers.
 #[tactic(auto, unfolding(crate::specs::ReplyFormats::object_format))]
-fn object_of(alloc: Global, payload: &[Item]) -> Result<(Text, Attrs), MessageFault>
-    ensures { Gives (λ p. p) result (object_format.read (views payload.now)) }
+fn object_of(alloc: Global, batch: &[Item]) -> Result<(Text, Attrs), MessageFault>
+    ensures { Gives (λ p. p) result
+        ((structure_of TAG_RESPONSE_PAYLOAD object_format).read (views batch.now)) }
 {
+    let payload = the_structure(batch, TAG_RESPONSE_PAYLOAD)?;
     let uid = identifier_of(alloc, payload)?;
     let attributes = the_structure(payload, TAG_ATTRIBUTES)?;
     let attrs = attrs_of(alloc, attributes)?;

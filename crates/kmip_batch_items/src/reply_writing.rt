@@ -41,7 +41,7 @@ pub fn write_answer(alloc: Global, reply: &Reply) -> Result<Item, NoMemory>
 }
 
 /// Puts the status at the end, and then the reason or the payload.
-#[tactic(auto, unfolding(crate::specs::ReplyFormats::outcome_format, crate::specs::ReplyFormats::success_format, crate::specs::ReplyFormats::success_of_format, crate::specs::ReplyFormats::answer_format, crate::specs::ReplyFormats::located_format, crate::specs::ReplyFormats::failed_format))]
+#[tactic(auto, unfolding(crate::specs::ReplyFormats::outcome_format, crate::specs::ReplyFormats::success_format, crate::specs::ReplyFormats::success_of_format, crate::specs::ReplyFormats::answer_format, crate::specs::ReplyFormats::named_format, crate::specs::ReplyFormats::located_format, crate::specs::ReplyFormats::failed_format))]
 fn push_outcome(alloc: Global, items: &mut Vec<Item>, outcome: &Outcome) -> Result<(), NoMemory>
     ensures { OnOk result
         (views items.new.items ≡ views items.old.items

@@ -1,11 +1,8 @@
 //! What a request asks.
 ghost use Rattle.std.specs.Prelude.{◌≡◌};
-ghost use Rattle.kmip_batch_items.specs.Operations.{operation_of};
+ghost use Rattle.kmip_batch_items.specs.Operations.{ask_operation};
 
-use crate::standard::{
-    OPERATION_ACTIVATE, OPERATION_CREATE, OPERATION_DESTROY, OPERATION_GET_ATTRIBUTES,
-    OPERATION_LOCATE, OPERATION_REVOKE,
-};
+use crate::operation::Operation;
 use kmip_objects::{Attrs, KeyAttrs};
 use kmip_ttlv::{Bytes, Text};
 
@@ -43,17 +40,17 @@ pub enum Ask {
 }
 
 impl Ask {
-    /// The number of the operation.
-    pub fn operation(&self) -> u32
-        ensures { result ≡ operation_of self.now }
+    /// The operation that is asked.
+    pub fn operation(&self) -> Operation
+        ensures { result ≡ ask_operation self.now }
     {
         match self {
-            Ask::Create(_) => OPERATION_CREATE,
-            Ask::Locate { .. } => OPERATION_LOCATE,
-            Ask::GetAttributes(_) => OPERATION_GET_ATTRIBUTES,
-            Ask::Activate(_) => OPERATION_ACTIVATE,
-            Ask::Revoke(..) => OPERATION_REVOKE,
-            Ask::Destroy(_) => OPERATION_DESTROY,
+            Ask::Create(_) => Operation::Create,
+            Ask::Locate { .. } => Operation::Locate,
+            Ask::GetAttributes(_) => Operation::GetAttributes,
+            Ask::Activate(_) => Operation::Activate,
+            Ask::Revoke(..) => Operation::Revoke,
+            Ask::Destroy(_) => Operation::Destroy,
         }
     }
 }

@@ -19,21 +19,19 @@ ghost use Rattle.kmip_batch_items.specs.RequestFormats.{
 };
 
 use crate::attributes::filter_of;
+use crate::operation::Operation;
 use crate::parts::{id_of, identifier_of};
-use crate::ranges::is_operation;
 use crate::refusal::Refusal;
 use crate::request::{Ask, Request};
 use crate::standard::{
-    NAME_TYPE_UNINTERPRETED_TEXT_STRING, OPERATION_ACTIVATE, OPERATION_CREATE,
-    OPERATION_GET_ATTRIBUTES, OPERATION_LOCATE, OPERATION_REVOKE, TAG_ATTRIBUTES,
-    TAG_CRYPTOGRAPHIC_ALGORITHM, TAG_CRYPTOGRAPHIC_LENGTH, TAG_CRYPTOGRAPHIC_USAGE_MASK, TAG_NAME,
-    TAG_NAME_TYPE, TAG_NAME_VALUE, TAG_OBJECT_TYPE, TAG_OPERATION, TAG_REQUEST_PAYLOAD,
-    TAG_REVOCATION_REASON, TAG_REVOCATION_REASON_CODE, TAG_STORAGE_STATUS_MASK, VERSION_MAJOR,
-    VERSION_MINOR,
+    NAME_TYPE_UNINTERPRETED_TEXT_STRING, TAG_ATTRIBUTES, TAG_CRYPTOGRAPHIC_ALGORITHM,
+    TAG_CRYPTOGRAPHIC_LENGTH, TAG_CRYPTOGRAPHIC_USAGE_MASK, TAG_NAME, TAG_NAME_TYPE,
+    TAG_NAME_VALUE, TAG_OBJECT_TYPE, TAG_OPERATION, TAG_REQUEST_PAYLOAD, TAG_REVOCATION_REASON,
+    TAG_REVOCATION_REASON_CODE, TAG_STORAGE_STATUS_MASK, VERSION_MAJOR, VERSION_MINOR,
 };
 use crate::{
-    MessageFault, check, integer_if_any, only, the_enumeration, the_integer, the_structure,
-    the_text, within,
+    MessageFault, integer_if_any, only, the_enumeration, the_integer, the_structure, the_text,
+    within,
 };
 use kmip_objects::standard::OBJECT_TYPE_SYMMETRIC_KEY;
 use kmip_objects::{KeyAttrs, is_algorithm, is_length, is_name, is_revocation_code, is_usage};
@@ -79,46 +77,48 @@ pub fn is_version(major: i32, minor: i32) -> bool
     major == VERSION_MAJOR && minor == VERSION_MINOR
 }
 
-/// What the Batch Item with this operation asks.
+/// What the Batch Item asks whose Operation has this number.
 #[tactic(auto, unfolding(crate::specs::RequestFormats::asked_format))]
-fn ask_of(alloc: Global, operation: u32, batch: &[Item]) -> Result<Ask, MessageFault>
-    ensures exact { Gives (λ a. a) result ((asked_format operation).read (views batch.now)) }
+fn ask_of(alloc: Global, number: u32, batch: &[Item]) -> Result<Ask, MessageFault>
+    ensures exact { Gives (λ a. a) result ((asked_format number).read (views batch.now)) }
     ensures fits { IfOk result (λ a. IsTrue (ask_fits a)) }
 {
-    check(is_operation(operation), MessageFault::UnknownOperation)?;
+    let Some(operation) = Operation::with_number(number) else {
+        return Err(MessageFault::UnknownOperation);
+    };
     let payload = the_structure(batch, TAG_REQUEST_PAYLOAD)?;
     let ask = payload_of(alloc, operation, payload)?;
     Ok(ask)
 }
 
-/// What the payload of one of the six operations asks.
+/// What the payload of an operation asks.
 #[tactic(auto, unfolding(crate::specs::RequestFormats::payload_format))]
-fn payload_of(alloc: Global, operation: u32, payload: &[Item]) -> Result<Ask, MessageFault>
+fn payload_of(alloc: Global, operation: Operation, payload: &[Item]) -> Result<Ask, MessageFault>
     ensures exact { Gives (λ a. a) result ((payload_format operation).read (views payload.now)) }
     ensures fits { IfOk result (λ a. IsTrue (ask_fits a)) }
 {
     match operation {
-        OPERATION_CREATE => {
+        Operation::Create => {
             let attrs = create_of(alloc, payload)?;
             Ok(Ask::Create(attrs))
         }
-        OPERATION_LOCATE => {
+        Operation::Locate => {
             let ask = locate_of(alloc, payload)?;
             Ok(ask)
         }
-        OPERATION_GET_ATTRIBUTES => {
+        Operation::GetAttributes => {
             let uid = identifier_of(alloc, payload)?;
             Ok(Ask::GetAttributes(uid))
         }
-        OPERATION_ACTIVATE => {
+        Operation::Activate => {
             let uid = identifier_of(alloc, payload)?;
             Ok(Ask::Activate(uid))
         }
-        OPERATION_REVOKE => {
+        Operation::Revoke => {
             let ask = revoke_of(alloc, payload)?;
             Ok(ask)
         }
-        _ => {
+        Operation::Destroy => {
             let uid = identifier_of(alloc, payload)?;
             Ok(Ask::Destroy(uid))
         }

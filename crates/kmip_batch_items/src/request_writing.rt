@@ -4,7 +4,7 @@ ghost use Rattle.kmip_ttlv.specs.Node.{node};
 ghost use Rattle.kmip_ttlv.specs.View.{view, views};
 ghost use Rattle.kmip_batch_items.specs.BatchItems.{question_item};
 ghost use Rattle.kmip_batch_items.specs.Formats.{inside};
-ghost use Rattle.kmip_batch_items.specs.Operations.{operation_of};
+ghost use Rattle.kmip_batch_items.specs.Operations.{ask_operation};
 ghost use Rattle.kmip_batch_items.specs.RequestFormats.{
   key_attrs_format,
   filter_format,
@@ -39,7 +39,11 @@ pub fn write_question(alloc: Global, request: &Request) -> Result<Item, NoMemory
 {
     let payload = ask_items(alloc, &request.ask)?;
     let mut items = Vec::new(alloc);
-    push_enumeration(&mut items, TAG_OPERATION, Some(request.ask.operation()))?;
+    push_enumeration(
+        &mut items,
+        TAG_OPERATION,
+        Some(request.ask.operation().number()),
+    )?;
     push_id(alloc, &mut items, &request.id)?;
     push(
         &mut items,
@@ -52,7 +56,7 @@ pub fn write_question(alloc: Global, request: &Request) -> Result<Item, NoMemory
 #[tactic(auto, unfolding(crate::specs::RequestFormats::payload_format, crate::specs::Parts::identifier_format))]
 fn ask_items(alloc: Global, ask: &Ask) -> Result<Vec<Item>, NoMemory>
     ensures { IfOk result (λ v. views v.items
-        ≡ (payload_format (operation_of ask.now)).write ask.now) }
+        ≡ (payload_format (ask_operation ask.now)).write ask.now) }
 {
     match ask {
         Ask::Create(attrs) => {
