@@ -5,21 +5,16 @@ use Rattle.std.specs.Prelude.{◌≡◌, ℕ, Bool, true, false, not, ◌&&◌, 
 use Rattle.std.specs.List.{position}
 use Rattle.std.specs.Option.{is_some, option_map_or, option_and_then}
 use Rattle.kmip_batch_items.specs.Faults.{is_no_memory}
+use Rattle.kmip_batch_items.specs.Operations.{operation_with}
 use Rattle.kmip_messages.specs.Batches.{replies_read}
 use Rattle.kmip_batch_items.specs.declared.fault.MessageFault.{MessageFault}
+use Rattle.kmip_batch_items.specs.declared.operation.Operation.{Operation}
+use Rattle.kmip_batch_items.specs.declared.operation.Operation.TheVariants as operations
 use Rattle.kmip_batch_items.specs.declared.reply.Outcome.{Outcome}
 use Rattle.kmip_batch_items.specs.declared.reply.Outcome.TheVariants.{Failed}
 use Rattle.kmip_batch_items.specs.declared.reply.Reply.{Reply}
 use Rattle.kmip_objects.specs.declared.step.Step.{Step}
 use Rattle.kmip_objects.specs.declared.step.Step.TheVariants.{Create, Activate, Revoke, Destroy}
-use Rattle.kmip_batch_items.specs.declared.standard.TheConstants.{
-  OPERATION_CREATE,
-  OPERATION_LOCATE,
-  OPERATION_GET_ATTRIBUTES,
-  OPERATION_ACTIVATE,
-  OPERATION_REVOKE,
-  OPERATION_DESTROY,
-}
 use Rattle.kmip_plan.specs.Chains.{step_place}
 use Rattle.kmip_plan.specs.TargetWords.{is_text}
 use Rattle.kmip_plan.specs.declared.key.Key.{Key}
@@ -35,21 +30,33 @@ use Rattle.kmip_client.specs.Learning.{learn}
 
 -- ---- whom a reply is about
 
--- The step that an operation is.
-abbrev pub step_of : ℕ → Option Step
-step_of operation =
-    if operation == OPERATION_CREATE then Some Create
-    else if operation == OPERATION_ACTIVATE then Some Activate
-    else if operation == OPERATION_REVOKE then Some Revoke
-    else if operation == OPERATION_DESTROY then Some Destroy
-    else None
+-- The operation is a look: it changes nothing.
+abbrev pub is_look : Operation → Bool
+is_look operations.Create = false
+is_look operations.Locate = true
+is_look operations.GetAttributes = true
+is_look operations.Activate = false
+is_look operations.Revoke = false
+is_look operations.Destroy = false
 
--- The operation is asked about the key: a look, or a step of its chain.
+-- The step that an operation is; a look is none.
+abbrev pub operation_step : Operation → Option Step
+operation_step operations.Create = Some Create
+operation_step operations.Locate = None
+operation_step operations.GetAttributes = None
+operation_step operations.Activate = Some Activate
+operation_step operations.Revoke = Some Revoke
+operation_step operations.Destroy = Some Destroy
+
+-- The step that the operation of a number is.
+abbrev pub step_of : ℕ → Option Step
+step_of number = option_and_then operation_step (operation_with number)
+
+-- The operation of a number is asked about the key: a look, or a step of its chain.
 abbrev pub is_asked_of : Key → ℕ → Bool
-is_asked_of key operation =
-    operation == OPERATION_LOCATE
-    || operation == OPERATION_GET_ATTRIBUTES
-    || option_map_or (λ step. nat_le 1 (step_place key.target step)) (step_of operation) false
+is_asked_of key number =
+    option_map_or is_look (operation_with number) false
+    || option_map_or (λ step. nat_le 1 (step_place key.target step)) (step_of number) false
 
 -- The place of the first key with the name.
 abbrev pub place_named : List ℕ → List Key → Option ℕ

@@ -111,7 +111,7 @@ pub(crate) fn question_at(
         let request = request_at(alloc, keys, knowns, *place)?;
         parts.push(Part {
             key: *place,
-            operation: request.ask.operation(),
+            operation: request.ask.operation().number(),
         })?;
         requests.push(request)?;
     }

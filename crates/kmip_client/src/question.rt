@@ -82,7 +82,7 @@ pub(crate) fn request_about(
     ensures { IfOk result (λ request. request ≡ request_about key.now known.now) }
 {
     let ask = ask_about(alloc, key, known)?;
-    let id = id_of(alloc, ask.operation(), key)?;
+    let id = id_of(alloc, ask.operation().number(), key)?;
     Ok(Request { id: Some(id), ask })
 }
 

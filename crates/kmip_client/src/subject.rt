@@ -1,13 +1,12 @@
 //! Whom a reply is about.
-ghost use Rattle.std.specs.Prelude.{◌≡◌, [], ◌∷◌, option_map};
+ghost use Rattle.std.specs.Prelude.{◌≡◌, [], ◌∷◌, nat_le, false, option_map};
+ghost use Rattle.std.specs.Option.{option_map_or};
+ghost use Rattle.kmip_plan.specs.Chains.{step_place};
 ghost use Rattle.kmip_plan.specs.Plans.{IsLawful};
 ghost use Rattle.kmip_plan.specs.TargetWords.{is_text};
-ghost use Rattle.kmip_client.specs.Hearing.{step_of, is_asked_of, is_named_at, place_named, subject_at, subject_in, subject_of};
+ghost use Rattle.kmip_client.specs.Hearing.{is_look, operation_step, is_asked_of, is_named_at, place_named, subject_at, subject_in, subject_of};
 
-use kmip_batch_items::standard::{
-    OPERATION_ACTIVATE, OPERATION_CREATE, OPERATION_DESTROY, OPERATION_GET_ATTRIBUTES,
-    OPERATION_LOCATE, OPERATION_REVOKE,
-};
+use kmip_batch_items::Operation;
 use kmip_objects::Step;
 use kmip_plan::laws::keys_have_names;
 use kmip_plan::{Key, step_place};
@@ -54,33 +53,47 @@ fn subject_at(keys: &[Key], operation: u32, place: usize) -> Option<Subject>
     }
 }
 
-/// Whether the operation is asked about the key: a look, or a step of its chain.
-fn is_asked_of(key: &Key, operation: u32) -> bool
-    ensures { result ≡ is_asked_of key.now operation }
+/// Whether the operation of a number is asked about the key: a look, or a step of its chain.
+fn is_asked_of(key: &Key, number: u32) -> bool
+    ensures { result ≡ is_asked_of key.now number }
 {
-    if operation == OPERATION_LOCATE || operation == OPERATION_GET_ATTRIBUTES {
-        return true;
+    match Operation::with_number(number) {
+        Some(operation) => is_look(operation) || is_step_of(key, operation),
+        None => false,
     }
-    match step_of(operation) {
+}
+
+/// Whether the operation is a look.
+fn is_look(operation: Operation) -> bool
+    ensures { result ≡ is_look operation }
+{
+    match operation {
+        Operation::Locate | Operation::GetAttributes => true,
+        Operation::Create | Operation::Activate | Operation::Revoke | Operation::Destroy => false,
+    }
+}
+
+/// Whether the operation is a step of the key's chain.
+fn is_step_of(key: &Key, operation: Operation) -> bool
+    ensures { result ≡ option_map_or
+        (λ step. nat_le 1 (step_place key.now.target step)) (operation_step operation) false }
+{
+    match operation_step(operation) {
         Some(step) => step_place(key, step) >= 1,
         None => false,
     }
 }
 
 /// The step that an operation is.
-fn step_of(operation: u32) -> Option<Step>
-    ensures { result ≡ step_of operation }
+fn operation_step(operation: Operation) -> Option<Step>
+    ensures { result ≡ operation_step operation }
 {
-    if operation == OPERATION_CREATE {
-        Some(Step::Create)
-    } else if operation == OPERATION_ACTIVATE {
-        Some(Step::Activate)
-    } else if operation == OPERATION_REVOKE {
-        Some(Step::Revoke)
-    } else if operation == OPERATION_DESTROY {
-        Some(Step::Destroy)
-    } else {
-        None
+    match operation {
+        Operation::Create => Some(Step::Create),
+        Operation::Activate => Some(Step::Activate),
+        Operation::Revoke => Some(Step::Revoke),
+        Operation::Destroy => Some(Step::Destroy),
+        Operation::Locate | Operation::GetAttributes => None,
     }
 }
 

@@ -22,7 +22,7 @@ mod request_writing;
 
 pub use batch::{Batch, Questions};
 pub use fitting::{reply_fits, request_fits};
-pub use kmip_batch_items::{Ask, MessageFault, Outcome, Refusal, Reply, Request};
+pub use kmip_batch_items::{Ask, MessageFault, Operation, Outcome, Refusal, Reply, Request};
 pub use kmip_objects::{Attrs, KeyAttrs, KeyState, attrs_fit};
 pub use reply_reading::read_reply;
 pub use reply_writing::write_reply;

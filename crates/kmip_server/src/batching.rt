@@ -279,7 +279,7 @@ fn promised_reply<S: Records>(
     let outcome = promise(store, alloc, &request.ask)?;
     let id = copied_id(alloc, &request.id)?;
     Ok(Reply {
-        operation: Some(request.ask.operation()),
+        operation: Some(request.ask.operation().number()),
         id,
         outcome,
     })
@@ -293,7 +293,7 @@ fn refused_reply(alloc: Global, request: &Request, reason: Option<u32>) -> Resul
 {
     let id = copied_id(alloc, &request.id)?;
     Ok(Reply {
-        operation: Some(request.ask.operation()),
+        operation: Some(request.ask.operation().number()),
         id,
         outcome: Outcome::Failed(reason),
     })

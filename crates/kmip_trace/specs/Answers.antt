@@ -12,7 +12,7 @@ use Rattle.kmip_batch_items.specs.declared.reply.Outcome.TheVariants.{Created, L
 use Rattle.kmip_batch_items.specs.declared.reply.Reply.{Reply}
 use Rattle.kmip_batch_items.specs.declared.request.Request.{Request}
 use Rattle.kmip_objects.specs.declared.state.KeyState.{KeyState}
-use Rattle.kmip_trace.specs.Names.{operation_word, state_of, state_word}
+use Rattle.kmip_trace.specs.Names.{number_word, state_of, state_word}
 use Rattle.kmip_trace.specs.Questions.{id_name}
 
 -- a space and an identifier
@@ -53,7 +53,7 @@ named_text (Some word) name = word ++ codes " " ++ name
 abbrev pub id_text : Option (List ℕ) → List ℕ
 id_text None = codes "no question"
 id_text (Some []) = codes "no question"
-id_text (Some (number ∷ name)) = if list_all is_name_byte name then named_text (operation_word number) name else codes "no question"
+id_text (Some (number ∷ name)) = if list_all is_name_byte name then named_text (number_word number) name else codes "no question"
 
 -- the two ids are one, or there is neither
 abbrev pub is_same_id : Option (List ℕ) → Option (List ℕ) → Bool

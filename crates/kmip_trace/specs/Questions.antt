@@ -4,8 +4,9 @@ use Rattle.std.specs.Prelude.{ℕ, List, [], ◌∷◌, ◌++◌, drop, codes, O
 use Rattle.std.specs.List.{flat_map}
 use Rattle.std.specs.Option.{unwrap_or}
 use Rattle.kmip_messages.specs.Items.{requests_in}
+use Rattle.kmip_batch_items.specs.Operations.{ask_operation}
 use Rattle.kmip_batch_items.specs.declared.request.Request.{Request}
-use Rattle.kmip_trace.specs.Names.{ask_word}
+use Rattle.kmip_trace.specs.Names.{operation_word}
 
 -- the name in an id: what stands behind the operation, which is one byte
 abbrev pub id_name : Option (List ℕ) → List ℕ
@@ -17,7 +18,7 @@ name_asked request = id_name request.id
 
 -- the operation that a request asks, and the key that it is about
 abbrev pub request_text : Request → List ℕ
-request_text request = ask_word request.ask ++ codes " " ++ name_asked request
+request_text request = operation_word (ask_operation request.ask) ++ codes " " ++ name_asked request
 
 -- the same of one more request, behind others
 abbrev pub next_request_text : Request → List ℕ

@@ -3,7 +3,7 @@ ghost use Rattle.std.specs.Prelude.{◌≡◌, ◌++◌, OnOk, option_map};
 ghost use Rattle.std.specs.List.{flat_map, list_all};
 ghost use Rattle.kmip_messages.specs.Items.{replies_in};
 ghost use Rattle.kmip_objects.specs.Ranges.{is_name_byte};
-ghost use Rattle.kmip_trace.specs.Names.{operation_word};
+ghost use Rattle.kmip_trace.specs.Names.{number_word};
 ghost use Rattle.kmip_trace.specs.Answers.{
   answer_text,
   answering_text,
@@ -20,7 +20,7 @@ ghost use Rattle.kmip_trace.specs.Answers.{
 };
 
 use crate::asking::{id_name, requests_in};
-use crate::names::operation_word;
+use crate::names::number_word;
 use crate::outcomes::{push_outcome, push_plain};
 use kmip_batch_items::{Outcome, Reply, Request};
 use kmip_messages::read_reply;
@@ -236,7 +236,7 @@ fn push_id(id: &Option<Bytes>, text: &mut Vec<u8>) -> Result<(), NoMemory>
         text.extend_from_slice(b"no question")?;
         return Ok(());
     }
-    push_named(operation_word(u32::from(*number)), name, text)
+    push_named(number_word(u32::from(*number)), name, text)
 }
 
 /// Appends an operation and a name, where there is such an operation.

@@ -5,7 +5,7 @@ ghost use Rattle.std.specs.Result.{result_ok};
 ghost use Rattle.kmip_messages.specs.Items.{requests_in};
 ghost use Rattle.kmip_trace.specs.Questions.{id_name, name_asked, next_request_text, question_text, request_text, requests_text};
 
-use crate::names::ask_word;
+use crate::names::operation_word;
 use kmip_batch_items::{Refusal, Request};
 use kmip_messages::{Questions, read_request};
 use kmip_ttlv::{Bytes, NoMemory};
@@ -124,7 +124,7 @@ fn push_next(request: &Request, text: &mut Vec<u8>) -> Result<(), NoMemory>
 fn push_request(request: &Request, text: &mut Vec<u8>) -> Result<(), NoMemory>
     ensures { OnOk result (text.new.items ≡ text.old.items ++ request_text request.now) }
 {
-    text.extend_from_slice(ask_word(&request.ask).as_bytes())?;
+    text.extend_from_slice(operation_word(request.ask.operation()).as_bytes())?;
     text.push(b' ')?;
     text.extend_from_slice(name_asked(request))?;
     Ok(())

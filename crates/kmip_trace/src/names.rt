@@ -1,47 +1,32 @@
 //! The names of operations and of states.
 ghost use Rattle.std.specs.Prelude.{◌≡◌, ◌==◌, find, option_copied, option_map};
 ghost use Rattle.kmip_objects.specs.States.{state_number};
-ghost use Rattle.kmip_trace.specs.Names.{all_states, ask_word, operation_word, state_of, state_word};
+ghost use Rattle.kmip_trace.specs.Names.{all_states, number_word, operation_word, state_of, state_word};
 
-use kmip_batch_items::Ask;
-use kmip_batch_items::standard::{
-    OPERATION_ACTIVATE, OPERATION_CREATE, OPERATION_DESTROY, OPERATION_GET_ATTRIBUTES,
-    OPERATION_LOCATE, OPERATION_REVOKE,
-};
+use kmip_batch_items::Operation;
 use kmip_objects::KeyState;
 
-/// The name of the operation that is asked.
-pub(crate) fn ask_word(ask: &Ask) -> &'static str
-    ensures { result.now ≡ ask_word ask.now }
+/// The name of an operation.
+pub(crate) fn operation_word(operation: Operation) -> &'static str
+    ensures { result.now ≡ operation_word operation }
 {
-    match ask {
-        Ask::Create(_) => "Create",
-        Ask::Locate { mask: _, filter: _ } => "Locate",
-        Ask::GetAttributes(_) => "GetAttributes",
-        Ask::Activate(_) => "Activate",
-        Ask::Revoke(_, _) => "Revoke",
-        Ask::Destroy(_) => "Destroy",
+    match operation {
+        Operation::Create => "Create",
+        Operation::Locate => "Locate",
+        Operation::GetAttributes => "GetAttributes",
+        Operation::Activate => "Activate",
+        Operation::Revoke => "Revoke",
+        Operation::Destroy => "Destroy",
     }
 }
 
 /// The name of the operation of a number, where the profile has such an operation.
-pub(crate) fn operation_word(number: u32) -> Option<&'static str>
-    ensures { option_map (λ word. word.now) result ≡ operation_word number }
+pub(crate) fn number_word(number: u32) -> Option<&'static str>
+    ensures { option_map (λ word. word.now) result ≡ number_word number }
 {
-    if number == OPERATION_CREATE {
-        Some("Create")
-    } else if number == OPERATION_LOCATE {
-        Some("Locate")
-    } else if number == OPERATION_GET_ATTRIBUTES {
-        Some("GetAttributes")
-    } else if number == OPERATION_ACTIVATE {
-        Some("Activate")
-    } else if number == OPERATION_REVOKE {
-        Some("Revoke")
-    } else if number == OPERATION_DESTROY {
-        Some("Destroy")
-    } else {
-        None
+    match Operation::with_number(number) {
+        Some(operation) => Some(operation_word(operation)),
+        None => None,
     }
 }
 

@@ -42,7 +42,7 @@ fn push_question(
 ) -> Result<(), AllocError> {
     match question {
         Ok(request) => {
-            write!(text, "; {}", request.ask.operation())?;
+            write!(text, "; {}", request.ask.operation().number())?;
             push_id(alloc, text, request.id.as_ref())
         }
         Err(refusal) => {

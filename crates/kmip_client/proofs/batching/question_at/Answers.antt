@@ -70,7 +70,7 @@ one_more f keys knowns places i xs x inside there is =
 
 pub loop-place-preserved : goal.loop-place-preserved
 loop-place-preserved c = (
-  rw (c.in_ok-push.ensures.items, c.operation.ensures)
+  rw (c.in_ok-push.ensures.items, c.number.ensures, c.operation.ensures)
       (one_more part_about c.args.keys.now c.args.knowns.now c.args.places.now c.loop-place.place-index c.loop-place.parts.items _ c.loop-place-test.true
       c.in_ok-request.ensures.part c.loop-place.invariant.0),
   rw c.in_ok-push-2.ensures.items
