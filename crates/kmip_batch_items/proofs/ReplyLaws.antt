@@ -39,67 +39,32 @@ attrs-part = attrs_with-part _ refl (optional_structure-part _ _ any_name_parts-
 
 created : (o : Outcome) (x : List ℕ) → in_created o ≡ Some x → Created x ≡ o
 created (Created uid) x e = cc
-created (Located uids) x e = absurd cc
-created (Attributes uid attrs) x e = absurd cc
-created (Activated uid) x e = absurd cc
-created (Revoked uid) x e = absurd cc
-created (Destroyed uid) x e = absurd cc
-created (Failed reason) x e = absurd cc
+created o x e = absurd cc
 
 located : (o : Outcome) (x : Option (List (List ℕ))) → in_located o ≡ Some x → Located (option_map_or (λ uids. uids) x []) ≡ o
-located (Created uid) x e = absurd cc
 located (Located uids) None e = absurd cc
 located (Located uids) (Some x) e = cc
-located (Attributes uid attrs) x e = absurd cc
-located (Activated uid) x e = absurd cc
-located (Revoked uid) x e = absurd cc
-located (Destroyed uid) x e = absurd cc
-located (Failed reason) x e = absurd cc
+located o x e = absurd cc
 
 attributes_told : (o : Outcome) (x : List ℕ × Attrs) → in_attributes o ≡ Some x → Attributes x.0 x.1 ≡ o
-attributes_told (Created uid) x e = absurd cc
-attributes_told (Located uids) x e = absurd cc
 attributes_told (Attributes uid attrs) x e = cc
-attributes_told (Activated uid) x e = absurd cc
-attributes_told (Revoked uid) x e = absurd cc
-attributes_told (Destroyed uid) x e = absurd cc
-attributes_told (Failed reason) x e = absurd cc
+attributes_told o x e = absurd cc
 
 activated : (o : Outcome) (x : List ℕ) → in_activated o ≡ Some x → Activated x ≡ o
-activated (Created uid) x e = absurd cc
-activated (Located uids) x e = absurd cc
-activated (Attributes uid attrs) x e = absurd cc
 activated (Activated uid) x e = cc
-activated (Revoked uid) x e = absurd cc
-activated (Destroyed uid) x e = absurd cc
-activated (Failed reason) x e = absurd cc
+activated o x e = absurd cc
 
 revoked : (o : Outcome) (x : List ℕ) → in_revoked o ≡ Some x → Revoked x ≡ o
-revoked (Created uid) x e = absurd cc
-revoked (Located uids) x e = absurd cc
-revoked (Attributes uid attrs) x e = absurd cc
-revoked (Activated uid) x e = absurd cc
 revoked (Revoked uid) x e = cc
-revoked (Destroyed uid) x e = absurd cc
-revoked (Failed reason) x e = absurd cc
+revoked o x e = absurd cc
 
 destroyed : (o : Outcome) (x : List ℕ) → in_destroyed o ≡ Some x → Destroyed x ≡ o
-destroyed (Created uid) x e = absurd cc
-destroyed (Located uids) x e = absurd cc
-destroyed (Attributes uid attrs) x e = absurd cc
-destroyed (Activated uid) x e = absurd cc
-destroyed (Revoked uid) x e = absurd cc
 destroyed (Destroyed uid) x e = cc
-destroyed (Failed reason) x e = absurd cc
+destroyed o x e = absurd cc
 
 failed : (o : Outcome) (x : Option ℕ) → in_failed o ≡ Some x → Failed x ≡ o
-failed (Created uid) x e = absurd cc
-failed (Located uids) x e = absurd cc
-failed (Attributes uid attrs) x e = absurd cc
-failed (Activated uid) x e = absurd cc
-failed (Revoked uid) x e = absurd cc
-failed (Destroyed uid) x e = absurd cc
 failed (Failed reason) x e = cc
+failed o x e = absurd cc
 
 created-part : IsPart created_format
 unfolding created_format identifier_format
@@ -180,13 +145,8 @@ failed-part = as_case-part _ _ _ failed (optional-part enumerations _ enumeratio
 -- a success is no failure, as 0 is no operation
 success_status : (asked : Option ℕ) (batch : List Node) (o : Outcome) → (success_format asked).Says batch o → status_of o ≡ STATUS_SUCCESS
 unfolding success_format success_of_format
-success_status asked batch (Created uid) says = refl
-success_status asked batch (Located uids) says = refl
-success_status asked batch (Attributes uid attrs) says = refl
-success_status asked batch (Activated uid) says = refl
-success_status asked batch (Revoked uid) says = refl
-success_status asked batch (Destroyed uid) says = refl
 success_status asked batch (Failed reason) says = let none : IsTrue false = says.1 in absurd cc
+success_status asked batch o says = refl
 
 failed_status : (batch : List Node) (o : Outcome) → failed_format.Says batch o → status_of o ≡ STATUS_OPERATION_FAILED
 unfolding failed_format

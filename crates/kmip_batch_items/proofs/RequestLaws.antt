@@ -53,51 +53,27 @@ create-good = (right-part _ _ refl (fixed-part _ _ _ _ refl refl (required-part 
 
 created : (a : Ask) (x : KeyAttrs) → in_create a ≡ Some x → Create x ≡ a
 created (Create k) x e = cc
-created (Locate storage filter) x e = absurd cc
-created (GetAttributes uid) x e = absurd cc
-created (Activate uid) x e = absurd cc
-created (Revoke uid code) x e = absurd cc
-created (Destroy uid) x e = absurd cc
+created a x e = absurd cc
 
 located : (a : Ask) (x : Option ℤ × Attrs) → in_locate a ≡ Some x → Locate x.0 x.1 ≡ a
-located (Create k) x e = absurd cc
 located (Locate storage filter) x e = cc
-located (GetAttributes uid) x e = absurd cc
-located (Activate uid) x e = absurd cc
-located (Revoke uid code) x e = absurd cc
-located (Destroy uid) x e = absurd cc
+located a x e = absurd cc
 
 attributes_asked : (a : Ask) (x : List ℕ) → in_get_attributes a ≡ Some x → GetAttributes x ≡ a
-attributes_asked (Create k) x e = absurd cc
-attributes_asked (Locate storage filter) x e = absurd cc
 attributes_asked (GetAttributes uid) x e = cc
-attributes_asked (Activate uid) x e = absurd cc
-attributes_asked (Revoke uid code) x e = absurd cc
-attributes_asked (Destroy uid) x e = absurd cc
+attributes_asked a x e = absurd cc
 
 activated : (a : Ask) (x : List ℕ) → in_activate a ≡ Some x → Activate x ≡ a
-activated (Create k) x e = absurd cc
-activated (Locate storage filter) x e = absurd cc
-activated (GetAttributes uid) x e = absurd cc
 activated (Activate uid) x e = cc
-activated (Revoke uid code) x e = absurd cc
-activated (Destroy uid) x e = absurd cc
+activated a x e = absurd cc
 
 revoked : (a : Ask) (x : List ℕ × ℕ) → in_revoke a ≡ Some x → Revoke x.0 x.1 ≡ a
-revoked (Create k) x e = absurd cc
-revoked (Locate storage filter) x e = absurd cc
-revoked (GetAttributes uid) x e = absurd cc
-revoked (Activate uid) x e = absurd cc
 revoked (Revoke uid code) x e = cc
-revoked (Destroy uid) x e = absurd cc
+revoked a x e = absurd cc
 
 destroyed : (a : Ask) (x : List ℕ) → in_destroy a ≡ Some x → Destroy x ≡ a
-destroyed (Create k) x e = absurd cc
-destroyed (Locate storage filter) x e = absurd cc
-destroyed (GetAttributes uid) x e = absurd cc
-destroyed (Activate uid) x e = absurd cc
-destroyed (Revoke uid code) x e = absurd cc
 destroyed (Destroy uid) x e = cc
+destroyed a x e = absurd cc
 
 locate-good : IsGood locate_format
 unfolding locate_format

@@ -23,11 +23,7 @@ use Rattle.kmip_client.specs.Shapes.{PhaseSuits, IsShaped}
 
 pub operation_small : (ask : Ask) → operation_of ask < 256
 operation_small (asks.Create attrs) = omega arith
-operation_small (asks.Locate mask filter) = omega arith
-operation_small (asks.GetAttributes uid) = omega arith
-operation_small (asks.Activate uid) = omega arith
-operation_small (asks.Revoke uid code) = omega arith
-operation_small (asks.Destroy uid) = omega arith
+operation_small ask = omega arith
 
 -- ---- ranges
 

@@ -231,8 +231,7 @@ spends s (Create attrs) changing = create_spends s attrs
 spends s (Activate uid) changing = stepped_spends s (Activated uid) steps.Activate uid (row_with uid s.rows) refl
 spends s (Revoke uid code) changing = revoke_spends s uid code
 spends s (Destroy uid) changing = stepped_spends s (Destroyed uid) steps.Destroy uid (row_with uid s.rows) refl
-spends s (Locate mask given) changing = absurd (cc)
-spends s (GetAttributes uid) changing = absurd (cc)
+spends s ask changing = absurd (cc)
 
 -- it is refused, and leaves the records as they are
 abbrev pub IsRefused : Stock → Outcome × Stock → Type 0
@@ -254,8 +253,7 @@ spent_refused s (Create attrs) taken = rw taken (refl, refl)
 spent_refused s (Activate uid) past = past_refused s (Activated uid) steps.Activate uid (row_with uid s.rows) past
 spent_refused s (Revoke uid code) past = revoke_refused s uid code past
 spent_refused s (Destroy uid) past = past_refused s (Destroyed uid) steps.Destroy uid (row_with uid s.rows) past
-spent_refused s (Locate mask given) past = absurd (cc)
-spent_refused s (GetAttributes uid) past = absurd (cc)
+spent_refused s ask past = absurd (cc)
 
 pub again_refused : (s : Stock) (ask : Ask) (between : List Ask) → changes ask ≡ true → has_failed (answer s ask).0 ≡ false
     → IsRefused (stock_after_asks between (answer s ask).1) (answer (stock_after_asks between (answer s ask).1) ask)
