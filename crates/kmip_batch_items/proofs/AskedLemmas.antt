@@ -17,7 +17,5 @@ payload_fits (Create key) payload says =
     both _ _ (both _ _ (both _ _ k.called.in_range k.algorithm_in_range) k.bits_in_range) k.mask_in_range
 payload_fits (Locate storage filter) payload says =
     subst (λ o. IsTrue (option_map_or is_name o false)) says.are.has_name says.are.called.in_range
-payload_fits (GetAttributes uid) payload says = says.in_range
-payload_fits (Activate uid) payload says = says.in_range
 payload_fits (Revoke uid code) payload says = both _ _ says.identifier.in_range says.in_range
-payload_fits (Destroy uid) payload says = says.in_range
+payload_fits a payload says = says.in_range

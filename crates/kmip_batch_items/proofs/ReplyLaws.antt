@@ -98,11 +98,7 @@ answer-part operations.Destroy = as_case-part _ _ _ destroyed named-part
 answer_tags : (operation : Operation) → (answer_format operation).tags ≡ TAG_RESPONSE_PAYLOAD ∷ []
 unfolding answer_format named_format located_format
 answer_tags operations.Create = refl
-answer_tags operations.Locate = refl
-answer_tags operations.GetAttributes = refl
-answer_tags operations.Activate = refl
-answer_tags operations.Revoke = refl
-answer_tags operations.Destroy = refl
+answer_tags operation = refl
 
 -- ---- outcomes
 
@@ -117,12 +113,8 @@ success_of_tags number = refl
 -- what a payload says is of its operation
 answer_is_own : (operation : Operation) (batch : List Node) (a : Outcome) → (answer_format operation).Says batch a → succeeded a ≡ operation_number operation
 unfolding answer_format located_format
-answer_is_own operations.Create batch a (x, _, same) = ap succeeded (sym same)
-answer_is_own operations.Locate batch a (x, _, same) = ap succeeded (sym same)
-answer_is_own operations.GetAttributes batch a (x, _, same) = ap succeeded (sym same)
-answer_is_own operations.Activate batch a (x, _, same) = ap succeeded (sym same)
-answer_is_own operations.Revoke batch a (x, _, same) = ap succeeded (sym same)
-answer_is_own operations.Destroy batch a (x, _, same) = ap succeeded (sym same)
+answer_is_own operations.Create batch a says = ap succeeded (sym says.2)
+answer_is_own operation batch a says = ap succeeded (sym says.2)
 
 -- what is said goes by the operation of the number, where there is one
 told_own : (number : ℕ) (known : Option Operation) (batch : List Node) (a : Outcome) → operation_with number ≡ known
@@ -210,15 +202,11 @@ attrs_fit_any a = both (option_map_or any_name_parts_format.fits a.name true) tr
 
 payload_fits : (o : Outcome) (asked : Option ℕ) → outcome_fits asked o ≡ true → (outcome_format asked).fits o ≡ true
 unfolding outcome_format success_format success_of_format answer_format named_format located_format identifiers_format created_format object_format identifier_format failed_format
-payload_fits (Created uid) asked fits = fits
-payload_fits (Located uids) asked fits = fits
 payload_fits (Attributes uid attrs) asked fits =
     let each = and_parts (is_own OPERATION_GET_ATTRIBUTES asked) (is_identifier uid) fits in
     both (is_own OPERATION_GET_ATTRIBUTES asked) (is_identifier uid && attrs_format.fits attrs) each.0 (both (is_identifier uid) (attrs_format.fits attrs) each.1 (attrs_fit_any attrs))
-payload_fits (Activated uid) asked fits = fits
-payload_fits (Revoked uid) asked fits = fits
-payload_fits (Destroyed uid) asked fits = fits
 payload_fits (Failed reason) asked fits = refl
+payload_fits o asked fits = fits
 
 pub answer_in_format : (r : Reply) → answer_fits r ≡ true → answered_format.fits r ≡ true
 unfolding answered_format id_format

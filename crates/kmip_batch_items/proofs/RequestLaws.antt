@@ -101,11 +101,7 @@ payload-good operations.Destroy = as_case-good _ _ _ destroyed identifier_part.g
 -- the number of an operation is that of no other
 pub number_with : (operation : Operation) → operation_with (operation_number operation) ≡ Some operation
 number_with operations.Create = refl
-number_with operations.Locate = refl
-number_with operations.GetAttributes = refl
-number_with operations.Activate = refl
-number_with operations.Revoke = refl
-number_with operations.Destroy = refl
+number_with operation = refl
 
 -- the value that is found passes the test
 found_passes : {A : Type 0} (test : A → Bool) (first : A) (b : Bool) (rest : Option A) (x : A) → test first ≡ b → (rest ≡ Some x → test x ≡ true)
@@ -124,12 +120,8 @@ with_number number operation is = sym (eqb-true number (operation_number operati
 -- what a payload says is of its operation
 payload_is_own : (operation : Operation) (payload : List Node) (a : Ask) → (payload_format operation).Says payload a → ask_operation a ≡ operation
 unfolding payload_format locate_format revoke_format
-payload_is_own operations.Create payload a (x, _, same) = ap ask_operation (sym same)
-payload_is_own operations.Locate payload a (x, _, same) = ap ask_operation (sym same)
-payload_is_own operations.GetAttributes payload a (x, _, same) = ap ask_operation (sym same)
-payload_is_own operations.Activate payload a (x, _, same) = ap ask_operation (sym same)
-payload_is_own operations.Revoke payload a (x, _, same) = ap ask_operation (sym same)
-payload_is_own operations.Destroy payload a (x, _, same) = ap ask_operation (sym same)
+payload_is_own operations.Create payload a says = ap ask_operation (sym says.2)
+payload_is_own operation payload a says = ap ask_operation (sym says.2)
 
 -- ---- the version, and the Batch Item
 
@@ -187,10 +179,7 @@ payload_fits : (a : Ask) → ask_fits a ≡ true → (payload_format (ask_operat
 unfolding payload_format locate_format filter_format revoke_format reason_format identifier_format
 payload_fits (Create k) fits = key_fits k fits
 payload_fits (Locate storage filter) fits = both (option_map_or name_format.fits filter.name false) true (filter_fits filter.name fits) refl
-payload_fits (GetAttributes uid) fits = fits
-payload_fits (Activate uid) fits = fits
-payload_fits (Revoke uid code) fits = fits
-payload_fits (Destroy uid) fits = fits
+payload_fits a fits = fits
 
 asked_fits : (a : Ask) → ask_fits a ≡ true → (asked_format (operation_of a)).fits a ≡ true
 unfolding asked_format

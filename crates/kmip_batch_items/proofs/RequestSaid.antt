@@ -63,11 +63,9 @@ unfolding payload_format locate_format revoke_format reason_format
 payload_is payload (Create k) (x, says, same) = subst (IsPayload payload) same (create_is payload x says)
 payload_is payload (Locate storage filter) (x, (mask, (attributes, stands, are)), same) =
     subst (IsPayload payload) same (record { mask = mask; attributes = attributes; stands = stands; are = filter_is attributes x.1 are })
-payload_is payload (GetAttributes uid) (x, says, same) = subst (IsPayload payload) same (identifier_is payload x says)
-payload_is payload (Activate uid) (x, says, same) = subst (IsPayload payload) same (identifier_is payload x says)
 payload_is payload (Revoke uid code) (x, (identifier, (reason, stands, (says, in_range))), same) =
     subst (IsPayload payload) same (record { identifier = identifier_is payload x.0 identifier; reason = reason; stands = stands; says = says; in_range = in_range })
-payload_is payload (Destroy uid) (x, says, same) = subst (IsPayload payload) same (identifier_is payload x says)
+payload_is payload a says = subst (IsPayload payload) says.2 (identifier_is payload says.0 says.1)
 
 is_payload : (payload : List Node) (a : Ask) → IsPayload payload a → (payload_format (ask_operation a)).Says payload a
 unfolding payload_format locate_format revoke_format reason_format

@@ -21,10 +21,7 @@ found_fit (Some payload) uids are = are.in_range
 
 -- what an item says of an outcome is in its ranges
 pub outcome_in_range : (batch : List Node) (asked : Option ℕ) (o : Outcome) → IsOutcome batch asked o → IsTrue (outcome_fits asked o)
-outcome_in_range batch asked (Created uid) is = both _ _ (own_operation _ asked is.is_own) is.says.in_range
 outcome_in_range batch asked (Located uids) is = both _ _ (own_operation _ asked is.is_own) (found_fit is.payload uids is.says)
 outcome_in_range batch asked (Attributes uid attrs) is = both _ _ (own_operation _ asked is.is_own) is.says.is_identifier.in_range
-outcome_in_range batch asked (Activated uid) is = both _ _ (own_operation _ asked is.is_own) is.says.in_range
-outcome_in_range batch asked (Revoked uid) is = both _ _ (own_operation _ asked is.is_own) is.says.in_range
-outcome_in_range batch asked (Destroyed uid) is = both _ _ (own_operation _ asked is.is_own) is.says.in_range
 outcome_in_range batch asked (Failed reason) is = refl
+outcome_in_range batch asked o is = both _ _ (own_operation _ asked is.is_own) is.says.in_range
