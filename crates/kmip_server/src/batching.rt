@@ -62,7 +62,8 @@ pub(crate) fn answer_all<S: Records>(
             return write_all(alloc, replies.as_slice(), now);
         }
     }
-    Err(NoMemory)
+    // There is at least one question, and the last one is answered in the loop.
+    unreachable!()
 }
 
 /// Answers a message that is refused whole, by one reply.

@@ -109,3 +109,8 @@ loop-question-preserved g c =
       goes_further c.args.stops c.args.questions.now _ c.loop-question.question-index c.loop-question.replies.items c.push.new.self.items joined _ _ c.question-item.result
           c.in_ok-reply.reply answered c.question-item.is below c.in_ok-push.ensures.items c.in_ok-reply.ensures.reply c.in_ok-reply.ensures.short c.in_ok-reply.ensures.after on,
     )
+
+pub unreachable-unreachable : goal.unreachable-unreachable
+unreachable-unreachable g c =
+    let (joined, is, answered) = c.loop-question.invariant in
+    omega (arith, answered.more, c.loop-question-test.false)
