@@ -1,5 +1,5 @@
 //! The questions of a message, answered in turn, and the message of the replies.
-ghost use Rattle.std.specs.Prelude.{◌≡◌, ◌+◌, ◌++◌, List, [], ◌∷◌, length, true, Ok, IfOk, OnErr, OnOk, IsTrue, IsSome, option_to_list};
+ghost use Rattle.std.specs.Prelude.{◌≡◌, ◌+◌, ◌++◌, List, [], ◌∷◌, length, true, Ok, IfOk, OnErr, OnOk, IsTrue, IsSome};
 ghost use Rattle.std.specs.List.{All};
 ghost use Rattle.std.specs.Option.{option_map_or};
 ghost use Rattle.kmip_batch_items.specs.Ranges.{is_batch_id};
@@ -12,10 +12,8 @@ ghost use Rattle.kmip_batch_items.specs.declared.reply.Outcome.TheVariants.{Fail
 ghost use Rattle.kmip_batch_items.specs.declared.reply.Reply.{Reply};
 ghost use Rattle.kmip_server.specs.Answering.{promised_outcome, reply_with, Tells};
 ghost use Rattle.kmip_server.specs.Batching.{effects_of, is_last, replies_to, stock_after_all, IsCutShort, GrownBy, LeavesAll, NotesOne};
-ghost use Rattle.kmip_server.specs.Effects.{effect_of};
 ghost use Rattle.kmip_server.specs.Reasons.{message_reason};
-ghost use Rattle.kmip_server.specs.Serving.{answer, refusal_reply, reply_to, stock_after_read};
-ghost use Rattle.kmip_server.specs.Shown.{objects_in};
+ghost use Rattle.kmip_server.specs.Serving.{refusal_reply, reply_to};
 
 use crate::effect::{Effect, carry_out_noted};
 use crate::promising::promise;

@@ -1,6 +1,5 @@
 //! One message from a stream.
-ghost use Rattle.std.specs.Prelude.{◌≡◌, ◌≢◌, ◌<◌, ◌≤◌, length, true, false, Ok, Err, None, Some, IfOk, IfErr, IsOk};
-ghost use Rattle.std.specs.Io.KnownBytes.{IsAtEnd};
+ghost use Rattle.std.specs.Prelude.{◌≡◌, ◌≢◌, ◌<◌, ◌≤◌, length, true, Err, None, Some, IfOk, IfErr, IsOk};
 ghost use Rattle.std.specs.IoError.{error_kind};
 ghost use Rattle.kmip_frames.specs.Framing.{fault_in, wants};
 ghost use Rattle.kmip_frames.specs.Streams.{BeginsWithNoMessage};
