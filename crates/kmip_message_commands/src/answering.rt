@@ -113,8 +113,7 @@ pub(crate) fn push_reply(
         ≡ text.old.items ++ reply_text server.old message.now) }
     ensures after { OnOk result (server.new ≡ stock_after_batch server.old message.now) }
 {
-    let mut effects = Vec::new(alloc);
-    let reply = server.handle_batch(alloc, message, NOW, &mut effects)?;
+    let reply = server.handle(alloc, message, NOW)?;
     push_hex(alloc, reply.as_slice(), text)
 }
 

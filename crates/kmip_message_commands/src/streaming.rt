@@ -114,25 +114,7 @@ pub fn answer_stream<R: BufRead, W: Write>(
         (λ input. IsBrokenOff input [] (W.contents writer.old) (W.contents writer.new)))) }
 {
     let mut streamer = Streamer::new(alloc)?;
-    stream_lines(alloc, &mut streamer, reader, writer)
-}
-
-/// Does it with a streamer before its first byte.
-fn stream_lines<R: BufRead, W: Write>(
-    alloc: Global,
-    streamer: &mut Streamer,
-    reader: &mut R,
-    writer: &mut W,
-) -> Result<StreamOutcome, CommandFault>
-    requires { (streamer.old.server ≡ first_stock) × (streamer.old.framer ≡ []) }
-    ensures lines { IfOk result (λ outcome. IfSome (R.remaining reader.old)
-        (λ input. IsWritten input outcome (W.contents writer.old) (W.contents writer.new))) }
-    ensures stream { IfOk result (λ outcome. IfSome (R.remaining reader.old)
-        (λ input. IsAnswered input outcome (W.contents writer.old) (W.contents writer.new))) }
-    ensures broken { IfErr result (λ fault. UnlessOutput fault (IfSome (R.remaining reader.old)
-        (λ input. IsBrokenOff input [] (W.contents writer.old) (W.contents writer.new)))) }
-{
-    let has_refused = respond_to_lines(alloc, streamer, reader, writer)?;
+    let has_refused = respond_to_lines(alloc, &mut streamer, reader, writer)?;
     let end = streamer.end();
     let mut tail = Vec::new(alloc);
     push_tail(alloc, end, &mut tail)?;
@@ -166,25 +148,7 @@ pub fn answer_stream_bytes(
         (Some output.old.items) (Some output.new.items)) }
 {
     let mut streamer = Streamer::new(alloc)?;
-    stream_bytes(alloc, &mut streamer, input, output)
-}
-
-/// Does it with a streamer before its first byte.
-fn stream_bytes(
-    alloc: Global,
-    streamer: &mut Streamer,
-    input: &[u8],
-    output: &mut Vec<u8>,
-) -> Result<StreamOutcome, NoMemory>
-    requires { (streamer.old.server ≡ first_stock) × (streamer.old.framer ≡ []) }
-    ensures lines { IfOk result (λ outcome. IsWritten input.now outcome
-        (Some output.old.items) (Some output.new.items)) }
-    ensures stream { IfOk result (λ outcome. IsAnswered input.now outcome
-        (Some output.old.items) (Some output.new.items)) }
-    ensures broken { OnErr result (IsBrokenOff input.now []
-        (Some output.old.items) (Some output.new.items)) }
-{
-    let has_refused = respond_to_bytes(alloc, streamer, input, output)?;
+    let has_refused = respond_to_bytes(alloc, &mut streamer, input, output)?;
     let end = streamer.end();
     let mut tail = Vec::new(alloc);
     push_tail(alloc, end, &mut tail)?;

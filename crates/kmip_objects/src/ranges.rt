@@ -80,7 +80,7 @@ fn is_aes_length(length: i32) -> bool
 pub fn is_usage(usage: i32) -> bool
     ensures { result ≡ is_usage usage }
 {
-    usage > 0 && !(usage > USAGE_MAX)
+    usage > 0 && usage <= USAGE_MAX
 }
 
 /// Whether the number is a Revocation Reason Code: 1 to 7.

@@ -105,14 +105,14 @@ target_found ms t e =
 pub target_read : (ms : Members) (t : Target) → text_at (codes "target") ms ≡ Some (target_word t) → target_of ms ≡ Some t
 target_read ms t is = judged target_of_word _ (target_word t) t is (target_of_its_word t)
 
-bit_within : (items : Items) (word : List ℕ) (bit : ℕ) → bit_of items word bit ≤ bit
+pub bit_within : (items : Items) (word : List ℕ) (bit : ℕ) → bit_of items word bit ≤ bit
 bit_within items word bit =
     elim (cases_Bool (times word items == 0)) [
       | inl none ↦ rw none (omega arith)
       | inr some ↦ rw some (omega arith)
     ]
 
-mask_within : (items : Items) → mask_of items ≤ 511
+pub mask_within : (items : Items) → mask_of items ≤ 511
 mask_within items =
     omega (
       arith,

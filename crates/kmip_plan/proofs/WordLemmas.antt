@@ -1,12 +1,12 @@
 -- Words and what they stand for.
-use Rattle.std.proofs.Common.{◌≡◌, ℕ, Bool, true, false, ◌==◌, ◌||◌, List, codes, Option, Some, None, if◌then◌else◌, subst, refl, sym, ap, ◌∙◌, inl, inr}
+use Rattle.std.proofs.Common.{◌≡◌, ℕ, ◌+◌, Bool, true, false, ◌==◌, ◌||◌, List, [], ◌∷◌, map, codes, Option, Some, None, if◌then◌else◌, subst, refl, sym, ap, ◌∙◌, inl, inr}
+use Rattle.std.specs.List.{list_any, sum_by}
 use Rattle.std.proofs.lemmas.Bool.{cases_Bool, eqb-true}
+use Rattle.std.proofs.lemmas.List.Sums.{sum_by-cons}
 use Rattle.std.proofs.lemmas.Slice.Eq.{bytes_eq-Decides}
 use Rattle.kmip_objects.specs.Ranges.{is_algorithm}
 use Rattle.kmip_objects.specs.declared.standard.TheConstants.{ALGORITHM_AES, ALGORITHM_HMAC_SHA256}
-use Rattle.kmip_plan.specs.declared.target.Target.{Target}
-use Rattle.kmip_plan.specs.declared.target.Target.TheVariants.{Created, Active, Revoked, Destroyed, Discarded}
-use Rattle.kmip_plan.specs.TargetWords.{is_text, target_word, target_of_word}
+use Rattle.kmip_plan.specs.TargetWords.{is_text}
 use Rattle.kmip_plan.specs.Words.{algorithm_word, algorithm_of_word, reason_of_word}
 use Rattle.std.proofs.lemmas.Option.{same_Some}
 use Rattle.kmip_plan.proofs.OptionLemmas.{not_some}
@@ -57,3 +57,14 @@ reason_in_range word r is =
     chosen word (codes "superseded") 5 r _ P (λ e. refl) (
     chosen word (codes "cessation-of-operation") 6 r _ P (λ e. refl) (
     chosen word (codes "privilege-withdrawn") 7 r _ P (λ e. refl) (no_word r P))))) is
+
+-- a test of some element, where the list was read off another
+pub list_any-map : {X Y : Type 0} (p : Y → Bool) (h : X → Y) (xs : List X) → list_any p (map h xs) ≡ list_any (λ x. p (h x)) xs
+list_any-map p h [] = refl
+list_any-map p h (x ∷ xs) = ap (λ b. p (h x) || b) (list_any-map p h xs)
+
+-- a sum, where the list was read off another
+pub sum_by-map : {X Y : Type 0} (f : Y → ℕ) (h : X → Y) (xs : List X) → sum_by f (map h xs) ≡ sum_by (λ x. f (h x)) xs
+sum_by-map f h [] = refl
+sum_by-map f h (x ∷ xs) =
+    sum_by-cons f (h x) (map h xs) ∙ ap (λ n. f (h x) + n) (sum_by-map f h xs) ∙ sym (sum_by-cons (λ y. f (h y)) x xs)

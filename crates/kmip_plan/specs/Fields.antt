@@ -1,13 +1,14 @@
 -- The value of each field of a key, where it is a lawful one.
 -- Source: own (choice): which values are lawful.
 use Rattle.std.specs.Prelude.{ℕ, ℤ, pos, Bool, true, false, ◌&&◌, ◌==◌, nat_le, List, codes, Option, Some, None, option_and_then, if◌then◌else◌}
+use Rattle.std.specs.List.{list_all, sum_by}
 use Rattle.kmip_objects.specs.Ranges.{is_name, is_length}
 use Rattle.toml.specs.Data.{Data, Items, Members, get_member, as_str}
 use Rattle.kmip_plan.specs.declared.target.Target.{Target}
 use Rattle.kmip_plan.specs.Chains.{is_revoked}
 use Rattle.kmip_plan.specs.Tables.{text_at, integer_at, array_at, times, all_words}
 use Rattle.kmip_plan.specs.TargetWords.{target_of_word}
-use Rattle.kmip_plan.specs.Words.{algorithm_of_word, reason_of_word, is_usage_word, usage_sum}
+use Rattle.kmip_plan.specs.Words.{algorithm_of_word, reason_of_word, is_usage_word, usages}
 
 -- A value that passes a test; none where it does not.
 abbrev pub if_so : {A : Type 0} → (A → Bool) → A → Option A
@@ -31,15 +32,7 @@ is_once word items = nat_le (times word items) 1
 
 -- Each usage word is among the items at most once.
 abbrev pub are_once : Items → Bool
-are_once items =
-    is_once (codes "sign") items
-    && is_once (codes "verify") items
-    && is_once (codes "encrypt") items
-    && is_once (codes "decrypt") items
-    && is_once (codes "wrap-key") items
-    && is_once (codes "unwrap-key") items
-    && is_once (codes "mac-generate") items
-    && is_once (codes "mac-verify") items
+are_once items = list_all (λ usage. is_once usage.0 items) usages
 
 -- The bit of a usage word that is among the items; 0 for one that is not.
 abbrev pub bit_of : Items → List ℕ → ℕ → ℕ
@@ -47,7 +40,7 @@ bit_of items word bit = if times word items == 0 then 0 else bit
 
 -- The sum of the bits of the usage words that are among the items: the Cryptographic Usage Mask.
 abbrev pub mask_of : Items → ℕ
-mask_of items = usage_sum (bit_of items)
+mask_of items = sum_by (λ usage. bit_of items usage.0 usage.1) usages
 
 -- The mask of the items, where each is a usage word, none is there twice, and there is at least one.
 abbrev pub usage_in : Items → Option ℤ

@@ -1,7 +1,8 @@
 -- The words of a plan, and the numbers that they stand for.
 -- Source: KMIP 2.1, Cryptographic Algorithm, Cryptographic Usage Mask and Revocation Reason Code; the words
 -- are own (text).
-use Rattle.std.specs.Prelude.{ℕ, ◌+◌, ◌==◌, Bool, ◌||◌, List, codes, Option, Some, None, if◌then◌else◌}
+use Rattle.std.specs.Prelude.{ℕ, ◌==◌, Bool, List, [], ◌∷◌, codes, Option, Some, None, if◌then◌else◌}
+use Rattle.std.specs.List.{list_any}
 use Rattle.kmip_objects.specs.declared.standard.TheConstants.{
   ALGORITHM_AES,
   ALGORITHM_HMAC_SHA256,
@@ -37,27 +38,19 @@ reason_of_word word =
     else if is_text word (codes "privilege-withdrawn") then Some REVOCATION_PRIVILEGE_WITHDRAWN
     else None
 
--- It is one of the eight words for a usage.
-abbrev pub is_usage_word : List ℕ → Bool
-is_usage_word word =
-    is_text word (codes "sign")
-    || is_text word (codes "verify")
-    || is_text word (codes "encrypt")
-    || is_text word (codes "decrypt")
-    || is_text word (codes "wrap-key")
-    || is_text word (codes "unwrap-key")
-    || is_text word (codes "mac-generate")
-    || is_text word (codes "mac-verify")
+-- The words for the usages, each with its bit of the Cryptographic Usage Mask.
+abbrev pub usages : List (List ℕ × ℕ)
+usages =
+    (codes "sign", 1)
+    ∷ (codes "verify", 2)
+    ∷ (codes "encrypt", 4)
+    ∷ (codes "decrypt", 8)
+    ∷ (codes "wrap-key", 16)
+    ∷ (codes "unwrap-key", 32)
+    ∷ (codes "mac-generate", 128)
+    ∷ (codes "mac-verify", 256)
+    ∷ []
 
--- The sum over the usage words, where each word counts for something that depends on the word and on its bit
--- of the mask.
-abbrev pub usage_sum : (List ℕ → ℕ → ℕ) → ℕ
-usage_sum counted =
-    counted (codes "sign") 1
-    + counted (codes "verify") 2
-    + counted (codes "encrypt") 4
-    + counted (codes "decrypt") 8
-    + counted (codes "wrap-key") 16
-    + counted (codes "unwrap-key") 32
-    + counted (codes "mac-generate") 128
-    + counted (codes "mac-verify") 256
+-- It is one of the words for a usage.
+abbrev pub is_usage_word : List ℕ → Bool
+is_usage_word word = list_any (λ usage. is_text word usage.0) usages

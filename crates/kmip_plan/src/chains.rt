@@ -72,10 +72,12 @@ pub fn step_place(key: &Key, step: Step) -> usize
     match (step, key.target) {
         (Step::Create, _) => 1,
         (Step::Activate, Target::Active | Target::Revoked | Target::Destroyed) => 2,
+        (Step::Activate, Target::Created | Target::Discarded) => 0,
         (Step::Revoke, Target::Revoked | Target::Destroyed) => 3,
+        (Step::Revoke, Target::Created | Target::Active | Target::Discarded) => 0,
         (Step::Destroy, Target::Destroyed) => 4,
         (Step::Destroy, Target::Discarded) => 2,
-        _ => 0,
+        (Step::Destroy, Target::Created | Target::Active | Target::Revoked) => 0,
     }
 }
 

@@ -1,6 +1,6 @@
 //! Words in an array.
 ghost use Rattle.std.specs.Prelude.{◌≡◌, ◌≤◌, false};
-ghost use Rattle.std.specs.List.{list_all};
+ghost use Rattle.std.specs.List.{list_all, sum_by};
 ghost use Rattle.std.specs.Option.{option_map_or};
 ghost use Rattle.toml.specs.Data.{as_str};
 ghost use Rattle.toml.specs.View.{view, array_view};
@@ -8,7 +8,7 @@ ghost use Rattle.kmip_plan.specs.Fields.{is_once, are_once, bit_of, mask_of};
 ghost use Rattle.kmip_plan.specs.Tables.{count, is_word, times, all_words};
 ghost use Rattle.kmip_plan.specs.Words.{is_usage_word};
 
-use crate::words::is_usage_word;
+use crate::words::{is_usage_word, usages};
 use toml::Value;
 use toml::value::Array;
 
@@ -51,14 +51,13 @@ fn all_usages(values: &[Value]) -> bool
 pub(crate) fn are_once(array: &Array) -> bool
     ensures { result ≡ are_once (array_view array.now) }
 {
-    is_once(array, "sign")
-        && is_once(array, "verify")
-        && is_once(array, "encrypt")
-        && is_once(array, "decrypt")
-        && is_once(array, "wrap-key")
-        && is_once(array, "unwrap-key")
-        && is_once(array, "mac-generate")
-        && is_once(array, "mac-verify")
+    all_once(array, usages())
+}
+
+fn all_once(array: &Array, usages: &[(&str, u16)]) -> bool
+    ensures { result ≡ list_all (λ usage. is_once usage.0.now (array_view array.now)) usages.now }
+{
+    usages.iter().all(|usage| is_once(array, usage.0))
 }
 
 /// The sum of the numbers of the usages that are there.
@@ -66,14 +65,20 @@ pub(crate) fn mask_of(array: &Array) -> u16
     ensures mask { result ≡ mask_of (array_view array.now) }
     ensures small { result ≤ 511 }
 {
-    bit_of(array, "sign", 1)
-        + bit_of(array, "verify", 2)
-        + bit_of(array, "encrypt", 4)
-        + bit_of(array, "decrypt", 8)
-        + bit_of(array, "wrap-key", 16)
-        + bit_of(array, "unwrap-key", 32)
-        + bit_of(array, "mac-generate", 128)
-        + bit_of(array, "mac-verify", 256)
+    sum_of(array, usages())
+}
+
+/// The sum of the numbers of those of these usages that are there.
+fn sum_of(array: &Array, usages: &[(&str, u16)]) -> u16
+    requires { sum_by (λ usage. usage.1) usages.now ≤ 511 }
+    ensures { result
+        ≡ sum_by (λ usage. bit_of (array_view array.now) usage.0.now usage.1) usages.now }
+{
+    let mut mask = 0;
+    for usage in usages {
+        mask += bit_of(array, usage.0, usage.1);
+    }
+    mask
 }
 
 /// The number of a usage, where its word is there.

@@ -1,6 +1,8 @@
 //! The words that stand for the numbers of the standard.
-ghost use Rattle.std.specs.Prelude.{◌≡◌, option_map};
-ghost use Rattle.kmip_plan.specs.Words.{algorithm_word, algorithm_of_word, reason_of_word, is_usage_word};
+ghost use Rattle.std.specs.Prelude.{◌≡◌, option_map, map};
+ghost use Rattle.std.specs.List.{list_any};
+ghost use Rattle.kmip_plan.specs.TargetWords.{is_text};
+ghost use Rattle.kmip_plan.specs.Words.{algorithm_word, algorithm_of_word, reason_of_word, is_usage_word, usages};
 
 use kmip_objects::standard::{
     ALGORITHM_AES, ALGORITHM_HMAC_SHA256, REVOCATION_AFFILIATION_CHANGED,
@@ -45,16 +47,37 @@ pub(crate) fn reason_of_word(word: &str) -> Option<u32>
     }
 }
 
+/// The words of a plan for the usages, each with its bit of the Cryptographic Usage Mask.
+///
+/// Source: KMIP 2.1, Enumerations and Masks, Cryptographic Usage Mask. The words are own.
+const USAGES: [(&str, u16); 8] = [
+    ("sign", 1),
+    ("verify", 2),
+    ("encrypt", 4),
+    ("decrypt", 8),
+    ("wrap-key", 16),
+    ("unwrap-key", 32),
+    ("mac-generate", 128),
+    ("mac-verify", 256),
+];
+
+/// The words for the usages, each with its bit of the mask.
+pub(crate) fn usages() -> &'static [(&'static str, u16)]
+    ensures { map (λ usage. (usage.0.now, usage.1)) result.now ≡ usages }
+{
+    &USAGES
+}
+
 /// Whether the word names a usage.
 pub(crate) fn is_usage_word(word: &str) -> bool
     ensures { result ≡ is_usage_word word.now }
 {
-    word == "sign"
-        || word == "verify"
-        || word == "encrypt"
-        || word == "decrypt"
-        || word == "wrap-key"
-        || word == "unwrap-key"
-        || word == "mac-generate"
-        || word == "mac-verify"
+    is_first_of(word, usages())
+}
+
+/// Whether the word is the first part of some of these.
+fn is_first_of(word: &str, usages: &[(&str, u16)]) -> bool
+    ensures { result ≡ list_any (λ usage. is_text word.now usage.0.now) usages.now }
+{
+    usages.iter().any(|usage| word == usage.0)
 }

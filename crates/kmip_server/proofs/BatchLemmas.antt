@@ -19,7 +19,7 @@ use Rattle.kmip_batch_items.specs.declared.standard.TheConstants.{REASON_FEATURE
 use Rattle.kmip_store.specs.Stepping.{take_step}
 use Rattle.kmip_store.specs.Stock.{Stock, create, identifier_at}
 use Rattle.kmip_server.specs.Again.{has_failed}
-use Rattle.kmip_server.specs.Batching.{effect_by, effects_of, is_last, replies_to, stock_after_all, IsCutShort, GrownBy}
+use Rattle.kmip_server.specs.Batching.{effect_by, effects_of, is_last, replies_to, stock_after_all, IsCutShort, GrownBy, LeavesAll, NotesOne}
 use Rattle.kmip_server.specs.Serving.{answer, outcome_of_change, reply_to, stock_after_read}
 use Rattle.kmip_server.specs.Shown.{objects_in}
 use Rattle.kmip_server.specs.declared.effect.Effect.{Effect}
@@ -217,11 +217,11 @@ short_more replies all reply is short one =
 
 -- where memory ran out and nothing more happened
 pub begun_here : {A E : Type 0} (r : Result A E) (stops : Bool) (qs : List Question) (old s new : Stock) (before so_far after joined : List Effect)
-    → so_far ≡ before ++ joined → IsCutShort stops qs joined old s → OnErr r (new ≡ s) → OnErr r (after ≡ so_far)
+    → so_far ≡ before ++ joined → IsCutShort stops qs joined old s → OnErr r (LeavesAll s new so_far after)
     → OnErr r (GrownBy (λ more. IsCutShort stops qs more old new) before after)
-begun_here (Ok v) stops qs old s new before so_far after joined is cut same same_effects = tt
-begun_here (Err e) stops qs old s new before so_far after joined is cut same same_effects =
-    (joined, same_effects ∙ is, subst (IsCutShort stops qs joined old) (sym same) cut)
+begun_here (Ok v) stops qs old s new before so_far after joined is cut same = tt
+begun_here (Err e) stops qs old s new before so_far after joined is cut same =
+    (joined, same.1 ∙ is, subst (IsCutShort stops qs joined old) (sym same.0) cut)
 
 -- the same where it is known already what was left
 pub begun_so : {A E : Type 0} (r : Result A E) (stops : Bool) (qs : List Question) (old s new : Stock) (before after joined : List Effect)
@@ -237,6 +237,18 @@ nothing_begun stops (q ∷ qs) s some = inl (refl, refl)
 pub ok_so : {A E : Type 0} (r : Result A E) (P : Type 0) → P → OnOk r P
 ok_so (Ok v) P p = p
 ok_so (Err e) P p = tt
+
+-- the records after the last question, which are those after all
+pub all_left : {A E : Type 0} (r : Result A E) (q : Question) (old new all : Stock) (before after : List Effect) → OnOk r (NotesOne q old new before after)
+    → stock_after_read old q ≡ all → OnOk r (new ≡ all)
+all_left (Ok v) q old new all before after served is = served.records ∙ is
+all_left (Err e) q old new all before after served is = tt
+
+-- what the last question did, which is the last of what all did
+pub all_noted : {A E : Type 0} (r : Result A E) (q : Question) (old new : Stock) (before after all : List Effect) → OnOk r (NotesOne q old new before after)
+    → before ++ own old q ≡ all → OnOk r (after ≡ all)
+all_noted (Ok v) q old new before after all served is = served.noted ∙ is
+all_noted (Err e) q old new before after all served is = tt
 
 -- one more is answered, as a call left it
 pub goes_further : (stops : Bool) (qs : List Question) (old : Stock) (place : ℕ) (replies all : List Reply) (effects : List Effect) (s new : Stock) (q : Question) (reply : Reply)

@@ -1,6 +1,6 @@
 -- Private: the reply that is being made, in the clauses of the functions that make it.
 -- Source: own (view).
-use Rattle.std.specs.Prelude.{◌≡◌, ℕ, ℤ, List, length, Some, Result, Ok, Err, if◌then◌else◌}
+use Rattle.std.specs.Prelude.{◌≡◌, ℕ, ℤ, List, length, Some, Result, Ok, Err, OnErr, if◌then◌else◌}
 use Rattle.kmip_ttlv.specs.Spelling.{canon}
 use Rattle.kmip_batch_items.specs.declared.reply.Outcome.{Outcome}
 use Rattle.kmip_batch_items.specs.declared.reply.Reply.{Reply}
@@ -39,3 +39,12 @@ reply_with request outcome = record { operation = Some (operation_of request.ask
 pub record Tells (bytes : List ℕ) (replies : List Reply) (now : ℤ) : Type 0 where
   pub bytes_are : bytes ≡ canon (replies_item replies now)
   pub says : replies_in bytes ≡ replies
+
+-- The change that a question asks for, if it asks for one, is made, or refused for this reason.
+pub record CarriesOut {A : Type 0} (done : Result A StoreFault) (ask : Ask) (old new : Stock) : Type 0 where
+  -- the promised outcome, or the failure that the refusal is, is what the server answers
+  pub outcome : outcome_then done (promised_outcome old ask) ≡ (answer old ask).0
+  -- the records are those that the question leaves
+  pub after : new ≡ (answer old ask).1
+  -- a refusal leaves them as they were
+  pub refused : OnErr done (new ≡ old)

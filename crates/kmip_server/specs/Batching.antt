@@ -90,3 +90,14 @@ IsCutShort stops (q ∷ qs) effects old new =
     ((effects ≡ []) × (new ≡ old))
     ⊎ ((more : List Effect) × (effects ≡ option_to_list (effect_by (objects_in old) q (reply_to old q)) ++ more)
     × (is_last stops (reply_to old q) ≡ false) × IsCutShort stops qs more (stock_after_read old q) new)
+
+-- Private: a question is served: the records are those that it leaves, and what it did is noted.
+pub record NotesOne (question : Question) (old new : Stock) (before after : List Effect) : Type 0 where
+  -- the records are those that the question leaves
+  pub records : new ≡ stock_after_read old question
+  -- what it did, if it did anything, is noted at the end of the list
+  pub noted : after ≡ before ++ option_to_list (effect_by (objects_in old) question (reply_to old question))
+
+-- Private: neither the records nor the list of what was done has changed.
+abbrev pub LeavesAll : Stock → Stock → List Effect → List Effect → Type 0
+LeavesAll old new before after = (new ≡ old) × (after ≡ before)

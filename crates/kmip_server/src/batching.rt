@@ -1,5 +1,5 @@
 //! The questions of a message, answered in turn, and the message of the replies.
-ghost use Rattle.std.specs.Prelude.{◌≡◌, ◌+◌, ◌++◌, List, [], ◌∷◌, length, true, Ok, IfOk, OnErr, OnOk, IsTrue, IsSome, option_to_list};
+ghost use Rattle.std.specs.Prelude.{◌≡◌, ◌+◌, ◌++◌, List, [], ◌∷◌, length, true, Ok, IfOk, OnErr, OnOk, IsTrue, IsSome};
 ghost use Rattle.std.specs.List.{All};
 ghost use Rattle.std.specs.Option.{option_map_or};
 ghost use Rattle.kmip_batch_items.specs.Ranges.{is_batch_id};
@@ -11,11 +11,9 @@ ghost use Rattle.kmip_messages.specs.Written.{IsShort};
 ghost use Rattle.kmip_batch_items.specs.declared.reply.Outcome.TheVariants.{Failed};
 ghost use Rattle.kmip_batch_items.specs.declared.reply.Reply.{Reply};
 ghost use Rattle.kmip_server.specs.Answering.{promised_outcome, reply_with, Tells};
-ghost use Rattle.kmip_server.specs.Batching.{effect_by, effects_of, is_last, replies_to, stock_after_all, IsCutShort, GrownBy};
-ghost use Rattle.kmip_server.specs.Effects.{effect_of};
+ghost use Rattle.kmip_server.specs.Batching.{effects_of, is_last, replies_to, stock_after_all, IsCutShort, GrownBy, LeavesAll, NotesOne};
 ghost use Rattle.kmip_server.specs.Reasons.{message_reason};
-ghost use Rattle.kmip_server.specs.Serving.{answer, refusal_reply, reply_to, stock_after_read};
-ghost use Rattle.kmip_server.specs.Shown.{objects_in};
+ghost use Rattle.kmip_server.specs.Serving.{refusal_reply, reply_to};
 
 use crate::effect::{Effect, carry_out_noted};
 use crate::promising::promise;
@@ -62,7 +60,8 @@ pub(crate) fn answer_all<S: Records>(
             return write_all(alloc, replies.as_slice(), now);
         }
     }
-    Err(NoMemory)
+    // There is at least one question, and the last one is answered in the loop.
+    unreachable!()
 }
 
 /// Answers a message that is refused whole, by one reply.
@@ -101,13 +100,10 @@ fn answer_last<S: Records>(
     requires fits { QuestionFits question.now }
     ensures tells { IfOk result (λ v. Tells v.items
         (replies.old.items ++ reply_to (S.stock store.old) question.now ∷ []) now) }
-    ensures after { OnOk result (S.stock store.new
-        ≡ stock_after_read (S.stock store.old) question.now) }
-    ensures effects { OnOk result (effects.new.items ≡ effects.old.items ++ option_to_list
-        (effect_by (objects_in (S.stock store.old)) question.now
-        (reply_to (S.stock store.old) question.now))) }
-    ensures same { OnErr result (S.stock store.new ≡ S.stock store.old) }
-    ensures same_effects { OnErr result (effects.new.items ≡ effects.old.items) }
+    ensures done { OnOk result (NotesOne question.now (S.stock store.old) (S.stock store.new)
+        effects.old.items effects.new.items) }
+    ensures same { OnErr result (LeavesAll (S.stock store.old) (S.stock store.new)
+        effects.old.items effects.new.items) }
 {
     match question {
         Ok(request) => answer_last_request(store, effects, alloc, request, replies, now),
@@ -132,13 +128,10 @@ fn answer_last_request<S: Records>(
     requires fits { IsTrue (request_fits request.now) }
     ensures tells { IfOk result (λ v. Tells v.items
         (replies.old.items ++ reply_to (S.stock store.old) (Ok request.now) ∷ []) now) }
-    ensures after { OnOk result (S.stock store.new
-        ≡ (answer (S.stock store.old) request.now.ask).1) }
-    ensures effects { OnOk result (effects.new.items ≡ effects.old.items ++ option_to_list
-        (effect_of (objects_in (S.stock store.old)) request.now.ask
-        (answer (S.stock store.old) request.now.ask).0)) }
-    ensures same { OnErr result (S.stock store.new ≡ S.stock store.old) }
-    ensures same_effects { OnErr result (effects.new.items ≡ effects.old.items) }
+    ensures done { OnOk result (NotesOne (Ok request.now) (S.stock store.old) (S.stock store.new)
+        effects.old.items effects.new.items) }
+    ensures same { OnErr result (LeavesAll (S.stock store.old) (S.stock store.new)
+        effects.old.items effects.new.items) }
 {
     let reply = promised_reply(store, alloc, request)?;
     let written = write_with(alloc, replies, reply, now)?;
@@ -217,13 +210,10 @@ fn answer_one<S: Records>(
     requires { QuestionFits question.now }
     ensures reply { IfOk result (λ r. r ≡ reply_to (S.stock store.old) question.now) }
     ensures short { IfOk result (λ r. IsShort r) }
-    ensures after { OnOk result (S.stock store.new
-        ≡ stock_after_read (S.stock store.old) question.now) }
-    ensures effects { OnOk result (effects.new.items ≡ effects.old.items ++ option_to_list
-        (effect_by (objects_in (S.stock store.old)) question.now
-        (reply_to (S.stock store.old) question.now))) }
-    ensures same { OnErr result (S.stock store.new ≡ S.stock store.old) }
-    ensures same_effects { OnErr result (effects.new.items ≡ effects.old.items) }
+    ensures done { OnOk result (NotesOne question.now (S.stock store.old) (S.stock store.new)
+        effects.old.items effects.new.items) }
+    ensures same { OnErr result (LeavesAll (S.stock store.old) (S.stock store.new)
+        effects.old.items effects.new.items) }
 {
     match question {
         Ok(request) => {
@@ -247,13 +237,10 @@ fn answer_request<S: Records>(
     requires { IsTrue (request_fits request.now) }
     ensures reply { IfOk result (λ r. r ≡ reply_to (S.stock store.old) (Ok request.now)) }
     ensures short { IfOk result (λ r. IsShort r) }
-    ensures after { OnOk result (S.stock store.new
-        ≡ (answer (S.stock store.old) request.now.ask).1) }
-    ensures effects { OnOk result (effects.new.items ≡ effects.old.items ++ option_to_list
-        (effect_of (objects_in (S.stock store.old)) request.now.ask
-        (answer (S.stock store.old) request.now.ask).0)) }
-    ensures same { OnErr result (S.stock store.new ≡ S.stock store.old) }
-    ensures same_effects { OnErr result (effects.new.items ≡ effects.old.items) }
+    ensures done { OnOk result (NotesOne (Ok request.now) (S.stock store.old) (S.stock store.new)
+        effects.old.items effects.new.items) }
+    ensures same { OnErr result (LeavesAll (S.stock store.old) (S.stock store.new)
+        effects.old.items effects.new.items) }
 {
     let mut reply = promised_reply(store, alloc, request)?;
     match carry_out_noted(store, effects, alloc, &request.ask)? {

@@ -1,9 +1,8 @@
 //! The change that a question asks for.
-ghost use Rattle.std.specs.Prelude.{◌≡◌, OnErr, OnOk, IfOk, IsTrue};
+ghost use Rattle.std.specs.Prelude.{◌≡◌, OnErr, IfOk, IsTrue};
 ghost use Rattle.kmip_batch_items.specs.RequestFits.{ask_fits};
 ghost use Rattle.kmip_objects.specs.Ranges.{attrs_fit};
-ghost use Rattle.kmip_server.specs.Answering.{outcome_then, promised_outcome};
-ghost use Rattle.kmip_server.specs.Serving.{answer};
+ghost use Rattle.kmip_server.specs.Answering.{CarriesOut};
 ghost use Rattle.kmip_store.specs.Stepping.{Becomes};
 ghost use Rattle.kmip_store.specs.Stock.{create};
 
@@ -24,11 +23,8 @@ pub(crate) fn carry_out<S: Records>(
     ask: &Ask,
 ) -> Result<Result<(), StoreFault>, NoMemory>
     requires { IsTrue (ask_fits ask.now) }
-    ensures outcome { IfOk result (λ done.
-        outcome_then done (promised_outcome (S.stock store.old) ask.now)
-        ≡ (answer (S.stock store.old) ask.now).0) }
-    ensures after { OnOk result (S.stock store.new ≡ (answer (S.stock store.old) ask.now).1) }
-    ensures refused { IfOk result (λ done. OnErr done (S.stock store.new ≡ S.stock store.old)) }
+    ensures done { IfOk result (λ done.
+        CarriesOut done ask.now (S.stock store.old) (S.stock store.new)) }
     ensures same { OnErr result (S.stock store.new ≡ S.stock store.old) }
 {
     match ask {

@@ -1,7 +1,8 @@
 //! A step that took effect.
 ghost use Rattle.std.specs.Prelude.{◌≡◌, ◌++◌, Some, OnErr, OnOk, IfOk, IsTrue, option_to_list};
 ghost use Rattle.kmip_batch_items.specs.RequestFits.{ask_fits};
-ghost use Rattle.kmip_server.specs.Answering.{outcome_then, promised_outcome};
+ghost use Rattle.kmip_server.specs.Answering.{CarriesOut};
+ghost use Rattle.kmip_server.specs.Batching.{LeavesAll};
 ghost use Rattle.kmip_server.specs.Effects.{effect_asked, effect_of, effect_on};
 ghost use Rattle.kmip_server.specs.Serving.{answer};
 ghost use Rattle.kmip_server.specs.Shown.{objects_in};
@@ -32,17 +33,14 @@ pub(crate) fn carry_out_noted<S: Records>(
     ask: &Ask,
 ) -> Result<Result<(), StoreFault>, NoMemory>
     requires { IsTrue (ask_fits ask.now) }
-    ensures outcome { IfOk result (λ done.
-        outcome_then done (promised_outcome (S.stock store.old) ask.now)
-        ≡ (answer (S.stock store.old) ask.now).0) }
+    ensures done { IfOk result (λ done.
+        CarriesOut done ask.now (S.stock store.old) (S.stock store.new)) }
     ensures effects { OnOk result (effects.new.items ≡ effects.old.items ++ option_to_list
         (effect_of (objects_in (S.stock store.old)) ask.now
         (answer (S.stock store.old) ask.now).0)) }
-    ensures after { OnOk result (S.stock store.new ≡ (answer (S.stock store.old) ask.now).1) }
-    ensures refused { IfOk result (λ done. OnErr done ((S.stock store.new ≡ S.stock store.old)
-        × (effects.new.items ≡ effects.old.items))) }
-    ensures same { OnErr result (S.stock store.new ≡ S.stock store.old) }
-    ensures same_effects { OnErr result (effects.new.items ≡ effects.old.items) }
+    ensures refused { IfOk result (λ done. OnErr done (effects.new.items ≡ effects.old.items)) }
+    ensures same { OnErr result (LeavesAll (S.stock store.old) (S.stock store.new)
+        effects.old.items effects.new.items) }
 {
     let Some(effect) = effect_asked(store, alloc, ask)? else {
         return carry_out(store, alloc, ask);

@@ -1,13 +1,15 @@
 //! A law of everything that keeps records: what a list of calls answers follows from the records
 //! before it alone. So two stores of one seed and one room answer any list of calls alike, however
 //! each keeps its rows.
-ghost use Rattle.std.specs.Prelude.{◌≡◌, IfOk, OnOk, OnErr, IsTrue, IsSome};
+ghost use Rattle.std.specs.Prelude.{◌≡◌, IfOk, OnOk, OnErr, IsTrue, IsSome, Result};
 ghost use Rattle.std.specs.List.{list_all};
 ghost use Rattle.std.specs.Option.{option_copied};
 ghost use Rattle.kmip_objects.specs.Ranges.{attrs_fit};
 ghost use Rattle.kmip_store.specs.Calling.{
   may_call,
+  answer_of,
   answer_to,
+  stock_of,
   stock_after_call,
   answers_to,
   stock_after_calls,
@@ -15,6 +17,9 @@ ghost use Rattle.kmip_store.specs.Calling.{
 };
 ghost use Rattle.kmip_store.specs.declared.calling.Answer.TheVariants as answers;
 ghost use Rattle.kmip_store.specs.declared.calling.Call.TheVariants as calls;
+ghost use Rattle.kmip_store.specs.declared.fault.StoreFault.{StoreFault};
+ghost use Rattle.kmip_store.specs.Stepping.{Becomes};
+ghost use Rattle.kmip_store.specs.Stock.{Stock};
 
 use crate::fault::StoreFault;
 use crate::records::Records;
@@ -130,9 +135,9 @@ fn call_one<S: Records>(alloc: Global, store: &mut S, call: &Call) -> Result<Ans
         Call::Create(attrs) => create(alloc, store, attrs),
         Call::Locate { mask, filter } => locate(alloc, store, *mask, filter),
         Call::Find(uid) => copied(alloc, store.find(uid.as_str())),
-        Call::Activate(uid) => Ok(activate(store, uid.as_str())),
-        Call::Revoke(uid) => Ok(revoke(store, uid.as_str())),
-        Call::Destroy(uid) => Ok(destroy(store, uid.as_str())),
+        Call::Activate(uid) => Ok(moved(store.activate(uid.as_str()))),
+        Call::Revoke(uid) => Ok(moved(store.revoke(uid.as_str()))),
+        Call::Destroy(uid) => Ok(moved(store.destroy(uid.as_str()))),
         Call::Count => Ok(Answer::Counted(store.count())),
         Call::At(place) => copied(alloc, store.at(*place)),
     }
@@ -173,34 +178,12 @@ fn locate<S: Records>(
     }
 }
 
-fn activate<S: Records>(store: &mut S, uid: &str) -> Answer
-    ensures answer { result ≡ answer_to (calls.Activate uid.now) (S.stock store.old) }
-    ensures stock { S.stock store.new ≡ stock_after_call (calls.Activate uid.now)
-        (S.stock store.old) }
+/// How a change went that makes no object.
+fn moved(done: Result<(), StoreFault>) -> Answer
+    ensures { (old new : Stock) (wanted : Result Stock StoreFault) → Becomes done old new wanted
+        → (result ≡ answer_of answers.Moved wanted) × (new ≡ stock_of old wanted) }
 {
-    match store.activate(uid) {
-        Ok(()) => Answer::Moved,
-        Err(fault) => Answer::Refused(fault),
-    }
-}
-
-fn revoke<S: Records>(store: &mut S, uid: &str) -> Answer
-    ensures answer { result ≡ answer_to (calls.Revoke uid.now) (S.stock store.old) }
-    ensures stock { S.stock store.new ≡ stock_after_call (calls.Revoke uid.now)
-        (S.stock store.old) }
-{
-    match store.revoke(uid) {
-        Ok(()) => Answer::Moved,
-        Err(fault) => Answer::Refused(fault),
-    }
-}
-
-fn destroy<S: Records>(store: &mut S, uid: &str) -> Answer
-    ensures answer { result ≡ answer_to (calls.Destroy uid.now) (S.stock store.old) }
-    ensures stock { S.stock store.new ≡ stock_after_call (calls.Destroy uid.now)
-        (S.stock store.old) }
-{
-    match store.destroy(uid) {
+    match done {
         Ok(()) => Answer::Moved,
         Err(fault) => Answer::Refused(fault),
     }

@@ -98,7 +98,11 @@ fn storage_bit(state: KeyState) -> u32
     ensures { result ≡ storage_bit state }
 {
     match state {
+        KeyState::PreActive
+        | KeyState::Active
+        | KeyState::Deactivated
+        | KeyState::Compromised
+        | KeyState::DestroyedCompromised => STORAGE_ON_LINE,
         KeyState::Destroyed => STORAGE_DESTROYED,
-        _ => STORAGE_ON_LINE,
     }
 }

@@ -12,7 +12,7 @@ use Rattle.kmip_frames.specs.Streams.{IsMessage, joined}
 use Rattle.kmip_protocol.specs.declared.link.LinkFault.{LinkFault}
 use Rattle.kmip_protocol.specs.declared.link.LinkFault.TheVariants as faults
 use Rattle.kmip_messages.specs.Items.{parts_in, stops_in}
-use Rattle.kmip_server.specs.Batching.{batch_reply, stock_after_batch, AreBegun, GrownBy}
+use Rattle.kmip_server.specs.Batching.{batch_reply, stock_after_batch, AreBegun}
 use Rattle.kmip_server.specs.declared.effect.Effect.{Effect}
 use Rattle.kmip_store.specs.Stock.{Stock}
 use Rattle.kmip_ttlv.specs.Limits.{head_size}
@@ -128,10 +128,10 @@ failed_is_no_io bytes faults.Frame end held new x y received no_io ended =
 failed_is_no_io bytes faults.NoMemory end held new x y received no_io ended = λ io. let both : ends.NoMemory ≡ ends.Io = sym ended ∙ io in absurd cc
 
 -- a message was received, and there was no memory to serve it
-pub not_served : {M : Type 0} (bytes : M → List ℕ) (message : M) (sent : List ℕ) (now : ℤ) (s t : Stock) (before after : List Effect) (held new : List ℕ)
+pub not_served : {M : Type 0} (bytes : M → List ℕ) (message : M) (sent : List ℕ) (now : ℤ) (s t : Stock) (held new : List ℕ)
     (x y w : Option (List ℕ)) → held ≡ [] → Receives bytes (Ok (Some message)) held new x y → sent ≡ bytes message
-    → GrownBy (λ effects. AreBegun (stops_in sent) (parts_in sent) effects s t) before after → Serves now ends.NoMemory s t x y w w
-not_served bytes message sent now s t before after held new x y w none received is (effects, grown, begun) =
+    → ((effects : List Effect) × AreBegun (stops_in sent) (parts_in sent) effects s t) → Serves now ends.NoMemory s t x y w w
+not_served bytes message sent now s t held new x y w none received is (effects, begun) =
     let r = fresh bytes (Ok (Some message)) held new x y none received in
     record {
       messages = [];

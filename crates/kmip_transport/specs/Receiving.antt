@@ -1,6 +1,6 @@
 -- What one call of `receive_message` takes from a reader, what it returns, and what is left in the framer.
 -- Source: own (view), over KMIP 2.1, Message Structure.
-use Rattle.std.specs.Prelude.{◌≡◌, ℕ, List, [], ◌++◌, length, Option, Some, None, IsSome, Result, Ok, Err}
+use Rattle.std.specs.Prelude.{◌≡◌, ◌<◌, ℕ, Bool, true, false, List, [], ◌++◌, length, Option, Some, None, IsSome, Result, Ok, Err, IfErr, IsOk}
 use Rattle.std.specs.Io.KnownBytes.{Consumes, IsAtEnd}
 use Rattle.kmip_ttlv.specs.Limits.{head_size}
 use Rattle.kmip_frames.specs.Framing.{fault_in}
@@ -45,3 +45,16 @@ IsHandedOver bytes (Ok None) old new = IsUnfinished old × (new ≡ old)
 IsHandedOver bytes (Err Io) old new = ⊥
 IsHandedOver bytes (Err Frame) old new = IsNoHead old × (new ≡ old)
 IsHandedOver bytes (Err NoMemory) old new = IsMessage old × (new ≡ old)
+
+-- Private: what one read does to what is held: it adds what was read, or says why nothing was.
+pub record ReadsOnce (IsSure : Type 0) (result : Result Bool LinkFault) (old new : List ℕ) (unread left : Option (List ℕ)) : Type 0 where
+  -- what was read joined what was held
+  pub taken : Takes old new unread left
+  -- where the stream does not go on, it has ended, and nothing was read
+  pub end : result ≡ Ok false → (new ≡ old) × IsAtEnd left
+  -- it fails by Io alone, and then nothing was read
+  pub refused : IfErr result (λ fault. (fault ≡ Io) × (new ≡ old))
+  -- a source that is sure does not fail
+  pub sure : IsSure → IsOk result
+  -- it has read something where the stream goes on
+  pub grown : IsSure → result ≡ Ok true → length old < length new

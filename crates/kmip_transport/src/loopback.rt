@@ -122,11 +122,7 @@ impl<R: Net + Clock + Drop, S: Records + Drop> Loopback<R, S> {
         let Some(request) = receive_message(alloc, stream, &mut framer)? else {
             return Err(LinkFault::Io);
         };
-        let mut effects = Vec::new(alloc);
-        match self
-            .server
-            .handle_batch(alloc, request.as_slice(), 0, &mut effects)
-        {
+        match self.server.handle(alloc, request.as_slice(), 0) {
             Ok(reply) => Ok(reply),
             Err(NoMemory) => Err(LinkFault::NoMemory),
         }

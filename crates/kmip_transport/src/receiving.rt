@@ -1,10 +1,9 @@
 //! One message from a stream.
-ghost use Rattle.std.specs.Prelude.{◌≡◌, ◌≢◌, ◌<◌, ◌≤◌, length, true, false, Ok, Err, None, Some, IfOk, IfErr, IsOk};
-ghost use Rattle.std.specs.Io.KnownBytes.{IsAtEnd};
+ghost use Rattle.std.specs.Prelude.{◌≡◌, ◌≢◌, ◌<◌, ◌≤◌, length, true, Err, None, Some, IfOk, IfErr, IsOk};
 ghost use Rattle.std.specs.IoError.{error_kind};
 ghost use Rattle.kmip_frames.specs.Framing.{fault_in, wants};
 ghost use Rattle.kmip_frames.specs.Streams.{BeginsWithNoMessage};
-ghost use Rattle.kmip_transport.specs.Receiving.{Takes, Receives, IsHandedOver};
+ghost use Rattle.kmip_transport.specs.Receiving.{ReadsOnce, Receives, IsHandedOver};
 
 use crate::source::{InMemory, Source};
 use kmip_frames::laws::sizes;
@@ -108,14 +107,8 @@ fn hand_over(alloc: Global, framer: &mut Framer) -> Result<Option<Vec<u8>>, Link
 fn take_piece<R: Source>(reader: &mut R, framer: &mut Framer) -> Result<bool, LinkFault>
     requires lawful { fault_in framer.old ≡ None }
     requires begun { BeginsWithNoMessage framer.old }
-    ensures taken { Takes framer.old framer.new
+    ensures { ReadsOnce R.IsSure result framer.old framer.new
         (R.remaining reader.old) (R.remaining reader.new) }
-    ensures end { result ≡ Ok false
-        → (framer.new ≡ framer.old) × IsAtEnd (R.remaining reader.new) }
-    ensures refused { IfErr result (λ fault.
-        (fault ≡ LinkFault.Io) × (framer.new ≡ framer.old)) }
-    ensures sure { R.IsSure → IsOk result }
-    ensures grown { R.IsSure → result ≡ Ok true → length framer.old < length framer.new }
 {
     sizes();
     let _held = framer.pending();
@@ -132,14 +125,8 @@ fn read_into<R: Source>(
 ) -> Result<bool, LinkFault>
     requires some { 0 < length room.old }
     requires fits { length room.old ≤ wants framer.old }
-    ensures taken { Takes framer.old framer.new
+    ensures { ReadsOnce R.IsSure result framer.old framer.new
         (R.remaining reader.old) (R.remaining reader.new) }
-    ensures end { result ≡ Ok false
-        → (framer.new ≡ framer.old) × IsAtEnd (R.remaining reader.new) }
-    ensures refused { IfErr result (λ fault.
-        (fault ≡ LinkFault.Io) × (framer.new ≡ framer.old)) }
-    ensures sure { R.IsSure → IsOk result }
-    ensures grown { R.IsSure → result ≡ Ok true → length framer.old < length framer.new }
 {
     sizes();
     match reader.read_once(room) {

@@ -184,8 +184,7 @@ fn serve_message<S: Records, R: Source, W: Sink>(
         Ok(None) => return Ok(Some(StreamEnd::Ended(framer.pending()))),
         Err(fault) => return Ok(Some(end_by(fault, framer))),
     };
-    let mut effects = Vec::new(alloc);
-    let Ok(reply) = server.handle_batch(alloc, message.as_slice(), now, &mut effects) else {
+    let Ok(reply) = server.handle(alloc, message.as_slice(), now) else {
         return Ok(Some(StreamEnd::NoMemory));
     };
     match send(writer, reply.as_slice()) {

@@ -1,10 +1,10 @@
 -- What was answered and what is left make up the whole; and where memory runs out some of the first questions were served.
-use Rattle.std.proofs.Common.{rules, ◌≡◌, ◌+◌, ◌++◌, ◌<◌, [], ◌∷◌, true, false, length, append-nil, IfOk, OnOk, refl, sym, ap, subst, ◌∙◌, arith}
+use Rattle.std.proofs.Common.{rules, ◌≡◌, ◌+◌, ◌++◌, ◌<◌, [], ◌∷◌, true, false, length, append-nil, IfOk, refl, sym, ap, subst, ◌∙◌, arith}
 use Rattle.std.proofs.Math.Facts.{to_z-of_z}
 use Rattle.kmip_server.specs.Answering.{Tells}
 use Rattle.kmip_server.specs.Batching.{is_last}
 use Rattle.kmip_server.specs.Serving.{reply_to}
-use Rattle.kmip_server.proofs.BatchLemmas.{AreAnswered, begun_here, begun_so, goes_further, joined_all, none_answered, ok_so, short_more, stopped_behind, stopped_here, stopped_over, told_last, told_over}
+use Rattle.kmip_server.proofs.BatchLemmas.{AreAnswered, all_left, all_noted, begun_here, begun_so, goes_further, joined_all, none_answered, ok_so, short_more, stopped_behind, stopped_here, stopped_over, told_last, told_over}
 use Rattle.kmip_server.proofs.batching.answer_all.Goals as goal
 
 pub loop-question-init : goal.loop-question-init
@@ -30,28 +30,28 @@ returns-then-len-questions-clause-after g c =
     let (joined, is, answered) = c.loop-question.invariant in
     let last : c.loop-question.question-index + 1 ≡ length c.args.questions.now = search (rules, answered.count) in
     let whole = told_last c.args.stops c.args.questions.now _ c.loop-question.question-index c.loop-question.replies.items joined _ c.question-item.result answered c.question-item.is last in
-    subst (λ t. OnOk c.answer_last.result (g.S.Records.stock c.answer_last.new.store ≡ t)) whole.after c.answer_last.ensures.after
+    all_left c.answer_last.result c.question-item.result _ _ _ _ _ c.answer_last.ensures.done whole.after
 
 pub returns-then-len-questions-clause-effects : goal.returns-then-len-questions-clause-effects
 returns-then-len-questions-clause-effects g c =
     let (joined, is, answered) = c.loop-question.invariant in
     let last : c.loop-question.question-index + 1 ≡ length c.args.questions.now = search (rules, answered.count) in
     let whole = told_last c.args.stops c.args.questions.now _ c.loop-question.question-index c.loop-question.replies.items joined _ c.question-item.result answered c.question-item.is last in
-    subst (λ es. OnOk c.answer_last.result (c.answer_last.new.effects.items ≡ es))
-    (joined_all c.args.effects.now.items c.loop-question.effects.items joined _ _ is whole.done) c.answer_last.ensures.effects
+    all_noted c.answer_last.result c.question-item.result _ _ _ _ _ c.answer_last.ensures.done
+    (joined_all c.args.effects.now.items c.loop-question.effects.items joined _ _ is whole.done)
 
 pub returns-then-len-questions-clause-begun : goal.returns-then-len-questions-clause-begun
 returns-then-len-questions-clause-begun g c =
     let (joined, is, answered) = c.loop-question.invariant in
     begun_here c.answer_last.result c.args.stops c.args.questions.now _ _ _ c.args.effects.now.items c.loop-question.effects.items c.answer_last.new.effects.items joined is
     (stopped_here c.args.stops c.args.questions.now _ c.loop-question.question-index c.loop-question.replies.items joined _ c.question-item.result answered c.question-item.is)
-    c.answer_last.ensures.same c.answer_last.ensures.same_effects
+    c.answer_last.ensures.same
 
 pub returns-in_err-reply-clause-begun : goal.returns-in_err-reply-clause-begun
 returns-in_err-reply-clause-begun g c =
     let (joined, is, answered) = c.loop-question.invariant in
     begun_so c.from_residual.result c.args.stops c.args.questions.now _ _ _ c.args.effects.now.items c.answer_one.new.effects.items joined
-    (c.in_err-reply.ensures.same_effects ∙ is) c.in_err-reply.ensures.same
+    (c.in_err-reply.ensures.same.1 ∙ is) c.in_err-reply.ensures.same.0
     (stopped_here c.args.stops c.args.questions.now _ c.loop-question.question-index c.loop-question.replies.items joined _ c.question-item.result answered c.question-item.is)
 
 pub returns-in_err-push-clause-begun : goal.returns-in_err-push-clause-begun
@@ -59,7 +59,7 @@ returns-in_err-push-clause-begun g c =
     let (joined, is, answered) = c.loop-question.invariant in
     let below : c.loop-question.question-index + 1 < length c.args.questions.now = search (rules, arith, answered.count, answered.more) in
     begun_so c.from_residual-in_err-push.result c.args.stops c.args.questions.now _ _ _ c.args.effects.now.items c.answer_one.new.effects.items _
-    (c.in_ok-reply.ensures.effects ∙ joined_all c.args.effects.now.items c.loop-question.effects.items joined _ _ is refl) c.in_ok-reply.ensures.after
+    (c.in_ok-reply.ensures.done.noted ∙ joined_all c.args.effects.now.items c.loop-question.effects.items joined _ _ is refl) c.in_ok-reply.ensures.done.records
     (stopped_behind c.args.stops c.args.questions.now _ c.loop-question.question-index c.loop-question.replies.items joined _ c.question-item.result answered c.question-item.is below)
 
 pub write_all-requires-clause-short : goal.write_all-requires-clause-short
@@ -82,21 +82,21 @@ returns-then-over-clause-after g c =
     let (joined, is, answered) = c.loop-question.invariant in
     let over = subst (λ r. is_last c.args.stops r ≡ true) c.in_ok-reply.ensures.reply (search (rules, c.is_last-over.ensures, c.if-over.true)) in
     let whole = told_over c.args.stops c.args.questions.now _ c.loop-question.question-index c.loop-question.replies.items joined _ c.question-item.result answered c.question-item.is over in
-    ok_so c.write_all.result _ (c.in_ok-reply.ensures.after ∙ whole.after)
+    ok_so c.write_all.result _ (c.in_ok-reply.ensures.done.records ∙ whole.after)
 
 pub returns-then-over-clause-effects : goal.returns-then-over-clause-effects
 returns-then-over-clause-effects g c =
     let (joined, is, answered) = c.loop-question.invariant in
     let over = subst (λ r. is_last c.args.stops r ≡ true) c.in_ok-reply.ensures.reply (search (rules, c.is_last-over.ensures, c.if-over.true)) in
     let whole = told_over c.args.stops c.args.questions.now _ c.loop-question.question-index c.loop-question.replies.items joined _ c.question-item.result answered c.question-item.is over in
-    ok_so c.write_all.result _ (c.in_ok-reply.ensures.effects ∙ joined_all c.args.effects.now.items c.loop-question.effects.items joined _ _ is whole.done)
+    ok_so c.write_all.result _ (c.in_ok-reply.ensures.done.noted ∙ joined_all c.args.effects.now.items c.loop-question.effects.items joined _ _ is whole.done)
 
 pub returns-then-over-clause-begun : goal.returns-then-over-clause-begun
 returns-then-over-clause-begun g c =
     let (joined, is, answered) = c.loop-question.invariant in
     let over = subst (λ r. is_last c.args.stops r ≡ true) c.in_ok-reply.ensures.reply (search (rules, c.is_last-over.ensures, c.if-over.true)) in
     begun_so c.write_all.result c.args.stops c.args.questions.now _ _ _ c.args.effects.now.items c.answer_one.new.effects.items _
-    (c.in_ok-reply.ensures.effects ∙ joined_all c.args.effects.now.items c.loop-question.effects.items joined _ _ is refl) c.in_ok-reply.ensures.after
+    (c.in_ok-reply.ensures.done.noted ∙ joined_all c.args.effects.now.items c.loop-question.effects.items joined _ _ is refl) c.in_ok-reply.ensures.done.records
     (stopped_over c.args.stops c.args.questions.now _ c.loop-question.question-index c.loop-question.replies.items joined _ c.question-item.result answered c.question-item.is over)
 
 pub loop-question-preserved : goal.loop-question-preserved
@@ -105,7 +105,12 @@ loop-question-preserved g c =
     let below : c.loop-question.question-index + 1 < length c.args.questions.now = search (rules, arith, answered.count, answered.more) in
     let on = subst (λ r. is_last c.args.stops r ≡ false) c.in_ok-reply.ensures.reply (search (rules, c.is_last-over.ensures, c.if-over.false)) in (
       _,
-      c.in_ok-reply.ensures.effects ∙ joined_all c.args.effects.now.items c.loop-question.effects.items joined _ _ is refl,
+      c.in_ok-reply.ensures.done.noted ∙ joined_all c.args.effects.now.items c.loop-question.effects.items joined _ _ is refl,
       goes_further c.args.stops c.args.questions.now _ c.loop-question.question-index c.loop-question.replies.items c.push.new.self.items joined _ _ c.question-item.result
-          c.in_ok-reply.reply answered c.question-item.is below c.in_ok-push.ensures.items c.in_ok-reply.ensures.reply c.in_ok-reply.ensures.short c.in_ok-reply.ensures.after on,
+          c.in_ok-reply.reply answered c.question-item.is below c.in_ok-push.ensures.items c.in_ok-reply.ensures.reply c.in_ok-reply.ensures.short c.in_ok-reply.ensures.done.records on,
     )
+
+pub unreachable-unreachable : goal.unreachable-unreachable
+unreachable-unreachable g c =
+    let (joined, is, answered) = c.loop-question.invariant in
+    omega (arith, answered.more, c.loop-question-test.false)

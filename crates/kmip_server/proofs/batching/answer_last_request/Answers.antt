@@ -13,15 +13,11 @@ refuse_last-requires-clause-short g c =
 
 pub returns-in_err-written-clause-same : goal.returns-in_err-written-clause-same
 returns-in_err-written-clause-same g c =
-    let fault = err_from_is_err_and c.from_residual-in_err-written.result c.from_residual-in_err-written.ensures.1 in rw fault.1 refl
-
-pub returns-in_err-written-clause-same_effects : goal.returns-in_err-written-clause-same_effects
-returns-in_err-written-clause-same_effects g c =
-    let fault = err_from_is_err_and c.from_residual-in_err-written.result c.from_residual-in_err-written.ensures.1 in rw fault.1 refl
+    let fault = err_from_is_err_and c.from_residual-in_err-written.result c.from_residual-in_err-written.ensures.1 in rw fault.1 (refl, refl)
 
 pub returns-in-Err-clause-tells : goal.returns-in-Err-clause-tells
 returns-in-Err-clause-tells g c =
-    let refused = ap Failed c.store_reason.ensures ∙ (rw c.in-Err.is at c.in_ok-carry_out_noted.ensures.outcome) in
+    let refused = ap Failed c.store_reason.ensures ∙ (rw c.in-Err.is at c.in_ok-carry_out_noted.ensures.done.outcome) in
     subst (λ outcome. IfOk c.refuse_last.result (λ v. Tells v.items (c.args.replies.now.items ++ reply_with c.args.request.now outcome ∷ []) c.args.now)) refused
     (subst (λ z. IfOk c.refuse_last.result (λ v. Tells v.items (c.args.replies.now.items ++ reply_with c.args.request.now (Failed c.store_reason.result) ∷ []) z))
     (to_z-of_z c.ranges.now) (c.refuse_last.ensures c.args.replies.now.items c.in_ok-reply.reply c.in_ok-written.ensures.joined))

@@ -14,7 +14,7 @@ returns-in-Err-clause-ended g c = stream_failed _ _ _ _ _ _ _ _ _ _ c.sizes.ensu
 
 pub returns-in_default-clause-ended : goal.returns-in_default-clause-ended
 returns-in_default-clause-ended g c =
-    not_served _ _ _ _ _ _ _ _ _ _ _ _ _ c.requires (rw c.in-Ok-Some.field-0-is at c.in-Ok-Some.ensures.received) c.as_slice.ensures.value c.in_default.ensures.begun
+    not_served _ _ _ _ _ _ _ _ _ _ _ c.requires (rw c.in-Ok-Some.field-0-is at c.in-Ok-Some.ensures.received) c.as_slice.ensures.value c.in_default.ensures.begun
 
 pub returns-in-Err-clause-sure : goal.returns-in-Err-clause-sure
 returns-in-Err-clause-sure g c = λ sure is.
