@@ -288,7 +288,15 @@ fn found_at(answers: &[Answer], number: usize) -> Finding
             Flaw::NotFound,
             true,
         ),
-        _ => Finding::Untold,
+        Some(
+            Outcome::Created(_)
+            | Outcome::Attributes(..)
+            | Outcome::Activated(_)
+            | Outcome::Revoked(_)
+            | Outcome::Destroyed(_)
+            | Outcome::Failed(_),
+        )
+        | None => Finding::Untold,
     }
 }
 
