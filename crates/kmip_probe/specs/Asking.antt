@@ -1,7 +1,7 @@
 -- What a probe asks next, and what its answers are.
 -- Source: own (choice), over KMIP 2.1, Operations; what says which messages and answers there were is own
 -- (view).
-use Rattle.std.specs.Prelude.{◌≡◌, ℕ, Bool, true, false, ◌&&◌, List, [], ◌∷◌, ◌++◌, length, take, drop, flat_map, slice_get, Option, Some, None, option_map, option_and_then, option_to_list, if◌then◌else◌}
+use Rattle.std.specs.Prelude.{◌≡◌, ℕ, Bool, true, false, ◌&&◌, List, [], ◌∷◌, ◌++◌, ◌-◌, length, take, drop, flat_map, slice_get, Option, Some, None, option_map, option_and_then, option_to_list, if◌then◌else◌}
 use Rattle.std.specs.Option.{option_map_or}
 use Rattle.kmip_ttlv.specs.Spelling.{canon}
 use Rattle.kmip_messages.specs.Written.{requests_item}
@@ -12,7 +12,7 @@ use Rattle.kmip_probe.specs.Answers.{answer_to, marker_of, outcome_in, uids_told
 use Rattle.kmip_probe.specs.Inquiries.{ask_of, name_of}
 use Rattle.kmip_probe.specs.declared.answer.Answer.{Answer}
 use Rattle.kmip_probe.specs.declared.answer.Answer.TheVariants.{Nothing}
-use Rattle.kmip_probe.specs.declared.inquiry.TheConstants.{INQUIRIES}
+use Rattle.kmip_probe.specs.declared.inquiry.TheConstants.{INQUIRIES, LOOK_FIRST, LOOK_SECOND, CREATE_FIRST, READ_ATTRIBUTES, CREATE_SECOND, ACTIVATE_SECOND}
 use Rattle.kmip_probe.specs.declared.inquiry.Inquiry.{Inquiry}
 use Rattle.kmip_probe.specs.declared.inquiry.Which.{Which}
 use Rattle.kmip_probe.specs.declared.inquiry.Which.TheVariants.{First, Second}
@@ -33,13 +33,17 @@ is_free_at answers place = option_map_or is_free (slice_get answers place) true
 -- The next question: none after the last one, and none after the first two where a name is there, or it could
 -- not be told.
 abbrev pub next_inquiry : List Answer → Option Inquiry
-next_inquiry answers = if is_free_at answers 0 && is_free_at answers 1 then slice_get INQUIRIES (length answers) else None
+next_inquiry answers = if is_free_at answers LOOK_FIRST && is_free_at answers LOOK_SECOND then slice_get INQUIRIES (length answers) else None
+
+-- the answers of the questions from one place on and before another
+abbrev pub part : ℕ → ℕ → List Answer → List Answer
+part from to answers = take (to - from) (drop from answers)
 
 -- the identifiers that answers give a name: the first name before its object is destroyed, the second where
 -- its object is made
 abbrev pub uids_of : Which → List Answer → List (List ℕ)
-uids_of First answers = flat_map uids_told (take 6 (drop 2 answers))
-uids_of Second answers = flat_map uids_told (take 1 (drop 13 answers))
+uids_of First answers = flat_map uids_told (part CREATE_FIRST READ_ATTRIBUTES answers)
+uids_of Second answers = flat_map uids_told (part CREATE_SECOND ACTIVATE_SECOND answers)
 
 -- the identifier that the answers give a name first; it is taken for the name's own
 abbrev pub uid_of : Which → List Answer → Option (List ℕ)

@@ -12,7 +12,7 @@ use Rattle.kmip_objects.specs.declared.step.Step.{Step}
 use Rattle.kmip_objects.specs.declared.step.Step.TheVariants.{Activate, Revoke, Destroy}
 use Rattle.kmip_server.specs.Again.{has_failed}
 use Rattle.kmip_probe.specs.Answers.{outcome_in, uids_told}
-use Rattle.kmip_probe.specs.Asking.{uid_of, uids_of}
+use Rattle.kmip_probe.specs.Asking.{part, uid_of, uids_of}
 use Rattle.kmip_probe.specs.Inquiries.{name_of}
 use Rattle.kmip_probe.specs.Telling.{attributes_told}
 use Rattle.kmip_probe.specs.declared.answer.Answer.{Answer}
@@ -22,6 +22,23 @@ use Rattle.kmip_probe.specs.declared.finding.Finding.TheVariants.{Kept, Broken, 
 use Rattle.kmip_probe.specs.declared.finding.Findings.{Findings}
 use Rattle.kmip_probe.specs.declared.finding.Flaw.{Flaw}
 use Rattle.kmip_probe.specs.declared.finding.Flaw.TheVariants.{SecondObject, StepTwice, ActiveDestroyed, NotFound, NoId}
+use Rattle.kmip_probe.specs.declared.inquiry.TheConstants.{
+  CREATE_FIRST,
+  CREATE_AGAIN,
+  FIND_NEW_EVERYWHERE,
+  READ_ATTRIBUTES,
+  ACTIVATE_FIRST,
+  ACTIVATE_AGAIN,
+  REVOKE_FIRST,
+  REVOKE_AGAIN,
+  ACTIVATE_SECOND,
+  DESTROY_ACTIVE,
+  DESTROY_FIRST,
+  DESTROY_AGAIN,
+  REUSE_NAME,
+  FIND_GONE_EVERYWHERE,
+  REVOKE_SECOND,
+}
 use Rattle.kmip_probe.specs.declared.inquiry.Which.TheVariants.{First}
 
 -- ---- single answers
@@ -80,19 +97,19 @@ unless_second (Some uid) kept = Broken (SecondObject uid)
 abbrev pub names_are_unique : List Answer → Finding
 names_are_unique answers =
     unless_second (other_than (take 1 (uids_of First answers)) (uids_of First answers))
-    (has_succeeded (answer_at answers 2) && is_answered (answer_at answers 3) && has_searched (answer_at answers 7))
+    (has_succeeded (answer_at answers CREATE_FIRST) && is_answered (answer_at answers CREATE_AGAIN) && has_searched (answer_at answers FIND_NEW_EVERYWHERE))
 
 -- the first object was destroyed
 abbrev pub is_destroyed : List Answer → Bool
-is_destroyed answers = has_succeeded (answer_at answers 16) || has_succeeded (answer_at answers 17)
+is_destroyed answers = has_succeeded (answer_at answers DESTROY_FIRST) || has_succeeded (answer_at answers DESTROY_AGAIN)
 
 -- A Create of the name makes no object once its object is destroyed: no Create and no Locate after that tells
 -- an identifier that was not told before.
 abbrev pub names_stay_used : List Answer → Finding
 names_stay_used answers =
     if is_destroyed answers
-    then unless_second (other_than (uids_of First answers) (flat_map uids_told (take 5 (drop 18 answers))))
-    (was_refused (answer_at answers 18) && has_searched (answer_at answers 22))
+    then unless_second (other_than (uids_of First answers) (flat_map uids_told (part REUSE_NAME REVOKE_SECOND answers)))
+    (was_refused (answer_at answers REUSE_NAME) && has_searched (answer_at answers FIND_GONE_EVERYWHERE))
     else Untold
 
 -- ---- steps
@@ -113,14 +130,14 @@ both first second = Untold
 -- A step that was taken is refused when it is asked again.
 abbrev pub steps_count_once : List Answer → Finding
 steps_count_once answers =
-    both (step_counts_once answers Activate 9 10)
-    (both (step_counts_once answers Revoke 11 12) (step_counts_once answers Destroy 16 17))
+    both (step_counts_once answers Activate ACTIVATE_FIRST ACTIVATE_AGAIN)
+    (both (step_counts_once answers Revoke REVOKE_FIRST REVOKE_AGAIN) (step_counts_once answers Destroy DESTROY_FIRST DESTROY_AGAIN))
 
 -- A Destroy of an active object is refused.
 abbrev pub active_is_kept : List Answer → Finding
 active_is_kept answers =
-    judged (has_succeeded (answer_at answers 14) && has_succeeded (answer_at answers 15)) ActiveDestroyed
-    (has_succeeded (answer_at answers 14) && was_refused (answer_at answers 15))
+    judged (has_succeeded (answer_at answers ACTIVATE_SECOND) && has_succeeded (answer_at answers DESTROY_ACTIVE)) ActiveDestroyed
+    (has_succeeded (answer_at answers ACTIVATE_SECOND) && was_refused (answer_at answers DESTROY_ACTIVE))
 
 -- ---- searches
 
@@ -135,11 +152,11 @@ found_at answers number = option_map_or (λ uid. found_in uid (outcome_in (answe
 
 -- A Locate under the mask of every state finds an object by its name.
 abbrev pub objects_are_found : List Answer → Finding
-objects_are_found answers = found_at answers 7
+objects_are_found answers = found_at answers FIND_NEW_EVERYWHERE
 
 -- A Locate under the mask of every state finds a destroyed object by its name.
 abbrev pub destroyed_are_found : List Answer → Finding
-destroyed_are_found answers = if is_destroyed answers then found_at answers 22 else Untold
+destroyed_are_found answers = if is_destroyed answers then found_at answers FIND_GONE_EVERYWHERE else Untold
 
 -- ---- ids
 
@@ -161,7 +178,7 @@ ids_are_echoed answers = judged (list_any is_unmarked answers) NoId (list_any is
 
 -- Get Attributes tells all six attributes of a new object.
 abbrev pub attributes_are_told : List ℕ → List Answer → Finding
-attributes_are_told prefix answers = attributes_told (name_of First prefix) (outcome_in (answer_at answers 8))
+attributes_are_told prefix answers = attributes_told (name_of First prefix) (outcome_in (answer_at answers READ_ATTRIBUTES))
 
 -- ---- all together
 

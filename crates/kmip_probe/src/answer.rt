@@ -58,7 +58,14 @@ impl Answer {
         match self.outcome() {
             Some(Outcome::Created(uid)) => std::slice::from_ref(uid),
             Some(Outcome::Located(uids)) => uids.as_slice(),
-            _ => &[],
+            Some(
+                Outcome::Attributes(..)
+                | Outcome::Activated(_)
+                | Outcome::Revoked(_)
+                | Outcome::Destroyed(_)
+                | Outcome::Failed(_),
+            )
+            | None => &[],
         }
     }
 
@@ -68,7 +75,15 @@ impl Answer {
     {
         match self.outcome() {
             Some(Outcome::Located(uids)) => uids.as_slice().is_empty(),
-            _ => false,
+            Some(
+                Outcome::Created(_)
+                | Outcome::Attributes(..)
+                | Outcome::Activated(_)
+                | Outcome::Revoked(_)
+                | Outcome::Destroyed(_)
+                | Outcome::Failed(_),
+            )
+            | None => false,
         }
     }
 }
@@ -159,15 +174,14 @@ fn is_asked_for(number: u8, outcome: &Outcome) -> bool
 fn is_of(kind: Kind, outcome: &Outcome) -> bool
     ensures { result ≡ is_of kind outcome.now }
 {
-    match (kind, outcome) {
-        (_, Outcome::Failed(_))
-        | (Kind::Locate(_), Outcome::Located(_))
-        | (Kind::Create, Outcome::Created(_))
-        | (Kind::GetAttributes, Outcome::Attributes(..))
-        | (Kind::Activate, Outcome::Activated(_))
-        | (Kind::Revoke, Outcome::Revoked(_))
-        | (Kind::Destroy, Outcome::Destroyed(_)) => true,
-        _ => false,
+    match outcome {
+        Outcome::Failed(_) => true,
+        Outcome::Located(_) => matches!(kind, Kind::Locate(_)),
+        Outcome::Created(_) => matches!(kind, Kind::Create),
+        Outcome::Attributes(..) => matches!(kind, Kind::GetAttributes),
+        Outcome::Activated(_) => matches!(kind, Kind::Activate),
+        Outcome::Revoked(_) => matches!(kind, Kind::Revoke),
+        Outcome::Destroyed(_) => matches!(kind, Kind::Destroy),
     }
 }
 

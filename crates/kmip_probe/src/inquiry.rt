@@ -41,9 +41,9 @@ pub enum Kind {
     Destroy,
 }
 
-/// A question of a probe.
+/// A question of a probe: about which name, what is asked, and its place in `INQUIRIES`.
 #[derive(Clone, Copy)]
-pub struct Inquiry(pub Which, pub Kind);
+pub struct Inquiry(pub Which, pub Kind, pub usize);
 
 /// How many questions a probe has (own).
 pub const QUESTIONS: usize = 25;
@@ -51,33 +51,110 @@ pub const QUESTIONS: usize = 25;
 /// How many of the questions of a probe, the first ones, look whether its names are free (own).
 pub const LOOKS: usize = 2;
 
+// The place of each question in `INQUIRIES`, which is that of its answer among the answers (own).
+
+/// Find whether the first name is free.
+pub const LOOK_FIRST: usize = 0;
+
+/// Find whether the second name is free.
+pub const LOOK_SECOND: usize = 1;
+
+/// Make the first object.
+pub const CREATE_FIRST: usize = 2;
+
+/// Make it again, which is to be refused.
+pub const CREATE_AGAIN: usize = 3;
+
+/// Find it by its name, without a mask.
+pub const FIND_NEW: usize = 4;
+
+/// Find it by the mask of on-line objects.
+pub const FIND_NEW_ON_LINE: usize = 5;
+
+/// Look for it by the mask of destroyed objects: it is none.
+pub const FIND_NEW_DESTROYED: usize = 6;
+
+/// Find it by the mask of every state.
+pub const FIND_NEW_EVERYWHERE: usize = 7;
+
+/// Get its attributes.
+pub const READ_ATTRIBUTES: usize = 8;
+
+/// Activate it.
+pub const ACTIVATE_FIRST: usize = 9;
+
+/// Activate it again, which is to be refused.
+pub const ACTIVATE_AGAIN: usize = 10;
+
+/// Revoke it.
+pub const REVOKE_FIRST: usize = 11;
+
+/// Revoke it again, which is to be refused.
+pub const REVOKE_AGAIN: usize = 12;
+
+/// Make the second object.
+pub const CREATE_SECOND: usize = 13;
+
+/// Activate the second object.
+pub const ACTIVATE_SECOND: usize = 14;
+
+/// Destroy it while it is active, which is to be refused.
+pub const DESTROY_ACTIVE: usize = 15;
+
+/// Destroy the first object.
+pub const DESTROY_FIRST: usize = 16;
+
+/// Destroy it again, which is to be refused.
+pub const DESTROY_AGAIN: usize = 17;
+
+/// Make an object of its name, which is to be refused.
+pub const REUSE_NAME: usize = 18;
+
+/// Find the destroyed object by its name, without a mask.
+pub const FIND_GONE: usize = 19;
+
+/// Look for it by the mask of on-line objects: it is none.
+pub const FIND_GONE_ON_LINE: usize = 20;
+
+/// Find it by the mask of destroyed objects.
+pub const FIND_GONE_DESTROYED: usize = 21;
+
+/// Find it by the mask of every state.
+pub const FIND_GONE_EVERYWHERE: usize = 22;
+
+/// Revoke the second object.
+pub const REVOKE_SECOND: usize = 23;
+
+/// Destroy the second object.
+pub const DESTROY_SECOND: usize = 24;
+
 /// The questions of a probe, in order.
 pub const INQUIRIES: [Inquiry; QUESTIONS] = [
-    Inquiry(First, Locate(Some(5))),
-    Inquiry(Second, Locate(Some(5))),
-    Inquiry(First, Create),
-    Inquiry(First, Create),
-    Inquiry(First, Locate(None)),
-    Inquiry(First, Locate(Some(1))),
-    Inquiry(First, Locate(Some(4))),
-    Inquiry(First, Locate(Some(5))),
-    Inquiry(First, GetAttributes),
-    Inquiry(First, Activate),
-    Inquiry(First, Activate),
-    Inquiry(First, Revoke),
-    Inquiry(First, Revoke),
-    Inquiry(Second, Create),
-    Inquiry(Second, Activate),
-    Inquiry(Second, Destroy),
-    Inquiry(First, Destroy),
-    Inquiry(First, Destroy),
-    Inquiry(First, Create),
-    Inquiry(First, Locate(None)),
-    Inquiry(First, Locate(Some(1))),
-    Inquiry(First, Locate(Some(4))),
-    Inquiry(First, Locate(Some(5))),
-    Inquiry(Second, Revoke),
-    Inquiry(Second, Destroy),
+    Inquiry(First, Locate(Some(5)), LOOK_FIRST),
+    Inquiry(Second, Locate(Some(5)), LOOK_SECOND),
+    Inquiry(First, Create, CREATE_FIRST),
+    Inquiry(First, Create, CREATE_AGAIN),
+    Inquiry(First, Locate(None), FIND_NEW),
+    Inquiry(First, Locate(Some(1)), FIND_NEW_ON_LINE),
+    Inquiry(First, Locate(Some(4)), FIND_NEW_DESTROYED),
+    Inquiry(First, Locate(Some(5)), FIND_NEW_EVERYWHERE),
+    Inquiry(First, GetAttributes, READ_ATTRIBUTES),
+    Inquiry(First, Activate, ACTIVATE_FIRST),
+    Inquiry(First, Activate, ACTIVATE_AGAIN),
+    Inquiry(First, Revoke, REVOKE_FIRST),
+    Inquiry(First, Revoke, REVOKE_AGAIN),
+    Inquiry(Second, Create, CREATE_SECOND),
+    Inquiry(Second, Activate, ACTIVATE_SECOND),
+    Inquiry(Second, Destroy, DESTROY_ACTIVE),
+    Inquiry(First, Destroy, DESTROY_FIRST),
+    Inquiry(First, Destroy, DESTROY_AGAIN),
+    Inquiry(First, Create, REUSE_NAME),
+    Inquiry(First, Locate(None), FIND_GONE),
+    Inquiry(First, Locate(Some(1)), FIND_GONE_ON_LINE),
+    Inquiry(First, Locate(Some(4)), FIND_GONE_DESTROYED),
+    Inquiry(First, Locate(Some(5)), FIND_GONE_EVERYWHERE),
+    Inquiry(Second, Revoke, REVOKE_SECOND),
+    Inquiry(Second, Destroy, DESTROY_SECOND),
 ];
 
 /// The question of a number, from 0; none after the last.

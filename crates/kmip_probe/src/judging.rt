@@ -35,7 +35,11 @@ ghost use Rattle.kmip_probe.specs.Judging.{
 
 use crate::answer::Answer;
 use crate::finding::{Finding, Findings, Flaw};
-use crate::inquiry::{Which, name_of};
+use crate::inquiry::{
+    ACTIVATE_AGAIN, ACTIVATE_FIRST, ACTIVATE_SECOND, CREATE_AGAIN, CREATE_FIRST, DESTROY_ACTIVE,
+    DESTROY_AGAIN, DESTROY_FIRST, FIND_GONE_EVERYWHERE, FIND_NEW_EVERYWHERE, READ_ATTRIBUTES,
+    REUSE_NAME, REVOKE_AGAIN, REVOKE_FIRST, REVOKE_SECOND, Which, name_of,
+};
 use crate::probing::{part, uid_of};
 use crate::telling::attributes_told;
 use crate::unread::Unread;
@@ -56,7 +60,7 @@ pub fn findings(alloc: Global, prefix: &str, answers: &[Answer]) -> Result<Findi
         names_stay_used: names_stay_used(alloc, answers)?,
         steps_count_once: steps_count_once(answers),
         active_is_kept: active_is_kept(answers),
-        objects_are_found: found_at(answers, 7),
+        objects_are_found: found_at(answers, FIND_NEW_EVERYWHERE),
         destroyed_are_found: destroyed_are_found(answers),
         attributes_are_told: attributes_are_told(alloc, prefix, answers)?,
         ids_are_echoed: ids_are_echoed(answers),
@@ -145,9 +149,11 @@ fn judged(broken: bool, flaw: Flaw, kept: bool) -> Finding
 fn names_are_unique(alloc: Global, answers: &[Answer]) -> Result<Finding, NoMemory>
     ensures { IfOk result (λ finding. finding ≡ names_are_unique answers.now) }
 {
-    let uids = uids_told(alloc, part(answers, 2, 8))?;
+    let uids = uids_told(alloc, part(answers, CREATE_FIRST, READ_ATTRIBUTES))?;
     let known = &uids[..uids.len().min(1)];
-    let kept = has_succeeded(answers, 2) && is_answered(answers, 3) && has_searched(answers, 7);
+    let kept = has_succeeded(answers, CREATE_FIRST)
+        && is_answered(answers, CREATE_AGAIN)
+        && has_searched(answers, FIND_NEW_EVERYWHERE);
     unless_second(alloc, other_than(known, uids.as_slice()), kept)
 }
 
@@ -155,7 +161,7 @@ fn names_are_unique(alloc: Global, answers: &[Answer]) -> Result<Finding, NoMemo
 fn is_destroyed(answers: &[Answer]) -> bool
     ensures { result ≡ is_destroyed answers.now }
 {
-    has_succeeded(answers, 16) || has_succeeded(answers, 17)
+    has_succeeded(answers, DESTROY_FIRST) || has_succeeded(answers, DESTROY_AGAIN)
 }
 
 fn names_stay_used(alloc: Global, answers: &[Answer]) -> Result<Finding, NoMemory>
@@ -164,9 +170,9 @@ fn names_stay_used(alloc: Global, answers: &[Answer]) -> Result<Finding, NoMemor
     if !is_destroyed(answers) {
         return Ok(Finding::Untold);
     }
-    let known = uids_told(alloc, part(answers, 2, 8))?;
-    let uids = uids_told(alloc, part(answers, 18, 23))?;
-    let kept = was_refused(answers, 18) && has_searched(answers, 22);
+    let known = uids_told(alloc, part(answers, CREATE_FIRST, READ_ATTRIBUTES))?;
+    let uids = uids_told(alloc, part(answers, REUSE_NAME, REVOKE_SECOND))?;
+    let kept = was_refused(answers, REUSE_NAME) && has_searched(answers, FIND_GONE_EVERYWHERE);
     unless_second(alloc, other_than(known.as_slice(), uids.as_slice()), kept)
 }
 
@@ -229,9 +235,9 @@ fn unless_second(alloc: Global, second: Option<&Text>, kept: bool) -> Result<Fin
 fn steps_count_once(answers: &[Answer]) -> Finding
     ensures { result ≡ steps_count_once answers.now }
 {
-    let activated = step_counts_once(answers, Step::Activate, 9, 10);
-    let revoked = step_counts_once(answers, Step::Revoke, 11, 12);
-    let destroyed = step_counts_once(answers, Step::Destroy, 16, 17);
+    let activated = step_counts_once(answers, Step::Activate, ACTIVATE_FIRST, ACTIVATE_AGAIN);
+    let revoked = step_counts_once(answers, Step::Revoke, REVOKE_FIRST, REVOKE_AGAIN);
+    let destroyed = step_counts_once(answers, Step::Destroy, DESTROY_FIRST, DESTROY_AGAIN);
     both(activated, both(revoked, destroyed))
 }
 
@@ -260,12 +266,12 @@ fn both(first: Finding, second: Finding) -> Finding
 fn active_is_kept(answers: &[Answer]) -> Finding
     ensures { result ≡ active_is_kept answers.now }
 {
-    let is_active = has_succeeded(answers, 14);
-    let broken = is_active && has_succeeded(answers, 15);
+    let is_active = has_succeeded(answers, ACTIVATE_SECOND);
+    let broken = is_active && has_succeeded(answers, DESTROY_ACTIVE);
     judged(
         broken,
         Flaw::ActiveDestroyed,
-        is_active && was_refused(answers, 15),
+        is_active && was_refused(answers, DESTROY_ACTIVE),
     )
 }
 
@@ -282,7 +288,15 @@ fn found_at(answers: &[Answer], number: usize) -> Finding
             Flaw::NotFound,
             true,
         ),
-        _ => Finding::Untold,
+        Some(
+            Outcome::Created(_)
+            | Outcome::Attributes(..)
+            | Outcome::Activated(_)
+            | Outcome::Revoked(_)
+            | Outcome::Destroyed(_)
+            | Outcome::Failed(_),
+        )
+        | None => Finding::Untold,
     }
 }
 
@@ -290,7 +304,7 @@ fn destroyed_are_found(answers: &[Answer]) -> Finding
     ensures { result ≡ destroyed_are_found answers.now }
 {
     if is_destroyed(answers) {
-        return found_at(answers, 22);
+        return found_at(answers, FIND_GONE_EVERYWHERE);
     }
     Finding::Untold
 }
@@ -299,7 +313,7 @@ fn attributes_are_told(alloc: Global, prefix: &str, answers: &[Answer]) -> Resul
     ensures { IfOk result (λ finding. finding ≡ attributes_are_told prefix.now answers.now) }
 {
     let name = name_of(alloc, Which::First, prefix)?;
-    Ok(attributes_told(name.as_str(), outcome_at(answers, 8)))
+    Ok(attributes_told(name.as_str(), outcome_at(answers, READ_ATTRIBUTES)))
 }
 
 fn ids_are_echoed(answers: &[Answer]) -> Finding

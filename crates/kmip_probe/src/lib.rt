@@ -18,7 +18,8 @@ mod unread;
 pub use answer::Answer;
 pub use finding::{Attribute, Finding, Findings, Flaw};
 pub use inquiry::{
-    INQUIRIES, Inquiry, Kind, LOOKS, PREFIX_MAX, QUESTIONS, Which, is_prefix, name_of,
+    INQUIRIES, Inquiry, Kind, LOOK_FIRST, LOOK_SECOND, LOOKS, PREFIX_MAX, QUESTIONS,
+    READ_ATTRIBUTES, REVOKE_SECOND, Which, is_prefix, name_of,
 };
 pub use judging::{findings, outcome_at, unread_at};
 pub use probing::{ask_on, is_free_at, probe};

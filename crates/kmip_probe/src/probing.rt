@@ -1,19 +1,22 @@
 //! The questions, one after the other over a link.
-ghost use Rattle.std.specs.Prelude.{◌≡◌, ◌⊎◌, ◌≤◌, ◌<◌, ◌+◌, ◌-◌, ◌++◌, [], ◌∷◌, ℕ, Some, None, Option, List, length, map, take, drop, flat_map, slice_get, IfOk, OnOk, IsTrue, option_map};
+ghost use Rattle.std.specs.Prelude.{◌≡◌, ◌⊎◌, ◌≤◌, ◌<◌, ◌+◌, ◌++◌, [], ◌∷◌, ℕ, Some, None, Option, List, length, map, flat_map, slice_get, IfOk, OnOk, IsTrue, option_map};
 ghost use Rattle.std.specs.List.{All};
 ghost use Rattle.kmip_protocol.specs.Past.{Names};
 ghost use Rattle.kmip_ttlv.specs.Spelling.{canon};
 ghost use Rattle.kmip_batch_items.specs.RequestFits.{request_fits};
 ghost use Rattle.kmip_messages.specs.Written.{requests_item};
 ghost use Rattle.kmip_probe.specs.Answers.{answer_to, uids_told, IsLawful};
-ghost use Rattle.kmip_probe.specs.Asking.{is_free_at, next_inquiry, uid_of, request_for, messages_from, AreAnswers};
+ghost use Rattle.kmip_probe.specs.Asking.{is_free_at, next_inquiry, part, uid_of, request_for, messages_from, AreAnswers};
 ghost use Rattle.kmip_probe.specs.Inquiries.{is_prefix};
 ghost use Rattle.kmip_probe.specs.Serving.{IsUnprobed, outcomes_of};
 ghost use Rattle.kmip_probe.specs.Standing.{AreServed, ProbeLaws};
 ghost use Rattle.kmip_probe.specs.Putting.{AsksOn, HasAsked, HasReplied, HasSent, HasServedNext};
 
 use crate::answer::{Answer, answer_to};
-use crate::inquiry::{Inquiry, QUESTIONS, Which, ask_of, inquiry_at, name_of};
+use crate::inquiry::{
+    ACTIVATE_SECOND, CREATE_FIRST, CREATE_SECOND, Inquiry, LOOK_FIRST, LOOK_SECOND, QUESTIONS,
+    READ_ATTRIBUTES, Which, ask_of, inquiry_at, name_of,
+};
 use kmip_batch_items::{Ask, Request};
 use kmip_messages::laws::answer_laws;
 use kmip_messages::write_request;
@@ -133,7 +136,7 @@ fn laws_below()
 fn next_inquiry(answers: &[Answer]) -> Option<Inquiry>
     ensures { result ≡ next_inquiry answers.now }
 {
-    if !is_free_at(answers, 0) || !is_free_at(answers, 1) {
+    if !is_free_at(answers, LOOK_FIRST) || !is_free_at(answers, LOOK_SECOND) {
         return None;
     }
     inquiry_at(answers.len())
@@ -153,7 +156,7 @@ pub fn is_free_at(answers: &[Answer], place: usize) -> bool
 /// The answers of the questions from one number on and before another.
 pub(crate) fn part(answers: &[Answer], from: usize, to: usize) -> &[Answer]
     requires { from ≤ to }
-    ensures { result.now ≡ take (to - from) (drop from answers.now) }
+    ensures { result.now ≡ part from to answers.now }
 {
     let end = to.min(answers.len());
     &answers[from.min(end)..end]
@@ -164,8 +167,8 @@ pub(crate) fn uid_of(which: Which, answers: &[Answer]) -> Option<&Text>
     ensures { option_map (λ uid. uid.now) result ≡ uid_of which answers.now }
 {
     match which {
-        Which::First => first_uid(part(answers, 2, 8)),
-        Which::Second => first_uid(part(answers, 13, 14)),
+        Which::First => first_uid(part(answers, CREATE_FIRST, READ_ATTRIBUTES)),
+        Which::Second => first_uid(part(answers, CREATE_SECOND, ACTIVATE_SECOND)),
     }
 }
 
@@ -260,7 +263,7 @@ fn request_for(
     requires few { length answers.now < QUESTIONS }
     ensures { IfOk result (λ request. request ≡ request_for prefix.now answers.now inquiry) }
 {
-    let Inquiry(which, kind) = inquiry;
+    let Inquiry(which, kind, ..) = inquiry;
     let name = name_of(alloc, which, prefix)?;
     let Some(ask) = ask_of(alloc, kind, name, uid_of(which, answers))? else {
         return Ok(None);

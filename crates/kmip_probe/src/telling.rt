@@ -21,7 +21,14 @@ pub(crate) fn attributes_told(name: &str, outcome: Option<&Outcome>) -> Finding
             None => Finding::Kept,
         },
         Some(Outcome::Failed(_)) => Finding::Broken(Flaw::Refused),
-        _ => Finding::Untold,
+        Some(
+            Outcome::Created(_)
+            | Outcome::Located(_)
+            | Outcome::Activated(_)
+            | Outcome::Revoked(_)
+            | Outcome::Destroyed(_),
+        )
+        | None => Finding::Untold,
     }
 }
 

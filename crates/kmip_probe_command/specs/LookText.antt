@@ -18,6 +18,7 @@ use Rattle.kmip_probe.specs.Asking.{is_free_at}
 use Rattle.kmip_probe.specs.Inquiries.{name_of}
 use Rattle.kmip_probe.specs.Judging.{answer_at}
 use Rattle.kmip_probe.specs.declared.answer.Answer.{Answer}
+use Rattle.kmip_probe.specs.declared.inquiry.TheConstants.{LOOK_FIRST, LOOK_SECOND}
 use Rattle.kmip_probe.specs.declared.inquiry.Which.TheVariants.{First, Second}
 use Rattle.kmip_probe.specs.declared.unread.ProtocolVersion.{ProtocolVersion}
 use Rattle.kmip_probe.specs.declared.unread.Unread.{Unread}
@@ -92,6 +93,6 @@ looked_text name answer = look_text name (outcome_in answer) (unread_in answer)
 -- What is told where a name is not seen to be free, the first one first. None where both are free.
 abbrev pub unbegun_text : List ℕ → List Answer → Option (List ℕ)
 unbegun_text prefix answers =
-    if is_free_at answers 0
-    then (if is_free_at answers 1 then None else Some (looked_text (name_of Second prefix) (answer_at answers 1)))
-    else Some (looked_text (name_of First prefix) (answer_at answers 0))
+    if is_free_at answers LOOK_FIRST
+    then (if is_free_at answers LOOK_SECOND then None else Some (looked_text (name_of Second prefix) (answer_at answers LOOK_SECOND)))
+    else Some (looked_text (name_of First prefix) (answer_at answers LOOK_FIRST))

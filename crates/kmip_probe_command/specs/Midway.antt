@@ -18,11 +18,12 @@ use Rattle.kmip_probe.specs.Judging.{
 }
 use Rattle.kmip_probe.specs.declared.answer.Answer.{Answer}
 use Rattle.kmip_probe.specs.declared.finding.Finding.{Finding}
+use Rattle.kmip_probe.specs.declared.inquiry.TheConstants.{LOOKS}
 use Rattle.kmip_probe_command.specs.LookText.{making_text}
 use Rattle.kmip_probe_command.specs.Wording.{line_text}
 use Rattle.kmip_probe_command.specs.declared.premise.Premise.{Premise}
 use Rattle.kmip_probe_command.specs.declared.premise.Premise.TheVariants as premise
-use Rattle.kmip_probe_command.specs.declared.premise.TheConstants.{PREMISES}
+use Rattle.kmip_probe_command.specs.declared.premise.TheConstants.{EARLY_ANSWERS, LATE_ANSWERS, PREMISES}
 
 -- What answers say of a premise.
 abbrev pub finding_by : List ℕ → List Answer → Premise → Finding
@@ -47,9 +48,9 @@ lines_by prefix answers = making_text prefix ∷ map (line_by prefix answers) PR
 -- Locates before the first object is destroyed, and then those to all questions about it.
 abbrev pub answers_before : List (List ℕ) → ℕ
 answers_before [] = 0
-answers_before (making ∷ []) = 2
-answers_before (making ∷ unique ∷ []) = 8
-answers_before (making ∷ unique ∷ used ∷ lines) = 23
+answers_before (making ∷ []) = LOOKS
+answers_before (making ∷ unique ∷ []) = EARLY_ANSWERS
+answers_before (making ∷ unique ∷ used ∷ lines) = LATE_ANSWERS
 
 -- The first of these lines were written, as far as the answers that have come decide them, and then
 -- `tail`.

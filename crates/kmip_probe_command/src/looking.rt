@@ -15,7 +15,9 @@ ghost use Rattle.kmip_probe_command.specs.LookText.{
 
 use crate::unread::unread_text;
 use kmip_batch_items::Outcome;
-use kmip_probe::{Answer, Unread, Which, is_free_at, name_of, outcome_at, unread_at};
+use kmip_probe::{
+    Answer, LOOK_FIRST, LOOK_SECOND, Unread, Which, is_free_at, name_of, outcome_at, unread_at,
+};
 use kmip_ttlv::{NoMemory, plain_text};
 use std::alloc::Global;
 
@@ -58,13 +60,15 @@ pub(crate) fn unbegun_text(
     ensures { IfOk result (λ text. option_map string_bytes text
         ≡ unbegun_text prefix.now answers.now) }
 {
-    if !is_free_at(answers, 0) {
-        let (outcome, unread) = (outcome_at(answers, 0), unread_at(answers, 0));
+    if !is_free_at(answers, LOOK_FIRST) {
+        let outcome = outcome_at(answers, LOOK_FIRST);
+        let unread = unread_at(answers, LOOK_FIRST);
         let text = look_text(alloc, Which::First, prefix, outcome, unread)?;
         return Ok(Some(text));
     }
-    if !is_free_at(answers, 1) {
-        let (outcome, unread) = (outcome_at(answers, 1), unread_at(answers, 1));
+    if !is_free_at(answers, LOOK_SECOND) {
+        let outcome = outcome_at(answers, LOOK_SECOND);
+        let unread = unread_at(answers, LOOK_SECOND);
         let text = look_text(alloc, Which::Second, prefix, outcome, unread)?;
         return Ok(Some(text));
     }

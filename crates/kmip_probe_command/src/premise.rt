@@ -2,7 +2,7 @@
 ghost use Rattle.std.specs.Prelude.{◌≡◌};
 ghost use Rattle.kmip_probe_command.specs.Wording.{finding_of, is_for_progress, premise_text, risk_text};
 
-use kmip_probe::{Finding, Findings};
+use kmip_probe::{Finding, Findings, READ_ATTRIBUTES, REVOKE_SECOND};
 
 /// A premise of the theorem, of the server.
 #[derive(Clone, Copy)]
@@ -33,8 +33,8 @@ pub const PREMISES: [Premise; 8] = [
 /// of them.
 pub(crate) const EARLY: [Premise; 1] = [Premise::NamesAreUnique];
 
-/// How many questions are asked before the first premise is told (own).
-pub(crate) const EARLY_ANSWERS: usize = 8;
+/// How many questions are asked before the first premise is told: all before this one.
+pub(crate) const EARLY_ANSWERS: usize = READ_ATTRIBUTES;
 
 /// The premises after them, which are told once `LATE_ANSWERS` questions were asked.
 pub(crate) const LATE: [Premise; 6] = [
@@ -46,8 +46,8 @@ pub(crate) const LATE: [Premise; 6] = [
     Premise::AttributesAreTold,
 ];
 
-/// How many questions are asked before all premises but the last are told (own).
-pub(crate) const LATE_ANSWERS: usize = 23;
+/// How many questions are asked before all premises but the last are told: all before this one.
+pub(crate) const LATE_ANSWERS: usize = REVOKE_SECOND;
 
 impl Premise {
     /// The premise in words.

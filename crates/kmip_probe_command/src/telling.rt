@@ -20,7 +20,7 @@ use crate::premise::{EARLY, EARLY_ANSWERS, LATE, LATE_ANSWERS, Premise};
 use crate::wording::{are_all_kept, lines_of, rest_of_report};
 use kmip_message_commands::{CommandFault, Printer};
 use kmip_probe::laws::the_profile_keeps_all;
-use kmip_probe::{Answer, LOOKS, QUESTIONS, ask_on, findings};
+use kmip_probe::{Answer, LOOK_FIRST, LOOK_SECOND, LOOKS, QUESTIONS, ask_on, findings};
 use kmip_protocol::Link;
 use std::alloc::Global;
 
@@ -73,8 +73,8 @@ fn tell_on<L: Link, P: Printer>(
     requires prefix { IsTrue (is_prefix prefix.now) }
     requires lawful { All IsLawful answers.old.items }
     requires two { length answers.old.items ≡ LOOKS }
-    requires first { IsTrue (is_free_at answers.old.items 0) }
-    requires second { IsTrue (is_free_at answers.old.items 1) }
+    requires first { IsTrue (is_free_at answers.old.items LOOK_FIRST) }
+    requires second { IsTrue (is_free_at answers.old.items LOOK_SECOND) }
     ensures onward { (more : List Answer) × (answers.new.items ≡ answers.old.items ++ more) }
     ensures asked { (names : Names) → L.honest link.old names → IfOk result (λ r. AsksOn prefix.now
         answers.old.items answers.new.items (L.past link.old) (L.past link.new)) }

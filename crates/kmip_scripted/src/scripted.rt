@@ -94,6 +94,13 @@ impl<S: Records> Scripted<S> {
         }
     }
 
+    /// The requests that were ever asked, in order.
+    pub fn requests(&self) -> &[Bytes]
+        ensures { result.now ≡ self.now.asked }
+    {
+        self.asked.as_slice()
+    }
+
     /// The bytes of the request of this number, from 1, among those ever asked; none where there is
     /// none.
     pub fn request(&self, number: usize) -> Option<&[u8]>

@@ -1,9 +1,8 @@
 -- Texts of things, one after the other.
-use Rattle.std.proofs.Common.{◌≡◌, ◌==◌, ◌+◌, ◌-◌, ℕ, zero, suc, Bool, false, if◌then◌else◌, List, [], ◌∷◌, ◌++◌, drop, Option, Some, None, refl, sym, ap, ◌∙◌, arith, append_assoc, append-nil}
+use Rattle.std.proofs.Common.{◌≡◌, ◌+◌, ℕ, zero, suc, List, [], ◌∷◌, ◌++◌, drop, Option, Some, None, refl, sym, ap, ◌∙◌, arith, append_assoc, append-nil}
 use Rattle.std.specs.List.{slice_get}
 use Rattle.kmip_store.specs.declared.row.Row.{Row}
 use Rattle.kmip_store.specs.Stock.{object_of, objects_of}
-use Rattle.kmip_scripted.specs.Words.{message_at}
 use Rattle.kmip_simulation.specs.SimText.{numbered_text, record_text, records_text}
 
 -- what is written so far, and then the text of the things from a place on, is what was there before and the text of all
@@ -56,13 +55,3 @@ next_listed rows place row old now new here so_far is =
     ∙ append_assoc now (record_text (object_of row)) (records_text (objects_of (drop (place + 1) rows)))
     ∙ ap (λ ys. now ++ records_text (objects_of ys)) (sym left)
     ∙ so_far
-
-by_other : {X : Type 0} (b : Bool) (found : Option X) → b ≡ false → (if b then None else found) ≡ found
-by_other b found is = rw is refl
-
--- the message of a number is that at the place before it
-pub message_is : (messages : List (List ℕ)) (place : ℕ) (found : Option (List ℕ)) → found ≡ message_at (place + 1) messages → slice_get messages place ≡ found
-message_is messages place found is =
-    let some : (place + 1 == 0) ≡ false = grind arith in
-    let same : place + 1 - 1 ≡ place = omega arith in
-    sym (is ∙ by_other (place + 1 == 0) (slice_get messages (place + 1 - 1)) some ∙ ap (slice_get messages) same)

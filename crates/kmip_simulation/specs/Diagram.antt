@@ -4,15 +4,11 @@ use Rattle.std.specs.Prelude.{ℕ, nat_le, ◌==◌, List, [], ◌∷◌, ◌++�
 use Rattle.std.specs.Fmt.{decimal}
 use Rattle.std.specs.List.{flat_map}
 use Rattle.kmip_scripted.specs.Scenes.{Scene}
-use Rattle.kmip_scripted.specs.Words.{answer_at, message_at, word_at}
 use Rattle.kmip_scripted.specs.declared.script.Word.{Word}
 use Rattle.kmip_scripted.specs.declared.script.Word.TheVariants.{LoseRequest, LoseReply, Cut, Stale}
 use Rattle.kmip_trace.specs.Questions.{question_text}
 use Rattle.kmip_trace.specs.Answers.{answer_text}
-use Rattle.kmip_simulation.specs.declared.moment.Moment.{Moment}
-use Rattle.kmip_simulation.specs.declared.moment.Moment.TheVariants.{Begun, Repeated, Exchanged, Ended}
-use Rattle.kmip_simulation.specs.Moments.{moments_of}
-use Rattle.kmip_simulation.specs.Tracing.{early_request, ended_text}
+use Rattle.kmip_simulation.specs.Tracing.{Telling, ended_text, told_text}
 
 -- A byte of a text as mermaid reads it: `;` and `#`, which end a text there, are written by their numbers.
 abbrev pub drawn_byte : ℕ → List ℕ
@@ -66,24 +62,22 @@ exchange_arrows number request (Cut size) answer = cut_arrows number request siz
 exchange_arrows number request (Stale place) answer = lost_request number request ++ stale_reply place request answer
 exchange_arrows number request word answer = arrived_request number request ++ handed_reply request answer
 
--- the same, where what was asked and the word are known; every exchange that was made has both
-abbrev pub drawn_exchange : ℕ → Option (List ℕ) → Option Word → Option (List ℕ) → List ℕ
-drawn_exchange number None word answer = []
-drawn_exchange number (Some request) None answer = []
-drawn_exchange number (Some request) (Some word) answer = exchange_arrows number request word answer
-
 -- the arrow of a request that is delivered again, where there is such a request
 abbrev pub again_arrow : ℕ → Option (List ℕ) → List ℕ
 again_arrow number None = codes "    Note over C,S: again " ++ decimal number ++ codes ": no such request\n"
 again_arrow number (Some request) = codes "    C-->>S: again " ++ drawn_request number request ++ codes "\n"
 
--- the lines of a moment over a link
-abbrev pub drawn_moment : Scene → Moment → List ℕ
-drawn_moment link (Begun number) = codes "    Note over C,S: run " ++ decimal number ++ codes "\n"
-drawn_moment link (Repeated number asked) = again_arrow number (early_request number asked link.asked)
-drawn_moment link (Exchanged number) =
-    drawn_exchange number (message_at number link.asked) (word_at number link.followed) (answer_at number link.handed)
-drawn_moment link (Ended number words) = codes "    Note over C,S: " ++ ended_text number words ++ codes "\n"
+-- the note that a run begins
+abbrev pub begun_note : ℕ → List ℕ
+begun_note number = codes "    Note over C,S: run " ++ decimal number ++ codes "\n"
+
+-- the note that a run ends, with the words that are taken there
+abbrev pub ended_note : ℕ → List Word → List ℕ
+ended_note number words = codes "    Note over C,S: " ++ ended_text number words ++ codes "\n"
+
+-- an arrow for each message, and a note where a run begins or ends
+abbrev pub arrows : Telling
+arrows = record { begun = begun_note; again = again_arrow; exchanged = exchange_arrows; ended = ended_note }
 
 -- the first lines: what is drawn, and between whom
 abbrev pub diagram_head : List ℕ
@@ -91,4 +85,4 @@ diagram_head = codes "sequenceDiagram\n    participant C as kmipctl\n    partici
 
 -- the diagram of all that happened over a link that followed these words
 abbrev pub diagram_text : List Word → Scene → List ℕ
-diagram_text words link = diagram_head ++ flat_map (drawn_moment link) (moments_of words link)
+diagram_text words link = diagram_head ++ told_text arrows words link

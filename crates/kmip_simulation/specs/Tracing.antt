@@ -39,12 +39,6 @@ exchange_front number request word =
 abbrev pub exchange_line : ℕ → List ℕ → Word → Option (List ℕ) → List ℕ
 exchange_line number request word answer = exchange_front number request word ++ answer_text request answer ++ codes "\n"
 
--- the same, where what was asked and the word are known; every exchange that was made has both
-abbrev pub exchange_text : ℕ → Option (List ℕ) → Option Word → Option (List ℕ) → List ℕ
-exchange_text number None word answer = []
-exchange_text number (Some request) None answer = []
-exchange_text number (Some request) (Some word) answer = exchange_line number request word answer
-
 -- the request of a number, where it is among the first of which there are so many
 abbrev pub early_request : ℕ → ℕ → List (List ℕ) → Option (List ℕ)
 early_request number asked messages = if nat_le number asked then message_at number messages else None
@@ -62,14 +56,40 @@ taken_text word = codes ", " ++ word_text word
 abbrev pub ended_text : ℕ → List Word → List ℕ
 ended_text number words = codes "run " ++ decimal number ++ codes " ends" ++ flat_map taken_text words
 
--- the line of a moment over a link; that a run begins has none
-abbrev pub moment_line : Scene → Moment → List ℕ
-moment_line link (Begun number) = []
-moment_line link (Repeated number asked) = again_line number (early_request number asked link.asked)
-moment_line link (Exchanged number) =
-    exchange_text number (message_at number link.asked) (word_at number link.followed) (answer_at number link.handed)
-moment_line link (Ended number words) = ended_text number words ++ codes "\n"
+-- the line of the end of a run
+abbrev pub ended_line : ℕ → List Word → List ℕ
+ended_line number words = ended_text number words ++ codes "\n"
+
+-- How the moments over a link are told: that a run begins, that a request is delivered again where there is such a request, an exchange,
+-- and that a run ends.
+pub record Telling : Type 0 where
+  pub begun : ℕ → List ℕ
+  pub again : ℕ → Option (List ℕ) → List ℕ
+  pub exchanged : ℕ → List ℕ → Word → Option (List ℕ) → List ℕ
+  pub ended : ℕ → List Word → List ℕ
+
+-- an exchange, where what was asked and the word are known; every exchange that was made has both
+abbrev pub told_exchange : Telling → ℕ → Option (List ℕ) → Option Word → Option (List ℕ) → List ℕ
+told_exchange telling number None word answer = []
+told_exchange telling number (Some request) None answer = []
+told_exchange telling number (Some request) (Some word) answer = telling.exchanged number request word answer
+
+-- a moment over a link
+abbrev pub told_moment : Telling → Scene → Moment → List ℕ
+told_moment telling link (Begun number) = telling.begun number
+told_moment telling link (Repeated number asked) = telling.again number (early_request number asked link.asked)
+told_moment telling link (Exchanged number) =
+    told_exchange telling number (message_at number link.asked) (word_at number link.followed) (answer_at number link.handed)
+told_moment telling link (Ended number words) = telling.ended number words
 
 -- all that happened over a link that followed these words, in its order
+abbrev pub told_text : Telling → List Word → Scene → List ℕ
+told_text telling words link = flat_map (told_moment telling link) (moments_of words link)
+
+-- a line each; that a run begins has none
+abbrev pub lines : Telling
+lines = record { begun = λ number. []; again = again_line; exchanged = exchange_line; ended = ended_line }
+
+-- all that happened over a link that followed these words, in lines
 abbrev pub trace_text : List Word → Scene → List ℕ
-trace_text words link = flat_map (moment_line link) (moments_of words link)
+trace_text words link = told_text lines words link

@@ -1,32 +1,23 @@
 //! What is drawn of a simulation: a sequence diagram in the language of mermaid.
-ghost use Rattle.std.specs.Prelude.{◌≡◌, ◌++◌, Some, codes, OnOk, option_map};
-ghost use Rattle.std.specs.Fmt.{decimal};
-ghost use Rattle.std.specs.List.{flat_map};
-ghost use Rattle.kmip_scripted.specs.Words.{answer_at, message_at, word_at};
+ghost use Rattle.std.specs.Prelude.{◌≡◌, ◌++◌, Some, OnOk, option_map};
 ghost use Rattle.kmip_trace.specs.Answers.{answer_text};
-ghost use Rattle.kmip_simulation.specs.Tracing.{ended_text};
 ghost use Rattle.kmip_simulation.specs.Diagram.{
   again_arrow,
   arrived_request,
+  arrows,
   cut_arrows,
   cut_request,
-  diagram_head,
   diagram_text,
   drawn_byte,
-  drawn_exchange,
-  drawn_moment,
   drawn_request,
   drawn_text,
-  exchange_arrows,
   handed_reply,
   lost_reply,
   lost_request,
   stale_reply,
 };
 
-use crate::moment::Moment;
-use crate::moments::moments_of;
-use crate::tracing::{early_request, push_ended};
+use crate::tracing::{Tell, push_ended, push_told};
 use kmip_scripted::{Scripted, Word};
 use kmip_server::IndexedStore;
 use kmip_trace::{push_answer, push_question};
@@ -52,89 +43,71 @@ pub fn push_diagram(
     ensures { OnOk result (text.new.items
         ≡ text.old.items ++ diagram_text words.now link.now) }
 {
-    let moments = moments_of(alloc, words, link.ended())?;
     text.extend_from_slice(HEAD.as_bytes())?;
-    draw_moments(alloc, link, moments.as_slice(), text)?;
+    push_told::<Arrows>(alloc, words, link, text)?;
     Ok(())
 }
 
-/// Appends the lines of some moments over the link.
-fn draw_moments(
-    alloc: Global,
-    link: &Scripted<IndexedStore>,
-    moments: &[Moment],
-    text: &mut Vec<u8>,
-) -> Result<(), NoMemory>
-    ensures { OnOk result (text.new.items
-        ≡ text.old.items ++ flat_map (drawn_moment link.now) moments.now) }
-{
-    for moment in moments {
-        draw_moment(alloc, link, moment, text)?;
-    }
-    Ok(())
-}
+/// Draws an arrow for each message, and a note where a run begins or ends.
+struct Arrows;
 
-/// Appends the lines of a moment over the link.
-fn draw_moment(
-    alloc: Global,
-    link: &Scripted<IndexedStore>,
-    moment: &Moment,
-    text: &mut Vec<u8>,
-) -> Result<(), NoMemory>
-    ensures { OnOk result (text.new.items ≡ text.old.items ++ drawn_moment link.now moment.now) }
-{
-    match moment {
-        Moment::Begun(number) => draw_begin(alloc, *number, text),
-        Moment::Repeated { number, asked } => {
-            draw_again(alloc, *number, early_request(link, *number, *asked), text)
-        }
-        Moment::Exchanged(number) => draw_numbered(alloc, link, *number, text),
-        Moment::Ended { number, words } => draw_end(alloc, *number, words.words(), text),
-    }
-}
+impl Tell for Arrows {
+    ghost telling = { arrows };
 
-/// Appends that a run begins.
-fn draw_begin(alloc: Global, number: usize, text: &mut Vec<u8>) -> Result<(), NoMemory>
-    ensures { OnOk result (text.new.items ≡ text.old.items
-        ++ (codes "    Note over C,S: run " ++ decimal number ++ codes "\n")) }
-{
-    let line = format!(in alloc; "    Note over C,S: run {number}\n")?;
-    text.extend_from_slice(line.as_bytes())?;
-    Ok(())
-}
-
-/// Appends that a run ends, and the words that are taken there.
-fn draw_end(
-    alloc: Global,
-    number: usize,
-    words: &[Word],
-    text: &mut Vec<u8>,
-) -> Result<(), NoMemory>
-    ensures { OnOk result (text.new.items ≡ text.old.items
-        ++ (codes "    Note over C,S: " ++ ended_text number words.now ++ codes "\n")) }
-{
-    text.extend_from_slice(b"    Note over C,S: ")?;
-    push_ended(alloc, number, words, text)?;
-    text.push(b'\n')?;
-    Ok(())
-}
-
-/// Appends the arrow of a request that is delivered again.
-fn draw_again(
-    alloc: Global,
-    number: usize,
-    request: Option<&[u8]>,
-    text: &mut Vec<u8>,
-) -> Result<(), NoMemory>
-    ensures { OnOk result (text.new.items ≡ text.old.items
-        ++ again_arrow number (option_map (λ bytes. bytes.now) request.entry)) }
-{
-    let Some(request) = request else {
-        let line = format!(in alloc; "    Note over C,S: again {number}: no such request\n")?;
+    fn push_begin(alloc: Global, number: usize, text: &mut Vec<u8>) -> Result<(), NoMemory> {
+        let line = format!(in alloc; "    Note over C,S: run {number}\n")?;
         text.extend_from_slice(line.as_bytes())?;
-        return Ok(());
-    };
-    draw_repeated(alloc, number, request, text)
+        Ok(())
+    }
+
+    fn push_again(
+        alloc: Global,
+        number: usize,
+        request: Option<&[u8]>,
+        text: &mut Vec<u8>,
+    ) -> Result<(), NoMemory> {
+        let Some(request) = request else {
+            let line = format!(in alloc; "    Note over C,S: again {number}: no such request\n")?;
+            text.extend_from_slice(line.as_bytes())?;
+            return Ok(());
+        };
+        draw_repeated(alloc, number, request, text)
+    }
+
+    fn push_exchange(
+        alloc: Global,
+        number: usize,
+        request: &[u8],
+        word: Word,
+        answer: Option<&[u8]>,
+        text: &mut Vec<u8>,
+    ) -> Result<(), NoMemory> {
+        match word {
+            Word::LoseRequest => draw_lost(alloc, number, request, text),
+            Word::LoseReply => draw_lost_reply(alloc, number, request, text),
+            Word::Cut(size) => draw_cut(alloc, number, request, size, text),
+            Word::Stale(place) => {
+                draw_lost(alloc, number, request, text)?;
+                draw_stale(alloc, place, request, answer, text)
+            }
+            Word::Pass | Word::Again(_) | Word::Save | Word::Prolong | Word::Restart(_) => {
+                draw_arrived(alloc, number, request, text)?;
+                draw_reply(alloc, request, answer, text)
+            }
+        }
+    }
+
+    fn push_end(
+        alloc: Global,
+        number: usize,
+        words: &[Word],
+        text: &mut Vec<u8>,
+    ) -> Result<(), NoMemory> {
+        text.extend_from_slice(b"    Note over C,S: ")?;
+        push_ended(alloc, number, words, text)?;
+        text.push(b'\n')?;
+        Ok(())
+    }
 }
 
 /// Appends the arrow of a request that is delivered again, and that there is.
@@ -151,53 +124,6 @@ fn draw_repeated(
     draw_request(alloc, number, request, text)?;
     text.push(b'\n')?;
     Ok(())
-}
-
-/// Appends the arrows of the exchange of a number over the link.
-fn draw_numbered(
-    alloc: Global,
-    link: &Scripted<IndexedStore>,
-    number: usize,
-    text: &mut Vec<u8>,
-) -> Result<(), NoMemory>
-    ensures { OnOk result (text.new.items ≡ text.old.items ++ drawn_exchange number
-        (message_at number link.now.asked) (word_at number link.now.followed)
-        (answer_at number link.now.handed)) }
-{
-    let Some(request) = link.request(number) else {
-        return Ok(());
-    };
-    let Some(word) = link.followed(number) else {
-        return Ok(());
-    };
-    draw_exchange(alloc, number, request, word, link.handed(number), text)
-}
-
-/// Appends the arrows of an exchange.
-fn draw_exchange(
-    alloc: Global,
-    number: usize,
-    request: &[u8],
-    word: Word,
-    answer: Option<&[u8]>,
-    text: &mut Vec<u8>,
-) -> Result<(), NoMemory>
-    ensures { OnOk result (text.new.items ≡ text.old.items
-        ++ exchange_arrows number request.now word (option_map (λ bytes. bytes.now) answer.entry)) }
-{
-    match word {
-        Word::LoseRequest => draw_lost(alloc, number, request, text),
-        Word::LoseReply => draw_lost_reply(alloc, number, request, text),
-        Word::Cut(size) => draw_cut(alloc, number, request, size, text),
-        Word::Stale(place) => {
-            draw_lost(alloc, number, request, text)?;
-            draw_stale(alloc, place, request, answer, text)
-        }
-        Word::Pass | Word::Again(_) | Word::Save | Word::Prolong | Word::Restart(_) => {
-            draw_arrived(alloc, number, request, text)?;
-            draw_reply(alloc, request, answer, text)
-        }
-    }
 }
 
 /// Appends the arrow of a request that arrives at the server.

@@ -1,17 +1,18 @@
 //! What is written of a simulation, a line each: its exchanges, and what happens between them.
-ghost use Rattle.std.specs.Prelude.{◌≡◌, ◌++◌, codes, IfOk, OnOk, option_map, string_bytes};
+ghost use Rattle.std.specs.Prelude.{◌≡◌, ◌++◌, IfOk, OnOk, option_map, string_bytes};
 ghost use Rattle.std.specs.List.{flat_map};
 ghost use Rattle.kmip_scripted.specs.Words.{answer_at, message_at, word_at};
 ghost use Rattle.kmip_scripted.specs.declared.script.Word.TheVariants.{Restart};
 ghost use Rattle.kmip_simulation.specs.Tracing.{
-  again_line,
+  Telling,
   early_request,
   ended_text,
   exchange_front,
-  exchange_line,
-  exchange_text,
-  moment_line,
+  lines,
   taken_text,
+  told_exchange,
+  told_moment,
+  told_text,
   trace_text,
   word_text,
 };
@@ -39,52 +40,108 @@ pub fn push_trace(
 ) -> Result<(), NoMemory>
     ensures { OnOk result (text.new.items ≡ text.old.items ++ trace_text words.now link.now) }
 {
+    push_told::<Lines>(alloc, words, link, text)
+}
+
+/// How what happens over a link is told.
+pub(crate) trait Tell {
+    /// What is told of each moment.
+    ghost telling: { Telling };
+
+    /// Appends that the run of a number begins.
+    fn push_begin(alloc: Global, number: usize, text: &mut Vec<u8>) -> Result<(), NoMemory>
+        ensures { OnOk result (text.new.items ≡ text.old.items ++ telling.begun number) };
+
+    /// Appends that the request of a number is delivered again, where there is such a request.
+    fn push_again(
+        alloc: Global,
+        number: usize,
+        request: Option<&[u8]>,
+        text: &mut Vec<u8>,
+    ) -> Result<(), NoMemory>
+        ensures { OnOk result (text.new.items ≡ text.old.items
+            ++ telling.again number (option_map (λ bytes. bytes.now) request.entry)) };
+
+    /// Appends the exchange of a number: its request, the word that it followed, and what it handed
+    /// over.
+    fn push_exchange(
+        alloc: Global,
+        number: usize,
+        request: &[u8],
+        word: Word,
+        answer: Option<&[u8]>,
+        text: &mut Vec<u8>,
+    ) -> Result<(), NoMemory>
+        ensures { OnOk result (text.new.items ≡ text.old.items ++ telling.exchanged number
+            request.now word (option_map (λ bytes. bytes.now) answer.entry)) };
+
+    /// Appends that the run of a number ends, and the words that are taken there.
+    fn push_end(
+        alloc: Global,
+        number: usize,
+        words: &[Word],
+        text: &mut Vec<u8>,
+    ) -> Result<(), NoMemory>
+        ensures { OnOk result (text.new.items
+            ≡ text.old.items ++ telling.ended number words.now) };
+}
+
+/// Appends what is told of all that happened over a link that followed these words, in its order.
+///
+/// # Errors
+/// Where there is no memory for it.
+pub(crate) fn push_told<T: Tell>(
+    alloc: Global,
+    words: &[Word],
+    link: &Scripted<IndexedStore>,
+    text: &mut Vec<u8>,
+) -> Result<(), NoMemory>
+    ensures { OnOk result (text.new.items
+        ≡ text.old.items ++ told_text T.telling words.now link.now) }
+{
     let moments = moments_of(alloc, words, link.ended())?;
-    push_moments(alloc, link, moments.as_slice(), text)?;
+    push_moments::<T>(alloc, link, moments.as_slice(), text)?;
     Ok(())
 }
 
-/// Appends the lines of some moments over the link.
-fn push_moments(
+/// Appends what is told of some moments over the link.
+fn push_moments<T: Tell>(
     alloc: Global,
     link: &Scripted<IndexedStore>,
     moments: &[Moment],
     text: &mut Vec<u8>,
 ) -> Result<(), NoMemory>
     ensures { OnOk result (text.new.items
-        ≡ text.old.items ++ flat_map (moment_line link.now) moments.now) }
+        ≡ text.old.items ++ flat_map (told_moment T.telling link.now) moments.now) }
 {
     for moment in moments {
-        push_moment(alloc, link, moment, text)?;
+        push_moment::<T>(alloc, link, moment, text)?;
     }
     Ok(())
 }
 
-/// Appends the line of a moment over the link.
-fn push_moment(
+/// Appends what is told of a moment over the link.
+fn push_moment<T: Tell>(
     alloc: Global,
     link: &Scripted<IndexedStore>,
     moment: &Moment,
     text: &mut Vec<u8>,
 ) -> Result<(), NoMemory>
-    ensures { OnOk result (text.new.items ≡ text.old.items ++ moment_line link.now moment.now) }
+    ensures { OnOk result (text.new.items
+        ≡ text.old.items ++ told_moment T.telling link.now moment.now) }
 {
     match moment {
-        Moment::Begun(_number) => Ok(()),
+        Moment::Begun(number) => T::push_begin(alloc, *number, text),
         Moment::Repeated { number, asked } => {
-            push_again(alloc, *number, early_request(link, *number, *asked), text)
+            T::push_again(alloc, *number, early_request(link, *number, *asked), text)
         }
-        Moment::Exchanged(number) => push_numbered(alloc, link, *number, text),
-        Moment::Ended { number, words } => push_end_line(alloc, *number, words.words(), text),
+        Moment::Exchanged(number) => push_numbered::<T>(alloc, link, *number, text),
+        Moment::Ended { number, words } => T::push_end(alloc, *number, words.words(), text),
     }
 }
 
 /// The request of a number, where it is among the first of which there are so many.
-pub(crate) fn early_request(
-    link: &Scripted<IndexedStore>,
-    number: usize,
-    asked: usize,
-) -> Option<&[u8]>
+fn early_request(link: &Scripted<IndexedStore>, number: usize, asked: usize) -> Option<&[u8]>
     ensures { option_map (λ message. message.now) result
         ≡ early_request number asked link.now.asked }
 {
@@ -94,36 +151,14 @@ pub(crate) fn early_request(
     None
 }
 
-/// Appends the line of a request that is delivered again.
-fn push_again(
-    alloc: Global,
-    number: usize,
-    request: Option<&[u8]>,
-    text: &mut Vec<u8>,
-) -> Result<(), NoMemory>
-    ensures { OnOk result (text.new.items ≡ text.old.items
-        ++ again_line number (option_map (λ bytes. bytes.now) request.entry)) }
-{
-    let Some(request) = request else {
-        let line = format!(in alloc; "again {number}: no such request\n")?;
-        text.extend_from_slice(line.as_bytes())?;
-        return Ok(());
-    };
-    let front = format!(in alloc; "again {number} ")?;
-    text.extend_from_slice(front.as_bytes())?;
-    push_question(alloc, request, text)?;
-    text.push(b'\n')?;
-    Ok(())
-}
-
-/// Appends the line of the exchange of a number over the link.
-fn push_numbered(
+/// Appends what is told of the exchange of a number over the link.
+fn push_numbered<T: Tell>(
     alloc: Global,
     link: &Scripted<IndexedStore>,
     number: usize,
     text: &mut Vec<u8>,
 ) -> Result<(), NoMemory>
-    ensures { OnOk result (text.new.items ≡ text.old.items ++ exchange_text number
+    ensures { OnOk result (text.new.items ≡ text.old.items ++ told_exchange T.telling number
         (message_at number link.now.asked) (word_at number link.now.followed)
         (answer_at number link.now.handed)) }
 {
@@ -133,25 +168,61 @@ fn push_numbered(
     let Some(word) = link.followed(number) else {
         return Ok(());
     };
-    push_exchange(alloc, number, request, word, link.handed(number), text)
+    T::push_exchange(alloc, number, request, word, link.handed(number), text)
 }
 
-/// Appends the line of an exchange.
-fn push_exchange(
-    alloc: Global,
-    number: usize,
-    request: &[u8],
-    word: Word,
-    answer: Option<&[u8]>,
-    text: &mut Vec<u8>,
-) -> Result<(), NoMemory>
-    ensures { OnOk result (text.new.items ≡ text.old.items
-        ++ exchange_line number request.now word (option_map (λ bytes. bytes.now) answer.entry)) }
-{
-    push_front(alloc, number, request, word, text)?;
-    push_answer(alloc, request, answer, text)?;
-    text.push(b'\n')?;
-    Ok(())
+/// Tells a line each; that a run begins has none.
+struct Lines;
+
+impl Tell for Lines {
+    ghost telling = { lines };
+
+    fn push_begin(_alloc: Global, _number: usize, _text: &mut Vec<u8>) -> Result<(), NoMemory> {
+        Ok(())
+    }
+
+    fn push_again(
+        alloc: Global,
+        number: usize,
+        request: Option<&[u8]>,
+        text: &mut Vec<u8>,
+    ) -> Result<(), NoMemory> {
+        let Some(request) = request else {
+            let line = format!(in alloc; "again {number}: no such request\n")?;
+            text.extend_from_slice(line.as_bytes())?;
+            return Ok(());
+        };
+        let front = format!(in alloc; "again {number} ")?;
+        text.extend_from_slice(front.as_bytes())?;
+        push_question(alloc, request, text)?;
+        text.push(b'\n')?;
+        Ok(())
+    }
+
+    fn push_exchange(
+        alloc: Global,
+        number: usize,
+        request: &[u8],
+        word: Word,
+        answer: Option<&[u8]>,
+        text: &mut Vec<u8>,
+    ) -> Result<(), NoMemory> {
+        push_front(alloc, number, request, word, text)?;
+        push_answer(alloc, request, answer, text)?;
+        text.push(b'\n')?;
+        Ok(())
+    }
+
+    fn push_end(
+        alloc: Global,
+        number: usize,
+        words: &[Word],
+        text: &mut Vec<u8>,
+    ) -> Result<(), NoMemory> {
+        push_ended(alloc, number, words, text)?;
+        text.push(b'\n')?;
+        Ok(())
+    }
 }
 
 /// Appends the front of the line of an exchange.
@@ -172,21 +243,6 @@ fn push_front(
     text.extend_from_slice(b", ")?;
     text.extend_from_slice(word.as_bytes())?;
     text.extend_from_slice(b": ")?;
-    Ok(())
-}
-
-/// Appends the line of the end of a run.
-fn push_end_line(
-    alloc: Global,
-    number: usize,
-    words: &[Word],
-    text: &mut Vec<u8>,
-) -> Result<(), NoMemory>
-    ensures { OnOk result (text.new.items
-        ≡ text.old.items ++ ended_text number words.now ++ codes "\n") }
-{
-    push_ended(alloc, number, words, text)?;
-    text.push(b'\n')?;
     Ok(())
 }
 

@@ -93,13 +93,11 @@ pub fn push_asks(
 ) -> Result<(), NoMemory>
     ensures { OnOk result (text.new.items ≡ text.old.items ++ asks_text link.now.asked) }
 {
-    for place in 0..usize::MAX {
-        let Some(message) = link.request(place + 1) else {
-            return Ok(());
-        };
-        push_message(alloc, place + 1, message, text)?;
+    let requests = link.requests();
+    for (place, message) in requests.iter().enumerate() {
+        push_message(alloc, place + 1, message.as_slice(), text)?;
     }
-    Err(NoMemory) // no memory holds so many messages
+    Ok(())
 }
 
 /// Appends the line of a message that was asked, where it asks something.

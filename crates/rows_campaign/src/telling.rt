@@ -104,12 +104,9 @@ pub fn push_asked(
     link: &Scripted<ListStore>,
 ) -> Result<(), Fail> {
     let mut between = "";
-    for number in 1..usize::MAX {
-        let Some(bytes) = link.request(number) else {
-            return Ok(());
-        };
+    for request in link.requests() {
         text.push_str(between)?;
-        push_message(alloc, text, bytes)?;
+        push_message(alloc, text, request.as_slice())?;
         between = "; ";
     }
     Ok(())

@@ -1,8 +1,8 @@
--- The moments so far are written.
+-- The moments so far are told.
 use Rattle.std.proofs.Common.{◌≡◌, ◌++◌, take}
 use Rattle.std.specs.List.{flat_map}
-use Rattle.kmip_simulation.specs.Tracing.{moment_line}
+use Rattle.kmip_simulation.specs.Tracing.{told_moment}
 use Rattle.kmip_simulation.proofs.tracing.push_moments.Given as goal
 
 abbrev pub invariant-loop-moment : goal.invariant-loop-moment
-invariant-loop-moment l = l.text.items ≡ l.fn.text.items ++ flat_map (moment_line l.link) (take l.moment-index l.moments)
+invariant-loop-moment g l = l.text.items ≡ l.fn.text.items ++ flat_map (told_moment g.T.Tell.telling l.link) (take l.moment-index l.moments)

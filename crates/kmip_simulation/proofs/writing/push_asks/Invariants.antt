@@ -4,4 +4,4 @@ use Rattle.kmip_simulation.proofs.TextLemmas.{IsWritten}
 use Rattle.kmip_simulation.proofs.writing.push_asks.Given as goal
 
 abbrev pub invariant-loop-place : goal.invariant-loop-place
-invariant-loop-place l = IsWritten message_text l.link.asked l.place l.fn.text.items l.text.items
+invariant-loop-place l = IsWritten message_text l.requests l.place l.fn.text.items l.text.items

@@ -2,7 +2,7 @@
 use Rattle.std.proofs.Common.{codes}
 use Rattle.kmip_simulation.specs.Tracing.{ended_text}
 use Rattle.kmip_simulation.proofs.MomentLemmas.{three_joined}
-use Rattle.kmip_simulation.proofs.diagram.draw_end.Goals as goal
+use Rattle.kmip_simulation.proofs.diagram.ArrowsTell.push_end.Goals as goal
 
 pub returns : goal.returns
 returns c =
