@@ -3,10 +3,11 @@
 use crate::answers::push_answer_about;
 use crate::exchange::{Exchange, name_of};
 use crate::operation::Operation;
+use crate::progress_line::ProgressLine;
 use crate::reach::Reach;
-use crate::showing::Standing;
 use crate::silence::Silence;
-use crate::story::{Stage, Story};
+use crate::stage::Stage;
+use crate::story::Story;
 use crate::wire::Wire;
 use kmip_batch_items::Request;
 use kmip_choices::{Peer, RunOptions};
@@ -33,7 +34,7 @@ pub struct Account<'a> {
     /// The server, as it is told.
     peer: String,
     wire: Wire,
-    standing: Standing<'a>,
+    standing: ProgressLine<'a>,
     /// When the run and the exchange began, by the clock.
     began: Option<Instant>,
     exchange_began: Cell<Option<Instant>>,
@@ -62,7 +63,7 @@ impl<'a> Account<'a> {
             plan,
             peer,
             wire: Wire::new(),
-            standing: Standing::new(rt, options.is_verbose),
+            standing: ProgressLine::new(rt, options.is_verbose),
             began: now,
             exchange_began: Cell::new(now),
             spent: Cell::new(Spent {

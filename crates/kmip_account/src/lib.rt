@@ -9,16 +9,19 @@
 
 mod account;
 mod answers;
+mod counts;
 mod exchange;
 mod exchange_line;
 mod failure;
 mod noted;
 mod operation;
 mod peer_talk;
+mod progress_line;
 mod reach;
 mod reasons;
-mod showing;
+mod setback;
 mod silence;
+mod stage;
 mod story;
 mod teller;
 mod watch;

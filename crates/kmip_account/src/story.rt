@@ -1,32 +1,16 @@
 //! What was heard of a key in a run.
 
 use crate::answers::{push_object, push_wanted};
-use crate::operation::{Counts, Operation};
+use crate::counts::Counts;
+use crate::operation::Operation;
 use crate::reasons::push_reason;
+use crate::setback::Setback;
+use crate::stage::Stage;
 use kmip_batch_items::Outcome;
 use kmip_client::{Clash, Verdict};
 use kmip_plan::Key;
 use kmip_ttlv::NoMemory;
 use std::alloc::Global;
-
-/// Why a question about a key came to nothing.
-#[derive(Clone, Copy)]
-enum Setback {
-    /// It was refused, for this reason where one was given.
-    Refused(Operation, Option<u32>),
-    /// No answer came.
-    Lost(Operation),
-}
-
-/// How far a key is known to be.
-#[derive(Clone, Copy)]
-pub(crate) struct Stage {
-    /// How many of its steps are known to have taken effect.
-    pub(crate) done: usize,
-    /// Whether its object's identifier is known.
-    pub(crate) is_identified: bool,
-    pub(crate) verdict: Verdict,
-}
 
 /// What was heard of a key, since more of it was known.
 #[derive(Drop)]

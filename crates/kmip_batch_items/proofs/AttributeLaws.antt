@@ -3,10 +3,10 @@
 use Rattle.std.proofs.Common.{◌≡◌, ℕ, List, [], ◌∷◌, ◌++◌, Option, Some, None, refl, ap}
 use Rattle.kmip_ttlv.specs.Node.{Node}
 use Rattle.kmip_batch_items.specs.Formats.{Format, integers, enumerations, SaysIfAny}
-use Rattle.kmip_batch_items.specs.FormatLaws.{apart, IsPart}
+use Rattle.kmip_batch_items.specs.PrivateFormatLaws.{apart, IsPart}
 use Rattle.kmip_batch_items.proofs.ItemReads.{integer_kind, enumeration_kind}
 use Rattle.kmip_batch_items.proofs.FormatParts.{optional-part, as_record-part, both-part}
-use Rattle.kmip_objects.specs.declared.attributes.Attrs.{Attrs}
+use Rattle.kmip_objects.specs.declared.attrs.Attrs.{Attrs}
 use Rattle.kmip_batch_items.specs.declared.standard.TheConstants.{TAG_OBJECT_TYPE, TAG_NAME, TAG_CRYPTOGRAPHIC_ALGORITHM, TAG_CRYPTOGRAPHIC_LENGTH, TAG_CRYPTOGRAPHIC_USAGE_MASK, TAG_STATE, NAME_TYPE_UNINTERPRETED_TEXT_STRING}
 use Rattle.kmip_batch_items.specs.Attributes.{IsName, IsNameIfAny, IsFilter, AreAttrs, attrs_with}
 use Rattle.kmip_batch_items.specs.RequestFormats.{name_parts_format, name_format, filter_format}

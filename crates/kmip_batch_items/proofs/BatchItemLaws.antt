@@ -7,13 +7,13 @@ use Rattle.kmip_ttlv.specs.Node.{Node, node, enumeration}
 use Rattle.kmip_ttlv.specs.Fitting.{IsBytes}
 use Rattle.kmip_ttlv.specs.Spelling.{Spells}
 use Rattle.kmip_ttlv.proofs.ReadSteps.{Reads, reads-ok, reads-bind, reads-as, err}
-use Rattle.kmip_batch_items.specs.declared.fault.MessageFault.{MessageFault}
+use Rattle.kmip_batch_items.specs.declared.message_fault.MessageFault.{MessageFault}
 use Rattle.kmip_batch_items.specs.Formats.{inside, structure_of}
-use Rattle.kmip_batch_items.specs.FormatLaws.{IsPart}
-use Rattle.kmip_batch_items.specs.Standing.{Once}
+use Rattle.kmip_batch_items.specs.PrivateFormatLaws.{IsPart}
+use Rattle.kmip_batch_items.specs.Occurrences.{Once}
 use Rattle.kmip_batch_items.proofs.FormatParts.{reads}
 use Rattle.kmip_batch_items.specs.declared.refusal.Refusal.{Refusal}
-use Rattle.kmip_batch_items.specs.declared.request.Ask.{Ask}
+use Rattle.kmip_batch_items.specs.declared.ask.Ask.{Ask}
 use Rattle.kmip_batch_items.specs.declared.request.Request.{Request}
 use Rattle.kmip_batch_items.specs.declared.reply.Reply.{Reply}
 use Rattle.kmip_batch_items.specs.declared.standard.TheConstants.{TAG_OPERATION, TAG_PROTOCOL_VERSION}

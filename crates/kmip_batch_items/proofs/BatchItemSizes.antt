@@ -5,11 +5,12 @@ use Rattle.std.proofs.lemmas.Bool.{and_parts}
 use Rattle.kmip_ttlv.specs.Fitting.{HasWholeGroups, depth}
 use Rattle.kmip_ttlv.specs.Sizes.{size}
 use Rattle.kmip_batch_items.specs.declared.reply.Reply.{Reply}
-use Rattle.kmip_batch_items.specs.declared.request.Ask.{Ask}
+use Rattle.kmip_batch_items.specs.declared.ask.Ask.{Ask}
 use Rattle.kmip_batch_items.specs.declared.request.Request.{Request}
 use Rattle.kmip_batch_items.specs.BatchItems.{question_item, answer_item, answer_fits}
 use Rattle.kmip_batch_items.specs.Fits.{outcome_fits}
-use Rattle.kmip_batch_items.specs.MessageSizes.{IsBrief, IsCapped, number_size}
+use Rattle.kmip_batch_items.specs.Private.{IsBrief, number_size}
+use Rattle.kmip_batch_items.specs.MessageSizes.{IsCapped}
 use Rattle.kmip_batch_items.specs.Operations.{ask_operation, operation_of}
 use Rattle.kmip_batch_items.specs.Parts.{id_format}
 use Rattle.kmip_batch_items.specs.Ranges.{is_batch_id}

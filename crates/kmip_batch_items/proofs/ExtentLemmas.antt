@@ -4,7 +4,7 @@ use Rattle.std.specs.Option.{option_map_or}
 use Rattle.kmip_ttlv.specs.Node.{Node, node, Content, nodes_of}
 use Rattle.kmip_ttlv.specs.Sizes.{sizes, content_size}
 use Rattle.kmip_batch_items.specs.Formats.{Extent, Kind, inside, if_given, given, flat, around, beside, extent_if_any, all_sizes}
-use Rattle.kmip_batch_items.specs.FormatLaws.{IsFlat, IsFlatKind, Spans}
+use Rattle.kmip_batch_items.specs.PrivateFormatLaws.{IsFlat, IsFlatKind, Spans}
 
 pub spans_one : (tag : ℕ) (c : Content) → IsFlat c → Spans (flat c) (node tag c ∷ [])
 spans_one tag c is = record { long = omega arith; deep = omega (arith, is.0); groups = (is.1, tt) }

@@ -5,11 +5,12 @@ use Rattle.std.proofs.lemmas.Bool.{and_parts, eqb-true}
 use Rattle.std.specs.Option.{option_map, option_map_or}
 use Rattle.kmip_ttlv.specs.Node.{Node, node, Content}
 use Rattle.kmip_ttlv.proofs.ReadSteps.{Reads, not_ok, reads-ok, reads-bind, reads-as}
-use Rattle.kmip_batch_items.specs.declared.fault.MessageFault.{MessageFault}
-use Rattle.kmip_batch_items.specs.Formats.{Format, Kind, inside, if_given, given, structures, required, optional, unread, repeated, structure_of, read_if_any, SaysIfAny, optional_structure, tested, ranged, fixed, present, as_record, as_case, ◌⊗◌, ◌⊗ʳ◌, ◌◁◌, ◌▷◌, followed, read_told, told, told_by, closed, choose}
-use Rattle.kmip_batch_items.specs.FormatLaws.{IsFlat, IsFlatKind, Spans, IsGood, Agree, avoid, apart, IsPart}
+use Rattle.kmip_batch_items.specs.declared.message_fault.MessageFault.{MessageFault}
+use Rattle.kmip_batch_items.specs.Formats.{Format, Kind, inside, if_given, given, required, optional, unread, repeated, structure_of, read_if_any, SaysIfAny, optional_structure, tested, ranged, fixed, present, as_record, as_case, ◌⊗◌, ◌⊗ʳ◌, ◌◁◌, ◌▷◌, followed, read_told, told, told_by, closed, choose}
+use Rattle.kmip_batch_items.specs.Private.{structures}
+use Rattle.kmip_batch_items.specs.PrivateFormatLaws.{IsFlat, IsFlatKind, Spans, IsGood, Agree, avoid, apart, IsPart}
 use Rattle.kmip_batch_items.specs.Siblings.{contents}
-use Rattle.kmip_batch_items.specs.Standing.{AtMostOnce, HaveTags}
+use Rattle.kmip_batch_items.specs.Occurrences.{AtMostOnce, HaveTags}
 use Rattle.kmip_batch_items.proofs.ExtentLemmas.{spans_one, spans_around, spans_if_any, spans_if_flat, spans_each, spans_both}
 use Rattle.kmip_batch_items.proofs.ItemReads.{same_some, not_some, reads-guard, reads-the, reads-maybe, reads-values, reads-only, structure_kind}
 use Rattle.kmip_batch_items.proofs.TagLemmas.{contents_first, alone, alone_if_any, own_tag, given_has, first_has, second_has, both_have, agree_first, agree_second, agree_behind, agree_before}

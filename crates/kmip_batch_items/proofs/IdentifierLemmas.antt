@@ -1,6 +1,6 @@
 -- Identifiers read one after the other.
 use Rattle.std.proofs.Common.{ℕ, List, ◌++◌, Result, Ok}
-use Rattle.kmip_batch_items.specs.declared.fault.MessageFault.{MessageFault}
+use Rattle.kmip_batch_items.specs.declared.message_fault.MessageFault.{MessageFault}
 use Rattle.kmip_ttlv.specs.Binding.{◌>>=◌}
 
 -- what was read before, and then what reading gives

@@ -7,12 +7,13 @@ use Rattle.std.specs.Option.{option_map}
 use Rattle.kmip_ttlv.specs.Node.{Node, Content, structure, integer, enumeration, text_string, byte_string, tag_of, list_of, as_structure, as_integer, as_enumeration, as_text_string, as_byte_string}
 use Rattle.kmip_ttlv.proofs.ForCallers.{nodes_of-list_of, list_of-nodes_of}
 use Rattle.kmip_ttlv.proofs.ReadSteps.{Reads, same_ok, not_ok, reads-ok, reads-bind, reads-as}
-use Rattle.kmip_batch_items.specs.declared.fault.MessageFault.{MessageFault}
-use Rattle.kmip_batch_items.specs.declared.fault.MessageFault.TheVariants.{Missing, Twice, WrongType, OutOfRange}
-use Rattle.kmip_batch_items.specs.Formats.{Kind, inside, structures, integers, enumerations, texts, bytes, value_in, values_in}
-use Rattle.kmip_batch_items.specs.FormatLaws.{IsKind, IsFlatKind}
+use Rattle.kmip_batch_items.specs.declared.message_fault.MessageFault.{MessageFault}
+use Rattle.kmip_batch_items.specs.declared.message_fault.MessageFault.TheVariants.{Missing, Twice, WrongType, OutOfRange}
+use Rattle.kmip_batch_items.specs.Formats.{Kind, inside, integers, enumerations, texts, bytes, value_in, values_in}
+use Rattle.kmip_batch_items.specs.Private.{structures}
+use Rattle.kmip_batch_items.specs.PrivateFormatLaws.{IsKind, IsFlatKind}
 use Rattle.kmip_batch_items.specs.Siblings.{contents, at_most_one_of, one_of, typed, typed_if_any, guard, within, the, maybe, only}
-use Rattle.kmip_batch_items.specs.Standing.{Once, if_any, AtMostOnce, HaveTags}
+use Rattle.kmip_batch_items.specs.Occurrences.{Once, if_any, AtMostOnce, HaveTags}
 
 -- a choice
 pub reads-if : {E A : Type 0} (c : Bool) (r s : Result A E) (P : A → Type 0) → (c ≡ true → Reads r P) → (c ≡ false → Reads s P)

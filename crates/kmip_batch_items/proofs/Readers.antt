@@ -3,13 +3,13 @@ use Rattle.std.proofs.Common.{◌≡◌, ℕ, true, List, Option, Some, None, Ok
 use Rattle.std.proofs.lemmas.Bool.{eqb-true, eq-eqb}
 use Rattle.kmip_ttlv.specs.Node.{Node, node, Content, enumeration, tag_of, content_of, as_structure}
 use Rattle.kmip_ttlv.proofs.ReadSteps.{Reads, not_ok, reads-ok, reads-as}
-use Rattle.kmip_batch_items.specs.declared.fault.MessageFault.TheVariants.{NotMessage}
+use Rattle.kmip_batch_items.specs.declared.message_fault.MessageFault.TheVariants.{NotMessage}
 use Rattle.kmip_batch_items.specs.Formats.{inside, enumerations, texts, bytes}
-use Rattle.kmip_batch_items.specs.FormatLaws.{IsPart}
+use Rattle.kmip_batch_items.specs.PrivateFormatLaws.{IsPart}
 use Rattle.kmip_batch_items.proofs.ItemReads.{reads-if, same_some, not_some, structure_kind, enumeration_kind, text_kind, bytes_kind}
 use Rattle.kmip_batch_items.proofs.FormatParts.{required-part, optional-part, ranged-part, fixed-part}
 use Rattle.kmip_batch_items.specs.declared.standard.TheConstants.{TAG_UNIQUE_BATCH_ITEM_ID, TAG_UNIQUE_IDENTIFIER, TAG_NAME_TYPE, NAME_TYPE_UNINTERPRETED_TEXT_STRING}
-use Rattle.kmip_batch_items.specs.Standing.{Once}
+use Rattle.kmip_batch_items.specs.Occurrences.{Once}
 use Rattle.kmip_batch_items.specs.Marks.{IsMarked, IsIdentifier}
 use Rattle.kmip_batch_items.specs.Parts.{message_in, message_at, id_format, identifier_format, plain_format}
 

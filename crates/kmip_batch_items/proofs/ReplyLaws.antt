@@ -4,15 +4,15 @@ use Rattle.std.proofs.lemmas.Bool.{and_parts, eqb-true}
 use Rattle.std.specs.Option.{option_map_or}
 use Rattle.kmip_ttlv.specs.Node.{Node}
 use Rattle.kmip_batch_items.specs.Formats.{integers, enumerations, texts, SaysTold, choose, Chosen}
-use Rattle.kmip_batch_items.specs.FormatLaws.{IsGood, IsPart}
+use Rattle.kmip_batch_items.specs.PrivateFormatLaws.{IsGood, IsPart}
 use Rattle.kmip_batch_items.proofs.ItemReads.{integer_kind, enumeration_kind, text_kind}
 use Rattle.kmip_batch_items.proofs.FormatParts.{required-part, optional-part, unread-part, repeated-part, structure-part, optional_structure-part, ranged-part, as_record-good, said_record-part, as_case-part, both-part, reversed-part, left-part, right-part, fixed-part, followed-part, told-part, told_by-part, choose-part}
-use Rattle.kmip_objects.specs.declared.attributes.Attrs.{Attrs}
+use Rattle.kmip_objects.specs.declared.attrs.Attrs.{Attrs}
 use Rattle.kmip_objects.specs.Ranges.{is_identifier}
 use Rattle.kmip_batch_items.specs.declared.operation.Operation.{Operation}
 use Rattle.kmip_batch_items.specs.declared.operation.Operation.TheVariants as operations
-use Rattle.kmip_batch_items.specs.declared.reply.Outcome.{Outcome}
-use Rattle.kmip_batch_items.specs.declared.reply.Outcome.TheVariants.{Created, Located, Attributes, Activated, Revoked, Destroyed, Failed}
+use Rattle.kmip_batch_items.specs.declared.outcome.Outcome.{Outcome}
+use Rattle.kmip_batch_items.specs.declared.outcome.Outcome.TheVariants.{Created, Located, Attributes, Activated, Revoked, Destroyed, Failed}
 use Rattle.kmip_batch_items.specs.declared.reply.Reply.{Reply}
 use Rattle.kmip_batch_items.specs.declared.standard.TheConstants.{TAG_RESPONSE_PAYLOAD, TAG_RESULT_STATUS, TAG_RESULT_REASON, STATUS_SUCCESS, STATUS_OPERATION_FAILED, OPERATION_GET_ATTRIBUTES}
 use Rattle.kmip_batch_items.specs.BatchItems.{answer_fits}

@@ -3,10 +3,10 @@ use Rattle.std.proofs.Common.{◌≡◌, ℕ, List, [], Option, Some, None, refl
 use Rattle.std.specs.Option.{option_map, option_map_or}
 use Rattle.kmip_ttlv.specs.Node.{Node}
 use Rattle.kmip_batch_items.specs.Formats.{inside, SaysIfAny}
-use Rattle.kmip_batch_items.specs.Standing.{AtMostOnce}
-use Rattle.kmip_objects.specs.declared.attributes.Attrs.{Attrs}
-use Rattle.kmip_batch_items.specs.declared.reply.Outcome.{Outcome}
-use Rattle.kmip_batch_items.specs.declared.reply.Outcome.TheVariants.{Created, Located, Attributes, Activated, Revoked, Destroyed, Failed}
+use Rattle.kmip_batch_items.specs.Occurrences.{AtMostOnce}
+use Rattle.kmip_objects.specs.declared.attrs.Attrs.{Attrs}
+use Rattle.kmip_batch_items.specs.declared.outcome.Outcome.{Outcome}
+use Rattle.kmip_batch_items.specs.declared.outcome.Outcome.TheVariants.{Created, Located, Attributes, Activated, Revoked, Destroyed, Failed}
 use Rattle.kmip_batch_items.specs.declared.standard.TheConstants.{TAG_RESPONSE_PAYLOAD}
 use Rattle.kmip_batch_items.specs.Replies.{IsObject, AreFound, IsOutcome}
 use Rattle.kmip_batch_items.specs.ReplyFormats.{created_format, identifiers_format, object_format, named_format, answer_format, located_format, success_of_format, success_format, failed_format, outcome_format}

@@ -5,16 +5,16 @@ use Rattle.std.specs.List.{find}
 use Rattle.std.specs.Option.{option_map_or}
 use Rattle.kmip_ttlv.specs.Node.{Node}
 use Rattle.kmip_batch_items.specs.Formats.{integers, enumerations, texts, structure_of, SaysTold}
-use Rattle.kmip_batch_items.specs.FormatLaws.{IsGood, IsPart}
+use Rattle.kmip_batch_items.specs.PrivateFormatLaws.{IsGood, IsPart}
 use Rattle.kmip_batch_items.proofs.ItemReads.{same_some, integer_kind, enumeration_kind, text_kind}
 use Rattle.kmip_batch_items.proofs.FormatParts.{required-part, optional-part, structure-part, ranged-part, fixed-part, present-part, as_record-good, as_record-part, as_case-good, both-part, reversed-part, left-part, right-part, followed-part, told-part, closed-good}
-use Rattle.kmip_objects.specs.declared.attributes.KeyAttrs.{KeyAttrs}
-use Rattle.kmip_objects.specs.declared.attributes.Attrs.{Attrs}
+use Rattle.kmip_objects.specs.declared.key_attrs.KeyAttrs.{KeyAttrs}
+use Rattle.kmip_objects.specs.declared.attrs.Attrs.{Attrs}
 use Rattle.kmip_objects.specs.Ranges.{is_name, is_algorithm, is_length, is_usage, attrs_fit}
 use Rattle.kmip_batch_items.specs.declared.operation.Operation.{Operation}
 use Rattle.kmip_batch_items.specs.declared.operation.Operation.TheVariants as operations
-use Rattle.kmip_batch_items.specs.declared.request.Ask.{Ask}
-use Rattle.kmip_batch_items.specs.declared.request.Ask.TheVariants.{Create, Locate, GetAttributes, Activate, Revoke, Destroy}
+use Rattle.kmip_batch_items.specs.declared.ask.Ask.{Ask}
+use Rattle.kmip_batch_items.specs.declared.ask.Ask.TheVariants.{Create, Locate, GetAttributes, Activate, Revoke, Destroy}
 use Rattle.kmip_batch_items.specs.declared.request.Request.{Request}
 use Rattle.kmip_batch_items.specs.declared.standard.TheConstants.{TAG_REQUEST_PAYLOAD}
 use Rattle.kmip_batch_items.specs.Operations.{operation_number, all_operations, operation_with, ask_operation, operation_of}

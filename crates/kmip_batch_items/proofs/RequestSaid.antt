@@ -5,11 +5,11 @@ use Rattle.std.proofs.lemmas.Bool.Decides.{Decides-int_eq}
 use Rattle.std.specs.Ordering.{int_eq}
 use Rattle.kmip_ttlv.specs.Node.{Node, integer, enumeration}
 use Rattle.kmip_batch_items.specs.Formats.{structure_of, SaysTold}
-use Rattle.kmip_batch_items.specs.Standing.{Once}
-use Rattle.kmip_objects.specs.declared.attributes.KeyAttrs.{KeyAttrs}
+use Rattle.kmip_batch_items.specs.Occurrences.{Once}
+use Rattle.kmip_objects.specs.declared.key_attrs.KeyAttrs.{KeyAttrs}
 use Rattle.kmip_objects.specs.declared.standard.TheConstants.{OBJECT_TYPE_SYMMETRIC_KEY}
-use Rattle.kmip_batch_items.specs.declared.request.Ask.{Ask}
-use Rattle.kmip_batch_items.specs.declared.request.Ask.TheVariants.{Create, Locate, GetAttributes, Activate, Revoke, Destroy}
+use Rattle.kmip_batch_items.specs.declared.ask.Ask.{Ask}
+use Rattle.kmip_batch_items.specs.declared.ask.Ask.TheVariants.{Create, Locate, GetAttributes, Activate, Revoke, Destroy}
 use Rattle.kmip_batch_items.specs.declared.standard.TheConstants.{TAG_OPERATION, TAG_REQUEST_PAYLOAD, TAG_PROTOCOL_VERSION, TAG_PROTOCOL_VERSION_MAJOR, TAG_PROTOCOL_VERSION_MINOR, TAG_OBJECT_TYPE, VERSION_MAJOR, VERSION_MINOR}
 use Rattle.kmip_batch_items.specs.Operations.{ask_operation, operation_of}
 use Rattle.kmip_batch_items.specs.RequestFormats.{key_attrs_format, create_format, locate_format, reason_format, revoke_format, payload_format, version_parts_format, asked_format}

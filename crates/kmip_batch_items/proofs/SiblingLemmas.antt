@@ -5,7 +5,7 @@ use Rattle.kmip_ttlv.specs.Node.{tag_of}
 use Rattle.kmip_ttlv.specs.View.{view, views}
 use Rattle.kmip_ttlv.specs.declared.item.Item.{Item}
 use Rattle.kmip_ttlv.proofs.ForCallers.{views-drop}
-use Rattle.kmip_batch_items.specs.declared.fault.MessageFault.TheVariants.{OutOfRange}
+use Rattle.kmip_batch_items.specs.declared.message_fault.MessageFault.TheVariants.{OutOfRange}
 use Rattle.kmip_batch_items.specs.Siblings.{only}
 
 -- the test of the item at a place, and then the items after it

@@ -6,9 +6,9 @@ use Rattle.std.specs.List.{list_any}
 use Rattle.std.specs.Option.{option_map}
 use Rattle.kmip_ttlv.specs.Node.{Node, node, Content, tag_of, content_of}
 use Rattle.kmip_batch_items.specs.Formats.{given}
-use Rattle.kmip_batch_items.specs.FormatLaws.{Agree, avoid}
+use Rattle.kmip_batch_items.specs.PrivateFormatLaws.{Agree, avoid}
 use Rattle.kmip_batch_items.specs.Siblings.{contents}
-use Rattle.kmip_batch_items.specs.Standing.{if_any, HaveTags}
+use Rattle.kmip_batch_items.specs.Occurrences.{if_any, HaveTags}
 
 -- of two lists the one after the other
 kept : (b : Bool) (c : Content) (cs ds : List Content) → (if b then c ∷ (cs ++ ds) else (cs ++ ds)) ≡ (if b then c ∷ cs else cs) ++ ds

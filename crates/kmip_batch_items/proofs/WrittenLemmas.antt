@@ -6,12 +6,12 @@ use Rattle.std.specs.Option.{option_map_or}
 use Rattle.kmip_batch_items.specs.Formats.{Extent, extent_if_any}
 use Rattle.kmip_objects.specs.Ranges.{is_name, is_identifier}
 use Rattle.kmip_objects.proofs.ForCallers.{name_length, uid_length}
-use Rattle.kmip_batch_items.specs.declared.request.Ask.{Ask}
-use Rattle.kmip_batch_items.specs.declared.request.Ask.TheVariants.{Create, Locate, GetAttributes, Activate, Revoke, Destroy}
-use Rattle.kmip_batch_items.specs.declared.reply.Outcome.{Outcome}
-use Rattle.kmip_batch_items.specs.declared.reply.Outcome.TheVariants.{Created, Located, Attributes, Activated, Revoked, Destroyed, Failed}
+use Rattle.kmip_batch_items.specs.declared.ask.Ask.{Ask}
+use Rattle.kmip_batch_items.specs.declared.ask.Ask.TheVariants.{Create, Locate, GetAttributes, Activate, Revoke, Destroy}
+use Rattle.kmip_batch_items.specs.declared.outcome.Outcome.{Outcome}
+use Rattle.kmip_batch_items.specs.declared.outcome.Outcome.TheVariants.{Created, Located, Attributes, Activated, Revoked, Destroyed, Failed}
 use Rattle.kmip_batch_items.specs.Fits.{outcome_fits}
-use Rattle.kmip_batch_items.specs.MessageSizes.{IsBrief, number_size, text_size}
+use Rattle.kmip_batch_items.specs.Private.{IsBrief, number_size, text_size}
 use Rattle.kmip_batch_items.specs.Operations.{ask_operation}
 use Rattle.kmip_batch_items.specs.Parts.{id_format, identifier_format}
 use Rattle.kmip_batch_items.specs.Ranges.{is_batch_id}

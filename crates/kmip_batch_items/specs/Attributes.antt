@@ -7,9 +7,9 @@ use Rattle.std.specs.Prelude.{◌≡◌, ℕ, List, [], ◌∷◌, Option, Some,
 use Rattle.std.specs.Option.{option_map}
 use Rattle.kmip_ttlv.specs.Node.{Node, integer, enumeration, text_string}
 use Rattle.kmip_batch_items.specs.Formats.{Format, inside, integers, enumerations, optional, as_record, ◌⊗◌}
-use Rattle.kmip_batch_items.specs.Standing.{Once, AtMostOnce, HaveTags}
+use Rattle.kmip_batch_items.specs.Occurrences.{Once, AtMostOnce, HaveTags}
 use Rattle.kmip_objects.specs.Ranges.{is_name}
-use Rattle.kmip_objects.specs.declared.attributes.Attrs.{Attrs}
+use Rattle.kmip_objects.specs.declared.attrs.Attrs.{Attrs}
 use Rattle.kmip_batch_items.specs.declared.standard.TheConstants.{
   TAG_OBJECT_TYPE,
   TAG_NAME,

@@ -3,8 +3,8 @@
 use Rattle.std.specs.Prelude.{ℕ, Bool, true, false, ◌&&◌, ◌==◌, Option}
 use Rattle.std.specs.List.{list_all}
 use Rattle.std.specs.Option.{option_map_or}
-use Rattle.kmip_batch_items.specs.declared.reply.Outcome.{Outcome}
-use Rattle.kmip_batch_items.specs.declared.reply.Outcome.TheVariants.{Created, Located, Attributes, Activated, Revoked, Destroyed, Failed}
+use Rattle.kmip_batch_items.specs.declared.outcome.Outcome.{Outcome}
+use Rattle.kmip_batch_items.specs.declared.outcome.Outcome.TheVariants.{Created, Located, Attributes, Activated, Revoked, Destroyed, Failed}
 use Rattle.kmip_batch_items.specs.declared.standard.TheConstants.{
   OPERATION_CREATE,
   OPERATION_LOCATE,

@@ -11,10 +11,10 @@ use Rattle.kmip_ttlv.specs.Binding.{◌>>=◌}
 use Rattle.kmip_ttlv.specs.Limits.{head_size}
 use Rattle.kmip_ttlv.specs.Node.{Node, node, Content, structure, integer, enumeration, text_string, byte_string, nodes_of, as_structure, as_integer, as_enumeration, as_text_string, as_byte_string}
 use Rattle.kmip_ttlv.specs.Sizes.{content_size}
-use Rattle.kmip_batch_items.specs.declared.fault.MessageFault.{MessageFault}
-use Rattle.kmip_batch_items.specs.declared.fault.MessageFault.TheVariants.{OutOfRange}
+use Rattle.kmip_batch_items.specs.declared.message_fault.MessageFault.{MessageFault}
+use Rattle.kmip_batch_items.specs.declared.message_fault.MessageFault.TheVariants.{OutOfRange}
 use Rattle.kmip_batch_items.specs.Siblings.{contents, guard, typed, within, the, maybe, only}
-use Rattle.kmip_batch_items.specs.Standing.{Once, AtMostOnce, HaveTags}
+use Rattle.kmip_batch_items.specs.Occurrences.{Once, AtMostOnce, HaveTags}
 
 -- how many bytes some items take together, and how many levels they have at most
 pub record Extent : Type 0 where
@@ -44,10 +44,6 @@ pub record Kind (A : Type 0) : Type 0 where
 -- the content of a Structure
 abbrev pub inside : List Node → Content
 inside ns = structure (nodes_of ns)
-
--- Private: a Structure, by its items
-abbrev pub structures : Kind (List Node)
-structures = record { of = as_structure; make = inside }
 
 -- an Integer, by its number
 abbrev pub integers : Kind ℤ

@@ -3,7 +3,7 @@
 -- How one item is looked for by its tag and its type, and the fault where it is not there.
 pub mod Siblings
 -- How often an item stands among its siblings, in any order.
-pub mod Standing
+pub mod Occurrences
 -- What it means that a call returned what is read, unless memory ran out.
 pub mod Reading
 -- A part of a message by its format: how it is written, how it is read, and what its items say.
@@ -11,7 +11,7 @@ pub mod Formats
 -- The number and the name of each fault, and what it is about.
 pub mod Faults
 -- Private: what makes a format a good one.
-pub mod FormatLaws
+pub mod PrivateFormatLaws
 -- What one Batch Item of a message says, how it is read and written, and which values may stand in it.
 
 -- The operations and their numbers.
@@ -42,3 +42,5 @@ pub mod Whole
 pub mod BatchItems
 -- That a number is the length of an item, or both are more than a message may have.
 pub mod MessageSizes
+-- private: what only the clauses of private functions cite
+pub mod Private

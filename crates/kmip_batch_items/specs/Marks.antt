@@ -5,7 +5,7 @@ use Rattle.std.specs.Option.{option_map, option_map_or}
 use Rattle.kmip_ttlv.specs.Node.{Node, text_string, byte_string}
 use Rattle.kmip_batch_items.specs.declared.standard.TheConstants.{TAG_UNIQUE_BATCH_ITEM_ID, TAG_UNIQUE_IDENTIFIER}
 use Rattle.kmip_batch_items.specs.Ranges.{is_batch_id}
-use Rattle.kmip_batch_items.specs.Standing.{Once, AtMostOnce}
+use Rattle.kmip_batch_items.specs.Occurrences.{Once, AtMostOnce}
 use Rattle.kmip_objects.specs.Ranges.{is_identifier}
 
 -- The Batch Item has this Unique Batch Item ID, in its range, or has none.

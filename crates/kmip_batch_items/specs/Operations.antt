@@ -3,8 +3,8 @@
 use Rattle.std.specs.Prelude.{ℕ, ◌==◌, List, [], ◌∷◌, Option, find}
 use Rattle.kmip_batch_items.specs.declared.operation.Operation.{Operation}
 use Rattle.kmip_batch_items.specs.declared.operation.Operation.TheVariants as operations
-use Rattle.kmip_batch_items.specs.declared.request.Ask.{Ask}
-use Rattle.kmip_batch_items.specs.declared.request.Ask.TheVariants.{Create, Locate, GetAttributes, Activate, Revoke, Destroy}
+use Rattle.kmip_batch_items.specs.declared.ask.Ask.{Ask}
+use Rattle.kmip_batch_items.specs.declared.ask.Ask.TheVariants.{Create, Locate, GetAttributes, Activate, Revoke, Destroy}
 use Rattle.kmip_batch_items.specs.declared.standard.TheConstants.{
   OPERATION_CREATE,
   OPERATION_LOCATE,

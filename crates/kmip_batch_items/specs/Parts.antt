@@ -4,8 +4,8 @@
 use Rattle.std.specs.Prelude.{ℕ, ◌==◌, true, List, Option, Some, None, Result, Ok, Err, if◌then◌else◌}
 use Rattle.std.specs.Option.{option_map_or}
 use Rattle.kmip_ttlv.specs.Node.{Node, tag_of, content_of, as_structure}
-use Rattle.kmip_batch_items.specs.declared.fault.MessageFault.{MessageFault}
-use Rattle.kmip_batch_items.specs.declared.fault.MessageFault.TheVariants.{NotMessage, OutOfRange}
+use Rattle.kmip_batch_items.specs.declared.message_fault.MessageFault.{MessageFault}
+use Rattle.kmip_batch_items.specs.declared.message_fault.MessageFault.TheVariants.{NotMessage, OutOfRange}
 use Rattle.kmip_batch_items.specs.Formats.{Format, enumerations, texts, bytes, required, optional, ranged, fixed}
 use Rattle.kmip_batch_items.specs.declared.standard.TheConstants.{TAG_UNIQUE_BATCH_ITEM_ID, TAG_UNIQUE_IDENTIFIER, TAG_NAME_TYPE, NAME_TYPE_UNINTERPRETED_TEXT_STRING}
 use Rattle.kmip_objects.specs.Ranges.{is_identifier}

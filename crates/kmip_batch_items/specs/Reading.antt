@@ -1,8 +1,8 @@
 -- What it means that a call returned what is read, unless memory ran out.
 -- Source: own (view): how a contract sees the code.
 use Rattle.std.specs.Prelude.{◌≡◌, Result, Ok, Err}
-use Rattle.kmip_batch_items.specs.declared.fault.MessageFault.{MessageFault}
-use Rattle.kmip_batch_items.specs.declared.fault.MessageFault.TheVariants.{NoMemory}
+use Rattle.kmip_batch_items.specs.declared.message_fault.MessageFault.{MessageFault}
+use Rattle.kmip_batch_items.specs.declared.message_fault.MessageFault.TheVariants.{NoMemory}
 
 -- The fault of a call is the fault of reading. Of want of memory nothing is said.
 abbrev pub Fails : {Y : Type 0} → MessageFault → Result Y MessageFault → Type 0

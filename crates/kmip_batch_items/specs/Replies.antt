@@ -5,13 +5,13 @@ use Rattle.std.specs.Prelude.{◌≡◌, ℕ, List, [], map, Option, Some, None,
 use Rattle.std.specs.List.{list_all}
 use Rattle.std.specs.Option.{option_map}
 use Rattle.kmip_ttlv.specs.Node.{Node, enumeration, text_string}
-use Rattle.kmip_objects.specs.declared.attributes.Attrs.{Attrs}
-use Rattle.kmip_batch_items.specs.declared.reply.Outcome.{Outcome}
-use Rattle.kmip_batch_items.specs.declared.reply.Outcome.TheVariants.{Created, Located, Attributes, Activated, Revoked, Destroyed, Failed}
+use Rattle.kmip_objects.specs.declared.attrs.Attrs.{Attrs}
+use Rattle.kmip_batch_items.specs.declared.outcome.Outcome.{Outcome}
+use Rattle.kmip_batch_items.specs.declared.outcome.Outcome.TheVariants.{Created, Located, Attributes, Activated, Revoked, Destroyed, Failed}
 use Rattle.kmip_batch_items.specs.declared.standard.TheConstants.{TAG_RESULT_STATUS, TAG_RESULT_REASON, TAG_RESPONSE_PAYLOAD, TAG_ATTRIBUTES, TAG_UNIQUE_IDENTIFIER, STATUS_SUCCESS, STATUS_OPERATION_FAILED, OPERATION_CREATE, OPERATION_LOCATE, OPERATION_GET_ATTRIBUTES, OPERATION_ACTIVATE, OPERATION_REVOKE, OPERATION_DESTROY}
 use Rattle.kmip_objects.specs.Ranges.{is_identifier}
 use Rattle.kmip_batch_items.specs.Siblings.{contents}
-use Rattle.kmip_batch_items.specs.Standing.{Once, AtMostOnce}
+use Rattle.kmip_batch_items.specs.Occurrences.{Once, AtMostOnce}
 use Rattle.kmip_batch_items.specs.Attributes.{AreAttrs}
 use Rattle.kmip_batch_items.specs.Marks.{IsIdentifier}
 use Rattle.kmip_batch_items.specs.Formats.{inside}

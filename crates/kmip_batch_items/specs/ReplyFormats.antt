@@ -8,15 +8,15 @@ use Rattle.std.specs.Prelude.{ℕ, Bool, ◌==◌, ◌||◌, List, [], ◌∷◌
 use Rattle.std.specs.Option.{option_map_or}
 use Rattle.std.specs.Ordering.{int_eq}
 use Rattle.kmip_ttlv.specs.Node.{enumeration}
-use Rattle.kmip_batch_items.specs.declared.fault.MessageFault.TheVariants.{Version, Missing, UnknownOperation}
+use Rattle.kmip_batch_items.specs.declared.message_fault.MessageFault.TheVariants.{Version, Missing, UnknownOperation}
 use Rattle.kmip_batch_items.specs.Formats.{Format, integers, enumerations, texts, required, optional, unread, repeated, structure_of, optional_structure, ranged, fixed, as_record, as_case, ◌⊗◌, ◌⊗ʳ◌, ◌◁◌, ◌▷◌, followed, told, told_by, choose}
-use Rattle.kmip_objects.specs.declared.attributes.Attrs.{Attrs}
+use Rattle.kmip_objects.specs.declared.attrs.Attrs.{Attrs}
 use Rattle.kmip_objects.specs.declared.standard.TheConstants.{OBJECT_TYPE_SYMMETRIC_KEY}
 use Rattle.kmip_objects.specs.Ranges.{is_identifier}
 use Rattle.kmip_batch_items.specs.declared.operation.Operation.{Operation}
 use Rattle.kmip_batch_items.specs.declared.operation.Operation.TheVariants as operations
-use Rattle.kmip_batch_items.specs.declared.reply.Outcome.{Outcome}
-use Rattle.kmip_batch_items.specs.declared.reply.Outcome.TheVariants.{Created, Located, Attributes, Activated, Revoked, Destroyed, Failed}
+use Rattle.kmip_batch_items.specs.declared.outcome.Outcome.{Outcome}
+use Rattle.kmip_batch_items.specs.declared.outcome.Outcome.TheVariants.{Created, Located, Attributes, Activated, Revoked, Destroyed, Failed}
 use Rattle.kmip_batch_items.specs.declared.reply.Reply.{Reply}
 use Rattle.kmip_batch_items.specs.declared.standard.TheConstants.{TAG_PROTOCOL_VERSION_MAJOR, TAG_PROTOCOL_VERSION_MINOR, TAG_OPERATION, TAG_RESULT_STATUS, TAG_RESULT_REASON, TAG_RESPONSE_PAYLOAD, TAG_OBJECT_TYPE, TAG_ATTRIBUTES, TAG_NAME, TAG_NAME_VALUE, TAG_UNIQUE_IDENTIFIER, VERSION_MAJOR, VERSION_MINOR, STATUS_SUCCESS, STATUS_OPERATION_FAILED, OPERATION_CREATE, OPERATION_LOCATE, OPERATION_GET_ATTRIBUTES, OPERATION_ACTIVATE, OPERATION_REVOKE, OPERATION_DESTROY}
 use Rattle.kmip_batch_items.specs.Attributes.{attrs_with}

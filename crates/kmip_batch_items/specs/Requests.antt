@@ -6,10 +6,10 @@
 use Rattle.std.specs.Prelude.{ℕ, ℤ, List, [], ◌∷◌, Option, IsTrue}
 use Rattle.std.specs.Option.{option_map}
 use Rattle.kmip_ttlv.specs.Node.{Node, integer, enumeration}
-use Rattle.kmip_objects.specs.declared.attributes.KeyAttrs.{KeyAttrs}
-use Rattle.kmip_objects.specs.declared.attributes.Attrs.{Attrs}
-use Rattle.kmip_batch_items.specs.declared.request.Ask.{Ask}
-use Rattle.kmip_batch_items.specs.declared.request.Ask.TheVariants.{Create, Locate, GetAttributes, Activate, Revoke, Destroy}
+use Rattle.kmip_objects.specs.declared.key_attrs.KeyAttrs.{KeyAttrs}
+use Rattle.kmip_objects.specs.declared.attrs.Attrs.{Attrs}
+use Rattle.kmip_batch_items.specs.declared.ask.Ask.{Ask}
+use Rattle.kmip_batch_items.specs.declared.ask.Ask.TheVariants.{Create, Locate, GetAttributes, Activate, Revoke, Destroy}
 use Rattle.kmip_batch_items.specs.declared.standard.TheConstants.{
   TAG_PROTOCOL_VERSION,
   TAG_PROTOCOL_VERSION_MAJOR,
@@ -31,7 +31,7 @@ use Rattle.kmip_batch_items.specs.declared.standard.TheConstants.{
 use Rattle.kmip_objects.specs.declared.standard.TheConstants.{OBJECT_TYPE_SYMMETRIC_KEY}
 use Rattle.kmip_objects.specs.Ranges.{is_algorithm, is_length, is_usage, is_revocation_code}
 use Rattle.kmip_batch_items.specs.Operations.{operation_of}
-use Rattle.kmip_batch_items.specs.Standing.{Once, AtMostOnce, HaveTags}
+use Rattle.kmip_batch_items.specs.Occurrences.{Once, AtMostOnce, HaveTags}
 use Rattle.kmip_batch_items.specs.Attributes.{IsName, IsFilter}
 use Rattle.kmip_batch_items.specs.Marks.{IsIdentifier}
 use Rattle.kmip_batch_items.specs.Formats.{inside}

@@ -5,8 +5,8 @@ use Rattle.std.specs.Prelude.{ℕ, Bool, true, List, [], ◌∷◌, Option, Some
 use Rattle.std.specs.List.{list_any}
 use Rattle.kmip_ttlv.specs.Binding.{◌>>=◌}
 use Rattle.kmip_ttlv.specs.Node.{Node, Content, tag_of, content_of}
-use Rattle.kmip_batch_items.specs.declared.fault.MessageFault.{MessageFault}
-use Rattle.kmip_batch_items.specs.declared.fault.MessageFault.TheVariants.{Missing, Twice, WrongType, OutOfRange}
+use Rattle.kmip_batch_items.specs.declared.message_fault.MessageFault.{MessageFault}
+use Rattle.kmip_batch_items.specs.declared.message_fault.MessageFault.TheVariants.{Missing, Twice, WrongType, OutOfRange}
 
 -- what the items with a tag contain, in their order
 abbrev pub contents : ℕ → List Node → List Content

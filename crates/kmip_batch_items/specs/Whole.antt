@@ -2,11 +2,11 @@
 -- Source: KMIP 2.1, Message Structure. Own (order): the item is read before bytes after it are a fault.
 use Rattle.kmip_ttlv.specs.Limits.{most_levels}
 use Rattle.std.specs.Prelude.{ℕ, ◌==◌, List, length, Result, Ok, Err, if◌then◌else◌}
-use Rattle.kmip_ttlv.specs.declared.fault.TtlvFault.{TtlvFault}
+use Rattle.kmip_ttlv.specs.declared.ttlv_fault.TtlvFault.{TtlvFault}
 use Rattle.kmip_ttlv.specs.Node.{Node}
 use Rattle.kmip_ttlv.specs.Reading.{item_at}
-use Rattle.kmip_batch_items.specs.declared.fault.MessageFault.{MessageFault}
-use Rattle.kmip_batch_items.specs.declared.fault.MessageFault.TheVariants.{NotMessage}
+use Rattle.kmip_batch_items.specs.declared.message_fault.MessageFault.{MessageFault}
+use Rattle.kmip_batch_items.specs.declared.message_fault.MessageFault.TheVariants.{NotMessage}
 use Rattle.kmip_batch_items.specs.Faults.{message_fault_of}
 
 -- The item that was read among this many bytes, where its size is that of all of them. Else they are no

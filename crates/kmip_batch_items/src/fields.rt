@@ -13,7 +13,7 @@ ghost use Rattle.kmip_ttlv.specs.View.{view, views};
 ghost use Rattle.kmip_batch_items.specs.Siblings.{contents, at_most_one_of, one_of, guard, the, maybe, within, only};
 ghost use Rattle.kmip_batch_items.specs.Reading.{Gives};
 
-use crate::fault::MessageFault;
+use crate::message_fault::MessageFault;
 use kmip_ttlv::{Item, Tag};
 
 /// The item with this tag, where there is one; two or more are a fault.

@@ -9,14 +9,17 @@ ghost use Rattle.kmip_batch_items.specs.Ranges.{is_batch_id};
 ghost use Rattle.kmip_batch_items.specs.RequestFits.{ask_fits, request_fits};
 ghost use Rattle.kmip_batch_items.specs.Fits.{is_own, outcome_fits};
 ghost use Rattle.kmip_batch_items.specs.BatchItems.{answer_fits, answer_item};
-ghost use Rattle.kmip_batch_items.specs.MessageSizes.{number_size, text_size, IsCapped};
+ghost use Rattle.kmip_batch_items.specs.Private.{number_size, text_size};
+ghost use Rattle.kmip_batch_items.specs.MessageSizes.{IsCapped};
 ghost use Rattle.kmip_batch_items.specs.Parts.{id_format};
 ghost use Rattle.kmip_batch_items.specs.ReplyFormats.{any_name_format, identifiers_format, outcome_format};
 
+use crate::ask::Ask;
 use crate::attributes::attrs_size;
+use crate::outcome::Outcome;
 use crate::ranges::is_batch_id;
-use crate::reply::{Outcome, Reply};
-use crate::request::{Ask, Request};
+use crate::reply::Reply;
+use crate::request::Request;
 use crate::standard::{
     OPERATION_ACTIVATE, OPERATION_CREATE, OPERATION_DESTROY, OPERATION_GET_ATTRIBUTES,
     OPERATION_LOCATE, OPERATION_REVOKE,

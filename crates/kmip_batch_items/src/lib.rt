@@ -18,12 +18,14 @@
 //! Source: KMIP 2.1, Message Structure and Operations. The profile is in docs/DECISIONS.md.
 #![tactic(auto)]
 
+mod ask;
 pub mod attributes;
 mod building;
-mod fault;
 mod fields;
 mod fitting;
+mod message_fault;
 mod operation;
+mod outcome;
 mod parts;
 mod ranges;
 mod refusal;
@@ -35,20 +37,22 @@ mod request_reading;
 mod request_writing;
 pub mod standard;
 
+pub use ask::Ask;
 pub use building::{push, push_enumeration, version_item};
-pub use fault::MessageFault;
 pub use fields::{
     bytes_if_any, check, enumeration_if_any, integer_if_any, one, only, structure_if_any,
     the_enumeration, the_integer, the_structure, the_text, within,
 };
 pub use fitting::{answer_fits, answer_size, request_fits};
 pub use kmip_objects::{Attrs, KeyAttrs, KeyState, Step, Texts};
+pub use message_fault::MessageFault;
 pub use operation::Operation;
+pub use outcome::Outcome;
 pub use parts::{message_of, whole_item};
 pub use refusal::Refusal;
-pub use reply::{Outcome, Reply};
+pub use reply::Reply;
 pub use reply_reading::read_answer;
 pub use reply_writing::write_answer;
-pub use request::{Ask, Request};
+pub use request::Request;
 pub use request_reading::{is_version, read_question};
 pub use request_writing::write_question;

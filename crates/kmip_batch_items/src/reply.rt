@@ -1,7 +1,7 @@
 //! What a reply says.
 
-use kmip_objects::{Attrs, Texts};
-use kmip_ttlv::{Bytes, Text};
+use crate::outcome::Outcome;
+use kmip_ttlv::Bytes;
 
 /// The server's answer to one question.
 #[derive(Drop)]
@@ -12,25 +12,4 @@ pub struct Reply {
     pub id: Option<Bytes>,
     /// How the operation went.
     pub outcome: Outcome,
-}
-
-/// How an operation went.
-///
-/// Source: KMIP 2.1, Operations, and Message Data, Result Status.
-#[derive(Drop)]
-pub enum Outcome {
-    /// The identifier of the new key.
-    Created(Text),
-    /// The identifiers of the objects that were found.
-    Located(Texts),
-    /// The identifier of the object, and its attributes.
-    Attributes(Text, Attrs),
-    /// The identifier of the object.
-    Activated(Text),
-    /// The identifier of the object.
-    Revoked(Text),
-    /// The identifier of the object.
-    Destroyed(Text),
-    /// The Result Reason, where there is one.
-    Failed(Option<u32>),
 }

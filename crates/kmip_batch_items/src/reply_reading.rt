@@ -22,8 +22,9 @@ ghost use Rattle.kmip_batch_items.specs.ReplyFormats.{
 
 use crate::attributes::attrs_of;
 use crate::operation::Operation;
+use crate::outcome::Outcome;
 use crate::parts::{id_of, identifier_of};
-use crate::reply::{Outcome, Reply};
+use crate::reply::Reply;
 use crate::standard::{
     NAME_TYPE_UNINTERPRETED_TEXT_STRING, STATUS_OPERATION_FAILED, STATUS_SUCCESS, TAG_ATTRIBUTES,
     TAG_NAME, TAG_NAME_TYPE, TAG_NAME_VALUE, TAG_OPERATION, TAG_RESPONSE_PAYLOAD,

@@ -15,7 +15,8 @@ ghost use Rattle.kmip_batch_items.specs.ReplyFormats.{
 
 use crate::attributes::attrs_item;
 use crate::building::{push, push_enumeration, push_id, uid_item};
-use crate::reply::{Outcome, Reply};
+use crate::outcome::Outcome;
+use crate::reply::Reply;
 use crate::standard::{
     STATUS_OPERATION_FAILED, STATUS_SUCCESS, TAG_BATCH_ITEM, TAG_OBJECT_TYPE, TAG_OPERATION,
     TAG_RESPONSE_PAYLOAD, TAG_RESULT_REASON, TAG_RESULT_STATUS,

@@ -18,11 +18,12 @@ ghost use Rattle.kmip_batch_items.specs.RequestFormats.{
   asked_format,
 };
 
+use crate::ask::Ask;
 use crate::attributes::filter_of;
 use crate::operation::Operation;
 use crate::parts::{id_of, identifier_of};
 use crate::refusal::Refusal;
-use crate::request::{Ask, Request};
+use crate::request::Request;
 use crate::standard::{
     NAME_TYPE_UNINTERPRETED_TEXT_STRING, TAG_ATTRIBUTES, TAG_CRYPTOGRAPHIC_ALGORITHM,
     TAG_CRYPTOGRAPHIC_LENGTH, TAG_CRYPTOGRAPHIC_USAGE_MASK, TAG_NAME, TAG_NAME_TYPE,

@@ -14,11 +14,12 @@ ghost use Rattle.kmip_batch_items.specs.RequestFormats.{
   payload_format,
   item_format,
 };
-ghost use Rattle.kmip_batch_items.specs.declared.request.Ask.TheVariants.{Locate, Revoke};
+ghost use Rattle.kmip_batch_items.specs.declared.ask.Ask.TheVariants.{Locate, Revoke};
 
+use crate::ask::Ask;
 use crate::attributes::attrs_item;
 use crate::building::{name_item, push, push_enumeration, push_id, push_integer, uid_item};
-use crate::request::{Ask, Request};
+use crate::request::Request;
 use crate::standard::{
     TAG_ATTRIBUTES, TAG_BATCH_ITEM, TAG_CRYPTOGRAPHIC_ALGORITHM, TAG_CRYPTOGRAPHIC_LENGTH,
     TAG_CRYPTOGRAPHIC_USAGE_MASK, TAG_OBJECT_TYPE, TAG_OPERATION, TAG_REQUEST_PAYLOAD,

@@ -1,12 +1,14 @@
 //! What a command line may ask for, by its options and their values.
 ghost use Rattle.std.specs.Prelude.{◌≡◌, IfOk, option_map, string_bytes, if◌then◌else◌};
-ghost use Rattle.kmip_message_commands.specs.declared.showing.Form.TheVariants.{Text, Canonical};
+ghost use Rattle.kmip_message_commands.specs.declared.form.Form.TheVariants.{Text, Canonical};
 ghost use Rattle.kmip_choices.specs.Choices.{IsCheckOf, IsSimulationOf};
 ghost use Rattle.kmip_choices.specs.declared.choice.Choice.TheVariants.{Answer, AnswerStream};
 ghost use Rattle.kmip_choices.specs.declared.detail.Detail.TheVariants.{Runs, Exchanges, Diagram};
 
 use crate::detail::Detail;
-use crate::options::{ProbeOptions, RunOptions, ServeOptions};
+use crate::probe_options::ProbeOptions;
+use crate::run_options::RunOptions;
+use crate::serve_options::ServeOptions;
 use kmip_message_commands::Form;
 use std::alloc::{AllocError, Global};
 

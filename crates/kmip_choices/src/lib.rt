@@ -5,8 +5,16 @@
 
 mod choice;
 mod detail;
-mod options;
+mod peer;
+mod probe_options;
+mod run_options;
+mod serve_options;
+mod trust;
 
 pub use choice::{Choice, answer_of, check_of, detail_of, form_of, simulation_of};
 pub use detail::Detail;
-pub use options::{Peer, ProbeOptions, RunOptions, ServeOptions, Trust};
+pub use peer::Peer;
+pub use probe_options::ProbeOptions;
+pub use run_options::RunOptions;
+pub use serve_options::ServeOptions;
+pub use trust::Trust;

@@ -15,13 +15,13 @@ use Rattle.kmip_plan.specs.Laws.{KeysAreFound}
 use Rattle.kmip_plan.specs.Plans.{IsLawful, EachFits}
 use Rattle.kmip_client.specs.Knowledge.{is_working}
 use Rattle.kmip_client.specs.declared.knowledge.Knowledge.{Knowledge}
-use Rattle.kmip_client.specs.declared.question.Part.{Part}
+use Rattle.kmip_client.specs.declared.part.Part.{Part}
 use Rattle.kmip_client.specs.Asking.{all_working_from, in_turn, next_places, at_place, at_places, requests_at, AreApart}
 use Rattle.kmip_client.specs.Clients.{ClientState, WorksAt, AreSettled, one_if, working_count}
 use Rattle.kmip_client.specs.Held.{Held, IsHeld}
 use Rattle.kmip_client.specs.Justified.{Justified}
 use Rattle.kmip_client.specs.Questions.{request_about}
-use Rattle.kmip_client.specs.Shapes.{IsShaped}
+use Rattle.kmip_client.specs.Private.{IsShaped}
 use Rattle.kmip_client.proofs.ClientLemmas.{at_both}
 use Rattle.kmip_client.proofs.HeldLemmas.{question_justified}
 use Rattle.kmip_client.proofs.QuestionLemmas.{question_fits}

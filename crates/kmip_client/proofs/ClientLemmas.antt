@@ -7,7 +7,7 @@ use Rattle.kmip_plan.specs.declared.key.Key.{Key}
 use Rattle.kmip_client.specs.declared.knowledge.Knowledge.{Knowledge}
 use Rattle.kmip_client.specs.Clients.{lost_working, changed_by, changed_at}
 use Rattle.kmip_client.specs.Knowledge.{fresh_knowledge, is_working, lose}
-use Rattle.kmip_client.specs.Shapes.{IsShaped, AreShaped}
+use Rattle.kmip_client.specs.Private.{IsShaped, AreShaped}
 use Rattle.kmip_client.proofs.CountLemmas.{fresh_count, lost_count}
 use Rattle.kmip_client.proofs.LearningLemmas.{lost_goes_on}
 

@@ -9,11 +9,11 @@ use Rattle.kmip_plan.specs.declared.target.Target.{Target}
 use Rattle.kmip_plan.specs.declared.target.Target.TheVariants.{Created, Active, Revoked, Destroyed, Discarded}
 use Rattle.kmip_client.specs.declared.clash.Clash.{Clash}
 use Rattle.kmip_client.specs.declared.knowledge.Knowledge.{Knowledge}
-use Rattle.kmip_client.specs.declared.knowledge.Verdict.TheVariants.{Working, Finished, Conflict}
+use Rattle.kmip_client.specs.declared.verdict.Verdict.TheVariants.{Working, Finished, Conflict}
 use Rattle.kmip_client.specs.Clients.{AreSettled, NoneWorks, SomeWorks, one_if, working_count, changed_by, changed_at, lost_working, verdict_at, VerdictsStay}
 use Rattle.kmip_client.specs.Held.{Held}
-use Rattle.kmip_client.specs.Shapes.{IsShaped}
-use Rattle.kmip_client.specs.Standing.{AreWithin, counts_of}
+use Rattle.kmip_client.specs.Private.{IsShaped}
+use Rattle.kmip_client.specs.Verdicts.{AreWithin, counts_of}
 use Rattle.kmip_client.specs.Knowledge.{chain_length, fresh_knowledge, is_working, clash_verdict, verdict_of}
 
 -- ---- the count

@@ -5,26 +5,27 @@ use Rattle.std.proofs.lemmas.Iterator.Adapters.{position_from-zero}
 use Rattle.std.specs.List.{AllZip, slice_get, position_from, find}
 use Rattle.std.specs.Option.{is_some, option_map_or, option_and_then}
 use Rattle.kmip_batch_items.specs.Fits.{outcome_fits}
-use Rattle.kmip_batch_items.specs.declared.reply.Outcome.{Outcome}
+use Rattle.kmip_batch_items.specs.declared.outcome.Outcome.{Outcome}
 use Rattle.kmip_batch_items.specs.declared.reply.Reply.{Reply}
 use Rattle.kmip_plan.specs.ChainLaws.{StepsAreWithin, PlacesAreWithin}
 use Rattle.kmip_plan.specs.Plans.{key_named}
 use Rattle.kmip_plan.specs.TargetWords.{is_text}
 use Rattle.kmip_plan.specs.declared.key.Key.{Key}
 use Rattle.kmip_client.specs.declared.clash.Clash.{Clash}
-use Rattle.kmip_client.specs.declared.fault.HearFault.{HearFault}
-use Rattle.kmip_client.specs.declared.fault.HearFault.TheVariants as faults
-use Rattle.kmip_client.specs.declared.hearing.Heard.{Heard}
-use Rattle.kmip_client.specs.declared.hearing.News.{News}
-use Rattle.kmip_client.specs.declared.hearing.News.TheVariants as news
+use Rattle.kmip_client.specs.declared.hear_fault.HearFault.{HearFault}
+use Rattle.kmip_client.specs.declared.hear_fault.HearFault.TheVariants as faults
+use Rattle.kmip_client.specs.declared.heard.Heard.{Heard}
+use Rattle.kmip_client.specs.declared.news.News.{News}
+use Rattle.kmip_client.specs.declared.news.News.TheVariants as news
 use Rattle.kmip_client.specs.declared.knowledge.Knowledge.{Knowledge}
 use Rattle.kmip_client.specs.declared.subject.Subject.{Subject}
 use Rattle.kmip_client.specs.Clients.{changed_at, changed_by, lost_working, one_if, working_count, verdict_at, VerdictsStay}
-use Rattle.kmip_client.specs.declared.knowledge.Verdict.TheVariants.{Working}
+use Rattle.kmip_client.specs.declared.verdict.Verdict.TheVariants.{Working}
 use Rattle.kmip_client.specs.Hearing.{is_asked_of, place_named, subject_at, subject_of, is_other_operation, has_failed, news_of, with_news, teach, with_heard, heard_by, heard_about, heard_in}
 use Rattle.kmip_client.specs.Knowledge.{chain_length, is_working, verdict_of}
 use Rattle.kmip_client.specs.Learning.{learn}
-use Rattle.kmip_client.specs.Shapes.{IsShaped, AreShaped, IsKept}
+use Rattle.kmip_client.specs.Private.{IsShaped, AreShaped}
+use Rattle.kmip_client.specs.Shapes.{IsKept}
 use Rattle.kmip_client.proofs.ClientLemmas.{at_both, set_both}
 use Rattle.kmip_client.proofs.CountLemmas.{stay_with, count_with, not_working}
 use Rattle.kmip_client.proofs.LearningLemmas.{GoesOn, kept_itself, learn_goes_on}

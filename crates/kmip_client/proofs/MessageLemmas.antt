@@ -10,13 +10,14 @@ use Rattle.kmip_batch_items.specs.declared.reply.Reply.{Reply}
 use Rattle.kmip_messages.specs.Items.{replies_in}
 use Rattle.kmip_plan.specs.ChainLaws.{StepsAreWithin, PlacesAreWithin}
 use Rattle.kmip_plan.specs.declared.key.Key.{Key}
-use Rattle.kmip_client.specs.declared.fault.HearFault.{HearFault}
+use Rattle.kmip_client.specs.declared.hear_fault.HearFault.{HearFault}
 use Rattle.kmip_client.specs.declared.knowledge.Knowledge.{Knowledge}
-use Rattle.kmip_client.specs.declared.hearing.Heard.{Heard}
+use Rattle.kmip_client.specs.declared.heard.Heard.{Heard}
 use Rattle.kmip_client.specs.Clients.{working_count, VerdictsStay}
 use Rattle.kmip_client.specs.Hearing.{heard_in, heard_of, known_after_each, known_after_reply, subject_of}
 use Rattle.kmip_client.specs.Held.{Held}
-use Rattle.kmip_client.specs.Shapes.{AreShaped, IsKept}
+use Rattle.kmip_client.specs.Private.{AreShaped}
+use Rattle.kmip_client.specs.Shapes.{IsKept}
 use Rattle.kmip_client.specs.Truth.{TrueReply, TrueMessage}
 use Rattle.kmip_client.proofs.HeardLemmas.{all_kept, kept_after, shaped_after, stays_after}
 use Rattle.kmip_client.proofs.HeldLemmas.{held_after}

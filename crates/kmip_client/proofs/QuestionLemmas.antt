@@ -7,8 +7,8 @@ use Rattle.kmip_batch_items.specs.Operations.{operation_of}
 use Rattle.kmip_objects.specs.Ranges.{is_name, is_name_byte, is_identifier, is_algorithm, is_length, is_usage, is_revocation_code, attrs_fit}
 use Rattle.kmip_batch_items.specs.Ranges.{is_batch_id}
 use Rattle.kmip_batch_items.specs.RequestFits.{ask_fits, request_fits}
-use Rattle.kmip_batch_items.specs.declared.request.Ask.{Ask}
-use Rattle.kmip_batch_items.specs.declared.request.Ask.TheVariants as asks
+use Rattle.kmip_batch_items.specs.declared.ask.Ask.{Ask}
+use Rattle.kmip_batch_items.specs.declared.ask.Ask.TheVariants as asks
 use Rattle.kmip_objects.specs.declared.step.Step.{Step}
 use Rattle.kmip_objects.specs.declared.step.Step.TheVariants as steps
 use Rattle.kmip_plan.specs.Chains.{step_at, is_revoked}
@@ -16,10 +16,11 @@ use Rattle.kmip_plan.specs.ChainLaws.{RevokesAreOfTheRevoked}
 use Rattle.kmip_plan.specs.Plans.{key_fits, reason_fits}
 use Rattle.kmip_plan.specs.declared.key.Key.{Key}
 use Rattle.kmip_client.specs.declared.knowledge.Knowledge.{Knowledge}
-use Rattle.kmip_client.specs.declared.knowledge.Phase.{Phase}
-use Rattle.kmip_client.specs.declared.knowledge.Phase.TheVariants as phases
+use Rattle.kmip_client.specs.declared.phase.Phase.{Phase}
+use Rattle.kmip_client.specs.declared.phase.Phase.TheVariants as phases
 use Rattle.kmip_client.specs.Questions.{id_of, step_ask, next_ask, phase_ask, ask_about, request_about}
-use Rattle.kmip_client.specs.Shapes.{PhaseSuits, IsShaped}
+use Rattle.kmip_client.specs.Shapes.{PhaseSuits}
+use Rattle.kmip_client.specs.Private.{IsShaped}
 
 pub operation_small : (ask : Ask) → operation_of ask < 256
 operation_small (asks.Create attrs) = omega arith

@@ -4,7 +4,7 @@ use Rattle.std.proofs.lemmas.Bool.{cases_Bool, and_parts, leb-true, le-leb, eqb-
 use Rattle.std.specs.List.{AllZip}
 use Rattle.std.specs.Option.{option_map, option_map_or}
 use Rattle.kmip_objects.specs.Objects.{Object, object_named}
-use Rattle.kmip_objects.specs.declared.attributes.KeyAttrs.{KeyAttrs}
+use Rattle.kmip_objects.specs.declared.key_attrs.KeyAttrs.{KeyAttrs}
 use Rattle.kmip_plan.specs.Chains.{place_reached}
 use Rattle.kmip_plan.specs.ChainLaws.{ReachedIsNoLess}
 use Rattle.kmip_plan.specs.Chains.{LeadsOn}
@@ -19,7 +19,8 @@ use Rattle.kmip_client.specs.Held.{TrueOf, TrueProgress, Held}
 use Rattle.kmip_client.specs.Knowledge.{chain_length, lost_phase}
 use Rattle.kmip_client.specs.Places.{uid_of, position}
 use Rattle.kmip_client.specs.Saving.{known_of, knowledge_from}
-use Rattle.kmip_client.specs.Shapes.{PhaseSuits, IsShaped}
+use Rattle.kmip_client.specs.Shapes.{PhaseSuits}
+use Rattle.kmip_client.specs.Private.{IsShaped}
 
 -- ---- the shape
 

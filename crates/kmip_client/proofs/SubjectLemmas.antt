@@ -9,7 +9,8 @@ use Rattle.kmip_plan.specs.Laws.{NamesAreDistinct}
 use Rattle.kmip_plan.specs.Plans.{IsLawful}
 use Rattle.kmip_plan.specs.TargetWords.{is_text}
 use Rattle.kmip_plan.specs.declared.key.Key.{Key}
-use Rattle.kmip_client.specs.Hearing.{is_named_at, place_named}
+use Rattle.kmip_client.specs.Private.{is_named_at}
+use Rattle.kmip_client.specs.Hearing.{place_named}
 
 first_at : {A : Type 0} (p : A → Bool) (from : ℕ) (xs : List A) (place : ℕ) (x : A) → slice_get xs place ≡ Some x → p x ≡ true
     → ((other : ℕ) (y : A) → slice_get xs other ≡ Some y → p y ≡ true → other ≡ place)

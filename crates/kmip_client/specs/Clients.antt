@@ -6,10 +6,10 @@ use Rattle.std.specs.List.{AllZip}
 use Rattle.std.specs.Option.{option_map_or, option_and_then}
 use Rattle.kmip_plan.specs.declared.key.Key.{Key}
 use Rattle.kmip_client.specs.declared.knowledge.Knowledge.{Knowledge}
-use Rattle.kmip_client.specs.declared.knowledge.Phase.{Phase}
-use Rattle.kmip_client.specs.declared.knowledge.Phase.TheVariants.{Look, Make, Check, Go}
-use Rattle.kmip_client.specs.declared.knowledge.Verdict.{Verdict}
-use Rattle.kmip_client.specs.declared.knowledge.Verdict.TheVariants.{Working}
+use Rattle.kmip_client.specs.declared.phase.Phase.{Phase}
+use Rattle.kmip_client.specs.declared.phase.Phase.TheVariants.{Look, Make, Check, Go}
+use Rattle.kmip_client.specs.declared.verdict.Verdict.{Verdict}
+use Rattle.kmip_client.specs.declared.verdict.Verdict.TheVariants.{Working}
 use Rattle.kmip_client.specs.Knowledge.{fresh_knowledge, lose, is_working, verdict_of}
 
 -- What a contract sees of a client: the keys of the plan, what is known of each, and the place at which the

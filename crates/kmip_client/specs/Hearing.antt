@@ -4,25 +4,24 @@
 use Rattle.std.specs.Prelude.{◌≡◌, ℕ, Bool, true, false, not, ◌&&◌, ◌||◌, ◌==◌, nat_le, nat_lt, List, [], ◌∷◌, Option, Some, None, Result, Ok, Err, slice_get, slice_set, if◌then◌else◌}
 use Rattle.std.specs.List.{position}
 use Rattle.std.specs.Option.{is_some, option_map_or, option_and_then}
-use Rattle.kmip_batch_items.specs.Faults.{is_no_memory}
 use Rattle.kmip_batch_items.specs.Operations.{operation_with}
 use Rattle.kmip_messages.specs.Batches.{replies_read}
-use Rattle.kmip_batch_items.specs.declared.fault.MessageFault.{MessageFault}
+use Rattle.kmip_batch_items.specs.declared.message_fault.MessageFault.{MessageFault}
 use Rattle.kmip_batch_items.specs.declared.operation.Operation.{Operation}
 use Rattle.kmip_batch_items.specs.declared.operation.Operation.TheVariants as operations
-use Rattle.kmip_batch_items.specs.declared.reply.Outcome.{Outcome}
-use Rattle.kmip_batch_items.specs.declared.reply.Outcome.TheVariants.{Failed}
+use Rattle.kmip_batch_items.specs.declared.outcome.Outcome.{Outcome}
+use Rattle.kmip_batch_items.specs.declared.outcome.Outcome.TheVariants.{Failed}
 use Rattle.kmip_batch_items.specs.declared.reply.Reply.{Reply}
 use Rattle.kmip_objects.specs.declared.step.Step.{Step}
 use Rattle.kmip_objects.specs.declared.step.Step.TheVariants.{Create, Activate, Revoke, Destroy}
 use Rattle.kmip_plan.specs.Chains.{step_place}
 use Rattle.kmip_plan.specs.TargetWords.{is_text}
 use Rattle.kmip_plan.specs.declared.key.Key.{Key}
-use Rattle.kmip_client.specs.declared.fault.HearFault.{HearFault}
-use Rattle.kmip_client.specs.declared.fault.HearFault.TheVariants as faults
-use Rattle.kmip_client.specs.declared.hearing.Heard.{Heard}
-use Rattle.kmip_client.specs.declared.hearing.News.{News}
-use Rattle.kmip_client.specs.declared.hearing.News.TheVariants as news
+use Rattle.kmip_client.specs.declared.hear_fault.HearFault.{HearFault}
+use Rattle.kmip_client.specs.declared.hear_fault.HearFault.TheVariants as faults
+use Rattle.kmip_client.specs.declared.heard.Heard.{Heard}
+use Rattle.kmip_client.specs.declared.news.News.{News}
+use Rattle.kmip_client.specs.declared.news.News.TheVariants as news
 use Rattle.kmip_client.specs.declared.knowledge.Knowledge.{Knowledge}
 use Rattle.kmip_client.specs.declared.subject.Subject.{Subject}
 use Rattle.kmip_client.specs.Knowledge.{is_working}
@@ -61,10 +60,6 @@ is_asked_of key number =
 -- The place of the first key with the name.
 abbrev pub place_named : List ℕ → List Key → Option ℕ
 place_named name keys = position (λ key. is_text name key.attrs.name) keys
-
--- Private: the key at the place has the name
-abbrev pub is_named_at : List ℕ → List Key → ℕ → Bool
-is_named_at name keys place = option_map_or (λ key. is_text name key.attrs.name) (slice_get keys place) false
 
 -- The key at a place and an operation, where that operation is asked about the key.
 abbrev pub subject_at : List Key → ℕ → ℕ → Option Subject
@@ -166,10 +161,6 @@ known_after_each keys [] knowns = knowns
 known_after_each keys (reply ∷ replies) knowns = known_after_each keys replies (known_after_reply (heard_in keys reply knowns) knowns)
 
 -- ---- bytes
-
--- Private: bytes that are no reply, in a call that may run out of memory
-abbrev pub unheard : MessageFault → HearFault
-unheard fault = if is_no_memory fault then faults.NoMemory else faults.Unreadable fault
 
 -- What a client hears in the replies of a message, and what it knows after them; bytes that are no message
 -- teach nothing.

@@ -5,8 +5,8 @@ use Rattle.std.specs.Prelude.{ℕ, List, [], ◌∷◌, map, Option, Some, None,
 use Rattle.kmip_plan.specs.declared.key.Key.{Key}
 use Rattle.kmip_client.specs.Hearing.{hear}
 use Rattle.kmip_client.specs.declared.clash.Clash.{Clash}
-use Rattle.kmip_client.specs.declared.fault.HearFault.{HearFault}
-use Rattle.kmip_client.specs.declared.hearing.Heard.{Heard}
+use Rattle.kmip_client.specs.declared.hear_fault.HearFault.{HearFault}
+use Rattle.kmip_client.specs.declared.heard.Heard.{Heard}
 use Rattle.kmip_client.specs.declared.knowledge.Knowledge.{Knowledge}
 
 -- What is known of a key: its identifier, how many of its steps are done, and the clash that was found, if

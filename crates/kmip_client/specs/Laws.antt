@@ -2,7 +2,7 @@
 -- Source: own (law): each is proved of all plans and objects.
 use Rattle.std.specs.Prelude.{◌≡◌, ◌≢◌, ◌≤◌, ℕ, true, List, ◌++◌, length, map, drop, Option, Ok}
 use Rattle.kmip_objects.specs.Objects.{Object}
-use Rattle.kmip_batch_items.specs.declared.reply.Outcome.{Outcome}
+use Rattle.kmip_batch_items.specs.declared.outcome.Outcome.{Outcome}
 use Rattle.kmip_batch_items.specs.declared.reply.Reply.{Reply}
 use Rattle.kmip_batch_items.specs.declared.request.Request.{Request}
 use Rattle.kmip_plan.specs.Plans.{IsLawful}
@@ -13,7 +13,7 @@ use Rattle.kmip_progress.specs.Suiting.{Suits, nothing_known, are_texts}
 use Rattle.kmip_progress.specs.declared.known.Known.{Known}
 use Rattle.kmip_client.specs.declared.clash.Clash.{Clash}
 use Rattle.kmip_client.specs.declared.knowledge.Knowledge.{Knowledge}
-use Rattle.kmip_client.specs.declared.knowledge.Verdict.TheVariants.{Conflict}
+use Rattle.kmip_client.specs.declared.verdict.Verdict.TheVariants.{Conflict}
 use Rattle.std.specs.List.{All}
 use Rattle.kmip_client.specs.Clients.{changed_at, lost_working, verdict_at, AreSettled, NoneWorks}
 use Rattle.kmip_client.specs.Hearing.{known_after_each}

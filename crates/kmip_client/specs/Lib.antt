@@ -14,7 +14,7 @@ pub mod Questions
 -- What a contract sees of a client, and of the key at a place.
 pub mod Clients
 -- How many steps of each key are done, and the verdict on each.
-pub mod Standing
+pub mod Verdicts
 -- What is heard of each reply of a message, and what is known after them.
 pub mod Hearing
 -- What is known by the answers alone, without what is asked next.
@@ -37,3 +37,5 @@ pub mod Held
 pub mod Laws
 -- How many more exchanges a client makes at most.
 pub mod Bounding
+-- private: what only the clauses of private functions cite
+pub mod Private

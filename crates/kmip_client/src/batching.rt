@@ -18,10 +18,12 @@ ghost use Rattle.kmip_client.specs.Clients.{WorksAt, AreSettled};
 ghost use Rattle.kmip_client.specs.Held.{Held};
 ghost use Rattle.kmip_client.specs.Justified.{JustifiedMessage};
 ghost use Rattle.kmip_client.specs.Questions.{request_about};
-ghost use Rattle.kmip_client.specs.Shapes.{IsShaped};
+ghost use Rattle.kmip_client.specs.Private.{IsShaped};
 
 use crate::Knowledge;
-use crate::question::{Part, Parts, Question, request_about};
+use crate::part::Part;
+use crate::parts::Parts;
+use crate::question::{Question, request_about};
 use kmip_batch_items::Request;
 use kmip_messages::write_request;
 use kmip_plan::Key;

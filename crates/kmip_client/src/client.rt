@@ -24,7 +24,7 @@ ghost use Rattle.kmip_client.specs.Clients.{
 ghost use Rattle.kmip_client.specs.Hearing.{hear, Refuses};
 ghost use Rattle.kmip_client.specs.Held.{Held, TrueProgress};
 ghost use Rattle.kmip_client.specs.Saving.{progress, resume};
-ghost use Rattle.kmip_client.specs.Standing.{AreWithin, counts_of, verdicts_of};
+ghost use Rattle.kmip_client.specs.Verdicts.{AreWithin, counts_of, verdicts_of};
 ghost use Rattle.kmip_progress.specs.Suiting.{Suits};
 ghost use Rattle.kmip_client.specs.Justified.{JustifiedMessage};
 ghost use Rattle.kmip_client.specs.Shapes.{IsKept};
@@ -34,10 +34,11 @@ ghost use Rattle.kmip_client.specs.Knowledge.{fresh_knowledge};
 
 use crate::batching::{next_places, question_at};
 use crate::bounding::most_left;
-use crate::hearing::{Heard, hear_message};
+use crate::heard::Heard;
+use crate::hearing::hear_message;
 use crate::question::Question;
 use crate::saving::{all_knowledge, all_known, count_working};
-use crate::standing::{all_counts, all_verdicts, tells, verdict_of};
+use crate::verdicts::{all_counts, all_verdicts, tells, verdict_of};
 use crate::{HearFault, Knowledge, Verdict};
 use kmip_plan::chain_laws::{states_have_places, steps_have_places};
 use kmip_plan::{Key, Plan};
@@ -60,7 +61,7 @@ pub struct Client<'p> {
 
 impl<'p> Model for Client<'p> {
     ghost use Rattle.kmip_client.specs.Clients.{ClientState};
-    ghost use Rattle.kmip_client.specs.Shapes.{IsClient};
+    ghost use Rattle.kmip_client.specs.Private.{IsClient};
 
     ghost Value = { ClientState };
 

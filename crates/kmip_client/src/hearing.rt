@@ -1,5 +1,5 @@
 //! What a reply teaches a client.
-ghost use Rattle.std.specs.Prelude.{◌≡◌, ◌≤◌, ◌+◌, Ok, Err, IfOk, IfErr, IsTrue, OnErr, OnOk, Some, is_some, option_map};
+ghost use Rattle.std.specs.Prelude.{◌≡◌, ◌≤◌, ◌+◌, Ok, Err, IfOk, IfErr, IsTrue, OnErr, OnOk, Some};
 ghost use Rattle.std.specs.List.{All};
 ghost use Rattle.kmip_batch_items.specs.BatchItems.{answer_fits};
 ghost use Rattle.kmip_messages.specs.Items.{replies_in};
@@ -7,50 +7,17 @@ ghost use Rattle.kmip_client.specs.Clients.{one_if, working_count};
 ghost use Rattle.kmip_plan.specs.Plans.{IsLawful};
 ghost use Rattle.kmip_client.specs.Knowledge.{is_working};
 ghost use Rattle.kmip_client.specs.Learning.{learn};
-ghost use Rattle.kmip_client.specs.Hearing.{
-  is_other_operation,
-  has_failed,
-  has_grown,
-  news_of,
-  with_news,
-  teach,
-  heard_at,
-  heard_about,
-  hear,
-  known_after_each,
-  unheard,
-  Refuses,
-};
+ghost use Rattle.kmip_client.specs.Hearing.{is_other_operation, has_failed, has_grown, news_of, with_news, teach, heard_at, heard_about, hear, known_after_each, Refuses};
+ghost use Rattle.kmip_client.specs.Private.{unheard};
 
+use crate::heard::Heard;
+use crate::news::News;
 use crate::subject::{Subject, subject_of};
 use crate::{HearFault, Knowledge, learn};
 use kmip_batch_items::{MessageFault, Outcome, Reply};
 use kmip_messages::read_reply;
 use kmip_plan::Key;
 use std::alloc::Global;
-
-/// What a reply was, that a client has learnt from.
-#[derive(Clone, Copy)]
-pub struct Heard {
-    /// The place of the key that it is about, from 0.
-    pub key: usize,
-    /// The number of the operation that it answers.
-    pub operation: u32,
-    pub news: News,
-}
-
-/// What has come of a reply.
-#[derive(Clone, Copy, Debug)]
-pub enum News {
-    /// An identifier is known that was not, or more steps.
-    Grew,
-    /// Neither the identifier nor the count of steps is new.
-    Same,
-    /// The server has not done it.
-    Refused,
-    /// The key is in conflict now.
-    Clash,
-}
 
 /// Learns from each reply of a message in turn, and gives what was heard of each. One that is
 /// refused changes nothing itself. (There are at most eight, so taking the first moves few.)

@@ -3,32 +3,10 @@ ghost use Rattle.std.specs.Prelude.{◌≡◌};
 ghost use Rattle.kmip_client.specs.Knowledge.{fresh_knowledge, lost_phase, lose, is_working, verdict_of};
 
 use crate::clash::Clash;
+use crate::phase::Phase;
+use crate::verdict::Verdict;
 use kmip_plan::{Key, chain_length};
 use kmip_ttlv::Text;
-
-/// What is to be found out or done next about a key.
-#[derive(Clone, Copy)]
-pub enum Phase {
-    /// Whether there is an object of its name.
-    Look,
-    /// There was none: it is to be made.
-    Make,
-    /// What attributes and which state its object has.
-    Check,
-    /// The next step of its chain is to be done.
-    Go,
-}
-
-/// The verdict on a key.
-#[derive(Clone, Copy, Debug, PartialEq, Eq)]
-pub enum Verdict {
-    /// More is to be asked about it.
-    Working,
-    /// All steps of its chain are known to have taken effect.
-    Finished,
-    /// It can't be brought to its target.
-    Conflict(Clash),
-}
 
 /// What is known of a key.
 #[derive(Drop)]

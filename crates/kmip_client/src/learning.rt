@@ -20,8 +20,9 @@ ghost use Rattle.kmip_client.specs.Learning.{
 };
 
 use crate::clash::Clash;
-use crate::fault::HearFault;
-use crate::knowledge::{Knowledge, Phase};
+use crate::hear_fault::HearFault;
+use crate::knowledge::Knowledge;
+use crate::phase::Phase;
 use kmip_batch_items::Outcome;
 use kmip_objects::standard::OBJECT_TYPE_SYMMETRIC_KEY;
 use kmip_objects::{Attrs, Step, Texts};

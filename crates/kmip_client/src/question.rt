@@ -1,15 +1,10 @@
 //! What is asked about a key, and a message that asks about several.
-ghost use Rattle.std.specs.Prelude.{◌≡◌, ◌<◌, [], IfOk, option_map};
+ghost use Rattle.std.specs.Prelude.{◌≡◌, ◌<◌, [], IfOk};
 ghost use Rattle.std.specs.Option.{unwrap_or};
-ghost use Rattle.kmip_client.specs.Questions.{
-  next_ask,
-  step_ask,
-  ask_about,
-  id_of,
-  request_about,
-};
-ghost use Rattle.kmip_client.specs.Shapes.{IsShaped};
+ghost use Rattle.kmip_client.specs.Questions.{next_ask, step_ask, ask_about, id_of, request_about};
+ghost use Rattle.kmip_client.specs.Private.{IsShaped};
 
+use crate::parts::Parts;
 use crate::{Knowledge, Phase};
 use kmip_batch_items::{Ask, Request};
 use kmip_objects::standard::{STORAGE_DESTROYED, STORAGE_ON_LINE};
@@ -17,51 +12,10 @@ use kmip_objects::{Attrs, Step};
 use kmip_plan::{Key, chain};
 use kmip_ttlv::{Bytes, NoMemory, Text};
 use std::alloc::Global;
-use std::marker::Model;
 
 /// The Storage Status Mask of a Locate that finds objects that are on-line and that are destroyed,
 /// which are all that a server of the profile has.
 const EVERY_STATE: i32 = (STORAGE_ON_LINE + STORAGE_DESTROYED) as i32;
-
-/// One question of a message.
-#[derive(Clone, Copy)]
-pub struct Part {
-    /// The place of the key that it is about, from 0.
-    pub key: usize,
-    /// The number of the operation that it asks.
-    pub operation: u32,
-}
-
-/// What a message asks, question by question. A contract sees the list of them.
-#[derive(Drop)]
-pub struct Parts {
-    items: Vec<Part>,
-}
-
-impl Model for Parts {
-    ghost use Rattle.std.specs.Prelude.{List};
-    ghost use Rattle.kmip_client.specs.declared.question.Part.{Part};
-
-    ghost Value = { List Part };
-
-    ghost view = { λ p. p.items.items };
-}
-
-impl Parts {
-    /// The questions of the vector. Takes no memory.
-    pub(crate) fn from_vec(items: Vec<Part>) -> Parts
-        ensures { result ≡ items.items }
-    {
-        Parts { items }
-    }
-
-    /// The key and the operation of each question, in the order of the message. Takes no memory.
-    pub fn as_slice(&self) -> &[Part]
-        ensures { result.now ≡ self.now }
-    {
-        self.items.as_slice()
-    }
-}
 
 /// A message of one to eight questions that is to be sent.
 #[derive(Drop)]

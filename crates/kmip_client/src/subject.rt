@@ -4,7 +4,8 @@ ghost use Rattle.std.specs.Option.{option_map_or};
 ghost use Rattle.kmip_plan.specs.Chains.{step_place};
 ghost use Rattle.kmip_plan.specs.Plans.{IsLawful};
 ghost use Rattle.kmip_plan.specs.TargetWords.{is_text};
-ghost use Rattle.kmip_client.specs.Hearing.{is_look, operation_step, is_asked_of, is_named_at, place_named, subject_at, subject_in, subject_of};
+ghost use Rattle.kmip_client.specs.Hearing.{is_look, operation_step, is_asked_of, place_named, subject_at, subject_in, subject_of};
+ghost use Rattle.kmip_client.specs.Private.{is_named_at};
 
 use kmip_batch_items::Operation;
 use kmip_objects::Step;

@@ -7,20 +7,23 @@ ghost use Rattle.std.specs.Prelude.{◌≡◌};
 ghost use Rattle.clap.specs.Words.{kind_of};
 ghost use Rattle.kmip_command_line.specs.Statuses.{status_of};
 
-mod command;
+mod absent;
+mod command_option;
 mod help;
 mod local;
 mod network;
-mod option;
+mod subcommand;
+mod value;
+mod wrong_value;
 
 use clap::error::ErrorKind;
 use clap::{ArgMatches, Error};
-use command::program;
 use kmip_choices::{Choice, answer_of, form_of};
 use kmip_message_commands::{CommandFault, ExitStatus};
 use local::{check_choice, sim_choice};
 use network::{probe_choice, run_choice, serve_options};
 use std::alloc::{AllocError, Global};
+use subcommand::program;
 
 /// What the words ask for; the first is the program's name.
 ///

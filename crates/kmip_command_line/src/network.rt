@@ -1,31 +1,14 @@
 //! What the words of `run`, `probe` and `serve` ask for.
 
-use crate::command::{PROBE_COMMAND, RUN_COMMAND, Subcommand, command_of};
-use crate::help::{WRONG_ADDRESS, WRONG_PREFIX};
-use crate::option::{MOST_COUNT, MOST_SECONDS};
+use crate::command_option::{MOST_COUNT, MOST_SECONDS};
+use crate::subcommand::{PROBE_COMMAND, RUN_COMMAND, Subcommand, command_of};
+use crate::wrong_value::WrongValue;
 use clap::error::ErrorKind;
 use clap::{ArgMatches, Error};
 use kmip_choices::{Choice, Peer, ProbeOptions, RunOptions, ServeOptions, Trust};
 use kmip_probe::is_prefix;
 use std::alloc::{AllocError, Global};
 use std::net::SocketAddrV4;
-
-/// A value of an option that is none.
-#[derive(Clone, Copy)]
-enum WrongValue {
-    Address,
-    Prefix,
-}
-
-impl WrongValue {
-    /// What is wrong with it.
-    fn text(self) -> &'static str {
-        match self {
-            WrongValue::Address => WRONG_ADDRESS,
-            WrongValue::Prefix => WRONG_PREFIX,
-        }
-    }
-}
 
 /// What `run` is to do, by its words.
 pub(crate) fn run_choice(alloc: Global, options: &ArgMatches<'_>) -> Result<Choice, Error> {

@@ -5,11 +5,13 @@
 //! what is promised here, on disks that fail.
 #![tactic(auto)]
 
-mod file;
 mod links;
-mod lock;
+mod lock_fault;
+mod progress_file;
+mod progress_lock;
 mod reading;
 
-pub use file::{MOST_FILE_BYTES, MOST_PROGRESS_BYTES, ProgressFile};
-pub use lock::{LockFault, ProgressLock};
+pub use lock_fault::LockFault;
+pub use progress_file::{MOST_FILE_BYTES, MOST_PROGRESS_BYTES, ProgressFile};
+pub use progress_lock::ProgressLock;
 pub use reading::text_of;

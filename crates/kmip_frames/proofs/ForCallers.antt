@@ -4,7 +4,7 @@ use Rattle.std.proofs.Common.{◌≡◌, ℕ, ◌<◌, ◌≤◌, List, [], ◌�
 use Rattle.std.specs.List.{AllByRecursion}
 use Rattle.std.proofs.lemmas.List.{append-nil}
 use Rattle.std.proofs.lemmas.List.Concat.{flat_map-append}
-use Rattle.kmip_frames.specs.declared.fault.FrameFault.{FrameFault}
+use Rattle.kmip_frames.specs.declared.frame_fault.FrameFault.{FrameFault}
 use Rattle.kmip_ttlv.specs.Limits.{head_size}
 use Rattle.kmip_frames.specs.Streams.{IsMessage, BeginsWithNoMessage, joined, Stream}
 use Rattle.kmip_frames.specs.Framing.{fault_in, size_needed}

@@ -2,7 +2,7 @@
 use Rattle.std.proofs.Common.{◌≡◌, ℕ, ◌+◌, ◌<◌, ◌≤◌, List, [], ◌∷◌, ◌++◌, length, take, Some, None, refl, sym, ap, ◌∙◌, append_assoc, arith}
 use Rattle.std.specs.List.{AllByRecursion}
 use Rattle.std.proofs.lemmas.List.{length-append, take_at, append-nil, append_cancel_left}
-use Rattle.kmip_frames.specs.declared.fault.FrameFault.{FrameFault}
+use Rattle.kmip_frames.specs.declared.frame_fault.FrameFault.{FrameFault}
 use Rattle.kmip_frames.specs.Heads.{head_fault}
 use Rattle.kmip_frames.specs.Streams.{IsMessage, BeginsWithNoMessage, joined, Stream}
 use Rattle.kmip_frames.specs.Framing.{fault_in, size_needed}

@@ -4,8 +4,8 @@ use Rattle.std.specs.Prelude.{◌&&◌}
 use Rattle.std.proofs.lemmas.Bool.{ltb-false, lt-ltb, le-ltb, cases_lt}
 use Rattle.std.proofs.lemmas.List.{length-append, take-append-le}
 use Rattle.byteorder.specs.Endian.{big_number}
-use Rattle.kmip_frames.specs.declared.fault.FrameFault.{FrameFault}
-use Rattle.kmip_frames.specs.declared.fault.FrameFault.TheVariants as faults
+use Rattle.kmip_frames.specs.declared.frame_fault.FrameFault.{FrameFault}
+use Rattle.kmip_frames.specs.declared.frame_fault.FrameFault.TheVariants as faults
 use Rattle.kmip_frames.specs.Heads.{is_message_tag, length_in, head_fault}
 use Rattle.kmip_frames.specs.Framing.{fault_in, size_needed}
 

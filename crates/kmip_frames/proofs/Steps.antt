@@ -1,7 +1,7 @@
 -- The two steps of `feed`, up to the end of the head and then of the message, as the code tells them.
 use Rattle.std.proofs.Common.{◌≡◌, ℕ, ◌+◌, ◌-◌, ◌<◌, ◌≤◌, min, Bool, true, false, List, ◌++◌, length, take, drop, Option, Some, None, is_some, Ok, Err, refl, sym, ap, ◌∙◌, arith}
 use Rattle.std.proofs.lemmas.List.{take_rest, append-nil}
-use Rattle.kmip_frames.specs.declared.fault.FrameFault.{FrameFault}
+use Rattle.kmip_frames.specs.declared.frame_fault.FrameFault.{FrameFault}
 use Rattle.kmip_frames.specs.Streams.{IsMessage, BeginsWithNoMessage}
 use Rattle.kmip_frames.specs.Framing.{fault_in, size_needed, count_taken, held_after, answer_after, feed}
 use Rattle.kmip_frames.proofs.Sizes.{fault_size, size_needed_fault, size_needed_more}

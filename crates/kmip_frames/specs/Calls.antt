@@ -1,7 +1,7 @@
 -- A framer's calls, one after another.
 -- Source: own (law): what the laws of framers speak of.
 use Rattle.std.specs.Prelude.{◌≡◌, ℕ, ◌+◌, List, [], ◌∷◌, ◌++◌, drop, Result, Ok, Err}
-use Rattle.kmip_frames.specs.declared.fault.FrameFault.{FrameFault}
+use Rattle.kmip_frames.specs.declared.frame_fault.FrameFault.{FrameFault}
 use Rattle.kmip_frames.specs.Streams.{IsMessage}
 use Rattle.kmip_frames.specs.Framing.{feed, held_after}
 

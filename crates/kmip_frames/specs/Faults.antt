@@ -1,8 +1,8 @@
 -- The number and the name of each fault.
 -- Source: own (fault): the standard does not number or name the faults of a reader.
 use Rattle.std.specs.Prelude.{ℕ, List, codes}
-use Rattle.kmip_frames.specs.declared.fault.FrameFault.{FrameFault}
-use Rattle.kmip_frames.specs.declared.fault.FrameFault.TheVariants.{BadHead, BadLength, TooLong, Failed, NoMemory}
+use Rattle.kmip_frames.specs.declared.frame_fault.FrameFault.{FrameFault}
+use Rattle.kmip_frames.specs.declared.frame_fault.FrameFault.TheVariants.{BadHead, BadLength, TooLong, Failed, NoMemory}
 
 -- the number of a fault, 1 to 5 in the order of their declaration
 abbrev pub frame_fault_number : FrameFault → ℕ

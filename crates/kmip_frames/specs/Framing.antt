@@ -1,8 +1,8 @@
 -- What a framer holds, takes and hands over. It is seen as the bytes that it holds.
 -- Source: own (view): how a contract sees the code.
 use Rattle.std.specs.Prelude.{◌≡◌, ℕ, ◌+◌, ◌-◌, ◌<◌, min, nat_lt, if◌then◌else◌, ◌⊎◌, List, [], ◌++◌, length, take, Option, Some, None, is_some, IsSome, Result, Ok, Err}
-use Rattle.kmip_frames.specs.declared.fault.FrameFault.{FrameFault}
-use Rattle.kmip_frames.specs.declared.fault.FrameFault.TheVariants.{BadHead, BadLength, TooLong, Failed, NoMemory}
+use Rattle.kmip_frames.specs.declared.frame_fault.FrameFault.{FrameFault}
+use Rattle.kmip_frames.specs.declared.frame_fault.FrameFault.TheVariants.{BadHead, BadLength, TooLong, Failed, NoMemory}
 use Rattle.kmip_frames.specs.Heads.{length_in, head_fault}
 use Rattle.kmip_ttlv.specs.Limits.{head_size}
 use Rattle.kmip_frames.specs.Streams.{IsMessage, BeginsWithNoMessage}

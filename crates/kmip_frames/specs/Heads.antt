@@ -9,8 +9,8 @@ use Rattle.kmip_ttlv.specs.Limits.{head_size, most_bytes}
 use Rattle.kmip_ttlv.specs.Types.{byte_of_type}
 use Rattle.kmip_ttlv.specs.declared.item_type.ItemType.TheVariants.{Structure}
 use Rattle.kmip_batch_items.specs.declared.standard.TheConstants.{TAG_REQUEST_MESSAGE, TAG_RESPONSE_MESSAGE}
-use Rattle.kmip_frames.specs.declared.fault.FrameFault.{FrameFault}
-use Rattle.kmip_frames.specs.declared.fault.FrameFault.TheVariants.{BadHead, BadLength, TooLong}
+use Rattle.kmip_frames.specs.declared.frame_fault.FrameFault.{FrameFault}
+use Rattle.kmip_frames.specs.declared.frame_fault.FrameFault.TheVariants.{BadHead, BadLength, TooLong}
 
 -- whether a message has this tag: a Request Message or a Response Message
 abbrev pub is_message_tag : ℕ → Bool

@@ -1,7 +1,7 @@
 -- What holds of all bytes, of all streams and of all framers.
 -- Source: own (law): what the laws say.
 use Rattle.std.specs.Prelude.{◌≡◌, ◌≤◌, ◌<◌, ℕ, List, [], ◌++◌, length, Ok, None, Some}
-use Rattle.kmip_frames.specs.declared.fault.FrameFault.{FrameFault}
+use Rattle.kmip_frames.specs.declared.frame_fault.FrameFault.{FrameFault}
 use Rattle.kmip_ttlv.specs.Limits.{head_size, most_bytes}
 use Rattle.kmip_frames.specs.Streams.{IsMessage, BeginsWithNoMessage, Stream}
 use Rattle.kmip_frames.specs.Framing.{fault_in, size_needed, feed, IsHeld}

@@ -4,7 +4,7 @@ ghost use Rattle.kmip_frames.specs.Framing.{fault_in, wants, held_after, feed, I
 ghost use Rattle.kmip_ttlv.specs.Limits.{most_bytes};
 ghost use Rattle.kmip_frames.specs.Streams.{IsMessage, BeginsWithNoMessage};
 
-use crate::fault::FrameFault;
+use crate::frame_fault::FrameFault;
 use crate::head::{fault_of, size_needed};
 use kmip_ttlv::{HEAD_SIZE, MAX_SIZE};
 use std::alloc::Global;

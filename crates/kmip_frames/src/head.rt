@@ -4,7 +4,7 @@ ghost use Rattle.kmip_frames.specs.Heads.{head_fault, is_message_tag, length_in}
 ghost use Rattle.kmip_ttlv.specs.Limits.{head_size};
 ghost use Rattle.kmip_frames.specs.Framing.{fault_in, size_needed};
 
-use crate::fault::FrameFault;
+use crate::frame_fault::FrameFault;
 use byteorder::{BigEndian, ByteOrder};
 use kmip_batch_items::standard::{TAG_REQUEST_MESSAGE, TAG_RESPONSE_MESSAGE};
 use kmip_ttlv::{HEAD_SIZE, ItemType, MAX_SIZE};

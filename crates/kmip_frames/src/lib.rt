@@ -5,10 +5,10 @@
 //! the bytes as they come and hands over each message once it is whole.
 #![tactic(auto)]
 
-mod fault;
+mod frame_fault;
 mod framer;
 mod head;
 pub mod laws;
 
-pub use fault::FrameFault;
+pub use frame_fault::FrameFault;
 pub use framer::Framer;

@@ -6,13 +6,13 @@ use Rattle.std.proofs.Math.Nat.{min_comm}
 use Rattle.std.proofs.lemmas.Bool.{cases_lt}
 use Rattle.std.proofs.lemmas.List.{length-append, take_at, take_min, take-append-drop}
 use Rattle.kmip_frames.proofs.ForCallers.{fault_size, fault_more, size_needed_fault, size_needed_more, size_needed_least, message_lawful, message_size, message_whole, fault_stays}
-use Rattle.kmip_frames.specs.declared.fault.FrameFault.{FrameFault}
+use Rattle.kmip_frames.specs.declared.frame_fault.FrameFault.{FrameFault}
 use Rattle.kmip_frames.specs.Framing.{fault_in, size_needed, held_after}
 use Rattle.kmip_frames.specs.Streams.{IsMessage, BeginsWithNoMessage}
 use Rattle.kmip_store.specs.Stock.{Stock}
 use Rattle.kmip_server.specs.Batching.{stock_after_batch}
 use Rattle.kmip_message_commands.specs.AnswerText.{reply_text}
-use Rattle.kmip_message_commands.specs.Bytewise.{StreamState, is_over, byte_text, state_after_byte, piece_text, state_after_piece}
+use Rattle.kmip_message_commands.specs.PrivateBytewise.{StreamState, is_over, byte_text, state_after_byte, piece_text, state_after_piece}
 use Rattle.kmip_message_commands.proofs.BytewiseLaws.{no_fault_front, byte_made, stays_over, stays_ready}
 use Rattle.kmip_message_commands.proofs.LineLemmas.{take_joined}
 use Rattle.kmip_message_commands.specs.StreamText.{stream_refusal_text}

@@ -3,11 +3,11 @@ use Rattle.std.proofs.Common.{◌≡◌, ℕ, ◌+◌, ◌≤◌, Bool, true, fa
 use Rattle.std.proofs.lemmas.Bool.{cases_lt}
 use Rattle.std.proofs.lemmas.List.{length-append, take_at, take-append-le, take-append-drop}
 use Rattle.kmip_frames.proofs.ForCallers.{fault_short, fault_more, message_size, fault_no_message}
-use Rattle.kmip_frames.specs.declared.fault.FrameFault.{FrameFault}
+use Rattle.kmip_frames.specs.declared.frame_fault.FrameFault.{FrameFault}
 use Rattle.kmip_frames.specs.Framing.{fault_in, size_needed}
 use Rattle.kmip_frames.specs.Streams.{IsMessage, BeginsWithNoMessage}
 use Rattle.kmip_store.specs.Stock.{Stock}
-use Rattle.kmip_message_commands.specs.Bytewise.{StreamState, is_over, IsReady, made_text, made, byte_text, state_after_byte, piece_text, state_after_piece}
+use Rattle.kmip_message_commands.specs.PrivateBytewise.{StreamState, is_over, IsReady, made_text, made, byte_text, state_after_byte, piece_text, state_after_piece}
 
 -- what has no fault has none at its front
 pub no_fault_front : (s more : List ℕ) → fault_in (s ++ more) ≡ None → fault_in s ≡ None

@@ -4,13 +4,14 @@ use Rattle.std.specs.Result.{IfErr, OnErr}
 use Rattle.std.specs.Io.KnownBytes.{Appends}
 use Rattle.std.proofs.KnownBytes.{Appends-trans}
 use Rattle.kmip_message_commands.specs.Judging.{are_refused, has_refused, saying_of}
-use Rattle.kmip_message_commands.specs.LineText.{Response, input_read, input_text, lines_read, lines_text, state_after_saying, RespondsTo, BreaksOffAt}
+use Rattle.kmip_message_commands.specs.Private.{Response, input_read, lines_read, RespondsTo, BreaksOffAt}
+use Rattle.kmip_message_commands.specs.LineText.{input_text, lines_text, state_after_saying}
 use Rattle.kmip_message_commands.specs.Lines.{lines_of}
 use Rattle.kmip_message_commands.specs.Printing.{WroteFront, UnlessOutput, BreaksOff, Prints, Tells, IfWhole, IfFailed, Finishes, fault_line, nothing_more, status_of}
 use Rattle.kmip_message_commands.specs.declared.exit_status.ExitStatus.{ExitStatus}
 use Rattle.kmip_message_commands.specs.declared.exit_status.ExitStatus.TheVariants.{Done, Refused, Failed, Usage}
-use Rattle.kmip_message_commands.specs.declared.fault.CommandFault.{CommandFault}
-use Rattle.kmip_message_commands.specs.declared.fault.CommandFault.TheVariants.{Input, Output, NoMemory}
+use Rattle.kmip_message_commands.specs.declared.command_fault.CommandFault.{CommandFault}
+use Rattle.kmip_message_commands.specs.declared.command_fault.CommandFault.TheVariants.{Input, Output, NoMemory}
 
 -- ---- a command that is never over reads all lines
 

@@ -2,9 +2,10 @@
 use Rattle.std.proofs.Common.{◌≡◌, ◌≢◌, List, ℕ, [], Option, Some, Result, Ok, Err, IfErr, sym, ◌∙◌, inl, inr}
 use Rattle.std.specs.Io.KnownBytes.{Appends}
 use Rattle.std.proofs.KnownBytes.{Appends-kept, Appends-nil}
-use Rattle.kmip_message_commands.specs.Printing.{Fails, UnlessOutput}
-use Rattle.kmip_message_commands.specs.declared.fault.CommandFault.{CommandFault}
-use Rattle.kmip_message_commands.specs.declared.fault.CommandFault.TheVariants.{Input, Output, NoMemory}
+use Rattle.kmip_message_commands.specs.Private.{Fails}
+use Rattle.kmip_message_commands.specs.Printing.{UnlessOutput}
+use Rattle.kmip_message_commands.specs.declared.command_fault.CommandFault.{CommandFault}
+use Rattle.kmip_message_commands.specs.declared.command_fault.CommandFault.TheVariants.{Input, Output, NoMemory}
 
 fails_at_writer : (fault : CommandFault) (Whole : Type 0) (old new : Option (List ℕ)) → Fails fault Output Whole old new → UnlessOutput fault (Appends old new [])
 fails_at_writer fault Whole old new (inl (is, kept)) = rw is (Appends-kept old old new [] (Appends-nil old) kept)

@@ -9,7 +9,8 @@ use Rattle.std.proofs.lemmas.Bool.Decides.{nat_tests}
 use Rattle.std.specs.Io.KnownBytes.{Consumes, IsAtEnd}
 use Rattle.std.proofs.KnownBytes.{Consumes-nil, Consumes-trans}
 use Rattle.memchr.specs.Find.{IsFirstByte, is_byte}
-use Rattle.kmip_message_commands.specs.Lines.{most_kept, lines_of, onto_first, IsWithinLine, kept_with, TakesPart, TakesFirst}
+use Rattle.kmip_message_commands.specs.Private.{most_kept, IsWithinLine, kept_with, TakesPart, TakesFirst}
+use Rattle.kmip_message_commands.specs.Lines.{lines_of, onto_first}
 
 -- what is not true is false
 is_false : (b : Bool) → (b ≡ true → ⊥) → b ≡ false

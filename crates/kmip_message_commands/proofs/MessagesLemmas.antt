@@ -1,13 +1,13 @@
 -- `answer --stream`: the messages that bytes make one by one are those of the stream.
 use Rattle.std.proofs.Common.{◌≡◌, ℕ, Bool, true, false, eqb, List, [], ◌∷◌, ◌++◌, length, Option, Some, None, is_some, refl, sym, ap, subst, ◌∙◌, arith, append_assoc, append-nil, eqb-true, eq-eqb, true≢false}
 use Rattle.kmip_frames.proofs.ForCallers.{fault_short, message_size, message_whole, fault_stays, IsSoFar, so_far_took, so_far_handed, so_far_ended}
-use Rattle.kmip_frames.specs.declared.fault.FrameFault.{FrameFault}
+use Rattle.kmip_frames.specs.declared.frame_fault.FrameFault.{FrameFault}
 use Rattle.kmip_frames.specs.Framing.{fault_in, size_needed}
 use Rattle.kmip_frames.specs.Streams.{BeginsWithNoMessage, Stream}
 use Rattle.kmip_store.specs.Stock.{Stock}
 use Rattle.kmip_server.specs.Batching.{stock_after_batch}
 use Rattle.kmip_message_commands.specs.AnswerText.{reply_text}
-use Rattle.kmip_message_commands.specs.Bytewise.{StreamState, state_after_byte, piece_text, state_after_piece}
+use Rattle.kmip_message_commands.specs.PrivateBytewise.{StreamState, state_after_byte, piece_text, state_after_piece}
 use Rattle.kmip_message_commands.proofs.BytewiseLaws.{byte_made, stays_over, nothing_waits, longer_waits}
 use Rattle.kmip_message_commands.specs.StreamText.{replies_text, stream_refusal_text, stock_after_messages}
 

@@ -7,11 +7,13 @@ use Rattle.std.specs.Io.KnownBytes.{Keeps, Appends}
 use Rattle.std.proofs.KnownBytes.{Appends-nil, Appends-trans, Appends-kept}
 use Rattle.hex.specs.Hex.{decode_of}
 use Rattle.kmip_message_commands.specs.Judging.{Saying, nothing, too_long, no_hex, message, saying_of, saying_decoded, is_saying_refused, are_refused}
-use Rattle.kmip_message_commands.specs.LineText.{saying_text, state_after_saying, lines_text, state_after_lines, lines_read, Response, input_read, Responds, RespondsTo, BreaksOffAt}
-use Rattle.kmip_message_commands.specs.Lines.{most_digits, most_kept, lines_of, TakesFirst}
+use Rattle.kmip_message_commands.specs.LineText.{saying_text, state_after_saying, lines_text}
+use Rattle.kmip_message_commands.specs.Private.{state_after_lines, lines_read, Response, input_read, Responds, RespondsTo, BreaksOffAt}
+use Rattle.kmip_message_commands.specs.Lines.{most_digits, lines_of}
+use Rattle.kmip_message_commands.specs.Private.{most_kept, TakesFirst}
 use Rattle.kmip_message_commands.specs.Printing.{WroteFront, UnlessOutput}
-use Rattle.kmip_message_commands.specs.declared.fault.CommandFault.{CommandFault}
-use Rattle.kmip_message_commands.specs.declared.fault.CommandFault.TheVariants.{Input, Output, NoMemory}
+use Rattle.kmip_message_commands.specs.declared.command_fault.CommandFault.{CommandFault}
+use Rattle.kmip_message_commands.specs.declared.command_fault.CommandFault.TheVariants.{Input, Output, NoMemory}
 
 -- a line of more digits than a message may have
 saying_of-long : (line : List ℕ) → most_digits < length line → saying_of line ≡ too_long

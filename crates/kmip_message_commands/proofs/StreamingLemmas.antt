@@ -4,23 +4,24 @@ use Rattle.std.specs.Fmt.{decimal}
 use Rattle.std.specs.Io.KnownBytes.{Appends}
 use Rattle.std.proofs.KnownBytes.{Appends-nil, Appends-trans}
 use Rattle.kmip_frames.proofs.ForCallers.{fault_short, nothing_so_far}
-use Rattle.kmip_frames.specs.declared.fault.FrameFault.{FrameFault}
+use Rattle.kmip_frames.specs.declared.frame_fault.FrameFault.{FrameFault}
 use Rattle.kmip_frames.specs.Faults.{frame_fault_number, frame_fault_name}
 use Rattle.kmip_frames.specs.Framing.{fault_in}
 use Rattle.kmip_frames.specs.Streams.{BeginsWithNoMessage, Stream}
 use Rattle.kmip_store.specs.Stock.{Stock}
 use Rattle.kmip_message_commands.specs.AnswerText.{first_stock}
-use Rattle.kmip_message_commands.specs.Bytewise.{StreamState, is_over, piece_text, state_after_piece, streams}
+use Rattle.kmip_message_commands.specs.PrivateBytewise.{StreamState, is_over, piece_text, state_after_piece, streams}
 use Rattle.kmip_message_commands.proofs.BytewiseLaws.{stays_over, stays_ready, nothing_waits}
 use Rattle.kmip_message_commands.proofs.RespondingLemmas.{read_on}
 use Rattle.kmip_message_commands.specs.Judging.{Saying, nothing, too_long, no_hex, message, saying_of, is_saying_refused, are_refused, has_refused_line}
 use Rattle.kmip_message_commands.specs.Lines.{lines_of}
-use Rattle.kmip_message_commands.specs.LineText.{saying_text, state_after_saying, lines_text, state_after_lines, lines_read, input_read, Responds, RespondsTo, BreaksOffAt}
+use Rattle.kmip_message_commands.specs.LineText.{saying_text, state_after_saying, lines_text}
+use Rattle.kmip_message_commands.specs.Private.{state_after_lines, lines_read, input_read, Responds, RespondsTo, BreaksOffAt}
 use Rattle.kmip_message_commands.specs.Printing.{WroteFront}
 use Rattle.kmip_message_commands.specs.StreamText.{piece_of, pieces_of, stream_of, replies_text, end_by, end_of, stream_refusal_text, end_text, tail_text, is_refusal, is_whole_end, is_whole, stock_after_messages, GoesOn, IsPassedOver, IsTaken, IsTold, AreTold, IsWritten, IsAnswered, IsAllAnswered, IsStreamAnswered, IsBrokenOff}
-use Rattle.kmip_message_commands.specs.declared.streaming.InputEnd.{InputEnd}
-use Rattle.kmip_message_commands.specs.declared.streaming.InputEnd.TheVariants.{Whole, Cut, Refused}
-use Rattle.kmip_message_commands.specs.declared.streaming.StreamOutcome.{StreamOutcome}
+use Rattle.kmip_message_commands.specs.declared.input_end.InputEnd.{InputEnd}
+use Rattle.kmip_message_commands.specs.declared.input_end.InputEnd.TheVariants.{Whole, Cut, Refused}
+use Rattle.kmip_message_commands.specs.declared.stream_outcome.StreamOutcome.{StreamOutcome}
 use Rattle.kmip_message_commands.proofs.AdvancingLemmas.{piece_text_joined, piece_state_joined}
 use Rattle.kmip_message_commands.proofs.MessagesLemmas.{fault_text, IsStreamed, is_streamed}
 

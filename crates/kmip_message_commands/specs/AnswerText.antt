@@ -1,10 +1,10 @@
 -- What `answer` writes for its whole input.
 -- Source: own (text): what the program prints.
-use Rattle.std.specs.Prelude.{ℕ, pos, false, List, [], ◌∷◌, ◌++◌, replicate}
+use Rattle.std.specs.Prelude.{ℕ, pos, List, [], ◌∷◌, ◌++◌, replicate}
 use Rattle.hex.specs.Hex.{encode_lower}
 use Rattle.kmip_store.specs.Stock.{Stock, empty_stock, most_room}
 use Rattle.kmip_server.specs.Batching.{batch_reply, stock_after_batch}
-use Rattle.kmip_message_commands.specs.LineText.{Response, lines_text, input_text}
+use Rattle.kmip_message_commands.specs.LineText.{lines_text, input_text}
 
 -- What is written for a message: the server's reply at the time 0, in hexadecimal, and a line feed.
 abbrev pub reply_text : Stock → List ℕ → List ℕ
@@ -21,7 +21,3 @@ answer_lines lines = lines_text reply_text stock_after_batch first_stock lines
 -- What `answer` writes for its input: the replies to its lines.
 abbrev pub answer_text : List ℕ → List ℕ
 answer_text input = input_text reply_text stock_after_batch first_stock input
-
--- Private: how `answer` responds.
-abbrev pub answers : Response Stock
-answers = record { text = reply_text; after = stock_after_batch; refuses = λ _. false; over = λ _. false }

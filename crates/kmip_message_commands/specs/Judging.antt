@@ -3,8 +3,6 @@
 use Rattle.std.specs.Prelude.{ℕ, Bool, true, false, ◌||◌, List, [], ◌∷◌, length, nat_lt, ◌==◌, if◌then◌else◌, Result, Ok, Err}
 use Rattle.hex.specs.declared.error.FromHexError.{FromHexError}
 use Rattle.hex.specs.Hex.{decode_of}
-use Rattle.kmip_message_commands.specs.declared.judging.Judged.{Judged}
-use Rattle.kmip_message_commands.specs.declared.judging.Judged.TheVariants.{Empty, Long, NotHex, Message}
 use Rattle.kmip_message_commands.specs.Lines.{lines_of, most_digits}
 
 -- What a line says: nothing, too much to be looked at, no hexadecimal, or a message.
@@ -25,13 +23,6 @@ saying_of line =
     if length line == 0 then nothing
     else if nat_lt most_digits (length line) then too_long
     else saying_decoded (decode_of line)
-
--- Private: what is judged, as a contract sees it.
-abbrev pub judge : Judged → Saying
-judge Empty = nothing
-judge Long = too_long
-judge NotHex = no_hex
-judge (Message bytes) = message bytes.items
 
 -- Whether a line is refused, by a command that refuses some messages. An empty line is not refused.
 abbrev pub is_saying_refused : (List ℕ → Bool) → Saying → Bool

@@ -15,4 +15,6 @@ pub mod StreamText
 -- what `show` writes
 pub mod Showing
 -- private: `answer --stream` byte by byte
-pub mod Bytewise
+pub mod PrivateBytewise
+-- private: what only the clauses of private functions cite
+pub mod Private

@@ -1,12 +1,12 @@
 -- What a command writes, where its reader and its writer tell their bytes, and how it ends.
 -- Source: own (view): how a contract sees a reader and a writer. The texts and the numbers are own
 -- (text).
-use Rattle.std.specs.Prelude.{◌≡◌, ◌⊎◌, ℕ, Bool, true, false, List, [], ◌++◌, codes, Option, IfSome, Result, Ok, Err}
-use Rattle.std.specs.Io.KnownBytes.{Appends, Keeps}
+use Rattle.std.specs.Prelude.{◌≡◌, ℕ, Bool, true, false, List, [], ◌++◌, codes, Option, IfSome, Result, Ok, Err}
+use Rattle.std.specs.Io.KnownBytes.{Appends}
 use Rattle.kmip_message_commands.specs.declared.exit_status.ExitStatus.{ExitStatus}
 use Rattle.kmip_message_commands.specs.declared.exit_status.ExitStatus.TheVariants.{Done, Refused, Failed, Usage}
-use Rattle.kmip_message_commands.specs.declared.fault.CommandFault.{CommandFault}
-use Rattle.kmip_message_commands.specs.declared.fault.CommandFault.TheVariants.{Input, Output, NoMemory}
+use Rattle.kmip_message_commands.specs.declared.command_fault.CommandFault.{CommandFault}
+use Rattle.kmip_message_commands.specs.declared.command_fault.CommandFault.TheVariants.{Input, Output, NoMemory}
 use Rattle.kmip_message_commands.specs.Lines.{lines_of}
 
 -- What is written is the text of what was read.
@@ -29,11 +29,6 @@ abbrev pub UnlessOutput : CommandFault → Type 0 → Type 0
 UnlessOutput Input P = P
 UnlessOutput Output P = Unit {0}
 UnlessOutput NoMemory P = P
-
--- Private: A command failed. It was for want of memory, and nothing was printed; or by the fault of its
--- printer, which then holds what it held if it takes all or nothing.
-abbrev pub Fails : CommandFault → CommandFault → Type 0 → Option (List ℕ) → Option (List ℕ) → Type 0
-Fails fault own_fault IsWhole old new = ((fault ≡ NoMemory) × Keeps old new) ⊎ ((fault ≡ own_fault) × (IsWhole → Keeps old new))
 
 -- By this fault a command broke off: it wrote the text of some first ones of the lines that it was given,
 -- and then a tail. Nothing is said where the writer failed.

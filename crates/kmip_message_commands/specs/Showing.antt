@@ -1,19 +1,19 @@
 -- What `show` writes for a message, and which messages it refuses.
 -- Source: own (text): what the program prints.
-use Rattle.std.specs.Prelude.{ℕ, ◌==◌, Bool, true, false, not, List, [], ◌∷◌, ◌++◌, length, codes, if◌then◌else◌, Option, Some, None, Result, Ok, Err}
+use Rattle.std.specs.Prelude.{ℕ, ◌==◌, Bool, true, not, List, [], ◌∷◌, ◌++◌, length, codes, if◌then◌else◌, Option, Some, None, Result, Ok, Err}
 use Rattle.std.specs.Fmt.{decimal}
 use Rattle.hex.specs.Hex.{encode_lower}
-use Rattle.kmip_ttlv.specs.declared.fault.TtlvFault.{TtlvFault}
+use Rattle.kmip_ttlv.specs.declared.ttlv_fault.TtlvFault.{TtlvFault}
 use Rattle.kmip_ttlv.specs.Faults.{fault_number, fault_name, fault_offset}
 use Rattle.kmip_ttlv.specs.Limits.{most_levels}
 use Rattle.kmip_ttlv.specs.Node.{Node}
 use Rattle.kmip_ttlv.specs.Reading.{item_at}
 use Rattle.kmip_ttlv.specs.Showing.{shown_text}
 use Rattle.kmip_ttlv.specs.Spelling.{canon}
-use Rattle.kmip_message_commands.specs.declared.showing.Form.{Form}
-use Rattle.kmip_message_commands.specs.declared.showing.Form.TheVariants.{Text, Canonical}
+use Rattle.kmip_message_commands.specs.declared.form.Form.{Form}
+use Rattle.kmip_message_commands.specs.declared.form.Form.TheVariants.{Text, Canonical}
 use Rattle.kmip_message_commands.specs.Judging.{has_refused}
-use Rattle.kmip_message_commands.specs.LineText.{Response, lines_text, input_text}
+use Rattle.kmip_message_commands.specs.LineText.{lines_text, input_text}
 
 -- No item was read, or bytes stand after it.
 abbrev pub leaves_bytes : ℕ → Result (Node × ℕ) TtlvFault → Bool
@@ -50,10 +50,6 @@ text_of_read form len (Err fault) = fault_text fault
 -- What is written for a message.
 unfoldable pub show_text : Form → List ℕ → List ℕ
 show_text form bytes = text_of_read form (length bytes) (item_at most_levels 0 bytes)
-
--- Private: how `show` responds: no message changes what is written for the next.
-abbrev pub shows : Response Form
-shows = record { text = show_text; after = λ form message. form; refuses = is_no_item; over = λ _. false }
 
 -- What `show` writes for lines.
 abbrev pub shown_lines : Form → List (List ℕ) → List ℕ

@@ -7,15 +7,15 @@ use Rattle.std.specs.List.{flat_map}
 use Rattle.kmip_frames.specs.Faults.{frame_fault_number, frame_fault_name}
 use Rattle.kmip_frames.specs.Framing.{fault_in}
 use Rattle.kmip_frames.specs.Streams.{Stream}
-use Rattle.kmip_frames.specs.declared.fault.FrameFault.{FrameFault}
+use Rattle.kmip_frames.specs.declared.frame_fault.FrameFault.{FrameFault}
 use Rattle.kmip_store.specs.Stock.{Stock}
 use Rattle.kmip_server.specs.Batching.{stock_after_batch}
 use Rattle.kmip_message_commands.specs.AnswerText.{first_stock, reply_text}
 use Rattle.kmip_message_commands.specs.Judging.{Saying, nothing, too_long, no_hex, message, saying_of, has_refused_line}
 use Rattle.kmip_message_commands.specs.Lines.{lines_of}
-use Rattle.kmip_message_commands.specs.declared.streaming.InputEnd.{InputEnd}
-use Rattle.kmip_message_commands.specs.declared.streaming.InputEnd.TheVariants.{Whole, Cut, Refused}
-use Rattle.kmip_message_commands.specs.declared.streaming.StreamOutcome.{StreamOutcome}
+use Rattle.kmip_message_commands.specs.declared.input_end.InputEnd.{InputEnd}
+use Rattle.kmip_message_commands.specs.declared.input_end.InputEnd.TheVariants.{Whole, Cut, Refused}
+use Rattle.kmip_message_commands.specs.declared.stream_outcome.StreamOutcome.{StreamOutcome}
 
 -- The bytes that a line adds to the stream: none where it is empty or refused.
 abbrev pub piece_of : Saying → List ℕ

@@ -1,18 +1,19 @@
 //! The command `answer`: each line of its input is a message in hexadecimal, and each reply of one
 //! server a line of its output.
 ghost use Rattle.std.specs.Prelude.{◌≡◌, ◌++◌, [], Some, IfOk, OnOk, IfErr, OnErr};
-ghost use Rattle.kmip_store.specs.Stock.{Stock};
 ghost use Rattle.kmip_server.specs.Batching.{stock_after_batch};
-ghost use Rattle.kmip_message_commands.specs.AnswerText.{answer_lines, answer_text, answers, first_stock, reply_text};
+ghost use Rattle.kmip_message_commands.specs.AnswerText.{answer_lines, answer_text, first_stock, reply_text};
+ghost use Rattle.kmip_message_commands.specs.Private.{answers};
 ghost use Rattle.kmip_message_commands.specs.Judging.{has_refused_line};
 ghost use Rattle.kmip_message_commands.specs.Lines.{lines_of};
 ghost use Rattle.kmip_message_commands.specs.Printing.{BreaksOff, IfFailed, IfWhole, Prints, Tells, WroteFront, fault_line, nothing_more};
 
+use crate::answerer::Answerer;
+use crate::command_fault::CommandFault;
 use crate::exit_status::ExitStatus;
-use crate::fault::CommandFault;
 use crate::finishing::finished;
 use crate::replies::push_hex;
-use crate::responding::{Respond, respond_to_bytes, respond_to_lines};
+use crate::responding::{respond_to_bytes, respond_to_lines};
 use kmip_server::{IndexedStore, Server};
 use kmip_store::{MOST_ROOM, SEED};
 use kmip_ttlv::NoMemory;
@@ -115,36 +116,4 @@ pub(crate) fn push_reply(
 {
     let reply = server.handle(alloc, message, NOW)?;
     push_hex(alloc, reply.as_slice(), text)
-}
-
-/// Answers a message by a server's reply.
-#[derive(Drop)]
-struct Answerer {
-    server: Server<IndexedStore>,
-}
-
-impl Respond for Answerer {
-    ghost State = { Stock };
-
-    ghost state = { λ a. a.server };
-
-    ghost response = { answers };
-
-    ghost IsReady = { λ _. Unit {0} };
-
-    fn respond(
-        &mut self,
-        alloc: Global,
-        message: &[u8],
-        text: &mut Vec<u8>,
-    ) -> Result<bool, NoMemory> {
-        push_reply(alloc, &mut self.server, message, text)?;
-        Ok(false)
-    }
-
-    fn is_over(&self) -> bool {
-        false
-    }
-
-    fn stays_ready() {}
 }

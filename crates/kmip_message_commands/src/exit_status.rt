@@ -2,7 +2,7 @@
 ghost use Rattle.std.specs.Prelude.{◌≡◌};
 ghost use Rattle.kmip_message_commands.specs.Printing.{code_of};
 
-use crate::fault::CommandFault;
+use crate::command_fault::CommandFault;
 
 /// What the exit status of the program says.
 #[derive(Clone, Copy, Debug, PartialEq, Eq)]

@@ -1,24 +1,13 @@
 //! What a line of the input says.
 ghost use Rattle.std.specs.Prelude.{◌≡◌, IfOk};
-ghost use Rattle.kmip_message_commands.specs.Judging.{judge, saying_of};
+ghost use Rattle.kmip_message_commands.specs.Private.{judge};
+ghost use Rattle.kmip_message_commands.specs.Judging.{saying_of};
 
+use crate::judged::Judged;
 use crate::lines::MOST_DIGITS;
 use hex::FromHexError;
 use kmip_ttlv::NoMemory;
 use std::alloc::Global;
-
-/// What a line says.
-#[derive(Drop)]
-pub enum Judged {
-    /// Nothing: the line is empty.
-    Empty,
-    /// More than a message may have.
-    Long,
-    /// No message: the digits are odd in number, or a byte is no digit.
-    NotHex,
-    /// The message that the digits spell.
-    Message(Vec<u8>),
-}
 
 /// Says what a line is. The length is judged before the bytes are.
 ///

@@ -13,25 +13,38 @@
 //! of other crates.
 #![tactic(auto)]
 
+mod answerer;
 mod answering;
+mod command_fault;
 mod exit_status;
-mod fault;
 mod finishing;
+mod form;
+mod input_end;
+mod judged;
 mod judging;
 mod lines;
+mod next_line;
+mod piece;
+mod printed;
 mod printer;
 mod replies;
+mod respond;
 mod responding;
+mod shower;
 mod showing;
+mod stream_outcome;
+mod streamer;
 mod streaming;
 
 pub use answering::{answer, answer_bytes, run_answer};
+pub use command_fault::CommandFault;
 pub use exit_status::ExitStatus;
-pub use fault::CommandFault;
 pub use finishing::finished;
-pub use printer::{Printed, Printer};
+pub use form::Form;
+pub use input_end::InputEnd;
+pub use printed::Printed;
+pub use printer::Printer;
 pub use replies::{push_text, send};
-pub use showing::{Form, run_show, show_bytes, show_lines};
-pub use streaming::{
-    InputEnd, StreamOutcome, answer_stream, answer_stream_bytes, run_answer_stream,
-};
+pub use showing::{run_show, show_bytes, show_lines};
+pub use stream_outcome::StreamOutcome;
+pub use streaming::{answer_stream, answer_stream_bytes, run_answer_stream};

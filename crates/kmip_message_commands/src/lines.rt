@@ -2,9 +2,12 @@
 ghost use Rattle.std.specs.Prelude.{◌≡◌, ◌==◌, ◌<◌, ◌∷◌, length, IfOk, OnOk, IfSome};
 ghost use Rattle.std.specs.List.{position};
 ghost use Rattle.std.specs.Io.KnownBytes.{Keeps};
-ghost use Rattle.kmip_message_commands.specs.Lines.{TakesLine, TakesPiece, kept_with, lines_of};
+ghost use Rattle.kmip_message_commands.specs.Private.{TakesLine, TakesPiece, kept_with};
+ghost use Rattle.kmip_message_commands.specs.Lines.{lines_of};
 
-use crate::fault::CommandFault;
+use crate::command_fault::CommandFault;
+use crate::next_line::NextLine;
+use crate::piece::Piece;
 use crate::replies::flush;
 use memchr::memchr;
 use std::io::{BufRead, ErrorKind, Write};
@@ -16,26 +19,6 @@ pub const MOST_DIGITS: usize = 16_384;
 const MOST_KEPT: usize = MOST_DIGITS + 1;
 
 const LINE_FEED: u8 = b'\n';
-
-/// What `read_line` found.
-#[derive(Clone, Copy)]
-pub enum NextLine {
-    /// A line. The flag says whether the reader has bytes after it that it gives without a wait.
-    Line { has_more: bool },
-    /// The end of the input.
-    End,
-}
-
-/// What one look into the reader's buffer found.
-#[derive(Clone, Copy)]
-enum Piece {
-    /// No line feed, or no bytes since the read was interrupted. The buffer is used up.
-    Middle,
-    /// The line's end, with the flag of `NextLine`.
-    Last { has_more: bool },
-    /// No byte is left.
-    Nothing,
-}
 
 /// Reads the next line, without its line feed, into `line`, or its first 16,385 bytes where it has
 /// more. What was written goes out before the reader waits for input.

@@ -1,10 +1,10 @@
 //! Where the text of a command goes: to a writer, or into memory, which fails only where there is none.
 ghost use Rattle.std.specs.Prelude.{◌≡◌, ℕ, List, Option, OnOk, OnErr, IfErr};
 ghost use Rattle.std.specs.Io.KnownBytes.{Appends, Keeps};
-ghost use Rattle.kmip_message_commands.specs.declared.fault.CommandFault.{CommandFault};
+ghost use Rattle.kmip_message_commands.specs.declared.command_fault.CommandFault.{CommandFault};
 
-use crate::fault::CommandFault;
-use crate::replies::{push_text, send};
+use crate::command_fault::CommandFault;
+use crate::replies::send;
 use std::io::Write;
 
 /// What a command prints its text on: a writer, or a text in memory (`Printed`).
@@ -35,7 +35,7 @@ pub trait Printer {
 
 /// Every writer. It fails by `Output`, and may have taken any part of the text.
 impl<W: Write> Printer for W {
-    ghost use Rattle.kmip_message_commands.specs.declared.fault.CommandFault.TheVariants.{Output};
+    ghost use Rattle.kmip_message_commands.specs.declared.command_fault.CommandFault.TheVariants.{Output};
 
     ghost contents = { λ writer. W.contents writer };
 
@@ -45,29 +45,5 @@ impl<W: Write> Printer for W {
 
     fn print(&mut self, text: &[u8]) -> Result<(), CommandFault> {
         send(text, false, self)
-    }
-}
-
-/// A text in memory, which grows at its end. It fails by `NoMemory`, and is as it was then.
-#[derive(Drop)]
-pub struct Printed {
-    pub text: Vec<u8>,
-}
-
-impl Printer for Printed {
-    ghost use Rattle.std.specs.Prelude.{Some};
-    ghost use Rattle.kmip_message_commands.specs.declared.fault.CommandFault.TheVariants.{NoMemory};
-
-    ghost contents = { λ printed. Some printed.text.items };
-
-    ghost own_fault = { NoMemory };
-
-    ghost IsWhole = { Unit {0} };
-
-    fn print(&mut self, text: &[u8]) -> Result<(), CommandFault> {
-        match push_text(text, &mut self.text) {
-            Ok(()) => Ok(()),
-            Err(_) => Err(CommandFault::NoMemory),
-        }
     }
 }

@@ -2,9 +2,9 @@
 ghost use Rattle.std.specs.Prelude.{◌≡◌, OnOk, OnErr, IfErr, ◌∷◌, ◌++◌, []};
 ghost use Rattle.std.specs.Io.KnownBytes.{Appends, Keeps};
 ghost use Rattle.hex.specs.Hex.{encode_lower};
-ghost use Rattle.kmip_message_commands.specs.declared.fault.CommandFault.TheVariants.{Output};
+ghost use Rattle.kmip_message_commands.specs.declared.command_fault.CommandFault.TheVariants.{Output};
 
-use crate::fault::CommandFault;
+use crate::command_fault::CommandFault;
 use kmip_ttlv::NoMemory;
 use std::alloc::Global;
 use std::io::Write;

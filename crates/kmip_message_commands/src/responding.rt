@@ -1,59 +1,20 @@
 //! The loops over the lines of a command's input: of a reader, and of bytes in memory.
-ghost use Rattle.std.specs.Prelude.{◌≡◌, ◌++◌, ℕ, List, Some, IfOk, OnOk, IfErr, OnErr};
+ghost use Rattle.std.specs.Prelude.{◌≡◌, ◌++◌, Some, IfOk, OnOk, IfErr, OnErr};
 ghost use Rattle.kmip_message_commands.specs.Judging.{is_saying_refused, saying_of};
-ghost use Rattle.kmip_message_commands.specs.LineText.{Response, saying_text, state_after_saying, RespondsTo, BreaksOffAt};
+ghost use Rattle.kmip_message_commands.specs.Private.{RespondsTo, BreaksOffAt};
+ghost use Rattle.kmip_message_commands.specs.LineText.{saying_text, state_after_saying};
 ghost use Rattle.kmip_message_commands.specs.Printing.{UnlessOutput};
 
-use crate::fault::CommandFault;
-use crate::judging::{Judged, judge};
-use crate::lines::{NextLine, first_line, read_line};
+use crate::command_fault::CommandFault;
+use crate::judged::Judged;
+use crate::judging::judge;
+use crate::lines::{first_line, read_line};
+use crate::next_line::NextLine;
 use crate::replies::{REFUSED_HEX, REFUSED_LENGTH, flush, push_text, send};
+use crate::respond::Respond;
 use kmip_ttlv::NoMemory;
 use std::alloc::Global;
 use std::io::{BufRead, Write};
-
-/// How a command responds to a message of its input.
-pub(crate) trait Respond {
-    /// What the responses depend on.
-    ghost State: { Type 0 };
-
-    /// The state that the command is in.
-    ghost state: { Self → State };
-
-    /// What is written for a message, the state after it, whether it is refused, and in which states
-    /// the command is over: no line is looked at any more.
-    ghost response: { Response State };
-
-    /// What holds of the state between two messages.
-    ghost IsReady: { State → Type 0 };
-
-    /// Appends what is printed for the message, and says whether the message is refused.
-    ///
-    /// # Errors
-    ///
-    /// Where there is no memory; then the text may have grown by anything.
-    fn respond(
-        &mut self,
-        alloc: Global,
-        message: &[u8],
-        text: &mut Vec<u8>,
-    ) -> Result<bool, NoMemory>
-        requires { IsReady (state self.old) }
-        ensures text { OnOk result (text.new.items
-            ≡ text.old.items ++ response.text (state self.old) message.now) }
-        ensures after { OnOk result (state self.new
-            ≡ response.after (state self.old) message.now) }
-        ensures refused { IfOk result (λ r. r ≡ response.refuses message.now) };
-
-    /// Whether the command is over: it looks at no further line.
-    fn is_over(&self) -> bool
-        ensures { result ≡ response.over (state self.now) };
-
-    /// A message leaves the command ready for the next: a law, which does nothing.
-    fn stays_ready()
-        ensures { (s : State) (message : List ℕ) → IsReady s
-            → IsReady (response.after s message) };
-}
 
 /// Responds to each line of the reader in order until the command is over, and says whether a line
 /// was refused. A refused line prints why, and does not end the command. The text of a line is made

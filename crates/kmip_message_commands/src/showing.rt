@@ -6,26 +6,19 @@ ghost use Rattle.kmip_ttlv.specs.Sizes.{IsWritable};
 ghost use Rattle.kmip_ttlv.specs.View.{view};
 ghost use Rattle.kmip_message_commands.specs.Lines.{lines_of};
 ghost use Rattle.kmip_message_commands.specs.Printing.{BreaksOff, IfFailed, IfWhole, Prints, Tells, WroteFront, fault_line, nothing_more};
-ghost use Rattle.kmip_message_commands.specs.declared.showing.Form.{Form};
-ghost use Rattle.kmip_message_commands.specs.Showing.{is_no_item, has_no_item, show_text, shown_input, shown_lines, shows, item_text, extra_text, fault_text};
+ghost use Rattle.kmip_message_commands.specs.declared.form.Form.{Form};
+ghost use Rattle.kmip_message_commands.specs.Showing.{is_no_item, has_no_item, show_text, shown_input, shown_lines, item_text, extra_text, fault_text};
 
+use crate::command_fault::CommandFault;
 use crate::exit_status::ExitStatus;
-use crate::fault::CommandFault;
 use crate::finishing::finished;
+use crate::form::Form;
 use crate::replies::{push_hex, push_text};
-use crate::responding::{Respond, respond_to_bytes, respond_to_lines};
+use crate::responding::{respond_to_bytes, respond_to_lines};
+use crate::shower::Shower;
 use kmip_ttlv::{Item, NoMemory, TtlvFault, read, show, write};
 use std::alloc::Global;
 use std::io::{BufRead, Write};
-
-/// How `show` prints an item.
-#[derive(Clone, Copy, Debug, PartialEq, Eq)]
-pub enum Form {
-    /// A line of text for each item, those inside a Structure below it.
-    Text,
-    /// The one written form of its bytes in hexadecimal, the padding zero.
-    Canonical,
-}
 
 /// Runs `show`, prints the line of a fault, unless it is one of the writer, and says how the program
 /// ends.
@@ -102,40 +95,9 @@ pub fn show_bytes(
     respond_to_bytes(alloc, &mut shower, input, output)
 }
 
-/// Shows the item that all the bytes of a message are.
-#[derive(Drop)]
-struct Shower {
-    form: Form,
-}
-
-impl Respond for Shower {
-    ghost State = { Form };
-
-    ghost state = { λ s. s.form };
-
-    ghost response = { shows };
-
-    ghost IsReady = { λ _. Unit {0} };
-
-    fn respond(
-        &mut self,
-        alloc: Global,
-        message: &[u8],
-        text: &mut Vec<u8>,
-    ) -> Result<bool, NoMemory> {
-        show_message(alloc, self.form, message, text)
-    }
-
-    fn is_over(&self) -> bool {
-        false
-    }
-
-    fn stays_ready() {}
-}
-
 /// Appends the item that all the bytes are, or why they are none, and says whether they are none.
 #[tactic(auto, unfolding(crate::specs::Showing::is_no_item, crate::specs::Showing::show_text))]
-fn show_message(
+pub(crate) fn show_message(
     alloc: Global,
     form: Form,
     message: &[u8],

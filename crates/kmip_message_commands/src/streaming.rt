@@ -1,52 +1,21 @@
 //! The command `answer --stream`: the lines of its input are pieces of one stream of messages, and
 //! each reply of one server is a line of its output.
-ghost use Rattle.std.specs.Prelude.{◌≡◌, ◌≤◌, ◌<◌, ◌++◌, [], length, take, None, Some, IfOk, OnOk, IfErr, OnErr, IfSome};
-ghost use Rattle.kmip_frames.specs.Framing.{fault_in};
-ghost use Rattle.kmip_frames.specs.Streams.{BeginsWithNoMessage};
-ghost use Rattle.kmip_message_commands.specs.AnswerText.{first_stock};
-ghost use Rattle.kmip_message_commands.specs.Bytewise.{StreamState, IsReady, piece_text, state_after_piece, streams};
+ghost use Rattle.std.specs.Prelude.{◌≡◌, ◌<◌, ◌++◌, [], Some, IfOk, OnOk, IfErr, OnErr, IfSome};
 ghost use Rattle.kmip_message_commands.specs.Printing.{IfFailed, IfWhole, UnlessOutput, fault_line};
-ghost use Rattle.kmip_message_commands.specs.StreamText.{end_of, stream_refusal_text, cut_text, tail_text, is_whole, IsWritten, IsAnswered, IsStreamAnswered, IsBrokenOff};
+ghost use Rattle.kmip_message_commands.specs.StreamText.{stream_refusal_text, cut_text, tail_text, IsWritten, IsAnswered, IsStreamAnswered, IsBrokenOff};
 
-use crate::answering::{new_server, push_reply};
+use crate::command_fault::CommandFault;
 use crate::exit_status::ExitStatus;
-use crate::fault::CommandFault;
 use crate::finishing::finished;
+use crate::input_end::InputEnd;
 use crate::replies::{push_text, send};
-use crate::responding::{Respond, respond_to_bytes, respond_to_lines};
-use kmip_frames::{FrameFault, Framer};
-use kmip_server::{IndexedStore, Server};
+use crate::responding::{respond_to_bytes, respond_to_lines};
+use crate::stream_outcome::StreamOutcome;
+use crate::streamer::Streamer;
+use kmip_frames::FrameFault;
 use kmip_ttlv::NoMemory;
 use std::alloc::Global;
 use std::io::{BufRead, Write};
-
-/// How a stream of messages ended.
-#[derive(Clone, Copy, Debug)]
-pub enum InputEnd {
-    /// After a whole message, or before the first.
-    Whole,
-    /// Inside a message, of which this many bytes came: 1 to 8,191.
-    Cut(usize),
-    /// At a head that is no message's.
-    Refused(FrameFault),
-}
-
-/// What became of the lines of a stream.
-#[derive(Clone, Copy, Debug)]
-pub struct StreamOutcome {
-    pub end: InputEnd,
-    /// Whether a line was refused, up to the one that ended the stream.
-    pub has_refused: bool,
-}
-
-impl StreamOutcome {
-    /// Whether all was messages: no line was refused, and the stream neither refused nor cut.
-    pub fn is_whole(self) -> bool
-        ensures { result ≡ is_whole self }
-    {
-        !self.has_refused && matches!(self.end, InputEnd::Whole)
-    }
-}
 
 /// Runs `answer --stream`, prints the line of a fault, unless it is one of the writer, and says how the
 /// program ends.
@@ -156,107 +125,13 @@ pub fn answer_stream_bytes(
     Ok(StreamOutcome { end, has_refused })
 }
 
-/// Answers the messages of a stream by a server's replies.
-#[derive(Drop)]
-struct Streamer {
-    server: Server<IndexedStore>,
-    framer: Framer,
-}
-
-impl Streamer {
-    /// A server without rows, before the first byte.
-    fn new(alloc: Global) -> Result<Streamer, NoMemory>
-        ensures { IfOk result (λ s. (s.server ≡ first_stock) × (s.framer ≡ [])) }
-    {
-        let Ok(framer) = Framer::new(alloc) else {
-            return Err(NoMemory);
-        };
-        let server = new_server(alloc);
-        Ok(Streamer { server, framer })
-    }
-
-    /// How the stream ends here.
-    fn end(&self) -> InputEnd
-        ensures { result ≡ end_of self.now.framer }
-    {
-        if let Some(fault) = self.framer.fault() {
-            return InputEnd::Refused(fault);
-        }
-        match self.framer.pending() {
-            0 => InputEnd::Whole,
-            left => InputEnd::Cut(left),
-        }
-    }
-
-    /// Takes the piece up to the end of a message, which is answered, or to its own end, and says how
-    /// many bytes it took. A head that is no message's prints its fault: then all are taken.
-    fn advance(
-        &mut self,
-        alloc: Global,
-        piece: &[u8],
-        text: &mut Vec<u8>,
-    ) -> Result<usize, NoMemory>
-        requires begins { BeginsWithNoMessage self.old.framer }
-        requires lawful { fault_in self.old.framer ≡ None }
-        ensures text { IfOk result (λ count. text.new.items ≡ text.old.items
-            ++ piece_text (self.old.server, self.old.framer) (take count piece.now)) }
-        ensures after { IfOk result (λ count. (self.new.server, self.new.framer)
-            ≡ state_after_piece (self.old.server, self.old.framer) (take count piece.now)) }
-        ensures within { IfOk result (λ count. count ≤ length piece.now) }
-        ensures some { IfOk result (λ count. 0 < length piece.now → 0 < count) }
-    {
-        let count = match self.framer.feed(piece) {
-            Ok(count) => count,
-            Err(fault) => {
-                push_refusal(alloc, fault, text)?;
-                return Ok(piece.len());
-            }
-        };
-        let Ok(next) = self.framer.next(alloc) else {
-            return Err(NoMemory);
-        };
-        let Some(message) = next else {
-            return Ok(count);
-        };
-        push_reply(alloc, &mut self.server, message.as_slice(), text)?;
-        Ok(count)
-    }
-}
-
-impl Respond for Streamer {
-    ghost State = { StreamState };
-
-    ghost state = { λ s. (s.server, s.framer) };
-
-    ghost response = { streams };
-
-    ghost IsReady = { IsReady };
-
-    fn respond(
-        &mut self,
-        alloc: Global,
-        message: &[u8],
-        text: &mut Vec<u8>,
-    ) -> Result<bool, NoMemory> {
-        let mut rest = message;
-        while !rest.is_empty() && !self.is_over() {
-            let count = self.advance(alloc, rest, text)?;
-            let (_, after) = rest.split_at(count);
-            rest = after;
-        }
-        Ok(false)
-    }
-
-    fn is_over(&self) -> bool {
-        self.framer.fault().is_some()
-    }
-
-    fn stays_ready() {}
-}
-
 /// Appends the fault of a head, by its number and name.
 #[tactic(auto, unfolding(crate::specs::StreamText::stream_refusal_text))]
-fn push_refusal(alloc: Global, fault: FrameFault, text: &mut Vec<u8>) -> Result<(), NoMemory>
+pub(crate) fn push_refusal(
+    alloc: Global,
+    fault: FrameFault,
+    text: &mut Vec<u8>,
+) -> Result<(), NoMemory>
     ensures { OnOk result (text.new.items ≡ text.old.items ++ stream_refusal_text fault) }
 {
     let number = fault.number();

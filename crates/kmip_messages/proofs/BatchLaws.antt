@@ -7,7 +7,7 @@ use Rattle.std.proofs.lemmas.Bool.Decides.{Decides-int_eq}
 use Rattle.std.proofs.lemmas.List.{length-map}
 use Rattle.kmip_ttlv.specs.Node.{Node, node}
 use Rattle.kmip_ttlv.proofs.ReadSteps.{Reads, reads-ok, reads-bind, reads-as}
-use Rattle.kmip_batch_items.specs.declared.fault.MessageFault.TheVariants.{BatchCount, Undo}
+use Rattle.kmip_batch_items.specs.declared.message_fault.MessageFault.TheVariants.{BatchCount, Undo}
 use Rattle.kmip_batch_items.specs.Formats.{inside}
 use Rattle.kmip_batch_items.specs.Siblings.{contents}
 use Rattle.kmip_batch_items.proofs.FormatParts.{reads}

@@ -10,8 +10,8 @@ use Rattle.kmip_ttlv.specs.Node.{Node, Content}
 use Rattle.kmip_ttlv.specs.Spelling.{canon, Spells}
 use Rattle.kmip_ttlv.proofs.ForCallers.{canon_spells}
 use Rattle.kmip_ttlv.proofs.ReadSteps.{Reads, reads-bind, ok}
-use Rattle.kmip_batch_items.specs.declared.fault.MessageFault.{MessageFault}
-use Rattle.kmip_batch_items.specs.declared.fault.MessageFault.TheVariants.{NoMemory}
+use Rattle.kmip_batch_items.specs.declared.message_fault.MessageFault.{MessageFault}
+use Rattle.kmip_batch_items.specs.declared.message_fault.MessageFault.TheVariants.{NoMemory}
 use Rattle.kmip_batch_items.specs.Faults.{is_no_memory}
 use Rattle.kmip_batch_items.specs.Reading.{Fails, Gives}
 use Rattle.kmip_batch_items.specs.Siblings.{contents}

@@ -8,7 +8,8 @@ use Rattle.kmip_batch_items.specs.declared.reply.Reply.{Reply}
 use Rattle.kmip_batch_items.specs.BatchItems.{answer_fits}
 use Rattle.kmip_batch_items.proofs.BatchItemSizes.{brief_size}
 use Rattle.kmip_messages.specs.Members.{may_have}
-use Rattle.kmip_messages.specs.Written.{IsShort, answers_size, replies_fit, replies_item}
+use Rattle.kmip_messages.specs.Private.{IsShort, answers_size}
+use Rattle.kmip_messages.specs.Written.{replies_fit, replies_item}
 use Rattle.kmip_messages.proofs.SizeLemmas.{size-replies}
 
 both : {a b : Bool} → a ≡ true → b ≡ true → (a && b) ≡ true

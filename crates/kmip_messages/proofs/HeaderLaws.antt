@@ -3,8 +3,8 @@ use Rattle.std.proofs.Common.{ℕ, ℤ, List, Option, refl, subst}
 use Rattle.std.proofs.lemmas.Bool.Decides.{Decides-int_eq}
 use Rattle.kmip_ttlv.specs.Node.{Node, integer}
 use Rattle.kmip_batch_items.specs.Formats.{integers, enumerations}
-use Rattle.kmip_batch_items.specs.FormatLaws.{IsPart}
-use Rattle.kmip_batch_items.specs.Standing.{Once}
+use Rattle.kmip_batch_items.specs.PrivateFormatLaws.{IsPart}
+use Rattle.kmip_batch_items.specs.Occurrences.{Once}
 use Rattle.kmip_batch_items.proofs.FormatParts.{required-part, optional-part, unread-part, structure-part, ranged-part, both-part, right-part}
 use Rattle.kmip_batch_items.proofs.ItemReads.{integer_kind, enumeration_kind}
 use Rattle.kmip_batch_items.specs.declared.standard.TheConstants.{TAG_PROTOCOL_VERSION_MAJOR, VERSION_MAJOR}

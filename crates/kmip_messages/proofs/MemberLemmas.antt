@@ -6,12 +6,13 @@ use Rattle.kmip_ttlv.specs.Node.{Node, node, Content, as_structure}
 use Rattle.kmip_ttlv.specs.View.{content, views}
 use Rattle.kmip_ttlv.specs.declared.item.Item.{Item}
 use Rattle.kmip_ttlv.proofs.ReadSteps.{Reads, reads-ok, reads-bind, reads-as}
-use Rattle.kmip_batch_items.specs.declared.fault.MessageFault.{MessageFault}
-use Rattle.kmip_batch_items.specs.Formats.{Format, inside, structures}
-use Rattle.kmip_batch_items.specs.FormatLaws.{IsPart, avoid}
+use Rattle.kmip_batch_items.specs.declared.message_fault.MessageFault.{MessageFault}
+use Rattle.kmip_batch_items.specs.Formats.{Format, inside}
+use Rattle.kmip_batch_items.specs.Private.{structures}
+use Rattle.kmip_batch_items.specs.PrivateFormatLaws.{IsPart, avoid}
 use Rattle.kmip_batch_items.specs.Siblings.{contents, typed}
 use Rattle.kmip_batch_items.proofs.ItemReads.{structure_kind, reads-typed}
-use Rattle.kmip_batch_items.specs.Standing.{HaveTags}
+use Rattle.kmip_batch_items.specs.Occurrences.{HaveTags}
 use Rattle.kmip_batch_items.proofs.TagLemmas.{contents_first, own_tag, agree_behind, agree_before}
 use Rattle.kmip_batch_items.specs.declared.standard.TheConstants.{TAG_BATCH_ITEM}
 use Rattle.kmip_messages.specs.Members.{all_structures, member_in, members_in, members_at, SayEach}

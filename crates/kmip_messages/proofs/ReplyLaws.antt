@@ -4,7 +4,7 @@ use Rattle.std.specs.List.{list_all}
 use Rattle.std.proofs.lemmas.Bool.{and_parts}
 use Rattle.kmip_ttlv.specs.Node.{Node, node}
 use Rattle.kmip_ttlv.proofs.ReadSteps.{Reads, reads-bind, reads-as}
-use Rattle.kmip_batch_items.specs.declared.fault.MessageFault.TheVariants.{BatchCount}
+use Rattle.kmip_batch_items.specs.declared.message_fault.MessageFault.TheVariants.{BatchCount}
 use Rattle.kmip_batch_items.specs.Formats.{inside}
 use Rattle.kmip_batch_items.specs.Siblings.{contents}
 use Rattle.kmip_batch_items.proofs.FormatParts.{reads}

@@ -20,7 +20,8 @@ use Rattle.kmip_batch_items.proofs.BatchItemSizes.{question_depth, question_grou
 use Rattle.kmip_messages.specs.Headers.{option_format, header_parts_format, header_format, reply_header_parts_format, reply_header_format}
 use Rattle.kmip_messages.specs.Members.{may_have}
 use Rattle.kmip_messages.proofs.HeaderLaws.{header-part, reply_header-part}
-use Rattle.kmip_messages.specs.Written.{option_for, requests_item, requests_fit, replies_item, answers_size, replies_fit}
+use Rattle.kmip_messages.specs.Written.{option_for, requests_item, requests_fit, replies_item, replies_fit}
+use Rattle.kmip_messages.specs.Private.{answers_size}
 
 -- the items have at most so many levels, whole groups, and at most this size together
 record AreWithin (levels bytes : ℕ) (ns : List Node) : Type 0 where

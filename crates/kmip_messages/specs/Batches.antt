@@ -6,11 +6,11 @@ use Rattle.std.specs.Prelude.{◌≡◌, ℕ, ℤ, pos, Bool, true, false, not, 
 use Rattle.std.specs.Option.{option_map, option_map_or}
 use Rattle.kmip_ttlv.specs.Binding.{◌>>=◌}
 use Rattle.kmip_ttlv.specs.Node.{Node, node, integer, enumeration}
-use Rattle.kmip_batch_items.specs.declared.fault.MessageFault.{MessageFault}
-use Rattle.kmip_batch_items.specs.declared.fault.MessageFault.TheVariants.{BatchCount, Undo}
+use Rattle.kmip_batch_items.specs.declared.message_fault.MessageFault.{MessageFault}
+use Rattle.kmip_batch_items.specs.declared.message_fault.MessageFault.TheVariants.{BatchCount, Undo}
 use Rattle.kmip_batch_items.specs.Formats.{inside}
 use Rattle.kmip_batch_items.specs.Siblings.{contents, guard}
-use Rattle.kmip_batch_items.specs.Standing.{Once, AtMostOnce}
+use Rattle.kmip_batch_items.specs.Occurrences.{Once, AtMostOnce}
 use Rattle.kmip_batch_items.specs.declared.reply.Reply.{Reply}
 use Rattle.kmip_batch_items.specs.declared.standard.TheConstants.{TAG_REQUEST_MESSAGE, TAG_RESPONSE_MESSAGE, TAG_REQUEST_HEADER, TAG_RESPONSE_HEADER, TAG_PROTOCOL_VERSION, TAG_PROTOCOL_VERSION_MAJOR, TAG_PROTOCOL_VERSION_MINOR, TAG_BATCH_COUNT, TAG_BATCH_ERROR_CONTINUATION_OPTION, TAG_BATCH_ITEM, UNDO, VERSION_MAJOR}
 use Rattle.kmip_batch_items.specs.BatchItems.{question_at, IsQuestion, IsAnswer}

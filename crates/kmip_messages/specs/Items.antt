@@ -5,7 +5,7 @@ use Rattle.std.specs.Prelude.{◌≡◌, ℕ, Bool, true, false, not, ◌==◌, 
 use Rattle.std.specs.List.{filter_map}
 use Rattle.std.specs.Option.{option_map_or}
 use Rattle.std.specs.Result.{result_ok}
-use Rattle.kmip_batch_items.specs.declared.fault.MessageFault.{MessageFault}
+use Rattle.kmip_batch_items.specs.declared.message_fault.MessageFault.{MessageFault}
 use Rattle.kmip_batch_items.specs.declared.refusal.Refusal.{Refusal}
 use Rattle.kmip_batch_items.specs.declared.reply.Reply.{Reply}
 use Rattle.kmip_batch_items.specs.declared.request.Request.{Request}

@@ -14,3 +14,5 @@ pub mod Written
 pub mod Items
 -- What holds of these lists.
 pub mod Laws
+-- private: what only the clauses of private functions cite
+pub mod Private

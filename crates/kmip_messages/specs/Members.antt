@@ -5,7 +5,7 @@ use Rattle.std.specs.Prelude.{◌≡◌, ℕ, ℤ, pos, Bool, ◌&&◌, nat_le, 
 use Rattle.std.specs.Ordering.{int_eq}
 use Rattle.kmip_ttlv.specs.Binding.{◌>>=◌}
 use Rattle.kmip_ttlv.specs.Node.{Node, Content, as_structure}
-use Rattle.kmip_batch_items.specs.declared.fault.MessageFault.{MessageFault}
+use Rattle.kmip_batch_items.specs.declared.message_fault.MessageFault.{MessageFault}
 use Rattle.kmip_batch_items.specs.Formats.{inside}
 use Rattle.kmip_batch_items.specs.Siblings.{contents, typed}
 use Rattle.kmip_batch_items.specs.declared.standard.TheConstants.{TAG_BATCH_ITEM, MOST_QUESTIONS}

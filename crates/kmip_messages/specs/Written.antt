@@ -1,7 +1,7 @@
 -- The item of each message, and which have a written form.
 -- Source: KMIP 2.1, Message Structure. Own (choice): Continue stands where two questions or more are asked,
 -- and the ranges. Own (limit): one to eight Batch Items, and 8,192 bytes.
-use Rattle.std.specs.Prelude.{ℕ, ◌+◌, ℤ, pos, Bool, ◌&&◌, nat_le, if◌then◌else◌, List, [], ◌∷◌, ◌++◌, length, map, Option, Some, None, Ok, IsTrue}
+use Rattle.std.specs.Prelude.{ℕ, ◌+◌, ℤ, pos, Bool, ◌&&◌, nat_le, if◌then◌else◌, List, ◌++◌, length, map, Option, Some, None, Ok}
 use Rattle.std.specs.List.{list_all}
 use Rattle.kmip_ttlv.specs.Limits.{most_bytes}
 use Rattle.kmip_ttlv.specs.Node.{Node, node}
@@ -11,7 +11,6 @@ use Rattle.kmip_batch_items.specs.declared.reply.Reply.{Reply}
 use Rattle.kmip_batch_items.specs.declared.request.Request.{Request}
 use Rattle.kmip_batch_items.specs.declared.standard.TheConstants.{TAG_REQUEST_MESSAGE, TAG_RESPONSE_MESSAGE, CONTINUE}
 use Rattle.kmip_batch_items.specs.BatchItems.{question_item, answer_item, answer_fits}
-use Rattle.kmip_batch_items.specs.MessageSizes.{IsBrief}
 use Rattle.kmip_batch_items.specs.RequestFits.{request_fits}
 use Rattle.kmip_messages.specs.declared.batch.Batch.{Batch}
 use Rattle.kmip_messages.specs.Headers.{header_format, reply_header_format}
@@ -42,18 +41,7 @@ requests_fit rs = may_have (length rs) && list_all request_fits rs
 abbrev pub replies_item : List Reply → ℤ → Node
 replies_item rs now = node TAG_RESPONSE_MESSAGE (inside ((reply_header_format now).write (pos (length rs)) ++ map answer_item rs))
 
--- Private: how many bytes the Batch Items of some replies take together
-abbrev pub answers_size : List Reply → ℕ
-answers_size [] = 0
-answers_size (r ∷ rest) = size (answer_item r) + answers_size rest
-
 -- Whether some replies have a written form together. They are one to eight, with their values in range, and
 -- their message is not too long. The message has one length at all times.
 abbrev pub replies_fit : List Reply → Bool
 replies_fit rs = may_have (length rs) && list_all answer_fits rs && nat_le (size (replies_item rs (pos 0))) most_bytes
-
--- Private: a reply that can be written beside seven others of its kind: its values are in their ranges, and
--- its outcome is brief
-pub record IsShort (r : Reply) : Type 0 where
-  pub fits : IsTrue (answer_fits r)
-  pub brief : IsBrief r.outcome

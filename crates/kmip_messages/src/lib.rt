@@ -15,15 +15,17 @@ mod batch;
 mod fitting;
 pub mod laws;
 mod members;
+mod questions;
 mod reply_reading;
 mod reply_writing;
 mod request_reading;
 mod request_writing;
 
-pub use batch::{Batch, Questions};
+pub use batch::Batch;
 pub use fitting::{reply_fits, request_fits};
 pub use kmip_batch_items::{Ask, MessageFault, Operation, Outcome, Refusal, Reply, Request};
 pub use kmip_objects::{Attrs, KeyAttrs, KeyState, attrs_fit};
+pub use questions::Questions;
 pub use reply_reading::read_reply;
 pub use reply_writing::write_reply;
 pub use request_reading::read_request;

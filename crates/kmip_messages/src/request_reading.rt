@@ -19,8 +19,9 @@ ghost use Rattle.kmip_messages.specs.Members.{member_in, members_in};
 ghost use Rattle.kmip_messages.specs.Ranges.{QuestionFits};
 ghost use Rattle.kmip_messages.specs.Written.{requests_item, batch_of, requests_fit};
 
-use crate::batch::{Batch, Questions};
+use crate::batch::Batch;
 use crate::members::{all_structures, count_of, is_count};
+use crate::questions::Questions;
 use kmip_batch_items::standard::{
     CONTINUE, STOP, TAG_BATCH_COUNT, TAG_BATCH_ERROR_CONTINUATION_OPTION, TAG_BATCH_ITEM,
     TAG_PROTOCOL_VERSION, TAG_PROTOCOL_VERSION_MAJOR, TAG_PROTOCOL_VERSION_MINOR,

@@ -1,33 +1,14 @@
 //! Whether a progress is believed: not at another server than it was kept against, nor for other keys.
 
-use crate::causes::Cannot;
-use crate::origin::{Origin, server_of, server_text};
-use crate::reading::PlanFile;
-use crate::trouble::{AnotherServer, Trouble};
+use crate::kept::Kept;
+use crate::origin::server_of;
+use crate::plan_file::PlanFile;
+use crate::trouble::Trouble;
 use kmip_choices::{RunOptions, Trust};
 use kmip_client::Client;
-use kmip_explaining::tell_other_plan;
-use kmip_files::{MOST_PROGRESS_BYTES, ProgressFile};
-use kmip_plan::{Plan, Step, chain};
+use kmip_files::ProgressFile;
+use kmip_plan::{Step, chain};
 use kmip_plan_commands::begin;
-use kmip_progress::ProgressFault;
-use kmip_ttlv::NoMemory;
-use std::alloc::AllocError;
-use std::io;
-use std::io::ErrorKind;
-
-/// What a run has of its progress.
-#[derive(Drop)]
-struct Kept<'a> {
-    rt: &'a HostRuntime,
-    options: &'a RunOptions,
-    /// The text of the plan.
-    text: &'a str,
-    plan: &'a Plan,
-    file: &'a ProgressFile<'a, HostRuntime>,
-    /// The server of this run.
-    server: String,
-}
 
 /// The text of the progress that a run begins with, none where it begins from nothing.
 ///
@@ -56,164 +37,8 @@ pub(crate) fn progress_to_begin_with(
     }
 }
 
-impl<'a> Kept<'a> {
-    /// From nothing: the file is put aside first.
-    fn afresh(&self) -> Result<Option<String>, Trouble> {
-        if let Err(error) = self.file.put_aside() {
-            let before = self.file.before_path()?;
-            return Err(Trouble::at(self.rt, Cannot::Begin, before.as_str(), error));
-        }
-        self.begins(None)
-    }
-
-    /// From what the file says, unless it was kept elsewhere or for other keys.
-    fn begun(&self) -> Result<Option<String>, Trouble> {
-        let path = self.options.progress.as_str();
-        let saved = self.file.read().map_err(|error| Trouble::unread(
-            self.rt,
-            path,
-            MOST_PROGRESS_BYTES,
-            error,
-        ))?;
-        let Some(text) = &saved else {
-            return self.begins(None);
-        };
-        let client = match begin(self.rt.alloc(), self.plan, Some(text.as_str())) {
-            Ok(client) => client,
-            Err(ProgressFault::NoMemory) => return Err(Trouble::from(NoMemory)),
-            Err(_) => {
-                self.tell_other_plan(text.as_str());
-                return Ok(saved); // the run refuses it
-            }
-        };
-        let origin = self.origin()?;
-        self.judge(origin.as_ref(), &client)?;
-        if client.working() > 0 {
-            return self.begins(saved);
-        }
-        self.tell_all_finished(origin.as_ref())?;
-        match self.options.trust {
-            Trust::Believe => self.noted(saved, origin.as_ref()),
-            Trust::Checked | Trust::Afresh => Ok(saved),
-        }
-    }
-
-    /// Tells at which key the file is of another plan, if that is why it is refused.
-    fn tell_other_plan(&self, saved: &str) {
-        let options = self.options;
-        let (path, progress_path) = (options.plan.as_str(), options.progress.as_str());
-        tell_other_plan(self.rt, path, self.text, progress_path, saved);
-    }
-
-    /// Where the file was kept; none where that is not told.
-    ///
-    /// # Errors
-    /// Why what says it can't be read, but for a run that believes the file anyway.
-    fn origin(&self) -> Result<Option<Origin>, Trouble> {
-        let (rt, is_believed) = (self.rt, self.options.trust == Trust::Believe);
-        match self.file.read_origin() {
-            Ok(None) => Ok(None),
-            Ok(Some(text)) => match Origin::read(rt.alloc(), text.as_str())? {
-                None if !is_believed => Err(Trouble::NoOrigin(self.file.origin_path()?)),
-                origin => Ok(origin),
-            },
-            Err(error) if is_believed && error.kind() != ErrorKind::OutOfMemory => Ok(None),
-            Err(error) => {
-                let path = self.file.origin_path()?;
-                Err(Trouble::unread(rt, path.as_str(), MOST_PROGRESS_BYTES, error))
-            }
-        }
-    }
-
-    /// Whether the file was kept against this server, unless it knows nothing, and for these attributes.
-    ///
-    /// # Errors
-    /// Where it was not.
-    fn judge(&self, origin: Option<&Origin>, client: &Client<'_>) -> Result<(), Trouble> {
-        let Some(origin) = origin else {
-            return Ok(());
-        };
-        let is_here = self.options.trust == Trust::Believe || origin.is_of(self.server.as_str());
-        if !is_here && knows_anything(client) {
-            return Err(self.another_server(origin, client)?);
-        }
-        match origin.difference(self.rt.alloc(), self.plan.keys())? {
-            Some(difference) => {
-                let path = self.options.progress.as_str();
-                let path = String::from_str(self.rt.alloc(), path)?;
-                Err(Trouble::OtherAttributes(path, difference))
-            }
-            None => Ok(()),
-        }
-    }
-
-    /// That the file was kept against another server.
-    fn another_server(&self, origin: &Origin, client: &Client<'_>) -> Result<Trouble, AllocError> {
-        let alloc = self.rt.alloc();
-        let destroyed = match destroyed_key(client) {
-            Some(name) => Some(String::from_str(alloc, name)?),
-            None => None,
-        };
-        Ok(Trouble::AnotherServer(AnotherServer {
-            path: String::from_str(alloc, self.options.progress.as_str())?,
-            before: origin.server_text(alloc)?,
-            now: server_text(alloc, self.server.as_str())?,
-            destroyed,
-        }))
-    }
-
-    /// Tells that all keys are finished by the file alone, as a run asks nothing then.
-    fn tell_all_finished(&self, origin: Option<&Origin>) -> io::Result<()> {
-        let (rt, path) = (self.rt, self.options.progress.as_str());
-        let count = self.plan.count();
-        let kept = match origin {
-            Some(origin) => self.kept_text(origin)?,
-            None => String::new(rt.alloc()),
-        };
-        let _ = rt.eprintln(format_args!(
-            "{count} of {count} finished by {path} alone{kept}; --afresh looks"
-        ));
-        Ok(())
-    }
-
-    /// When and against which server the file was kept, as `, kept 3 days ago against 192.0.2.7:5696`.
-    fn kept_text(&self, origin: &Origin) -> io::Result<String> {
-        let alloc = self.rt.alloc();
-        let server = origin.server_text(alloc)?;
-        let text = match origin.age_text(self.rt)? {
-            Some(age) => format!(in alloc; ", kept {age} against {server}")?,
-            None => format!(in alloc; ", kept against {server}")?,
-        };
-        Ok(text)
-    }
-
-    /// Begins with this text, once it is on the disk where the file is kept. A run that may make no exchange
-    /// keeps nothing.
-    fn begins(&self, saved: Option<String>) -> Result<Option<String>, Trouble> {
-        if self.options.limit == 0 {
-            return Ok(saved);
-        }
-        self.noted(saved, None)
-    }
-
-    /// Gives this text, once it is on the disk that the file is kept against this server: since now, or
-    /// since this origin says.
-    fn noted(
-        &self,
-        saved: Option<String>,
-        before: Option<&Origin>,
-    ) -> Result<Option<String>, Trouble> {
-        let text = Origin::text(self.rt, self.server.as_str(), before, self.plan.keys())?;
-        if let Err(error) = self.file.write_origin(text.as_bytes()) {
-            let path = self.file.origin_path()?;
-            return Err(Trouble::at(self.rt, Cannot::Begin, path.as_str(), error));
-        }
-        Ok(saved)
-    }
-}
-
 /// The name of a key that is known to be destroyed, if there is one.
-fn destroyed_key<'c>(client: &'c Client<'_>) -> Option<&'c str> {
+pub(crate) fn destroyed_key<'c>(client: &'c Client<'_>) -> Option<&'c str> {
     let keys = client.plan().keys();
     for place in 0..keys.len() {
         let key = &keys[place];
@@ -225,7 +50,7 @@ fn destroyed_key<'c>(client: &'c Client<'_>) -> Option<&'c str> {
 }
 
 /// Whether an object of some key is known.
-fn knows_anything(client: &Client<'_>) -> bool {
+pub(crate) fn knows_anything(client: &Client<'_>) -> bool {
     let count = client.plan().count();
     for place in 0..count {
         if client.identifier(place).is_some() {

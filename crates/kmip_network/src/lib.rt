@@ -13,25 +13,35 @@
 //! either. `make causes` wants its line, and those of files and sockets.
 #![tactic(auto)]
 
+mod another_server;
 mod asking_again;
 mod believing;
-mod carrying;
+mod cannot;
+mod cause;
 mod causes;
-mod dialing;
+mod exchange;
+mod file_keeper;
+mod hearing;
+mod kept;
 mod linking;
 mod origin;
-mod overhearing;
+mod overheard;
+mod plan_file;
 mod probing;
 mod reading;
+mod remedy;
+mod saying;
 mod serving;
+mod telling_dial;
 mod told;
 mod trouble;
-mod watching;
+mod watcher;
 
-pub use carrying::run_plan;
+pub use file_keeper::run_plan;
 pub use kmip_plan_commands::batch_of;
+pub use plan_file::PlanFile;
 pub use probing::probe_server;
-pub use reading::{PlanFile, plan_at, text_at};
+pub use reading::{plan_at, text_at};
 pub use serving::serve;
 pub use told::{Told, standard_input, standard_output, tell_output};
 pub use trouble::Trouble;

@@ -1,8 +1,8 @@
 //! Links to the server that was named.
 
-use crate::causes::Cannot;
-use crate::dialing::Telling;
+use crate::cannot::Cannot;
 use crate::serving::new_server;
+use crate::telling_dial::TellingDial;
 use crate::trouble::Trouble;
 use kmip_account::Wire;
 use kmip_server::IndexedStore;
@@ -17,9 +17,9 @@ pub(crate) fn tcp_link<'a>(
     address: SocketAddrV4,
     limit: Duration,
     wire: Option<&'a Wire>,
-) -> StreamLink<Telling<'a, Tcp<&'a HostRuntime>>> {
+) -> StreamLink<TellingDial<'a, Tcp<&'a HostRuntime>>> {
     let dial = Tcp::new(rt, SocketAddr::V4(address));
-    StreamLink::new(Telling::new(rt, dial, wire), limit)
+    StreamLink::new(TellingDial::new(rt, dial, wire), limit)
 }
 
 /// A link to the server on the Unix socket at a path.
@@ -31,10 +31,10 @@ pub(crate) fn unix_link<'a>(
     path: &str,
     limit: Duration,
     wire: Option<&'a Wire>,
-) -> Result<StreamLink<Telling<'a, Unix<&'a HostRuntime>>>, Trouble> {
+) -> Result<StreamLink<TellingDial<'a, Unix<&'a HostRuntime>>>, Trouble> {
     match net::SocketAddr::from_pathname(path) {
         Ok(address) => {
-            let dial = Telling::new(rt, Unix::new(rt, address), wire);
+            let dial = TellingDial::new(rt, Unix::new(rt, address), wire);
             Ok(StreamLink::new(dial, limit))
         }
         Err(error) => Err(Trouble::at(rt, Cannot::Connect, path, error)),

@@ -4,7 +4,7 @@ use crate::asking_again::AskingAgain;
 use crate::linking::{loopback, tcp_link, unix_link};
 use crate::told::standard_output;
 use crate::trouble::Trouble;
-use crate::watching::Watcher;
+use crate::watcher::Watcher;
 use kmip_choices::{Peer, ProbeOptions};
 use kmip_message_commands::ExitStatus;
 use kmip_probe_command::run_probe;

@@ -1,16 +1,10 @@
 //! The texts of files, and of plans among them.
 
+use crate::plan_file::PlanFile;
 use crate::trouble::Trouble;
 use kmip_files::{MOST_FILE_BYTES, text_of};
-use kmip_plan::{Plan, PlanFault, read_plan};
+use kmip_plan::{PlanFault, read_plan};
 use std::io::{Error, ErrorKind};
-
-/// A plan, and its text.
-#[derive(Drop)]
-pub struct PlanFile {
-    pub text: String,
-    pub plan: Plan,
-}
 
 /// The plan in the file at this path.
 ///

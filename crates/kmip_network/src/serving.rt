@@ -1,7 +1,9 @@
 //! The program `serve`, over sockets.
 
 use crate::causes::tell_why;
-use crate::overhearing::{Hearing, Overheard, Saying};
+use crate::hearing::Hearing;
+use crate::overheard::Overheard;
+use crate::saying::Saying;
 use kmip_choices::ServeOptions;
 use kmip_message_commands::{CommandFault, ExitStatus};
 use kmip_server::{IndexedStore, Server};

@@ -1,6 +1,8 @@
 //! What ends a command before its work is done, and the one place that prints it.
 
-use crate::causes::{Cannot, tell_cause, tell_why};
+use crate::another_server::AnotherServer;
+use crate::cannot::Cannot;
+use crate::causes::{tell_cause, tell_why};
 use crate::told::tell_output;
 use kmip_explaining::tell_refusal;
 use kmip_message_commands::{CommandFault, ExitStatus};
@@ -35,17 +37,6 @@ pub enum Trouble {
     OtherAttributes(String, String),
     /// Memory ran out, or else standard output takes nothing.
     Io(Error),
-}
-
-/// A progress file that was kept against another server.
-#[derive(Drop)]
-pub struct AnotherServer {
-    pub(crate) path: String,
-    /// The server that it was kept against, and the one of this run.
-    pub(crate) before: String,
-    pub(crate) now: String,
-    /// The name of a key that it knows to be destroyed, where there is one.
-    pub(crate) destroyed: Option<String>,
 }
 
 impl From<Error> for Trouble {
@@ -140,26 +131,6 @@ impl Trouble {
             Trouble::Io(error) => return Err(error),
         }
         Ok(ExitStatus::Refused)
-    }
-}
-
-impl AnotherServer {
-    /// Tells which two servers, and the two ways on.
-    fn tell(&self, rt: &HostRuntime) -> io::Result<()> {
-        let (path, before, now) = (&self.path, &self.before, &self.now);
-        rt.println(format_args!("progress of another server: {path}"))?;
-        let _ = rt.eprintln(format_args!(
-            "{path} was kept against {before}; this run is to ask {now}"
-        ));
-        let _ = rt.eprintln(format_args!(
-            "--believe: that is the same server under another name; --afresh: begin from nothing, and keep {path} as {path}.before"
-        ));
-        if let Some(name) = &self.destroyed {
-            let _ = rt.eprintln(format_args!(
-                "{name} is known to be destroyed: with --afresh a server that forgets destroyed objects would make it again"
-            ));
-        }
-        Ok(())
     }
 }
 

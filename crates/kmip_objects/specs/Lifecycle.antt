@@ -1,8 +1,8 @@
 -- The lifecycle of an object: which step leads from which state to which.
 -- Source: KMIP 2.1, Object Attributes, State. Own (choice): the steps that a compromise takes are left out.
 use Rattle.std.specs.Prelude.{ℕ, List, codes, Option, Some, None}
-use Rattle.kmip_objects.specs.declared.state.KeyState.{KeyState}
-use Rattle.kmip_objects.specs.declared.state.KeyState.TheVariants.{PreActive, Active, Deactivated, Destroyed}
+use Rattle.kmip_objects.specs.declared.key_state.KeyState.{KeyState}
+use Rattle.kmip_objects.specs.declared.key_state.KeyState.TheVariants.{PreActive, Active, Deactivated, Destroyed}
 use Rattle.kmip_objects.specs.declared.step.Step.{Step}
 use Rattle.kmip_objects.specs.declared.step.Step.TheVariants.{Create, Activate, Revoke, Destroy}
 

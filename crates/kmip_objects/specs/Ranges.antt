@@ -4,7 +4,7 @@
 use Rattle.std.specs.Prelude.{ℕ, ℤ, pos, Bool, not, ◌&&◌, ◌||◌, ◌==◌, nat_le, int_lt, List, length, if◌then◌else◌}
 use Rattle.std.specs.List.{list_all}
 use Rattle.std.specs.Ordering.{int_eq}
-use Rattle.kmip_objects.specs.declared.attributes.KeyAttrs.{KeyAttrs}
+use Rattle.kmip_objects.specs.declared.key_attrs.KeyAttrs.{KeyAttrs}
 use Rattle.kmip_objects.specs.declared.standard.TheConstants.{ALGORITHM_AES, ALGORITHM_HMAC_SHA256, REVOCATION_UNSPECIFIED, REVOCATION_KEY_COMPROMISE, REVOCATION_CA_COMPROMISE, REVOCATION_PRIVILEGE_WITHDRAWN}
 
 -- The most bytes of a name in a request, and of a Unique Identifier. Own (limit).

@@ -1,8 +1,8 @@
 -- The numbers of the states.
 -- Source: KMIP 2.1, Object Attributes, State.
 use Rattle.std.specs.Prelude.{ℕ}
-use Rattle.kmip_objects.specs.declared.state.KeyState.{KeyState}
-use Rattle.kmip_objects.specs.declared.state.KeyState.TheVariants.{
+use Rattle.kmip_objects.specs.declared.key_state.KeyState.{KeyState}
+use Rattle.kmip_objects.specs.declared.key_state.KeyState.TheVariants.{
   PreActive,
   Active,
   Deactivated,

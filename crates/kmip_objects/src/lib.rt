@@ -5,19 +5,21 @@
 //! Source: KMIP 2.1, Object Attributes. The profile is in docs/DECISIONS.md.
 #![tactic(auto)]
 
-mod attributes;
+mod attrs;
+mod key_attrs;
+mod key_state;
 pub mod laws;
 mod ranges;
 pub mod standard;
-mod state;
 mod step;
 mod texts;
 
-pub use attributes::{Attrs, KeyAttrs, attributes_of, has_given};
+pub use attrs::{Attrs, attributes_of, has_given};
+pub use key_attrs::KeyAttrs;
+pub use key_state::KeyState;
 pub use ranges::{
     attrs_fit, is_algorithm, is_compromise, is_identifier, is_length, is_name, is_revocation_code,
     is_usage,
 };
-pub use state::KeyState;
 pub use step::Step;
 pub use texts::Texts;

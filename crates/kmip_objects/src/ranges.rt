@@ -14,7 +14,7 @@ ghost use Rattle.kmip_objects.specs.Ranges.{
   attrs_fit,
 };
 
-use crate::attributes::KeyAttrs;
+use crate::key_attrs::KeyAttrs;
 use crate::standard::{
     ALGORITHM_AES, ALGORITHM_HMAC_SHA256, NAME_MAX, REVOCATION_CA_COMPROMISE,
     REVOCATION_KEY_COMPROMISE, REVOCATION_PRIVILEGE_WITHDRAWN, REVOCATION_UNSPECIFIED, USAGE_MAX,

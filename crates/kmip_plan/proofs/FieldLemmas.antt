@@ -5,8 +5,8 @@ use Rattle.std.specs.Option.{option_and_then}
 use Rattle.kmip_objects.specs.Ranges.{is_usage}
 use Rattle.kmip_ttlv.proofs.ReadSteps.{Reads, reads-as}
 use Rattle.toml.specs.Data.{Items, Members, no_members, member}
-use Rattle.kmip_plan.specs.declared.fault.PlanFault.{PlanFault}
-use Rattle.kmip_plan.specs.declared.fault.PlanFault.TheVariants as faults
+use Rattle.kmip_plan.specs.declared.plan_fault.PlanFault.{PlanFault}
+use Rattle.kmip_plan.specs.declared.plan_fault.PlanFault.TheVariants as faults
 use Rattle.kmip_plan.specs.declared.target.Target.{Target}
 use Rattle.kmip_plan.specs.Fields.{if_so, algorithm_of, are_once, bit_of, mask_of, usage_in, usage_of, target_of}
 use Rattle.kmip_plan.specs.Plans.{IsUsage, IsAlgorithm}

@@ -8,9 +8,9 @@ use Rattle.kmip_objects.specs.Ranges.{is_name, is_length}
 use Rattle.kmip_ttlv.proofs.ReadSteps.{Reads, reads-ok, reads-bind, reads-as}
 use Rattle.toml.specs.Data.{Data, Items, no_items, item, Members, get_member, as_str, as_integer, as_array}
 use Rattle.toml.specs.Parse.{parse_document}
-use Rattle.kmip_plan.specs.declared.fault.PlanFault.{PlanFault}
-use Rattle.kmip_plan.specs.declared.fault.PlanFault.TheVariants as faults
-use Rattle.kmip_plan.specs.declared.fault.Field.TheVariants as field
+use Rattle.kmip_plan.specs.declared.plan_fault.PlanFault.{PlanFault}
+use Rattle.kmip_plan.specs.declared.plan_fault.PlanFault.TheVariants as faults
+use Rattle.kmip_plan.specs.declared.field.Field.TheVariants as field
 use Rattle.kmip_plan.specs.declared.key.Key.{Key}
 use Rattle.kmip_plan.specs.declared.target.Target.{Target}
 use Rattle.kmip_plan.specs.Chains.{is_revoked}

@@ -4,8 +4,8 @@ use Rattle.std.specs.Prelude.{◌≡◌, ◌≢◌, ◌≤◌, ◌<◌, ◌+◌,
 use Rattle.std.specs.List.{slice_get}
 use Rattle.kmip_objects.specs.Lifecycle.{after}
 use Rattle.kmip_objects.specs.States.{state_number}
-use Rattle.kmip_objects.specs.declared.state.KeyState.{KeyState}
-use Rattle.kmip_objects.specs.declared.state.KeyState.TheVariants.{PreActive}
+use Rattle.kmip_objects.specs.declared.key_state.KeyState.{KeyState}
+use Rattle.kmip_objects.specs.declared.key_state.KeyState.TheVariants.{PreActive}
 use Rattle.kmip_objects.specs.declared.step.Step.{Step}
 use Rattle.kmip_objects.specs.declared.step.Step.TheVariants.{Create, Revoke}
 use Rattle.kmip_plan.specs.declared.target.Target.{Target}

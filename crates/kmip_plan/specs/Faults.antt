@@ -1,10 +1,10 @@
 -- The number, the name, the field and the place of each fault of a plan.
 -- Source: own (fault, text): the names of the fields are what a person writes.
 use Rattle.std.specs.Prelude.{ℕ, List, codes, Option, Some, None}
-use Rattle.kmip_plan.specs.declared.fault.Field.{Field}
-use Rattle.kmip_plan.specs.declared.fault.Field.TheVariants as field
-use Rattle.kmip_plan.specs.declared.fault.PlanFault.{PlanFault}
-use Rattle.kmip_plan.specs.declared.fault.PlanFault.TheVariants.{Toml, NoKeys, TooMany, Missing, Unknown, BadName, BadLength, BadUsage, BadTarget, BadReason, SameName, NoMemory}
+use Rattle.kmip_plan.specs.declared.field.Field.{Field}
+use Rattle.kmip_plan.specs.declared.field.Field.TheVariants as field
+use Rattle.kmip_plan.specs.declared.plan_fault.PlanFault.{PlanFault}
+use Rattle.kmip_plan.specs.declared.plan_fault.PlanFault.TheVariants.{Toml, NoKeys, TooMany, Missing, Unknown, BadName, BadLength, BadUsage, BadTarget, BadReason, SameName, NoMemory}
 
 -- The name of a field in a plan.
 abbrev pub field_word : Field → List ℕ

@@ -5,9 +5,9 @@ use Rattle.std.specs.List.{list_any}
 use Rattle.kmip_ttlv.specs.Binding.{◌>>=◌}
 use Rattle.toml.specs.Data.{Items, no_items, item, Members, get_member}
 use Rattle.toml.specs.Parse.{parse_document}
-use Rattle.kmip_plan.specs.declared.fault.Field.TheVariants as field
-use Rattle.kmip_plan.specs.declared.fault.PlanFault.{PlanFault}
-use Rattle.kmip_plan.specs.declared.fault.PlanFault.TheVariants.{Toml, NoKeys, TooMany, Missing, Unknown, BadName, BadLength, BadUsage, BadTarget, BadReason, SameName, NoMemory}
+use Rattle.kmip_plan.specs.declared.field.Field.TheVariants as field
+use Rattle.kmip_plan.specs.declared.plan_fault.PlanFault.{PlanFault}
+use Rattle.kmip_plan.specs.declared.plan_fault.PlanFault.TheVariants.{Toml, NoKeys, TooMany, Missing, Unknown, BadName, BadLength, BadUsage, BadTarget, BadReason, SameName, NoMemory}
 use Rattle.kmip_plan.specs.declared.key.Key.{Key}
 use Rattle.kmip_plan.specs.Fields.{name_of, algorithm_of, length_of, usage_of, target_of, reason_of}
 use Rattle.kmip_plan.specs.Limits.{most_keys}

@@ -8,11 +8,12 @@
 pub mod chain_laws;
 mod chains;
 mod counts;
-mod fault;
-mod fields;
+mod field;
+mod field_reading;
 mod key;
 pub mod laws;
 mod plan;
+mod plan_fault;
 mod prolonging;
 mod reading;
 mod tables;
@@ -24,10 +25,11 @@ pub use chain_laws::{
     steps_follow_the_lifecycle, targets_and_words,
 };
 pub use chains::{chain, chain_length, place_of, state_after, step_place};
-pub use fault::{Field, PlanFault};
+pub use field::Field;
 pub use key::Key;
 pub use kmip_objects::Step;
 pub use plan::{Plan, bound};
+pub use plan_fault::PlanFault;
 pub use prolonging::prolongs;
 pub use reading::read_plan;
 pub use target::Target;

@@ -11,9 +11,10 @@ ghost use Rattle.kmip_plan.specs.Tables.{fields_of};
 
 use crate::Key;
 use crate::counts::count;
-use crate::fault::{Field, PlanFault};
-use crate::fields::{algorithm_of, length_of, name_of, reason_of, target_of, usage_of};
+use crate::field::Field;
+use crate::field_reading::{algorithm_of, length_of, name_of, reason_of, target_of, usage_of};
 use crate::plan::Plan;
+use crate::plan_fault::PlanFault;
 use crate::tables::{array_at, other_key_field, other_top_field, value_at};
 use kmip_objects::KeyAttrs;
 use kmip_ttlv::Text;

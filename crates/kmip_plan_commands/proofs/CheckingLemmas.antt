@@ -9,7 +9,7 @@ use Rattle.kmip_plan.specs.Chains.{chain, step_at}
 use Rattle.kmip_plan.specs.Faults.{plan_fault_number, plan_fault_name, plan_fault_field, plan_fault_place}
 use Rattle.kmip_plan.specs.Words.{algorithm_word}
 use Rattle.kmip_plan.specs.TargetWords.{target_word}
-use Rattle.kmip_plan.specs.declared.fault.PlanFault.{PlanFault}
+use Rattle.kmip_plan.specs.declared.plan_fault.PlanFault.{PlanFault}
 use Rattle.kmip_plan.specs.declared.key.Key.{Key}
 use Rattle.kmip_plan.specs.declared.target.Target.{Target}
 use Rattle.kmip_plan_commands.specs.Checking.{or_nothing, mask_text, step_text, steps_text, key_text, field_text, key_place_text, plan_refusal_text}

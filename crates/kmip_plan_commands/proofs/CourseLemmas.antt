@@ -11,11 +11,11 @@ use Rattle.kmip_runs.specs.Driving.{AsksOne, IsGood, IsSettling, Keeps, Learnt, 
 use Rattle.kmip_runs.specs.Losing.{IsEnough}
 use Rattle.kmip_runs.specs.declared.stop.Stop.{Stop}
 use Rattle.kmip_runs.specs.declared.stop.Stop.TheVariants as stops
-use Rattle.kmip_progress.specs.declared.fault.ProgressFault.{ProgressFault}
+use Rattle.kmip_progress.specs.declared.progress_fault.ProgressFault.{ProgressFault}
 use Rattle.kmip_runs.specs.Refusals.{HasRisen}
 use Rattle.kmip_runs.specs.Saved.{AreSaved, IsInMemory, IsLeft, IsWhole, Moment, moment}
-use Rattle.kmip_runs.specs.declared.keeper.SaveFault.{SaveFault}
-use Rattle.kmip_runs.specs.declared.keeper.SaveFault.TheVariants as faults
+use Rattle.kmip_runs.specs.declared.save_fault.SaveFault.{SaveFault}
+use Rattle.kmip_runs.specs.declared.save_fault.SaveFault.TheVariants as faults
 use Rattle.kmip_plan_commands.specs.Course.{AreUntouched, Came, IsGoodStart, IsTrueText}
 use Rattle.kmip_plan_commands.specs.RunText.{Outcome, TellsEither, TellsRunFrom}
 

@@ -1,4 +1,4 @@
 mod CheckingLemmas
 pub mod CourseLemmas
 pub mod LineLemmas
-pub mod StandingLemmas
+pub mod ProgressLineLemmas

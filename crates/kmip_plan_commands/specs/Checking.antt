@@ -13,8 +13,8 @@ use Rattle.kmip_plan.specs.Faults.{plan_fault_number, plan_fault_name, plan_faul
 use Rattle.kmip_plan.specs.Prolonging.{Prolongs}
 use Rattle.kmip_plan.specs.Words.{algorithm_word}
 use Rattle.kmip_plan.specs.TargetWords.{target_word}
-use Rattle.kmip_plan.specs.declared.fault.PlanFault.{PlanFault}
-use Rattle.kmip_plan.specs.declared.fault.PlanFault.TheVariants.{NoMemory}
+use Rattle.kmip_plan.specs.declared.plan_fault.PlanFault.{PlanFault}
+use Rattle.kmip_plan.specs.declared.plan_fault.PlanFault.TheVariants.{NoMemory}
 use Rattle.kmip_plan.specs.declared.key.Key.{Key}
 
 -- A word, where there is one.

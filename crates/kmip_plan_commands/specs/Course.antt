@@ -13,15 +13,15 @@ use Rattle.kmip_client.specs.declared.knowledge.Knowledge.{Knowledge}
 use Rattle.kmip_protocol.specs.Clean.{Disturbances}
 use Rattle.kmip_protocol.specs.Past.{Names, Past, is_planned}
 use Rattle.kmip_protocol.specs.Ready.{IsReady}
-use Rattle.kmip_runs.specs.Campaign.{GoodLink}
+use Rattle.kmip_runs.specs.Headline.{GoodLink}
 use Rattle.kmip_runs.specs.Driving.{IsQuestion, Learnt, WentOn}
 use Rattle.kmip_runs.specs.declared.stop.Stop.{Stop}
 use Rattle.kmip_runs.specs.Losing.{IsEnough}
 use Rattle.kmip_runs.specs.declared.stop.Stop.TheVariants as stops
 use Rattle.kmip_runs.specs.Refusals.{HasRisen}
 use Rattle.kmip_runs.specs.Saved.{AreSaved, IsLeft, IsWhole}
-use Rattle.kmip_runs.specs.declared.keeper.SaveFault.{SaveFault}
-use Rattle.kmip_runs.specs.declared.keeper.SaveFault.TheVariants as faults
+use Rattle.kmip_runs.specs.declared.save_fault.SaveFault.{SaveFault}
+use Rattle.kmip_runs.specs.declared.save_fault.SaveFault.TheVariants as faults
 
 -- Nothing was sent, and nothing was kept.
 abbrev pub AreUntouched : {L K : Type 0} → L → L → K → K → Type 0

@@ -11,4 +11,6 @@ pub mod RunText
 -- what came of the exchanges, and what stays safe over an honest link
 pub mod Course
 -- the line that says how far a run is
-pub mod StandingText
+pub mod ProgressLineText
+-- private: what only the clauses of private functions cite
+pub mod Private

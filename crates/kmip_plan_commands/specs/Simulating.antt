@@ -4,22 +4,20 @@ use Rattle.std.specs.Prelude.{◌≡◌, ◌≢◌, ◌⊎◌, ℕ, Bool, true, 
 use Rattle.std.specs.Fmt.{decimal}
 use Rattle.std.specs.Io.KnownBytes.{Appends}
 use Rattle.kmip_plan.specs.Prolonging.{Prolongs}
-use Rattle.kmip_plan.specs.declared.fault.PlanFault.{PlanFault}
+use Rattle.kmip_plan.specs.declared.plan_fault.PlanFault.{PlanFault}
 use Rattle.kmip_plan.specs.declared.key.Key.{Key}
-use Rattle.kmip_runs.specs.declared.campaigning.CampaignEnd.{CampaignEnd}
+use Rattle.kmip_runs.specs.declared.campaign_end.CampaignEnd.{CampaignEnd}
 use Rattle.kmip_scripted.specs.Scenes.{Scene}
 use Rattle.kmip_scripted.specs.ScriptTexts.{FailsAt, IsScript}
 use Rattle.kmip_scripted.specs.Words.{prolongings}
-use Rattle.kmip_scripted.specs.declared.fault.ScriptFault.{ScriptFault}
-use Rattle.kmip_scripted.specs.declared.fault.ScriptFault.TheVariants.{Line, NoMemory as ScriptNoMemory}
-use Rattle.kmip_scripted.specs.declared.script.Word.{Word}
+use Rattle.kmip_scripted.specs.declared.word.Word.{Word}
 use Rattle.kmip_simulation.specs.Simulating.{AreSimulated, IsSimulated}
 use Rattle.kmip_simulation.specs.SimText.{is_last_finished, sim_text}
 use Rattle.kmip_simulation.specs.Diagram.{diagram_text}
 use Rattle.kmip_simulation.specs.Tracing.{trace_text}
 use Rattle.kmip_choices.specs.declared.detail.Detail.{Detail}
 use Rattle.kmip_choices.specs.declared.detail.Detail.TheVariants.{Runs, Exchanges, Diagram}
-use Rattle.kmip_ttlv.specs.declared.fault.NoMemory.{NoMemory}
+use Rattle.kmip_ttlv.specs.declared.no_memory.NoMemory.{NoMemory}
 use Rattle.kmip_plan_commands.specs.Checking.{plan_refusal_text}
 
 -- the line that is written where a script is refused for this line
@@ -82,12 +80,6 @@ pub record TellsScriptFault (script : List ℕ) (prolonged : ℕ) (ended : Resul
   pub why : IsRefusedFor script prolonged line
   pub ended_is : ended ≡ Ok true
   pub text_is : text ≡ script_refusal_text line
-
--- Private: what reading a script gives in which `prolong` has to stand so often.
-abbrev pub GivesWords : List ℕ → ℕ → Result (List Word) ScriptFault → Type 0
-GivesWords script prolonged (Ok words) = IsScript script words × (prolongings words ≡ prolonged)
-GivesWords script prolonged (Err (Line line)) = IsRefusedFor script prolonged line
-GivesWords script prolonged (Err ScriptNoMemory) = Unit {0}
 
 -- the text is the line of a plan that is refused
 abbrev pub TellsPlanFault : PlanFault → Result Bool NoMemory → List ℕ → Type 0

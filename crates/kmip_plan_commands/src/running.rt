@@ -4,15 +4,17 @@ ghost use Rattle.std.specs.Io.KnownBytes.{Appends};
 ghost use Rattle.kmip_messages.specs.Members.{may_have};
 ghost use Rattle.kmip_plan.specs.Reading.{plan_read};
 ghost use Rattle.kmip_plan.specs.declared.key.Key.{Key};
-ghost use Rattle.kmip_message_commands.specs.Printing.{Fails, IfFailed, IfWhole, UnlessOutput, fault_line};
+ghost use Rattle.kmip_message_commands.specs.Private.{Fails};
+ghost use Rattle.kmip_message_commands.specs.Printing.{IfFailed, IfWhole, UnlessOutput, fault_line};
 ghost use Rattle.kmip_protocol.specs.Past.{is_planned};
-ghost use Rattle.kmip_runs.specs.Campaign.{GoodLink};
+ghost use Rattle.kmip_runs.specs.Headline.{GoodLink};
 ghost use Rattle.kmip_runs.specs.Driving.{IsGood};
 ghost use Rattle.kmip_plan_commands.specs.Course.{AreUntouched, AsksFew, Came, IsGoodStart, IsTrueText, KeepsSafe};
 ghost use Rattle.kmip_plan_commands.specs.RunText.{TellsEither, TellsRun, TellsRunFrom, WritesPlanRun, WritesRun, begin_knowns};
 
 use crate::beginning::begin;
 use crate::push_refusal;
+use crate::run_input::RunInput;
 use crate::telling::{progress_refusal_text, run_text, unwritten_text};
 use kmip_client::Client;
 use kmip_client::laws::onward_is_an_order;
@@ -25,17 +27,6 @@ use kmip_ttlv::NoMemory;
 use std::alloc::Global;
 use std::io::Write;
 use std::mem;
-
-/// What a run is given.
-#[derive(Clone, Copy, Debug)]
-pub struct RunInput<'a> {
-    /// Where what is known is kept, as it is named where it cannot be written.
-    pub path: &'a str,
-    /// How many exchanges may be made at most.
-    pub limit: usize,
-    /// How many keys a message asks about at most, 1 to 8.
-    pub batch: usize,
-}
 
 /// The text of a run, and whether something was refused, not written or left unfinished.
 #[derive(Drop)]

@@ -9,22 +9,8 @@ ghost use Rattle.kmip_scripted.specs.ScriptTexts.{IsScript};
 ghost use Rattle.kmip_scripted.specs.Words.{prolongings};
 ghost use Rattle.kmip_simulation.specs.SimText.{sim_text};
 ghost use Rattle.kmip_simulation.specs.Tracing.{trace_text};
-ghost use Rattle.kmip_plan_commands.specs.Simulating.{
-  BreaksOffSim,
-  GivesWords,
-  IsRefusedFor,
-  TellsPlanFault,
-  TellsProlongsNot,
-  TellsScriptFault,
-  TellsSim,
-  TellsSimulation,
-  TellsSimulations,
-  WritesSim,
-  campaign_ended,
-  prolongs_not_text,
-  script_refusal_text,
-  simulation_text,
-};
+ghost use Rattle.kmip_plan_commands.specs.Simulating.{BreaksOffSim, IsRefusedFor, TellsPlanFault, TellsProlongsNot, TellsScriptFault, TellsSim, TellsSimulation, TellsSimulations, WritesSim, campaign_ended, prolongs_not_text, script_refusal_text, simulation_text};
+ghost use Rattle.kmip_plan_commands.specs.Private.{GivesWords};
 
 use crate::push_refusal;
 use kmip_choices::Detail;

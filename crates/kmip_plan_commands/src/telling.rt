@@ -1,6 +1,6 @@
 //! What is printed of a run.
 ghost use Rattle.std.specs.Prelude.{◌≡◌, ◌++◌, OnOk, IfOk, string_bytes};
-ghost use Rattle.kmip_client.specs.Standing.{counts_of, verdicts_of};
+ghost use Rattle.kmip_client.specs.Verdicts.{counts_of, verdicts_of};
 ghost use Rattle.kmip_runs.specs.Reporting.{report_text};
 ghost use Rattle.kmip_plan_commands.specs.RunText.{progress_refusal_text, stop_line, unwritten_text};
 

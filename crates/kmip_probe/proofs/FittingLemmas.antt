@@ -7,7 +7,7 @@ use Rattle.std.proofs.lemmas.List.Elements.{All-append, All-drop, All-head, All-
 use Rattle.std.proofs.lemmas.List.Folds.{list_all-append}
 use Rattle.std.proofs.lemmas.Option.{same_Some}
 use Rattle.kmip_batch_items.specs.RequestFits.{ask_fits, request_fits}
-use Rattle.kmip_batch_items.specs.declared.request.Ask.{Ask}
+use Rattle.kmip_batch_items.specs.declared.ask.Ask.{Ask}
 use Rattle.kmip_batch_items.specs.declared.request.Request.{Request}
 use Rattle.kmip_objects.specs.Ranges.{is_identifier, is_name, is_name_byte}
 use Rattle.kmip_probe.specs.Answers.{IsLawful, marker_of, uids_told}
@@ -15,10 +15,10 @@ use Rattle.kmip_probe.specs.Asking.{request_for, uid_of, uids_of}
 use Rattle.kmip_probe.specs.Inquiries.{ask_of, is_prefix, name_of}
 use Rattle.kmip_probe.specs.declared.answer.Answer.{Answer}
 use Rattle.kmip_probe.specs.declared.inquiry.Inquiry.{Inquiry}
-use Rattle.kmip_probe.specs.declared.inquiry.Kind.{Kind}
-use Rattle.kmip_probe.specs.declared.inquiry.Kind.TheVariants.{Locate, Create, GetAttributes, Activate, Revoke, Destroy}
-use Rattle.kmip_probe.specs.declared.inquiry.Which.{Which}
-use Rattle.kmip_probe.specs.declared.inquiry.Which.TheVariants.{First, Second}
+use Rattle.kmip_probe.specs.declared.kind.Kind.{Kind}
+use Rattle.kmip_probe.specs.declared.kind.Kind.TheVariants.{Locate, Create, GetAttributes, Activate, Revoke, Destroy}
+use Rattle.kmip_probe.specs.declared.which.Which.{Which}
+use Rattle.kmip_probe.specs.declared.which.Which.TheVariants.{First, Second}
 
 -- ---- names
 

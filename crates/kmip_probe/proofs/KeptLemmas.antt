@@ -4,7 +4,7 @@ use Rattle.std.specs.Cmp.Lexicographic.{pointwise}
 use Rattle.std.proofs.lemmas.Slice.Eq.{bytes_eq-Decides}
 use Rattle.kmip_probe.specs.Inquiries.{name_of}
 use Rattle.kmip_probe.specs.Laws.{ProfileKeepsAll}
-use Rattle.kmip_probe.specs.declared.inquiry.Which.TheVariants.{First}
+use Rattle.kmip_probe.specs.declared.which.Which.TheVariants.{First}
 
 same : (text : List ℕ) → pointwise nat_eq text text ≡ true
 same text = (bytes_eq-Decides text text).1 refl

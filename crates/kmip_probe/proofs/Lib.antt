@@ -3,5 +3,5 @@ pub mod PuttingLemmas
 pub mod FittingLemmas
 pub mod ProbingLemmas
 pub mod KeptLemmas
-pub mod StandingLemmas
+pub mod TwoObjectsLemmas
 pub mod ServedLemmas

@@ -3,20 +3,20 @@ use Rattle.std.proofs.Common.{◌≡◌, ℕ, ℤ, true, List, Option, Some, Non
 use Rattle.std.specs.Prelude.{option_and_then}
 use Rattle.std.proofs.lemmas.Option.{some_pair_parts}
 use Rattle.kmip_objects.specs.Objects.{Object}
-use Rattle.kmip_objects.specs.declared.attributes.Attrs.{Attrs}
-use Rattle.kmip_objects.specs.declared.attributes.KeyAttrs.{KeyAttrs}
+use Rattle.kmip_objects.specs.declared.attrs.Attrs.{Attrs}
+use Rattle.kmip_objects.specs.declared.key_attrs.KeyAttrs.{KeyAttrs}
 use Rattle.kmip_objects.specs.declared.step.Step.{Step}
 use Rattle.kmip_objects.specs.declared.step.Step.TheVariants as steps
-use Rattle.kmip_batch_items.specs.declared.reply.Outcome.{Outcome}
-use Rattle.kmip_batch_items.specs.declared.reply.Outcome.TheVariants as outcomes
-use Rattle.kmip_batch_items.specs.declared.request.Ask.{Ask}
-use Rattle.kmip_batch_items.specs.declared.request.Ask.TheVariants as asks
+use Rattle.kmip_batch_items.specs.declared.outcome.Outcome.{Outcome}
+use Rattle.kmip_batch_items.specs.declared.outcome.Outcome.TheVariants as outcomes
+use Rattle.kmip_batch_items.specs.declared.ask.Ask.{Ask}
+use Rattle.kmip_batch_items.specs.declared.ask.Ask.TheVariants as asks
 use Rattle.kmip_server.specs.ServerStep as rows
 use Rattle.kmip_server.specs.ServerStep.{ServerStep, step_asked, success_of}
 use Rattle.kmip_probe.specs.Answers.{is_of}
 use Rattle.kmip_probe.specs.Inquiries.{ask_of}
-use Rattle.kmip_probe.specs.declared.inquiry.Kind.{Kind}
-use Rattle.kmip_probe.specs.declared.inquiry.Kind.TheVariants.{Locate, Create, GetAttributes, Activate, Revoke, Destroy}
+use Rattle.kmip_probe.specs.declared.kind.Kind.{Kind}
+use Rattle.kmip_probe.specs.declared.kind.Kind.TheVariants.{Locate, Create, GetAttributes, Activate, Revoke, Destroy}
 
 -- ---- a question is of the kind that it was made by
 

@@ -5,7 +5,8 @@ use Rattle.std.proofs.lemmas.Bool.{cases_Bool, ltb-true, ltb-false}
 use Rattle.std.proofs.lemmas.List.{append_assoc, append-nil}
 use Rattle.kmip_protocol.specs.Past.{Past}
 use Rattle.kmip_probe.specs.Asking.{AreAnswers, IsNext, is_free_at, message_after, messages_from, next_inquiry}
-use Rattle.kmip_probe.specs.Putting.{AreAsked, HasAsked}
+use Rattle.kmip_probe.specs.Putting.{AreAsked}
+use Rattle.kmip_probe.specs.Private.{HasAsked}
 use Rattle.kmip_probe.specs.declared.answer.Answer.{Answer}
 use Rattle.kmip_probe.specs.declared.inquiry.Inquiry.{Inquiry}
 use Rattle.kmip_probe.specs.declared.inquiry.TheConstants.{INQUIRIES}

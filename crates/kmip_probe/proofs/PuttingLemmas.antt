@@ -13,16 +13,16 @@ use Rattle.kmip_protocol.specs.Exchanges.{Exchanged, HandsOver, with_asked}
 use Rattle.kmip_protocol.specs.Laws.{DeliveriesKeepTheRequests}
 use Rattle.kmip_protocol.specs.Losses.{or_loss}
 use Rattle.kmip_protocol.specs.Past.{Names, Past}
-use Rattle.kmip_protocol.specs.declared.link.LinkFault.{LinkFault}
-use Rattle.kmip_protocol.specs.declared.link.LinkFault.TheVariants as faults
+use Rattle.kmip_protocol.specs.declared.link_fault.LinkFault.{LinkFault}
+use Rattle.kmip_protocol.specs.declared.link_fault.LinkFault.TheVariants as faults
 use Rattle.kmip_server.specs.ServerStep.{ServerStep}
-use Rattle.kmip_batch_items.specs.declared.reply.Outcome.{Outcome}
-use Rattle.kmip_batch_items.specs.declared.request.Ask.{Ask}
+use Rattle.kmip_batch_items.specs.declared.outcome.Outcome.{Outcome}
+use Rattle.kmip_batch_items.specs.declared.ask.Ask.{Ask}
 use Rattle.kmip_protocol.specs.Moves.{HasFailed}
 use Rattle.kmip_probe.specs.Answers.{answer_marked, answer_read, answer_to, answer_with, is_asked_for, is_of, marker_of}
 use Rattle.kmip_probe.specs.Asking.{is_free_at, next_inquiry, request_for, uid_of}
 use Rattle.kmip_probe.specs.Inquiries.{ask_of, name_of}
-use Rattle.kmip_probe.specs.Putting.{HasReplied, HasSent, HasServed, HasServedNext}
+use Rattle.kmip_probe.specs.Private.{HasReplied, HasSent, HasServed, HasServedNext}
 use Rattle.kmip_probe.specs.declared.answer.Answer.TheVariants.{Told}
 use Rattle.kmip_probe.specs.declared.inquiry.TheConstants.{INQUIRIES}
 use Rattle.kmip_probe.specs.declared.inquiry.Inquiry.{Inquiry}

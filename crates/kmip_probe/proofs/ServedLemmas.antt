@@ -4,24 +4,25 @@ use Rattle.std.specs.List.{slice_get}
 use Rattle.std.specs.Option.{is_some}
 use Rattle.std.proofs.lemmas.Option.{same_Some}
 use Rattle.kmip_objects.specs.Objects.{Object}
-use Rattle.kmip_objects.specs.declared.state.KeyState.TheVariants.{PreActive, Active, Deactivated, Destroyed}
+use Rattle.kmip_objects.specs.declared.key_state.KeyState.TheVariants.{PreActive, Active, Deactivated, Destroyed}
 use Rattle.kmip_objects.specs.declared.step.Step.TheVariants as steps
-use Rattle.kmip_batch_items.specs.declared.reply.Outcome.{Outcome}
-use Rattle.kmip_batch_items.specs.declared.reply.Outcome.TheVariants as outcomes
-use Rattle.kmip_batch_items.specs.declared.reply.Outcome.TheVariants.{Created, Located, Attributes, Activated, Revoked, Failed}
+use Rattle.kmip_batch_items.specs.declared.outcome.Outcome.{Outcome}
+use Rattle.kmip_batch_items.specs.declared.outcome.Outcome.TheVariants as outcomes
+use Rattle.kmip_batch_items.specs.declared.outcome.Outcome.TheVariants.{Created, Located, Attributes, Activated, Revoked, Failed}
 use Rattle.kmip_batch_items.specs.declared.standard.TheConstants.{REASON_NON_UNIQUE_NAME, REASON_WRONG_STATE}
 use Rattle.kmip_protocol.specs.Past.{Past}
 use Rattle.kmip_objects.specs.Attributes.{attributes_of}
 use Rattle.kmip_probe.specs.Asking.{next_inquiry}
 use Rattle.kmip_probe.specs.Inquiries.{attributes_with, name_of}
-use Rattle.kmip_probe.specs.Putting.{HasServedNext}
+use Rattle.kmip_probe.specs.Private.{HasServedNext}
 use Rattle.kmip_probe.specs.Serving.{IsUnprobed, object_of, outcomes_of}
-use Rattle.kmip_probe.specs.Standing.{ProbeLaws, AreServed, AreStanding, state_at}
+use Rattle.kmip_probe.specs.Private.{ProbeLaws}
+use Rattle.kmip_probe.specs.TwoObjects.{AreServed, AreStanding, state_at}
 use Rattle.kmip_probe.specs.declared.answer.Answer.{Answer}
 use Rattle.kmip_probe.specs.declared.answer.Answer.TheVariants.{Told}
-use Rattle.kmip_probe.specs.declared.inquiry.Which.TheVariants.{First, Second}
+use Rattle.kmip_probe.specs.declared.which.Which.TheVariants.{First, Second}
 use Rattle.kmip_probe.proofs.ProbingLemmas.{up_to}
-use Rattle.kmip_probe.proofs.StandingLemmas.{TwoStand, turned, comes, used, found, read, refused, taken}
+use Rattle.kmip_probe.proofs.TwoObjectsLemmas.{TwoStand, turned, comes, used, found, read, refused, taken}
 
 -- ---- the two names
 

@@ -6,19 +6,19 @@ use Rattle.std.specs.Prelude.{ℕ, nat_eq, Bool, true, false, List, [], ◌∷�
 use Rattle.std.specs.Cmp.Lexicographic.{pointwise}
 use Rattle.std.specs.List.{All}
 use Rattle.std.specs.Option.{option_map_or}
-use Rattle.kmip_batch_items.specs.declared.reply.Outcome.{Outcome}
-use Rattle.kmip_batch_items.specs.declared.reply.Outcome.TheVariants.{Created, Located, Attributes, Activated, Revoked, Destroyed, Failed}
+use Rattle.kmip_batch_items.specs.declared.outcome.Outcome.{Outcome}
+use Rattle.kmip_batch_items.specs.declared.outcome.Outcome.TheVariants.{Created, Located, Attributes, Activated, Revoked, Destroyed, Failed}
 use Rattle.kmip_batch_items.specs.declared.reply.Reply.{Reply}
 use Rattle.kmip_messages.specs.Batches.{replies_read}
-use Rattle.kmip_batch_items.specs.declared.fault.MessageFault.{MessageFault}
+use Rattle.kmip_batch_items.specs.declared.message_fault.MessageFault.{MessageFault}
 use Rattle.kmip_objects.specs.Ranges.{is_identifier}
 use Rattle.kmip_probe.specs.declared.answer.Answer.{Answer}
 use Rattle.kmip_probe.specs.declared.answer.Answer.TheVariants.{Nothing, Told, Unmarked, Unreadable}
 use Rattle.kmip_probe.specs.declared.unread.Unread.{Unread}
 use Rattle.kmip_probe.specs.Unreadable.{version_in}
 use Rattle.kmip_probe.specs.declared.inquiry.TheConstants.{INQUIRIES}
-use Rattle.kmip_probe.specs.declared.inquiry.Kind.{Kind}
-use Rattle.kmip_probe.specs.declared.inquiry.Kind.TheVariants.{Locate, Create, GetAttributes, Activate, Revoke, Destroy}
+use Rattle.kmip_probe.specs.declared.kind.Kind.{Kind}
+use Rattle.kmip_probe.specs.declared.kind.Kind.TheVariants.{Locate, Create, GetAttributes, Activate, Revoke, Destroy}
 
 -- the id of the question of a number: the number in one byte, and the prefix
 abbrev pub marker_of : ℕ → List ℕ → List ℕ

@@ -5,8 +5,8 @@ use Rattle.std.specs.Prelude.{◌≡◌, ℕ, Bool, true, false, ◌&&◌, List,
 use Rattle.std.specs.Option.{option_map_or}
 use Rattle.kmip_ttlv.specs.Spelling.{canon}
 use Rattle.kmip_messages.specs.Written.{requests_item}
-use Rattle.kmip_batch_items.specs.declared.reply.Outcome.{Outcome}
-use Rattle.kmip_batch_items.specs.declared.reply.Outcome.TheVariants.{Located}
+use Rattle.kmip_batch_items.specs.declared.outcome.Outcome.{Outcome}
+use Rattle.kmip_batch_items.specs.declared.outcome.Outcome.TheVariants.{Located}
 use Rattle.kmip_batch_items.specs.declared.request.Request.{Request}
 use Rattle.kmip_probe.specs.Answers.{answer_to, marker_of, outcome_in, uids_told}
 use Rattle.kmip_probe.specs.Inquiries.{ask_of, name_of}
@@ -14,8 +14,8 @@ use Rattle.kmip_probe.specs.declared.answer.Answer.{Answer}
 use Rattle.kmip_probe.specs.declared.answer.Answer.TheVariants.{Nothing}
 use Rattle.kmip_probe.specs.declared.inquiry.TheConstants.{INQUIRIES, LOOK_FIRST, LOOK_SECOND, CREATE_FIRST, READ_ATTRIBUTES, CREATE_SECOND, ACTIVATE_SECOND}
 use Rattle.kmip_probe.specs.declared.inquiry.Inquiry.{Inquiry}
-use Rattle.kmip_probe.specs.declared.inquiry.Which.{Which}
-use Rattle.kmip_probe.specs.declared.inquiry.Which.TheVariants.{First, Second}
+use Rattle.kmip_probe.specs.declared.which.Which.{Which}
+use Rattle.kmip_probe.specs.declared.which.Which.TheVariants.{First, Second}
 
 -- a Locate has found nothing
 abbrev pub finds_none : Option Outcome → Bool

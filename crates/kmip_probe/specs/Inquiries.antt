@@ -3,17 +3,17 @@
 -- the reason are own (choice).
 use Rattle.std.specs.Prelude.{ℕ, Bool, ◌&&◌, nat_le, List, ◌++◌, length, codes, Option, Some}
 use Rattle.std.specs.Option.{option_map}
-use Rattle.kmip_batch_items.specs.declared.request.Ask.{Ask}
-use Rattle.kmip_batch_items.specs.declared.request.Ask.TheVariants as asks
+use Rattle.kmip_batch_items.specs.declared.ask.Ask.{Ask}
+use Rattle.kmip_batch_items.specs.declared.ask.Ask.TheVariants as asks
 use Rattle.kmip_objects.specs.Ranges.{is_name}
 use Rattle.kmip_objects.specs.Attributes.{by_name}
-use Rattle.kmip_objects.specs.declared.attributes.KeyAttrs.{KeyAttrs}
+use Rattle.kmip_objects.specs.declared.key_attrs.KeyAttrs.{KeyAttrs}
 use Rattle.kmip_objects.specs.declared.standard.TheConstants.{ALGORITHM_AES, REVOCATION_UNSPECIFIED}
 use Rattle.kmip_probe.specs.declared.inquiry.TheConstants.{PREFIX_MAX, KEY_BITS, KEY_USAGE}
-use Rattle.kmip_probe.specs.declared.inquiry.Kind.{Kind}
-use Rattle.kmip_probe.specs.declared.inquiry.Kind.TheVariants.{Locate, Create, GetAttributes, Activate, Revoke, Destroy}
-use Rattle.kmip_probe.specs.declared.inquiry.Which.{Which}
-use Rattle.kmip_probe.specs.declared.inquiry.Which.TheVariants.{First, Second}
+use Rattle.kmip_probe.specs.declared.kind.Kind.{Kind}
+use Rattle.kmip_probe.specs.declared.kind.Kind.TheVariants.{Locate, Create, GetAttributes, Activate, Revoke, Destroy}
+use Rattle.kmip_probe.specs.declared.which.Which.{Which}
+use Rattle.kmip_probe.specs.declared.which.Which.TheVariants.{First, Second}
 
 -- what a probe's names begin with: the name of a key, so short that each of them is one too
 abbrev pub is_prefix : List ℕ → Bool

@@ -6,8 +6,8 @@ use Rattle.std.specs.Prelude.{◌≡◌, ℕ, ◌==◌, nat_eq, Bool, true, fals
 use Rattle.std.specs.Cmp.Lexicographic.{pointwise}
 use Rattle.std.specs.List.{list_any}
 use Rattle.std.specs.Option.{option_map_or}
-use Rattle.kmip_batch_items.specs.declared.reply.Outcome.{Outcome}
-use Rattle.kmip_batch_items.specs.declared.reply.Outcome.TheVariants.{Failed, Located}
+use Rattle.kmip_batch_items.specs.declared.outcome.Outcome.{Outcome}
+use Rattle.kmip_batch_items.specs.declared.outcome.Outcome.TheVariants.{Failed, Located}
 use Rattle.kmip_objects.specs.declared.step.Step.{Step}
 use Rattle.kmip_objects.specs.declared.step.Step.TheVariants.{Activate, Revoke, Destroy}
 use Rattle.kmip_server.specs.Again.{has_failed}
@@ -19,9 +19,9 @@ use Rattle.kmip_probe.specs.declared.answer.Answer.{Answer}
 use Rattle.kmip_probe.specs.declared.answer.Answer.TheVariants.{Nothing, Told, Unmarked}
 use Rattle.kmip_probe.specs.declared.finding.Finding.{Finding}
 use Rattle.kmip_probe.specs.declared.finding.Finding.TheVariants.{Kept, Broken, Untold}
-use Rattle.kmip_probe.specs.declared.finding.Findings.{Findings}
-use Rattle.kmip_probe.specs.declared.finding.Flaw.{Flaw}
-use Rattle.kmip_probe.specs.declared.finding.Flaw.TheVariants.{SecondObject, StepTwice, ActiveDestroyed, NotFound, NoId}
+use Rattle.kmip_probe.specs.declared.findings.Findings.{Findings}
+use Rattle.kmip_probe.specs.declared.flaw.Flaw.{Flaw}
+use Rattle.kmip_probe.specs.declared.flaw.Flaw.TheVariants.{SecondObject, StepTwice, ActiveDestroyed, NotFound, NoId}
 use Rattle.kmip_probe.specs.declared.inquiry.TheConstants.{
   CREATE_FIRST,
   CREATE_AGAIN,
@@ -39,7 +39,7 @@ use Rattle.kmip_probe.specs.declared.inquiry.TheConstants.{
   FIND_GONE_EVERYWHERE,
   REVOKE_SECOND,
 }
-use Rattle.kmip_probe.specs.declared.inquiry.Which.TheVariants.{First}
+use Rattle.kmip_probe.specs.declared.which.Which.TheVariants.{First}
 
 -- ---- single answers
 

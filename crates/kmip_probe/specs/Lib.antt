@@ -19,4 +19,6 @@ pub mod Laws
 -- what putting questions over a link does to the past
 pub mod Putting
 -- how the two objects of a probe stand after some answers
-pub mod Standing
+pub mod TwoObjects
+-- private: what only the clauses of private functions cite
+pub mod Private

@@ -3,16 +3,16 @@
 -- and what has to be so before is own (view).
 use Rattle.std.specs.Prelude.{◌≡◌, ◌≤◌, ℕ, ◌+◌, List, [], ◌∷◌, length, Some, None}
 use Rattle.kmip_objects.specs.Objects.{DistinctNames, DistinctUids, Object, object_named}
-use Rattle.kmip_objects.specs.declared.state.KeyState.{KeyState}
-use Rattle.kmip_objects.specs.declared.state.KeyState.TheVariants.{PreActive}
-use Rattle.kmip_batch_items.specs.declared.reply.Outcome.{Outcome}
-use Rattle.kmip_batch_items.specs.declared.reply.Outcome.TheVariants.{Created, Located, Attributes, Activated, Revoked, Destroyed, Failed}
+use Rattle.kmip_objects.specs.declared.key_state.KeyState.{KeyState}
+use Rattle.kmip_objects.specs.declared.key_state.KeyState.TheVariants.{PreActive}
+use Rattle.kmip_batch_items.specs.declared.outcome.Outcome.{Outcome}
+use Rattle.kmip_batch_items.specs.declared.outcome.Outcome.TheVariants.{Created, Located, Attributes, Activated, Revoked, Destroyed, Failed}
 use Rattle.kmip_batch_items.specs.declared.standard.TheConstants.{REASON_NON_UNIQUE_NAME, REASON_WRONG_STATE}
 use Rattle.kmip_protocol.specs.Past.{Past}
 use Rattle.kmip_objects.specs.Attributes.{attributes_of}
 use Rattle.kmip_probe.specs.Inquiries.{attributes_with, name_of}
-use Rattle.kmip_probe.specs.declared.inquiry.Which.{Which}
-use Rattle.kmip_probe.specs.declared.inquiry.Which.TheVariants.{First, Second}
+use Rattle.kmip_probe.specs.declared.which.Which.{Which}
+use Rattle.kmip_probe.specs.declared.which.Which.TheVariants.{First, Second}
 
 -- Names and identifiers are distinct, no object has a name of the probe, and there is room for two more.
 pub record IsUnprobed (prefix : List ℕ) (p : Past) : Type 0 where

@@ -5,18 +5,18 @@ use Rattle.std.specs.Prelude.{ℕ, ◌==◌, nat_eq, Bool, true, false, List, co
 use Rattle.std.specs.Cmp.Lexicographic.{pointwise}
 use Rattle.std.specs.Option.{option_or}
 use Rattle.std.specs.Ordering.{int_eq}
-use Rattle.kmip_batch_items.specs.declared.reply.Outcome.{Outcome}
-use Rattle.kmip_batch_items.specs.declared.reply.Outcome.TheVariants.{Attributes, Failed}
+use Rattle.kmip_batch_items.specs.declared.outcome.Outcome.{Outcome}
+use Rattle.kmip_batch_items.specs.declared.outcome.Outcome.TheVariants.{Attributes, Failed}
 use Rattle.kmip_objects.specs.States.{state_number}
-use Rattle.kmip_objects.specs.declared.attributes.Attrs.{Attrs}
+use Rattle.kmip_objects.specs.declared.attrs.Attrs.{Attrs}
 use Rattle.kmip_objects.specs.declared.standard.TheConstants.{ALGORITHM_AES, OBJECT_TYPE_SYMMETRIC_KEY}
-use Rattle.kmip_objects.specs.declared.state.KeyState.TheVariants.{PreActive}
-use Rattle.kmip_probe.specs.declared.finding.Attribute.{Attribute}
-use Rattle.kmip_probe.specs.declared.finding.Attribute.TheVariants as names
+use Rattle.kmip_objects.specs.declared.key_state.KeyState.TheVariants.{PreActive}
+use Rattle.kmip_probe.specs.declared.attribute.Attribute.{Attribute}
+use Rattle.kmip_probe.specs.declared.attribute.Attribute.TheVariants as names
 use Rattle.kmip_probe.specs.declared.finding.Finding.{Finding}
 use Rattle.kmip_probe.specs.declared.finding.Finding.TheVariants.{Kept, Broken, Untold}
-use Rattle.kmip_probe.specs.declared.finding.Flaw.{Flaw}
-use Rattle.kmip_probe.specs.declared.finding.Flaw.TheVariants.{Missing, Different, Refused}
+use Rattle.kmip_probe.specs.declared.flaw.Flaw.{Flaw}
+use Rattle.kmip_probe.specs.declared.flaw.Flaw.TheVariants.{Missing, Different, Refused}
 use Rattle.kmip_probe.specs.declared.inquiry.TheConstants.{KEY_BITS, KEY_USAGE}
 
 -- the flaw of an attribute: it is missing, or is another than it was made with

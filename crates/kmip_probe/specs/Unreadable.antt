@@ -2,7 +2,7 @@
 -- Source: KMIP 2.1, Message Structure (Protocol Version stands first in the header); TTLV Encoding.
 use Rattle.std.specs.Prelude.{ℕ, nat_eq, Bool, ◌&&◌, List, take, drop, slice_get, Option, Some, None, if◌then◌else◌}
 use Rattle.std.specs.Cmp.Lexicographic.{pointwise}
-use Rattle.kmip_probe.specs.declared.unread.ProtocolVersion.{ProtocolVersion}
+use Rattle.kmip_probe.specs.declared.protocol_version.ProtocolVersion.{ProtocolVersion}
 use Rattle.kmip_probe.specs.declared.unread.TheConstants.{VERSION_HEAD, MINOR_HEAD}
 
 -- the version of two numbers, where both are there

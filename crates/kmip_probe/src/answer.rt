@@ -9,7 +9,8 @@ ghost use Rattle.kmip_batch_items.specs.Faults.{is_no_memory};
 ghost use Rattle.kmip_probe.specs.Asking.{is_free};
 ghost use Rattle.kmip_probe.specs.Unreadable.{version_in};
 
-use crate::inquiry::{Kind, inquiry_at};
+use crate::inquiry::inquiry_at;
+use crate::kind::Kind;
 use crate::unread::{Unread, version_in};
 use kmip_batch_items::{MessageFault, Outcome, Reply};
 use kmip_messages::read_reply;

@@ -2,6 +2,8 @@
 ghost use Rattle.std.specs.Prelude.{◌≡◌, IfOk, option_map, slice_get};
 ghost use Rattle.kmip_probe.specs.Inquiries.{ask_of, attributes_with, is_prefix, name_of};
 
+use crate::kind::Kind;
+use crate::which::Which;
 use Kind::{Activate, Create, Destroy, GetAttributes, Locate, Revoke};
 use Which::{First, Second};
 use kmip_batch_items::Ask;
@@ -18,28 +20,6 @@ pub const KEY_BITS: i32 = 256;
 
 /// Cryptographic Usage Mask of a probe's keys: Encrypt and Decrypt.
 pub const KEY_USAGE: i32 = 0xC;
-
-/// One of the two names of a probe.
-#[derive(Clone, Copy)]
-pub enum Which {
-    /// The prefix and `-1`.
-    First,
-    /// The prefix and `-2`.
-    Second,
-}
-
-/// What is asked about the object of a name.
-#[derive(Clone, Copy)]
-pub enum Kind {
-    /// Which objects have the name, with a Storage Status Mask where there is one.
-    Locate(Option<i32>),
-    Create,
-    GetAttributes,
-    Activate,
-    /// For a reason that is not specified.
-    Revoke,
-    Destroy,
-}
 
 /// A question of a probe: about which name, what is asked, and its place in `INQUIRIES`.
 #[derive(Clone, Copy)]

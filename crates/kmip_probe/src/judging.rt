@@ -34,15 +34,18 @@ ghost use Rattle.kmip_probe.specs.Judging.{
 };
 
 use crate::answer::Answer;
-use crate::finding::{Finding, Findings, Flaw};
+use crate::finding::Finding;
+use crate::findings::Findings;
+use crate::flaw::Flaw;
 use crate::inquiry::{
     ACTIVATE_AGAIN, ACTIVATE_FIRST, ACTIVATE_SECOND, CREATE_AGAIN, CREATE_FIRST, DESTROY_ACTIVE,
     DESTROY_AGAIN, DESTROY_FIRST, FIND_GONE_EVERYWHERE, FIND_NEW_EVERYWHERE, READ_ATTRIBUTES,
-    REUSE_NAME, REVOKE_AGAIN, REVOKE_FIRST, REVOKE_SECOND, Which, name_of,
+    REUSE_NAME, REVOKE_AGAIN, REVOKE_FIRST, REVOKE_SECOND, name_of,
 };
 use crate::probing::{part, uid_of};
 use crate::telling::attributes_told;
 use crate::unread::Unread;
+use crate::which::Which;
 use kmip_batch_items::Outcome;
 use kmip_objects::Step;
 use kmip_ttlv::{NoMemory, Text};

@@ -7,20 +7,32 @@
 #![tactic(auto)]
 
 mod answer;
+mod attribute;
 mod finding;
+mod findings;
+mod flaw;
 mod inquiry;
 mod judging;
+mod kind;
 pub mod laws;
 mod probing;
+mod protocol_version;
 mod telling;
 mod unread;
+mod which;
 
 pub use answer::Answer;
-pub use finding::{Attribute, Finding, Findings, Flaw};
+pub use attribute::Attribute;
+pub use finding::Finding;
+pub use findings::Findings;
+pub use flaw::Flaw;
 pub use inquiry::{
-    INQUIRIES, Inquiry, Kind, LOOK_FIRST, LOOK_SECOND, LOOKS, PREFIX_MAX, QUESTIONS,
-    READ_ATTRIBUTES, REVOKE_SECOND, Which, is_prefix, name_of,
+    INQUIRIES, Inquiry, LOOK_FIRST, LOOK_SECOND, LOOKS, PREFIX_MAX, QUESTIONS, READ_ATTRIBUTES,
+    REVOKE_SECOND, is_prefix, name_of,
 };
 pub use judging::{findings, outcome_at, unread_at};
+pub use kind::Kind;
 pub use probing::{ask_on, is_free_at, probe};
-pub use unread::{ProtocolVersion, Unread, version_in};
+pub use protocol_version::ProtocolVersion;
+pub use unread::{Unread, version_in};
+pub use which::Which;

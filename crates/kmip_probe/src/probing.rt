@@ -9,14 +9,17 @@ ghost use Rattle.kmip_probe.specs.Answers.{answer_to, uids_told, IsLawful};
 ghost use Rattle.kmip_probe.specs.Asking.{is_free_at, next_inquiry, part, uid_of, request_for, messages_from, AreAnswers};
 ghost use Rattle.kmip_probe.specs.Inquiries.{is_prefix};
 ghost use Rattle.kmip_probe.specs.Serving.{IsUnprobed, outcomes_of};
-ghost use Rattle.kmip_probe.specs.Standing.{AreServed, ProbeLaws};
-ghost use Rattle.kmip_probe.specs.Putting.{AsksOn, HasAsked, HasReplied, HasSent, HasServedNext};
+ghost use Rattle.kmip_probe.specs.TwoObjects.{AreServed};
+ghost use Rattle.kmip_probe.specs.Private.{ProbeLaws};
+ghost use Rattle.kmip_probe.specs.Putting.{AsksOn};
+ghost use Rattle.kmip_probe.specs.Private.{HasAsked, HasReplied, HasSent, HasServedNext};
 
 use crate::answer::{Answer, answer_to};
 use crate::inquiry::{
     ACTIVATE_SECOND, CREATE_FIRST, CREATE_SECOND, Inquiry, LOOK_FIRST, LOOK_SECOND, QUESTIONS,
-    READ_ATTRIBUTES, Which, ask_of, inquiry_at, name_of,
+    READ_ATTRIBUTES, ask_of, inquiry_at, name_of,
 };
+use crate::which::Which;
 use kmip_batch_items::{Ask, Request};
 use kmip_messages::laws::answer_laws;
 use kmip_messages::write_request;

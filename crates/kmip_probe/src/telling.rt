@@ -4,7 +4,9 @@ ghost use Rattle.std.specs.Cmp.Lexicographic.{pointwise};
 ghost use Rattle.std.specs.Ordering.{int_eq};
 ghost use Rattle.kmip_probe.specs.Telling.{attributes_told, cryptographic_flaw, first_flaw, flaw_of};
 
-use crate::finding::{Attribute, Finding, Flaw};
+use crate::attribute::Attribute;
+use crate::finding::Finding;
+use crate::flaw::Flaw;
 use crate::inquiry::{KEY_BITS, KEY_USAGE};
 use kmip_batch_items::Outcome;
 use kmip_objects::standard::{ALGORITHM_AES, OBJECT_TYPE_SYMMETRIC_KEY};

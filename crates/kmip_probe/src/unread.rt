@@ -2,6 +2,7 @@
 ghost use Rattle.std.specs.Prelude.{◌≡◌, ◌≤◌, ◌-◌, take, drop};
 ghost use Rattle.kmip_probe.specs.Unreadable.{version_in, version_of};
 
+use crate::protocol_version::ProtocolVersion;
 use kmip_batch_items::MessageFault;
 
 /// Why a message can't be read as replies, and which version it says that it has.
@@ -11,15 +12,6 @@ pub struct Unread {
     pub fault: MessageFault,
     /// Its Protocol Version, where its header begins with one.
     pub version: Option<ProtocolVersion>,
-}
-
-/// A Protocol Version of KMIP.
-#[derive(Clone, Copy)]
-pub struct ProtocolVersion {
-    /// Protocol Version Major, 0 to 255.
-    pub major: u8,
-    /// Protocol Version Minor, 0 to 255.
-    pub minor: u8,
 }
 
 /// What stands before the major number in the bytes of a message: the head of the Protocol Version,

@@ -5,9 +5,10 @@ use Rattle.std.proofs.lemmas.List.Concat.{flat_map-append}
 use Rattle.kmip_probe.specs.Judging.{AreFindings, answer_at, names_are_unique, is_destroyed, names_stay_used, steps_count_once, active_is_kept, found_at, objects_are_found, destroyed_are_found, attributes_are_told}
 use Rattle.kmip_probe.specs.declared.answer.Answer.{Answer}
 use Rattle.kmip_probe.specs.declared.answer.Answer.TheVariants.{Nothing}
-use Rattle.kmip_probe.specs.declared.finding.Findings.{Findings}
+use Rattle.kmip_probe.specs.declared.findings.Findings.{Findings}
 use Rattle.kmip_probe_command.specs.Midway.{line_by}
-use Rattle.kmip_probe_command.specs.Wording.{ending_text, line_text, premise_line, report_text, rest_text}
+use Rattle.kmip_probe_command.specs.Wording.{ending_text, line_text, premise_line, report_text}
+use Rattle.kmip_probe_command.specs.Private.{rest_text}
 use Rattle.kmip_probe_command.specs.declared.premise.Premise.{Premise}
 use Rattle.kmip_probe_command.specs.declared.premise.Premise.TheVariants as premise
 use Rattle.kmip_probe_command.specs.declared.premise.TheConstants.{EARLY, LATE, PREMISES}

@@ -10,19 +10,21 @@ use Rattle.kmip_probe.specs.Judging.{AreFindings, answer_at}
 use Rattle.kmip_probe.specs.Laws.{ProfileKeepsAll}
 use Rattle.kmip_probe.specs.Putting.{AreAsked, AsksOn}
 use Rattle.kmip_probe.specs.Serving.{outcomes_of}
-use Rattle.kmip_probe.specs.Standing.{AreServed}
+use Rattle.kmip_probe.specs.TwoObjects.{AreServed}
 use Rattle.kmip_probe.specs.declared.answer.Answer.TheVariants.{Told}
-use Rattle.kmip_probe.specs.declared.inquiry.Which.TheVariants.{First, Second}
+use Rattle.kmip_probe.specs.declared.which.Which.TheVariants.{First, Second}
 use Rattle.kmip_protocol.specs.Past.{Names, Past}
 use Rattle.kmip_probe.specs.declared.answer.Answer.{Answer}
-use Rattle.kmip_probe.specs.declared.finding.Findings.{Findings}
+use Rattle.kmip_probe.specs.declared.findings.Findings.{Findings}
 use Rattle.kmip_probe.proofs.ProbingLemmas.{so_many}
 use Rattle.kmip_probe.proofs.ServedLemmas.{all_served, goes_on}
 use Rattle.kmip_probe_command.specs.LookText.{looked_text, making_text, unbegun_text}
 use Rattle.kmip_probe_command.specs.Midway.{line_by, lines_by}
-use Rattle.kmip_probe_command.specs.ProbeText.{TellsEnd, TellsFrom, WritesProbe, kept_text}
-use Rattle.kmip_message_commands.specs.declared.fault.CommandFault.{CommandFault}
-use Rattle.kmip_probe_command.specs.Wording.{report_text, rest_text}
+use Rattle.kmip_probe_command.specs.Private.{TellsEnd}
+use Rattle.kmip_probe_command.specs.ProbeText.{TellsFrom, WritesProbe, kept_text}
+use Rattle.kmip_message_commands.specs.declared.command_fault.CommandFault.{CommandFault}
+use Rattle.kmip_probe_command.specs.Wording.{report_text}
+use Rattle.kmip_probe_command.specs.Private.{rest_text}
 use Rattle.kmip_probe_command.specs.declared.premise.Premise.TheVariants as premise
 use Rattle.kmip_probe_command.specs.declared.premise.TheConstants.{EARLY, LATE}
 use Rattle.kmip_probe_command.proofs.StageLemmas.{early_stays, report_is}

@@ -3,7 +3,7 @@ use Rattle.std.proofs.Common.{◌≡◌, ℕ, true, List, [], ◌++◌, flat_map
 use Rattle.kmip_probe.specs.Judging.{AreFindings}
 use Rattle.kmip_probe.specs.Laws.{AreAllKept}
 use Rattle.kmip_probe.specs.declared.answer.Answer.{Answer}
-use Rattle.kmip_probe.specs.declared.finding.Findings.{Findings}
+use Rattle.kmip_probe.specs.declared.findings.Findings.{Findings}
 use Rattle.kmip_probe_command.specs.ProbeText.{kept_text}
 use Rattle.kmip_probe_command.specs.Wording.{are_all_kept, premise_line, reasons_line, report_text, risk_line, sum_text}
 use Rattle.kmip_probe_command.specs.declared.premise.TheConstants.{PREMISES}

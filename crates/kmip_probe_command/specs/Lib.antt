@@ -8,3 +8,5 @@ pub mod LookText
 pub mod ProbeText
 -- what was written where a probe breaks off
 pub mod Midway
+-- private: what only the clauses of private functions cite
+pub mod Private

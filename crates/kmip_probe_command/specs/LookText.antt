@@ -6,12 +6,12 @@ use Rattle.hex.specs.Hex.{encode_lower}
 use Rattle.byteorder.specs.Endian.{big_bytes}
 use Rattle.kmip_ttlv.specs.Faults.{fault_name, fault_offset}
 use Rattle.kmip_ttlv.specs.Showing.{plain_text}
-use Rattle.kmip_ttlv.specs.declared.fault.TtlvFault.{TtlvFault}
+use Rattle.kmip_ttlv.specs.declared.ttlv_fault.TtlvFault.{TtlvFault}
 use Rattle.kmip_batch_items.specs.Faults.{message_fault_items, message_fault_name, message_fault_tag}
-use Rattle.kmip_batch_items.specs.declared.fault.MessageFault.{MessageFault}
-use Rattle.kmip_batch_items.specs.declared.fault.MessageFault.TheVariants.{Version}
-use Rattle.kmip_batch_items.specs.declared.reply.Outcome.{Outcome}
-use Rattle.kmip_batch_items.specs.declared.reply.Outcome.TheVariants.{Located, Failed}
+use Rattle.kmip_batch_items.specs.declared.message_fault.MessageFault.{MessageFault}
+use Rattle.kmip_batch_items.specs.declared.message_fault.MessageFault.TheVariants.{Version}
+use Rattle.kmip_batch_items.specs.declared.outcome.Outcome.{Outcome}
+use Rattle.kmip_batch_items.specs.declared.outcome.Outcome.TheVariants.{Located, Failed}
 use Rattle.kmip_message_commands.specs.Showing.{offset_text}
 use Rattle.kmip_probe.specs.Answers.{outcome_in, unread_in}
 use Rattle.kmip_probe.specs.Asking.{is_free_at}
@@ -19,8 +19,8 @@ use Rattle.kmip_probe.specs.Inquiries.{name_of}
 use Rattle.kmip_probe.specs.Judging.{answer_at}
 use Rattle.kmip_probe.specs.declared.answer.Answer.{Answer}
 use Rattle.kmip_probe.specs.declared.inquiry.TheConstants.{LOOK_FIRST, LOOK_SECOND}
-use Rattle.kmip_probe.specs.declared.inquiry.Which.TheVariants.{First, Second}
-use Rattle.kmip_probe.specs.declared.unread.ProtocolVersion.{ProtocolVersion}
+use Rattle.kmip_probe.specs.declared.which.Which.TheVariants.{First, Second}
+use Rattle.kmip_probe.specs.declared.protocol_version.ProtocolVersion.{ProtocolVersion}
 use Rattle.kmip_probe.specs.declared.unread.Unread.{Unread}
 
 -- The line of two keys that are about to be made.

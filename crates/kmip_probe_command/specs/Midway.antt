@@ -1,21 +1,10 @@
 -- What `probe` has written where it breaks off: the first lines of what is told of the answers that have
 -- come.
 -- Source: own (text): what the program prints.
-use Rattle.std.specs.Prelude.{◌≡◌, ◌≤◌, ◌⊎◌, ℕ, List, [], ◌∷◌, ◌++◌, length, map, Option}
+use Rattle.std.specs.Prelude.{◌≡◌, ◌≤◌, ℕ, List, [], ◌∷◌, ◌++◌, length, map, Option}
 use Rattle.std.specs.Io.KnownBytes.{Appends}
 use Rattle.std.specs.List.{concat}
-use Rattle.kmip_message_commands.specs.declared.fault.CommandFault.{CommandFault}
-use Rattle.kmip_message_commands.specs.declared.fault.CommandFault.TheVariants.{NoMemory}
-use Rattle.kmip_probe.specs.Judging.{
-  active_is_kept,
-  attributes_are_told,
-  destroyed_are_found,
-  ids_are_echoed,
-  names_are_unique,
-  names_stay_used,
-  objects_are_found,
-  steps_count_once,
-}
+use Rattle.kmip_probe.specs.Judging.{active_is_kept, attributes_are_told, destroyed_are_found, ids_are_echoed, names_are_unique, names_stay_used, objects_are_found, steps_count_once}
 use Rattle.kmip_probe.specs.declared.answer.Answer.{Answer}
 use Rattle.kmip_probe.specs.declared.finding.Finding.{Finding}
 use Rattle.kmip_probe.specs.declared.inquiry.TheConstants.{LOOKS}
@@ -61,9 +50,3 @@ pub record TellsSome (prefix tail : List ℕ) (old new : Option (List ℕ)) : Ty
   pub whole : lines_by prefix answers ≡ told ++ left
   pub decided : answers_before told ≤ length answers
   pub written : Appends old new (concat told ++ tail)
-
--- Private: a probe broke off, for want of memory, or by the fault of its printer, which holds whole texts
--- if it takes all or nothing.
-abbrev pub BreaksMidway : CommandFault → CommandFault → Type 0 → List ℕ → Option (List ℕ) → Option (List ℕ) → Type 0
-BreaksMidway fault own_fault IsWhole prefix old new =
-    ((fault ≡ NoMemory) × TellsSome prefix [] old new) ⊎ ((fault ≡ own_fault) × (IsWhole → TellsSome prefix [] old new))

@@ -9,7 +9,7 @@ use Rattle.kmip_probe.specs.Putting.{AreAsked}
 use Rattle.kmip_probe_command.specs.LookText.{making_text, unbegun_text}
 use Rattle.kmip_probe_command.specs.Wording.{are_all_kept, listed, report_text}
 use Rattle.kmip_probe.specs.declared.answer.Answer.{Answer}
-use Rattle.kmip_probe.specs.declared.finding.Findings.{Findings}
+use Rattle.kmip_probe.specs.declared.findings.Findings.{Findings}
 
 -- The line of a prefix that can't begin names.
 abbrev pub unfit_text : List ℕ
@@ -26,12 +26,6 @@ TellsFrom prefix answers None refused text =
 -- keys are to be made and what is found.
 abbrev pub TellsProbe : List ℕ → List Answer → Bool → List ℕ → Type 0
 TellsProbe prefix answers refused text = TellsFrom prefix answers (unbegun_text prefix answers) refused text
-
--- Private: this was written by some findings of these answers, and whether a premise is not seen to be
--- kept.
-abbrev pub TellsEnd : (Findings → List ℕ) → List ℕ → List Answer → Bool → Option (List ℕ) → Option (List ℕ) → Type 0
-TellsEnd text prefix answers refused old new =
-    (findings : Findings) × AreFindings prefix answers findings × (refused ≡ not (are_all_kept findings)) × Appends old new (text findings)
 
 -- The questions were asked over the link, where it is honest, and what their answers tell was written.
 pub record WritesProbe {L : Type 0} (past : L → Past) (honest : L → Names → Type 0) (prefix : List ℕ) (before after : L) (refused : Bool) (old new : Option (List ℕ)) : Type 0 where

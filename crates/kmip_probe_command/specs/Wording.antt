@@ -7,9 +7,9 @@ use Rattle.kmip_objects.specs.Lifecycle.{step_word}
 use Rattle.kmip_ttlv.specs.Showing.{plain_text}
 use Rattle.kmip_probe.specs.declared.finding.Finding.{Finding}
 use Rattle.kmip_probe.specs.declared.finding.Finding.TheVariants.{Kept, Broken, Untold}
-use Rattle.kmip_probe.specs.declared.finding.Findings.{Findings}
-use Rattle.kmip_probe.specs.declared.finding.Flaw.{Flaw}
-use Rattle.kmip_probe.specs.declared.finding.Flaw.TheVariants.{SecondObject, StepTwice, ActiveDestroyed, NotFound, Missing, Different, Refused, NoId}
+use Rattle.kmip_probe.specs.declared.findings.Findings.{Findings}
+use Rattle.kmip_probe.specs.declared.flaw.Flaw.{Flaw}
+use Rattle.kmip_probe.specs.declared.flaw.Flaw.TheVariants.{SecondObject, StepTwice, ActiveDestroyed, NotFound, Missing, Different, Refused, NoId}
 use Rattle.kmip_probe.specs.Telling.{attribute_text}
 use Rattle.kmip_probe_command.specs.declared.premise.Premise.{Premise}
 use Rattle.kmip_probe_command.specs.declared.premise.Premise.TheVariants as premise
@@ -128,7 +128,3 @@ ending_text findings = reasons_line findings ++ flat_map (risk_line findings) PR
 -- All that is printed of the premises.
 abbrev pub report_text : Findings → List ℕ
 report_text findings = flat_map (premise_line findings) PREMISES ++ ending_text findings
-
--- Private: what is left of the report after the lines of all premises but the last.
-abbrev pub rest_text : Findings → List ℕ
-rest_text findings = premise_line findings premise.IdsAreEchoed ++ ending_text findings

@@ -1,13 +1,15 @@
 //! The command `probe`: whether a server keeps what the theorem asks of it.
 ghost use Rattle.std.specs.Prelude.{◌≡◌, ◌≢◌, ◌≤◌, ◌+◌, ◌++◌, [], length, false, true, Some, IfErr, IfOk, OnErr, IsTrue};
 ghost use Rattle.std.specs.Io.KnownBytes.{Appends};
-ghost use Rattle.kmip_message_commands.specs.Printing.{Fails, IfFailed, IfWhole, UnlessOutput, fault_line};
+ghost use Rattle.kmip_message_commands.specs.Private.{Fails};
+ghost use Rattle.kmip_message_commands.specs.Printing.{IfFailed, IfWhole, UnlessOutput, fault_line};
 ghost use Rattle.kmip_protocol.specs.Past.{Names};
 ghost use Rattle.kmip_probe.specs.Inquiries.{is_prefix};
 ghost use Rattle.kmip_probe.specs.Serving.{IsUnprobed};
 ghost use Rattle.kmip_probe_command.specs.LookText.{making_text};
 ghost use Rattle.kmip_probe_command.specs.ProbeText.{WritesProbe, kept_text, unfit_text};
-ghost use Rattle.kmip_probe_command.specs.Midway.{BreaksMidway, TellsSome};
+ghost use Rattle.kmip_probe_command.specs.Private.{BreaksMidway};
+ghost use Rattle.kmip_probe_command.specs.Midway.{TellsSome};
 
 use crate::telling::tell;
 use kmip_message_commands::{CommandFault, ExitStatus, Printed, Printer, finished};

@@ -2,18 +2,21 @@
 ghost use Rattle.std.specs.Prelude.{◌≡◌, ◌≤◌, ◌+◌, ◌++◌, length, false, true, List, flat_map, IfErr, IfOk, OnOk, IsTrue};
 ghost use Rattle.std.specs.List.{All};
 ghost use Rattle.std.specs.Io.KnownBytes.{Appends};
-ghost use Rattle.kmip_message_commands.specs.Printing.{Fails};
+ghost use Rattle.kmip_message_commands.specs.Private.{Fails};
 ghost use Rattle.kmip_protocol.specs.Past.{Names};
 ghost use Rattle.kmip_probe.specs.Answers.{IsLawful};
 ghost use Rattle.kmip_probe.specs.Asking.{is_free_at};
 ghost use Rattle.kmip_probe.specs.Inquiries.{is_prefix};
 ghost use Rattle.kmip_probe.specs.Serving.{IsUnprobed};
-ghost use Rattle.kmip_probe.specs.Standing.{AreServed};
+ghost use Rattle.kmip_probe.specs.TwoObjects.{AreServed};
 ghost use Rattle.kmip_probe_command.specs.LookText.{making_text};
 ghost use Rattle.kmip_probe.specs.Putting.{AsksOn};
-ghost use Rattle.kmip_probe_command.specs.Midway.{BreaksMidway, line_by};
-ghost use Rattle.kmip_probe_command.specs.ProbeText.{TellsEnd, WritesProbe, kept_text};
-ghost use Rattle.kmip_probe_command.specs.Wording.{report_text, rest_text};
+ghost use Rattle.kmip_probe_command.specs.Private.{BreaksMidway};
+ghost use Rattle.kmip_probe_command.specs.Midway.{line_by};
+ghost use Rattle.kmip_probe_command.specs.Private.{TellsEnd};
+ghost use Rattle.kmip_probe_command.specs.ProbeText.{WritesProbe, kept_text};
+ghost use Rattle.kmip_probe_command.specs.Wording.{report_text};
+ghost use Rattle.kmip_probe_command.specs.Private.{rest_text};
 
 use crate::looking::{making_text, unbegun_text};
 use crate::premise::{EARLY, EARLY_ANSWERS, LATE, LATE_ANSWERS, Premise};

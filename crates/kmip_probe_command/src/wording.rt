@@ -2,21 +2,8 @@
 ghost use Rattle.std.specs.Prelude.{◌≡◌, ◌++◌, codes, flat_map, IfOk, OnOk, string_bytes};
 ghost use Rattle.std.specs.List.{list_all, list_any};
 ghost use Rattle.std.specs.Fmt.{decimal};
-ghost use Rattle.kmip_probe_command.specs.Wording.{
-  are_all_kept,
-  ending_text,
-  finding_of,
-  finding_text,
-  flaw_text,
-  is_broken,
-  is_kept,
-  is_unsafe,
-  listed,
-  premise_line,
-  rest_text,
-  risk_line,
-  sum_text,
-};
+ghost use Rattle.kmip_probe_command.specs.Wording.{are_all_kept, ending_text, finding_of, finding_text, flaw_text, is_broken, is_kept, is_unsafe, listed, premise_line, risk_line, sum_text};
+ghost use Rattle.kmip_probe_command.specs.Private.{rest_text};
 
 use crate::premise::{PREMISES, Premise, finding_of};
 use kmip_probe::{Finding, Findings, Flaw};

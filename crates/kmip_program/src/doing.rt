@@ -16,7 +16,7 @@ use std::io::{BufReader, BufWriter, IsTerminal};
 ///
 /// # Errors
 /// What ends the command early, where it does not print that itself.
-pub(crate) fn carry_out(rt: &HostRuntime, choice: Choice) -> Result<ExitStatus, Trouble> {
+pub(crate) fn execute(rt: &HostRuntime, choice: Choice) -> Result<ExitStatus, Trouble> {
     match choice {
         Choice::Answer => answer_input(rt),
         Choice::AnswerStream => answer_stream_input(rt),

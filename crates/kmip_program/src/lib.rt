@@ -6,9 +6,9 @@
 //! it. kmipctl calls `run`; rows_kmipctl calls `run_words`, for each of its stored runs.
 #![tactic(auto)]
 
-mod address;
 mod doing;
 mod running;
 mod streams;
+mod wrong_address;
 
 pub use running::{run, run_words};

@@ -1,8 +1,8 @@
 //! The program: what its command line asks for, done.
 
-use crate::address::WrongAddress;
-use crate::doing::carry_out;
+use crate::doing::execute;
 use crate::streams::open_closed_streams;
+use crate::wrong_address::WrongAddress;
 use kmip_command_line::{chosen, status_of};
 use kmip_message_commands::{CommandFault, ExitStatus};
 use kmip_network::Trouble;
@@ -54,7 +54,7 @@ fn own_words(rt: &HostRuntime) -> io::Result<Vec<String>> {
 /// Does what the words ask for.
 fn run_command(rt: &HostRuntime, words: &[String]) -> Result<ExitStatus, Trouble> {
     match chosen(rt.alloc(), words) {
-        Ok(choice) => carry_out(rt, choice),
+        Ok(choice) => execute(rt, choice),
         Err(error) => {
             let status = status_of(&error);
             if status == ExitStatus::Failed(CommandFault::NoMemory) {

@@ -12,10 +12,10 @@ use Rattle.kmip_plan.specs.Fields.{if_so}
 use Rattle.kmip_plan.specs.TargetWords.{target_word, target_of_word}
 use Rattle.kmip_plan.specs.declared.target.Target.{Target}
 use Rattle.kmip_progress.specs.declared.entry.Entry.{Entry}
-use Rattle.kmip_progress.specs.declared.entry.Format.{Format}
-use Rattle.kmip_progress.specs.declared.entry.Format.TheVariants.{One, Two}
-use Rattle.kmip_progress.specs.declared.fault.ProgressFault.{ProgressFault}
-use Rattle.kmip_progress.specs.declared.fault.ProgressFault.TheVariants as faults
+use Rattle.kmip_progress.specs.declared.format.Format.{Format}
+use Rattle.kmip_progress.specs.declared.format.Format.TheVariants.{One, Two}
+use Rattle.kmip_progress.specs.declared.progress_fault.ProgressFault.{ProgressFault}
+use Rattle.kmip_progress.specs.declared.progress_fault.ProgressFault.TheVariants as faults
 use Rattle.kmip_progress.specs.declared.known.Known.{Known}
 use Rattle.kmip_progress.specs.Reading.{need, guard, parts, known_in, entry_1, entry_2, entry_in, entries_in}
 use Rattle.kmip_progress.specs.Suiting.{is_known, has_text}

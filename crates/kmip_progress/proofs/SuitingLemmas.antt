@@ -4,7 +4,8 @@ use Rattle.std.proofs.lemmas.Bool.{ne_eqb}
 use Rattle.std.proofs.lemmas.List.{drop_all}
 use Rattle.kmip_plan.specs.declared.key.Key.{Key}
 use Rattle.kmip_progress.specs.declared.known.Known.{Known}
-use Rattle.kmip_progress.specs.Suiting.{known_fits, Suits, all_fit}
+use Rattle.kmip_progress.specs.Suiting.{known_fits, Suits}
+use Rattle.kmip_progress.specs.Private.{all_fit}
 
 -- both of two tests
 pub both : (a b : Bool) → (a && b) ≡ true → (a ≡ true) × (b ≡ true)

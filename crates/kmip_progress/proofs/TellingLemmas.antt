@@ -12,8 +12,8 @@ use Rattle.kmip_plan.specs.declared.key.Key.{Key}
 use Rattle.kmip_plan.specs.declared.target.Target.{Target}
 use Rattle.kmip_plan.specs.declared.target.Target.TheVariants.{Created, Active, Revoked, Destroyed, Discarded}
 use Rattle.kmip_progress.specs.declared.entry.Entry.{Entry}
-use Rattle.kmip_progress.specs.declared.entry.Format.{Format}
-use Rattle.kmip_progress.specs.declared.entry.Format.TheVariants.{One, Two}
+use Rattle.kmip_progress.specs.declared.format.Format.{Format}
+use Rattle.kmip_progress.specs.declared.format.Format.TheVariants.{One, Two}
 use Rattle.kmip_progress.specs.declared.known.Known.{Known}
 use Rattle.kmip_progress.specs.Reading.{leads_on, speaks_of, keys_behind, all_known}
 use Rattle.kmip_progress.specs.Suiting.{is_known, known_fits, nothing_known, Suits}

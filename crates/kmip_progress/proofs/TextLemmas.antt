@@ -13,10 +13,10 @@ use Rattle.kmip_plan.specs.declared.key.Key.{Key}
 use Rattle.kmip_plan.specs.declared.target.Target.{Target}
 use Rattle.kmip_plan.specs.declared.target.Target.TheVariants.{Created, Active, Revoked, Destroyed, Discarded}
 use Rattle.kmip_progress.specs.declared.entry.Entry.{Entry}
-use Rattle.kmip_progress.specs.declared.entry.Format.{Format}
-use Rattle.kmip_progress.specs.declared.entry.Format.TheVariants.{One, Two}
-use Rattle.kmip_progress.specs.declared.fault.ProgressFault.{ProgressFault}
-use Rattle.kmip_progress.specs.declared.fault.ProgressFault.TheVariants as faults
+use Rattle.kmip_progress.specs.declared.format.Format.{Format}
+use Rattle.kmip_progress.specs.declared.format.Format.TheVariants.{One, Two}
+use Rattle.kmip_progress.specs.declared.progress_fault.ProgressFault.{ProgressFault}
+use Rattle.kmip_progress.specs.declared.progress_fault.ProgressFault.TheVariants as faults
 use Rattle.kmip_progress.specs.declared.known.Known.{Known}
 use Rattle.kmip_progress.specs.Reading.{parts, body_of, format_of_head, format_in, keys_behind, all_known, entries_of_text, read_text, GivesProgress}
 use Rattle.kmip_progress.specs.Suiting.{has_text, Suits}

@@ -17,9 +17,9 @@ use Rattle.kmip_plan.specs.Fields.{if_so}
 use Rattle.kmip_plan.specs.TargetWords.{is_text, target_word, target_of_word}
 use Rattle.kmip_plan.specs.declared.target.Target.{Target}
 use Rattle.kmip_plan.specs.declared.target.Target.TheVariants.{Created, Active, Revoked, Destroyed, Discarded}
-use Rattle.kmip_progress.specs.declared.entry.Format.TheVariants.{Two}
-use Rattle.kmip_progress.specs.declared.fault.ProgressFault.{ProgressFault}
-use Rattle.kmip_progress.specs.declared.fault.ProgressFault.TheVariants as faults
+use Rattle.kmip_progress.specs.declared.format.Format.TheVariants.{Two}
+use Rattle.kmip_progress.specs.declared.progress_fault.ProgressFault.{ProgressFault}
+use Rattle.kmip_progress.specs.declared.progress_fault.ProgressFault.TheVariants as faults
 use Rattle.kmip_progress.specs.Reading.{need}
 use Rattle.kmip_progress.specs.Texts.{reason_stands}
 use Rattle.kmip_progress.specs.Words.{identifier_of_word, is_spelt, done_of_word, reason_of_word, reason_in, reason_word, identifier_in, identifier_word}

@@ -2,11 +2,12 @@
 use Rattle.std.proofs.Common.{◌≡◌, ◌≤◌, ℕ, suc, List, [], ◌∷◌, ◌++◌, length, drop, map, codes, refl, sym, ◌∙◌, ap, append_assoc}
 use Rattle.std.proofs.lemmas.List.{drop_all, append-nil}
 use Rattle.kmip_plan.specs.declared.key.Key.{Key}
-use Rattle.kmip_progress.specs.declared.entry.Format.{Format}
-use Rattle.kmip_progress.specs.declared.entry.Format.TheVariants.{Two}
+use Rattle.kmip_progress.specs.declared.format.Format.{Format}
+use Rattle.kmip_progress.specs.declared.format.Format.TheVariants.{Two}
 use Rattle.kmip_progress.specs.declared.known.Known.{Known}
 use Rattle.kmip_progress.specs.Suiting.{Suits}
-use Rattle.kmip_progress.specs.Texts.{line_of, text_of_lines, entry_words, entries_for, end_line, key_line, key_lines, progress_text}
+use Rattle.kmip_progress.specs.Texts.{line_of, text_of_lines, entry_words, entries_for, end_line, progress_text}
+use Rattle.kmip_progress.specs.Private.{key_line, key_lines}
 
 no_lines : (keys : List Key) → key_lines keys [] ≡ []
 no_lines [] = refl

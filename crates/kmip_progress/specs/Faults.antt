@@ -1,8 +1,8 @@
 -- The number and the name of each fault of a progress text.
 -- Source: own (text, fault).
 use Rattle.std.specs.Prelude.{ℕ, List, codes}
-use Rattle.kmip_progress.specs.declared.fault.ProgressFault.{ProgressFault}
-use Rattle.kmip_progress.specs.declared.fault.ProgressFault.TheVariants.{BadText, Cut, OtherPlan, NoMemory}
+use Rattle.kmip_progress.specs.declared.progress_fault.ProgressFault.{ProgressFault}
+use Rattle.kmip_progress.specs.declared.progress_fault.ProgressFault.TheVariants.{BadText, Cut, OtherPlan, NoMemory}
 
 -- The number of a fault.
 abbrev pub progress_fault_number : ProgressFault → ℕ

@@ -5,7 +5,7 @@ use Rattle.kmip_plan.specs.Limits.{most_keys}
 use Rattle.kmip_plan.specs.Plans.{IsLawful}
 use Rattle.kmip_plan.specs.Prolonging.{Prolongs}
 use Rattle.kmip_plan.specs.declared.key.Key.{Key}
-use Rattle.kmip_progress.specs.declared.fault.ProgressFault.TheVariants.{Cut}
+use Rattle.kmip_progress.specs.declared.progress_fault.ProgressFault.TheVariants.{Cut}
 use Rattle.kmip_progress.specs.declared.known.Known.{Known}
 use Rattle.kmip_progress.specs.Reading.{read_text}
 use Rattle.kmip_progress.specs.Suiting.{nothing_known, Suits, are_texts}

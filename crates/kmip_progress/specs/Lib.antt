@@ -13,3 +13,5 @@ pub mod Reading
 pub mod Faults
 -- What holds of every text: it is read back, its fronts are cut, and prolonged plans read it.
 pub mod Laws
+-- private: what only the clauses of private functions cite
+pub mod Private

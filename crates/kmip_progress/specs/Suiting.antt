@@ -1,6 +1,6 @@
 -- What may be known of the keys of a plan.
 -- Source: own (choice).
-use Rattle.std.specs.Prelude.{◌≡◌, Bool, true, false, ◌&&◌, ◌||◌, ◌==◌, nat_le, List, [], ◌∷◌, length, None, is_some}
+use Rattle.std.specs.Prelude.{◌≡◌, Bool, true, ◌&&◌, ◌||◌, ◌==◌, nat_le, List, length, None, is_some}
 use Rattle.std.specs.List.{list_all, AllZip}
 use Rattle.std.specs.Option.{option_map_or}
 use Rattle.std.specs.Str.{is_utf8}
@@ -26,13 +26,6 @@ known_fits key known = nat_le known.done (length (chain key.target)) && is_known
 -- that key.
 abbrev pub Suits : List Key → List Known → Type 0
 Suits keys progress = AllZip (λ key known. known_fits key known ≡ true) keys progress
-
--- Private: the same as a test
-abbrev pub all_fit : List Key → List Known → Bool
-all_fit [] [] = true
-all_fit [] (known ∷ progress) = false
-all_fit (key ∷ keys) [] = false
-all_fit (key ∷ keys) (known ∷ progress) = known_fits key known && all_fit keys progress
 
 -- An identifier, where there is one, is UTF-8.
 abbrev pub has_text : Known → Bool

@@ -10,8 +10,8 @@ use Rattle.kmip_plan.specs.TargetWords.{target_word}
 use Rattle.kmip_plan.specs.declared.key.Key.{Key}
 use Rattle.kmip_plan.specs.declared.target.Target.{Target}
 use Rattle.kmip_progress.specs.declared.entry.Entry.{Entry}
-use Rattle.kmip_progress.specs.declared.entry.Format.{Format}
-use Rattle.kmip_progress.specs.declared.entry.Format.TheVariants.{One, Two}
+use Rattle.kmip_progress.specs.declared.format.Format.{Format}
+use Rattle.kmip_progress.specs.declared.format.Format.TheVariants.{One, Two}
 use Rattle.kmip_progress.specs.declared.known.Known.{Known}
 use Rattle.kmip_progress.specs.Suiting.{is_known, has_text, nothing_known}
 use Rattle.kmip_progress.specs.Words.{reason_word, identifier_word}
@@ -102,16 +102,6 @@ abbrev pub entries_for : Format → List Key → List Known → List Entry
 entries_for format [] progress = []
 entries_for format (key ∷ keys) [] = []
 entries_for format (key ∷ keys) (known ∷ progress) = entry_for format key known ∷ entries_for format keys progress
-
--- Private: the line of a key in format 2
-abbrev pub key_line : Key → Known → List ℕ
-key_line key known = line_of (entry_words Two (entry_for Two key known))
-
--- Private: the lines of keys in format 2, each with its line feed
-abbrev pub key_lines : List Key → List Known → List ℕ
-key_lines [] progress = []
-key_lines (key ∷ keys) [] = []
-key_lines (key ∷ keys) (known ∷ progress) = key_line key known ++ 0x0A ∷ key_lines keys progress
 
 -- The text that is written of a progress: format 2.
 abbrev pub progress_text : List Key → List Known → List ℕ

@@ -2,14 +2,15 @@
 #![tactic(auto)]
 
 mod entry;
-mod fault;
+mod format;
 mod known;
 pub mod laws;
 mod progress;
+mod progress_fault;
 mod reading;
 mod words;
 mod writing;
 
-pub use fault::ProgressFault;
 pub use known::Known;
 pub use progress::{Progress, suits};
+pub use progress_fault::ProgressFault;

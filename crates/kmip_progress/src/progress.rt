@@ -3,11 +3,12 @@ ghost use Rattle.std.specs.Prelude.{◌≡◌, ◌↔◌, List, IfOk, OnOk, IsTr
 ghost use Rattle.kmip_plan.specs.Plans.{IsLawful};
 ghost use Rattle.kmip_progress.specs.declared.known.Known.{Known};
 ghost use Rattle.kmip_progress.specs.Reading.{read_text, GivesProgress};
-ghost use Rattle.kmip_progress.specs.Suiting.{Suits, all_fit, are_texts};
+ghost use Rattle.kmip_progress.specs.Suiting.{Suits, are_texts};
+ghost use Rattle.kmip_progress.specs.Private.{all_fit};
 ghost use Rattle.kmip_progress.specs.Texts.{IsProgressText, progress_text};
 
-use crate::fault::ProgressFault;
 use crate::known::{Known, known_fits};
+use crate::progress_fault::ProgressFault;
 use crate::reading::read_known;
 use crate::writing::progress_text;
 use kmip_plan::{Key, Plan};

@@ -7,9 +7,10 @@ ghost use Rattle.kmip_plan.specs.TargetWords.{is_text};
 ghost use Rattle.kmip_progress.specs.Reading.{need, guard, body_of, format_in, known_in, entry_1, entry_2, entry_in, entries_in, speaks_of, keys_behind, all_known, entries_of_text, read_text, GivesProgress};
 ghost use Rattle.kmip_progress.specs.Suiting.{nothing_known};
 
-use crate::entry::{Entry, Format};
-use crate::fault::ProgressFault;
+use crate::entry::Entry;
+use crate::format::Format;
 use crate::known::{Known, is_known};
+use crate::progress_fault::ProgressFault;
 use crate::words::{done_of_word, identifier_in, leads_on, lines, number_in, reason_in, words};
 use kmip_objects::is_name;
 use kmip_plan::{Key, Target};

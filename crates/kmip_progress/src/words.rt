@@ -6,7 +6,7 @@ ghost use Rattle.hex.specs.Hex.{decode_of};
 ghost use Rattle.kmip_progress.specs.Reading.{parts, leads_on, need, GivesProgress};
 ghost use Rattle.kmip_progress.specs.Words.{done_of_word, reason_of_word, reason_in, identifier_in, identifier_of_word, is_spelt, is_digit, is_number, number_in};
 
-use crate::fault::ProgressFault;
+use crate::progress_fault::ProgressFault;
 use hex::FromHexError;
 use kmip_objects::is_identifier;
 use kmip_plan::Target;

@@ -1,8 +1,9 @@
 //! A progress as a text.
 ghost use Rattle.std.specs.Prelude.{◌≡◌, ◌++◌, ◌∷◌, [], IfOk, OnOk, IsTrue, string_bytes, length, map};
-ghost use Rattle.kmip_progress.specs.declared.entry.Format.TheVariants as formats;
+ghost use Rattle.kmip_progress.specs.declared.format.Format.TheVariants as formats;
 ghost use Rattle.kmip_progress.specs.Suiting.{Suits, has_text, are_texts};
-ghost use Rattle.kmip_progress.specs.Texts.{key_line, key_lines, end_line, progress_text, reason_for};
+ghost use Rattle.kmip_progress.specs.Private.{key_line, key_lines};
+ghost use Rattle.kmip_progress.specs.Texts.{end_line, progress_text, reason_for};
 ghost use Rattle.kmip_progress.specs.Words.{reason_word, identifier_word};
 
 use crate::known::Known;

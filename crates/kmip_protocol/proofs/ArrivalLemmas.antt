@@ -19,7 +19,7 @@ use Rattle.kmip_protocol.specs.Moves.{Move, Serve, Unanswered, Refuse, Comes, Ch
 use Rattle.kmip_protocol.specs.Past.{Past, is_planned, steps_on}
 use Rattle.kmip_protocol.specs.Sound.{Sound}
 use Rattle.kmip_server.specs.declared.effect.Effect.{Effect}
-use Rattle.kmip_protocol.specs.SettlingLawbook.{Lawbook}
+use Rattle.kmip_protocol.specs.PrivateSettlingLawbook.{Lawbook}
 use Rattle.kmip_protocol.specs.Losing.{is_under_way, was_asked}
 use Rattle.kmip_protocol.proofs.AskedLemmas.{effect_was_asked, none_beyond}
 use Rattle.kmip_protocol.proofs.NeedLemmas.{position_within}

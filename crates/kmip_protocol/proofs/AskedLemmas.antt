@@ -13,9 +13,9 @@ use Rattle.kmip_objects.specs.Ranges.{is_compromise}
 use Rattle.kmip_objects.specs.declared.step.Step.{Step}
 use Rattle.kmip_objects.specs.declared.step.Step.TheVariants.{Create, Activate, Revoke, Destroy}
 use Rattle.kmip_batch_items.specs.Operations.{operation_of}
-use Rattle.kmip_batch_items.specs.declared.reply.Outcome.{Outcome}
-use Rattle.kmip_batch_items.specs.declared.request.Ask.{Ask}
-use Rattle.kmip_batch_items.specs.declared.request.Ask.TheVariants as asks
+use Rattle.kmip_batch_items.specs.declared.outcome.Outcome.{Outcome}
+use Rattle.kmip_batch_items.specs.declared.ask.Ask.{Ask}
+use Rattle.kmip_batch_items.specs.declared.ask.Ask.TheVariants as asks
 use Rattle.kmip_batch_items.specs.declared.request.Request.{Request}
 use Rattle.kmip_plan.specs.Chains.{step_place}
 use Rattle.kmip_plan.specs.declared.key.Key.{Key}
@@ -27,10 +27,10 @@ use Rattle.kmip_client.specs.Questions.{id_of, step_ask}
 use Rattle.kmip_server.specs.Again.{has_failed}
 use Rattle.kmip_server.specs.Effects.{effect_asked, effect_of, effect_on}
 use Rattle.kmip_protocol.specs.Past.{Past}
-use Rattle.kmip_protocol.specs.Safe.{step_of_ask}
+use Rattle.kmip_protocol.specs.Headline.{step_of_ask}
 use Rattle.kmip_protocol.specs.Sound.{Sound}
 use Rattle.kmip_server.specs.declared.effect.Effect.{Effect}
-use Rattle.kmip_protocol.specs.SettlingLawbook.{Lawbook}
+use Rattle.kmip_protocol.specs.PrivateSettlingLawbook.{Lawbook}
 use Rattle.kmip_protocol.specs.Losing.{is_id, step_id, was_asked}
 use Rattle.kmip_protocol.proofs.SettlingChangeLemmas.{same_key}
 use Rattle.kmip_protocol.proofs.FilterLemmas.{same_text}

@@ -18,7 +18,7 @@ use Rattle.kmip_client.specs.Places.{position}
 use Rattle.kmip_client.specs.Questions.{ask_about, id_of, request_about, step_ask}
 use Rattle.kmip_protocol.specs.Exchanges.{with_requests}
 use Rattle.kmip_protocol.specs.Past.{Past}
-use Rattle.kmip_protocol.specs.SettlingLawbook.{Lawbook}
+use Rattle.kmip_protocol.specs.PrivateSettlingLawbook.{Lawbook}
 use Rattle.kmip_protocol.specs.Losing.{is_id, is_under_way, left_of, left_all, step_id, was_asked}
 use Rattle.kmip_protocol.proofs.AskedLemmas.{same_parts}
 use Rattle.kmip_protocol.proofs.FilterLemmas.{other_text}

@@ -5,8 +5,8 @@ use Rattle.std.proofs.lemmas.Option.{MatchOption-at_some, same_Some}
 use Rattle.kmip_objects.specs.Lifecycle.{after}
 use Rattle.kmip_objects.specs.Objects.{Object, object_named}
 use Rattle.kmip_objects.specs.Ranges.{is_identifier}
-use Rattle.kmip_objects.specs.declared.state.KeyState.{KeyState}
-use Rattle.kmip_objects.specs.declared.state.KeyState.TheVariants as states
+use Rattle.kmip_objects.specs.declared.key_state.KeyState.{KeyState}
+use Rattle.kmip_objects.specs.declared.key_state.KeyState.TheVariants as states
 use Rattle.kmip_objects.specs.declared.step.Step.{Step}
 use Rattle.kmip_objects.specs.declared.step.Step.TheVariants.{Create, Activate, Revoke, Destroy}
 use Rattle.kmip_plan.specs.Chains.{chain, place_reached}

@@ -12,10 +12,10 @@ use Rattle.kmip_objects.specs.declared.step.Step.{Step}
 use Rattle.kmip_objects.specs.declared.step.Step.TheVariants.{Create, Activate, Revoke, Destroy}
 use Rattle.kmip_messages.specs.Items.{replies_in, stops_in}
 use Rattle.kmip_batch_items.specs.Operations.{operation_of}
-use Rattle.kmip_batch_items.specs.declared.reply.Outcome.{Outcome}
-use Rattle.kmip_batch_items.specs.declared.reply.Outcome.TheVariants.{Failed}
+use Rattle.kmip_batch_items.specs.declared.outcome.Outcome.{Outcome}
+use Rattle.kmip_batch_items.specs.declared.outcome.Outcome.TheVariants.{Failed}
 use Rattle.kmip_batch_items.specs.declared.reply.Reply.{Reply}
-use Rattle.kmip_batch_items.specs.declared.request.Ask.{Ask}
+use Rattle.kmip_batch_items.specs.declared.ask.Ask.{Ask}
 use Rattle.kmip_batch_items.specs.declared.request.Request.{Request}
 use Rattle.kmip_batch_items.specs.declared.standard.TheConstants.{REASON_SERVER_FULL}
 use Rattle.kmip_plan.specs.Chains.{step_at, step_place}
@@ -23,8 +23,8 @@ use Rattle.kmip_plan.specs.declared.key.Key.{Key}
 use Rattle.kmip_plan.specs.Plans.{IsLawful, IsPlanned}
 use Rattle.kmip_client.specs.Knowledge.{chain_length}
 use Rattle.kmip_client.specs.declared.knowledge.Knowledge.{Knowledge}
-use Rattle.kmip_client.specs.declared.knowledge.Phase.{Phase}
-use Rattle.kmip_client.specs.declared.knowledge.Phase.TheVariants as phases
+use Rattle.kmip_client.specs.declared.phase.Phase.{Phase}
+use Rattle.kmip_client.specs.declared.phase.Phase.TheVariants as phases
 use Rattle.kmip_client.specs.Held.{Held, IsHeld}
 use Rattle.kmip_client.specs.Hearing.{step_of}
 use Rattle.kmip_client.specs.Justified.{Justified}
@@ -32,7 +32,7 @@ use Rattle.kmip_client.specs.Places.{position}
 use Rattle.kmip_client.specs.Questions.{ask_about, id_of, next_ask, phase_ask, request_about, step_ask}
 use Rattle.kmip_client.specs.declared.question.Question.{Question}
 use Rattle.kmip_client.specs.Clients.{WorksAt, one_if}
-use Rattle.kmip_client.specs.declared.question.Part.{Part}
+use Rattle.kmip_client.specs.declared.part.Part.{Part}
 use Rattle.kmip_client.specs.Asking.{IsAbout, AreApart, at_places, part_about, requests_at}
 use Rattle.kmip_server.specs.ServerStep as rows
 use Rattle.kmip_server.specs.ServerStep.{ServerStep}
@@ -41,9 +41,9 @@ use Rattle.kmip_protocol.specs.Clean.{HasRoom, IsClean}
 use Rattle.kmip_protocol.specs.Exchanges.{with_asked, with_requests}
 use Rattle.kmip_protocol.specs.Moves.{Delivered, Serve, after_move}
 use Rattle.kmip_protocol.specs.Past.{Past, is_planned}
-use Rattle.kmip_protocol.specs.Safe.{step_of_ask}
+use Rattle.kmip_protocol.specs.Headline.{step_of_ask}
 use Rattle.kmip_protocol.specs.Sound.{Sound}
-use Rattle.kmip_protocol.specs.SettlingLawbook.{Lawbook}
+use Rattle.kmip_protocol.specs.PrivateSettlingLawbook.{Lawbook}
 use Rattle.kmip_protocol.specs.Losing.{is_id, is_under_way, left_of, left_all, step_id, was_asked}
 use Rattle.kmip_protocol.specs.Needs.{need_in, need_of}
 use Rattle.kmip_protocol.specs.Turns.{known_then}

@@ -8,14 +8,14 @@ use Rattle.std.proofs.lemmas.List.Folds.{list_any-append}
 use Rattle.std.proofs.lemmas.Option.{same_Some}
 use Rattle.kmip_messages.specs.Batches.{replies_read}
 use Rattle.kmip_messages.specs.Items.{requests_in}
-use Rattle.kmip_batch_items.specs.declared.fault.MessageFault.{MessageFault}
+use Rattle.kmip_batch_items.specs.declared.message_fault.MessageFault.{MessageFault}
 use Rattle.kmip_batch_items.specs.declared.reply.Reply.{Reply}
 use Rattle.kmip_batch_items.specs.declared.request.Request.{Request}
 use Rattle.kmip_plan.specs.declared.key.Key.{Key}
 use Rattle.kmip_plan.specs.Plans.{IsLawful}
 use Rattle.kmip_client.specs.declared.knowledge.Knowledge.{Knowledge}
-use Rattle.kmip_client.specs.declared.question.Part.{Part}
-use Rattle.kmip_client.specs.declared.hearing.Heard.{Heard}
+use Rattle.kmip_client.specs.declared.part.Part.{Part}
+use Rattle.kmip_client.specs.declared.heard.Heard.{Heard}
 use Rattle.kmip_client.specs.declared.question.Question.{Question}
 use Rattle.kmip_client.specs.Asking.{IsAbout, at_places, part_about, requests_at}
 use Rattle.kmip_client.specs.Hearing.{hear_all, hear_each, known_after_each, place_named}
@@ -29,7 +29,7 @@ use Rattle.kmip_protocol.specs.Exchanges.{AreGiven, HandsOver, with_asked, with_
 use Rattle.kmip_protocol.specs.Past.{Past, is_planned}
 use Rattle.kmip_protocol.specs.Sound.{Sound}
 use Rattle.kmip_protocol.specs.Turns.{known_then, is_unanswered, lost_each, taught_by}
-use Rattle.kmip_protocol.specs.SettlingLawbook.{Lawbook}
+use Rattle.kmip_protocol.specs.PrivateSettlingLawbook.{Lawbook}
 use Rattle.kmip_protocol.specs.Losing.{left_of, left_all}
 use Rattle.kmip_protocol.proofs.AskingLemmas.{names_apart, one_justified, request_left}
 use Rattle.kmip_protocol.proofs.FilterLemmas.{other_text}

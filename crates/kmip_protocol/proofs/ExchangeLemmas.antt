@@ -12,10 +12,10 @@ use Rattle.kmip_client.specs.Justified.{Justified, JustifiedMessage}
 use Rattle.kmip_client.specs.Places.{Onward}
 use Rattle.kmip_client.specs.Truth.{TrueMessage, TrueReply}
 use Rattle.kmip_server.specs.declared.effect.Effect.{Effect}
-use Rattle.kmip_protocol.specs.declared.link.LinkFault.{LinkFault}
-use Rattle.kmip_protocol.specs.declared.link.LinkFault.TheVariants.{Io, Frame, NoMemory}
+use Rattle.kmip_protocol.specs.declared.link_fault.LinkFault.{LinkFault}
+use Rattle.kmip_protocol.specs.declared.link_fault.LinkFault.TheVariants.{Io, Frame, NoMemory}
 use Rattle.kmip_protocol.specs.Exchanges.{AreGiven, Exchanged, HandsOver, with_asked, with_exchange, with_requests}
-use Rattle.kmip_protocol.specs.Lawbook.{Lawbook}
+use Rattle.kmip_protocol.specs.PrivateLawbook.{Lawbook}
 use Rattle.kmip_protocol.specs.Past.{Past, is_planned, steps_on}
 use Rattle.kmip_protocol.specs.Sound.{Opening, Sound, TrueAnswer}
 use Rattle.kmip_protocol.proofs.ChangeLemmas.{place_in}

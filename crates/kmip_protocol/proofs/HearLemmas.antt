@@ -9,19 +9,19 @@ use Rattle.std.proofs.lemmas.Option.{same_Some}
 use Rattle.std.proofs.lemmas.Slice.Eq.{bytes_eq-Decides}
 use Rattle.kmip_objects.specs.Objects.{Object}
 use Rattle.kmip_batch_items.specs.Operations.{operation_of}
-use Rattle.kmip_batch_items.specs.declared.reply.Outcome.{Outcome}
+use Rattle.kmip_batch_items.specs.declared.outcome.Outcome.{Outcome}
 use Rattle.kmip_batch_items.specs.declared.reply.Reply.{Reply}
-use Rattle.kmip_batch_items.specs.declared.request.Ask.{Ask}
-use Rattle.kmip_batch_items.specs.declared.request.Ask.TheVariants as asks
+use Rattle.kmip_batch_items.specs.declared.ask.Ask.{Ask}
+use Rattle.kmip_batch_items.specs.declared.ask.Ask.TheVariants as asks
 use Rattle.kmip_objects.specs.declared.step.Step.TheVariants as steps
 use Rattle.kmip_plan.specs.Chains.{step_place}
 use Rattle.kmip_plan.specs.Laws.{NamesAreDistinct}
 use Rattle.kmip_plan.specs.Plans.{IsLawful}
 use Rattle.kmip_plan.specs.TargetWords.{is_text}
 use Rattle.kmip_plan.specs.declared.key.Key.{Key}
-use Rattle.kmip_client.specs.declared.fault.HearFault.{HearFault}
-use Rattle.kmip_client.specs.declared.hearing.Heard.{Heard}
-use Rattle.kmip_client.specs.declared.hearing.News.{News}
+use Rattle.kmip_client.specs.declared.hear_fault.HearFault.{HearFault}
+use Rattle.kmip_client.specs.declared.heard.Heard.{Heard}
+use Rattle.kmip_client.specs.declared.news.News.{News}
 use Rattle.kmip_client.specs.declared.knowledge.Knowledge.{Knowledge}
 use Rattle.kmip_client.specs.Clients.{changed_at, changed_by, lost_working}
 use Rattle.kmip_client.specs.Hearing.{is_asked_of, place_named, subject_at, subject_of, is_other_operation, has_failed, news_of, with_news, teach, with_heard, heard_by, heard_at, heard_in}

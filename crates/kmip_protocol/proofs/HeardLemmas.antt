@@ -6,18 +6,18 @@ use Rattle.std.proofs.lemmas.Bool.{cases_Bool}
 use Rattle.std.proofs.lemmas.List.Quantifiers.{position-Some}
 use Rattle.std.proofs.lemmas.Option.{get_or_from_slice_get}
 use Rattle.std.proofs.lemmas.Slice.Eq.{bytes_eq-Decides}
-use Rattle.kmip_batch_items.specs.declared.reply.Outcome.{Outcome}
+use Rattle.kmip_batch_items.specs.declared.outcome.Outcome.{Outcome}
 use Rattle.kmip_batch_items.specs.declared.reply.Reply.{Reply}
 use Rattle.kmip_plan.specs.TargetWords.{is_text}
 use Rattle.kmip_plan.specs.declared.key.Key.{Key}
 use Rattle.kmip_client.specs.Knowledge.{is_working}
 use Rattle.kmip_client.specs.Learning.{learn}
-use Rattle.kmip_client.specs.declared.fault.HearFault.{HearFault}
-use Rattle.kmip_client.specs.declared.fault.HearFault.TheVariants as faults
+use Rattle.kmip_client.specs.declared.hear_fault.HearFault.{HearFault}
+use Rattle.kmip_client.specs.declared.hear_fault.HearFault.TheVariants as faults
 use Rattle.kmip_client.specs.declared.knowledge.Knowledge.{Knowledge}
-use Rattle.kmip_client.specs.declared.hearing.Heard.{Heard}
-use Rattle.kmip_client.specs.declared.hearing.News.{News}
-use Rattle.kmip_client.specs.declared.hearing.News.TheVariants as news
+use Rattle.kmip_client.specs.declared.heard.Heard.{Heard}
+use Rattle.kmip_client.specs.declared.news.News.{News}
+use Rattle.kmip_client.specs.declared.news.News.TheVariants as news
 use Rattle.kmip_client.specs.Hearing.{has_failed, heard_about, heard_by, heard_in, is_asked_of, is_other_operation, news_of, place_named, subject_at, subject_of, teach, with_heard, with_news}
 
 -- a key that was worked on learnt the outcome, and another one nothing

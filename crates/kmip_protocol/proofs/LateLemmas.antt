@@ -9,7 +9,7 @@ use Rattle.kmip_client.specs.Places.{position}
 use Rattle.kmip_protocol.specs.Moves.{Delivered}
 use Rattle.kmip_protocol.specs.Past.{Past, is_planned}
 use Rattle.kmip_protocol.specs.Sound.{Sound}
-use Rattle.kmip_protocol.specs.SettlingLawbook.{Lawbook}
+use Rattle.kmip_protocol.specs.PrivateSettlingLawbook.{Lawbook}
 use Rattle.kmip_protocol.specs.Losing.{is_under_way, left_of, left_all}
 use Rattle.kmip_protocol.proofs.ArrivalLemmas.{Arrives, as_it_was, took_effect, delivered_arrives}
 use Rattle.kmip_protocol.proofs.LeftLemmas.{is_there, late_left, left_by, left_is, same_there}

@@ -3,21 +3,21 @@ use Rattle.std.proofs.Common.{◌≡◌, ℕ, true, false, nat_eq, nat_lt, List,
 use Rattle.std.specs.Cmp.Lexicographic.{pointwise}
 use Rattle.std.proofs.lemmas.Bool.{cases_Bool, ltb-true, ltb-false}
 use Rattle.std.proofs.lemmas.Slice.Eq.{bytes_eq-Decides}
-use Rattle.kmip_objects.specs.declared.attributes.Attrs.{Attrs}
+use Rattle.kmip_objects.specs.declared.attrs.Attrs.{Attrs}
 use Rattle.kmip_objects.specs.declared.step.Step.{Step}
 use Rattle.kmip_objects.specs.declared.step.Step.TheVariants as steps
-use Rattle.kmip_batch_items.specs.declared.reply.Outcome.{Outcome}
-use Rattle.kmip_batch_items.specs.declared.reply.Outcome.TheVariants as outcomes
+use Rattle.kmip_batch_items.specs.declared.outcome.Outcome.{Outcome}
+use Rattle.kmip_batch_items.specs.declared.outcome.Outcome.TheVariants as outcomes
 use Rattle.kmip_plan.specs.Chains.{place_of, step_place}
 use Rattle.kmip_plan.specs.declared.key.Key.{Key}
 use Rattle.kmip_client.specs.Knowledge.{lose}
 use Rattle.kmip_client.specs.Learning.{attributes_learnt, created_learnt, enter, is_known, is_named, is_other, is_planned, learn, none_learnt, one_learnt, place_learnt, raise, state_learnt, step_learnt, with_clash}
 use Rattle.kmip_client.specs.declared.clash.Clash.{Clash}
 use Rattle.kmip_client.specs.declared.clash.Clash.TheVariants as clashes
-use Rattle.kmip_client.specs.declared.fault.HearFault.{HearFault}
-use Rattle.kmip_client.specs.declared.fault.HearFault.TheVariants as faults
+use Rattle.kmip_client.specs.declared.hear_fault.HearFault.{HearFault}
+use Rattle.kmip_client.specs.declared.hear_fault.HearFault.TheVariants as faults
 use Rattle.kmip_client.specs.declared.knowledge.Knowledge.{Knowledge}
-use Rattle.kmip_client.specs.declared.knowledge.Phase.TheVariants as phases
+use Rattle.kmip_client.specs.declared.phase.Phase.TheVariants as phases
 use Rattle.kmip_client.specs.Shapes.{IsKept}
 
 pub kept_itself : (known : Knowledge) → IsKept known known

@@ -6,8 +6,8 @@ use Rattle.std.proofs.lemmas.Bool.{cases_Bool, leb-true, leb-false, le-leb, ltb-
 use Rattle.kmip_objects.specs.Objects.{Object, object_named}
 use Rattle.kmip_plan.specs.declared.key.Key.{Key}
 use Rattle.kmip_client.specs.declared.knowledge.Knowledge.{Knowledge}
-use Rattle.kmip_client.specs.declared.knowledge.Phase.{Phase}
-use Rattle.kmip_client.specs.declared.knowledge.Phase.TheVariants as phases
+use Rattle.kmip_client.specs.declared.phase.Phase.{Phase}
+use Rattle.kmip_client.specs.declared.phase.Phase.TheVariants as phases
 use Rattle.kmip_client.specs.Knowledge.{chain_length}
 use Rattle.kmip_client.specs.Clients.{one_if}
 use Rattle.kmip_client.specs.Places.{position}

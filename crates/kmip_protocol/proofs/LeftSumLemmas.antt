@@ -11,14 +11,14 @@ use Rattle.kmip_plan.specs.Laws.{BoundsAddUp}
 use Rattle.kmip_plan.specs.Plans.{IsPlanned}
 use Rattle.kmip_client.specs.Knowledge.{chain_length, fresh_knowledge}
 use Rattle.kmip_client.specs.declared.knowledge.Knowledge.{Knowledge}
-use Rattle.kmip_client.specs.declared.knowledge.Phase.TheVariants as phases
+use Rattle.kmip_client.specs.declared.phase.Phase.TheVariants as phases
 use Rattle.kmip_client.specs.Held.{IsHeld}
 use Rattle.kmip_client.specs.Places.{position}
 use Rattle.kmip_client.specs.Shapes.{IsKept}
 use Rattle.kmip_protocol.specs.Exchanges.{with_exchange}
 use Rattle.kmip_protocol.specs.Past.{Past}
 use Rattle.kmip_protocol.specs.Sound.{Sound}
-use Rattle.kmip_protocol.specs.SettlingLawbook.{Lawbook}
+use Rattle.kmip_protocol.specs.PrivateSettlingLawbook.{Lawbook}
 use Rattle.kmip_client.specs.Bounding.{most_left_of, most_left}
 use Rattle.kmip_protocol.specs.Losing.{is_under_way, left_of, left_all, was_asked}
 use Rattle.kmip_protocol.specs.Needs.{need_all}

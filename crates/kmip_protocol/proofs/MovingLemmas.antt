@@ -8,12 +8,12 @@ use Rattle.std.proofs.lemmas.Slice.Eq.{bytes_eq-Decides}
 use Rattle.kmip_objects.specs.Lifecycle.{after}
 use Rattle.kmip_objects.specs.Objects.{Object, object_named, object_with, restated, all_restated, DistinctNames, DistinctUids}
 use Rattle.kmip_objects.specs.Ranges.{is_compromise, is_identifier}
-use Rattle.kmip_batch_items.specs.declared.reply.Outcome.{Outcome}
-use Rattle.kmip_batch_items.specs.declared.request.Ask.{Ask}
-use Rattle.kmip_batch_items.specs.declared.request.Ask.TheVariants as asks
-use Rattle.kmip_objects.specs.declared.attributes.KeyAttrs.{KeyAttrs}
-use Rattle.kmip_objects.specs.declared.state.KeyState.{KeyState}
-use Rattle.kmip_objects.specs.declared.state.KeyState.TheVariants as states
+use Rattle.kmip_batch_items.specs.declared.outcome.Outcome.{Outcome}
+use Rattle.kmip_batch_items.specs.declared.ask.Ask.{Ask}
+use Rattle.kmip_batch_items.specs.declared.ask.Ask.TheVariants as asks
+use Rattle.kmip_objects.specs.declared.key_attrs.KeyAttrs.{KeyAttrs}
+use Rattle.kmip_objects.specs.declared.key_state.KeyState.{KeyState}
+use Rattle.kmip_objects.specs.declared.key_state.KeyState.TheVariants as states
 use Rattle.kmip_objects.specs.declared.step.Step.{Step}
 use Rattle.kmip_objects.specs.declared.step.Step.TheVariants.{Activate, Revoke, Destroy}
 use Rattle.kmip_plan.specs.Chains.{chain, place_reached, step_place}
@@ -24,7 +24,7 @@ use Rattle.kmip_client.specs.Places.{position, uid_of}
 use Rattle.kmip_server.specs.ServerStep as rows
 use Rattle.kmip_server.specs.ServerStep.{ServerStep, step_asked}
 use Rattle.kmip_server.specs.declared.effect.Effect.{Effect}
-use Rattle.kmip_protocol.specs.Lawbook.{Lawbook}
+use Rattle.kmip_protocol.specs.PrivateLawbook.{Lawbook}
 use Rattle.kmip_protocol.specs.Moves.{Joins, IsNew, IsForeign}
 use Rattle.kmip_protocol.specs.Past.{Past, is_planned, steps_on, change}
 use Rattle.kmip_protocol.specs.Sound.{HasItsObjects}

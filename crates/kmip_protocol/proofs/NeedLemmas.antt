@@ -9,9 +9,9 @@ use Rattle.kmip_plan.specs.declared.key.Key.{Key}
 use Rattle.kmip_plan.specs.declared.target.Target.{Target}
 use Rattle.kmip_plan.specs.declared.target.Target.TheVariants as targets
 use Rattle.kmip_client.specs.declared.knowledge.Knowledge.{Knowledge}
-use Rattle.kmip_client.specs.declared.knowledge.Phase.{Phase}
-use Rattle.kmip_client.specs.declared.knowledge.Phase.TheVariants as phases
-use Rattle.kmip_client.specs.declared.knowledge.Verdict.TheVariants.{Working, Finished}
+use Rattle.kmip_client.specs.declared.phase.Phase.{Phase}
+use Rattle.kmip_client.specs.declared.phase.Phase.TheVariants as phases
+use Rattle.kmip_client.specs.declared.verdict.Verdict.TheVariants.{Working, Finished}
 use Rattle.kmip_client.specs.Held.{IsHeld}
 use Rattle.kmip_client.specs.Knowledge.{chain_length, fresh_knowledge, clash_verdict, verdict_of, is_working}
 use Rattle.kmip_client.specs.Places.{position}

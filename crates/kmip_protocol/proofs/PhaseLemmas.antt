@@ -10,19 +10,19 @@ use Rattle.kmip_objects.specs.Attributes.{attributes_of, by_name}
 use Rattle.kmip_objects.specs.Searching.{every_state}
 use Rattle.kmip_objects.specs.Ranges.{is_identifier}
 use Rattle.kmip_objects.specs.States.{state_number}
-use Rattle.kmip_batch_items.specs.declared.reply.Outcome.{Outcome}
-use Rattle.kmip_batch_items.specs.declared.reply.Outcome.TheVariants.{Created, Located, Attributes, Failed}
-use Rattle.kmip_batch_items.specs.declared.request.Ask.{Ask}
-use Rattle.kmip_batch_items.specs.declared.request.Ask.TheVariants as asks
-use Rattle.kmip_objects.specs.declared.attributes.KeyAttrs.{KeyAttrs}
-use Rattle.kmip_objects.specs.declared.state.KeyState.TheVariants.{PreActive}
+use Rattle.kmip_batch_items.specs.declared.outcome.Outcome.{Outcome}
+use Rattle.kmip_batch_items.specs.declared.outcome.Outcome.TheVariants.{Created, Located, Attributes, Failed}
+use Rattle.kmip_batch_items.specs.declared.ask.Ask.{Ask}
+use Rattle.kmip_batch_items.specs.declared.ask.Ask.TheVariants as asks
+use Rattle.kmip_objects.specs.declared.key_attrs.KeyAttrs.{KeyAttrs}
+use Rattle.kmip_objects.specs.declared.key_state.KeyState.TheVariants.{PreActive}
 use Rattle.kmip_objects.specs.declared.step.Step.{Step}
 use Rattle.kmip_plan.specs.Chains.{or_zero, place_of, place_reached}
 use Rattle.kmip_plan.specs.Plans.{key_fits}
 use Rattle.kmip_plan.specs.declared.key.Key.{Key}
 use Rattle.kmip_client.specs.declared.knowledge.Knowledge.{Knowledge}
-use Rattle.kmip_client.specs.declared.knowledge.Phase.{Phase}
-use Rattle.kmip_client.specs.declared.knowledge.Phase.TheVariants as phases
+use Rattle.kmip_client.specs.declared.phase.Phase.{Phase}
+use Rattle.kmip_client.specs.declared.phase.Phase.TheVariants as phases
 use Rattle.kmip_client.specs.Held.{IsHeld}
 use Rattle.kmip_client.specs.Knowledge.{chain_length, lose, lost_phase}
 use Rattle.kmip_client.specs.Learning.{is_known, is_other, is_number, is_planned, is_named, learn}
@@ -30,7 +30,7 @@ use Rattle.kmip_client.specs.Places.{position}
 use Rattle.kmip_client.specs.Shapes.{PhaseSuits}
 use Rattle.kmip_server.specs.ServerStep as rows
 use Rattle.kmip_server.specs.ServerStep.{ServerStep, step_asked}
-use Rattle.kmip_protocol.specs.SettlingLawbook.{Lawbook}
+use Rattle.kmip_protocol.specs.PrivateSettlingLawbook.{Lawbook}
 use Rattle.kmip_protocol.specs.Needs.{need_in, need_of}
 use Rattle.kmip_protocol.specs.Ready.{IsHere}
 use Rattle.kmip_protocol.proofs.SettlingChangeLemmas.{Change, stays, comes, made, here_found, here_with, came_here}

@@ -16,7 +16,7 @@ use Rattle.kmip_plan.specs.declared.target.Target.{Target}
 use Rattle.kmip_client.specs.Justified.{Justified}
 use Rattle.kmip_client.specs.Places.{position}
 use Rattle.kmip_client.specs.Truth.{TrueOutcome}
-use Rattle.kmip_protocol.specs.Lawbook.{Lawbook}
+use Rattle.kmip_protocol.specs.PrivateLawbook.{Lawbook}
 use Rattle.kmip_protocol.specs.Past.{Past, steps_on, is_planned, AreAmong}
 use Rattle.kmip_protocol.specs.Sound.{IsObjectOf, NoneIsFurther, Sound, TrueAnswer}
 use Rattle.kmip_protocol.proofs.ChangeLemmas.{place_in}

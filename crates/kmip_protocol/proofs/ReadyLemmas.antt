@@ -5,7 +5,7 @@ use Rattle.kmip_plan.specs.declared.key.Key.{Key}
 use Rattle.kmip_protocol.specs.Past.{Past}
 use Rattle.kmip_protocol.specs.Sound.{Sound}
 use Rattle.kmip_protocol.specs.SettlingLaws.{NoneIsMade}
-use Rattle.kmip_protocol.specs.SettlingLawbook.{Lawbook}
+use Rattle.kmip_protocol.specs.PrivateSettlingLawbook.{Lawbook}
 use Rattle.kmip_protocol.specs.Ready.{AreHere}
 
 pub sound_here : (l : Lawbook) (keys : List Key) (p : Past) → Sound keys p → AreHere keys p.objects

@@ -6,15 +6,15 @@ use Rattle.kmip_objects.specs.Objects.{Object, object_named, object_with, all_re
 use Rattle.kmip_objects.specs.Attributes.{attributes_of, by_name}
 use Rattle.kmip_objects.specs.Searching.{every_state}
 use Rattle.kmip_objects.specs.States.{state_number}
-use Rattle.kmip_batch_items.specs.declared.reply.Outcome.{Outcome}
-use Rattle.kmip_batch_items.specs.declared.reply.Outcome.TheVariants as outcomes
+use Rattle.kmip_batch_items.specs.declared.outcome.Outcome.{Outcome}
+use Rattle.kmip_batch_items.specs.declared.outcome.Outcome.TheVariants as outcomes
 use Rattle.kmip_batch_items.specs.declared.reply.Reply.{Reply}
-use Rattle.kmip_batch_items.specs.declared.request.Ask.{Ask}
-use Rattle.kmip_batch_items.specs.declared.request.Ask.TheVariants as asks
-use Rattle.kmip_objects.specs.declared.attributes.Attrs.{Attrs}
+use Rattle.kmip_batch_items.specs.declared.ask.Ask.{Ask}
+use Rattle.kmip_batch_items.specs.declared.ask.Ask.TheVariants as asks
+use Rattle.kmip_objects.specs.declared.attrs.Attrs.{Attrs}
 use Rattle.kmip_batch_items.specs.declared.request.Request.{Request}
-use Rattle.kmip_objects.specs.declared.state.KeyState.{KeyState}
-use Rattle.kmip_objects.specs.declared.state.KeyState.TheVariants as states
+use Rattle.kmip_objects.specs.declared.key_state.KeyState.{KeyState}
+use Rattle.kmip_objects.specs.declared.key_state.KeyState.TheVariants as states
 use Rattle.kmip_objects.specs.declared.step.Step.{Step}
 use Rattle.kmip_objects.specs.declared.step.Step.TheVariants.{Create, Activate, Revoke, Destroy}
 use Rattle.kmip_plan.specs.Chains.{or_zero, place_of, place_reached, step_place}
@@ -26,7 +26,7 @@ use Rattle.kmip_client.specs.Truth.{AreFound, StepIsDone, TrueOutcome}
 use Rattle.kmip_server.specs.ServerStep as rows
 use Rattle.kmip_server.specs.ServerStep.{ServerStep, success_of}
 use Rattle.kmip_server.specs.declared.effect.Effect.{Effect}
-use Rattle.kmip_protocol.specs.Lawbook.{Lawbook}
+use Rattle.kmip_protocol.specs.PrivateLawbook.{Lawbook}
 use Rattle.kmip_protocol.specs.Moves.{HasFailed, Serves}
 use Rattle.kmip_protocol.specs.Past.{Past}
 use Rattle.kmip_protocol.specs.Sound.{HasItsObjects, TrueAnswer}

@@ -10,10 +10,10 @@ use Rattle.kmip_plan.specs.declared.target.Target.{Target}
 use Rattle.kmip_client.specs.Justified.{Justified}
 use Rattle.kmip_client.specs.Places.{position}
 use Rattle.kmip_server.specs.declared.effect.Effect.{Effect}
-use Rattle.kmip_protocol.specs.Lawbook.{Lawbook}
+use Rattle.kmip_protocol.specs.PrivateLawbook.{Lawbook}
 use Rattle.kmip_protocol.specs.Laws.{IsReached}
 use Rattle.kmip_protocol.specs.Past.{Past, steps_on}
-use Rattle.kmip_protocol.specs.Safe.{Safe, AgainChangesNothing, all_named}
+use Rattle.kmip_protocol.specs.Headline.{Safe, AgainChangesNothing, all_named}
 use Rattle.kmip_protocol.specs.Sound.{Sound}
 use Rattle.kmip_protocol.proofs.ReplyLemmas.{same_name}
 use Rattle.kmip_protocol.proofs.ServedLemmas.{serve_does}

@@ -10,13 +10,13 @@ use Rattle.std.proofs.lemmas.Option.{same_Some}
 use Rattle.std.proofs.lemmas.Slice.Eq.{bytes_eq-Decides}
 use Rattle.kmip_objects.specs.Objects.{Object, object_named, object_with, restated, all_restated}
 use Rattle.kmip_objects.specs.Ranges.{is_identifier}
-use Rattle.kmip_objects.specs.declared.state.KeyState.{KeyState}
-use Rattle.kmip_objects.specs.declared.state.KeyState.TheVariants.{PreActive}
+use Rattle.kmip_objects.specs.declared.key_state.KeyState.{KeyState}
+use Rattle.kmip_objects.specs.declared.key_state.KeyState.TheVariants.{PreActive}
 use Rattle.kmip_plan.specs.Chains.{place_reached}
 use Rattle.kmip_plan.specs.Plans.{IsLawful, IsPlanned, key_named}
 use Rattle.kmip_plan.specs.declared.key.Key.{Key}
-use Rattle.kmip_protocol.specs.Safe.{all_named}
-use Rattle.kmip_protocol.specs.SettlingLawbook.{Lawbook}
+use Rattle.kmip_protocol.specs.Headline.{all_named}
+use Rattle.kmip_protocol.specs.PrivateSettlingLawbook.{Lawbook}
 use Rattle.kmip_protocol.specs.Needs.{missing}
 use Rattle.kmip_protocol.specs.Ready.{all_with, IsHere, AreHere}
 use Rattle.kmip_protocol.proofs.FilterLemmas.{same_text, other_text, no_one, none_pass, one_found, found_same, more_pass, no_more_pass, changed_pass, alone}

@@ -8,7 +8,7 @@ use Rattle.std.proofs.lemmas.List.Elements.{All-head, All-tail, All-cons, All-ni
 use Rattle.kmip_objects.specs.Objects.{Object}
 use Rattle.kmip_messages.specs.Items.{stops_in, replies_in}
 use Rattle.kmip_batch_items.specs.Operations.{operation_of}
-use Rattle.kmip_batch_items.specs.declared.reply.Outcome.{Outcome}
+use Rattle.kmip_batch_items.specs.declared.outcome.Outcome.{Outcome}
 use Rattle.kmip_batch_items.specs.declared.reply.Reply.{Reply}
 use Rattle.kmip_batch_items.specs.declared.request.Request.{Request}
 use Rattle.kmip_batch_items.specs.declared.refusal.Refusal.{Refusal}
@@ -17,13 +17,13 @@ use Rattle.kmip_plan.specs.declared.key.Key.{Key}
 use Rattle.kmip_plan.specs.Plans.{IsLawful}
 use Rattle.kmip_plan.specs.Prolonging.{Prolongs}
 use Rattle.kmip_client.specs.declared.knowledge.Knowledge.{Knowledge}
-use Rattle.kmip_client.specs.declared.knowledge.Phase.{Phase}
-use Rattle.kmip_client.specs.declared.knowledge.Phase.TheVariants as phases
+use Rattle.kmip_client.specs.declared.phase.Phase.{Phase}
+use Rattle.kmip_client.specs.declared.phase.Phase.TheVariants as phases
 use Rattle.kmip_client.specs.Knowledge.{chain_length, is_working}
 use Rattle.kmip_client.specs.declared.question.Question.{Question}
 use Rattle.kmip_client.specs.Questions.{phase_ask, next_ask, step_ask, ask_about, request_about}
 use Rattle.kmip_client.specs.Shapes.{PhaseSuits}
-use Rattle.kmip_client.specs.declared.question.Part.{Part}
+use Rattle.kmip_client.specs.declared.part.Part.{Part}
 use Rattle.kmip_client.specs.Asking.{IsAbout, AreApart, at_places, part_about, requests_at}
 use Rattle.kmip_client.specs.Hearing.{hear_all}
 use Rattle.kmip_client.specs.Clients.{WorksAt}
@@ -33,7 +33,7 @@ use Rattle.kmip_protocol.specs.Calm.{AreTaken, IsServed, Calmly}
 use Rattle.kmip_protocol.specs.Exchanges.{with_asked}
 use Rattle.kmip_protocol.specs.Past.{Past}
 use Rattle.kmip_protocol.specs.Sound.{Sound}
-use Rattle.kmip_protocol.specs.SettlingLawbook.{Lawbook}
+use Rattle.kmip_protocol.specs.PrivateSettlingLawbook.{Lawbook}
 use Rattle.kmip_protocol.specs.Needs.{need_all, missing}
 use Rattle.kmip_protocol.specs.Ready.{IsReady, AreHere}
 use Rattle.kmip_protocol.specs.Turns.{known_then, taught_by}

@@ -9,7 +9,7 @@ use Rattle.kmip_plan.specs.Laws.{BoundsAddUp}
 use Rattle.kmip_plan.specs.ChainLaws.{ReachedIsWithin}
 use Rattle.kmip_plan.specs.declared.key.Key.{Key}
 use Rattle.kmip_client.specs.declared.knowledge.Knowledge.{Knowledge}
-use Rattle.kmip_client.specs.declared.knowledge.Verdict.TheVariants.{Finished}
+use Rattle.kmip_client.specs.declared.verdict.Verdict.TheVariants.{Finished}
 use Rattle.kmip_client.specs.Clients.{one_if, verdict_at, AreSettled}
 use Rattle.kmip_client.specs.Held.{IsHeld, Held}
 use Rattle.kmip_client.specs.Knowledge.{chain_length, fresh_knowledge}

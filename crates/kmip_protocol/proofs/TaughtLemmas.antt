@@ -7,11 +7,11 @@ use Rattle.std.proofs.lemmas.Bool.{cases_Bool, eq-eqb, eqb-true}
 use Rattle.std.proofs.lemmas.List.Elements.{All-head, All-tail}
 use Rattle.kmip_batch_items.specs.declared.reply.Reply.{Reply}
 use Rattle.kmip_plan.specs.declared.key.Key.{Key}
-use Rattle.kmip_client.specs.declared.fault.HearFault.{HearFault}
-use Rattle.kmip_client.specs.declared.fault.HearFault.TheVariants as faults
+use Rattle.kmip_client.specs.declared.hear_fault.HearFault.{HearFault}
+use Rattle.kmip_client.specs.declared.hear_fault.HearFault.TheVariants as faults
 use Rattle.kmip_client.specs.declared.knowledge.Knowledge.{Knowledge}
-use Rattle.kmip_client.specs.declared.question.Part.{Part}
-use Rattle.kmip_client.specs.declared.hearing.Heard.{Heard}
+use Rattle.kmip_client.specs.declared.part.Part.{Part}
+use Rattle.kmip_client.specs.declared.heard.Heard.{Heard}
 use Rattle.kmip_client.specs.Asking.{AreApart}
 use Rattle.kmip_client.specs.Hearing.{hear_each, known_after_each, known_after_reply, heard_in}
 use Rattle.kmip_client.specs.Clients.{changed_at, lost_working}

@@ -7,12 +7,12 @@ use Rattle.std.proofs.lemmas.Option.{same_Some}
 use Rattle.kmip_batch_items.specs.declared.reply.Reply.{Reply}
 use Rattle.kmip_plan.specs.declared.key.Key.{Key}
 use Rattle.kmip_client.specs.Knowledge.{chain_length, is_working}
-use Rattle.kmip_client.specs.declared.fault.HearFault.{HearFault}
+use Rattle.kmip_client.specs.declared.hear_fault.HearFault.{HearFault}
 use Rattle.kmip_client.specs.declared.knowledge.Knowledge.{Knowledge}
-use Rattle.kmip_client.specs.declared.knowledge.Phase.{Phase}
-use Rattle.kmip_client.specs.declared.knowledge.Phase.TheVariants as phases
-use Rattle.kmip_client.specs.declared.question.Part.{Part}
-use Rattle.kmip_client.specs.declared.hearing.Heard.{Heard}
+use Rattle.kmip_client.specs.declared.phase.Phase.{Phase}
+use Rattle.kmip_client.specs.declared.phase.Phase.TheVariants as phases
+use Rattle.kmip_client.specs.declared.part.Part.{Part}
+use Rattle.kmip_client.specs.declared.heard.Heard.{Heard}
 use Rattle.kmip_client.specs.Hearing.{known_after_each, known_after_reply, heard_in}
 use Rattle.kmip_client.specs.Clients.{changed_at, changed_by, lost_working, one_if}
 use Rattle.kmip_client.specs.Held.{Held}
@@ -20,7 +20,7 @@ use Rattle.kmip_client.specs.Places.{position}
 use Rattle.kmip_client.specs.Shapes.{IsKept}
 use Rattle.kmip_client.specs.Truth.{TrueReply}
 use Rattle.kmip_protocol.specs.Past.{Past}
-use Rattle.kmip_protocol.specs.SettlingLawbook.{Lawbook}
+use Rattle.kmip_protocol.specs.PrivateSettlingLawbook.{Lawbook}
 use Rattle.kmip_protocol.specs.Losing.{is_under_way, left_of, left_all}
 use Rattle.kmip_protocol.specs.Needs.{need_in}
 use Rattle.kmip_protocol.specs.Turns.{lost_each}

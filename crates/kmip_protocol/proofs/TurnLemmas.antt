@@ -8,8 +8,8 @@ use Rattle.std.proofs.lemmas.List.Elements.{All-head, All-tail, Contains-append_
 use Rattle.std.proofs.lemmas.Slice.Eq.{bytes_eq-Decides}
 use Rattle.kmip_objects.specs.Objects.{Object, object_named}
 use Rattle.kmip_batch_items.specs.Operations.{operation_of}
-use Rattle.kmip_batch_items.specs.declared.request.Ask.{Ask}
-use Rattle.kmip_batch_items.specs.declared.request.Ask.TheVariants as asks
+use Rattle.kmip_batch_items.specs.declared.ask.Ask.{Ask}
+use Rattle.kmip_batch_items.specs.declared.ask.Ask.TheVariants as asks
 use Rattle.kmip_batch_items.specs.declared.request.Request.{Request}
 use Rattle.kmip_objects.specs.declared.step.Step.{Step}
 use Rattle.kmip_objects.specs.declared.step.Step.TheVariants.{Create, Activate, Revoke, Destroy}
@@ -22,7 +22,7 @@ use Rattle.kmip_server.specs.declared.effect.Effect.{Effect}
 use Rattle.kmip_protocol.specs.Machine.{IsMirrored, Machine, Mirrors, MayTurn, AllMayTurn, Pair, Turn, Add, Take, after_turn, after_turns, at_start, pair_asked, pair_by_id, pair_done, pair_of, with_place}
 use Rattle.kmip_protocol.specs.Moves.{Joins}
 use Rattle.kmip_protocol.specs.Past.{Past, steps_on}
-use Rattle.kmip_protocol.specs.Safe.{step_of_ask}
+use Rattle.kmip_protocol.specs.Headline.{step_of_ask}
 use Rattle.kmip_protocol.specs.Sound.{Opening}
 use Rattle.kmip_protocol.proofs.ChangeLemmas.{place_in}
 use Rattle.kmip_protocol.proofs.MovingLemmas.{same_key}

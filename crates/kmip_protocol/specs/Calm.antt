@@ -8,8 +8,8 @@ use Rattle.kmip_batch_items.specs.declared.reply.Reply.{Reply}
 use Rattle.kmip_batch_items.specs.declared.request.Request.{Request}
 use Rattle.kmip_server.specs.Again.{has_failed}
 use Rattle.kmip_server.specs.declared.effect.Effect.{Effect}
-use Rattle.kmip_protocol.specs.declared.link.LinkFault.{LinkFault}
-use Rattle.kmip_protocol.specs.declared.link.LinkFault.TheVariants.{Io, Frame, NoMemory}
+use Rattle.kmip_protocol.specs.declared.link_fault.LinkFault.{LinkFault}
+use Rattle.kmip_protocol.specs.declared.link_fault.LinkFault.TheVariants.{Io, Frame, NoMemory}
 use Rattle.kmip_protocol.specs.Exchanges.{with_asked, with_exchange}
 use Rattle.kmip_protocol.specs.Moves.{Serve, Refuse, after_move, HasFailed, Serves, Delivered}
 use Rattle.kmip_protocol.specs.Past.{Past, Names}

@@ -6,12 +6,12 @@ use Rattle.std.specs.Cmp.Lexicographic.{pointwise}
 use Rattle.std.specs.List.{All, list_any}
 use Rattle.std.specs.Option.{option_map_or}
 use Rattle.kmip_messages.specs.Items.{parts_in, replies_in, requests_in, stops_in}
-use Rattle.kmip_batch_items.specs.declared.reply.Outcome.TheVariants.{Failed}
+use Rattle.kmip_batch_items.specs.declared.outcome.Outcome.TheVariants.{Failed}
 use Rattle.kmip_batch_items.specs.declared.reply.Reply.{Reply}
 use Rattle.kmip_batch_items.specs.declared.request.Request.{Request}
 use Rattle.kmip_batch_items.specs.declared.standard.TheConstants.{REASON_SERVER_FULL}
-use Rattle.kmip_protocol.specs.declared.link.LinkFault.{LinkFault}
-use Rattle.kmip_protocol.specs.declared.link.LinkFault.TheVariants.{Io, Frame, NoMemory}
+use Rattle.kmip_protocol.specs.declared.link_fault.LinkFault.{LinkFault}
+use Rattle.kmip_protocol.specs.declared.link_fault.LinkFault.TheVariants.{Io, Frame, NoMemory}
 use Rattle.kmip_protocol.specs.Calm.{AreTaken}
 use Rattle.kmip_protocol.specs.Exchanges.{with_asked, with_exchange}
 use Rattle.kmip_protocol.specs.Moves.{Delivered}

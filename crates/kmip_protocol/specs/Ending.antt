@@ -1,8 +1,8 @@
 -- Where the runs ended that were ended over a link: how many messages had been sent over it then.
 -- Source: own (view): a run is no part of the standard.
 use Rattle.std.specs.Prelude.{◌≡◌, ℕ, List, [], ◌∷◌, ◌++◌, Result, Ok, Err}
-use Rattle.kmip_protocol.specs.declared.link.LinkFault.{LinkFault}
-use Rattle.kmip_protocol.specs.declared.link.LinkFault.TheVariants.{Io, Frame, NoMemory}
+use Rattle.kmip_protocol.specs.declared.link_fault.LinkFault.{LinkFault}
+use Rattle.kmip_protocol.specs.declared.link_fault.LinkFault.TheVariants.{Io, Frame, NoMemory}
 
 -- one more run ended, after this many messages
 abbrev pub EndedAt : ℕ → List ℕ → List ℕ → Type 0

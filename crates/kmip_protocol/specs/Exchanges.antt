@@ -6,8 +6,8 @@ use Rattle.std.specs.List.{All, Contains}
 use Rattle.std.specs.Option.{option_map}
 use Rattle.kmip_messages.specs.Items.{requests_in, replies_in}
 use Rattle.kmip_batch_items.specs.declared.request.Request.{Request}
-use Rattle.kmip_protocol.specs.declared.link.LinkFault.{LinkFault}
-use Rattle.kmip_protocol.specs.declared.link.LinkFault.TheVariants.{Io, Frame, NoMemory}
+use Rattle.kmip_protocol.specs.declared.link_fault.LinkFault.{LinkFault}
+use Rattle.kmip_protocol.specs.declared.link_fault.LinkFault.TheVariants.{Io, Frame, NoMemory}
 use Rattle.kmip_protocol.specs.Moves.{Delivered}
 use Rattle.kmip_protocol.specs.Past.{Past, Names}
 

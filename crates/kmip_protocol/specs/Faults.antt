@@ -1,8 +1,8 @@
 -- The number and the name of each fault of a link, and how many there may be.
 -- Source: own (fault); how many there may be is own (limit).
 use Rattle.std.specs.Prelude.{ℕ, List, codes}
-use Rattle.kmip_protocol.specs.declared.link.LinkFault.{LinkFault}
-use Rattle.kmip_protocol.specs.declared.link.LinkFault.TheVariants.{Io, Frame, NoMemory}
+use Rattle.kmip_protocol.specs.declared.link_fault.LinkFault.{LinkFault}
+use Rattle.kmip_protocol.specs.declared.link_fault.LinkFault.TheVariants.{Io, Frame, NoMemory}
 
 -- the number of each fault, 1 to 3
 abbrev pub link_fault_number : LinkFault → ℕ

@@ -4,8 +4,8 @@ use Rattle.std.specs.Prelude.{◌≡◌, ◌≤◌, ℕ, Bool, List, ◌++◌, O
 use Rattle.std.specs.List.{All, Contains}
 use Rattle.kmip_batch_items.specs.declared.reply.Reply.{Reply}
 use Rattle.kmip_objects.specs.Objects.{Object, DistinctNames, DistinctUids}
-use Rattle.kmip_batch_items.specs.declared.reply.Outcome.{Outcome}
-use Rattle.kmip_batch_items.specs.declared.request.Ask.{Ask}
+use Rattle.kmip_batch_items.specs.declared.outcome.Outcome.{Outcome}
+use Rattle.kmip_batch_items.specs.declared.ask.Ask.{Ask}
 use Rattle.kmip_server.specs.ServerStep.{ServerStep}
 use Rattle.kmip_plan.specs.Chains.{step_place}
 use Rattle.kmip_plan.specs.Plans.{IsLawful, IsPlanned}
@@ -18,13 +18,13 @@ use Rattle.kmip_batch_items.specs.declared.refusal.Refusal.{Refusal}
 use Rattle.kmip_batch_items.specs.declared.request.Request.{Request}
 use Rattle.kmip_protocol.specs.Calm.{AreTaken, CalmlyExchanged}
 use Rattle.kmip_server.specs.declared.effect.Effect.{Effect}
-use Rattle.kmip_protocol.specs.declared.link.LinkFault.{LinkFault}
+use Rattle.kmip_protocol.specs.declared.link_fault.LinkFault.{LinkFault}
 use Rattle.kmip_protocol.specs.Exchanges.{AreGiven, Exchanged, with_asked, with_requests}
 use Rattle.kmip_protocol.specs.Machine.{IsMirrored}
 use Rattle.kmip_server.specs.Effects.{effect_of}
 use Rattle.kmip_protocol.specs.Moves.{Delivered, Joins}
 use Rattle.kmip_protocol.specs.Past.{AreAmong, Past, Names, is_planned}
-use Rattle.kmip_protocol.specs.Safe.{Safe}
+use Rattle.kmip_protocol.specs.Headline.{Safe}
 use Rattle.kmip_protocol.specs.Sound.{NoneIsFurther, Sound, Opening}
 
 -- from a sound past, whatever happens, the objects go onward for each key

@@ -1,6 +1,8 @@
 -- What may happen between a client and its server, and what holds of it: the words in which the headline is
 -- said.
 
+-- open this first: when a past is safe, and the files in whose words that is said
+pub mod Headline
 -- the number and the name of each fault of a link, and how many failures there may be
 pub mod Faults
 -- all that was ever asked, answered and done, and the objects that are there
@@ -19,14 +21,12 @@ pub mod Calm
 pub mod Clean
 -- where the runs ended that were ended over a link
 pub mod Ending
--- the headline: when a past is safe
-pub mod Safe
 -- the plan machine, and when a past is an image of it
 pub mod Machine
 -- the laws of all that may happen
 pub mod Laws
 -- private: the laws of the crates below that the laws here rest on
-pub mod Lawbook
+pub mod PrivateLawbook
 -- How near a client is to its end, by the questions that its keys still need.
 
 -- how many questions the keys still need over a calm link
@@ -42,4 +42,4 @@ pub mod Losing
 -- the laws of clients over such a link
 pub mod LosingLaws
 -- private: the laws of the crates below that the laws here rest on
-pub mod SettlingLawbook
+pub mod PrivateSettlingLawbook

@@ -1,8 +1,8 @@
 -- What an exchange gives whoever makes it, to whom a failure of the network is a loss.
 -- Source: own (choice): such a failure does not say whether the server has served the request.
 use Rattle.std.specs.Prelude.{◌≢◌, ℕ, List, Option, Some, None, Result, Ok, Err}
-use Rattle.kmip_protocol.specs.declared.link.LinkFault.{LinkFault}
-use Rattle.kmip_protocol.specs.declared.link.LinkFault.TheVariants as faults
+use Rattle.kmip_protocol.specs.declared.link_fault.LinkFault.{LinkFault}
+use Rattle.kmip_protocol.specs.declared.link_fault.LinkFault.TheVariants as faults
 
 -- memory did not run out in the call
 abbrev pub IsInMemory : {V : Type 0} → Result V LinkFault → Type 0

@@ -13,7 +13,7 @@ use Rattle.kmip_plan.specs.declared.key.Key.{Key}
 use Rattle.kmip_client.specs.Places.{position}
 use Rattle.kmip_server.specs.declared.effect.Effect.{Effect}
 use Rattle.kmip_protocol.specs.Past.{Past}
-use Rattle.kmip_protocol.specs.Safe.{step_of_ask}
+use Rattle.kmip_protocol.specs.Headline.{step_of_ask}
 
 -- a step of the key with the name, by its place on the key's way, from 1
 pub record Pair : Type 0 where

@@ -8,7 +8,7 @@ use Rattle.kmip_plan.specs.Plans.{IsPlanned}
 use Rattle.kmip_plan.specs.declared.key.Key.{Key}
 use Rattle.kmip_client.specs.declared.knowledge.Knowledge.{Knowledge}
 use Rattle.kmip_client.specs.Held.{Held}
-use Rattle.kmip_protocol.specs.Safe.{all_named}
+use Rattle.kmip_protocol.specs.Headline.{all_named}
 use Rattle.kmip_protocol.specs.Sound.{IsObjectOf}
 use Rattle.kmip_protocol.specs.Needs.{missing}
 

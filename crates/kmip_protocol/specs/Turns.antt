@@ -5,10 +5,10 @@ use Rattle.std.specs.List.{list_any}
 use Rattle.kmip_plan.specs.declared.key.Key.{Key}
 use Rattle.kmip_client.specs.Clients.{ClientState, changed_at, lost_working}
 use Rattle.kmip_client.specs.Hearing.{hear}
-use Rattle.kmip_client.specs.declared.fault.HearFault.{HearFault}
-use Rattle.kmip_client.specs.declared.hearing.Heard.{Heard}
+use Rattle.kmip_client.specs.declared.hear_fault.HearFault.{HearFault}
+use Rattle.kmip_client.specs.declared.heard.Heard.{Heard}
 use Rattle.kmip_client.specs.declared.knowledge.Knowledge.{Knowledge}
-use Rattle.kmip_client.specs.declared.question.Part.{Part}
+use Rattle.kmip_client.specs.declared.part.Part.{Part}
 use Rattle.kmip_client.specs.declared.question.Question.{Question}
 
 -- what was heard of a reply answers this part of the message

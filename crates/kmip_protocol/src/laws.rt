@@ -1,6 +1,6 @@
 //! What holds of all that may happen between a client and its server, each as the contract of a
 //! function that does nothing.
-ghost use Rattle.kmip_protocol.specs.Lawbook.{Lawbook};
+ghost use Rattle.kmip_protocol.specs.PrivateLawbook.{Lawbook};
 ghost use Rattle.kmip_protocol.specs.Laws.{
   ObjectsGoOnward,
   DeliveriesKeepSound,

@@ -43,7 +43,9 @@
 
 pub mod laws;
 mod link;
+mod link_fault;
 pub mod losing_laws;
 pub mod settling_laws;
 
-pub use link::{Link, LinkFault, answer_or_loss};
+pub use link::{Link, answer_or_loss};
+pub use link_fault::LinkFault;

@@ -1,18 +1,18 @@
 //! A link to a server, and why it has no answer.
-ghost use Rattle.std.specs.Prelude.{◌≡◌, ◌≤◌, ◌<◌, ℕ, List, length, Some, None, Ok, Err, IfErr, OnErr, OnOk, option_map};
+ghost use Rattle.std.specs.Prelude.{◌≡◌, ◌≤◌, ◌<◌, ℕ, List, length, None, Ok, Err, IfErr, option_map};
 ghost use Rattle.std.specs.Result.{result_ok};
 ghost use Rattle.kmip_protocol.specs.Calm.{CalmlyExchanged, CalmlyEnded};
 ghost use Rattle.kmip_protocol.specs.Clean.{Counted, Disturbances, IsRoomy};
 ghost use Rattle.kmip_protocol.specs.Ending.{Ended};
 ghost use Rattle.kmip_protocol.specs.Exchanges.{Exchanged, answer_in};
-ghost use Rattle.kmip_protocol.specs.Faults.{link_fault_number, link_fault_name, most_failures};
+ghost use Rattle.kmip_protocol.specs.Faults.{most_failures};
 ghost use Rattle.kmip_protocol.specs.Losses.{IsInMemory, or_loss};
 ghost use Rattle.kmip_protocol.specs.Moves.{Delivered};
 ghost use Rattle.kmip_protocol.specs.Past.{AreAmong, Past, Names};
 
+use crate::link_fault::LinkFault;
 use kmip_ttlv::NoMemory;
 use std::alloc::Global;
-use thiserror::Error;
 
 /// A link to a server: over it messages are exchanged, one at a time. It may lose, repeat, delay and reorder
 /// what it carries.
@@ -144,44 +144,6 @@ pub trait Link {
         ensures itself { (link : Self) → follows link link }
         // A link that follows one that follows another, follows that other.
         ensures twice { (x y z : Self) → follows x y → follows y z → follows x z };
-}
-
-/// Why a link has no answer.
-#[derive(Clone, Copy, Debug, Error)]
-pub enum LinkFault {
-    /// The network failed: it could not be reached, read or written.
-    #[error("the network failed")]
-    Io,
-    /// The bytes that came break the framing of messages.
-    #[error("what came is no message")]
-    Frame,
-    /// There was no memory.
-    #[error("no memory")]
-    NoMemory,
-}
-
-impl LinkFault {
-    /// The fault's number, 1 to 3. Takes no memory.
-    pub fn number(self) -> u32
-        ensures { result ≡ link_fault_number self }
-    {
-        match self {
-            LinkFault::Io => 1,
-            LinkFault::Frame => 2,
-            LinkFault::NoMemory => 3,
-        }
-    }
-
-    /// The fault's name, as it is printed. Takes no memory.
-    pub fn name(self) -> &'static str
-        ensures { result.now ≡ link_fault_name self }
-    {
-        match self {
-            LinkFault::Io => "Io",
-            LinkFault::Frame => "Frame",
-            LinkFault::NoMemory => "NoMemory",
-        }
-    }
 }
 
 /// What an exchange handed over, as `or_loss` states it: a failure of the network is a loss, whether the

@@ -13,7 +13,7 @@ ghost use Rattle.kmip_protocol.specs.SettlingLaws.{
   TheFinishedStandAtTheEnd,
   TheFinishedAreThere,
 };
-ghost use Rattle.kmip_protocol.specs.SettlingLawbook.{Lawbook};
+ghost use Rattle.kmip_protocol.specs.PrivateSettlingLawbook.{Lawbook};
 
 use crate::laws::{
     answers_are_true, asking_keeps_sound, deliveries_keep_sound, deliveries_keep_the_requests,

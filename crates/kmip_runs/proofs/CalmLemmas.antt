@@ -11,10 +11,10 @@ use Rattle.kmip_protocol.specs.Sound.{Sound}
 use Rattle.kmip_protocol.specs.Needs.{missing}
 use Rattle.kmip_protocol.specs.Ready.{IsReady}
 use Rattle.kmip_runs.specs.Campaign.{CalmLink}
-use Rattle.kmip_runs.specs.CampaignParts.{CampaignLaws, HasSettled, IsNoted, Standing}
+use Rattle.kmip_runs.specs.PrivateCampaignParts.{CampaignLaws, HasSettled, IsNoted, Standing}
 use Rattle.kmip_runs.specs.Driving.{AsksOne, IsGood, IsSettling, Nearer, need}
-use Rattle.kmip_runs.specs.declared.campaigning.Run.{Run}
-use Rattle.kmip_runs.specs.declared.campaigning.RunEnd.{RunEnd}
+use Rattle.kmip_runs.specs.declared.run.Run.{Run}
+use Rattle.kmip_runs.specs.declared.run_end.RunEnd.{RunEnd}
 use Rattle.kmip_runs.specs.declared.stop.Stop.{Stop}
 use Rattle.kmip_runs.specs.declared.stop.Stop.TheVariants as stops
 use Rattle.kmip_runs.proofs.CampaignLemmas.{good_with}

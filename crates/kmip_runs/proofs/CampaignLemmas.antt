@@ -15,19 +15,20 @@ use Rattle.kmip_client.specs.Clients.{ClientState}
 use Rattle.kmip_client.specs.Held.{Held, TrueOf, TrueProgress}
 use Rattle.kmip_client.specs.Knowledge.{chain_length, verdict_of}
 use Rattle.kmip_client.specs.Places.{Onward, position}
-use Rattle.kmip_client.specs.Standing.{counts_of, verdicts_of}
+use Rattle.kmip_client.specs.Verdicts.{counts_of, verdicts_of}
 use Rattle.kmip_client.specs.declared.knowledge.Knowledge.{Knowledge}
 use Rattle.kmip_protocol.specs.Laws.{IsReached}
 use Rattle.kmip_protocol.specs.Moves.{Delivered}
 use Rattle.kmip_protocol.specs.Past.{Names, Past, is_planned}
 use Rattle.kmip_protocol.specs.Sound.{Sound}
 use Rattle.kmip_server.specs.declared.effect.Effect.{Effect}
-use Rattle.kmip_runs.specs.Campaign.{GoodLink, HasNoConflict, IsNoClash, reported, reported_by, steps_counted}
-use Rattle.kmip_runs.specs.CampaignParts.{AreSame, CampaignLaws, Campaigned, IsEndOf, IsEnding, Noted, Reaches, Standing, saved_with}
+use Rattle.kmip_runs.specs.Headline.{GoodLink, reported, reported_by, steps_counted}
+use Rattle.kmip_runs.specs.Campaign.{HasNoConflict, IsNoClash}
+use Rattle.kmip_runs.specs.PrivateCampaignParts.{AreSame, CampaignLaws, Campaigned, IsEndOf, IsEnding, Noted, Reaches, Standing, saved_with}
 use Rattle.kmip_runs.specs.Driving.{IsGood, WentOn}
-use Rattle.kmip_runs.specs.declared.campaigning.CampaignEnd.{CampaignEnd}
-use Rattle.kmip_runs.specs.declared.campaigning.Run.{Run}
-use Rattle.kmip_runs.specs.declared.campaigning.RunEnd.{RunEnd}
+use Rattle.kmip_runs.specs.declared.campaign_end.CampaignEnd.{CampaignEnd}
+use Rattle.kmip_runs.specs.declared.run.Run.{Run}
+use Rattle.kmip_runs.specs.declared.run_end.RunEnd.{RunEnd}
 use Rattle.kmip_runs.specs.declared.ending.Ending.{Ending}
 use Rattle.kmip_runs.specs.declared.stop.Stop.{Stop}
 use Rattle.kmip_runs.specs.declared.stop.Stop.TheVariants as stops

@@ -9,7 +9,7 @@ use Rattle.kmip_runs.specs.Driving.{Learnt}
 use Rattle.kmip_runs.specs.declared.stop.Stop.{Stop}
 use Rattle.kmip_runs.specs.declared.stop.Stop.TheVariants as stops
 use Rattle.kmip_runs.specs.Saved.{IsInMemory, IsWhole}
-use Rattle.kmip_runs.specs.declared.keeper.SaveFault.{SaveFault}
+use Rattle.kmip_runs.specs.declared.save_fault.SaveFault.{SaveFault}
 use Rattle.kmip_runs.proofs.CarryLemmas.{whole_before}
 use Rattle.kmip_runs.proofs.WentLemmas.{stop_is}
 

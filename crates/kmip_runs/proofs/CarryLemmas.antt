@@ -10,7 +10,7 @@ use Rattle.kmip_client.specs.Held.{Held}
 use Rattle.kmip_client.specs.Knowledge.{chain_length, clash_verdict, is_working, verdict_of}
 use Rattle.kmip_client.specs.declared.clash.Clash.{Clash}
 use Rattle.kmip_client.specs.declared.knowledge.Knowledge.{Knowledge}
-use Rattle.kmip_client.specs.declared.knowledge.Verdict.TheVariants.{Working, Finished}
+use Rattle.kmip_client.specs.declared.verdict.Verdict.TheVariants.{Working, Finished}
 use Rattle.kmip_protocol.specs.Moves.{Delivered}
 use Rattle.kmip_protocol.specs.Past.{Names, Past, is_planned}
 use Rattle.kmip_client.specs.Saving.{progress}
@@ -19,9 +19,9 @@ use Rattle.kmip_protocol.specs.Sound.{Sound}
 use Rattle.kmip_runs.specs.Driving.{AreFinished, AsksOne, Grown, IsGood, IsSettling, Keeps, Learnt, LearntUntil, Nearer, Stands, WentOn, need}
 use Rattle.kmip_runs.specs.declared.stop.Stop.{Stop}
 use Rattle.kmip_runs.specs.declared.stop.Stop.TheVariants as stops
-use Rattle.kmip_runs.specs.Carried.{Carried, CarryingLaws, Went}
+use Rattle.kmip_runs.specs.PrivateCarried.{Carried, CarryingLaws, Went}
 use Rattle.kmip_runs.specs.Saved.{AreSaved, IsInMemory, AreUnsaved, IsLeft, IsWhole, Moment, moment}
-use Rattle.kmip_runs.specs.declared.keeper.SaveFault.{SaveFault}
+use Rattle.kmip_runs.specs.declared.save_fault.SaveFault.{SaveFault}
 use Rattle.kmip_runs.proofs.SavedLemmas.{saved_broken, saved_closed, saved_none, saved_not, saved_one, saved_then}
 use Rattle.kmip_runs.proofs.WentLemmas.{kept_itself, learnt_delivered, stop_is, went_closed, went_nowhere, went_then, went_unbegun}
 

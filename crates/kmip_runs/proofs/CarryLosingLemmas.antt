@@ -2,7 +2,7 @@
 use Rattle.std.proofs.Common.{◌≡◌, ◌≢◌, ℕ, Result, Ok, Err, IfOk, sym, ap, subst, refl, ◌∙◌, arith}
 use Rattle.kmip_plan.specs.Plans.{IsLawful}
 use Rattle.kmip_client.specs.Clients.{ClientState, SomeWorks}
-use Rattle.kmip_client.specs.declared.knowledge.Verdict.TheVariants.{Working, Finished}
+use Rattle.kmip_client.specs.declared.verdict.Verdict.TheVariants.{Working, Finished}
 use Rattle.kmip_protocol.specs.Clean.{Disturbances}
 use Rattle.kmip_protocol.specs.Moves.{Delivered}
 use Rattle.kmip_protocol.specs.Past.{Names, Past, is_planned}
@@ -11,9 +11,9 @@ use Rattle.kmip_runs.specs.Driving.{IsGood, Stands}
 use Rattle.kmip_runs.specs.Losing.{ArePaid, IsEnough, cost, left_for}
 use Rattle.kmip_runs.specs.declared.stop.Stop.{Stop}
 use Rattle.kmip_runs.specs.declared.stop.Stop.TheVariants as stops
-use Rattle.kmip_runs.specs.Carried.{CarryingLaws}
+use Rattle.kmip_runs.specs.PrivateCarried.{CarryingLaws}
 use Rattle.kmip_runs.specs.Saved.{IsInMemory, IsWhole}
-use Rattle.kmip_runs.specs.declared.keeper.SaveFault.{SaveFault}
+use Rattle.kmip_runs.specs.declared.save_fault.SaveFault.{SaveFault}
 use Rattle.kmip_runs.proofs.CarryEndingLemmas.{in_memory}
 use Rattle.kmip_runs.proofs.WentLemmas.{stop_is}
 

@@ -11,15 +11,15 @@ use Rattle.kmip_plan.specs.declared.key.Key.{Key}
 use Rattle.kmip_client.specs.Clients.{ClientState}
 use Rattle.kmip_client.specs.Held.{Held}
 use Rattle.kmip_client.specs.Knowledge.{chain_length, clash_verdict, verdict_of}
-use Rattle.kmip_client.specs.Standing.{counts_of, verdicts_of}
+use Rattle.kmip_client.specs.Verdicts.{counts_of, verdicts_of}
 use Rattle.kmip_client.specs.declared.clash.Clash.{Clash}
 use Rattle.kmip_client.specs.declared.knowledge.Knowledge.{Knowledge}
-use Rattle.kmip_client.specs.declared.knowledge.Verdict.TheVariants.{Finished}
+use Rattle.kmip_client.specs.declared.verdict.Verdict.TheVariants.{Finished}
 use Rattle.kmip_protocol.specs.Past.{Names, Past}
 use Rattle.kmip_protocol.specs.Needs.{chains_and_looks, need_all}
 use Rattle.kmip_protocol.specs.Ready.{IsReady}
 use Rattle.kmip_runs.specs.Driving.{AreFinished, AsksOne, IsComplete, IsSettling, IsUntouched, need}
-use Rattle.kmip_runs.specs.Lawbook.{Lawbook}
+use Rattle.kmip_runs.specs.PrivateLawbook.{Lawbook}
 
 clash_unfinished : {X : Type 0} (clash : Option Clash) → clash_verdict clash ≡ Finished → X
 clash_unfinished None is = absurd cc

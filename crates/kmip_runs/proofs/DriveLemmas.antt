@@ -6,9 +6,10 @@ use Rattle.kmip_client.specs.Clients.{AreSettled, ClientState}
 use Rattle.kmip_client.specs.Known.{facts}
 use Rattle.kmip_client.specs.declared.knowledge.Knowledge.{Knowledge}
 use Rattle.kmip_protocol.specs.Past.{Names, Past, is_planned}
-use Rattle.kmip_runs.specs.Driving.{AsksOne, Grown, IsBrokenOff, IsGood, IsSettling, IsUnheard, IsUnmade, Keeps, KeepsFurther, Learnt, LearntUntil, Nearer, SomeClash, Stands, WentOn}
-use Rattle.kmip_runs.specs.Lawbook.{Lawbook}
-use Rattle.kmip_runs.specs.Turning.{exchanges_made}
+use Rattle.kmip_runs.specs.Driving.{AsksOne, Grown, IsGood, IsSettling, IsUnheard, IsUnmade, Keeps, KeepsFurther, Learnt, LearntUntil, Nearer, SomeClash, Stands, WentOn}
+use Rattle.kmip_runs.specs.Private.{IsBrokenOff}
+use Rattle.kmip_runs.specs.PrivateLawbook.{Lawbook}
+use Rattle.kmip_runs.specs.Private.{exchanges_made}
 use Rattle.kmip_runs.specs.declared.stop.Stop.{Stop}
 use Rattle.kmip_runs.specs.declared.stop.Stop.TheVariants as stops
 use Rattle.kmip_runs.specs.declared.turn_fault.TurnFault.{TurnFault}

@@ -5,12 +5,13 @@ use Rattle.kmip_client.specs.declared.knowledge.Knowledge.{Knowledge}
 use Rattle.kmip_protocol.specs.Ending.{EndedAt}
 use Rattle.kmip_protocol.specs.Moves.{Delivered}
 use Rattle.kmip_protocol.specs.Past.{Names, Past}
-use Rattle.kmip_runs.specs.CampaignParts.{HasEnded}
+use Rattle.kmip_runs.specs.PrivateCampaignParts.{HasEnded}
 use Rattle.kmip_runs.specs.Driving.{Learnt}
-use Rattle.kmip_runs.specs.Ending.{AreEnded, EndsJoin, ended_at, exchanges_in}
-use Rattle.kmip_runs.specs.declared.campaigning.CampaignEnd.{CampaignEnd}
-use Rattle.kmip_runs.specs.declared.campaigning.Run.{Run}
-use Rattle.kmip_runs.specs.declared.campaigning.RunEnd.{RunEnd}
+use Rattle.kmip_runs.specs.Ending.{AreEnded, ended_at}
+use Rattle.kmip_runs.specs.Private.{EndsJoin, exchanges_in}
+use Rattle.kmip_runs.specs.declared.campaign_end.CampaignEnd.{CampaignEnd}
+use Rattle.kmip_runs.specs.declared.run.Run.{Run}
+use Rattle.kmip_runs.specs.declared.run_end.RunEnd.{RunEnd}
 use Rattle.kmip_runs.specs.declared.stop.Stop.{Stop}
 use Rattle.kmip_runs.proofs.KnownLemmas.{delivered_stays, learnt_long}
 

@@ -5,10 +5,10 @@ use Rattle.kmip_client.specs.Clients.{changed_at, lost_working}
 use Rattle.kmip_client.specs.Hearing.{hear}
 use Rattle.kmip_client.specs.Known.{facts, heard, known_after, knowns_heard}
 use Rattle.kmip_client.specs.Laws.{HearingIsBlind, LossesTeachNothing}
-use Rattle.kmip_client.specs.declared.fault.HearFault.{HearFault}
-use Rattle.kmip_client.specs.declared.hearing.Heard.{Heard}
+use Rattle.kmip_client.specs.declared.hear_fault.HearFault.{HearFault}
+use Rattle.kmip_client.specs.declared.heard.Heard.{Heard}
 use Rattle.kmip_client.specs.declared.knowledge.Knowledge.{Knowledge}
-use Rattle.kmip_client.specs.declared.question.Part.{Part}
+use Rattle.kmip_client.specs.declared.part.Part.{Part}
 use Rattle.kmip_client.specs.declared.question.Question.{Question}
 use Rattle.kmip_protocol.specs.Turns.{is_unanswered, known_then, lost_each, taught_by}
 

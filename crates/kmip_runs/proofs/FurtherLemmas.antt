@@ -15,12 +15,12 @@ use Rattle.kmip_protocol.specs.Exchanges.{Exchanged}
 use Rattle.kmip_protocol.specs.Moves.{Delivered}
 use Rattle.kmip_protocol.specs.Past.{AreAmong, Names, Past, is_planned}
 use Rattle.kmip_protocol.specs.Sound.{Sound}
-use Rattle.kmip_protocol.specs.declared.link.LinkFault.{LinkFault}
+use Rattle.kmip_protocol.specs.declared.link_fault.LinkFault.{LinkFault}
 use Rattle.kmip_protocol.specs.Needs.{missing}
-use Rattle.kmip_runs.specs.Campaign.{GoodLink}
-use Rattle.kmip_runs.specs.CampaignParts.{CampaignLaws}
+use Rattle.kmip_runs.specs.Headline.{GoodLink}
+use Rattle.kmip_runs.specs.PrivateCampaignParts.{CampaignLaws}
 use Rattle.kmip_runs.specs.Driving.{IsGood, KeepsFurther, WentOn}
-use Rattle.kmip_runs.specs.Lawbook.{Lawbook}
+use Rattle.kmip_runs.specs.PrivateLawbook.{Lawbook}
 use Rattle.kmip_protocol.specs.Losses.{or_loss}
 use Rattle.kmip_runs.proofs.SettleLemmas.{calmly}
 

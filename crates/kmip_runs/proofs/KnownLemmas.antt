@@ -13,9 +13,10 @@ use Rattle.kmip_client.specs.declared.question.Question.{Question}
 use Rattle.kmip_protocol.specs.Exchanges.{Exchanged, HandsOver, with_asked}
 use Rattle.kmip_protocol.specs.Moves.{Delivered, Move, after_move, after_moves}
 use Rattle.kmip_protocol.specs.Past.{Names, Past}
-use Rattle.kmip_protocol.specs.declared.link.LinkFault.{LinkFault}
-use Rattle.kmip_protocol.specs.declared.link.LinkFault.TheVariants.{Io, Frame, NoMemory}
-use Rattle.kmip_runs.specs.Driving.{Grown, IsQuestion, IsToBePut, IsUnheard, IsUnmade, Learnt, LearntUntil}
+use Rattle.kmip_protocol.specs.declared.link_fault.LinkFault.{LinkFault}
+use Rattle.kmip_protocol.specs.declared.link_fault.LinkFault.TheVariants.{Io, Frame, NoMemory}
+use Rattle.kmip_runs.specs.Driving.{Grown, IsQuestion, IsUnheard, IsUnmade, Learnt, LearntUntil}
+use Rattle.kmip_runs.specs.Private.{IsToBePut}
 use Rattle.kmip_client.specs.Known.{facts, heard, known_after}
 use Rattle.kmip_protocol.specs.Losses.{or_loss}
 use Rattle.kmip_protocol.specs.Turns.{taught}

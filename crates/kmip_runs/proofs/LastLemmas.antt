@@ -14,11 +14,12 @@ use Rattle.kmip_client.specs.Held.{TrueOf, TrueProgress}
 use Rattle.kmip_client.specs.Places.{Onward}
 use Rattle.kmip_protocol.specs.Laws.{IsReached}
 use Rattle.kmip_protocol.specs.Past.{Past}
-use Rattle.kmip_runs.specs.Campaign.{HasNoConflict, reported_by}
-use Rattle.kmip_runs.specs.CampaignParts.{CampaignLaws, Noted, Reaches}
+use Rattle.kmip_runs.specs.Campaign.{HasNoConflict}
+use Rattle.kmip_runs.specs.Headline.{reported_by}
+use Rattle.kmip_runs.specs.PrivateCampaignParts.{CampaignLaws, Noted, Reaches}
 use Rattle.kmip_runs.specs.Campaigns.{IsTrueFor, carried_over}
-use Rattle.kmip_runs.specs.CampaignsParts.{NotedFor, PlansLaws}
-use Rattle.kmip_runs.specs.declared.campaigning.RunEnd.{RunEnd}
+use Rattle.kmip_runs.specs.PrivateCampaignsParts.{NotedFor, PlansLaws}
+use Rattle.kmip_runs.specs.declared.run_end.RunEnd.{RunEnd}
 use Rattle.kmip_runs.proofs.CampaignLemmas.{FrontReaches, all_flat, all_of, by_front, saved_reached, true_one_onward}
 
 -- ---- what was carried over

@@ -12,13 +12,14 @@ use Rattle.kmip_client.specs.declared.question.Question.{Question}
 use Rattle.kmip_protocol.specs.Clean.{Counted, Disturbances, IsCounted}
 use Rattle.kmip_protocol.specs.Exchanges.{Exchanged, HandsOver}
 use Rattle.kmip_protocol.specs.Past.{Names, Past, is_planned}
-use Rattle.kmip_protocol.specs.declared.link.LinkFault.{LinkFault}
-use Rattle.kmip_protocol.specs.declared.link.LinkFault.TheVariants.{Io, Frame, NoMemory}
+use Rattle.kmip_protocol.specs.declared.link_fault.LinkFault.{LinkFault}
+use Rattle.kmip_protocol.specs.declared.link_fault.LinkFault.TheVariants.{Io, Frame, NoMemory}
 use Rattle.kmip_protocol.specs.Losing.{left_all}
 use Rattle.kmip_protocol.specs.Needs.{need_all}
 use Rattle.kmip_protocol.specs.Turns.{known_then, taught}
-use Rattle.kmip_runs.specs.Driving.{AreFinished, IsGood, IsToBePut}
-use Rattle.kmip_runs.specs.Lawbook.{Lawbook}
+use Rattle.kmip_runs.specs.Driving.{AreFinished, IsGood}
+use Rattle.kmip_runs.specs.Private.{IsToBePut}
+use Rattle.kmip_runs.specs.PrivateLawbook.{Lawbook}
 use Rattle.kmip_runs.specs.Losing.{ArePaid, cost, left_for}
 use Rattle.kmip_protocol.specs.Losses.{or_loss}
 use Rattle.kmip_runs.proofs.KnownLemmas.{handed_over}

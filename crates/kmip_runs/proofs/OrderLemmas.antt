@@ -9,17 +9,17 @@ use Rattle.kmip_progress.specs.declared.known.Known.{Known}
 use Rattle.kmip_client.specs.Clients.{one_if, verdict_at}
 use Rattle.kmip_client.specs.Knowledge.{chain_length, verdict_of}
 use Rattle.kmip_client.specs.Saving.{known_of}
-use Rattle.kmip_client.specs.Standing.{AreWithin, counts_of, verdicts_of}
+use Rattle.kmip_client.specs.Verdicts.{AreWithin, counts_of, verdicts_of}
 use Rattle.kmip_client.specs.declared.knowledge.Knowledge.{Knowledge}
-use Rattle.kmip_client.specs.declared.knowledge.Verdict.{Verdict}
-use Rattle.kmip_client.specs.declared.knowledge.Verdict.TheVariants.{Working, Finished, Conflict}
+use Rattle.kmip_client.specs.declared.verdict.Verdict.{Verdict}
+use Rattle.kmip_client.specs.declared.verdict.Verdict.TheVariants.{Working, Finished, Conflict}
 use Rattle.kmip_runs.specs.Campaign.{AreFull, IsEnd, IsFull, StopsSo, saves}
-use Rattle.kmip_runs.specs.CampaignParts.{HasEnded, IsEndOf, IsEnding, IsNoted, saved_with}
+use Rattle.kmip_runs.specs.PrivateCampaignParts.{HasEnded, IsEndOf, IsEnding, IsNoted, saved_with}
 use Rattle.kmip_runs.specs.Driving.{Stands}
 use Rattle.kmip_runs.specs.Remembering.{saved_after}
-use Rattle.kmip_runs.specs.declared.campaigning.CampaignEnd.{CampaignEnd}
-use Rattle.kmip_runs.specs.declared.campaigning.Run.{Run}
-use Rattle.kmip_runs.specs.declared.campaigning.RunEnd.{RunEnd}
+use Rattle.kmip_runs.specs.declared.campaign_end.CampaignEnd.{CampaignEnd}
+use Rattle.kmip_runs.specs.declared.run.Run.{Run}
+use Rattle.kmip_runs.specs.declared.run_end.RunEnd.{RunEnd}
 use Rattle.kmip_runs.specs.declared.ending.Ending.{Ending}
 use Rattle.kmip_runs.specs.declared.stop.Stop.{Stop}
 use Rattle.kmip_runs.specs.declared.stop.Stop.TheVariants as stops

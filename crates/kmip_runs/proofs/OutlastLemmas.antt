@@ -7,11 +7,12 @@ use Rattle.kmip_client.specs.Clients.{ClientState}
 use Rattle.kmip_client.specs.Held.{Held, TrueProgress}
 use Rattle.kmip_protocol.specs.Clean.{Disturbances}
 use Rattle.kmip_protocol.specs.Past.{Names, Past}
-use Rattle.kmip_runs.specs.CampaignParts.{IsNoted, Standing}
+use Rattle.kmip_runs.specs.PrivateCampaignParts.{IsNoted, Standing}
 use Rattle.kmip_runs.specs.Driving.{IsGood}
-use Rattle.kmip_runs.specs.Losing.{AllOutlast, HasOutlasted, IsEnough, Outlasts}
-use Rattle.kmip_runs.specs.declared.campaigning.Run.{Run}
-use Rattle.kmip_runs.specs.declared.campaigning.RunEnd.{RunEnd}
+use Rattle.kmip_runs.specs.Losing.{AllOutlast, IsEnough, Outlasts}
+use Rattle.kmip_runs.specs.Private.{HasOutlasted}
+use Rattle.kmip_runs.specs.declared.run.Run.{Run}
+use Rattle.kmip_runs.specs.declared.run_end.RunEnd.{RunEnd}
 use Rattle.kmip_runs.specs.declared.stop.Stop.{Stop}
 use Rattle.kmip_runs.specs.declared.stop.Stop.TheVariants as stops
 use Rattle.kmip_runs.proofs.CampaignLemmas.{good_with}

@@ -6,8 +6,8 @@ use Rattle.kmip_plan.specs.declared.key.Key.{Key}
 use Rattle.kmip_progress.specs.declared.known.Known.{Known}
 use Rattle.kmip_protocol.specs.Past.{Past}
 use Rattle.kmip_runs.specs.Campaigns.{AreParts, AreProlonged, IsPart, LastIsShort, Part, carried_over, first_plan, last_plan, part_saved}
-use Rattle.kmip_runs.specs.CampaignsParts.{PlansLaws}
-use Rattle.kmip_runs.specs.declared.campaigning.Run.{Run}
+use Rattle.kmip_runs.specs.PrivateCampaignsParts.{PlansLaws}
+use Rattle.kmip_runs.specs.declared.run.Run.{Run}
 use Rattle.kmip_runs.proofs.RunLemmas.{known_if}
 
 -- ---- plans in turn

@@ -15,21 +15,22 @@ use Rattle.kmip_progress.specs.Laws.{TextsAreProlonged}
 use Rattle.kmip_progress.specs.Reading.{read_text}
 use Rattle.kmip_progress.specs.Suiting.{Suits, are_texts, known_fits, nothing_known}
 use Rattle.kmip_progress.specs.Texts.{progress_text}
-use Rattle.kmip_progress.specs.declared.fault.ProgressFault.{ProgressFault}
+use Rattle.kmip_progress.specs.declared.progress_fault.ProgressFault.{ProgressFault}
 use Rattle.kmip_progress.specs.declared.known.Known.{Known}
 use Rattle.kmip_client.specs.Held.{TrueProgress}
 use Rattle.kmip_client.specs.Saving.{known_of}
 use Rattle.kmip_client.specs.declared.knowledge.Knowledge.{Knowledge}
 use Rattle.kmip_protocol.specs.Past.{AreAmong, Names, Past, is_planned}
 use Rattle.kmip_protocol.specs.Sound.{Sound}
-use Rattle.kmip_runs.specs.Campaign.{CalmLink, GoodLink}
-use Rattle.kmip_runs.specs.CampaignParts.{AreSame, CampaignLaws, HasRunAll}
+use Rattle.kmip_runs.specs.Campaign.{CalmLink}
+use Rattle.kmip_runs.specs.Headline.{GoodLink}
+use Rattle.kmip_runs.specs.PrivateCampaignParts.{AreSame, CampaignLaws, HasRunAll}
 use Rattle.kmip_runs.specs.Campaigns.{AreInTurn, AreParts, AreProlonged, CalmStart, GoodStart, IsPart, IsTrueFor, LastIsShort, Part, carried_over, first_plan, last_plan, part_ends, part_saved}
-use Rattle.kmip_runs.specs.CampaignsParts.{HasRunBroken, HasRunPart, HasRunPlans, HasRunWhole, IsGoodFor, IsReadFor, PlansLaws}
+use Rattle.kmip_runs.specs.PrivateCampaignsParts.{HasRunBroken, HasRunPart, HasRunPlans, HasRunWhole, IsGoodFor, IsReadFor, PlansLaws}
 use Rattle.kmip_runs.specs.Remembering.{AreKnownFrom, Shows, saved_after, saved_from}
-use Rattle.kmip_runs.specs.declared.campaigning.CampaignEnd.{CampaignEnd}
-use Rattle.kmip_runs.specs.declared.campaigning.Run.{Run}
-use Rattle.kmip_runs.specs.declared.campaigning.RunEnd.{RunEnd}
+use Rattle.kmip_runs.specs.declared.campaign_end.CampaignEnd.{CampaignEnd}
+use Rattle.kmip_runs.specs.declared.run.Run.{Run}
+use Rattle.kmip_runs.specs.declared.run_end.RunEnd.{RunEnd}
 use Rattle.kmip_runs.proofs.CampaignLemmas.{true_onward}
 use Rattle.kmip_runs.proofs.LastLemmas.{noted_for_both, noted_for_none, noted_for_onward, noted_over, true_over}
 use Rattle.kmip_runs.proofs.RememberLemmas.{flat_push}

@@ -9,12 +9,13 @@ use Rattle.kmip_client.specs.Asking.{at_places, part_about}
 use Rattle.kmip_client.specs.Clients.{ClientState, WorksAt, changed_at, lost_at, lost_working}
 use Rattle.kmip_client.specs.Held.{Held}
 use Rattle.kmip_client.specs.Shapes.{IsKept}
-use Rattle.kmip_client.specs.declared.question.Part.{Part}
+use Rattle.kmip_client.specs.declared.part.Part.{Part}
 use Rattle.kmip_client.specs.declared.question.Question.{Question}
 use Rattle.kmip_client.specs.declared.knowledge.Knowledge.{Knowledge}
 use Rattle.kmip_objects.specs.Objects.{Object}
 use Rattle.kmip_protocol.specs.Turns.{lost_each}
-use Rattle.kmip_runs.specs.Driving.{AreParts, IsToBePut, Keeps}
+use Rattle.kmip_runs.specs.Private.{AreParts, IsToBePut}
+use Rattle.kmip_runs.specs.Driving.{Keeps}
 use Rattle.kmip_runs.proofs.GoodLemmas.{keeps_itself, keeps_then}
 
 parts_at : (keys : List Key) (knowns : List Knowledge) (places : List ℕ) → All (WorksAt keys knowns) places → AreParts keys (at_places part_about keys knowns places)

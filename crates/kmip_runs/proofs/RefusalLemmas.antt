@@ -3,8 +3,8 @@ use Rattle.std.proofs.Common.{◌≡◌, ℕ, ◌≤◌, Result, Ok, Err, OnOk, 
 use Rattle.kmip_runs.specs.declared.stop.Stop.{Stop}
 use Rattle.kmip_runs.specs.declared.stop.Stop.TheVariants as stops
 use Rattle.kmip_runs.specs.Refusals.{HasRisen}
-use Rattle.kmip_runs.specs.declared.keeper.SaveFault.{SaveFault}
-use Rattle.kmip_runs.specs.declared.keeper.SaveFault.TheVariants as faults
+use Rattle.kmip_runs.specs.declared.save_fault.SaveFault.{SaveFault}
+use Rattle.kmip_runs.specs.declared.save_fault.SaveFault.TheVariants as faults
 
 -- what rose from a later count rose from an earlier one
 pub rises_from : (a b c : ℕ) → a ≤ b → HasRisen b c → HasRisen a c

@@ -14,12 +14,12 @@ use Rattle.kmip_client.specs.Shapes.{IsKept}
 use Rattle.kmip_client.specs.declared.knowledge.Knowledge.{Knowledge}
 use Rattle.kmip_protocol.specs.Moves.{Delivered}
 use Rattle.kmip_protocol.specs.Past.{Names, Past, is_planned}
-use Rattle.kmip_runs.specs.CampaignParts.{AreSame, HasEnded, HasRun, IsBroken, begins_with}
+use Rattle.kmip_runs.specs.PrivateCampaignParts.{AreSame, HasEnded, HasRun, IsBroken, begins_with}
 use Rattle.kmip_runs.specs.Driving.{Grown, IsQuestion, Keeps, Learnt}
 use Rattle.kmip_runs.specs.Remembering.{AreAsked, AreHeard, AreKnownFrom, AreTaught, IsTalkOf, Shows, Talk, limit_at, saved_after, saved_from, start_knowns, starts, starts_from}
-use Rattle.kmip_runs.specs.declared.campaigning.CampaignEnd.{CampaignEnd}
-use Rattle.kmip_runs.specs.declared.campaigning.Run.{Run}
-use Rattle.kmip_runs.specs.declared.campaigning.RunEnd.{RunEnd}
+use Rattle.kmip_runs.specs.declared.campaign_end.CampaignEnd.{CampaignEnd}
+use Rattle.kmip_runs.specs.declared.run.Run.{Run}
+use Rattle.kmip_runs.specs.declared.run_end.RunEnd.{RunEnd}
 use Rattle.kmip_runs.specs.declared.stop.Stop.{Stop}
 use Rattle.kmip_runs.proofs.KnownLemmas.{delivered_grown, delivered_stays, grown_itself, grown_then, joined, learnt_still}
 use Rattle.kmip_runs.proofs.OrderLemmas.{zip_push}

@@ -13,13 +13,14 @@ use Rattle.kmip_progress.specs.declared.known.Known.{Known}
 use Rattle.kmip_client.specs.Clients.{ClientState, fresh}
 use Rattle.kmip_client.specs.Held.{Held, TrueProgress}
 use Rattle.kmip_protocol.specs.Past.{Names, Past, is_planned}
-use Rattle.kmip_runs.specs.Campaign.{CalmLink, GoodLink, IsEnd, Settles, saves}
-use Rattle.kmip_runs.specs.CampaignParts.{Campaigned, CampaignLaws, HasRun, HasSettled, Standing}
+use Rattle.kmip_runs.specs.Campaign.{CalmLink, IsEnd, Settles, saves}
+use Rattle.kmip_runs.specs.Headline.{GoodLink}
+use Rattle.kmip_runs.specs.PrivateCampaignParts.{Campaigned, CampaignLaws, HasRun, HasSettled, Standing}
 use Rattle.kmip_runs.specs.Driving.{IsGood, KeepsFurther, WentOn}
 use Rattle.kmip_runs.specs.Remembering.{AreKnownFrom}
-use Rattle.kmip_runs.specs.declared.campaigning.CampaignEnd.{CampaignEnd}
-use Rattle.kmip_runs.specs.declared.campaigning.Run.{Run}
-use Rattle.kmip_runs.specs.declared.campaigning.RunEnd.{RunEnd}
+use Rattle.kmip_runs.specs.declared.campaign_end.CampaignEnd.{CampaignEnd}
+use Rattle.kmip_runs.specs.declared.run.Run.{Run}
+use Rattle.kmip_runs.specs.declared.run_end.RunEnd.{RunEnd}
 use Rattle.kmip_runs.specs.declared.stop.Stop.{Stop}
 use Rattle.kmip_runs.specs.declared.stop.Stop.TheVariants as stops
 use Rattle.kmip_runs.proofs.CampaignLemmas.{campaigned, good_with, noted_none, opened, true_onward}

@@ -16,7 +16,7 @@ use Rattle.kmip_runs.specs.Driving.{Learnt}
 use Rattle.kmip_runs.specs.declared.stop.Stop.{Stop}
 use Rattle.kmip_runs.specs.declared.stop.Stop.TheVariants as stops
 use Rattle.kmip_runs.specs.Saved.{AreKept, AreSaved, AreInTurn, IsInMemory, IsWhole, Moment, AreUnsaved, last_moment, text_at}
-use Rattle.kmip_runs.specs.declared.keeper.SaveFault.{SaveFault}
+use Rattle.kmip_runs.specs.declared.save_fault.SaveFault.{SaveFault}
 use Rattle.kmip_runs.proofs.WentLemmas.{joined, kept_itself, kept_then, learnt_nothing, learnt_then, stop_is}
 
 -- ---- texts

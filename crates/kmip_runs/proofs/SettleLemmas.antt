@@ -9,17 +9,18 @@ use Rattle.kmip_plan.specs.declared.key.Key.{Key}
 use Rattle.kmip_client.specs.Asking.{AreApart, after_ask}
 use Rattle.kmip_client.specs.Clients.{AreSettled, ClientState, WorksAt}
 use Rattle.kmip_client.specs.declared.knowledge.Knowledge.{Knowledge}
-use Rattle.kmip_client.specs.declared.knowledge.Verdict.TheVariants.{Working, Finished, Conflict}
+use Rattle.kmip_client.specs.declared.verdict.Verdict.TheVariants.{Working, Finished, Conflict}
 use Rattle.kmip_client.specs.declared.question.Question.{Question}
 use Rattle.kmip_protocol.specs.Calm.{CalmlyExchanged}
 use Rattle.kmip_protocol.specs.Past.{Names, Past, is_planned}
-use Rattle.kmip_protocol.specs.declared.link.LinkFault.{LinkFault}
-use Rattle.kmip_protocol.specs.declared.link.LinkFault.TheVariants.{Io, Frame, NoMemory}
+use Rattle.kmip_protocol.specs.declared.link_fault.LinkFault.{LinkFault}
+use Rattle.kmip_protocol.specs.declared.link_fault.LinkFault.TheVariants.{Io, Frame, NoMemory}
 use Rattle.kmip_protocol.specs.Needs.{need_all}
 use Rattle.kmip_protocol.specs.Ready.{IsReady}
 use Rattle.kmip_protocol.specs.Turns.{known_then, taught}
-use Rattle.kmip_runs.specs.Driving.{AreFinished, AsksOne, IsSettling, IsToBePut, Nearer, Stands, need}
-use Rattle.kmip_runs.specs.Lawbook.{Lawbook}
+use Rattle.kmip_runs.specs.Driving.{AreFinished, AsksOne, IsSettling, Nearer, Stands, need}
+use Rattle.kmip_runs.specs.Private.{IsToBePut}
+use Rattle.kmip_runs.specs.PrivateLawbook.{Lawbook}
 use Rattle.kmip_protocol.specs.Losses.{or_loss}
 use Rattle.kmip_runs.specs.declared.stop.Stop.{Stop}
 use Rattle.kmip_runs.specs.declared.stop.Stop.TheVariants as stops

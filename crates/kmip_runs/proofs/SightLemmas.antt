@@ -3,7 +3,7 @@ use Rattle.std.proofs.Common.{◌≡◌, ◌≢◌, ◌∙◌, ◌<◌, ◌≤�
 use Rattle.std.proofs.lemmas.Bool.{cases_lt}
 use Rattle.kmip_plan.specs.declared.key.Key.{Key}
 use Rattle.kmip_client.specs.declared.knowledge.Knowledge.{Knowledge}
-use Rattle.kmip_runs.specs.Sights.{gets_on, sight_at}
+use Rattle.kmip_runs.specs.PrivateSights.{gets_on, sight_at}
 use Rattle.kmip_runs.specs.declared.sight.Sight.{Sight}
 
 set_elsewhere : (sights : List Sight) (place other : ℕ) (next : Sight) → place ≢ other → slice_get (slice_set sights place next) other ≡ slice_get sights other

@@ -7,7 +7,8 @@ use Rattle.kmip_client.specs.declared.question.Question.{Question}
 use Rattle.kmip_protocol.specs.Exchanges.{HandsOver}
 use Rattle.kmip_protocol.specs.Past.{Names, Past}
 use Rattle.kmip_protocol.specs.Turns.{taught}
-use Rattle.kmip_runs.specs.Turning.{IsAnswered, IsGivenUp, IsLeft, IsTurned, Rests, Turns, TurnsOnce, exchanges_made, messages_made}
+use Rattle.kmip_runs.specs.Private.{IsAnswered, IsGivenUp, Rests, TurnsOnce, exchanges_made, messages_made}
+use Rattle.kmip_runs.specs.Turning.{IsLeft, IsTurned, Turns}
 use Rattle.kmip_runs.specs.declared.stop.Stop.{Stop}
 use Rattle.kmip_runs.specs.declared.stop.Stop.TheVariants as stops
 use Rattle.kmip_runs.specs.declared.turn_fault.TurnFault.{TurnFault}

@@ -5,14 +5,15 @@ use Rattle.kmip_progress.specs.declared.known.Known.{Known}
 use Rattle.kmip_client.specs.Clients.{ClientState, fresh}
 use Rattle.kmip_protocol.specs.Moves.{Delivered}
 use Rattle.kmip_protocol.specs.Past.{Names, Past, is_planned}
-use Rattle.kmip_runs.specs.CampaignParts.{AreSame, HasEnded}
+use Rattle.kmip_runs.specs.PrivateCampaignParts.{AreSame, HasEnded}
 use Rattle.kmip_runs.specs.Driving.{Keeps}
 use Rattle.kmip_runs.specs.Remembering.{Talk, saved_after}
 use Rattle.kmip_runs.specs.Turning.{IsLeft, IsTurned, Turns}
-use Rattle.kmip_runs.specs.TurnedRuns.{AreTurned, AreTurnedFrom, RanTurned, RunTurned, begin_client}
-use Rattle.kmip_runs.specs.declared.campaigning.CampaignEnd.{CampaignEnd}
-use Rattle.kmip_runs.specs.declared.campaigning.Run.{Run}
-use Rattle.kmip_runs.specs.declared.campaigning.RunEnd.{RunEnd}
+use Rattle.kmip_runs.specs.TurnedRuns.{AreTurned, AreTurnedFrom, RunTurned, begin_client}
+use Rattle.kmip_runs.specs.Private.{RanTurned}
+use Rattle.kmip_runs.specs.declared.campaign_end.CampaignEnd.{CampaignEnd}
+use Rattle.kmip_runs.specs.declared.run.Run.{Run}
+use Rattle.kmip_runs.specs.declared.run_end.RunEnd.{RunEnd}
 use Rattle.kmip_runs.specs.declared.stop.Stop.{Stop}
 use Rattle.kmip_runs.specs.declared.stop.Stop.TheVariants as stops
 use Rattle.kmip_runs.proofs.KnownLemmas.{delivered_stays, joined}

@@ -19,9 +19,9 @@ use Rattle.kmip_protocol.specs.Ready.{IsReady}
 use Rattle.kmip_runs.specs.Driving.{AsksOne, Grown, IsGood, IsQuestion, Keeps, Learnt, LearntUntil, WentOn, need}
 use Rattle.kmip_runs.specs.declared.stop.Stop.{Stop}
 use Rattle.kmip_runs.specs.declared.stop.Stop.TheVariants as stops
-use Rattle.kmip_runs.specs.Carried.{CarryingLaws, Went}
+use Rattle.kmip_runs.specs.PrivateCarried.{CarryingLaws, Went}
 use Rattle.kmip_runs.specs.Saved.{IsInMemory, IsWhole}
-use Rattle.kmip_runs.specs.declared.keeper.SaveFault.{SaveFault}
+use Rattle.kmip_runs.specs.declared.save_fault.SaveFault.{SaveFault}
 
 abbrev ok : Stop → Result Stop SaveFault
 ok stop = Ok stop

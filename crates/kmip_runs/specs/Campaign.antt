@@ -1,44 +1,22 @@
 -- Runs in turn: what their ends report, and what is to hold of each end.
 -- Source: own (view); what is own (limit) says so.
-use Rattle.std.specs.Prelude.{◌≡◌, ◌≢◌, ◌≤◌, ℕ, ⊤, Bool, List, [], ◌∷◌, ◌++◌, ◌+◌, length, map, take, flat_map, string_bytes, IsTrue}
+use Rattle.std.specs.Prelude.{◌≡◌, ◌≢◌, ◌≤◌, ℕ, ⊤, Bool, List, [], ◌∷◌, ◌+◌, length, string_bytes, IsTrue}
 use Rattle.std.specs.List.{All, Contains}
 use Rattle.kmip_messages.specs.Members.{may_have}
-use Rattle.kmip_plan.specs.Chains.{bound, chain}
+use Rattle.kmip_plan.specs.Chains.{bound}
 use Rattle.kmip_plan.specs.declared.key.Key.{Key}
-use Rattle.kmip_progress.specs.declared.known.Known.{Known}
 use Rattle.kmip_client.specs.Knowledge.{chain_length}
 use Rattle.kmip_client.specs.declared.clash.Clash.{Clash}
-use Rattle.kmip_client.specs.declared.knowledge.Verdict.{Verdict}
-use Rattle.kmip_client.specs.declared.knowledge.Verdict.TheVariants.{Working, Finished, Conflict}
+use Rattle.kmip_client.specs.declared.verdict.Verdict.{Verdict}
+use Rattle.kmip_client.specs.declared.verdict.Verdict.TheVariants.{Working, Finished, Conflict}
 use Rattle.kmip_protocol.specs.Past.{Past, Names, is_planned}
 use Rattle.kmip_protocol.specs.Sound.{Sound}
-use Rattle.kmip_server.specs.declared.effect.Effect.{Effect}
 use Rattle.kmip_protocol.specs.Needs.{missing}
 use Rattle.kmip_runs.specs.Reporting.{report_text}
-use Rattle.kmip_runs.specs.declared.campaigning.Run.{Run}
-use Rattle.kmip_runs.specs.declared.campaigning.RunEnd.{RunEnd}
+use Rattle.kmip_runs.specs.declared.run.Run.{Run}
+use Rattle.kmip_runs.specs.declared.run_end.RunEnd.{RunEnd}
 use Rattle.kmip_runs.specs.declared.stop.Stop.{Stop}
 use Rattle.kmip_runs.specs.declared.stop.Stop.TheVariants as stops
-
--- The link is honest for the plan's names, and all that has happened over it is sound.
-pub record GoodLink {L : Type 0} (past : L → Past) (honest : L → Names → Type 0) (keys : List Key) (link : L) : Type 0 where
-  pub honest_for : honest link (is_planned keys)
-  pub sound : Sound keys (past link)
-
--- the first steps of a key's chain, as many as are counted
-abbrev pub steps_counted : Key → ℕ → List Effect
-steps_counted key count = map (λ step. record { name = key.attrs.name; step = step }) (take count (chain key.target))
-
--- the steps that these counts report, key by key in the order of the plan
-abbrev pub reported_by : List Key → List ℕ → List Effect
-reported_by [] counts = []
-reported_by (key ∷ keys) [] = []
-reported_by (key ∷ keys) (count ∷ counts) = steps_counted key count ++ reported_by keys counts
-
--- the steps that are reported done, by the ends of runs and by what was saved
-abbrev pub reported : List Key → List RunEnd → List (List Known) → List Effect
-reported keys ends saved =
-    flat_map (λ (end : RunEnd). reported_by keys end.counts.items) ends ++ flat_map (λ progress. reported_by keys (map (λ known. known.done) progress)) saved
 
 -- the verdict is no conflict
 abbrev pub IsNoClash : Verdict → Type 0

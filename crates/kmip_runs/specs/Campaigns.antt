@@ -13,8 +13,8 @@ use Rattle.kmip_protocol.specs.Sound.{NoneIsFurther, Sound}
 use Rattle.kmip_protocol.specs.Needs.{missing}
 use Rattle.kmip_runs.specs.Campaign.{IsEnd, Settles, saves}
 use Rattle.kmip_runs.specs.Remembering.{AreKnownFrom}
-use Rattle.kmip_runs.specs.declared.campaigning.Run.{Run}
-use Rattle.kmip_runs.specs.declared.campaigning.RunEnd.{RunEnd}
+use Rattle.kmip_runs.specs.declared.run.Run.{Run}
+use Rattle.kmip_runs.specs.declared.run_end.RunEnd.{RunEnd}
 
 -- each plan prolongs the one before it
 abbrev pub AreProlonged : List (List Key) → Type 0

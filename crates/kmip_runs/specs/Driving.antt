@@ -1,6 +1,6 @@
 -- What a run of exchanges does: what it keeps, what it asks, what the client learns of it, and why it ends.
 -- Source: own (view); what is own (law) says so.
-use Rattle.std.specs.Prelude.{◌≡◌, ◌⊎◌, ◌≤◌, ◌<◌, ◌+◌, ℕ, IsSome, map, List, [], ◌∷◌, ◌++◌, length, flat_map, Option, Some, None, ⊤}
+use Rattle.std.specs.Prelude.{◌≡◌, ◌⊎◌, ◌≤◌, ◌<◌, ◌+◌, ℕ, IsSome, map, List, [], ◌∷◌, ◌++◌, length, flat_map, Option, Some, ⊤}
 use Rattle.std.specs.List.{All, AllZip}
 use Rattle.kmip_messages.specs.Items.{requests_in}
 use Rattle.kmip_objects.specs.Objects.{Object, object_named}
@@ -10,18 +10,16 @@ use Rattle.kmip_plan.specs.Plans.{IsLawful, IsPlanned}
 use Rattle.kmip_plan.specs.Prolonging.{Prolongs}
 use Rattle.kmip_plan.specs.declared.key.Key.{Key}
 use Rattle.kmip_ttlv.specs.Spelling.{canon}
-use Rattle.kmip_client.specs.Asking.{AreApart, IsAbout, requests_at}
+use Rattle.kmip_client.specs.Asking.{AreApart, requests_at}
 use Rattle.kmip_client.specs.Clients.{ClientState, fresh, NoneWorks, SomeWorks, WorksAt, verdict_at}
 use Rattle.kmip_client.specs.Held.{Held}
 use Rattle.kmip_client.specs.Places.{Onward, position}
 use Rattle.kmip_client.specs.Knowledge.{chain_length}
 use Rattle.kmip_client.specs.Shapes.{IsKept}
-use Rattle.kmip_client.specs.Standing.{counts_of, verdicts_of}
+use Rattle.kmip_client.specs.Verdicts.{counts_of, verdicts_of}
 use Rattle.kmip_client.specs.declared.clash.Clash.{Clash}
 use Rattle.kmip_client.specs.declared.knowledge.Knowledge.{Knowledge}
-use Rattle.kmip_client.specs.declared.knowledge.Verdict.TheVariants.{Finished, Conflict}
-use Rattle.kmip_client.specs.declared.question.Part.{Part}
-use Rattle.kmip_client.specs.declared.question.Question.{Question}
+use Rattle.kmip_client.specs.declared.verdict.Verdict.TheVariants.{Finished, Conflict}
 use Rattle.kmip_protocol.specs.Machine.{IsMirrored}
 use Rattle.kmip_protocol.specs.Past.{Past, Names, is_planned}
 use Rattle.kmip_protocol.specs.Sound.{Sound}
@@ -29,11 +27,10 @@ use Rattle.kmip_client.specs.Known.{facts, known_after}
 use Rattle.kmip_protocol.specs.SettlingLaws.{NoneIsMade}
 use Rattle.kmip_protocol.specs.Needs.{need_all}
 use Rattle.kmip_protocol.specs.Ready.{IsReady}
-use Rattle.kmip_runs.specs.Campaign.{CalmLink, GoodLink}
+use Rattle.kmip_runs.specs.Campaign.{CalmLink}
+use Rattle.kmip_runs.specs.Headline.{GoodLink}
 use Rattle.kmip_runs.specs.declared.stop.Stop.{Stop}
 use Rattle.kmip_runs.specs.declared.stop.Stop.TheVariants as stops
-use Rattle.kmip_runs.specs.declared.turn_fault.TurnFault.{TurnFault}
-use Rattle.kmip_runs.specs.declared.turn_fault.TurnFault.TheVariants.{Unmade, Unheard}
 
 -- The link is honest for the plan's names, all that has happened over it is sound, and what the client knows
 -- is true.
@@ -145,11 +142,6 @@ pub record IsUnheard (keys : List Key) (most : ℕ) (old new : Past) : Type 0 wh
   pub sent_are : new.sent ≡ old.sent ++ question ∷ []
   pub handed_are : new.handed ≡ old.handed ++ Some reply ∷ []
 
--- Private: what a turn leaves in which memory ran out, by where it did.
-abbrev pub IsBrokenOff : List Key → ℕ → Past → Past → TurnFault → Type 0
-IsBrokenOff keys most old new Unmade = IsUnmade keys most old new
-IsBrokenOff keys most old new Unheard = IsUnheard keys most old new
-
 -- This many exchanges were made until memory ran out. What they handed over was learnt, but for the last
 -- reply, where there was no memory to learn from it.
 pub record LearntUntil (keys : List Key) (most : ℕ) (old new : Past) (knowns nexts : List Knowledge) (exchanges : ℕ) : Type 0 where
@@ -157,17 +149,6 @@ pub record LearntUntil (keys : List Key) (most : ℕ) (old new : Past) (knowns n
   pub heard : ℕ
   pub learnt : Learnt keys most old between knowns nexts heard
   pub broken : ((exchanges ≡ heard) × IsUnmade keys most between new) ⊎ ((exchanges ≡ heard + 1) × IsUnheard keys most between new)
-
--- Private: each part of a message is about a key of the plan.
-abbrev pub AreParts : List Key → List Part → Type 0
-AreParts keys parts = All (λ (part : Part). part.key < length keys) parts
-
--- Private: a message that the client may send: about keys that it works on, at most as many as it asks about
--- at once.
-pub record IsToBePut (c : ClientState) (question : Question) : Type 0 where
-  pub places : List ℕ
-  pub about : IsAbout c.keys c.knowns places question
-  pub few : length places ≤ c.batch
 
 -- The plan stays, and how many keys are asked about at once, and no identifier or count is taken back. Own
 -- (law).

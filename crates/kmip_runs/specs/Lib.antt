@@ -1,5 +1,7 @@
 -- What runs of exchanges over a link do: what they ask, learn, report and save, and what holds after them.
 
+-- open this first: over which links the headline holds of a campaign, and which steps are reported
+pub mod Headline
 -- why a run stops: the number and the name of each reason
 pub mod Stops
 -- the report of a run, line by line
@@ -21,11 +23,11 @@ pub mod TurnedRuns
 -- campaigns on several plans, of which each prolongs the one before it
 pub mod Campaigns
 -- private: what the parts of a campaign keep
-pub mod CampaignParts
+pub mod PrivateCampaignParts
 -- private: what the parts of a campaign on several plans keep
-pub mod CampaignsParts
+pub mod PrivateCampaignsParts
 -- private: the laws of the crates below that runs rest on
-pub mod Lawbook
+pub mod PrivateLawbook
 -- What a run saves of a plan that it carries out, and how long it waits.
 
 -- which texts are saved, and what each of them says
@@ -35,6 +37,8 @@ pub mod Refusals
 -- how long a run waits that does not get on
 pub mod Waits
 -- private: what the parts of a run keep
-pub mod Carried
+pub mod PrivateCarried
 -- private: when a run gets on by an exchange
-pub mod Sights
+pub mod PrivateSights
+-- private: what only the clauses of private functions cite
+pub mod Private

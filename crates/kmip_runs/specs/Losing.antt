@@ -1,14 +1,14 @@
 -- What runs over a link cost that goes on losing, and how many exchanges are enough.
 -- Source: own (law).
-use Rattle.std.specs.Prelude.{◌≡◌, ◌≤◌, ◌+◌, ◌*◌, ℕ, List, [], ◌∷◌, ◌++◌, length}
+use Rattle.std.specs.Prelude.{◌≡◌, ◌≤◌, ◌+◌, ◌*◌, ℕ, List, [], ◌∷◌, length}
 use Rattle.kmip_plan.specs.Chains.{bound}
 use Rattle.kmip_plan.specs.declared.key.Key.{Key}
 use Rattle.kmip_client.specs.Clients.{ClientState}
 use Rattle.kmip_protocol.specs.Clean.{Disturbances}
 use Rattle.kmip_protocol.specs.Past.{Past}
 use Rattle.kmip_protocol.specs.Losing.{left_all}
-use Rattle.kmip_runs.specs.declared.campaigning.Run.{Run}
-use Rattle.kmip_runs.specs.declared.campaigning.RunEnd.{RunEnd}
+use Rattle.kmip_runs.specs.declared.run.Run.{Run}
+use Rattle.kmip_runs.specs.declared.run_end.RunEnd.{RunEnd}
 use Rattle.kmip_runs.specs.declared.stop.Stop.TheVariants as stops
 
 -- what disturbed exchanges cost: one each, two more for each request that they sent, and one more for each
@@ -41,9 +41,3 @@ AllOutlast keys [] [] old new = new ≡ old
 AllOutlast keys (run ∷ runs) (end ∷ ends) old new =
     (between : Disturbances) × Outlasts keys run end old between × AllOutlast keys runs ends between new
 AllOutlast keys runs ends old new = ⊥
-
--- Private: the run that was noted last stops with every key finished if its limit is enough.
-pub record HasOutlasted (keys : List Key) (run : Run) (ends nexts : List RunEnd) (old new : Disturbances) : Type 0 where
-  pub end : RunEnd
-  pub joined : nexts ≡ ends ++ end ∷ []
-  pub outlasts : Outlasts keys run end old new

@@ -10,14 +10,14 @@ use Rattle.kmip_client.specs.Clients.{fresh}
 use Rattle.kmip_client.specs.Known.{facts, known_after}
 use Rattle.kmip_client.specs.Saving.{known_of, resume}
 use Rattle.kmip_client.specs.Shapes.{IsKept}
-use Rattle.kmip_client.specs.Standing.{counts_of, verdicts_of}
+use Rattle.kmip_client.specs.Verdicts.{counts_of, verdicts_of}
 use Rattle.kmip_client.specs.declared.knowledge.Knowledge.{Knowledge}
 use Rattle.kmip_protocol.specs.Past.{Past}
 use Rattle.kmip_runs.specs.Driving.{Grown, IsQuestion}
-use Rattle.kmip_runs.specs.declared.campaigning.Run.{Run}
-use Rattle.kmip_runs.specs.declared.campaigning.RunEnd.{RunEnd}
-use Rattle.kmip_runs.specs.declared.campaigning.Start.{Start}
-use Rattle.kmip_runs.specs.declared.campaigning.Start.TheVariants.{Fresh, Same, Saved}
+use Rattle.kmip_runs.specs.declared.run.Run.{Run}
+use Rattle.kmip_runs.specs.declared.run_end.RunEnd.{RunEnd}
+use Rattle.kmip_runs.specs.declared.start.Start.{Start}
+use Rattle.kmip_runs.specs.declared.start.Start.TheVariants.{Fresh, Same, Saved}
 
 -- the saved progress of a number, from 1; none where there is no such one
 abbrev pub saved_numbered : ℕ → List (List Known) → Option (List Known)

@@ -6,8 +6,8 @@ use Rattle.kmip_plan.specs.TargetWords.{target_word}
 use Rattle.kmip_plan.specs.declared.key.Key.{Key}
 use Rattle.kmip_client.specs.Knowledge.{chain_length}
 use Rattle.kmip_client.specs.declared.clash.Clash.TheVariants.{Attributes, State, TwoObjects}
-use Rattle.kmip_client.specs.declared.knowledge.Verdict.{Verdict}
-use Rattle.kmip_client.specs.declared.knowledge.Verdict.TheVariants.{Working, Finished, Conflict}
+use Rattle.kmip_client.specs.declared.verdict.Verdict.{Verdict}
+use Rattle.kmip_client.specs.declared.verdict.Verdict.TheVariants.{Working, Finished, Conflict}
 
 -- how a verdict is printed
 abbrev pub verdict_word : Verdict → List ℕ

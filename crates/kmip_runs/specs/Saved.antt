@@ -13,7 +13,7 @@ use Rattle.kmip_protocol.specs.Past.{Past}
 use Rattle.kmip_runs.specs.Driving.{Learnt}
 use Rattle.kmip_runs.specs.declared.stop.Stop.{Stop}
 use Rattle.kmip_runs.specs.declared.stop.Stop.TheVariants as stops
-use Rattle.kmip_runs.specs.declared.keeper.SaveFault.{SaveFault}
+use Rattle.kmip_runs.specs.declared.save_fault.SaveFault.{SaveFault}
 
 -- What is known at a moment, and all that has happened by then.
 pub record Moment : Type 0 where

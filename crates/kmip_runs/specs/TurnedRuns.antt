@@ -1,6 +1,6 @@
 -- Runs in turn, client by client: what each begins with, what its turns made of that, and what its end shows.
 -- Source: own (view).
-use Rattle.std.specs.Prelude.{◌≡◌, ⊤, ℕ, List, [], ◌∷◌, ◌++◌, length, flat_map, Option, Some, None}
+use Rattle.std.specs.Prelude.{◌≡◌, ⊤, List, [], ◌∷◌, ◌++◌, length, flat_map, Option, Some, None}
 use Rattle.kmip_plan.specs.declared.key.Key.{Key}
 use Rattle.kmip_progress.specs.declared.known.Known.{Known}
 use Rattle.kmip_client.specs.Clients.{ClientState, fresh}
@@ -8,10 +8,10 @@ use Rattle.kmip_client.specs.Saving.{resume}
 use Rattle.kmip_protocol.specs.Past.{Past}
 use Rattle.kmip_runs.specs.Remembering.{Shows, Talk, saved_after, saved_numbered}
 use Rattle.kmip_runs.specs.Turning.{Turns}
-use Rattle.kmip_runs.specs.declared.campaigning.Run.{Run}
-use Rattle.kmip_runs.specs.declared.campaigning.RunEnd.{RunEnd}
-use Rattle.kmip_runs.specs.declared.campaigning.Start.{Start}
-use Rattle.kmip_runs.specs.declared.campaigning.Start.TheVariants.{Fresh, Same, Saved}
+use Rattle.kmip_runs.specs.declared.run.Run.{Run}
+use Rattle.kmip_runs.specs.declared.run_end.RunEnd.{RunEnd}
+use Rattle.kmip_runs.specs.declared.start.Start.{Start}
+use Rattle.kmip_runs.specs.declared.start.Start.TheVariants.{Fresh, Same, Saved}
 
 -- a client that goes on from a saved progress; one that knows nothing where there is none
 abbrev pub resumed_client : List Key → Option (List Known) → ClientState
@@ -54,12 +54,3 @@ pub record AreTurnedFrom (keys : List Key) (carried : List (List Known)) (runs :
   pub sent_are : honest → until.sent ≡ old.sent ++ flat_map (λ talk. talk.questions) talks
   pub handed_are : honest → until.handed ≡ old.handed ++ flat_map (λ talk. talk.answers) talks
   pub no_more : whole → until ≡ new
-
--- Private: a run was noted whose turns made the last client of the first.
-pub record RanTurned (keys : List Key) (first last : ClientState) (honest : Type 0) (old new : Past) (ends later : List RunEnd) : Type 0 where
-  pub end : RunEnd
-  pub talk : Talk
-  pub joined : later ≡ ends ++ end ∷ []
-  pub turned : RunTurned keys first last end talk
-  pub sent_are : honest → new.sent ≡ old.sent ++ talk.questions
-  pub handed_are : honest → new.handed ≡ old.handed ++ talk.answers

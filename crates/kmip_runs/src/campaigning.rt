@@ -1,5 +1,5 @@
 //! Runs in turn over one link, each from nothing, from the run before it or from a saved progress.
-ghost use Rattle.std.specs.Prelude.{◌≡◌, ◌≢◌, ◌≤◌, ◌<◌, ◌⊎◌, ℕ, List, [], ◌++◌, length, filter, take, Some, None, Ok, IfOk, OnErr, OnOk, IfSome, option_map, IsTrue};
+ghost use Rattle.std.specs.Prelude.{◌≡◌, ◌≢◌, ◌<◌, ◌⊎◌, List, [], ◌++◌, length, filter, take, Some, None, Ok, IfOk, OnErr, OnOk, IfSome, option_map, IsTrue};
 ghost use Rattle.std.specs.List.{All, AllZip, Contains};
 ghost use Rattle.kmip_objects.specs.Objects.{Object};
 ghost use Rattle.kmip_messages.specs.Members.{may_have};
@@ -7,29 +7,27 @@ ghost use Rattle.kmip_client.specs.Held.{Held, TrueProgress};
 ghost use Rattle.kmip_progress.specs.Suiting.{Suits};
 ghost use Rattle.kmip_protocol.specs.Machine.{IsMirrored};
 ghost use Rattle.kmip_protocol.specs.Past.{Names, is_planned};
-ghost use Rattle.kmip_protocol.specs.Safe.{Safe};
+ghost use Rattle.kmip_protocol.specs.Headline.{Safe};
 ghost use Rattle.kmip_protocol.specs.Sound.{Opening};
-ghost use Rattle.kmip_runs.specs.Campaign.{CalmLink, GoodLink, HasNoConflict, IsEnd, MayBatch, Settles, reported, saves};
-ghost use Rattle.kmip_runs.specs.CampaignParts.{
-  CampaignLaws,
-  Campaigned,
-  HasRun,
-  HasRunAll,
-  HasSettled,
-  IsBroken,
-  Standing,
-};
+ghost use Rattle.kmip_runs.specs.Campaign.{CalmLink, HasNoConflict, IsEnd, MayBatch, Settles, saves};
+ghost use Rattle.kmip_runs.specs.Headline.{GoodLink, reported};
+ghost use Rattle.kmip_runs.specs.PrivateCampaignParts.{CampaignLaws, Campaigned, HasRun, HasRunAll, HasSettled, IsBroken, Standing};
 ghost use Rattle.kmip_runs.specs.Driving.{KeepsFurther, WentOn};
-ghost use Rattle.kmip_runs.specs.Ending.{AreEnded, EndsJoin};
-ghost use Rattle.kmip_runs.specs.Losing.{AllOutlast, HasOutlasted};
+ghost use Rattle.kmip_runs.specs.Ending.{AreEnded};
+ghost use Rattle.kmip_runs.specs.Private.{EndsJoin};
+ghost use Rattle.kmip_runs.specs.Losing.{AllOutlast};
+ghost use Rattle.kmip_runs.specs.Private.{HasOutlasted};
 ghost use Rattle.kmip_runs.specs.Remembering.{AreKnown, AreKnownFrom, resumed, saved_numbered, start_knowns};
-ghost use Rattle.kmip_runs.specs.TurnedRuns.{AreTurnedFrom, RanTurned, begin_client, resumed_client};
+ghost use Rattle.kmip_runs.specs.TurnedRuns.{AreTurnedFrom, begin_client, resumed_client};
+ghost use Rattle.kmip_runs.specs.Private.{RanTurned};
 
+use crate::campaign_end::CampaignEnd;
 use crate::driving::drive;
 use crate::ending::{close_run, ending_of, note};
-use crate::stop::Stop;
+use crate::run::Run;
+use crate::start::Start;
+use kmip_client::Client;
 use kmip_client::laws::{onward_is_an_order, truth_is_for_good};
-use kmip_client::{Client, Verdict};
 use kmip_plan::Plan;
 use kmip_plan::chain_laws::steps_have_places;
 use kmip_plan::laws::keys_have_names;
@@ -41,51 +39,6 @@ use kmip_protocol::laws::{
 use kmip_protocol::settling_laws::sound_is_ready;
 use kmip_ttlv::NoMemory;
 use std::alloc::Global;
-
-/// What a run begins with.
-#[derive(Clone, Copy)]
-pub enum Start {
-    /// Nothing is known.
-    Fresh,
-    /// What was known at the end of the run before; nothing in the first run.
-    Same,
-    /// The saved progress of this number, from 1; nothing where there is none.
-    Saved(usize),
-}
-
-/// A run: what it begins with, and how many exchanges it may make at most. Each of its messages asks about at
-/// most `batch` keys, 1 to 8. `save` says whether what is known at its end is saved.
-#[derive(Clone, Copy)]
-pub struct Run {
-    pub start: Start,
-    pub limit: usize,
-    pub batch: usize,
-    pub save: bool,
-}
-
-/// How a run ended.
-#[derive(Drop)]
-pub struct RunEnd {
-    /// Why it stopped; never by want of memory.
-    pub stop: Stop,
-    /// How many exchanges it made.
-    pub exchanges: usize,
-    /// How many steps of each key are known to be done, in the order of the plan.
-    pub counts: Vec<usize>,
-    /// The verdict on each key, in the order of the plan.
-    pub verdicts: Vec<Verdict>,
-    /// The report of these counts and verdicts.
-    pub report: String,
-}
-
-/// How a campaign ended: the ends of its runs and what was saved, in order, and whether it ended for want of
-/// memory.
-#[derive(Drop)]
-pub struct CampaignEnd {
-    pub runs: Vec<RunEnd>,
-    pub saved: Vec<Progress>,
-    pub fault: Option<NoMemory>,
-}
 
 /// The headline: makes the runs of a plan in turn over one link, and ends each run over the link. A run
 /// begins with nothing, with what was known at the end of the run before, or with a progress that an earlier

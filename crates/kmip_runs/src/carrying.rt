@@ -8,13 +8,14 @@ ghost use Rattle.kmip_protocol.specs.Ending.{EndedAt};
 ghost use Rattle.kmip_protocol.specs.Past.{Names, is_planned};
 ghost use Rattle.kmip_runs.specs.Driving.{AsksOne, IsGood, IsSettling, Nearer, need, WentOn, Learnt, LearntUntil, Grown, Keeps, Stands};
 ghost use Rattle.kmip_runs.specs.Losing.{ArePaid, IsEnough, left_for};
-ghost use Rattle.kmip_runs.specs.Carried.{Carried, CarryingLaws};
+ghost use Rattle.kmip_runs.specs.PrivateCarried.{Carried, CarryingLaws};
 ghost use Rattle.kmip_runs.specs.Refusals.{HasRisen};
 ghost use Rattle.kmip_runs.specs.Saved.{AreSaved, IsInMemory, IsLeft, IsWhole, moment};
 
-use crate::keeper::{Keeper, SaveFault};
+use crate::keeper::Keeper;
 use crate::patience::Patience;
-use crate::sight::Sights;
+use crate::save_fault::SaveFault;
+use crate::sights::Sights;
 use crate::{Stop, close_run, drive};
 use kmip_client::Client;
 use kmip_client::laws::{

@@ -9,30 +9,14 @@ ghost use Rattle.kmip_client.specs.Justified.{JustifiedMessage};
 ghost use Rattle.kmip_client.specs.Truth.{TrueMessage};
 ghost use Rattle.kmip_plan.specs.Chains.{bound};
 ghost use Rattle.kmip_protocol.specs.Past.{Names, is_planned};
-ghost use Rattle.kmip_runs.specs.Driving.{
-  AsksOne,
-  IsBrokenOff,
-  IsGood,
-  IsSettling,
-  IsToBePut,
-  IsUntouched,
-  IsComplete,
-  KeepsFurther,
-  need,
-  AreParts,
-  Nearer,
-  WentOn,
-  Learnt,
-  LearntUntil,
-  Grown,
-  Keeps,
-  Stands,
-};
+ghost use Rattle.kmip_runs.specs.Driving.{AsksOne, IsGood, IsSettling, IsUntouched, IsComplete, KeepsFurther, need, Nearer, WentOn, Learnt, LearntUntil, Grown, Keeps, Stands};
+ghost use Rattle.kmip_runs.specs.Private.{IsBrokenOff, IsToBePut, AreParts};
 ghost use Rattle.kmip_client.specs.Known.{facts};
 ghost use Rattle.kmip_protocol.specs.Past.{Past};
-ghost use Rattle.kmip_runs.specs.Lawbook.{Lawbook};
+ghost use Rattle.kmip_runs.specs.PrivateLawbook.{Lawbook};
 ghost use Rattle.kmip_runs.specs.Losing.{ArePaid, IsEnough, left_for};
-ghost use Rattle.kmip_runs.specs.Turning.{IsAnswered, IsGivenUp, IsTurned, TakesTurn, messages_made};
+ghost use Rattle.kmip_runs.specs.Private.{IsAnswered, IsGivenUp, TakesTurn, messages_made};
+ghost use Rattle.kmip_runs.specs.Turning.{IsTurned};
 ghost use Rattle.kmip_protocol.specs.Needs.{chains_and_looks};
 ghost use Rattle.kmip_protocol.specs.Turns.{answers_part, is_unanswered, lost_each, taught, taught_by};
 

@@ -7,10 +7,12 @@ ghost use Rattle.kmip_progress.specs.Suiting.{Suits};
 ghost use Rattle.kmip_protocol.specs.Ending.{EndedAt};
 ghost use Rattle.kmip_protocol.specs.Moves.{Delivered};
 ghost use Rattle.kmip_protocol.specs.Past.{Names};
-ghost use Rattle.kmip_runs.specs.CampaignParts.{AreSame, HasRoom, IsEnding, IsEndOf, saved_with};
+ghost use Rattle.kmip_runs.specs.PrivateCampaignParts.{AreSame, HasRoom, IsEnding, IsEndOf, saved_with};
 
-use crate::campaigning::{CampaignEnd, Run, RunEnd};
+use crate::campaign_end::CampaignEnd;
 use crate::reporting::report_of;
+use crate::run::Run;
+use crate::run_end::RunEnd;
 use crate::stop::Stop;
 use kmip_client::Client;
 use kmip_progress::Progress;

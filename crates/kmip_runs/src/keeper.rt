@@ -1,11 +1,11 @@
 //! Who keeps the texts that are saved.
 ghost use Rattle.std.specs.Prelude.{◌≡◌, ◌≤◌, ◌++◌, ◌∷◌, [], ℕ, List, IfErr, OnErr, OnOk};
 ghost use Rattle.kmip_runs.specs.Refusals.{HasRisen};
-ghost use Rattle.kmip_runs.specs.declared.keeper.SaveFault.TheVariants as faults;
+ghost use Rattle.kmip_runs.specs.declared.save_fault.SaveFault.TheVariants as faults;
 
+use crate::save_fault::SaveFault;
 use kmip_ttlv::NoMemory;
 use std::alloc::Global;
-use thiserror::Error;
 
 /// Keeps a text, in place of the one before it. It says of itself which texts it saved, and whether it
 /// keeps what it is given.
@@ -37,22 +37,4 @@ pub trait Keeper {
         // 2^64 - 1.
         ensures output { IfErr result (λ fault. fault ≡ SaveFault.Output
             → HasRisen (refusals self.old) (refusals self.new)) };
-}
-
-/// Why a text was not saved.
-#[derive(Clone, Copy, Debug, Error)]
-pub enum SaveFault {
-    /// It could not be written.
-    #[error("the text could not be written")]
-    Output,
-    #[error("no memory")]
-    NoMemory,
-}
-
-impl From<NoMemory> for SaveFault {
-    ghost from_gives = { λ _ e. e ≡ faults.NoMemory };
-
-    fn from(_e: NoMemory) -> SaveFault {
-        SaveFault::NoMemory
-    }
 }

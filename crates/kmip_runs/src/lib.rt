@@ -42,29 +42,44 @@
 //! Carries out a plan over a link, and saves what is known after each exchange.
 #![tactic(auto)]
 
+mod campaign_end;
 mod campaigning;
 mod carrying;
 mod driving;
 mod ending;
 mod keeper;
-mod observing;
+mod observed;
+mod observer;
+mod pace;
 mod patience;
 mod prolonging;
 mod reporting;
+mod run;
+mod run_end;
+mod save_fault;
 mod sight;
+mod sights;
+mod start;
 mod stop;
+mod tireless;
 mod turn_fault;
-mod waiting;
 
-pub use campaigning::{CampaignEnd, Run, RunEnd, Start, campaign};
+pub use campaign_end::CampaignEnd;
+pub use campaigning::campaign;
 pub use carrying::carry_out;
 pub use driving::drive;
 pub use ending::close_run;
-pub use keeper::{Keeper, SaveFault};
+pub use keeper::Keeper;
 pub use kmip_protocol::{Link, LinkFault};
-pub use observing::{Observed, Observer};
-pub use patience::{Patience, Tireless};
+pub use observed::Observed;
+pub use observer::Observer;
+pub use pace::{Pace, next_wait};
+pub use patience::Patience;
 pub use prolonging::campaigns;
 pub use reporting::{finished_count, report};
+pub use run::Run;
+pub use run_end::RunEnd;
+pub use save_fault::SaveFault;
+pub use start::Start;
 pub use stop::Stop;
-pub use waiting::{Pace, next_wait};
+pub use tireless::Tireless;

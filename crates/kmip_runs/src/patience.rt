@@ -1,5 +1,5 @@
 //! How long a run goes on that gets nowhere.
-ghost use Rattle.std.specs.Prelude.{◌≡◌, Bool, not, false, true, IsTrue};
+ghost use Rattle.std.specs.Prelude.{◌≡◌, Bool, not, IsTrue};
 
 use kmip_client::Client;
 
@@ -21,20 +21,4 @@ pub trait Patience {
         ensures says { result ≡ not (has_given_up self.new) }
         // Who has given up never goes on.
         ensures for_good { IsTrue (has_given_up self.old) → IsTrue (has_given_up self.new) };
-}
-
-/// Never waits, and never gives up.
-#[derive(Clone, Copy)]
-pub struct Tireless;
-
-impl Patience for Tireless {
-    ghost use Rattle.std.specs.Prelude.{false};
-
-    ghost has_given_up = { λ patience. false };
-
-    fn exchanged(&mut self, _client: &Client<'_>, _got_on: bool) {}
-
-    fn go_on(&mut self) -> bool {
-        true
-    }
 }

@@ -5,10 +5,11 @@ ghost use Rattle.kmip_plan.specs.Prolonging.{Prolongs};
 ghost use Rattle.kmip_progress.specs.Suiting.{Suits};
 ghost use Rattle.kmip_protocol.specs.Machine.{IsMirrored};
 ghost use Rattle.kmip_protocol.specs.Past.{is_planned};
-ghost use Rattle.kmip_protocol.specs.Safe.{Safe};
+ghost use Rattle.kmip_protocol.specs.Headline.{Safe};
 ghost use Rattle.kmip_protocol.specs.Sound.{Opening};
-ghost use Rattle.kmip_runs.specs.Campaign.{GoodLink, HasNoConflict, MayBatch, reported};
-ghost use Rattle.kmip_runs.specs.CampaignParts.{AreSame, CampaignLaws};
+ghost use Rattle.kmip_runs.specs.Headline.{GoodLink, reported};
+ghost use Rattle.kmip_runs.specs.Campaign.{HasNoConflict, MayBatch};
+ghost use Rattle.kmip_runs.specs.PrivateCampaignParts.{AreSame, CampaignLaws};
 ghost use Rattle.kmip_runs.specs.Campaigns.{
   AreInTurn,
   AreProlonged,
@@ -18,11 +19,14 @@ ghost use Rattle.kmip_runs.specs.Campaigns.{
   carried_over,
   last_plan,
 };
-ghost use Rattle.kmip_runs.specs.CampaignsParts.{HasRunBroken, HasRunPlans, HasRunWhole, IsReadFor, PlansLaws};
+ghost use Rattle.kmip_runs.specs.PrivateCampaignsParts.{HasRunBroken, HasRunPlans, HasRunWhole, IsReadFor, PlansLaws};
 ghost use Rattle.kmip_runs.specs.Driving.{WentOn};
-ghost use Rattle.kmip_runs.specs.Ending.{AreEnded, EndsJoin};
+ghost use Rattle.kmip_runs.specs.Ending.{AreEnded};
+ghost use Rattle.kmip_runs.specs.Private.{EndsJoin};
 
-use crate::campaigning::{CampaignEnd, Run, laws_of_runs, run_all};
+use crate::campaign_end::CampaignEnd;
+use crate::campaigning::{laws_of_runs, run_all};
+use crate::run::Run;
 use kmip_client::laws::{progress_is_true_of_prolonged_plans, prolonged_plans_keep_the_truth};
 use kmip_plan::Plan;
 use kmip_plan::laws::{prolonged_keys_stand, prolonging_may_be_repeated};

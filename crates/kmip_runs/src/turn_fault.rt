@@ -1,6 +1,6 @@
 //! Where memory ran out in a turn.
 ghost use Rattle.std.specs.Prelude.{◌≡◌};
-ghost use Rattle.kmip_runs.specs.Turning.{exchanges_made};
+ghost use Rattle.kmip_runs.specs.Private.{exchanges_made};
 ghost use Rattle.kmip_runs.specs.declared.turn_fault.TurnFault.TheVariants as faults;
 
 use kmip_ttlv::NoMemory;

@@ -5,11 +5,11 @@ use Rattle.std.specs.Result.{result_ok}
 use Rattle.std.proofs.lemmas.Grind.{flat_map-append}
 use Rattle.std.proofs.lemmas.List.Elements.{All-head, All-tail}
 use Rattle.kmip_objects.specs.Objects.{DistinctNames, DistinctUids, Object}
-use Rattle.kmip_objects.specs.declared.state.KeyState.TheVariants.{PreActive}
+use Rattle.kmip_objects.specs.declared.key_state.KeyState.TheVariants.{PreActive}
 use Rattle.kmip_batch_items.specs.BatchItems.{Question}
-use Rattle.kmip_batch_items.specs.declared.reply.Outcome.{Outcome}
+use Rattle.kmip_batch_items.specs.declared.outcome.Outcome.{Outcome}
 use Rattle.kmip_batch_items.specs.declared.reply.Reply.{Reply}
-use Rattle.kmip_batch_items.specs.declared.request.Ask.{Ask}
+use Rattle.kmip_batch_items.specs.declared.ask.Ask.{Ask}
 use Rattle.kmip_batch_items.specs.declared.request.Request.{Request}
 use Rattle.kmip_messages.specs.Items.{parts_in, replies_in, stops_in}
 use Rattle.kmip_messages.specs.Members.{may_have}
@@ -24,8 +24,9 @@ use Rattle.kmip_server.specs.declared.effect.Effect.{Effect}
 use Rattle.kmip_protocol.specs.Calm.{AreTaken, IsTaken}
 use Rattle.kmip_protocol.specs.Moves.{Delivered, Serves, Unanswered}
 use Rattle.kmip_protocol.specs.Past.{Names, Past}
-use Rattle.kmip_scripted.specs.Arriving.{ArrivalLaws}
-use Rattle.kmip_scripted.specs.Scenes.{Scene, WasAsked, past_in}
+use Rattle.kmip_scripted.specs.PrivateArriving.{ArrivalLaws}
+use Rattle.kmip_scripted.specs.Scenes.{Scene, past_in}
+use Rattle.kmip_scripted.specs.Private.{WasAsked}
 use Rattle.kmip_scripted.specs.Serving.{IsHalfServed, with_served}
 
 -- ---- where a message is cut off at once

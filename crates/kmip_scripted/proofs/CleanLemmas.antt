@@ -11,13 +11,14 @@ use Rattle.kmip_protocol.specs.Exchanges.{with_asked}
 use Rattle.kmip_protocol.specs.Laws.{DeliveriesJoin, NothingIsDelivered}
 use Rattle.kmip_protocol.specs.Moves.{Delivered}
 use Rattle.kmip_protocol.specs.Past.{Names}
-use Rattle.kmip_scripted.specs.declared.script.Word.{Word}
-use Rattle.kmip_scripted.specs.declared.script.Word.TheVariants.{Pass, LoseRequest, LoseReply, Cut, Stale, Again, Save, Prolong, Restart}
+use Rattle.kmip_scripted.specs.declared.word.Word.{Word}
+use Rattle.kmip_scripted.specs.declared.word.Word.TheVariants.{Pass, LoseRequest, LoseReply, Cut, Stale, Again, Save, Prolong, Restart}
 use Rattle.kmip_scripted.specs.Counting.{counted, every_name}
 use Rattle.kmip_scripted.specs.Disturbing.{is_disturbed, is_repeated}
-use Rattle.kmip_scripted.specs.Early.{AreOfEarlier, IsEarly, IsOfEarlier, asked_only}
+use Rattle.kmip_scripted.specs.PrivateEarly.{AreOfEarlier, IsEarly, IsOfEarlier, asked_only}
 use Rattle.kmip_scripted.specs.Scenes.{Scene, disturbances_in, past_in, with_disturbances}
-use Rattle.kmip_scripted.specs.Words.{after_word, before_play, exchange_word, first_of, goes_on, message_at, play, played, with_delivered, with_request, with_words, words_after_exchange}
+use Rattle.kmip_scripted.specs.Words.{after_word, before_play, exchange_word, goes_on, message_at, play, played, with_delivered, with_request, with_words, words_after_exchange}
+use Rattle.kmip_scripted.specs.Private.{first_of}
 use Rattle.kmip_scripted.proofs.CountLemmas.{have_room, no_more_strange, played_keeps, prepared_keeps}
 use Rattle.kmip_scripted.proofs.FollowLemmas.{asked_past, handed}
 use Rattle.kmip_scripted.proofs.WordLemmas.{by_other, by_test}

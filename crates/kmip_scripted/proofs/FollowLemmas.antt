@@ -10,11 +10,12 @@ use Rattle.kmip_protocol.specs.Clean.{Disturbances, strange_handed}
 use Rattle.kmip_protocol.specs.Exchanges.{AreGiven, HandsOver, with_asked}
 use Rattle.kmip_protocol.specs.Moves.{Delivered}
 use Rattle.kmip_protocol.specs.Past.{Names}
-use Rattle.kmip_scripted.specs.declared.script.Word.{Word}
-use Rattle.kmip_scripted.specs.declared.script.Word.TheVariants.{Pass, LoseRequest, LoseReply, Cut, Stale, Again, Save, Prolong, Restart}
+use Rattle.kmip_scripted.specs.declared.word.Word.{Word}
+use Rattle.kmip_scripted.specs.declared.word.Word.TheVariants.{Pass, LoseRequest, LoseReply, Cut, Stale, Again, Save, Prolong, Restart}
 use Rattle.kmip_scripted.specs.Counting.{counted, every_name}
 use Rattle.kmip_scripted.specs.Disturbing.{is_disturbed, is_repeated}
-use Rattle.kmip_scripted.specs.Scenes.{Scene, WasAsked, disturbances_in, past_in, with_disturbances}
+use Rattle.kmip_scripted.specs.Scenes.{Scene, disturbances_in, past_in, with_disturbances}
+use Rattle.kmip_scripted.specs.Private.{WasAsked}
 use Rattle.kmip_scripted.specs.Words.{AreBegun, IsBegun, after_words, before_play, exchange, exchange_word, message_at, play, played, with_request, with_words, words_after_exchange}
 use Rattle.kmip_scripted.proofs.WordLemmas.{half_played_is, said_by_number}
 

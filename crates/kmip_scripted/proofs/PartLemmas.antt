@@ -4,8 +4,8 @@ use Rattle.std.specs.List.{position, position_or_len}
 use Rattle.std.proofs.lemmas.Bool.{cases_Bool, cond-true, ltb-false}
 use Rattle.std.proofs.lemmas.List.{drop_all, take_all}
 use Rattle.std.proofs.lemmas.Option.{cond_some, none-some}
-use Rattle.kmip_runs.specs.declared.campaigning.Run.{Run}
-use Rattle.kmip_scripted.specs.declared.script.Word.{Word}
+use Rattle.kmip_runs.specs.declared.run.Run.{Run}
+use Rattle.kmip_scripted.specs.declared.word.Word.{Word}
 use Rattle.kmip_scripted.specs.Runs.{with_last_saved, words_before, words_behind}
 use Rattle.kmip_scripted.specs.Words.{is_prolong}
 

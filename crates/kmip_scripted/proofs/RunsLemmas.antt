@@ -2,16 +2,17 @@
 use Rattle.std.proofs.Common.{◌≡◌, ◌≤◌, ◌<◌, ◌+◌, ℕ, Bool, true, false, List, [], ◌∷◌, ◌++◌, drop, length, get_or, Option, Result, Ok, Err, IfOk, IsTrue, rules, refl, sym, ap, subst, ◌∙◌, arith, append_assoc, ◌⊎◌, inl, inr}
 use Rattle.std.proofs.lemmas.List.{drop_more, drop_all}
 use Rattle.std.proofs.lemmas.List.Elements.{All-cons, All-head, All-nil, All-tail}
-use Rattle.kmip_runs.specs.declared.campaigning.Run.{Run}
-use Rattle.kmip_runs.specs.declared.campaigning.Start.{Start}
-use Rattle.kmip_runs.specs.declared.campaigning.Start.TheVariants.{Fresh, Same}
+use Rattle.kmip_runs.specs.declared.run.Run.{Run}
+use Rattle.kmip_runs.specs.declared.start.Start.{Start}
+use Rattle.kmip_runs.specs.declared.start.Start.TheVariants.{Fresh, Same}
 use Rattle.kmip_runs.specs.Campaign.{MayBatch}
 use Rattle.kmip_messages.specs.Members.{may_have}
 use Rattle.kmip_scripted.specs.declared.runs.Part.{Part}
-use Rattle.kmip_scripted.specs.declared.script.Word.{Word}
-use Rattle.kmip_scripted.specs.declared.script.Word.TheVariants as words
-use Rattle.kmip_scripted.specs.declared.script.Word.TheVariants.{Restart}
-use Rattle.kmip_scripted.specs.Runs.{grown, left_of, runs_from, start_at, with_last_saved, with_word}
+use Rattle.kmip_scripted.specs.declared.word.Word.{Word}
+use Rattle.kmip_scripted.specs.declared.word.Word.TheVariants as words
+use Rattle.kmip_scripted.specs.declared.word.Word.TheVariants.{Restart}
+use Rattle.kmip_scripted.specs.Private.{grown, left_of}
+use Rattle.kmip_scripted.specs.Runs.{runs_from, start_at, with_last_saved, with_word}
 
 -- no exchange more
 pub grown_none : (runs : List Run) → grown 0 runs ≡ runs

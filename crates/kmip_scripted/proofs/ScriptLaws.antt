@@ -5,9 +5,9 @@ use Rattle.std.proofs.lemmas.Bool.{cases_Bool}
 use Rattle.std.proofs.lemmas.Bool.Decides.{nat_tests}
 use Rattle.kmip_scripted.specs.ScriptReading.{GivesScript, followed_by, script_read, with_front, word_in, word_or_fault, words_from, words_of_line}
 use Rattle.kmip_scripted.specs.ScriptTexts.{FailsAt, IsNoWord, IsScript, Say, lines_in, most_lines}
-use Rattle.kmip_scripted.specs.declared.fault.ScriptFault.{ScriptFault}
-use Rattle.kmip_scripted.specs.declared.fault.ScriptFault.TheVariants.{Line}
-use Rattle.kmip_scripted.specs.declared.script.Word.{Word}
+use Rattle.kmip_scripted.specs.declared.script_fault.ScriptFault.{ScriptFault}
+use Rattle.kmip_scripted.specs.declared.script_fault.ScriptFault.TheVariants.{Line}
+use Rattle.kmip_scripted.specs.declared.word.Word.{Word}
 use Rattle.kmip_scripted.proofs.ScriptLemmas.{is_word, no_word, none_without, read_here, word_is}
 
 abbrev ok : List Word → Result (List Word) ScriptFault

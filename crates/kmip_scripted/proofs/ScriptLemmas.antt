@@ -14,10 +14,10 @@ use Rattle.std.proofs.lemmas.Str.Parse.{IsNumeralModel, digits_value_short, nume
 use Rattle.kmip_plan.specs.TargetWords.{is_text}
 use Rattle.kmip_scripted.specs.ScriptReading.{at_space, before_space, followed_by, number_in, numbered_word, plain_word, restart_in, with_front, word_by, word_in, words_from, words_of_line}
 use Rattle.kmip_scripted.specs.ScriptTexts.{IsNumber, IsNumbered, IsWord, is_digit, lines_in, most_lines, value_behind, without_empty_end}
-use Rattle.kmip_scripted.specs.declared.fault.ScriptFault.{ScriptFault}
-use Rattle.kmip_scripted.specs.declared.fault.ScriptFault.TheVariants.{Line}
-use Rattle.kmip_scripted.specs.declared.script.Word.{Word}
-use Rattle.kmip_scripted.specs.declared.script.Word.TheVariants.{Pass, LoseRequest, LoseReply, Cut, Stale, Again, Save, Prolong, Restart}
+use Rattle.kmip_scripted.specs.declared.script_fault.ScriptFault.{ScriptFault}
+use Rattle.kmip_scripted.specs.declared.script_fault.ScriptFault.TheVariants.{Line}
+use Rattle.kmip_scripted.specs.declared.word.Word.{Word}
+use Rattle.kmip_scripted.specs.declared.word.Word.TheVariants.{Pass, LoseRequest, LoseReply, Cut, Stale, Again, Save, Prolong, Restart}
 
 same_text : (s t : List ℕ) → is_text s t ≡ true → s ≡ t
 same_text s t h = (bytes_eq-Decides s t).0 h

@@ -1,11 +1,11 @@
 -- The runs of a script split as the link takes its words.
 use Rattle.std.proofs.Common.{◌≡◌, ℕ, Bool, nat_le, true, false, if◌then◌else◌, List, [], ◌∷◌, drop, length, refl, sym, ap, ◌∙◌}
 use Rattle.std.specs.List.{list_any}
-use Rattle.kmip_runs.specs.declared.campaigning.Run.{Run}
-use Rattle.kmip_runs.specs.declared.campaigning.Start.{Start}
-use Rattle.kmip_runs.specs.declared.campaigning.Start.TheVariants.{Same}
-use Rattle.kmip_scripted.specs.declared.script.Word.{Word}
-use Rattle.kmip_scripted.specs.declared.script.Word.TheVariants.{Pass, LoseRequest, LoseReply, Cut, Stale, Again, Save, Prolong, Restart}
+use Rattle.kmip_runs.specs.declared.run.Run.{Run}
+use Rattle.kmip_runs.specs.declared.start.Start.{Start}
+use Rattle.kmip_runs.specs.declared.start.Start.TheVariants.{Same}
+use Rattle.kmip_scripted.specs.declared.word.Word.{Word}
+use Rattle.kmip_scripted.specs.declared.word.Word.TheVariants.{Pass, LoseRequest, LoseReply, Cut, Stale, Again, Save, Prolong, Restart}
 use Rattle.kmip_scripted.specs.Laws.{EndsStay, HeadsMakeNoRun, RunsGoOn}
 use Rattle.kmip_scripted.specs.Runs.{runs_from, start_at, with_word}
 use Rattle.kmip_scripted.specs.Scenes.{Scene}

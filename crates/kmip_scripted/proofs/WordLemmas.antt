@@ -5,11 +5,13 @@ use Rattle.std.proofs.lemmas.Bool.{cases_Bool}
 use Rattle.std.proofs.lemmas.List.Elements.{All-contains_itself, All-weaker, Contains-append_left, Contains-append_right}
 use Rattle.std.proofs.lemmas.Option.{same_Some}
 use Rattle.kmip_messages.specs.Items.{requests_in}
-use Rattle.kmip_scripted.specs.declared.script.Word.{Word}
-use Rattle.kmip_scripted.specs.declared.script.Word.TheVariants.{Pass, LoseRequest, LoseReply, Cut, Stale, Again, Save, Prolong, Restart}
-use Rattle.kmip_scripted.specs.Scenes.{Scene, WasAsked}
+use Rattle.kmip_scripted.specs.declared.word.Word.{Word}
+use Rattle.kmip_scripted.specs.declared.word.Word.TheVariants.{Pass, LoseRequest, LoseReply, Cut, Stale, Again, Save, Prolong, Restart}
+use Rattle.kmip_scripted.specs.Scenes.{Scene}
+use Rattle.kmip_scripted.specs.Private.{WasAsked}
 use Rattle.kmip_scripted.specs.Serving.{IsHalfServed}
-use Rattle.kmip_scripted.specs.Words.{AreBegun, HasStopped, IsHalfDelivered, IsHalfDone, IsHalfPlayed, StepsOn, after_word, after_words, first_of, goes_on, is_restart, message_at, next_words, with_delivered, with_words}
+use Rattle.kmip_scripted.specs.Words.{AreBegun, IsHalfDelivered, IsHalfDone, IsHalfPlayed, after_word, after_words, goes_on, is_restart, message_at, next_words, with_delivered, with_words}
+use Rattle.kmip_scripted.specs.Private.{HasStopped, StepsOn, first_of}
 
 pub next_restart : (words : List Word) (word : Word) → Some word ≡ first_of words → is_restart word ≡ true → next_words (drop 1 words) ≡ next_words words
 next_restart [] word first is = absurd cc

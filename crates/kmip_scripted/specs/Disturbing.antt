@@ -2,8 +2,8 @@
 -- Source: own (choice): the standard does not say when an exchange goes amiss.
 use Rattle.std.specs.Prelude.{◌==◌, ◌+◌, ℕ, Bool, true, false, not, ◌||◌, List, [], ◌∷◌, Option}
 use Rattle.kmip_scripted.specs.Counting as losses
-use Rattle.kmip_scripted.specs.declared.script.Word.{Word}
-use Rattle.kmip_scripted.specs.declared.script.Word.TheVariants.{Pass, Again}
+use Rattle.kmip_scripted.specs.declared.word.Word.{Word}
+use Rattle.kmip_scripted.specs.declared.word.Word.TheVariants.{Pass, Again}
 
 -- Whether the word is `pass`.
 abbrev pub is_pass : Word → Bool

@@ -1,8 +1,8 @@
 -- The number and the name of each fault of a script.
 -- Source: own (fault): the standard knows no scripts.
 use Rattle.std.specs.Prelude.{ℕ, List, codes}
-use Rattle.kmip_scripted.specs.declared.fault.ScriptFault.{ScriptFault}
-use Rattle.kmip_scripted.specs.declared.fault.ScriptFault.TheVariants.{Line, NoMemory}
+use Rattle.kmip_scripted.specs.declared.script_fault.ScriptFault.{ScriptFault}
+use Rattle.kmip_scripted.specs.declared.script_fault.ScriptFault.TheVariants.{Line, NoMemory}
 
 -- The number of a fault.
 abbrev pub script_fault_number : ScriptFault → ℕ

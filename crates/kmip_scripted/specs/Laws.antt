@@ -2,8 +2,8 @@
 -- Source: own (law): the table of a script's words.
 use Rattle.std.specs.Prelude.{◌≡◌, ℕ, true, false, List, drop}
 use Rattle.std.specs.List.{list_any}
-use Rattle.kmip_runs.specs.declared.campaigning.Start.{Start}
-use Rattle.kmip_scripted.specs.declared.script.Word.{Word}
+use Rattle.kmip_runs.specs.declared.start.Start.{Start}
+use Rattle.kmip_scripted.specs.declared.word.Word.{Word}
 use Rattle.kmip_scripted.specs.Runs.{runs_from}
 use Rattle.kmip_scripted.specs.Scenes.{Scene}
 use Rattle.kmip_scripted.specs.Words.{after_run, ends_run, exchange, next_words}

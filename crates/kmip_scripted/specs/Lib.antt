@@ -27,6 +27,8 @@ pub mod Faults
 -- what reading a script gives, line by line
 pub mod ScriptReading
 -- private: the laws that the arrival of a message rests on
-pub mod Arriving
+pub mod PrivateArriving
 -- private: what may have happened before a message was asked
-pub mod Early
+pub mod PrivateEarly
+-- private: what only the clauses of private functions cite
+pub mod Private

@@ -5,12 +5,11 @@ use Rattle.std.specs.Prelude.{ℕ, ◌+◌, Bool, true, false, List, [], ◌∷�
 use Rattle.kmip_plan.specs.Chains.{bound}
 use Rattle.kmip_plan.specs.declared.key.Key.{Key}
 use Rattle.kmip_runs.specs.Campaign.{saves}
-use Rattle.kmip_runs.specs.declared.campaigning.Run.{Run}
-use Rattle.kmip_runs.specs.declared.campaigning.Start.{Start}
-use Rattle.kmip_runs.specs.declared.campaigning.Start.TheVariants.{Fresh, Same, Saved}
-use Rattle.kmip_scripted.specs.declared.runs.Part.{Part}
-use Rattle.kmip_scripted.specs.declared.script.Word.{Word}
-use Rattle.kmip_scripted.specs.declared.script.Word.TheVariants.{Save, Prolong, Restart}
+use Rattle.kmip_runs.specs.declared.run.Run.{Run}
+use Rattle.kmip_runs.specs.declared.start.Start.{Start}
+use Rattle.kmip_runs.specs.declared.start.Start.TheVariants.{Fresh, Same, Saved}
+use Rattle.kmip_scripted.specs.declared.word.Word.{Word}
+use Rattle.kmip_scripted.specs.declared.word.Word.TheVariants.{Save, Prolong, Restart}
 use Rattle.kmip_scripted.specs.Words.{is_exchange, is_prolong}
 
 -- What a run begins with after `restart`: nothing, or the save of a number.
@@ -68,12 +67,3 @@ runs_behind keys words = runs_from (bound keys) false (Saved (length (filter sav
 -- The runs of a script with one `prolong`: those before it, and those after it for a further plan.
 abbrev pub lists_of : List Key → List Word → List (List Run)
 lists_of keys words = runs_before words ∷ runs_behind keys words ∷ []
-
--- Private: the first run may make `count` exchanges more.
-abbrev pub grown : ℕ → List Run → List Run
-grown count [] = []
-grown count (run ∷ runs) = record run { limit = count + run.limit } ∷ runs
-
--- Private: the runs of the words that are left, where some of the first run's are taken.
-abbrev pub left_of : ℕ → Part → List Word → List Run
-left_of more part words = grown part.limit (runs_from more part.begun part.start words)

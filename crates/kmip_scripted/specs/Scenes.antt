@@ -2,14 +2,14 @@
 -- words of its script that are left; and what that says of the past.
 -- Source: own (view), over KMIP 2.1, Message Structure.
 use Rattle.std.specs.Prelude.{ℕ, List, [], Option}
-use Rattle.std.specs.List.{All, Contains, flat_map}
+use Rattle.std.specs.List.{flat_map}
 use Rattle.kmip_messages.specs.Items.{replies_in, requests_in}
 use Rattle.kmip_server.specs.Shown.{objects_in, room_in}
 use Rattle.kmip_store.specs.Stock.{Stock}
 use Rattle.kmip_server.specs.declared.effect.Effect.{Effect}
 use Rattle.kmip_protocol.specs.Clean.{Disturbances}
 use Rattle.kmip_protocol.specs.Past.{Past}
-use Rattle.kmip_scripted.specs.declared.script.Word.{Word}
+use Rattle.kmip_scripted.specs.declared.word.Word.{Word}
 
 -- What a link in memory holds.
 pub record Scene : Type 0 where
@@ -71,7 +71,3 @@ disturbances_in s = record { disturbed = s.disturbed; requests = s.disturbed_req
 -- The link with other counts of what was disturbed.
 abbrev pub with_disturbances : Disturbances → Scene → Scene
 with_disturbances d s = record s { disturbed = d.disturbed; disturbed_requests = d.requests; strange = d.strange }
-
--- Private: the requests of a message were all asked.
-abbrev pub WasAsked : List ℕ → Scene → Type 0
-WasAsked message s = All (Contains (past_in s).requests) (requests_in message)

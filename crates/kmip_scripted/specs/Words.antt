@@ -1,13 +1,13 @@
 -- What each word of a script does, and so what an exchange and the end of a run do, word by word.
 -- Source: own (text): the standard knows no scripts. `AreBegun` and `IsBegun` are own (view).
-use Rattle.std.specs.Prelude.{◌≡◌, ◌⊎◌, ◌==◌, ◌-◌, ◌<◌, ℕ, nat_le, pos, Bool, true, false, not, ◌&&◌, List, [], ◌∷◌, ◌++◌, filter, length, Option, Some, None, if◌then◌else◌}
+use Rattle.std.specs.Prelude.{◌≡◌, ◌⊎◌, ◌==◌, ◌-◌, ℕ, nat_le, pos, Bool, true, false, not, ◌&&◌, List, [], ◌∷◌, ◌++◌, filter, length, Option, Some, None, if◌then◌else◌}
 use Rattle.std.specs.List.{slice_get}
 use Rattle.std.specs.Option.{option_flatten}
 use Rattle.kmip_messages.specs.Items.{requests_in}
 use Rattle.kmip_server.specs.Batching.{batch_reply}
 use Rattle.kmip_protocol.specs.Clean.{strange_handed}
-use Rattle.kmip_scripted.specs.declared.script.Word.{Word}
-use Rattle.kmip_scripted.specs.declared.script.Word.TheVariants.{Pass, LoseRequest, LoseReply, Cut, Stale, Again, Save, Prolong, Restart}
+use Rattle.kmip_scripted.specs.declared.word.Word.{Word}
+use Rattle.kmip_scripted.specs.declared.word.Word.TheVariants.{Pass, LoseRequest, LoseReply, Cut, Stale, Again, Save, Prolong, Restart}
 use Rattle.kmip_scripted.specs.Counting.{counted, every_name}
 use Rattle.kmip_scripted.specs.Disturbing.{is_disturbed, is_repeated}
 use Rattle.kmip_scripted.specs.Scenes.{Scene, disturbances_in, with_disturbances}
@@ -190,19 +190,3 @@ with_ended s = record s { ended = s.ended ++ length s.sent ∷ [] }
 -- dropped, the end is noted, and the word that ends it is taken.
 abbrev pub after_run : Scene → Scene
 after_run s = with_words (words_after_run (after_words true s.words s).words) (with_ended (after_words true s.words s))
-
--- Private: the first word, where there is one.
-abbrev pub first_of : List Word → Option Word
-first_of [] = None
-first_of (word ∷ words) = Some word
-
--- Private: one more word was done, and what the others will do is the same.
-pub record StepsOn (at_end : Bool) (old new : Scene) : Type 0 where
-  pub all : after_words at_end new.words new ≡ after_words at_end old.words old
-  pub begun : (last : Scene) → AreBegun at_end new.words new last → AreBegun at_end old.words old last
-  pub shorter : length new.words < length old.words
-
--- Private: no word goes on.
-pub record HasStopped (at_end : Bool) (old new : Scene) : Type 0 where
-  pub same : new ≡ old
-  pub is : new ≡ after_words at_end old.words old

@@ -6,7 +6,7 @@ ghost use Rattle.kmip_protocol.specs.Clean.{strange_handed};
 ghost use Rattle.kmip_scripted.specs.Disturbing.{is_disturbed, is_pass, is_repeated};
 
 use crate::Counts;
-use crate::script::Word;
+use crate::word::Word;
 use kmip_ttlv::NoMemory;
 use std::alloc::Global;
 use std::collections::VecDeque;

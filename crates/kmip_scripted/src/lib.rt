@@ -8,21 +8,23 @@
 //! about other keys than those that were asked about.
 #![tactic(auto)]
 
-mod counting;
+mod counts;
 mod disturbing;
-mod fault;
 mod following;
 pub mod laws;
 mod link;
 mod reading;
 mod runs;
 mod script;
+mod script_fault;
 mod scripted;
 mod serving;
+mod word;
 mod words;
 
-pub use counting::{Counts, counts_after};
-pub use fault::ScriptFault;
+pub use counts::{Counts, counts_after};
 pub use reading::read_script;
-pub use script::{Script, Word};
+pub use script::Script;
+pub use script_fault::ScriptFault;
 pub use scripted::Scripted;
+pub use word::Word;

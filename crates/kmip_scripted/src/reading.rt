@@ -3,11 +3,12 @@ ghost use Rattle.std.specs.Prelude.{◌≡◌, ◌<◌, ◌++◌, ◌∷◌, Lis
 ghost use Rattle.std.specs.List.{list_all};
 ghost use Rattle.kmip_scripted.specs.ScriptReading.{FailsScript, GivesScript, number_in, numbered_word, plain_word, restart_in, script_read, word_in, words_of_line};
 ghost use Rattle.kmip_scripted.specs.ScriptTexts.{FailsAt, IsScript, is_digit, lines_in};
-ghost use Rattle.kmip_scripted.specs.declared.fault.ScriptFault.TheVariants.{Line};
-ghost use Rattle.kmip_scripted.specs.declared.script.Word.{Word as WordLem};
+ghost use Rattle.kmip_scripted.specs.declared.script_fault.ScriptFault.TheVariants.{Line};
+ghost use Rattle.kmip_scripted.specs.declared.word.Word.{Word as WordLem};
 
-use crate::fault::ScriptFault;
-use crate::script::{Script, Word};
+use crate::script::Script;
+use crate::script_fault::ScriptFault;
+use crate::word::Word;
 use std::alloc::Global;
 
 /// The most lines that a script may have (own).

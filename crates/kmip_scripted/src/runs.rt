@@ -3,12 +3,14 @@ ghost use Rattle.std.specs.Prelude.{◌≡◌, ◌≤◌, ◌<◌, ◌+◌, ◌*
 ghost use Rattle.std.specs.List.{All, position};
 ghost use Rattle.kmip_plan.specs.Limits.{most_keys};
 ghost use Rattle.kmip_runs.specs.Campaign.{MayBatch, saves};
-ghost use Rattle.kmip_runs.specs.declared.campaigning.Start.TheVariants.{Fresh};
-ghost use Rattle.kmip_scripted.specs.Runs.{left_of, lists_of, runs_from, runs_of, start_at, with_last_saved, words_before, words_behind};
+ghost use Rattle.kmip_runs.specs.declared.start.Start.TheVariants.{Fresh};
+ghost use Rattle.kmip_scripted.specs.Private.{left_of};
+ghost use Rattle.kmip_scripted.specs.Runs.{lists_of, runs_from, runs_of, start_at, with_last_saved, words_before, words_behind};
 ghost use Rattle.kmip_scripted.specs.Words.{is_prolong, prolongings};
-ghost use Rattle.kmip_scripted.specs.declared.script.Word.{Word as WordLem};
+ghost use Rattle.kmip_scripted.specs.declared.word.Word.{Word as WordLem};
 
-use crate::script::{Script, Word};
+use crate::script::Script;
+use crate::word::Word;
 use crate::words::is_prolong;
 use kmip_plan::{Plan, bound};
 use kmip_runs::{Run, Start};

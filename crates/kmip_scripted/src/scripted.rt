@@ -9,15 +9,18 @@ ghost use Rattle.kmip_protocol.specs.Moves.{Delivered};
 ghost use Rattle.kmip_protocol.specs.Past.{Names};
 ghost use Rattle.kmip_scripted.specs.Counting.{counted, every_name};
 ghost use Rattle.kmip_scripted.specs.Disturbing.{is_disturbed, is_repeated};
-ghost use Rattle.kmip_scripted.specs.Early.{asked_only};
-ghost use Rattle.kmip_scripted.specs.Scenes.{WasAsked, disturbances_in, past_in, scene_of, with_disturbances};
+ghost use Rattle.kmip_scripted.specs.PrivateEarly.{asked_only};
+ghost use Rattle.kmip_scripted.specs.Private.{WasAsked};
+ghost use Rattle.kmip_scripted.specs.Scenes.{disturbances_in, past_in, scene_of, with_disturbances};
 ghost use Rattle.kmip_scripted.specs.Serving.{IsHalfServed, with_served};
-ghost use Rattle.kmip_scripted.specs.Words.{answer_at, exchange_word, first_of, message_at, word_at, next_words, with_ended, with_request, with_words, words_after_exchange, words_after_run};
+ghost use Rattle.kmip_scripted.specs.Words.{answer_at, exchange_word, message_at, word_at, next_words, with_ended, with_request, with_words, words_after_exchange, words_after_run};
+ghost use Rattle.kmip_scripted.specs.Private.{first_of};
 
 use crate::Counts;
 use crate::disturbing::{counts_after, is_repeated};
-use crate::script::{Script, Word};
+use crate::script::Script;
 use crate::serving::{arrival_laws, serve_logged};
+use crate::word::Word;
 use crate::words::{
     first_word, next_exchange_word, take_ending_word, take_exchange_word, take_restarts,
 };

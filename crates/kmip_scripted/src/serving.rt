@@ -3,7 +3,7 @@ ghost use Rattle.std.specs.Prelude.{◌≡◌, ◌++◌, [], ◌∷◌, pos, OnE
 ghost use Rattle.kmip_messages.specs.Items.{parts_in, replies_in, stops_in};
 ghost use Rattle.kmip_server.specs.Batching.{AreBegun, AreServedInTurn, GrownBy, batch_reply, effects_in, stock_after_batch};
 ghost use Rattle.kmip_server.specs.Shown.{HasLawfulObjects};
-ghost use Rattle.kmip_scripted.specs.Arriving.{ArrivalLaws};
+ghost use Rattle.kmip_scripted.specs.PrivateArriving.{ArrivalLaws};
 
 use kmip_messages::laws::question_laws;
 use kmip_objects::laws::{added_laws, restated_laws};

@@ -1,8 +1,9 @@
 //! The words of a script that are left, as they are taken.
 ghost use Rattle.std.specs.Prelude.{◌≡◌};
-ghost use Rattle.kmip_scripted.specs.Words.{exchange_word, first_of, goes_on, is_exchange, is_prolong, is_restart, next_words, words_after_exchange, words_after_run};
+ghost use Rattle.kmip_scripted.specs.Words.{exchange_word, goes_on, is_exchange, is_prolong, is_restart, next_words, words_after_exchange, words_after_run};
+ghost use Rattle.kmip_scripted.specs.Private.{first_of};
 
-use crate::script::Word;
+use crate::word::Word;
 use std::collections::VecDeque;
 
 /// Whether the word starts the next run from a save or from nothing.

@@ -7,13 +7,13 @@ use Rattle.std.proofs.lemmas.List.Folds.{find-append, list_any-append}
 use Rattle.std.proofs.lemmas.Option.{none-some, same_Some}
 use Rattle.std.proofs.lemmas.Slice.Eq.{bytes_eq-Decides}
 use Rattle.kmip_objects.specs.Lifecycle.{after}
-use Rattle.kmip_batch_items.specs.declared.reply.Outcome.{Outcome}
-use Rattle.kmip_batch_items.specs.declared.reply.Outcome.TheVariants.{Activated, Revoked, Destroyed}
-use Rattle.kmip_batch_items.specs.declared.request.Ask.{Ask}
-use Rattle.kmip_batch_items.specs.declared.request.Ask.TheVariants.{Create, Locate, GetAttributes, Activate, Revoke, Destroy}
-use Rattle.kmip_objects.specs.declared.attributes.KeyAttrs.{KeyAttrs}
-use Rattle.kmip_objects.specs.declared.state.KeyState.{KeyState}
-use Rattle.kmip_objects.specs.declared.state.KeyState.TheVariants as states
+use Rattle.kmip_batch_items.specs.declared.outcome.Outcome.{Outcome}
+use Rattle.kmip_batch_items.specs.declared.outcome.Outcome.TheVariants.{Activated, Revoked, Destroyed}
+use Rattle.kmip_batch_items.specs.declared.ask.Ask.{Ask}
+use Rattle.kmip_batch_items.specs.declared.ask.Ask.TheVariants.{Create, Locate, GetAttributes, Activate, Revoke, Destroy}
+use Rattle.kmip_objects.specs.declared.key_attrs.KeyAttrs.{KeyAttrs}
+use Rattle.kmip_objects.specs.declared.key_state.KeyState.{KeyState}
+use Rattle.kmip_objects.specs.declared.key_state.KeyState.TheVariants as states
 use Rattle.kmip_objects.specs.declared.step.Step.{Step}
 use Rattle.kmip_objects.specs.declared.step.Step.TheVariants as steps
 use Rattle.kmip_store.specs.declared.row.Row.{Row}

@@ -5,21 +5,22 @@ use Rattle.std.proofs.lemmas.Bool.{and_parts, leb-true, cases_Bool}
 use Rattle.std.proofs.lemmas.List.{append_assoc, drop_all, drop_more, length-append}
 use Rattle.std.proofs.lemmas.List.Elements.{All-append, All-cons, All-nil}
 use Rattle.kmip_batch_items.specs.BatchItems.{Question}
-use Rattle.kmip_batch_items.specs.declared.reply.Outcome.{Outcome}
-use Rattle.kmip_batch_items.specs.declared.reply.Outcome.TheVariants as outcomes
+use Rattle.kmip_batch_items.specs.declared.outcome.Outcome.{Outcome}
+use Rattle.kmip_batch_items.specs.declared.outcome.Outcome.TheVariants as outcomes
 use Rattle.kmip_batch_items.specs.declared.reply.Reply.{Reply}
-use Rattle.kmip_batch_items.specs.declared.request.Ask.{Ask}
-use Rattle.kmip_batch_items.specs.declared.request.Ask.TheVariants as asks
+use Rattle.kmip_batch_items.specs.declared.ask.Ask.{Ask}
+use Rattle.kmip_batch_items.specs.declared.ask.Ask.TheVariants as asks
 use Rattle.kmip_messages.specs.Members.{may_have}
-use Rattle.kmip_messages.specs.Written.{IsShort}
+use Rattle.kmip_messages.specs.Private.{IsShort}
 use Rattle.kmip_objects.specs.Ranges.{is_compromise}
-use Rattle.kmip_store.specs.declared.fault.StoreFault.{StoreFault}
+use Rattle.kmip_store.specs.declared.store_fault.StoreFault.{StoreFault}
 use Rattle.kmip_objects.specs.declared.step.Step.TheVariants as steps
 use Rattle.kmip_batch_items.specs.declared.standard.TheConstants.{REASON_FEATURE_NOT_SUPPORTED}
 use Rattle.kmip_store.specs.Stepping.{take_step}
 use Rattle.kmip_store.specs.Stock.{Stock, create, identifier_at}
 use Rattle.kmip_server.specs.Again.{has_failed}
-use Rattle.kmip_server.specs.Batching.{effect_by, effects_of, is_last, replies_to, stock_after_all, IsCutShort, GrownBy, LeavesAll, NotesOne}
+use Rattle.kmip_server.specs.Batching.{effect_by, effects_of, is_last, replies_to, stock_after_all, GrownBy}
+use Rattle.kmip_server.specs.Private.{IsCutShort, LeavesAll, NotesOne}
 use Rattle.kmip_server.specs.Serving.{answer, outcome_of_change, reply_to, stock_after_read}
 use Rattle.kmip_server.specs.Shown.{objects_in}
 use Rattle.kmip_server.specs.declared.effect.Effect.{Effect}

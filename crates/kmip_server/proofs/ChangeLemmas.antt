@@ -3,19 +3,19 @@ use Rattle.std.proofs.Common.{◌≡◌, ℕ, ◌<◌, true, false, List, length
 use Rattle.std.proofs.lemmas.Bool.{cases_Bool, ltb-true}
 use Rattle.kmip_objects.specs.Lifecycle.{after}
 use Rattle.kmip_batch_items.specs.RequestFits.{ask_fits}
-use Rattle.kmip_batch_items.specs.declared.reply.Outcome.{Outcome}
-use Rattle.kmip_batch_items.specs.declared.reply.Outcome.TheVariants.{Activated, Revoked, Destroyed}
-use Rattle.kmip_batch_items.specs.declared.request.Ask.{Ask}
-use Rattle.kmip_batch_items.specs.declared.request.Ask.TheVariants.{Create, Locate, GetAttributes, Activate, Revoke, Destroy}
-use Rattle.kmip_objects.specs.declared.attributes.KeyAttrs.{KeyAttrs}
-use Rattle.kmip_objects.specs.declared.state.KeyState.{KeyState}
+use Rattle.kmip_batch_items.specs.declared.outcome.Outcome.{Outcome}
+use Rattle.kmip_batch_items.specs.declared.outcome.Outcome.TheVariants.{Activated, Revoked, Destroyed}
+use Rattle.kmip_batch_items.specs.declared.ask.Ask.{Ask}
+use Rattle.kmip_batch_items.specs.declared.ask.Ask.TheVariants.{Create, Locate, GetAttributes, Activate, Revoke, Destroy}
+use Rattle.kmip_objects.specs.declared.key_attrs.KeyAttrs.{KeyAttrs}
+use Rattle.kmip_objects.specs.declared.key_state.KeyState.{KeyState}
 use Rattle.kmip_objects.specs.declared.step.Step.{Step}
 use Rattle.kmip_objects.specs.declared.step.Step.TheVariants as steps
 use Rattle.kmip_store.specs.declared.row.Row.{Row}
 use Rattle.kmip_store.specs.Stepping.{enter_state, row_with, rows_in_state, take_step, take_step_from}
 use Rattle.kmip_store.specs.Laws.{CreateKeeps, StepsKeep}
 use Rattle.kmip_store.specs.Stock.{IsKept, Stock, create, stock_with, has_row_named}
-use Rattle.kmip_store.specs.declared.fault.StoreFault.{StoreFault}
+use Rattle.kmip_store.specs.declared.store_fault.StoreFault.{StoreFault}
 use Rattle.kmip_server.specs.Serving.{answer, outcome_of_change}
 use Rattle.kmip_objects.specs.Ranges.{is_compromise}
 

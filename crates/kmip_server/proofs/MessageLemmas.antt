@@ -13,12 +13,13 @@ use Rattle.kmip_messages.specs.Items as items
 use Rattle.kmip_messages.specs.Written.{replies_item}
 use Rattle.kmip_batch_items.specs.declared.refusal.Refusal.{Refusal}
 use Rattle.kmip_batch_items.specs.declared.reply.Reply.{Reply}
-use Rattle.kmip_batch_items.specs.declared.request.Ask.{Ask}
+use Rattle.kmip_batch_items.specs.declared.ask.Ask.{Ask}
 use Rattle.kmip_batch_items.specs.declared.request.Request.{Request}
 use Rattle.kmip_store.specs.Stock.{IsKept, Stock}
-use Rattle.kmip_server.specs.Answering.{Tells}
+use Rattle.kmip_server.specs.PrivateAnswering.{Tells}
 use Rattle.kmip_server.specs.Batching as batch
-use Rattle.kmip_server.specs.Batching.{effects_of, is_last, replies_to, stock_after_all, AreBegun, IsCutShort, GrownBy}
+use Rattle.kmip_server.specs.Batching.{effects_of, is_last, replies_to, stock_after_all, AreBegun, GrownBy}
+use Rattle.kmip_server.specs.Private.{IsCutShort}
 use Rattle.kmip_server.specs.declared.effect.Effect.{Effect}
 use Rattle.kmip_server.specs.Messages.{IsServedBy}
 use Rattle.kmip_server.specs.ServerStep.{ServerStep}

@@ -10,7 +10,7 @@ use Rattle.std.proofs.lemmas.Slice.Eq.{bytes_eq-Decides}
 use Rattle.kmip_objects.specs.Objects.{DistinctNames, DistinctUids, object_named, object_with, restated, all_restated}
 use Rattle.kmip_objects.specs.Ranges.{attrs_fit, is_identifier}
 use Rattle.kmip_objects.proofs.ForCallers.{decimal_identifier}
-use Rattle.kmip_objects.specs.declared.state.KeyState.{KeyState}
+use Rattle.kmip_objects.specs.declared.key_state.KeyState.{KeyState}
 use Rattle.kmip_store.specs.declared.row.Row.{Row}
 use Rattle.kmip_store.specs.Stock.{AreNumbered, HaveOwnNames, IsKept, Stock, has_row_named, identifier_at, object_of, objects_of}
 use Rattle.kmip_server.specs.Shown.{HasLawfulObjects, object_fits}

@@ -6,14 +6,14 @@ use Rattle.std.proofs.lemmas.Bool.{and_parts, cases_Bool}
 use Rattle.kmip_objects.specs.Attributes.{attributes_of}
 use Rattle.kmip_objects.specs.Objects.{Object, object_with}
 use Rattle.kmip_objects.specs.Ranges.{attrs_fit, is_identifier}
-use Rattle.kmip_objects.specs.declared.attributes.Attrs.{Attrs}
+use Rattle.kmip_objects.specs.declared.attrs.Attrs.{Attrs}
 use Rattle.kmip_objects.specs.declared.step.Step.{Step}
 use Rattle.kmip_batch_items.specs.Faults.{is_no_memory}
-use Rattle.kmip_batch_items.specs.declared.fault.MessageFault.{MessageFault}
-use Rattle.kmip_batch_items.specs.declared.fault.MessageFault.TheVariants as faults
+use Rattle.kmip_batch_items.specs.declared.message_fault.MessageFault.{MessageFault}
+use Rattle.kmip_batch_items.specs.declared.message_fault.MessageFault.TheVariants as faults
 use Rattle.kmip_batch_items.specs.Fits.{outcome_fits}
-use Rattle.kmip_batch_items.specs.MessageSizes.{IsBrief}
-use Rattle.kmip_batch_items.specs.declared.reply.Outcome.TheVariants.{Located, Attributes}
+use Rattle.kmip_batch_items.specs.Private.{IsBrief}
+use Rattle.kmip_batch_items.specs.declared.outcome.Outcome.TheVariants.{Located, Attributes}
 use Rattle.kmip_batch_items.specs.declared.standard.TheConstants.{OPERATION_LOCATE, OPERATION_GET_ATTRIBUTES}
 use Rattle.kmip_store.specs.declared.row.Row.{Row}
 use Rattle.kmip_store.specs.Stepping.{row_with}

@@ -81,23 +81,3 @@ AreBegun stops (q ∷ qs) effects old new =
 -- a list of effects has grown by some of which this holds
 abbrev pub GrownBy : (List Effect → Type 0) → List Effect → List Effect → Type 0
 GrownBy P old new = (more : List Effect) × (new ≡ old ++ more) × P more
-
--- Private: some of the first questions are served in turn, not all of them, each with the reply that the
--- server gives.
-abbrev pub IsCutShort : Bool → List Question → List Effect → Stock → Stock → Type 0
-IsCutShort stops [] effects old new = ⊥
-IsCutShort stops (q ∷ qs) effects old new =
-    ((effects ≡ []) × (new ≡ old))
-    ⊎ ((more : List Effect) × (effects ≡ option_to_list (effect_by (objects_in old) q (reply_to old q)) ++ more)
-    × (is_last stops (reply_to old q) ≡ false) × IsCutShort stops qs more (stock_after_read old q) new)
-
--- Private: a question is served: the records are those that it leaves, and what it did is noted.
-pub record NotesOne (question : Question) (old new : Stock) (before after : List Effect) : Type 0 where
-  -- the records are those that the question leaves
-  pub records : new ≡ stock_after_read old question
-  -- what it did, if it did anything, is noted at the end of the list
-  pub noted : after ≡ before ++ option_to_list (effect_by (objects_in old) question (reply_to old question))
-
--- Private: neither the records nor the list of what was done has changed.
-abbrev pub LeavesAll : Stock → Stock → List Effect → List Effect → Type 0
-LeavesAll old new before after = (new ≡ old) × (after ≡ before)

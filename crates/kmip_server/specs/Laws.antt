@@ -6,9 +6,9 @@ use Rattle.std.specs.Option.{option_map}
 use Rattle.kmip_objects.specs.Objects.{DistinctNames, Object, object_named}
 use Rattle.kmip_objects.specs.Attributes.{by_name}
 use Rattle.kmip_objects.specs.Searching.{every_state}
-use Rattle.kmip_batch_items.specs.declared.reply.Outcome.{Outcome}
-use Rattle.kmip_batch_items.specs.declared.reply.Outcome.TheVariants.{Located}
-use Rattle.kmip_batch_items.specs.declared.request.Ask.TheVariants.{Locate}
+use Rattle.kmip_batch_items.specs.declared.outcome.Outcome.{Outcome}
+use Rattle.kmip_batch_items.specs.declared.outcome.Outcome.TheVariants.{Located}
+use Rattle.kmip_batch_items.specs.declared.ask.Ask.TheVariants.{Locate}
 use Rattle.kmip_server.specs.ServerStep.{ServerStep}
 
 -- A Locate by a name alone, under the mask that searches the objects in every state, answers the identifier

@@ -19,4 +19,6 @@ pub mod Batching
 -- what a Locate by a name alone answers
 pub mod Laws
 -- private: the reply that is being made
-pub mod Answering
+pub mod PrivateAnswering
+-- private: what only the clauses of private functions cite
+pub mod Private

@@ -1,8 +1,8 @@
 -- The Result Reason that answers each fault.
 -- Source: KMIP 2.1, Enumerations, Result Reason; which reason answers which fault is own (choice).
 use Rattle.std.specs.Prelude.{ℕ, Option, Some, None}
-use Rattle.kmip_batch_items.specs.declared.fault.MessageFault.{MessageFault}
-use Rattle.kmip_batch_items.specs.declared.fault.MessageFault.TheVariants.{
+use Rattle.kmip_batch_items.specs.declared.message_fault.MessageFault.{MessageFault}
+use Rattle.kmip_batch_items.specs.declared.message_fault.MessageFault.TheVariants.{
   Ttlv,
   NotMessage,
   Version,
@@ -26,8 +26,8 @@ use Rattle.kmip_batch_items.specs.declared.standard.TheConstants.{
   REASON_WRONG_STATE,
   REASON_SERVER_FULL,
 }
-use Rattle.kmip_store.specs.declared.fault.StoreFault.{StoreFault}
-use Rattle.kmip_store.specs.declared.fault.StoreFault.TheVariants as store
+use Rattle.kmip_store.specs.declared.store_fault.StoreFault.{StoreFault}
+use Rattle.kmip_store.specs.declared.store_fault.StoreFault.TheVariants as store
 
 -- the reason that answers a fault of a message; none answers want of memory
 abbrev pub message_reason : MessageFault → Option ℕ

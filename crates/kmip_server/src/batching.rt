@@ -7,11 +7,12 @@ ghost use Rattle.kmip_batch_items.specs.RequestFits.{request_fits};
 ghost use Rattle.kmip_messages.specs.Items.{refusal_of};
 ghost use Rattle.kmip_messages.specs.Members.{may_have};
 ghost use Rattle.kmip_messages.specs.Ranges.{QuestionFits};
-ghost use Rattle.kmip_messages.specs.Written.{IsShort};
-ghost use Rattle.kmip_batch_items.specs.declared.reply.Outcome.TheVariants.{Failed};
+ghost use Rattle.kmip_messages.specs.Private.{IsShort};
+ghost use Rattle.kmip_batch_items.specs.declared.outcome.Outcome.TheVariants.{Failed};
 ghost use Rattle.kmip_batch_items.specs.declared.reply.Reply.{Reply};
-ghost use Rattle.kmip_server.specs.Answering.{promised_outcome, reply_with, Tells};
-ghost use Rattle.kmip_server.specs.Batching.{effects_of, is_last, replies_to, stock_after_all, IsCutShort, GrownBy, LeavesAll, NotesOne};
+ghost use Rattle.kmip_server.specs.PrivateAnswering.{promised_outcome, reply_with, Tells};
+ghost use Rattle.kmip_server.specs.Batching.{effects_of, is_last, replies_to, stock_after_all, GrownBy};
+ghost use Rattle.kmip_server.specs.Private.{IsCutShort, LeavesAll, NotesOne};
 ghost use Rattle.kmip_server.specs.Reasons.{message_reason};
 ghost use Rattle.kmip_server.specs.Serving.{refusal_reply, reply_to};
 

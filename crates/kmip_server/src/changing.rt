@@ -2,7 +2,7 @@
 ghost use Rattle.std.specs.Prelude.{◌≡◌, OnErr, IfOk, IsTrue};
 ghost use Rattle.kmip_batch_items.specs.RequestFits.{ask_fits};
 ghost use Rattle.kmip_objects.specs.Ranges.{attrs_fit};
-ghost use Rattle.kmip_server.specs.Answering.{CarriesOut};
+ghost use Rattle.kmip_server.specs.PrivateAnswering.{CarriesOut};
 ghost use Rattle.kmip_store.specs.Stepping.{Becomes};
 ghost use Rattle.kmip_store.specs.Stock.{create};
 
@@ -17,7 +17,7 @@ use std::alloc::Global;
 ///
 /// # Errors
 /// Where there is no memory; the records are then as they were, as they are where it is refused.
-pub(crate) fn carry_out<S: Records>(
+pub(crate) fn change_records<S: Records>(
     store: &mut S,
     alloc: Global,
     ask: &Ask,

@@ -1,13 +1,13 @@
 //! A step that took effect.
 ghost use Rattle.std.specs.Prelude.{◌≡◌, ◌++◌, Some, OnErr, OnOk, IfOk, IsTrue, option_to_list};
 ghost use Rattle.kmip_batch_items.specs.RequestFits.{ask_fits};
-ghost use Rattle.kmip_server.specs.Answering.{CarriesOut};
-ghost use Rattle.kmip_server.specs.Batching.{LeavesAll};
+ghost use Rattle.kmip_server.specs.PrivateAnswering.{CarriesOut};
+ghost use Rattle.kmip_server.specs.Private.{LeavesAll};
 ghost use Rattle.kmip_server.specs.Effects.{effect_asked, effect_of, effect_on};
 ghost use Rattle.kmip_server.specs.Serving.{answer};
 ghost use Rattle.kmip_server.specs.Shown.{objects_in};
 
-use crate::changing::carry_out;
+use crate::changing::change_records;
 use kmip_batch_items::Ask;
 use kmip_objects::{Step, is_compromise};
 use kmip_store::{Records, StoreFault};
@@ -21,7 +21,7 @@ pub struct Effect {
     pub step: Step,
 }
 
-/// Makes the change that a question asks for, as `carry_out`, and notes at the end of `effects` the step
+/// Makes the change that a question asks for, as `change_records`, and notes at the end of `effects` the step
 /// that took effect, if one did.
 ///
 /// # Errors
@@ -43,10 +43,10 @@ pub(crate) fn carry_out_noted<S: Records>(
         effects.old.items effects.new.items) }
 {
     let Some(effect) = effect_asked(store, alloc, ask)? else {
-        return carry_out(store, alloc, ask);
+        return change_records(store, alloc, ask);
     };
     effects.reserve(1)?;
-    match carry_out(store, alloc, ask)? {
+    match change_records(store, alloc, ask)? {
         Ok(()) => {
             effects.push_reserved(effect);
             Ok(Ok(()))

@@ -1,7 +1,7 @@
 //! The laws of the server: of each question, and of a question that comes again.
 ghost use Rattle.std.specs.Prelude.{◌≡◌, true, false, IsTrue, List};
 ghost use Rattle.kmip_batch_items.specs.RequestFits.{ask_fits};
-ghost use Rattle.kmip_batch_items.specs.declared.request.Ask.{Ask};
+ghost use Rattle.kmip_batch_items.specs.declared.ask.Ask.{Ask};
 ghost use Rattle.kmip_server.specs.Again.{stock_after_asks, changes, has_failed};
 ghost use Rattle.kmip_server.specs.ServerStep.{ServerStep};
 ghost use Rattle.kmip_server.specs.Serving.{answer};

@@ -1,13 +1,13 @@
 //! What a question is answered where the change that it asks for is made.
 ghost use Rattle.std.specs.Prelude.{◌≡◌, Some, IfOk, IsTrue, IsSome, option_to_list};
 ghost use Rattle.kmip_batch_items.specs.Fits.{outcome_fits};
-ghost use Rattle.kmip_batch_items.specs.MessageSizes.{IsBrief};
+ghost use Rattle.kmip_batch_items.specs.Private.{IsBrief};
 ghost use Rattle.kmip_batch_items.specs.Operations.{operation_of};
 ghost use Rattle.kmip_batch_items.specs.RequestFits.{ask_fits};
-ghost use Rattle.kmip_batch_items.specs.declared.request.Ask.TheVariants as asks;
+ghost use Rattle.kmip_batch_items.specs.declared.ask.Ask.TheVariants as asks;
 ghost use Rattle.kmip_batch_items.specs.declared.standard.TheConstants.{OPERATION_LOCATE, OPERATION_GET_ATTRIBUTES};
 ghost use Rattle.kmip_objects.specs.Ranges.{is_identifier};
-ghost use Rattle.kmip_server.specs.Answering.{promised_outcome};
+ghost use Rattle.kmip_server.specs.PrivateAnswering.{promised_outcome};
 ghost use Rattle.kmip_server.specs.Serving.{answer};
 
 use crate::reasons::store_reason;

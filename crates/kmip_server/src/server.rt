@@ -1,8 +1,9 @@
 //! A server over the records of one store.
 ghost use Rattle.std.specs.Prelude.{◌≡◌, ◌++◌, List, OnErr, OnOk, IfOk};
 ghost use Rattle.kmip_messages.specs.Items.{parts_in, replies_in, stops_in};
-ghost use Rattle.kmip_server.specs.Answering.{Tells};
-ghost use Rattle.kmip_server.specs.Batching.{batch_reply, effects_in, replies_to, stock_after_batch, AreBegun, AreServedInTurn, GrownBy, IsCutShort};
+ghost use Rattle.kmip_server.specs.PrivateAnswering.{Tells};
+ghost use Rattle.kmip_server.specs.Batching.{batch_reply, effects_in, replies_to, stock_after_batch, AreBegun, AreServedInTurn, GrownBy};
+ghost use Rattle.kmip_server.specs.Private.{IsCutShort};
 ghost use Rattle.kmip_server.specs.Shown.{HasLawfulObjects};
 ghost use Rattle.kmip_server.specs.declared.effect.Effect.{Effect};
 ghost use Rattle.kmip_store.specs.Stock.{IsKept};

@@ -1,6 +1,6 @@
 -- Texts that are appended piece by piece, and the exchanges that are left.
 use Rattle.std.proofs.Common.{◌≡◌, ◌+◌, ◌-◌, ◌<◌, ℕ, suc, false, List, [], ◌∷◌, ◌++◌, sym, ap, ◌∙◌, arith, append_assoc}
-use Rattle.kmip_scripted.specs.declared.script.Word.{Word}
+use Rattle.kmip_scripted.specs.declared.word.Word.{Word}
 use Rattle.kmip_simulation.specs.declared.moment.Moment.{Moment}
 use Rattle.kmip_simulation.specs.declared.moment.Moment.TheVariants.{Exchanged}
 use Rattle.kmip_simulation.specs.Moments.{all_repeats, exchanges_from, words_after_exchanges, words_after_next}

@@ -4,8 +4,8 @@ use Rattle.std.specs.Prelude.{ℕ, nat_le, ◌==◌, List, [], ◌∷◌, ◌++�
 use Rattle.std.specs.Fmt.{decimal}
 use Rattle.std.specs.List.{flat_map}
 use Rattle.kmip_scripted.specs.Scenes.{Scene}
-use Rattle.kmip_scripted.specs.declared.script.Word.{Word}
-use Rattle.kmip_scripted.specs.declared.script.Word.TheVariants.{LoseRequest, LoseReply, Cut, Stale}
+use Rattle.kmip_scripted.specs.declared.word.Word.{Word}
+use Rattle.kmip_scripted.specs.declared.word.Word.TheVariants.{LoseRequest, LoseReply, Cut, Stale}
 use Rattle.kmip_trace.specs.Questions.{question_text}
 use Rattle.kmip_trace.specs.Answers.{answer_text}
 use Rattle.kmip_simulation.specs.Tracing.{Telling, ended_text, told_text}

@@ -10,9 +10,9 @@ use Rattle.kmip_batch_items.specs.declared.request.Request.{Request}
 use Rattle.kmip_server.specs.Shown.{objects_in}
 use Rattle.kmip_scripted.specs.Scenes.{Scene}
 use Rattle.kmip_runs.specs.Stops.{is_all_finished, stop_name}
-use Rattle.kmip_runs.specs.declared.campaigning.CampaignEnd.{CampaignEnd}
-use Rattle.kmip_runs.specs.declared.campaigning.RunEnd.{RunEnd}
-use Rattle.kmip_ttlv.specs.declared.fault.NoMemory.{NoMemory as Want}
+use Rattle.kmip_runs.specs.declared.campaign_end.CampaignEnd.{CampaignEnd}
+use Rattle.kmip_runs.specs.declared.run_end.RunEnd.{RunEnd}
+use Rattle.kmip_ttlv.specs.declared.no_memory.NoMemory.{NoMemory as Want}
 use Rattle.kmip_trace.specs.Names.{state_word}
 use Rattle.kmip_trace.specs.Questions.{requests_text}
 

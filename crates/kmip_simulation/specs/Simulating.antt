@@ -6,22 +6,23 @@ use Rattle.kmip_plan.specs.declared.key.Key.{Key}
 use Rattle.kmip_client.specs.Held.{TrueProgress}
 use Rattle.kmip_protocol.specs.Machine.{IsMirrored}
 use Rattle.kmip_protocol.specs.Past.{Names}
-use Rattle.kmip_protocol.specs.Safe.{Safe}
+use Rattle.kmip_protocol.specs.Headline.{Safe}
 use Rattle.kmip_protocol.specs.Sound.{Opening, Sound}
-use Rattle.kmip_runs.specs.Campaign.{CalmLink, HasNoConflict, IsEnd, Settles, reported, saves}
+use Rattle.kmip_runs.specs.Campaign.{CalmLink, HasNoConflict, IsEnd, Settles, saves}
+use Rattle.kmip_runs.specs.Headline.{reported}
 use Rattle.kmip_runs.specs.Driving.{WentOn}
 use Rattle.kmip_runs.specs.Ending.{AreEnded}
 use Rattle.kmip_runs.specs.Losing.{AllOutlast}
 use Rattle.kmip_runs.specs.Remembering.{AreKnown}
 use Rattle.kmip_runs.specs.Campaigns.{AreInTurn, CalmStart, IsTrueFor, last_plan}
-use Rattle.kmip_runs.specs.declared.campaigning.CampaignEnd.{CampaignEnd}
-use Rattle.kmip_runs.specs.declared.campaigning.Run.{Run}
+use Rattle.kmip_runs.specs.declared.campaign_end.CampaignEnd.{CampaignEnd}
+use Rattle.kmip_runs.specs.declared.run.Run.{Run}
 use Rattle.kmip_store.specs.Stock.{empty_stock, most_room}
 use Rattle.kmip_scripted.specs.Following.{Follows}
 use Rattle.kmip_scripted.specs.Runs.{lists_of, runs_of}
 use Rattle.kmip_scripted.specs.Scenes.{Scene, disturbances_in, past_in, scene_of}
 use Rattle.kmip_scripted.specs.Words.{next_words}
-use Rattle.kmip_scripted.specs.declared.script.Word.{Word}
+use Rattle.kmip_scripted.specs.declared.word.Word.{Word}
 
 -- the link to a new server that is to follow a script: no object, room for 10,000, key material from the stream of a seed of 32 zeros,
 -- nothing that was asked, and the words of the script left

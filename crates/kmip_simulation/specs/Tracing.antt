@@ -5,8 +5,8 @@ use Rattle.std.specs.Fmt.{decimal}
 use Rattle.std.specs.List.{flat_map}
 use Rattle.kmip_scripted.specs.Scenes.{Scene}
 use Rattle.kmip_scripted.specs.Words.{answer_at, message_at, word_at}
-use Rattle.kmip_scripted.specs.declared.script.Word.{Word}
-use Rattle.kmip_scripted.specs.declared.script.Word.TheVariants.{Pass, LoseRequest, LoseReply, Cut, Stale, Again, Save, Prolong, Restart}
+use Rattle.kmip_scripted.specs.declared.word.Word.{Word}
+use Rattle.kmip_scripted.specs.declared.word.Word.TheVariants.{Pass, LoseRequest, LoseReply, Cut, Stale, Again, Save, Prolong, Restart}
 use Rattle.kmip_trace.specs.Questions.{question_text}
 use Rattle.kmip_trace.specs.Answers.{answer_text}
 use Rattle.kmip_simulation.specs.declared.moment.Moment.{Moment}

@@ -6,12 +6,12 @@
 mod diagram;
 mod moment;
 mod moments;
-mod simulating;
+mod simulation;
 mod tracing;
 mod words;
 mod writing;
 
 pub use diagram::push_diagram;
-pub use simulating::{Simulation, simulate, simulate_again, simulate_plans};
+pub use simulation::{Simulation, simulate, simulate_again, simulate_plans};
 pub use tracing::push_trace;
 pub use writing::{push_asks, push_records, push_runs, push_simulation};

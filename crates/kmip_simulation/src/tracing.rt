@@ -2,7 +2,7 @@
 ghost use Rattle.std.specs.Prelude.{◌≡◌, ◌++◌, IfOk, OnOk, option_map, string_bytes};
 ghost use Rattle.std.specs.List.{flat_map};
 ghost use Rattle.kmip_scripted.specs.Words.{answer_at, message_at, word_at};
-ghost use Rattle.kmip_scripted.specs.declared.script.Word.TheVariants.{Restart};
+ghost use Rattle.kmip_scripted.specs.declared.word.Word.TheVariants.{Restart};
 ghost use Rattle.kmip_simulation.specs.Tracing.{
   Telling,
   early_request,

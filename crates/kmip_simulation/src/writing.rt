@@ -16,7 +16,7 @@ ghost use Rattle.kmip_simulation.specs.SimText.{
   sim_text,
 };
 
-use crate::simulating::Simulation;
+use crate::simulation::Simulation;
 use kmip_batch_items::Request;
 use kmip_runs::RunEnd;
 use kmip_scripted::Scripted;

@@ -1,7 +1,7 @@
 -- One call more.
 use Rattle.std.proofs.Common.{◌≡◌, ℕ, ◌+◌, ◌<◌, List, [], ◌∷◌, ◌++◌, length, take, get_or, refl, sym, ap, ◌∙◌}
 use Rattle.std.proofs.lemmas.List.{take_more}
-use Rattle.kmip_store.specs.declared.calling.Call.{Call}
+use Rattle.kmip_store.specs.declared.call.Call.{Call}
 use Rattle.kmip_store.specs.Stock.{Stock}
 use Rattle.kmip_store.specs.Calling.{stock_after_call, stock_after_calls}
 

@@ -3,11 +3,11 @@ use Rattle.std.proofs.Common.{◌≡◌, ℕ, Bool, true, false, List, length, O
 use Rattle.std.proofs.lemmas.Bool.{ltb-true}
 use Rattle.kmip_objects.specs.Lifecycle.{after}
 use Rattle.kmip_objects.specs.Ranges.{attrs_fit}
-use Rattle.kmip_objects.specs.declared.attributes.KeyAttrs.{KeyAttrs}
-use Rattle.kmip_objects.specs.declared.state.KeyState.{KeyState}
+use Rattle.kmip_objects.specs.declared.key_attrs.KeyAttrs.{KeyAttrs}
+use Rattle.kmip_objects.specs.declared.key_state.KeyState.{KeyState}
 use Rattle.kmip_objects.specs.declared.step.Step.{Step}
-use Rattle.kmip_store.specs.declared.fault.StoreFault.{StoreFault}
-use Rattle.kmip_store.specs.declared.fault.StoreFault.TheVariants.{SameName, Full}
+use Rattle.kmip_store.specs.declared.store_fault.StoreFault.{StoreFault}
+use Rattle.kmip_store.specs.declared.store_fault.StoreFault.TheVariants.{SameName, Full}
 use Rattle.kmip_store.specs.declared.row.Row.{Row}
 use Rattle.kmip_store.specs.Stepping.{enter_state, row_with, take_step, take_step_from}
 use Rattle.kmip_store.specs.Stock.{IsKept, Stock, create, draw, has_row_named, material_size, stock_with}

@@ -12,7 +12,7 @@ use Rattle.std.proofs.lemmas.List.Sums.{prefix_len-le-length}
 use Rattle.std.proofs.lemmas.Slice.Eq.{bytes_eq-Decides}
 use Rattle.indexmap.specs.IndexMap.{IndexMap, get_by_text}
 use Rattle.kmip_store.specs.declared.row.Row.{Row}
-use Rattle.kmip_store.specs.Indexing.{Notes, LeadsTo}
+use Rattle.kmip_store.specs.PrivateIndexing.{Notes, LeadsTo}
 use Rattle.kmip_store.specs.Stock.{IsKept, identifier_at}
 use Rattle.kmip_store.proofs.KeptLemmas.{apart_back, next_free}
 use Rattle.kmip_store.proofs.PlaceLemmas.{any_map, any_none}

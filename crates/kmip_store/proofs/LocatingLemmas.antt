@@ -9,11 +9,11 @@ use Rattle.std.proofs.lemmas.Bool.{and_right, or_parts, cases_Bool, both_ways, f
 use Rattle.std.proofs.lemmas.Option.{none-some, same_Some}
 use Rattle.std.proofs.lemmas.Slice.Eq.{bytes_eq-Decides}
 use Rattle.kmip_objects.specs.Objects.{Object}
-use Rattle.kmip_objects.specs.declared.attributes.Attrs.{Attrs}
+use Rattle.kmip_objects.specs.declared.attrs.Attrs.{Attrs}
 use Rattle.kmip_store.specs.declared.row.Row.{Row}
 use Rattle.kmip_store.specs.Stock.{object_of, objects_of, has_row_named, HaveOwnNames}
 use Rattle.kmip_store.proofs.PlaceLemmas.{none_passes, any_map, found_any}
-use Rattle.kmip_store.specs.Indexing.{LeadsTo, names_of}
+use Rattle.kmip_store.specs.PrivateIndexing.{LeadsTo, names_of}
 use Rattle.kmip_objects.specs.Attributes.{has_given}
 use Rattle.kmip_store.specs.Locating.{is_searched, is_wanted, locate}
 

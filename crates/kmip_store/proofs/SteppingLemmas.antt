@@ -10,11 +10,11 @@ use Rattle.std.proofs.lemmas.Option.{none-some, same_Some, cond_some, slice_get_
 use Rattle.std.proofs.lemmas.Fmt.{decimal_injective}
 use Rattle.std.proofs.lemmas.Slice.Eq.{bytes_eq-Decides}
 use Rattle.kmip_objects.specs.Lifecycle.{after}
-use Rattle.kmip_objects.specs.declared.state.KeyState.{KeyState}
+use Rattle.kmip_objects.specs.declared.key_state.KeyState.{KeyState}
 use Rattle.kmip_objects.specs.declared.step.Step.{Step}
 use Rattle.kmip_store.specs.declared.row.Row.{Row}
 use Rattle.kmip_store.specs.Stock.{Stock, AreNumbered}
-use Rattle.kmip_store.specs.Indexing.{names_of, uids_of}
+use Rattle.kmip_store.specs.PrivateIndexing.{names_of, uids_of}
 use Rattle.kmip_store.proofs.ForCallers.{moved_attrs, moved_uid}
 use Rattle.kmip_store.specs.Stepping.{row_with, enter, row_in_state, rows_in_state, enter_state, take_step_from, take_step}
 

@@ -6,11 +6,11 @@ use Rattle.std.specs.List.{slice_get}
 use Rattle.std.specs.Option.{is_some}
 use Rattle.kmip_objects.specs.Ranges.{attrs_fit}
 use Rattle.kmip_objects.specs.declared.step.Step.TheVariants as steps
-use Rattle.kmip_store.specs.declared.calling.Answer.{Answer}
-use Rattle.kmip_store.specs.declared.calling.Answer.TheVariants as answers
-use Rattle.kmip_store.specs.declared.calling.Call.{Call}
-use Rattle.kmip_store.specs.declared.calling.Call.TheVariants.{Create, Locate, Find, Activate, Revoke, Destroy, Count, At}
-use Rattle.kmip_store.specs.declared.fault.StoreFault.{StoreFault}
+use Rattle.kmip_store.specs.declared.answer.Answer.{Answer}
+use Rattle.kmip_store.specs.declared.answer.Answer.TheVariants as answers
+use Rattle.kmip_store.specs.declared.call.Call.{Call}
+use Rattle.kmip_store.specs.declared.call.Call.TheVariants.{Create, Locate, Find, Activate, Revoke, Destroy, Count, At}
+use Rattle.kmip_store.specs.declared.store_fault.StoreFault.{StoreFault}
 use Rattle.kmip_store.specs.Stock.{Stock, create, identifier_at, objects_of}
 use Rattle.kmip_store.specs.Stepping.{row_with, take_step}
 use Rattle.kmip_store.specs.Locating.{locate}

@@ -1,8 +1,8 @@
 -- The number and the name of each fault of a store.
 -- Source: own (fault).
 use Rattle.std.specs.Prelude.{ℕ, List, codes}
-use Rattle.kmip_store.specs.declared.fault.StoreFault.{StoreFault}
-use Rattle.kmip_store.specs.declared.fault.StoreFault.TheVariants.{NotFound, SameName, WrongState, Full, NoMemory}
+use Rattle.kmip_store.specs.declared.store_fault.StoreFault.{StoreFault}
+use Rattle.kmip_store.specs.declared.store_fault.StoreFault.TheVariants.{NotFound, SameName, WrongState, Full, NoMemory}
 
 -- The number of a fault.
 abbrev pub store_fault_number : StoreFault → ℕ

@@ -2,7 +2,7 @@
 -- Source: own (law): each is proved of all records.
 use Rattle.std.specs.Prelude.{◌≡◌, ℕ, ◌<◌, List, length, None, Ok, IsTrue}
 use Rattle.kmip_objects.specs.Ranges.{attrs_fit, is_identifier}
-use Rattle.kmip_objects.specs.declared.attributes.KeyAttrs.{KeyAttrs}
+use Rattle.kmip_objects.specs.declared.key_attrs.KeyAttrs.{KeyAttrs}
 use Rattle.kmip_objects.specs.declared.step.Step.{Step}
 use Rattle.kmip_store.specs.Stepping.{row_with, take_step}
 use Rattle.kmip_store.specs.Stock.{IsKept, Stock, create, identifier_at}

@@ -13,4 +13,4 @@ pub mod Laws
 -- The number and the name of each fault.
 pub mod Faults
 -- Where the maps of an `IndexedStore` lead, for contracts of functions that are not public.
-pub mod Indexing
+pub mod PrivateIndexing

@@ -5,10 +5,10 @@ use Rattle.std.specs.Int.{w32, cast_unsigned}
 use Rattle.std.specs.Option.{option_map_or}
 use Rattle.kmip_objects.specs.Attributes.{has_given}
 use Rattle.kmip_objects.specs.Objects.{Object}
-use Rattle.kmip_objects.specs.declared.attributes.Attrs.{Attrs}
+use Rattle.kmip_objects.specs.declared.attrs.Attrs.{Attrs}
 use Rattle.kmip_objects.specs.declared.standard.TheConstants.{STORAGE_ON_LINE, STORAGE_DESTROYED}
-use Rattle.kmip_objects.specs.declared.state.KeyState.{KeyState}
-use Rattle.kmip_objects.specs.declared.state.KeyState.TheVariants.{Destroyed}
+use Rattle.kmip_objects.specs.declared.key_state.KeyState.{KeyState}
+use Rattle.kmip_objects.specs.declared.key_state.KeyState.TheVariants.{Destroyed}
 
 -- The bit of a Storage Status Mask that stands for objects of a state.
 abbrev pub storage_bit : KeyState → ℕ

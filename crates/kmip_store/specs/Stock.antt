@@ -10,11 +10,11 @@ use Rattle.rand_core.specs.Steps.{fill_via_u32}
 use Rattle.rand_chacha.specs.ChaCha.{ChaCha, next_word, of_seed}
 use Rattle.kmip_objects.specs.Objects.{Object}
 use Rattle.kmip_objects.specs.Ranges.{attrs_fit}
-use Rattle.kmip_objects.specs.declared.attributes.KeyAttrs.{KeyAttrs}
-use Rattle.kmip_objects.specs.declared.state.KeyState.TheVariants.{PreActive}
+use Rattle.kmip_objects.specs.declared.key_attrs.KeyAttrs.{KeyAttrs}
+use Rattle.kmip_objects.specs.declared.key_state.KeyState.TheVariants.{PreActive}
 use Rattle.kmip_store.specs.declared.row.Row.{Row}
-use Rattle.kmip_store.specs.declared.fault.StoreFault.{StoreFault}
-use Rattle.kmip_store.specs.declared.fault.StoreFault.TheVariants.{NotFound, SameName, WrongState, Full, NoMemory}
+use Rattle.kmip_store.specs.declared.store_fault.StoreFault.{StoreFault}
+use Rattle.kmip_store.specs.declared.store_fault.StoreFault.TheVariants.{NotFound, SameName, WrongState, Full, NoMemory}
 
 -- What the records hold: the rows in the order in which they were made, how many there may be, and how far
 -- the stream of key material has come. Own (view).

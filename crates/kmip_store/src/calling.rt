@@ -5,58 +5,21 @@ ghost use Rattle.std.specs.Prelude.{◌≡◌, IfOk, OnOk, OnErr, IsTrue, IsSome
 ghost use Rattle.std.specs.List.{list_all};
 ghost use Rattle.std.specs.Option.{option_copied};
 ghost use Rattle.kmip_objects.specs.Ranges.{attrs_fit};
-ghost use Rattle.kmip_store.specs.Calling.{
-  may_call,
-  answer_of,
-  answer_to,
-  stock_of,
-  stock_after_call,
-  answers_to,
-  stock_after_calls,
-  IsAfterSome,
-};
-ghost use Rattle.kmip_store.specs.declared.calling.Answer.TheVariants as answers;
-ghost use Rattle.kmip_store.specs.declared.calling.Call.TheVariants as calls;
-ghost use Rattle.kmip_store.specs.declared.fault.StoreFault.{StoreFault};
+ghost use Rattle.kmip_store.specs.Calling.{may_call, answer_of, answer_to, stock_of, stock_after_call, answers_to, stock_after_calls, IsAfterSome};
+ghost use Rattle.kmip_store.specs.declared.answer.Answer.TheVariants as answers;
+ghost use Rattle.kmip_store.specs.declared.call.Call.TheVariants as calls;
+ghost use Rattle.kmip_store.specs.declared.store_fault.StoreFault.{StoreFault};
 ghost use Rattle.kmip_store.specs.Stepping.{Becomes};
 ghost use Rattle.kmip_store.specs.Stock.{Stock};
 
-use crate::fault::StoreFault;
+use crate::answer::Answer;
+use crate::call::Call;
 use crate::records::Records;
 use crate::row::Row;
+use crate::store_fault::StoreFault;
 use kmip_objects::{Attrs, KeyAttrs};
-use kmip_ttlv::{NoMemory, Text};
+use kmip_ttlv::NoMemory;
 use std::alloc::Global;
-
-/// A call of a method of the records, with what it is given.
-#[derive(Drop)]
-pub enum Call {
-    Create(KeyAttrs),
-    Locate { mask: Option<i32>, filter: Attrs },
-    Find(Text),
-    Activate(Text),
-    Revoke(Text),
-    Destroy(Text),
-    Count,
-    At(usize),
-}
-
-/// The answer to a call, other than want of memory.
-#[derive(Drop)]
-pub enum Answer {
-    /// An object was made, and has this identifier.
-    Created(Text),
-    /// The identifier of the object that a Locate found.
-    Located(Option<Text>),
-    /// The row with an identifier or at a place.
-    Found(Option<Row>),
-    /// An object is in another state.
-    Moved,
-    /// How many rows there are.
-    Counted(usize),
-    /// Nothing was changed, for this reason.
-    Refused(StoreFault),
-}
 
 /// Makes the calls one after the other, and returns the answer to each.
 ///

@@ -2,7 +2,6 @@
 ghost use Rattle.std.specs.Prelude.{◌≡◌, ◌≤◌};
 ghost use Rattle.kmip_store.specs.Stock.{empty_stock, most_room};
 
-use crate::fault::StoreFault;
 use crate::making::{NewObject, new_object};
 use crate::matching::{row_by_index, wanted_by_index};
 use crate::material::draw;
@@ -10,6 +9,7 @@ use crate::places::{Places, has_text, note_both};
 use crate::records::Records;
 use crate::row::Row;
 use crate::stepping::step_by_index;
+use crate::store_fault::StoreFault;
 use indexmap::IndexMap;
 use kmip_objects::{Attrs, KeyAttrs, Step};
 use kmip_ttlv::Text;
@@ -31,7 +31,7 @@ pub struct IndexedStore {
 
 impl Model for IndexedStore {
     ghost use Rattle.kmip_store.specs.Stock.{Stock, IsKept};
-    ghost use Rattle.kmip_store.specs.Indexing.{LeadsTo, names_of, uids_of};
+    ghost use Rattle.kmip_store.specs.PrivateIndexing.{LeadsTo, names_of, uids_of};
 
     ghost Value = { Stock };
 

@@ -5,8 +5,9 @@
 //! and from the identifiers. That any two stores answer alike is proved of `call_both`.
 #![tactic(auto)]
 
+mod answer;
+mod call;
 mod calling;
-mod fault;
 mod identifying;
 mod indexed_store;
 pub mod laws;
@@ -18,11 +19,14 @@ mod places;
 mod records;
 mod row;
 mod stepping;
+mod store_fault;
 
-pub use calling::{Answer, Call, call_all, call_both};
-pub use fault::StoreFault;
+pub use answer::Answer;
+pub use call::Call;
+pub use calling::{call_all, call_both};
 pub use identifying::{MOST_ROOM, SEED, identifier_at};
 pub use indexed_store::IndexedStore;
 pub use list_store::ListStore;
 pub use records::Records;
 pub use row::Row;
+pub use store_fault::StoreFault;

@@ -2,13 +2,13 @@
 ghost use Rattle.std.specs.Prelude.{◌≡◌, ◌≤◌};
 ghost use Rattle.kmip_store.specs.Stock.{empty_stock, most_room};
 
-use crate::fault::StoreFault;
 use crate::making::new_row;
 use crate::matching::{first_wanted, has_row_named, row_with};
 use crate::material::draw;
 use crate::records::Records;
 use crate::row::Row;
 use crate::stepping::step;
+use crate::store_fault::StoreFault;
 use kmip_objects::{Attrs, KeyAttrs, Step};
 use kmip_ttlv::Text;
 use rand_chacha::ChaCha20Rng;

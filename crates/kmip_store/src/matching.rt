@@ -5,7 +5,7 @@ ghost use Rattle.std.specs.Option.{option_copied};
 ghost use Rattle.kmip_store.specs.Locating.{storage_bit, is_searched, is_wanted};
 ghost use Rattle.kmip_store.specs.Stepping.{row_with};
 ghost use Rattle.kmip_store.specs.Stock.{has_row_named, object_of, HaveOwnNames};
-ghost use Rattle.kmip_store.specs.Indexing.{LeadsTo, names_of, uids_of};
+ghost use Rattle.kmip_store.specs.PrivateIndexing.{LeadsTo, names_of, uids_of};
 
 use crate::places::{Places, place_of};
 use crate::row::Row;

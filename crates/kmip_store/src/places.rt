@@ -2,7 +2,7 @@
 //! the rows.
 ghost use Rattle.std.specs.Prelude.{◌≡◌, ◌-◌, ◌++◌, [], ◌∷◌, length, take, OnErr, OnOk, string_bytes, is_some, None};
 ghost use Rattle.indexmap.specs.IndexMap.{get_by_text};
-ghost use Rattle.kmip_store.specs.Indexing.{Notes};
+ghost use Rattle.kmip_store.specs.PrivateIndexing.{Notes};
 
 use indexmap::IndexMap;
 use std::alloc::AllocError;

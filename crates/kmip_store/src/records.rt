@@ -8,8 +8,8 @@ ghost use Rattle.kmip_store.specs.Stock.{Stock, IsKept, identifier_at, stock_wit
 ghost use Rattle.kmip_store.specs.Stepping.{Becomes, row_with, take_step};
 ghost use Rattle.kmip_store.specs.Locating.{locate};
 
-use crate::fault::StoreFault;
 use crate::row::Row;
+use crate::store_fault::StoreFault;
 use kmip_objects::{Attrs, KeyAttrs};
 use kmip_ttlv::Text;
 use std::alloc::Global;

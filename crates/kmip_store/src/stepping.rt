@@ -5,11 +5,11 @@ ghost use Rattle.std.specs.List.{position};
 ghost use Rattle.rand_chacha.specs.ChaCha.{ChaCha};
 ghost use Rattle.kmip_store.specs.Stock.{IsKept, AreNumbered, most_room};
 ghost use Rattle.kmip_store.specs.Stepping.{Becomes, take_step, enter};
-ghost use Rattle.kmip_store.specs.Indexing.{LeadsTo, names_of, uids_of};
+ghost use Rattle.kmip_store.specs.PrivateIndexing.{LeadsTo, names_of, uids_of};
 
-use crate::fault::StoreFault;
 use crate::places::{Places, place_of};
 use crate::row::Row;
+use crate::store_fault::StoreFault;
 use kmip_objects::{KeyState, Step};
 use kmip_ttlv::Bytes;
 use std::alloc::Global;

@@ -7,11 +7,11 @@ use Rattle.std.specs.List.{flat_map, list_all}
 use Rattle.kmip_ttlv.specs.Showing.{plain_text}
 use Rattle.kmip_messages.specs.Items.{replies_in, requests_in}
 use Rattle.kmip_objects.specs.Ranges.{is_name_byte}
-use Rattle.kmip_batch_items.specs.declared.reply.Outcome.{Outcome}
-use Rattle.kmip_batch_items.specs.declared.reply.Outcome.TheVariants.{Created, Located, Attributes, Activated, Revoked, Destroyed, Failed}
+use Rattle.kmip_batch_items.specs.declared.outcome.Outcome.{Outcome}
+use Rattle.kmip_batch_items.specs.declared.outcome.Outcome.TheVariants.{Created, Located, Attributes, Activated, Revoked, Destroyed, Failed}
 use Rattle.kmip_batch_items.specs.declared.reply.Reply.{Reply}
 use Rattle.kmip_batch_items.specs.declared.request.Request.{Request}
-use Rattle.kmip_objects.specs.declared.state.KeyState.{KeyState}
+use Rattle.kmip_objects.specs.declared.key_state.KeyState.{KeyState}
 use Rattle.kmip_trace.specs.Names.{number_word, state_of, state_word}
 use Rattle.kmip_trace.specs.Questions.{id_name}
 

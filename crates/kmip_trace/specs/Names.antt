@@ -5,8 +5,8 @@ use Rattle.kmip_objects.specs.States.{state_number}
 use Rattle.kmip_batch_items.specs.declared.operation.Operation.{Operation}
 use Rattle.kmip_batch_items.specs.declared.operation.Operation.TheVariants as operations
 use Rattle.kmip_batch_items.specs.Operations.{operation_with}
-use Rattle.kmip_objects.specs.declared.state.KeyState.{KeyState}
-use Rattle.kmip_objects.specs.declared.state.KeyState.TheVariants as states
+use Rattle.kmip_objects.specs.declared.key_state.KeyState.{KeyState}
+use Rattle.kmip_objects.specs.declared.key_state.KeyState.TheVariants as states
 
 -- the name of an operation
 abbrev pub operation_word : Operation → List ℕ

@@ -4,9 +4,10 @@ use Rattle.std.proofs.lemmas.List.{append-nil}
 use Rattle.kmip_frames.specs.Laws.{FaultsStay}
 use Rattle.kmip_frames.specs.Streams.{joined}
 use Rattle.kmip_store.specs.Stock.{Stock}
-use Rattle.kmip_transport.specs.Serving.{Serves, ServesAll, BreaksOff, LosesReply}
-use Rattle.kmip_transport.specs.declared.serving.StreamEnd.{StreamEnd}
-use Rattle.kmip_transport.specs.declared.serving.StreamEnd.TheVariants as ends
+use Rattle.kmip_transport.specs.Serving.{Serves, ServesAll, BreaksOff}
+use Rattle.kmip_transport.specs.Private.{LosesReply}
+use Rattle.kmip_transport.specs.declared.stream_end.StreamEnd.{StreamEnd}
+use Rattle.kmip_transport.specs.declared.stream_end.StreamEnd.TheVariants as ends
 
 -- all messages were served
 pub all_served : (now : ℤ) (end : StreamEnd) (s t : Stock) (input left before after : List ℕ) → FaultsStay

@@ -8,9 +8,10 @@ use Rattle.std.proofs.Common.{append_assoc, min}
 use Rattle.kmip_ttlv.specs.Limits.{head_size}
 use Rattle.kmip_frames.specs.Framing.{size_needed, wants, held_after, count_taken}
 use Rattle.kmip_frames.specs.Laws.{ShortBytesLackAHead, SizesAreBounded, MoreChangesNothing}
-use Rattle.kmip_protocol.specs.declared.link.LinkFault.{LinkFault}
-use Rattle.kmip_protocol.specs.declared.link.LinkFault.TheVariants.{Io, Frame, NoMemory}
-use Rattle.kmip_transport.specs.Receiving.{Takes, IsUnfinished, IsHandedOver, Receives}
+use Rattle.kmip_protocol.specs.declared.link_fault.LinkFault.{LinkFault}
+use Rattle.kmip_protocol.specs.declared.link_fault.LinkFault.TheVariants.{Io, Frame, NoMemory}
+use Rattle.kmip_transport.specs.Private.{Takes, IsHandedOver}
+use Rattle.kmip_transport.specs.Receiving.{IsUnfinished, Receives}
 
 -- a piece that is no longer than what is lacking is taken whole
 pub whole_piece : ShortBytesLackAHead → SizesAreBounded → MoreChangesNothing

@@ -5,21 +5,22 @@ use Rattle.std.specs.List.{AllByRecursion}
 use Rattle.std.proofs.KnownBytes.{Consumes-nil, Consumes-trans, Appends-nil, Appends-kept, Appends-trans}
 use Rattle.std.proofs.lemmas.List.{append-nil, length-append}
 use Rattle.std.proofs.lemmas.List.Concat.{flat_map-append}
-use Rattle.kmip_frames.specs.declared.fault.FrameFault.{FrameFault}
+use Rattle.kmip_frames.specs.declared.frame_fault.FrameFault.{FrameFault}
 use Rattle.kmip_frames.specs.Framing.{fault_in}
 use Rattle.kmip_frames.specs.Laws.{ShortBytesLackAHead, FaultsNeedNoMore}
 use Rattle.kmip_frames.specs.Streams.{IsMessage, joined}
-use Rattle.kmip_protocol.specs.declared.link.LinkFault.{LinkFault}
-use Rattle.kmip_protocol.specs.declared.link.LinkFault.TheVariants as faults
+use Rattle.kmip_protocol.specs.declared.link_fault.LinkFault.{LinkFault}
+use Rattle.kmip_protocol.specs.declared.link_fault.LinkFault.TheVariants as faults
 use Rattle.kmip_messages.specs.Items.{parts_in, stops_in}
 use Rattle.kmip_server.specs.Batching.{batch_reply, stock_after_batch, AreBegun}
 use Rattle.kmip_server.specs.declared.effect.Effect.{Effect}
 use Rattle.kmip_store.specs.Stock.{Stock}
 use Rattle.kmip_ttlv.specs.Limits.{head_size}
 use Rattle.kmip_transport.specs.Receiving.{IsUnfinished, Receives}
-use Rattle.kmip_transport.specs.Serving.{stock_after_messages, replies_to, IsLeft, IsWritten, Serves, ServesOne, LosesReply, EndsBy}
-use Rattle.kmip_transport.specs.declared.serving.StreamEnd.{StreamEnd}
-use Rattle.kmip_transport.specs.declared.serving.StreamEnd.TheVariants as ends
+use Rattle.kmip_transport.specs.Serving.{stock_after_messages, replies_to, IsLeft, IsWritten, Serves}
+use Rattle.kmip_transport.specs.Private.{ServesOne, LosesReply, EndsBy}
+use Rattle.kmip_transport.specs.declared.stream_end.StreamEnd.{StreamEnd}
+use Rattle.kmip_transport.specs.declared.stream_end.StreamEnd.TheVariants as ends
 
 -- at the same time
 pub serves_at : (now same : ℤ) (end : StreamEnd) (s t : Stock) (x y w v : Option (List ℕ)) → now ≡ same → Serves now end s t x y w v → Serves same end s t x y w v

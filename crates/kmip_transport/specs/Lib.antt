@@ -6,3 +6,5 @@ pub mod Receiving
 pub mod Serving
 -- what is seen of a link over streams, and what happens to it
 pub mod Links
+-- private: what only the clauses of private functions cite
+pub mod Private

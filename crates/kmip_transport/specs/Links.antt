@@ -1,10 +1,8 @@
 -- What a contract sees of a link over streams, and what happens to it.
 -- Source: own (view). Nothing is known of what goes over a network: no clause speaks of its bytes.
-use Rattle.std.specs.Prelude.{ℕ, ◌+◌, List, Bool, true, false, ◌&&◌, not, [], Option, Some, None, Result, Ok, Err}
-use Rattle.kmip_protocol.specs.Clean.{Disturbances}
-use Rattle.kmip_protocol.specs.Past.{Past}
-use Rattle.kmip_protocol.specs.declared.link.LinkFault.{LinkFault}
-use Rattle.kmip_protocol.specs.declared.link.LinkFault.TheVariants.{Io, Frame, NoMemory}
+use Rattle.std.specs.Prelude.{ℕ, ◌+◌, Bool, true, false, ◌&&◌, not, Option, Some, None, Result, Ok, Err}
+use Rattle.kmip_protocol.specs.declared.link_fault.LinkFault.{LinkFault}
+use Rattle.kmip_protocol.specs.declared.link_fault.LinkFault.TheVariants.{Io, Frame, NoMemory}
 
 -- How often the network has failed, and whether a stream is open. Whether that one was held after the reply
 -- to an earlier request, and whether streams are held after replies at all, or closed there.
@@ -42,15 +40,3 @@ link_after (Ok None) link = lost link
 link_after (Err Io) link = failed link
 link_after (Err Frame) link = lost link
 link_after (Err NoMemory) link = closed link
-
--- Private: nothing is claimed of what has happened over a network
-abbrev pub unknown_past : Past
-unknown_past = record { room = 0; objects = []; requests = []; replies = []; effects = []; sent = []; handed = [] }
-
--- Private: and no exchange is counted, clean or disturbed
-abbrev pub none_counted : Disturbances
-none_counted = record { disturbed = 0; requests = 0; strange = 0 }
-
--- Private: and no end of a run is noted
-abbrev pub none_ended : List ℕ
-none_ended = []

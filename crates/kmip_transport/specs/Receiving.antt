@@ -1,12 +1,12 @@
 -- What one call of `receive_message` takes from a reader, what it returns, and what is left in the framer.
 -- Source: own (view), over KMIP 2.1, Message Structure.
-use Rattle.std.specs.Prelude.{◌≡◌, ◌<◌, ℕ, Bool, true, false, List, [], ◌++◌, length, Option, Some, None, IsSome, Result, Ok, Err, IfErr, IsOk}
+use Rattle.std.specs.Prelude.{◌≡◌, ℕ, List, [], ◌++◌, length, Option, Some, None, IsSome, Result, Ok, Err}
 use Rattle.std.specs.Io.KnownBytes.{Consumes, IsAtEnd}
 use Rattle.kmip_ttlv.specs.Limits.{head_size}
 use Rattle.kmip_frames.specs.Framing.{fault_in}
 use Rattle.kmip_frames.specs.Streams.{IsMessage, BeginsWithNoMessage}
-use Rattle.kmip_protocol.specs.declared.link.LinkFault.{LinkFault}
-use Rattle.kmip_protocol.specs.declared.link.LinkFault.TheVariants.{Io, Frame, NoMemory}
+use Rattle.kmip_protocol.specs.declared.link_fault.LinkFault.{LinkFault}
+use Rattle.kmip_protocol.specs.declared.link_fault.LinkFault.TheVariants.{Io, Frame, NoMemory}
 
 -- the bytes are neither a message nor a head that is no message's
 abbrev pub IsUnfinished : List ℕ → Type 0
@@ -15,13 +15,6 @@ IsUnfinished bytes = (fault_in bytes ≡ None) × BeginsWithNoMessage bytes
 -- the bytes are a head that is no message's, and nothing after it
 abbrev pub IsNoHead : List ℕ → Type 0
 IsNoHead bytes = IsSome (fault_in bytes) × (length bytes ≡ head_size)
-
--- Private: some bytes were read and joined those held; a reader that tells its bytes began with them, and has
--- lost them
-pub record Takes (old new : List ℕ) (unread left : Option (List ℕ)) : Type 0 where
-  pub read : List ℕ
-  pub consumed : Consumes unread left read
-  pub joined : new ≡ old ++ read
 
 -- What is returned by all that was held or read, by what is held after it, and by what the reader has left: a
 -- message, which all of it is; or none, since the stream has ended. But for a message all of it stays.
@@ -37,24 +30,3 @@ pub record Receives {M : Type 0} (bytes : M → List ℕ) (result : Result (Opti
   pub read : List ℕ
   pub consumed : Consumes unread left read
   pub answered : Answers bytes result (old ++ read) new left
-
--- Private: the message that waits is handed over, where one does
-abbrev pub IsHandedOver : {M : Type 0} → (M → List ℕ) → Result (Option M) LinkFault → List ℕ → List ℕ → Type 0
-IsHandedOver bytes (Ok (Some message)) old new = IsMessage old × (bytes message ≡ old) × (new ≡ [])
-IsHandedOver bytes (Ok None) old new = IsUnfinished old × (new ≡ old)
-IsHandedOver bytes (Err Io) old new = ⊥
-IsHandedOver bytes (Err Frame) old new = IsNoHead old × (new ≡ old)
-IsHandedOver bytes (Err NoMemory) old new = IsMessage old × (new ≡ old)
-
--- Private: what one read does to what is held: it adds what was read, or says why nothing was.
-pub record ReadsOnce (IsSure : Type 0) (result : Result Bool LinkFault) (old new : List ℕ) (unread left : Option (List ℕ)) : Type 0 where
-  -- what was read joined what was held
-  pub taken : Takes old new unread left
-  -- where the stream does not go on, it has ended, and nothing was read
-  pub end : result ≡ Ok false → (new ≡ old) × IsAtEnd left
-  -- it fails by Io alone, and then nothing was read
-  pub refused : IfErr result (λ fault. (fault ≡ Io) × (new ≡ old))
-  -- a source that is sure does not fail
-  pub sure : IsSure → IsOk result
-  -- it has read something where the stream goes on
-  pub grown : IsSure → result ≡ Ok true → length old < length new

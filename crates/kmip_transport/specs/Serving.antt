@@ -1,20 +1,18 @@
 -- What a server does to a stream of messages, and how that ends.
 -- Source: own (view), over KMIP 2.1, Message Structure; the names and numbers of the ends are own (text).
-use Rattle.std.specs.Prelude.{◌≡◌, ◌<◌, ◌⊎◌, ℕ, ℤ, List, [], ◌∷◌, ◌++◌, length, codes, Option, Some, None, IfSome}
+use Rattle.std.specs.Prelude.{◌≡◌, ◌<◌, ◌⊎◌, ℕ, ℤ, List, [], ◌∷◌, ◌++◌, length, codes, Option, Some, None}
 use Rattle.std.specs.Io.KnownBytes.{Consumes, Appends, IsAtEnd}
 use Rattle.std.specs.List.{AllByRecursion}
 use Rattle.kmip_messages.specs.Items.{parts_in, stops_in}
-use Rattle.kmip_frames.specs.declared.fault.FrameFault.{FrameFault}
 use Rattle.kmip_frames.specs.Framing.{fault_in}
 use Rattle.kmip_frames.specs.Streams.{IsMessage, BeginsWithNoMessage, Stream, joined}
-use Rattle.kmip_protocol.specs.declared.link.LinkFault.{LinkFault}
-use Rattle.kmip_protocol.specs.declared.link.LinkFault.TheVariants as faults
+use Rattle.kmip_protocol.specs.declared.link_fault.LinkFault.TheVariants as faults
 use Rattle.kmip_server.specs.Batching.{batch_reply, stock_after_batch, AreBegun}
 use Rattle.kmip_server.specs.declared.effect.Effect.{Effect}
 use Rattle.kmip_store.specs.Stock.{Stock}
 use Rattle.kmip_transport.specs.Receiving.{IsUnfinished}
-use Rattle.kmip_transport.specs.declared.serving.StreamEnd.{StreamEnd}
-use Rattle.kmip_transport.specs.declared.serving.StreamEnd.TheVariants.{Ended, Frame, Io, NoMemory}
+use Rattle.kmip_transport.specs.declared.stream_end.StreamEnd.{StreamEnd}
+use Rattle.kmip_transport.specs.declared.stream_end.StreamEnd.TheVariants.{Ended, Frame, Io, NoMemory}
 
 -- the number of each end of a stream, 1 to 4
 abbrev pub stream_end_number : StreamEnd → ℕ
@@ -112,28 +110,3 @@ pub record BreaksOff (now : ℤ) (old new : Stock) (input before after : List �
   pub each : AllByRecursion IsMessage messages
   pub records : (new ≡ stock_after_messages old messages) ⊎ IsUnanswered next (stock_after_messages old messages) new
   pub written : after ≡ before ++ replies_to now old messages
-
--- Private: one message was read and served, and its reply written
-pub record ServesOne (now : ℤ) (old new : Stock) (unread left before after : Option (List ℕ)) : Type 0 where
-  pub message : List ℕ
-  pub read : Consumes unread left message
-  pub is : IsMessage message
-  pub records : new ≡ stock_after_batch old message
-  pub written : Appends before after (batch_reply old message now)
-
--- Private: messages were served in turn, and the reply to the last one was not written. What takes all or
--- nothing holds the others.
-pub record LosesReply (now : ℤ) (IsWhole : Type 0) (old new : Stock) (unread left before after : Option (List ℕ)) : Type 0 where
-  pub messages : List (List ℕ)
-  pub last : List ℕ
-  pub read : Consumes unread left (joined messages ++ last)
-  pub each : AllByRecursion IsMessage messages
-  pub is : IsMessage last
-  pub records : new ≡ stock_after_batch (stock_after_messages old messages) last
-  pub written : IsWhole → Appends before after (replies_to now old messages)
-
--- Private: how a stream ends by the fault of a call that receives, and by that of the head that is held
-abbrev pub EndsBy : LinkFault → Option FrameFault → StreamEnd → Type 0
-EndsBy faults.Io held end = end ≡ Io
-EndsBy faults.Frame held end = IfSome held (λ fault. end ≡ Frame fault)
-EndsBy faults.NoMemory held end = end ≡ NoMemory

@@ -12,6 +12,8 @@
 #![tactic(auto)]
 
 mod dial;
+mod gathered;
+mod in_memory;
 mod link;
 mod loopback;
 mod receiving;
@@ -19,13 +21,19 @@ mod sending;
 mod serving;
 mod sink;
 mod source;
+mod stream_end;
 mod stream_link;
+mod tcp;
 mod timed;
+mod unix;
 
-pub use dial::{Dial, Tcp, Unix};
+pub use dial::Dial;
 pub use kmip_protocol::{Link, LinkFault};
 pub use loopback::Loopback;
 pub use receiving::{receive_from_bytes, receive_message};
 pub use sending::send_message;
-pub use serving::{StreamEnd, serve_bytes, serve_stream};
+pub use serving::{serve_bytes, serve_stream};
+pub use stream_end::StreamEnd;
 pub use stream_link::{StreamLink, TcpLink, UnixLink};
+pub use tcp::Tcp;
+pub use unix::Unix;

@@ -8,7 +8,8 @@ ghost use Rattle.kmip_protocol.specs.Faults.{most_failures};
 ghost use Rattle.kmip_protocol.specs.Losses.{IsInMemory};
 ghost use Rattle.kmip_protocol.specs.Moves.{Delivered};
 ghost use Rattle.kmip_protocol.specs.Past.{Names};
-ghost use Rattle.kmip_transport.specs.Links.{closed, link_after, none_counted, none_ended, opened, unknown_past};
+ghost use Rattle.kmip_transport.specs.Links.{closed, link_after, opened};
+ghost use Rattle.kmip_transport.specs.Private.{none_counted, none_ended, unknown_past};
 
 use crate::dial::Dial;
 use crate::stream_link::StreamLink;
@@ -18,7 +19,7 @@ use std::alloc::Global;
 /// Never known to be honest or calm: a network may do anything.
 impl<D: Dial + Drop> Link for StreamLink<D> {
     ghost use Rattle.std.specs.Prelude.{⊤};
-    ghost use Rattle.kmip_transport.specs.Links.{none_counted, none_ended, unknown_past};
+    ghost use Rattle.kmip_transport.specs.Private.{none_counted, none_ended, unknown_past};
 
     ghost past = { λ link. unknown_past };
 

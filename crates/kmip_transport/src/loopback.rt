@@ -1,10 +1,10 @@
 //! A link to a server of this process, over TCP on this machine.
 ghost use Rattle.std.specs.Prelude.{◌≡◌, ◌↔◌, false, Ok, IsErr};
 
-use crate::dial::Tcp;
 use crate::receiving::receive_message;
 use crate::sending::send_message;
 use crate::stream_link::TcpLink;
+use crate::tcp::Tcp;
 use kmip_frames::Framer;
 use kmip_protocol::{Link, LinkFault};
 use kmip_server::{Records, Server};
@@ -145,7 +145,7 @@ fn unless_lost(fault: LinkFault) -> Result<(), NoMemory>
 /// Never known to be honest or calm: a network may do anything.
 impl<R: Net + Clock + Drop, S: Records + Drop> Link for Loopback<R, S> {
     ghost use Rattle.std.specs.Prelude.{[], ⊤};
-    ghost use Rattle.kmip_transport.specs.Links.{none_counted, unknown_past};
+    ghost use Rattle.kmip_transport.specs.Private.{none_counted, unknown_past};
 
     ghost past = { λ loopback. unknown_past };
 

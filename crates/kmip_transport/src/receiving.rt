@@ -3,9 +3,11 @@ ghost use Rattle.std.specs.Prelude.{◌≡◌, ◌≢◌, ◌<◌, ◌≤◌, le
 ghost use Rattle.std.specs.IoError.{error_kind};
 ghost use Rattle.kmip_frames.specs.Framing.{fault_in, wants};
 ghost use Rattle.kmip_frames.specs.Streams.{BeginsWithNoMessage};
-ghost use Rattle.kmip_transport.specs.Receiving.{ReadsOnce, Receives, IsHandedOver};
+ghost use Rattle.kmip_transport.specs.Private.{ReadsOnce, IsHandedOver};
+ghost use Rattle.kmip_transport.specs.Receiving.{Receives};
 
-use crate::source::{InMemory, Source};
+use crate::in_memory::InMemory;
+use crate::source::Source;
 use kmip_frames::laws::sizes;
 use kmip_frames::{FrameFault, Framer};
 use kmip_protocol::LinkFault;

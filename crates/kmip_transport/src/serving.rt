@@ -1,58 +1,23 @@
 //! A stream of messages, answered by a server.
-ghost use Rattle.std.specs.Prelude.{◌≡◌, ◌≢◌, [], Ok, Some, IfSome, IfNone, IsSome, IfOk, IfErr, OnErr};
+ghost use Rattle.std.specs.Prelude.{◌≡◌, ◌≢◌, [], Ok, Some, IfSome, IfNone, IfOk, IfErr, OnErr};
 ghost use Rattle.kmip_frames.specs.Framing.{fault_in};
-ghost use Rattle.kmip_transport.specs.Serving.{stream_end_number, stream_end_name, Serves, ServesAll, BreaksOff, ServesOne, LosesReply, EndsBy};
+ghost use Rattle.kmip_transport.specs.Serving.{Serves, ServesAll, BreaksOff};
+ghost use Rattle.kmip_transport.specs.Private.{ServesOne, LosesReply, EndsBy};
 
+use crate::gathered::Gathered;
+use crate::in_memory::InMemory;
 use crate::receiving::receive;
 use crate::sending::send;
-use crate::sink::{Gathered, Sink};
-use crate::source::{InMemory, Source};
+use crate::sink::Sink;
+use crate::source::Source;
+use crate::stream_end::StreamEnd;
+use kmip_frames::Framer;
 use kmip_frames::laws::{sizes, stream_laws};
-use kmip_frames::{FrameFault, Framer};
 use kmip_protocol::LinkFault;
 use kmip_server::{Records, Server};
 use std::alloc::Global;
 use std::io::{Read, Write};
 use std::mem;
-
-/// How a stream of messages that was served came to its end.
-#[derive(Clone, Copy, Debug)]
-pub enum StreamEnd {
-    /// It ended, so many bytes after the last whole message: 0 to 8,191.
-    Ended(usize),
-    /// After the last message eight bytes came that are no head of one.
-    Frame(FrameFault),
-    /// The reader or the writer failed, or there were 2^64 - 1 messages.
-    Io,
-    /// There was no memory.
-    NoMemory,
-}
-
-impl StreamEnd {
-    /// The end's number, 1 to 4. Takes no memory.
-    pub fn number(self) -> u32
-        ensures { result ≡ stream_end_number self }
-    {
-        match self {
-            StreamEnd::Ended(_) => 1,
-            StreamEnd::Frame(_) => 2,
-            StreamEnd::Io => 3,
-            StreamEnd::NoMemory => 4,
-        }
-    }
-
-    /// The end's name, as it is printed. Takes no memory.
-    pub fn name(self) -> &'static str
-        ensures { result.now ≡ stream_end_name self }
-    {
-        match self {
-            StreamEnd::Ended(_) => "Ended",
-            StreamEnd::Frame(_) => "Frame",
-            StreamEnd::Io => "Io",
-            StreamEnd::NoMemory => "NoMemory",
-        }
-    }
-}
 
 /// Answers the messages of the reader one after the other, each as soon as it is whole, with `now` as the
 /// Time Stamp of the replies, in seconds since the start of 1970. It reads nothing after a message before its

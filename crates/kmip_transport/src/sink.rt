@@ -1,7 +1,7 @@
 //! Where bytes go: a writer, or memory, which fails only where there is none.
 ghost use Rattle.std.specs.Prelude.{◌≡◌, ℕ, List, Option, OnOk, OnErr, IfErr, IsOk};
 ghost use Rattle.std.specs.Io.KnownBytes.{Appends, Keeps};
-ghost use Rattle.kmip_protocol.specs.declared.link.LinkFault.{LinkFault};
+ghost use Rattle.kmip_protocol.specs.declared.link_fault.LinkFault.{LinkFault};
 
 use kmip_protocol::LinkFault;
 use std::io::Write;
@@ -39,7 +39,7 @@ pub(crate) trait Sink {
 
 /// Every writer. It fails by `Io`, and may have taken any part.
 impl<W: Write> Sink for W {
-    ghost use Rattle.kmip_protocol.specs.declared.link.LinkFault.TheVariants.{Io};
+    ghost use Rattle.kmip_protocol.specs.declared.link_fault.LinkFault.TheVariants.{Io};
 
     ghost contents = { λ writer. W.contents writer };
 
@@ -59,33 +59,5 @@ impl<W: Write> Sink for W {
             Ok(()) => Ok(()),
             Err(_) => Err(LinkFault::Io),
         }
-    }
-}
-
-/// Bytes in memory, which grow at their end. It fails by `NoMemory`, and is as it was then.
-#[derive(Drop)]
-pub(crate) struct Gathered {
-    pub(crate) bytes: Vec<u8>,
-}
-
-impl Sink for Gathered {
-    ghost use Rattle.std.specs.Prelude.{Some};
-    ghost use Rattle.kmip_protocol.specs.declared.link.LinkFault.TheVariants.{NoMemory};
-
-    ghost contents = { λ sink. Some sink.bytes.items };
-
-    ghost fault = { NoMemory };
-
-    ghost IsWhole = { Unit {0} };
-
-    fn put(&mut self, bytes: &[u8]) -> Result<(), LinkFault> {
-        match self.bytes.extend_from_slice(bytes) {
-            Ok(()) => Ok(()),
-            Err(_) => Err(LinkFault::NoMemory),
-        }
-    }
-
-    fn send_on(&mut self) -> Result<(), LinkFault> {
-        Ok(())
     }
 }

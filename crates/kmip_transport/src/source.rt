@@ -40,25 +40,3 @@ impl<R: Read> Source for R {
 
     fn is_bounded(&self) {}
 }
-
-/// Bytes in memory, from their front on.
-#[derive(Drop)]
-pub(crate) struct InMemory<'a> {
-    pub(crate) rest: &'a [u8],
-}
-
-impl<'a> Source for InMemory<'a> {
-    ghost use Rattle.std.specs.Prelude.{Some};
-
-    ghost remaining = { λ source. Some source.rest.now };
-
-    ghost IsSure = { Unit {0} };
-
-    fn read_once(&mut self, room: &mut [u8]) -> io::Result<usize> {
-        self.rest.read(room)
-    }
-
-    fn is_bounded(&self) {
-        let _size = self.rest.len();
-    }
-}

@@ -4,10 +4,12 @@ ghost use Rattle.std.specs.Prelude.{◌≡◌, ◌<◌, ◌≤◌, true, false, 
 ghost use Rattle.kmip_protocol.specs.Faults.{most_failures};
 ghost use Rattle.kmip_transport.specs.Links.{answered, closed, failed, link_after, lost, opened};
 
-use crate::dial::{Dial, Tcp, Unix};
+use crate::dial::Dial;
 use crate::receiving::receive_message;
 use crate::sending::send_message;
+use crate::tcp::Tcp;
 use crate::timed::Timed;
+use crate::unix::Unix;
 use kmip_frames::Framer;
 use kmip_protocol::LinkFault;
 use std::alloc::Global;

@@ -4,8 +4,8 @@ use Rattle.std.specs.Prelude.{◌&&◌}
 use Rattle.std.proofs.lemmas.Bool.{ltb-false, le-ltb, not-false, not_from_true}
 use Rattle.std.proofs.lemmas.List.{length-append, length-take, length-drop, take_at}
 use Rattle.byteorder.specs.Endian.{big_number}
-use Rattle.kmip_ttlv.specs.declared.fault.TtlvFault.{TtlvFault}
-use Rattle.kmip_ttlv.specs.declared.fault.TtlvFault.TheVariants as faults
+use Rattle.kmip_ttlv.specs.declared.ttlv_fault.TtlvFault.{TtlvFault}
+use Rattle.kmip_ttlv.specs.declared.ttlv_fault.TtlvFault.TheVariants as faults
 use Rattle.kmip_ttlv.specs.declared.item_type.ItemType.{ItemType}
 use Rattle.kmip_ttlv.specs.declared.item_type.ItemType.TheVariants as types
 use Rattle.kmip_ttlv.specs.Types.{byte_of_type, type_of_byte, is_allowed}

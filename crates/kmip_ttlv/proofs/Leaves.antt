@@ -9,8 +9,8 @@ use Rattle.std.proofs.lemmas.Str.{IsUtf8-from_is_utf8}
 use borrow.Author.Gap.{read_sfits}
 use mir.Facts.{Fits-of_z}
 use Rattle.byteorder.specs.Endian.{big_bytes, big_number}
-use Rattle.kmip_ttlv.specs.declared.fault.TtlvFault.{TtlvFault}
-use Rattle.kmip_ttlv.specs.declared.fault.TtlvFault.TheVariants as faults
+use Rattle.kmip_ttlv.specs.declared.ttlv_fault.TtlvFault.{TtlvFault}
+use Rattle.kmip_ttlv.specs.declared.ttlv_fault.TtlvFault.TheVariants as faults
 use Rattle.kmip_ttlv.specs.declared.item_type.ItemType.{ItemType}
 use Rattle.kmip_ttlv.specs.declared.item_type.ItemType.TheVariants as types
 use Rattle.kmip_ttlv.specs.Node.{

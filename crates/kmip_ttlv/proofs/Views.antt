@@ -4,7 +4,7 @@ use Rattle.kmip_ttlv.specs.Node.{Node, node, structure, Nodes, no_more, more, co
 use Rattle.std.proofs.lemmas.List.{drop_all}
 use Rattle.kmip_ttlv.specs.View.{view, views, content}
 use Rattle.kmip_ttlv.specs.declared.item.Item.{Item}
-use Rattle.kmip_ttlv.specs.declared.item.Value.{Value, Structure, the_lemmas}
+use Rattle.kmip_ttlv.specs.declared.value.Value.{Value, Structure, the_lemmas}
 
 pub nodes_of-list_of : (ns : Nodes) → nodes_of (list_of ns) ≡ ns
 nodes_of-list_of no_more = refl

@@ -3,7 +3,8 @@ use Rattle.std.proofs.Common.{◌≡◌, ◌↔◌, ℕ, ◌+◌, ◌-◌, ◌�
 use Rattle.kmip_ttlv.specs.Node.{Node, node, structure, Nodes, no_more, more}
 use Rattle.kmip_ttlv.specs.Fitting.{AreInRange, HaveWholeGroups, depths}
 use Rattle.kmip_ttlv.proofs.Lengths.{fits_of, size_fits, groups_in_range, writable_of, size_writable}
-use Rattle.kmip_ttlv.specs.Sizes.{sizes, Fits, IsWritable, IsSizeWithin, AreSizesWithin, IsStructureWithin}
+use Rattle.kmip_ttlv.specs.Sizes.{sizes, Fits, IsWritable}
+use Rattle.kmip_ttlv.specs.Private.{IsSizeWithin, AreSizesWithin, IsStructureWithin}
 
 -- so many bytes are those of the items before rest, all of which are within the limits
 pub record AreSoFar (found levels room : ℕ) (rest whole : Nodes) : Type 0 where

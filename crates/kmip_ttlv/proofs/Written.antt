@@ -7,7 +7,8 @@ use Rattle.kmip_ttlv.specs.declared.item_type.ItemType.TheVariants.{Structure}
 use Rattle.kmip_ttlv.specs.Node.{Node, node, structure, Nodes, no_more, more}
 use Rattle.kmip_ttlv.specs.Fitting.{IsInRange, AreInRange, HaveWholeGroups, depths}
 use Rattle.kmip_ttlv.specs.Spelling.{head, zeros, padding, canon, canons}
-use Rattle.kmip_ttlv.specs.Sizes.{IsWritable, sizes, AreSizesWithin}
+use Rattle.kmip_ttlv.specs.Sizes.{IsWritable, sizes}
+use Rattle.kmip_ttlv.specs.Private.{AreSizesWithin}
 use Rattle.kmip_ttlv.proofs.Lengths.{canon-structure, writable_of, size_writable}
 
 -- before, the head and the items before rest are what was written; each item of rest has a written form

@@ -4,8 +4,8 @@
 use Rattle.kmip_ttlv.specs.Limits.{head_size, most_levels}
 use Rattle.std.specs.Prelude.{◌≡◌, ℕ, zero, suc, ◌+◌, ◌<◌, ◌≤◌, ◌==◌, ◌⊎◌, List, ◌++◌, length, take, drop, Ok, Err, IsUtf8}
 use Rattle.byteorder.specs.Endian.{big_number}
-use Rattle.kmip_ttlv.specs.declared.fault.TtlvFault.{TtlvFault}
-use Rattle.kmip_ttlv.specs.declared.fault.TtlvFault.TheVariants.{BadBoolean, BadText, TooDeep}
+use Rattle.kmip_ttlv.specs.declared.ttlv_fault.TtlvFault.{TtlvFault}
+use Rattle.kmip_ttlv.specs.declared.ttlv_fault.TtlvFault.TheVariants.{BadBoolean, BadText, TooDeep}
 use Rattle.kmip_ttlv.specs.declared.item_type.ItemType.{ItemType}
 use Rattle.kmip_ttlv.specs.declared.item_type.ItemType.TheVariants.{Structure, Boolean, TextString}
 use Rattle.kmip_ttlv.specs.Node.{Nodes}

@@ -1,8 +1,8 @@
 -- The number, the name and the place of each fault.
 -- Source: own (fault): the standard does not number or name the faults of a reader.
 use Rattle.std.specs.Prelude.{ℕ, List, Option, Some, None, codes}
-use Rattle.kmip_ttlv.specs.declared.fault.TtlvFault.{TtlvFault}
-use Rattle.kmip_ttlv.specs.declared.fault.TtlvFault.TheVariants.{
+use Rattle.kmip_ttlv.specs.declared.ttlv_fault.TtlvFault.{TtlvFault}
+use Rattle.kmip_ttlv.specs.declared.ttlv_fault.TtlvFault.TheVariants.{
   Short,
   UnknownType,
   BadLength,

@@ -4,8 +4,8 @@
 use Rattle.kmip_ttlv.specs.Limits.{head_size, most_bytes}
 use Rattle.std.specs.Prelude.{ℕ, ◌+◌, Bool, true, false, not, ◌&&◌, nat_lt, if◌then◌else◌, List, length, drop, slice_index, Option, Some, None, Result, Ok, Err}
 use Rattle.byteorder.specs.Endian.{big_number}
-use Rattle.kmip_ttlv.specs.declared.fault.TtlvFault.{TtlvFault}
-use Rattle.kmip_ttlv.specs.declared.fault.TtlvFault.TheVariants.{Short, UnknownType, BadLength, ChildrenOverrun, TooLong}
+use Rattle.kmip_ttlv.specs.declared.ttlv_fault.TtlvFault.{TtlvFault}
+use Rattle.kmip_ttlv.specs.declared.ttlv_fault.TtlvFault.TheVariants.{Short, UnknownType, BadLength, ChildrenOverrun, TooLong}
 use Rattle.kmip_ttlv.specs.declared.item_type.ItemType.{ItemType}
 use Rattle.kmip_ttlv.specs.Types.{type_of_byte, is_allowed}
 use Rattle.kmip_ttlv.specs.Sizes.{padded}

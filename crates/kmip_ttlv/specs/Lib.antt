@@ -26,3 +26,5 @@ pub mod Reading
 pub mod Showing
 -- The number, the name and the place of each fault.
 pub mod Faults
+-- private: what only the clauses of private functions cite
+pub mod Private

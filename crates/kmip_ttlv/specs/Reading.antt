@@ -6,40 +6,12 @@ use Rattle.std.specs.Prelude.{◌≡◌, ℕ, zero, suc, ◌+◌, ◌==◌, ◌�
 use Rattle.std.specs.Int.{w32, w64, cast_signed}
 use Rattle.std.specs.Str.{is_utf8}
 use Rattle.byteorder.specs.Endian.{big_number}
-use Rattle.kmip_ttlv.specs.declared.fault.TtlvFault.{TtlvFault}
-use Rattle.kmip_ttlv.specs.declared.fault.TtlvFault.TheVariants.{BadBoolean, BadText, TooDeep, NoMemory}
+use Rattle.kmip_ttlv.specs.declared.ttlv_fault.TtlvFault.{TtlvFault}
+use Rattle.kmip_ttlv.specs.declared.ttlv_fault.TtlvFault.TheVariants.{BadBoolean, BadText, TooDeep, NoMemory}
 use Rattle.kmip_ttlv.specs.declared.item.Item.{Item}
 use Rattle.kmip_ttlv.specs.declared.item_type.ItemType.{ItemType}
-use Rattle.kmip_ttlv.specs.declared.item_type.ItemType.TheVariants.{
-  Structure,
-  Integer,
-  LongInteger,
-  BigInteger,
-  Enumeration,
-  Boolean,
-  TextString,
-  ByteString,
-  DateTime,
-  Interval,
-  DateTimeExtended,
-}
-use Rattle.kmip_ttlv.specs.Node.{
-  Node,
-  node,
-  Content,
-  structure,
-  integer,
-  long_integer,
-  big_integer,
-  enumeration,
-  boolean,
-  text_string,
-  byte_string,
-  date_time,
-  interval,
-  date_time_extended,
-  nodes_of,
-}
+use Rattle.kmip_ttlv.specs.declared.item_type.ItemType.TheVariants.{Structure, Integer, LongInteger, BigInteger, Enumeration, Boolean, TextString, ByteString, DateTime, Interval, DateTimeExtended}
+use Rattle.kmip_ttlv.specs.Node.{Node, node, Content, structure, integer, long_integer, big_integer, enumeration, boolean, text_string, byte_string, date_time, interval, date_time_extended, nodes_of}
 use Rattle.kmip_ttlv.specs.View.{view}
 use Rattle.kmip_ttlv.specs.Sizes.{padded}
 use Rattle.kmip_ttlv.specs.Heads.{head_at}
@@ -106,11 +78,6 @@ item_at (suc left) at bytes = do
 abbrev pub FailsContent : {Y : Type 0} → TtlvFault → Result Y TtlvFault → Type 0
 FailsContent NoMemory read = Unit {0}
 FailsContent e read = read ≡ Err e
-
--- Private: what the code returned, seen by a view, is what reading gives, unless memory ran out.
-abbrev pub GivesContent : {X Y : Type 0} → (X → Y) → Result X TtlvFault → Result Y TtlvFault → Type 0
-GivesContent seen (Ok x) read = read ≡ Ok (seen x)
-GivesContent seen (Err e) read = FailsContent e read
 
 -- The code returned the item and the size that are read, or the fault of reading, unless memory ran out.
 abbrev pub ReadsAs : Result (Item × ℕ) TtlvFault → Result (Node × ℕ) TtlvFault → Type 0

@@ -1,27 +1,9 @@
 -- How many bytes an item takes, and which items have a written form.
 -- Source: KMIP 2.1, TTLV Encoding. Own (limit): 16 levels and 8,192 bytes.
 use Rattle.kmip_ttlv.specs.Limits.{head_size, most_bytes, most_levels}
-use Rattle.std.specs.Prelude.{◌≡◌, ℕ, ◌+◌, ◌≤◌, length, nat_le, if◌then◌else◌, Option, Some, None}
-use Rattle.kmip_ttlv.specs.Node.{
-  Node,
-  node,
-  Content,
-  structure,
-  integer,
-  long_integer,
-  big_integer,
-  enumeration,
-  boolean,
-  text_string,
-  byte_string,
-  date_time,
-  interval,
-  date_time_extended,
-  Nodes,
-  no_more,
-  more,
-}
-use Rattle.kmip_ttlv.specs.Fitting.{IsInRange, AreInRange, HasWholeGroups, HaveWholeGroups, depth, depths}
+use Rattle.std.specs.Prelude.{ℕ, ◌+◌, ◌≤◌, length}
+use Rattle.kmip_ttlv.specs.Node.{Node, node, Content, structure, integer, long_integer, big_integer, enumeration, boolean, text_string, byte_string, date_time, interval, date_time_extended, Nodes, no_more, more}
+use Rattle.kmip_ttlv.specs.Fitting.{IsInRange, HasWholeGroups, depth}
 use Rattle.kmip_ttlv.specs.Spelling.{padding, canon}
 
 -- the length of a value with its padding
@@ -62,23 +44,3 @@ abbrev pub IsWritable : Node → Type 0
 IsWritable n = HasWholeGroups n × (depth n ≤ most_levels) × (length (canon n) ≤ most_bytes)
 
 -- ---- what the code returns
-
--- Private: a size, where the room holds it
-abbrev pub size_up_to : ℕ → ℕ → Option ℕ
-size_up_to size room = if nat_le size room then Some size else None
-
--- Private: the size of an item, where it has at most this many levels and bytes
-abbrev pub IsSizeWithin : Option ℕ → Node → ℕ → ℕ → Type 0
-IsSizeWithin (Some found) n levels room = IsInRange n × (depth n ≤ levels) × (found ≡ size n) × (found ≤ room)
-IsSizeWithin None n levels room = HasWholeGroups n → depth n ≤ levels → size n ≤ room → ⊥
-
--- Private: the size of these items together
-abbrev pub AreSizesWithin : Option ℕ → Nodes → ℕ → ℕ → Type 0
-AreSizesWithin (Some found) ns levels room = AreInRange ns × (depths ns ≤ levels) × (found ≡ sizes ns) × (found ≤ room)
-AreSizesWithin None ns levels room = HaveWholeGroups ns → depths ns ≤ levels → sizes ns ≤ room → ⊥
-
--- Private: the size of a Structure of these items
-abbrev pub IsStructureWithin : Option ℕ → Nodes → ℕ → ℕ → Type 0
-IsStructureWithin (Some found) ns levels room =
-    AreInRange ns × (1 + depths ns ≤ levels) × (found ≡ head_size + sizes ns) × (found ≤ room)
-IsStructureWithin None ns levels room = HaveWholeGroups ns → 1 + depths ns ≤ levels → head_size + sizes ns ≤ room → ⊥

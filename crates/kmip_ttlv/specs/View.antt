@@ -19,8 +19,8 @@ use Rattle.kmip_ttlv.specs.Node.{
   nodes_of,
 }
 use Rattle.kmip_ttlv.specs.declared.item.Item.{Item}
-use Rattle.kmip_ttlv.specs.declared.item.Value.{Value, fold-Value}
-use Rattle.kmip_ttlv.specs.declared.item.Value.TheOpen.{Value-F, Item-F}
+use Rattle.kmip_ttlv.specs.declared.value.Value.{Value, fold-Value}
+use Rattle.kmip_ttlv.specs.declared.value.Value.TheOpen.{Value-F, Item-F}
 
 -- one level of a value, with each item inside already seen as its node
 abbrev pub value_step : Value-F Content Node → Content

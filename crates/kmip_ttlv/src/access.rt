@@ -13,9 +13,10 @@ ghost use Rattle.kmip_ttlv.specs.Node.{
 ghost use Rattle.kmip_ttlv.specs.View.{view, views, content};
 ghost use Rattle.kmip_ttlv.specs.Spelling.{type_of};
 
-use crate::item::{Item, Value};
+use crate::item::Item;
 use crate::item_type::ItemType;
 use crate::tag::Tag;
+use crate::value::Value;
 
 impl Value {
     /// The type of the value.

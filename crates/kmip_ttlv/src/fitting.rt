@@ -3,11 +3,13 @@ ghost use Rattle.kmip_ttlv.specs.Limits.{head_size, most_bytes};
 ghost use Rattle.std.specs.Prelude.{◌≡◌, ◌+◌, ◌≤◌, ◌<◌, ◌↔◌, length, IsTrue};
 ghost use Rattle.kmip_ttlv.specs.Node.{nodes_of};
 ghost use Rattle.kmip_ttlv.specs.View.{view, views};
-ghost use Rattle.kmip_ttlv.specs.Sizes.{Fits, IsWritable, IsSizeWithin, AreSizesWithin, IsStructureWithin, padded, size_up_to};
+ghost use Rattle.kmip_ttlv.specs.Sizes.{Fits, IsWritable, padded};
+ghost use Rattle.kmip_ttlv.specs.Private.{IsSizeWithin, AreSizesWithin, IsStructureWithin, size_up_to};
 
-use crate::item::{Item, Value};
+use crate::item::Item;
 use crate::item_type::ItemType;
 use crate::limits::{HEAD_SIZE, MAX_DEPTH, MAX_SIZE, padding_of};
+use crate::value::Value;
 
 /// Whether the item has a written form. It takes no memory.
 pub fn fits(item: &Item) -> bool

@@ -8,26 +8,30 @@
 
 mod access;
 mod bytes;
-mod fault;
 mod fitting;
 mod item;
 mod item_type;
 mod limits;
 mod making;
+mod no_memory;
 mod reading;
 mod showing;
 mod tag;
 mod text;
+mod ttlv_fault;
+mod value;
 mod writing;
 
 pub use bytes::Bytes;
-pub use fault::{NoMemory, TtlvFault};
 pub use fitting::fits;
-pub use item::{Item, Value};
+pub use item::Item;
 pub use item_type::ItemType;
 pub use limits::{HEAD_SIZE, MAX_DEPTH, MAX_SIZE};
+pub use no_memory::NoMemory;
 pub use reading::read;
 pub use showing::{plain_text, show};
 pub use tag::Tag;
 pub use text::Text;
+pub use ttlv_fault::TtlvFault;
+pub use value::Value;
 pub use writing::write;

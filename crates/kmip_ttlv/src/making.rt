@@ -18,9 +18,10 @@ ghost use Rattle.kmip_ttlv.specs.Node.{
 ghost use Rattle.kmip_ttlv.specs.View.{view, views};
 
 use crate::bytes::Bytes;
-use crate::item::{Item, Value};
+use crate::item::Item;
 use crate::tag::Tag;
 use crate::text::Text;
+use crate::value::Value;
 
 impl Item {
     /// A Structure of these items, in this order.

@@ -1,8 +1,8 @@
 //! Bytes to items.
 ghost use Rattle.kmip_ttlv.specs.Limits.{head_size, most_bytes, most_levels};
 ghost use Rattle.std.specs.Prelude.{◌≡◌, ℕ, ◌+◌, ◌<◌, ◌≤◌, ◌^◌, ◌⊎◌, ◌&&◌, nat_lt, Some, List, ◌++◌, length, take, drop, IfOk, IfErr, IsTrue};
-ghost use Rattle.kmip_ttlv.specs.declared.fault.TtlvFault.{TtlvFault};
-ghost use Rattle.kmip_ttlv.specs.declared.fault.TtlvFault.TheVariants as faults;
+ghost use Rattle.kmip_ttlv.specs.declared.ttlv_fault.TtlvFault.{TtlvFault};
+ghost use Rattle.kmip_ttlv.specs.declared.ttlv_fault.TtlvFault.TheVariants as faults;
 ghost use Rattle.byteorder.specs.Endian.{big_number};
 ghost use Rattle.kmip_ttlv.specs.Node.{Node};
 ghost use Rattle.kmip_ttlv.specs.View.{view, views, content};
@@ -10,16 +10,18 @@ ghost use Rattle.kmip_ttlv.specs.Types.{is_allowed};
 ghost use Rattle.kmip_ttlv.specs.Spelling.{padding, canon, Spells};
 ghost use Rattle.kmip_ttlv.specs.Sizes.{Fits, IsWritable};
 ghost use Rattle.kmip_ttlv.specs.Heads.{overrun, head_at, typed_head_at};
-ghost use Rattle.kmip_ttlv.specs.Reading.{GivesContent, ReadsAs, IsRead, IsRefused, boolean_value_at, text_value_at, value_at, all_at, item_at};
+ghost use Rattle.kmip_ttlv.specs.Private.{GivesContent};
+ghost use Rattle.kmip_ttlv.specs.Reading.{ReadsAs, IsRead, IsRefused, boolean_value_at, text_value_at, value_at, all_at, item_at};
 ghost use Rattle.kmip_ttlv.specs.Breaks.{Breaks};
 
 use crate::bytes::Bytes;
-use crate::fault::TtlvFault;
-use crate::item::{Item, Value};
+use crate::item::Item;
 use crate::item_type::ItemType;
 use crate::limits::{HEAD_SIZE, MAX_DEPTH, MAX_SIZE, padding_of};
 use crate::tag::Tag;
 use crate::text::Text;
+use crate::ttlv_fault::TtlvFault;
+use crate::value::Value;
 use byteorder::{BigEndian, ByteOrder};
 use std::alloc::Global;
 

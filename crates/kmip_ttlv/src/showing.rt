@@ -18,8 +18,9 @@ ghost use Rattle.kmip_ttlv.specs.Showing.{
   shown_text,
 };
 
-use crate::fault::NoMemory;
-use crate::item::{Item, Value};
+use crate::item::Item;
+use crate::no_memory::NoMemory;
+use crate::value::Value;
 use std::alloc::Global;
 
 /// The item as text: a line for each item, with its tag, its type and its value. Below a Structure's

@@ -8,12 +8,13 @@ ghost use Rattle.kmip_ttlv.specs.Spelling.{head, item_bytes, zeros, padding, can
 ghost use Rattle.kmip_ttlv.specs.Fitting.{IsInRange, AreInRange};
 ghost use Rattle.kmip_ttlv.specs.Sizes.{IsWritable};
 
-use crate::fault::NoMemory;
 use crate::fitting::all_within;
-use crate::item::{Item, Value};
+use crate::item::Item;
 use crate::item_type::ItemType;
 use crate::limits::{HEAD_SIZE, MAX_DEPTH, MAX_SIZE, padding_of};
+use crate::no_memory::NoMemory;
 use crate::tag::Tag;
+use crate::value::Value;
 use byteorder::{BigEndian, ByteOrder};
 
 /// Appends the one written form of an item, its padding zero.

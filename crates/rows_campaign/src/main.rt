@@ -67,8 +67,8 @@ mod telling;
 
 use crate::cases::Cases;
 use std::test::Fail;
-use test_support::carry_out;
+use test_support::replay;
 
 fn main(rt: HostRuntime) -> Result<(), Fail> {
-    carry_out::<Cases>(&rt)
+    replay::<Cases>(&rt)
 }

@@ -42,8 +42,8 @@ mod trying;
 
 use crate::rows::Rows;
 use std::test::Fail;
-use test_support::carry_out;
+use test_support::replay;
 
 fn main(rt: HostRuntime) -> Result<(), Fail> {
-    carry_out::<Rows>(&rt)
+    replay::<Rows>(&rt)
 }

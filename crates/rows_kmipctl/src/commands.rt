@@ -113,7 +113,7 @@ impl Command {
     ) -> ExitStatus {
         let ended = match call {
             Call::Program => return self.run(alloc, reader, writer),
-            Call::ReaderAndWriter => self.carry_out(alloc, reader, writer),
+            Call::ReaderAndWriter => self.call_with(alloc, reader, writer),
             Call::Memory => self.carry_out_in_memory(alloc, reader.rest, &mut writer.written),
         };
         finished(ended, writer)
@@ -147,7 +147,7 @@ impl Command {
     }
 
     /// Carries it out over the reader and the writer, and says whether something was refused.
-    fn carry_out(
+    fn call_with(
         &self,
         alloc: Global,
         reader: &mut PieceReader<'_>,

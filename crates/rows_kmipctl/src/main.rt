@@ -54,8 +54,8 @@ mod writers;
 
 use crate::transcript::Commands;
 use std::test::Fail;
-use test_support::carry_out;
+use test_support::replay;
 
 fn main(rt: HostRuntime) -> Result<(), Fail> {
-    carry_out::<Commands>(&rt)
+    replay::<Commands>(&rt)
 }

@@ -9,7 +9,7 @@ use crate::watching::{Count, Patient, Stopped};
 use kmip_client::Client;
 use kmip_message_commands::ExitStatus;
 use kmip_plan::{Plan, read_plan};
-use kmip_plan_commands::{RunInput, Spent, begin, run_run, standing_line};
+use kmip_plan_commands::{RunInput, Spent, begin, progress_line, run_run};
 use kmip_runs::{Observed, Pace, SaveFault, Stop, carry_out, next_wait};
 use kmip_scripted::{Scripted, read_script};
 use kmip_server::{ListStore, Server};
@@ -307,7 +307,7 @@ fn standing(
 ) -> Result<(), Fail> {
     let spent = spent_of(words)?;
     match begin(rt.alloc(), case.client.plan(), saved) {
-        Ok(client) => rt.println(&standing_line(rt.alloc(), &client, spent)?)?,
+        Ok(client) => rt.println(&progress_line(rt.alloc(), &client, spent)?)?,
         Err(fault) => rt.println(format_args!("refused {} {}", fault.number(), fault.name()))?,
     }
     Ok(())

@@ -4,7 +4,7 @@
 mod transcript;
 mod vectors;
 
-pub use transcript::{Transcript, carry_out};
+pub use transcript::{Transcript, replay};
 pub use vectors::{
     ACTIVATE_1, ACTIVATE_1_REPLY, ALL, ASK_ACTIVATE, CREATE_K1, CREATE_K1_LOOSE_REPLY,
     CREATE_K1_REPLY, DESTROY_1, INVALID_MESSAGE_REPLY, LOCATE_A_AND_B, LOCATE_A_AND_B_NONE,

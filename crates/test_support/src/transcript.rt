@@ -34,7 +34,7 @@ struct Block<'a> {
 ///
 /// # Errors
 /// Where it can't be read, there is no memory, or a line or a block stops it.
-pub fn carry_out<T: Transcript>(rt: &HostRuntime) -> Result<(), Fail> {
+pub fn replay<T: Transcript>(rt: &HostRuntime) -> Result<(), Fail> {
     let reader = BufReader::new(rt.alloc(), rt.reader())?;
     let text = io::read_to_string(rt.alloc(), reader)?;
     let mut open: Option<Block<'_>> = None;

@@ -6,7 +6,7 @@ use Rattle.kmip_ttlv.specs.Binding.{◌>>=◌}
 use Rattle.kmip_ttlv.specs.Node.{Content}
 use Rattle.kmip_ttlv.specs.View.{content, views}
 use Rattle.kmip_ttlv.specs.declared.item.Item.{Item}
-use Rattle.kmip_batch_items.specs.declared.fault.MessageFault.{MessageFault}
+use Rattle.kmip_batch_items.specs.declared.message_fault.MessageFault.{MessageFault}
 use Rattle.kmip_batch_items.specs.Formats.{texts, value_in, values_in}
 use Rattle.kmip_batch_items.specs.Siblings.{contents}
 use Rattle.kmip_objects.specs.Ranges.{is_identifier}

@@ -4,7 +4,7 @@ use Rattle.std.proofs.lemmas.Option.{slice_get_read}
 use Rattle.kmip_batch_items.specs.declared.request.Request.{Request}
 use Rattle.kmip_client.specs.Asking.{at_place, part_about}
 use Rattle.kmip_client.specs.Questions.{request_about}
-use Rattle.kmip_client.specs.Shapes.{IsShaped}
+use Rattle.kmip_client.specs.Private.{IsShaped}
 use Rattle.kmip_client.proofs.AskingLemmas.{at_said, if_ok, part_of, within_some}
 use Rattle.kmip_client.proofs.ClientLemmas.{at_both}
 use Rattle.kmip_client.proofs.batching.request_at.Goals as goal

@@ -3,7 +3,7 @@ use Rattle.std.proofs.Common.{subst, arith}
 use Rattle.std.proofs.lemmas.Bool.Decides.{nat_tests}
 use Rattle.std.proofs.lemmas.Result.{IfOk-from_err}
 use Rattle.std.proofs.KnownBytes.{Keeps-refl, Keeps-trans}
-use Rattle.kmip_message_commands.specs.Lines.{TakesPiece}
+use Rattle.kmip_message_commands.specs.Private.{TakesPiece}
 use Rattle.kmip_message_commands.proofs.LineLemmas.{HasRead-none, HasRead-more, HasRead-last, HasRead-end, HasRead-nothing}
 use Rattle.kmip_message_commands.proofs.lines.read_line.Goals as goal
 

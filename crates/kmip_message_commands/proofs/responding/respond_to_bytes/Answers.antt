@@ -1,7 +1,7 @@
 -- A line more, after which the command goes on or is over.
 use Rattle.std.proofs.Common.{◌≡◌, ◌==◌, ℕ, Bool, true, false, true≢false, ◌||◌, List, [], ◌∷◌, ◌++◌, length, Option, refl, sym, ap, ◌∙◌, ne_eqb, arith}
 use Rattle.std.proofs.lemmas.Result.{IfOk-from_err}
-use Rattle.kmip_message_commands.specs.LineText.{Response, input_read, Responds}
+use Rattle.kmip_message_commands.specs.Private.{Response, input_read, Responds}
 use Rattle.kmip_message_commands.proofs.RespondingLemmas.{HasResponded, line_read, responded_all, responded_front, stays_ready_line, made_whole, at_want}
 use Rattle.kmip_message_commands.proofs.responding.respond_to_bytes.Goals as goal
 

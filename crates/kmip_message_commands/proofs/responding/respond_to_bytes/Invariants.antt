@@ -1,6 +1,6 @@
 -- What `respond_to_bytes` appended for the lines before the rest, and which of them it refused.
 use Rattle.std.proofs.Common.{length, Some}
-use Rattle.kmip_message_commands.specs.LineText.{input_read}
+use Rattle.kmip_message_commands.specs.Private.{input_read}
 use Rattle.kmip_message_commands.proofs.RespondingLemmas.{HasResponded}
 use Rattle.kmip_message_commands.proofs.responding.respond_to_bytes.Given as goal
 

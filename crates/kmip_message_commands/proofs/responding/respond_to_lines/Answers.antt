@@ -1,7 +1,7 @@
 use Rattle.std.proofs.Common.{true, false, ◌||◌, IfSome, sym, ap, subst, ◌∙◌}
 use Rattle.std.specs.Io.KnownBytes.{Appends}
 use Rattle.std.proofs.KnownBytes.{Keeps-refl}
-use Rattle.kmip_message_commands.specs.Lines.{TakesLine}
+use Rattle.kmip_message_commands.specs.Private.{TakesLine}
 use Rattle.kmip_message_commands.proofs.RespondingLemmas.{Responding-line, Responding-goes_on, Responding-over, Responding-broken, stays_ready_line, made_whole, at_fault}
 use Rattle.kmip_message_commands.proofs.responding.respond_to_lines.Goals as goal
 

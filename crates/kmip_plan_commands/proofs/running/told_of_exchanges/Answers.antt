@@ -1,6 +1,6 @@
 -- What is told has come of the exchanges.
 use Rattle.std.proofs.Common.{rules, refl, inl, inr}
-use Rattle.kmip_runs.specs.declared.keeper.SaveFault.TheVariants as faults
+use Rattle.kmip_runs.specs.declared.save_fault.SaveFault.TheVariants as faults
 use Rattle.kmip_plan_commands.proofs.CourseLemmas.{came_stop, came_unsaved}
 use Rattle.kmip_plan_commands.proofs.running.told_of_exchanges.Goals as goal
 

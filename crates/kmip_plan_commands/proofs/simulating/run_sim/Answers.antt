@@ -8,7 +8,7 @@ use Rattle.kmip_choices.specs.declared.detail.Detail.{Detail}
 use Rattle.kmip_message_commands.specs.Printing.{fault_line}
 use Rattle.kmip_message_commands.proofs.FinishingLemmas.{finished_whole, finished_broken}
 use Rattle.kmip_plan.specs.Reading.{plan_read}
-use Rattle.kmip_plan.specs.declared.fault.PlanFault.{PlanFault}
+use Rattle.kmip_plan.specs.declared.plan_fault.PlanFault.{PlanFault}
 use Rattle.kmip_plan_commands.specs.Simulating.{BreaksOffSim, WritesSim}
 use Rattle.kmip_plan_commands.proofs.simulating.run_sim.Goals as goal
 

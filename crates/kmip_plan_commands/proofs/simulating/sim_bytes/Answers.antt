@@ -4,8 +4,8 @@ use Rattle.std.specs.Result.{IfOk, OnErr}
 use Rattle.std.proofs.lemmas.Result.{IfOk-from_err}
 use Rattle.kmip_plan.specs.declared.key.Key.{Key}
 use Rattle.kmip_choices.specs.declared.detail.Detail.{Detail}
-use Rattle.kmip_plan.specs.declared.fault.PlanFault.{PlanFault}
-use Rattle.kmip_ttlv.specs.declared.fault.NoMemory.{NoMemory}
+use Rattle.kmip_plan.specs.declared.plan_fault.PlanFault.{PlanFault}
+use Rattle.kmip_ttlv.specs.declared.no_memory.NoMemory.{NoMemory}
 use Rattle.kmip_plan_commands.specs.Simulating.{BreaksOffSim, TellsSim, WritesSim}
 use Rattle.kmip_plan_commands.proofs.simulating.sim_bytes.Goals as goal
 

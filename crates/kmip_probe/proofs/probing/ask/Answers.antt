@@ -4,7 +4,7 @@ use Rattle.kmip_ttlv.specs.Spelling.{canon}
 use Rattle.kmip_messages.specs.Items.{parts_in}
 use Rattle.kmip_messages.specs.Written.{requests_item}
 use Rattle.kmip_probe.specs.Answers.{answer_to}
-use Rattle.kmip_probe.specs.Putting.{HasSent}
+use Rattle.kmip_probe.specs.Private.{HasSent}
 use Rattle.kmip_probe.proofs.PuttingLemmas.{few_by, replied_by, sent_by, weaken}
 use Rattle.kmip_probe.proofs.probing.ask.Goals as goal
 

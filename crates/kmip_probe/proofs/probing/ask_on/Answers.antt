@@ -6,8 +6,9 @@ use Rattle.std.proofs.lemmas.List.{append_assoc, length-append}
 use Rattle.std.proofs.lemmas.List.Elements.{All-push}
 use Rattle.kmip_probe.specs.Answers.{IsLawful}
 use Rattle.kmip_probe.specs.Asking.{next_inquiry}
-use Rattle.kmip_probe.specs.Putting.{AreAsked, HasAsked, HasServedNext}
-use Rattle.kmip_probe.specs.Standing.{AreServed}
+use Rattle.kmip_probe.specs.Putting.{AreAsked}
+use Rattle.kmip_probe.specs.Private.{HasAsked, HasServedNext}
+use Rattle.kmip_probe.specs.TwoObjects.{AreServed}
 use Rattle.kmip_probe.proofs.ProbingLemmas.{asked_more}
 use Rattle.kmip_probe.proofs.ServedLemmas.{one_served}
 use Rattle.kmip_probe.proofs.probing.ask_on.Goals as goal

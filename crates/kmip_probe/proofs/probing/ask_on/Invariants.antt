@@ -4,7 +4,7 @@ use Rattle.std.specs.List.{All}
 use Rattle.kmip_protocol.specs.Past.{Names}
 use Rattle.kmip_probe.specs.Answers.{IsLawful}
 use Rattle.kmip_probe.specs.Putting.{AsksOn}
-use Rattle.kmip_probe.specs.Standing.{AreServed}
+use Rattle.kmip_probe.specs.TwoObjects.{AreServed}
 use Rattle.kmip_probe.specs.declared.answer.Answer.{Answer}
 use Rattle.kmip_probe.proofs.probing.ask_on.Given as goal
 

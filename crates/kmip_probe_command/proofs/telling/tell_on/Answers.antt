@@ -2,11 +2,11 @@
 use Rattle.std.proofs.Common.{◌∷◌, [], ◌++◌, flat_map, map, refl, sym, subst, arith}
 use Rattle.std.specs.Io.KnownBytes.{Appends}
 use Rattle.std.proofs.lemmas.Result.{err_from_is_err_and}
-use Rattle.kmip_message_commands.specs.Printing.{Fails}
+use Rattle.kmip_message_commands.specs.Private.{Fails}
 use Rattle.kmip_probe_command.specs.LookText.{making_text}
 use Rattle.kmip_probe_command.specs.Midway.{line_by}
-use Rattle.kmip_probe_command.specs.ProbeText.{TellsEnd}
-use Rattle.kmip_probe_command.specs.Wording.{rest_text}
+use Rattle.kmip_probe_command.specs.Private.{TellsEnd}
+use Rattle.kmip_probe_command.specs.Private.{rest_text}
 use Rattle.kmip_probe_command.specs.declared.premise.Premise.TheVariants as premise
 use Rattle.kmip_probe_command.specs.declared.premise.TheConstants.{EARLY, LATE}
 use Rattle.kmip_probe.specs.Putting.{AsksOn}

@@ -1,5 +1,5 @@
 -- The lines speak of the first keys of the new plan.
-use Rattle.kmip_progress.specs.declared.entry.Format.TheVariants.{One, Two}
+use Rattle.kmip_progress.specs.declared.format.Format.TheVariants.{One, Two}
 use Rattle.kmip_progress.proofs.LawLemmas.{read_on}
 use Rattle.kmip_progress.proofs.laws.texts_are_prolonged.Goals as goal
 

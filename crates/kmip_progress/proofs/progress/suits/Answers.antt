@@ -1,6 +1,6 @@
 -- The test is that it suits.
 use Rattle.std.proofs.Common.{◌≡◌, sym, ◌∙◌, rules}
-use Rattle.kmip_progress.specs.Suiting.{all_fit}
+use Rattle.kmip_progress.specs.Private.{all_fit}
 use Rattle.kmip_progress.proofs.SuitingLemmas.{suits_so, so_suits}
 use Rattle.kmip_progress.proofs.progress.suits.Goals as goal
 

@@ -1,6 +1,6 @@
 -- Bytes that are no text are no identifier.
 use Rattle.std.proofs.Common.{false, ap}
-use Rattle.kmip_progress.specs.declared.fault.ProgressFault.TheVariants as faults
+use Rattle.kmip_progress.specs.declared.progress_fault.ProgressFault.TheVariants as faults
 use Rattle.kmip_progress.specs.Reading.{need}
 use Rattle.kmip_progress.proofs.WordLemmas.{spelt, no_text, no_utf8, is_err}
 use Rattle.kmip_progress.proofs.words.identifier_of_word.Goals as goal

@@ -1,6 +1,7 @@
 -- Head, lines and end.
 use Rattle.std.proofs.Common.{◌≡◌, [], ◌∷◌, ◌++◌, codes, length, string_bytes, ◌∙◌, rules}
-use Rattle.kmip_progress.specs.Texts.{key_lines, end_line}
+use Rattle.kmip_progress.specs.Private.{key_lines}
+use Rattle.kmip_progress.specs.Texts.{end_line}
 use Rattle.kmip_progress.proofs.WritingLemmas.{whole}
 use Rattle.kmip_progress.proofs.writing.progress_text.Goals as goal
 

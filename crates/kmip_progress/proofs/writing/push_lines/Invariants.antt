@@ -1,7 +1,7 @@
 -- The lines so far, and then those of the keys that are left, are all of them.
 use Rattle.std.proofs.Common.{◌≡◌, ◌++◌, drop, string_bytes}
 use Rattle.kmip_progress.specs.Suiting.{Suits, are_texts}
-use Rattle.kmip_progress.specs.Texts.{key_lines}
+use Rattle.kmip_progress.specs.Private.{key_lines}
 use Rattle.kmip_progress.proofs.writing.push_lines.Given as goal
 
 abbrev pub invariant-loop-one : goal.invariant-loop-one

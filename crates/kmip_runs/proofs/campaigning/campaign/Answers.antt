@@ -3,8 +3,8 @@ use Rattle.std.proofs.Common.{◌≡◌, ◌∙◌, [], None, subst, sym}
 use Rattle.std.specs.List.{All}
 use Rattle.std.proofs.lemmas.List.Elements.{All-nil}
 use Rattle.kmip_client.specs.Held.{TrueProgress}
-use Rattle.kmip_runs.specs.Campaign.{reported}
-use Rattle.kmip_runs.specs.CampaignParts.{HasRunAll}
+use Rattle.kmip_runs.specs.Headline.{reported}
+use Rattle.kmip_runs.specs.PrivateCampaignParts.{HasRunAll}
 use Rattle.kmip_runs.specs.TurnedRuns.{AreTurnedFrom}
 use Rattle.kmip_protocol.specs.Past.{is_planned}
 use Rattle.kmip_runs.proofs.CampaignLemmas.{reported_reached}

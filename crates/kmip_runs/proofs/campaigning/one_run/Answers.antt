@@ -4,7 +4,7 @@ use Rattle.std.specs.List.{All}
 use Rattle.kmip_client.specs.Held.{TrueProgress}
 use Rattle.kmip_progress.specs.Suiting.{Suits}
 use Rattle.kmip_protocol.specs.Past.{is_planned}
-use Rattle.kmip_runs.specs.CampaignParts.{saved_with}
+use Rattle.kmip_runs.specs.PrivateCampaignParts.{saved_with}
 use Rattle.kmip_runs.specs.Remembering.{start_knowns}
 use Rattle.kmip_runs.specs.TurnedRuns.{begin_client}
 use Rattle.kmip_runs.proofs.CalmLemmas.{settled_run}

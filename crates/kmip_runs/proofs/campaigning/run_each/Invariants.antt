@@ -4,8 +4,8 @@ use Rattle.std.specs.List.{All}
 use Rattle.std.specs.Prelude.{⊤}
 use Rattle.kmip_client.specs.Held.{TrueProgress}
 use Rattle.kmip_protocol.specs.Past.{is_planned}
-use Rattle.kmip_runs.specs.Campaign.{GoodLink}
-use Rattle.kmip_runs.specs.Ending.{EndsJoin}
+use Rattle.kmip_runs.specs.Headline.{GoodLink}
+use Rattle.kmip_runs.specs.Private.{EndsJoin}
 use Rattle.kmip_runs.specs.Losing.{AllOutlast}
 use Rattle.kmip_runs.proofs.RunLemmas.{Running}
 use Rattle.kmip_runs.proofs.TurnedRunLemmas.{TurnedSoFar}

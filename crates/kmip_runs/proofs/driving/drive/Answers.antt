@@ -5,7 +5,8 @@ use Rattle.kmip_client.specs.Clients.{ClientState, one_if}
 use Rattle.kmip_protocol.specs.Past.{Names, is_planned}
 use Rattle.kmip_runs.specs.Driving.{Keeps, Learnt, LearntUntil, Nearer, WentOn}
 use Rattle.kmip_runs.specs.Losing.{ArePaid, left_for}
-use Rattle.kmip_runs.specs.Turning.{IsTurned, TakesTurn, exchanges_made}
+use Rattle.kmip_runs.specs.Turning.{IsTurned}
+use Rattle.kmip_runs.specs.Private.{TakesTurn, exchanges_made}
 use Rattle.kmip_runs.specs.declared.stop.Stop.TheVariants as stops
 use Rattle.kmip_runs.specs.declared.turn_fault.TurnFault.{TurnFault}
 use Rattle.kmip_runs.specs.declared.turn_fault.TurnFault.TheVariants.{Unmade, Unheard}

@@ -5,8 +5,8 @@ use Rattle.kmip_protocol.specs.Exchanges.{Exchanged, HandsOver, answer_in}
 use Rattle.kmip_protocol.specs.Past.{is_planned}
 use Rattle.kmip_protocol.specs.Losses.{or_loss}
 use Rattle.kmip_protocol.specs.Turns.{lost_each}
-use Rattle.kmip_runs.specs.Driving.{AreParts, IsBrokenOff}
-use Rattle.kmip_runs.specs.Turning.{messages_made}
+use Rattle.kmip_runs.specs.Private.{AreParts, IsBrokenOff}
+use Rattle.kmip_runs.specs.Private.{messages_made}
 use Rattle.kmip_runs.proofs.FurtherLemmas.{further_asked}
 use Rattle.kmip_runs.proofs.GoodLemmas.{good_left, if_handed, left, told}
 use Rattle.kmip_runs.proofs.KnownLemmas.{broken_asked, broken_handed, exchanged_grown, handed_asks, handed_over, learnt_one, lost_facts, on_ok}

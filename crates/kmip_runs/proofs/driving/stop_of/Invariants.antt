@@ -2,7 +2,7 @@
 use Rattle.std.proofs.Common.{◌≢◌, ◌<◌, ℕ}
 use Rattle.kmip_client.specs.Clients.{verdict_at}
 use Rattle.kmip_client.specs.declared.clash.Clash.{Clash}
-use Rattle.kmip_client.specs.declared.knowledge.Verdict.TheVariants.{Conflict}
+use Rattle.kmip_client.specs.declared.verdict.Verdict.TheVariants.{Conflict}
 use Rattle.kmip_runs.proofs.driving.stop_of.Given as goal
 
 abbrev pub invariant-loop-place : goal.invariant-loop-place

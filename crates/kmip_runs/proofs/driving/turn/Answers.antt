@@ -6,9 +6,10 @@ use Rattle.kmip_client.specs.Asking.{IsAbout, next_places}
 use Rattle.kmip_client.specs.Clients.{AreSettled, ClientState}
 use Rattle.kmip_client.specs.Known.{facts}
 use Rattle.kmip_protocol.specs.Past.{is_planned}
-use Rattle.kmip_runs.specs.Driving.{IsBrokenOff, IsGood, IsToBePut, Keeps, KeepsFurther, Learnt, WentOn}
+use Rattle.kmip_runs.specs.Private.{IsBrokenOff, IsToBePut}
+use Rattle.kmip_runs.specs.Driving.{IsGood, Keeps, KeepsFurther, Learnt, WentOn}
 use Rattle.kmip_runs.specs.Losing.{ArePaid, left_for}
-use Rattle.kmip_runs.specs.Turning.{IsAnswered}
+use Rattle.kmip_runs.specs.Private.{IsAnswered}
 use Rattle.kmip_runs.proofs.DriveLemmas.{asks_one, further_if}
 use Rattle.kmip_runs.proofs.FurtherLemmas.{further_nowhere}
 use Rattle.kmip_runs.proofs.GoodLemmas.{good_asked, keeps_asked, keeps_itself, keeps_then, went_nowhere}

@@ -2,7 +2,7 @@
 use Rattle.std.proofs.Common.{[], flat_map, map}
 use Rattle.std.proofs.lemmas.List.Elements.{All-append}
 use Rattle.kmip_protocol.specs.Laws.{IsReached}
-use Rattle.kmip_runs.specs.Campaign.{reported, reported_by}
+use Rattle.kmip_runs.specs.Headline.{reported, reported_by}
 use Rattle.kmip_runs.specs.Campaigns.{last_plan}
 use Rattle.kmip_runs.proofs.EndingLemmas.{all_joined, join_if}
 use Rattle.kmip_runs.proofs.PlanLemmas.{in_turn_if}

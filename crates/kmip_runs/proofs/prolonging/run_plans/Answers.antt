@@ -8,7 +8,7 @@ use Rattle.kmip_plan.specs.Plans.{IsLawful}
 use Rattle.kmip_progress.specs.Suiting.{Suits}
 use Rattle.kmip_protocol.specs.Past.{is_planned}
 use Rattle.kmip_runs.specs.Campaigns.{last_plan}
-use Rattle.kmip_runs.specs.CampaignsParts.{HasRunBroken, HasRunWhole}
+use Rattle.kmip_runs.specs.PrivateCampaignsParts.{HasRunBroken, HasRunWhole}
 use Rattle.kmip_runs.proofs.EndingLemmas.{join_if, join_none, join_then}
 use Rattle.kmip_runs.proofs.PartLemmas.{first_is, last_is, last_prolongs}
 use Rattle.kmip_runs.proofs.PlanLemmas.{Turning, if_next, list_at, lookup_is, plans_all, plans_left, run_broken, turning_more, turning_none}

@@ -2,7 +2,7 @@
 use Rattle.std.specs.Prelude.{⊤, [], length, map}
 use Rattle.kmip_protocol.specs.Past.{is_planned}
 use Rattle.kmip_runs.specs.Campaigns.{last_plan}
-use Rattle.kmip_runs.specs.Ending.{EndsJoin}
+use Rattle.kmip_runs.specs.Private.{EndsJoin}
 use Rattle.kmip_runs.proofs.PlanLemmas.{Turning}
 use Rattle.kmip_runs.proofs.prolonging.run_plans.Given as goal
 

@@ -1,7 +1,7 @@
 -- One line more, until a list ends.
 use Rattle.std.proofs.Common.{◌≡◌, ◌<◌, ◌+◌, ℕ, suc, List, [], ◌∷◌, ◌++◌, length, drop, get_or, string_bytes, refl, sym, ap, ◌∙◌, append_assoc, append-nil, add-one, drop-cons}
 use Rattle.kmip_plan.specs.declared.key.Key.{Key}
-use Rattle.kmip_client.specs.declared.knowledge.Verdict.{Verdict}
+use Rattle.kmip_client.specs.declared.verdict.Verdict.{Verdict}
 use Rattle.kmip_runs.specs.Reporting.{report_line, report_lines}
 use Rattle.kmip_runs.proofs.reporting.push_lines.Goals as goal
 

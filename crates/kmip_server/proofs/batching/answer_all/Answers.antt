@@ -1,7 +1,7 @@
 -- What was answered and what is left make up the whole; and where memory runs out some of the first questions were served.
 use Rattle.std.proofs.Common.{rules, ◌≡◌, ◌+◌, ◌++◌, ◌<◌, [], ◌∷◌, true, false, length, append-nil, IfOk, refl, sym, ap, subst, ◌∙◌, arith}
 use Rattle.std.proofs.Math.Facts.{to_z-of_z}
-use Rattle.kmip_server.specs.Answering.{Tells}
+use Rattle.kmip_server.specs.PrivateAnswering.{Tells}
 use Rattle.kmip_server.specs.Batching.{is_last}
 use Rattle.kmip_server.specs.Serving.{reply_to}
 use Rattle.kmip_server.proofs.BatchLemmas.{AreAnswered, all_left, all_noted, begun_here, begun_so, goes_further, joined_all, none_answered, ok_so, short_more, stopped_behind, stopped_here, stopped_over, told_last, told_over}

@@ -2,8 +2,8 @@
 use Rattle.std.proofs.Common.{◌++◌, [], ◌∷◌, IfOk, refl, ap, subst, ◌∙◌}
 use Rattle.std.proofs.Math.Facts.{to_z-of_z}
 use Rattle.std.proofs.lemmas.Result.{err_from_is_err_and}
-use Rattle.kmip_batch_items.specs.declared.reply.Outcome.TheVariants.{Failed}
-use Rattle.kmip_server.specs.Answering.{Tells, reply_with}
+use Rattle.kmip_batch_items.specs.declared.outcome.Outcome.TheVariants.{Failed}
+use Rattle.kmip_server.specs.PrivateAnswering.{Tells, reply_with}
 use Rattle.kmip_server.proofs.BatchLemmas.{short_more}
 use Rattle.kmip_server.proofs.batching.answer_last_request.Goals as goal
 

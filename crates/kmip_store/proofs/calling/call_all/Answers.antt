@@ -4,8 +4,8 @@ use Rattle.std.proofs.Math.Seq.{drop-length, take-length}
 use Rattle.std.proofs.lemmas.List.{drop_more}
 use Rattle.std.proofs.lemmas.List.Sums.{AllPass-from_list_all}
 use Rattle.std.proofs.lemmas.Result.{err_from_is_err_and}
-use Rattle.kmip_store.specs.declared.calling.Answer.{Answer}
-use Rattle.kmip_store.specs.declared.calling.Call.{Call}
+use Rattle.kmip_store.specs.declared.answer.Answer.{Answer}
+use Rattle.kmip_store.specs.declared.call.Call.{Call}
 use Rattle.kmip_store.specs.Stock.{Stock}
 use Rattle.kmip_store.specs.Calling.{answer_to, answers_to, may_call, stock_after_call, stock_after_calls}
 use Rattle.kmip_store.proofs.CallingLemmas.{one_call_more}

@@ -2,7 +2,7 @@
 use Rattle.std.proofs.Common.{◌<◌, set, length, Some, Ok, IfSome, refl, sym, ap, subst, ◌∙◌}
 use Rattle.std.proofs.lemmas.Option.{slice_get-get_or}
 use Rattle.kmip_store.specs.Stock.{Stock, IsKept}
-use Rattle.kmip_store.specs.Indexing.{names_of, uids_of}
+use Rattle.kmip_store.specs.PrivateIndexing.{names_of, uids_of}
 use Rattle.kmip_store.specs.Stepping.{enter_state, rows_in_state, take_step_from}
 use Rattle.kmip_store.proofs.KeptLemmas.{kept_moved}
 use Rattle.kmip_store.proofs.PlaceLemmas.{find_none}

@@ -1,7 +1,8 @@
 -- One piece more, the end of the stream, or a reader that fails.
 use Rattle.std.proofs.Common.{◌≡◌, List, ℕ, Option, Result, Ok, length, refl, sym, ap, subst, ◌∙◌, arith, rules}
-use Rattle.kmip_protocol.specs.declared.link.LinkFault.{LinkFault}
-use Rattle.kmip_transport.specs.Receiving.{Answers, IsUnfinished, Receives, Takes}
+use Rattle.kmip_protocol.specs.declared.link_fault.LinkFault.{LinkFault}
+use Rattle.kmip_transport.specs.Receiving.{Answers, IsUnfinished, Receives}
+use Rattle.kmip_transport.specs.Private.{Takes}
 use Rattle.kmip_transport.proofs.PieceLemmas.{Takes-refl, takes_on, received_no_more}
 use Rattle.kmip_transport.proofs.receiving.receive.Goals as goal
 

@@ -1,6 +1,6 @@
 -- What was read so far joined what was held. Of a source that is sure each turn has read something.
 use Rattle.std.proofs.Common.{◌≤◌, length}
-use Rattle.kmip_transport.specs.Receiving.{Takes}
+use Rattle.kmip_transport.specs.Private.{Takes}
 use Rattle.kmip_transport.proofs.receiving.receive.Given as goal
 
 abbrev pub invariant-loop-turn : goal.invariant-loop-turn

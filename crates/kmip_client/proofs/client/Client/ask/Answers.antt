@@ -12,7 +12,7 @@ use Rattle.kmip_plan.specs.Plans.{IsLawful}
 use Rattle.kmip_client.specs.declared.knowledge.Knowledge.{Knowledge}
 use Rattle.kmip_client.specs.Asking.{AreApart, after_ask, in_turn, next_places, turn_behind}
 use Rattle.kmip_client.specs.Clients.{ClientState, WorksAt, AreSettled, working_count}
-use Rattle.kmip_client.specs.Shapes.{IsShaped}
+use Rattle.kmip_client.specs.Private.{IsShaped}
 use Rattle.kmip_client.proofs.AskingLemmas.{few_cut, none_all, none_from, none_next}
 use Rattle.kmip_client.proofs.client.Client.ask.Goals as goal
 

@@ -1,7 +1,7 @@
 -- No more is counted than a chain has steps.
 use Rattle.std.proofs.Common.{◌≡◌, subst}
 use Rattle.kmip_client.specs.Clients.{ClientState}
-use Rattle.kmip_client.specs.Standing.{AreWithin, counts_of}
+use Rattle.kmip_client.specs.Verdicts.{AreWithin, counts_of}
 use Rattle.kmip_client.proofs.CountLemmas.{shaped_within}
 use Rattle.kmip_client.proofs.AskingLemmas.{if_ok}
 use Rattle.kmip_client.proofs.client.Client.counts.Goals as goal

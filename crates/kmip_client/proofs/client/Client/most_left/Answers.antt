@@ -1,6 +1,6 @@
 -- Something is known of each key.
 use Rattle.std.proofs.lemmas.Slice.Zip.{AllZip-long}
-use Rattle.kmip_client.specs.Shapes.{IsShaped}
+use Rattle.kmip_client.specs.Private.{IsShaped}
 use Rattle.kmip_client.proofs.client.Client.most_left.Goals as goal
 
 pub most_left-requires-clause-as_many : goal.most_left-requires-clause-as_many

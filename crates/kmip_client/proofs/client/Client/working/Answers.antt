@@ -2,7 +2,7 @@
 use Rattle.std.proofs.Common.{◌≡◌, ◌≤◌, ◌∙◌, sym, subst}
 use Rattle.std.proofs.lemmas.Slice.Zip.{AllZip-long}
 use Rattle.kmip_client.specs.Clients.{ClientState, NoneWorks, SomeWorks, working_count}
-use Rattle.kmip_client.specs.Shapes.{IsShaped}
+use Rattle.kmip_client.specs.Private.{IsShaped}
 use Rattle.kmip_client.proofs.AskingLemmas.{none_all, none_from}
 use Rattle.kmip_client.proofs.CountLemmas.{settled_none, some_works}
 use Rattle.kmip_client.proofs.client.Client.working.Goals as goal

@@ -3,7 +3,7 @@ use Rattle.std.proofs.Common.{[], ◌∷◌, false, ap, subst, sym, ◌∙◌, �
 use Rattle.std.proofs.lemmas.List.Elements.{All-cons, All-nil}
 use Rattle.std.specs.List.{All}
 use Rattle.kmip_runs.specs.Campaign.{MayBatch}
-use Rattle.kmip_runs.specs.declared.campaigning.Start.TheVariants.{Saved}
+use Rattle.kmip_runs.specs.declared.start.Start.TheVariants.{Saved}
 use Rattle.kmip_scripted.proofs.RunsLemmas.{before_may, runs_may}
 use Rattle.kmip_scripted.proofs.script.Script.lists.Goals as goal
 

@@ -1,7 +1,7 @@
 -- Word by word.
 use Rattle.std.proofs.Common.{◌≡◌, false, subst, sym}
 use Rattle.kmip_runs.specs.Campaign.{MayBatch}
-use Rattle.kmip_runs.specs.declared.campaigning.Start.TheVariants.{Fresh}
+use Rattle.kmip_runs.specs.declared.start.Start.TheVariants.{Fresh}
 use Rattle.kmip_scripted.specs.Runs.{runs_from}
 use Rattle.kmip_scripted.proofs.RunsLemmas.{if_ok, runs_may}
 use Rattle.kmip_scripted.proofs.script.Script.runs.Goals as goal

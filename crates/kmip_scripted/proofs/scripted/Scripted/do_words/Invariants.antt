@@ -2,7 +2,7 @@
 use Rattle.std.proofs.Common.{◌≡◌, ℕ, List, false, length}
 use Rattle.kmip_protocol.specs.Moves.{Delivered}
 use Rattle.kmip_protocol.specs.Past.{Names}
-use Rattle.kmip_scripted.specs.Early.{AreOfEarlier, IsEarly}
+use Rattle.kmip_scripted.specs.PrivateEarly.{AreOfEarlier, IsEarly}
 use Rattle.kmip_scripted.specs.Scenes.{Scene, past_in}
 use Rattle.kmip_scripted.specs.Words.{AreBegun, after_words}
 use Rattle.kmip_scripted.proofs.scripted.Scripted.do_words.Given as goal

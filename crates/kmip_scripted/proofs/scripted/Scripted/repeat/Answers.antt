@@ -1,7 +1,7 @@
 -- The request of the number was asked.
 use Rattle.std.proofs.Common.{◌≡◌, Some, sym, subst, ◌∙◌, rules}
-use Rattle.kmip_scripted.specs.Early.{asked_only}
-use Rattle.kmip_scripted.specs.Scenes.{WasAsked}
+use Rattle.kmip_scripted.specs.PrivateEarly.{asked_only}
+use Rattle.kmip_scripted.specs.Private.{WasAsked}
 use Rattle.kmip_scripted.specs.Words.{message_at}
 use Rattle.kmip_scripted.proofs.WordLemmas.{was_asked}
 use Rattle.kmip_scripted.proofs.scripted.Scripted.repeat.Goals as goal

@@ -1,6 +1,6 @@
 -- Each question of the message is a move.
 use Rattle.std.proofs.Common.{ap}
-use Rattle.kmip_scripted.specs.Early.{asked_only}
+use Rattle.kmip_scripted.specs.PrivateEarly.{asked_only}
 use Rattle.kmip_scripted.proofs.ArrivalLemmas.{half_is_delivered, scene_is_delivered, scene_is_taken}
 use Rattle.kmip_scripted.proofs.scripted.Scripted.serve.Goals as goal
 

@@ -4,7 +4,8 @@ use Rattle.kmip_messages.specs.Items.{parts_in, replies_in, stops_in}
 use Rattle.kmip_server.specs.Batching.{batch_reply}
 use Rattle.kmip_protocol.specs.Calm.{AreTaken}
 use Rattle.kmip_protocol.specs.Moves.{Delivered}
-use Rattle.kmip_scripted.specs.Scenes.{WasAsked, past_in}
+use Rattle.kmip_scripted.specs.Private.{WasAsked}
+use Rattle.kmip_scripted.specs.Scenes.{past_in}
 use Rattle.kmip_scripted.proofs.scripted.Scripted.take_and_play.Goals as goal
 
 pub returns-in_err-answer-clause-delivered : goal.returns-in_err-answer-clause-delivered

@@ -4,12 +4,12 @@ use Rattle.std.specs.declared.string.String.{String}
 use Rattle.std.proofs.lemmas.Result.{err_from_is_err_and}
 use Rattle.rand_chacha.specs.ChaCha.{ChaCha}
 use Rattle.indexmap.specs.IndexMap.{IndexMap, get_by_text}
-use Rattle.kmip_objects.specs.declared.attributes.KeyAttrs.{KeyAttrs}
+use Rattle.kmip_objects.specs.declared.key_attrs.KeyAttrs.{KeyAttrs}
 use Rattle.kmip_store.specs.declared.row.Row.{Row}
 use Rattle.kmip_store.specs.Stock.{Stock, draw, has_row_named, identifier_at, material_size, new_row, stock_with}
 use Rattle.kmip_store.proofs.IndexingLemmas.{free_uid, leads_nowhere, leads_row}
 use Rattle.kmip_store.proofs.LocatingLemmas.{has_named}
-use Rattle.kmip_store.specs.Indexing.{LeadsTo, names_of}
+use Rattle.kmip_store.specs.PrivateIndexing.{LeadsTo, names_of}
 use Rattle.kmip_store.proofs.KeptLemmas.{kept_more}
 use Rattle.kmip_store.proofs.indexed_store.IndexedStoreRecords.create.Goals as goal
 

@@ -1,0 +1,46 @@
+-- Private: definitions that only clauses of private functions cite.
+-- Source: own (view): parts of the public definitions of this crate.
+use Rattle.std.specs.Prelude.{◌≡◌, ℕ, Bool, false, List, None, slice_get, if◌then◌else◌, ◌≢◌, ◌≤◌, ◌<◌, length, IfSome, IsTrue}
+use Rattle.std.specs.List.{AllZip}
+use Rattle.std.specs.Option.{option_map_or}
+use Rattle.kmip_batch_items.specs.Faults.{is_no_memory}
+use Rattle.kmip_batch_items.specs.declared.message_fault.MessageFault.{MessageFault}
+use Rattle.kmip_plan.specs.TargetWords.{is_text}
+use Rattle.kmip_plan.specs.declared.key.Key.{Key}
+use Rattle.kmip_client.specs.declared.hear_fault.HearFault.{HearFault}
+use Rattle.kmip_client.specs.declared.knowledge.Knowledge.{Knowledge}
+use Rattle.kmip_client.specs.Knowledge.{chain_length}
+use Rattle.kmip_objects.specs.Ranges.{is_identifier}
+use Rattle.kmip_messages.specs.Members.{may_have}
+use Rattle.kmip_plan.specs.Plans.{IsLawful}
+use Rattle.kmip_client.specs.Clients.{working_count}
+use Rattle.kmip_client.specs.Shapes.{PhaseSuits}
+
+-- The key at the place has the name
+abbrev pub is_named_at : List ℕ → List Key → ℕ → Bool
+is_named_at name keys place = option_map_or (λ key. is_text name key.attrs.name) (slice_get keys place) false
+
+-- Bytes that are no reply, in a call that may run out of memory
+abbrev pub unheard : MessageFault → HearFault
+unheard fault = if is_no_memory fault then faults.NoMemory else faults.Unreadable fault
+
+-- The knowledge of one key: no more steps than the chain has, none without an identifier, a phase that suits, and a clash
+-- only where the key is not finished
+pub record IsShaped (key : Key) (known : Knowledge) : Type 0 where
+  pub few : known.done ≤ chain_length key
+  pub suits : PhaseSuits known.phase known.identifier known.done
+  pub has_identifier : 1 ≤ known.done → known.identifier ≢ None
+  pub in_range : IfSome known.identifier (λ uid. IsTrue (is_identifier uid))
+  pub unsettled : known.clash ≢ None → known.done < chain_length key
+
+-- The keys of a plan, what is known of each, the place at which the next key is looked for, and how many keys are
+-- worked on
+pub record AreShaped (keys : List Key) (knowns : List Knowledge) (next working : ℕ) : Type 0 where
+  pub lawful : IsLawful keys
+  pub each : AllZip IsShaped keys knowns
+  pub turn : next ≤ length keys
+  pub counted : working ≡ working_count keys knowns
+
+-- The same, and how many keys a message asks about at most
+abbrev pub IsClient : List Key → List Knowledge → ℕ → ℕ → ℕ → Type 0
+IsClient keys knowns next working batch = AreShaped keys knowns next working × IsTrue (may_have batch)

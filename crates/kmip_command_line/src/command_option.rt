@@ -1,0 +1,207 @@
+//! The options of the commands, and what stands after them.
+
+use crate::absent::Absent;
+use crate::help::{
+    AFRESH, AFTER, BATCH, BELIEVE, CANON, CONNECT, CONNECTIONS, DIAGRAM, GIVE_UP, LIMIT, LOOPBACK,
+    NAME_PREFIX, NOW, PLAN, PORT, PROGRESS, SCRIPT, SERVE_TIMEOUT, SOCKET, STREAM, THEN, TIMEOUT,
+    TRACE, VERBOSE, WAIT,
+};
+use crate::value::Value;
+use Absent::{Fine, Means, Wrong};
+use Value::{Flag, FlagUnless, Number, Text};
+use clap::builder::ValueParser;
+use clap::{Arg, ArgAction};
+use kmip_batch_items::standard::MOST_QUESTIONS;
+use std::alloc::{AllocError, Global};
+
+/// The largest number of exchanges and of connections (own).
+pub(crate) const MOST_COUNT: u64 = 4_294_967_295;
+
+/// The longest time that an exchange may be given, in seconds (own).
+pub(crate) const MOST_SECONDS: u64 = 3_600;
+
+/// The longest first wait, in milliseconds (own).
+const MOST_WAIT: u64 = 60_000;
+
+/// The longest time after which a run gives up, in seconds (own): a day.
+const MOST_GIVE_UP: u64 = 86_400;
+
+/// The latest time, in seconds since the start of 1970.
+const LATEST: u64 = 9_223_372_036_854_775_807;
+
+/// An option: its word without the two dashes, what stands after it, what it means that it is absent,
+/// and its help.
+#[derive(Clone, Copy)]
+pub(crate) struct CommandOption(&'static str, Value, Absent, &'static str);
+
+const STREAM_OPTION: CommandOption = CommandOption("stream", Flag, Fine, STREAM);
+
+const CANON_OPTION: CommandOption = CommandOption("canon", Flag, Fine, CANON);
+
+const PLAN_OPTION: CommandOption = CommandOption("plan", Text("PATH"), Wrong, PLAN);
+
+const AFTER_OPTION: CommandOption = CommandOption("after", Text("PATH"), Fine, AFTER);
+
+const THEN_OPTION: CommandOption = CommandOption("then", Text("PATH"), Fine, THEN);
+
+const SCRIPT_OPTION: CommandOption = CommandOption("script", Text("PATH"), Wrong, SCRIPT);
+
+const TRACE_OPTION: CommandOption = CommandOption("trace", Flag, Fine, TRACE);
+
+const DIAGRAM_OPTION: CommandOption = CommandOption("diagram", FlagUnless("trace"), Fine, DIAGRAM);
+
+const PROGRESS_OPTION: CommandOption = CommandOption("progress", Text("PATH"), Wrong, PROGRESS);
+
+const BELIEVE_OPTION: CommandOption = CommandOption("believe", Flag, Fine, BELIEVE);
+
+const AFRESH_OPTION: CommandOption = CommandOption("afresh", Flag, Fine, AFRESH);
+
+const CONNECT_OPTION: CommandOption = CommandOption("connect", Text("ADDRESS"), Fine, CONNECT);
+
+const SOCKET_OPTION: CommandOption = CommandOption("socket", Text("PATH"), Fine, SOCKET);
+
+const LOOPBACK_OPTION: CommandOption = CommandOption("loopback", Flag, Fine, LOOPBACK);
+
+const LIMIT_OPTION: CommandOption = CommandOption(
+    "limit",
+    Number("N", 0, MOST_COUNT),
+    Means("10000"),
+    LIMIT,
+);
+
+const BATCH_OPTION: CommandOption = CommandOption(
+    "batch",
+    Number("B", 1, MOST_QUESTIONS as u64),
+    Means("1"),
+    BATCH,
+);
+
+const TIMEOUT_OPTION: CommandOption = CommandOption(
+    "timeout",
+    Number("SECONDS", 1, MOST_SECONDS),
+    Means("30"),
+    TIMEOUT,
+);
+
+const WAIT_OPTION: CommandOption = CommandOption(
+    "wait",
+    Number("MILLISECONDS", 0, MOST_WAIT),
+    Means("100"),
+    WAIT,
+);
+
+const GIVE_UP_OPTION: CommandOption = CommandOption(
+    "give-up",
+    Number("SECONDS", 0, MOST_GIVE_UP),
+    Means("300"),
+    GIVE_UP,
+);
+
+const VERBOSE_OPTION: CommandOption = CommandOption("verbose", Flag, Fine, VERBOSE);
+
+const NAME_PREFIX_OPTION: CommandOption = CommandOption(
+    "name-prefix",
+    Text("PREFIX"),
+    Wrong,
+    NAME_PREFIX,
+);
+
+const PORT_OPTION: CommandOption = CommandOption("port", Number("PORT", 0, 65_535), Wrong, PORT);
+
+const CONNECTIONS_OPTION: CommandOption = CommandOption(
+    "connections",
+    Number("N", 0, MOST_COUNT),
+    Wrong,
+    CONNECTIONS,
+);
+
+const NOW_OPTION: CommandOption = CommandOption(
+    "now",
+    Number("SECONDS", 0, LATEST),
+    Means("0"),
+    NOW,
+);
+
+const SERVE_TIMEOUT_OPTION: CommandOption = CommandOption(
+    "timeout",
+    Number("SECONDS", 1, MOST_SECONDS),
+    Means("60"),
+    SERVE_TIMEOUT,
+);
+
+pub(crate) const ANSWER_OPTIONS: [CommandOption; 1] = [STREAM_OPTION];
+
+pub(crate) const SHOW_OPTIONS: [CommandOption; 1] = [CANON_OPTION];
+
+pub(crate) const CHECK_OPTIONS: [CommandOption; 2] = [PLAN_OPTION, AFTER_OPTION];
+
+pub(crate) const SIM_OPTIONS: [CommandOption; 6] = [
+    PLAN_OPTION,
+    THEN_OPTION,
+    SCRIPT_OPTION,
+    BATCH_OPTION,
+    TRACE_OPTION,
+    DIAGRAM_OPTION,
+];
+
+pub(crate) const RUN_OPTIONS: [CommandOption; 13] = [
+    PLAN_OPTION,
+    PROGRESS_OPTION,
+    BELIEVE_OPTION,
+    AFRESH_OPTION,
+    CONNECT_OPTION,
+    SOCKET_OPTION,
+    LOOPBACK_OPTION,
+    LIMIT_OPTION,
+    BATCH_OPTION,
+    TIMEOUT_OPTION,
+    WAIT_OPTION,
+    GIVE_UP_OPTION,
+    VERBOSE_OPTION,
+];
+
+pub(crate) const PROBE_OPTIONS: [CommandOption; 6] = [
+    NAME_PREFIX_OPTION,
+    CONNECT_OPTION,
+    SOCKET_OPTION,
+    LOOPBACK_OPTION,
+    TIMEOUT_OPTION,
+    VERBOSE_OPTION,
+];
+
+pub(crate) const SERVE_OPTIONS: [CommandOption; 5] = [
+    PORT_OPTION,
+    CONNECTIONS_OPTION,
+    NOW_OPTION,
+    SERVE_TIMEOUT_OPTION,
+    VERBOSE_OPTION,
+];
+
+/// The option, for the parser of command lines.
+pub(crate) fn arg_of<'a>(alloc: Global, option: &CommandOption) -> Result<Arg<'a>, AllocError> {
+    let CommandOption(name, value, absent, help) = *option;
+    let arg = with_value(Arg::new(alloc, name).long(name).help(help), value)?;
+    Ok(with_absent(arg, absent))
+}
+
+/// The option with what it means that it is absent.
+fn with_absent<'a>(arg: Arg<'a>, absent: Absent) -> Arg<'a> {
+    match absent {
+        Wrong => arg.required(true),
+        Fine => arg,
+        Means(value) => arg.default_value(value),
+    }
+}
+
+/// The option with what stands after it.
+fn with_value<'a>(arg: Arg<'a>, value: Value) -> Result<Arg<'a>, AllocError> {
+    match value {
+        Flag => Ok(arg.action(ArgAction::SetTrue)),
+        FlagUnless(other) => arg.action(ArgAction::SetTrue).conflicts_with(other),
+        Text(name) => Ok(arg.value_name(name)),
+        Number(name, least, most) => Ok(
+            arg.value_name(name)
+                .value_parser(ValueParser::unsigned(least, most)),
+        ),
+    }
+}

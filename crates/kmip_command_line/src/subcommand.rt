@@ -1,0 +1,172 @@
+//! The commands, for the parser of command lines.
+
+use crate::command_option::{
+    ANSWER_OPTIONS, CHECK_OPTIONS, CommandOption, PROBE_OPTIONS, RUN_OPTIONS, SERVE_OPTIONS,
+    SHOW_OPTIONS, SIM_OPTIONS, arg_of,
+};
+use crate::help::{
+    ABOUT, AFTER_HELP, ANSWER, ANSWER_LONG, CHECK, CHECK_LONG, PROBE, PROBE_LONG, RUN, RUN_LONG,
+    SERVE, SERVE_LONG, SHOW, SHOW_LONG, SIM, SIM_LONG,
+};
+use clap::{ArgGroup, Command};
+use std::alloc::{AllocError, Global};
+
+/// The number of this version.
+const VERSION: &str = "0.2.0";
+
+/// A command of the program.
+#[derive(Clone, Copy)]
+pub(crate) struct Subcommand {
+    name: &'static str,
+    /// Its help in a line, and in full.
+    about: &'static str,
+    long_about: &'static str,
+    options: &'static [CommandOption],
+    /// Whether one of three options has to say where the server is.
+    asks_a_server: bool,
+    /// Whether one of two options may say which progress it begins with.
+    keeps_progress: bool,
+}
+
+const ANSWER_COMMAND: Subcommand = Subcommand {
+    name: "answer",
+    about: ANSWER,
+    long_about: ANSWER_LONG,
+    options: &ANSWER_OPTIONS,
+    asks_a_server: false,
+    keeps_progress: false,
+};
+
+const SHOW_COMMAND: Subcommand = Subcommand {
+    name: "show",
+    about: SHOW,
+    long_about: SHOW_LONG,
+    options: &SHOW_OPTIONS,
+    asks_a_server: false,
+    keeps_progress: false,
+};
+
+const CHECK_COMMAND: Subcommand = Subcommand {
+    name: "check",
+    about: CHECK,
+    long_about: CHECK_LONG,
+    options: &CHECK_OPTIONS,
+    asks_a_server: false,
+    keeps_progress: false,
+};
+
+const SIM_COMMAND: Subcommand = Subcommand {
+    name: "sim",
+    about: SIM,
+    long_about: SIM_LONG,
+    options: &SIM_OPTIONS,
+    asks_a_server: false,
+    keeps_progress: false,
+};
+
+pub(crate) const RUN_COMMAND: Subcommand = Subcommand {
+    name: "run",
+    about: RUN,
+    long_about: RUN_LONG,
+    options: &RUN_OPTIONS,
+    asks_a_server: true,
+    keeps_progress: true,
+};
+
+pub(crate) const PROBE_COMMAND: Subcommand = Subcommand {
+    name: "probe",
+    about: PROBE,
+    long_about: PROBE_LONG,
+    options: &PROBE_OPTIONS,
+    asks_a_server: true,
+    keeps_progress: false,
+};
+
+const SERVE_COMMAND: Subcommand = Subcommand {
+    name: "serve",
+    about: SERVE,
+    long_about: SERVE_LONG,
+    options: &SERVE_OPTIONS,
+    asks_a_server: false,
+    keeps_progress: false,
+};
+
+/// The commands, in the order in which a person needs them.
+const COMMANDS: [Subcommand; 7] = [
+    CHECK_COMMAND,
+    SIM_COMMAND,
+    PROBE_COMMAND,
+    RUN_COMMAND,
+    SERVE_COMMAND,
+    ANSWER_COMMAND,
+    SHOW_COMMAND,
+];
+
+/// The program with its commands.
+pub(crate) fn program<'a>(alloc: Global) -> Result<Command<'a>, AllocError> {
+    let program = Command::new(alloc, "kmipctl")
+        .version(VERSION)
+        .about(ABOUT)
+        .after_help(AFTER_HELP);
+    with_commands(alloc, program)
+}
+
+/// The program with all commands.
+fn with_commands<'a>(alloc: Global, program: Command<'a>) -> Result<Command<'a>, AllocError> {
+    let mut program = program;
+    for command in &COMMANDS {
+        program = with_command(alloc, program, command)?;
+    }
+    Ok(program)
+}
+
+/// The program with one command more.
+fn with_command<'a>(
+    alloc: Global,
+    program: Command<'a>,
+    command: &Subcommand,
+) -> Result<Command<'a>, AllocError> {
+    let command = command_of(alloc, command)?;
+    program.subcommand(command)
+}
+
+/// The command with its options and its help.
+pub(crate) fn command_of<'a>(
+    alloc: Global,
+    command: &Subcommand,
+) -> Result<Command<'a>, AllocError> {
+    let mut made = Command::new(alloc, command.name)
+        .about(command.about)
+        .long_about(command.long_about);
+    for option in command.options {
+        made = made.arg(arg_of(alloc, option)?)?;
+    }
+    if command.asks_a_server {
+        made = with_server(alloc, made)?;
+    }
+    if command.keeps_progress {
+        made = with_trust(alloc, made)?;
+    }
+    Ok(made)
+}
+
+/// The command, in which at most one of two options says which progress it begins with.
+fn with_trust<'a>(alloc: Global, command: Command<'a>) -> Result<Command<'a>, AllocError> {
+    let trust = ArgGroup::new(alloc, "trust").arg("believe")?.arg("afresh")?;
+    command.group(trust)
+}
+
+/// The command, in which one of three options has to say where the server is.
+fn with_server<'a>(alloc: Global, command: Command<'a>) -> Result<Command<'a>, AllocError> {
+    let server = server_group(alloc)?;
+    command.group(server)
+}
+
+/// The three options, of which one has to be there.
+fn server_group<'a>(alloc: Global) -> Result<ArgGroup<'a>, AllocError> {
+    let server = ArgGroup::new(alloc, "server")
+        .arg("connect")?
+        .arg("socket")?
+        .arg("loopback")?;
+    Ok(server.required(true))
+}

@@ -1,0 +1,15 @@
+//! What stands after an option.
+use Value::{Flag, FlagUnless, Number, Text};
+
+/// What stands after an option.
+#[derive(Clone, Copy)]
+pub(crate) enum Value {
+    /// Nothing: the option is there or not.
+    Flag,
+    /// Nothing, and the option of this word may not be there beside it.
+    FlagUnless(&'static str),
+    /// A text, which the help calls so.
+    Text(&'static str),
+    /// A number, which the help calls so, from the first of these numbers to the second.
+    Number(&'static str, u64, u64),
+}

@@ -1,0 +1,203 @@
+//! The file of a progress.
+
+use crate::links::{file_behind, folder_of};
+use crate::lock_fault::LockFault;
+use crate::progress_lock::ProgressLock;
+use crate::reading::text_of;
+use std::alloc::Global;
+use std::fs::{self, File, Files, OpenFile, OpenOptions};
+use std::io::{self, ErrorKind, Write};
+use std::os::unix::fs::OpenOptionsExt;
+
+/// Who may read and write the progress file and its lock (own): their owner alone.
+pub(crate) const OWNER_ALONE: u32 = 0o600;
+
+/// The most bytes that are read of a plan's or a script's file (own): a plan of 1,000 keys or a
+/// script of 10,000 lines takes less than a tenth.
+pub const MOST_FILE_BYTES: u64 = 16_777_216;
+
+/// The most bytes that are read of a progress (own): the longest one of 1,000 keys has 208,025,
+/// which is less than a fifth.
+pub const MOST_PROGRESS_BYTES: u64 = 1_048_576;
+
+/// The file that a run keeps its progress in.
+///
+/// At any instant it is absent or whole, also where the program is killed or the disk is full. Each
+/// text is written to a file beside it, and takes its place once it is on the disk.
+#[derive(Drop)]
+pub struct ProgressFile<'a, R> {
+    rt: &'a R,
+    given_path: &'a str,
+    path: String,
+}
+
+impl<'a, R: Files + AllocGlobal> ProgressFile<'a, R> {
+    /// The file at this path; where a symbolic link stands there, the file that it leads to, also
+    /// where that is not there yet.
+    ///
+    /// # Errors
+    ///
+    /// Where there is no memory, a link cannot be read, or the links lead in a circle.
+    pub fn at(rt: &'a R, given_path: &'a str) -> io::Result<Self> {
+        let path = file_behind(rt, given_path)?;
+        Ok(ProgressFile {
+            rt,
+            given_path,
+            path,
+        })
+    }
+
+    /// The system that has the file.
+    pub fn system(&self) -> &'a R {
+        self.rt
+    }
+
+    /// The path that it was named by, also where a symbolic link stands there.
+    pub fn given_path(&self) -> &'a str {
+        self.given_path
+    }
+
+    /// The text of the file; `None` where there is no file.
+    ///
+    /// # Errors
+    ///
+    /// Where it cannot be read or is no UTF-8, and `FileTooLarge` where it is longer than
+    /// `MOST_PROGRESS_BYTES`.
+    pub fn read(&self) -> io::Result<Option<String>> {
+        self.text_at(self.path.as_str())
+    }
+
+    /// The text of the file beside this one that says where this one was kept; `None` where there is
+    /// none.
+    ///
+    /// # Errors
+    ///
+    /// As of `read`.
+    pub fn read_origin(&self) -> io::Result<Option<String>> {
+        let path = self.origin_path()?;
+        self.text_at(path.as_str())
+    }
+
+    /// Gives the file this text, and returns once it is on the disk.
+    ///
+    /// # Errors
+    ///
+    /// Where it cannot be written: the file is as it was before, or, where only the folder could not
+    /// be brought to the disk, has the new text. Nothing stays beside it, if that can be removed.
+    pub fn write(&self, text: &[u8]) -> io::Result<()> {
+        self.write_at(self.path.as_str(), text)
+    }
+
+    /// Gives the file beside this one that says where this one was kept this text, and returns once it
+    /// is on the disk.
+    ///
+    /// # Errors
+    ///
+    /// As of `write`.
+    pub fn write_origin(&self, text: &[u8]) -> io::Result<()> {
+        let path = self.origin_path()?;
+        self.write_at(path.as_str(), text)
+    }
+
+    /// Gives the file the path of `before_path`, in the place of one that stands there, and returns
+    /// once that is on the disk. Does nothing where there is no file.
+    ///
+    /// # Errors
+    ///
+    /// Where that cannot be done.
+    pub fn put_aside(&self) -> io::Result<()> {
+        let before = self.before_path()?;
+        match fs::rename(self.rt, self.path.as_str(), before.as_str()) {
+            Ok(()) => self.sync_folder(),
+            Err(error) if error.kind() == ErrorKind::NotFound => Ok(()),
+            Err(error) => Err(error),
+        }
+    }
+
+    /// The path of the file beside this one that says where this one was kept.
+    ///
+    /// # Errors
+    ///
+    /// Where there is no memory.
+    pub fn origin_path(&self) -> io::Result<String> {
+        let path = format!(in self.rt.alloc(); "{}.origin", self.path)?;
+        Ok(path)
+    }
+
+    /// The path that the file gets where it is put aside.
+    ///
+    /// # Errors
+    ///
+    /// Where there is no memory.
+    pub fn before_path(&self) -> io::Result<String> {
+        let path = format!(in self.rt.alloc(); "{}.before", self.path)?;
+        Ok(path)
+    }
+
+    /// The path of the file that is locked, which lies beside this one.
+    ///
+    /// # Errors
+    ///
+    /// Where there is no memory.
+    pub fn lock_path(&self) -> io::Result<String> {
+        let path = format!(in self.rt.alloc(); "{}.lock", self.path)?;
+        Ok(path)
+    }
+
+    /// The text of the file at this path; `None` where there is no file.
+    fn text_at(&self, path: &str) -> io::Result<Option<String>> {
+        match text_of(self.rt, path, MOST_PROGRESS_BYTES) {
+            Ok(text) => Ok(Some(text)),
+            Err(error) if error.kind() == ErrorKind::NotFound => Ok(None),
+            Err(error) => Err(error),
+        }
+    }
+
+    /// Gives the file at this path this text, and returns once it is on the disk.
+    fn write_at(&self, path: &str, text: &[u8]) -> io::Result<()> {
+        let beside = format!(in self.rt.alloc(); "{path}.new")?;
+        if let Err(error) = self.replace_by(path, beside.as_str(), text) {
+            let _ = fs::remove_file(self.rt, beside.as_str());
+            return Err(error);
+        }
+        self.sync_folder()
+    }
+
+    /// Returns once the folder is on the disk.
+    fn sync_folder(&self) -> io::Result<()> {
+        fs::open(self.rt, folder_of(self.path.as_str()))?.sync_all()
+    }
+
+    /// Writes the text to a new file beside the file at this path, whose place it then takes.
+    fn replace_by(&self, path: &str, beside: &str, text: &[u8]) -> io::Result<()> {
+        self.write_beside(beside, text)?;
+        fs::rename(self.rt, beside, path)
+    }
+
+    /// Writes the text to a new file at this path, and brings it to the disk.
+    fn write_beside(&self, path: &str, text: &[u8]) -> io::Result<()> {
+        match fs::remove_file(self.rt, path) {
+            Err(error) if error.kind() != ErrorKind::NotFound => return Err(error),
+            _ => {}
+        }
+        let mut options = OpenOptions::new();
+        options.write(true).create_new(true).mode(OWNER_ALONE);
+        let mut file = options.open(self.rt, path)?;
+        file.write_all(text)?;
+        file.sync_all()
+    }
+}
+
+impl<'a, R: Files<File = File> + AllocGlobal> ProgressFile<'a, R> {
+    /// Takes the file for one run, as long as the lock is held.
+    ///
+    /// # Errors
+    ///
+    /// As of `ProgressLock::take`.
+    pub fn lock(&self) -> Result<ProgressLock, LockFault> {
+        match self.lock_path() {
+            Ok(path) => ProgressLock::take(self.rt, path.as_str()),
+            Err(error) => Err(LockFault::Io(error)),
+        }
+    }
+}

@@ -1,0 +1,14 @@
+//! What a line says.
+
+/// What a line says.
+#[derive(Drop)]
+pub enum Judged {
+    /// Nothing: the line is empty.
+    Empty,
+    /// More than a message may have.
+    Long,
+    /// No message: the digits are odd in number, or a byte is no digit.
+    NotHex,
+    /// The message that the digits spell.
+    Message(Vec<u8>),
+}

@@ -1,0 +1,25 @@
+//! What cannot be done with a file or a socket.
+
+/// What cannot be done with a file or a socket.
+#[derive(Clone, Copy)]
+pub enum Cannot {
+    /// A file is not read.
+    Read,
+    /// A file beside a progress is not written, so that nothing is asked.
+    Begin,
+    /// What is known is not written, after something was asked.
+    Save,
+    /// A path leads to no socket.
+    Connect,
+}
+
+impl Cannot {
+    /// What standard output says of it before the path.
+    pub(crate) fn text(self) -> &'static str {
+        match self {
+            Cannot::Read => "cannot read",
+            Cannot::Begin | Cannot::Save => "cannot write",
+            Cannot::Connect => "cannot connect",
+        }
+    }
+}

@@ -1,0 +1,194 @@
+//! The program `run`, over sockets and a file.
+
+use crate::believing::progress_to_begin_with;
+use crate::cannot::Cannot;
+use crate::causes::tell_cause;
+use crate::linking::{loopback, tcp_link, unix_link};
+use crate::plan_file::PlanFile;
+use crate::reading::plan_at;
+use crate::told::standard_output;
+use crate::trouble::Trouble;
+use kmip_account::{Account, Teller, Watch};
+use kmip_choices::{Peer, RunOptions};
+use kmip_files::{LockFault, ProgressFile, ProgressLock};
+use kmip_message_commands::ExitStatus;
+use kmip_plan_commands::{RunInput, batch_of};
+use kmip_protocol::Link;
+use kmip_runs::{Keeper, Observed, SaveFault};
+use std::alloc::Global;
+use std::io::{BufWriter, ErrorKind};
+use std::time::Duration;
+
+/// Keeps what is known in a file. No clause speaks of a file's bytes.
+#[derive(Drop)]
+struct FileKeeper<'a> {
+    file: ProgressFile<'a, HostRuntime>,
+    account: &'a Account<'a>,
+    /// How often the file could not be written.
+    refusals: u64,
+}
+
+impl<'a> Keeper for FileKeeper<'a> {
+    ghost use Rattle.std.specs.Prelude.{[]};
+
+    ghost saved = { λ keeper. [] };
+
+    ghost keeps = { λ keeper. ⊥ };
+
+    ghost refusals = { λ keeper. keeper.refusals };
+
+    fn save(&mut self, _alloc: Global, text: &[u8]) -> Result<(), SaveFault> {
+        match self.file.write(text) {
+            Ok(()) => Ok(()),
+            Err(error) if error.kind() == ErrorKind::OutOfMemory => Err(SaveFault::NoMemory),
+            Err(error) => {
+                self.account.end_line();
+                tell_cause(
+                    self.file.system(),
+                    self.file.given_path(),
+                    Cannot::Save,
+                    &error,
+                );
+                self.refusals = self.refusals.saturating_add(1);
+                Err(SaveFault::Output)
+            }
+        }
+    }
+}
+
+/// The command `run`: the plan is read first, then the lock is taken, the progress read, and then the
+/// server asked.
+///
+/// # Errors
+/// What ends it before anything is asked.
+pub fn run_plan(rt: &HostRuntime, options: &RunOptions) -> Result<ExitStatus, Trouble> {
+    let plan = plan_at(rt, options.plan.as_str())?;
+    let (progress, lock) = locked(rt, options.progress.as_str())?;
+    let status = run_on(rt, options, &plan, progress);
+    drop(lock);
+    status
+}
+
+/// The file at this path, of this run alone.
+///
+/// # Errors
+/// Where it cannot be had.
+fn locked<'a>(
+    rt: &'a HostRuntime,
+    path: &'a str,
+) -> Result<(ProgressFile<'a, HostRuntime>, ProgressLock), Trouble> {
+    let file = ProgressFile::at(rt, path).map_err(|error| Trouble::at(
+        rt,
+        Cannot::Read,
+        path,
+        error,
+    ))?;
+    match file.lock() {
+        Ok(lock) => Ok((file, lock)),
+        Err(LockFault::InUse) => {
+            let path = String::from_str(rt.alloc(), path)?;
+            Err(Trouble::InUse(path))
+        }
+        Err(LockFault::Io(error)) => {
+            let beside = file.lock_path()?;
+            Err(Trouble::at(rt, Cannot::Begin, beside.as_str(), error))
+        }
+    }
+}
+
+/// Carries out the plan, with what is kept in the progress file.
+fn run_on(
+    rt: &HostRuntime,
+    options: &RunOptions,
+    plan: &PlanFile,
+    progress: ProgressFile<'_, HostRuntime>,
+) -> Result<ExitStatus, Trouble> {
+    let saved = progress_to_begin_with(rt, options, plan, &progress)?;
+    let saved = match &saved {
+        Some(text) => Some(text.as_str()),
+        None => None,
+    };
+    let account = Account::new(rt, options, &plan.plan)?;
+    account.show_start(saved);
+    let mut keeper = FileKeeper {
+        file: progress,
+        account: &account,
+        refusals: 0,
+    };
+    run_with(rt, options, saved, &mut keeper)
+}
+
+/// Carries out the plan over the link to the server that was named.
+fn run_with(
+    rt: &HostRuntime,
+    options: &RunOptions,
+    saved: Option<&str>,
+    keeper: &mut FileKeeper<'_>,
+) -> Result<ExitStatus, Trouble> {
+    let limit = Duration::from_secs(options.timeout);
+    match &options.peer {
+        Peer::Tcp(address) => {
+            let link = tcp_link(rt, *address, limit, Some(keeper.account.wire()));
+            run_over(rt, options, saved, keeper, link)
+        }
+        Peer::Unix(path) => {
+            let link = unix_link(rt, path.as_str(), limit, Some(keeper.account.wire()))?;
+            run_over(rt, options, saved, keeper, link)
+        }
+        Peer::Loopback => {
+            let link = loopback(rt, limit)?;
+            run_over(rt, options, saved, keeper, link)
+        }
+    }
+}
+
+/// Carries out the plan over this link.
+fn run_over<L: Link + Drop>(
+    rt: &HostRuntime,
+    options: &RunOptions,
+    saved: Option<&str>,
+    keeper: &mut FileKeeper<'_>,
+    link: L,
+) -> Result<ExitStatus, Trouble> {
+    let input = RunInput {
+        path: options.progress.as_str(),
+        limit: options.limit as usize,
+        batch: batch_of(options.batch),
+    };
+    let account = keeper.account;
+    let mut link = Observed::new(link, Teller::new(account));
+    let mut watch = Watch::new(account, first_wait(options), options.give_up);
+    let mut writer = BufWriter::new(rt.alloc(), standard_output(rt))?;
+    let status = kmip_plan_commands::run_plan(
+        rt.alloc(),
+        account.plan(),
+        &input,
+        saved,
+        &mut link,
+        keeper,
+        &mut watch,
+        &mut writer,
+    );
+    if keeper.refusals == 0 && !matches!(status, ExitStatus::Failed(_)) {
+        tell_end(account, watch.has_given_up());
+    }
+    Ok(status)
+}
+
+/// Tells why keys are not finished, and that the run was given up, where it was. What there is no memory
+/// for is not told.
+fn tell_end(account: &Account<'_>, has_given_up: bool) {
+    let _ = account.tell_unfinished();
+    if has_given_up {
+        account.tell_given_up();
+    }
+}
+
+/// How long the run waits first where it does not get on, in milliseconds. A server in this process is not
+/// waited for.
+fn first_wait(options: &RunOptions) -> u64 {
+    match options.peer {
+        Peer::Loopback => 0,
+        Peer::Tcp(_) | Peer::Unix(_) => options.wait,
+    }
+}

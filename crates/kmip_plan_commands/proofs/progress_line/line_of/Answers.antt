@@ -1,0 +1,10 @@
+-- The line is as narrow as the stated text.
+use Rattle.std.proofs.Common.{rules, ◌≡◌, string_bytes}
+use Rattle.kmip_plan_commands.specs.ProgressLineText.{standing_text}
+use Rattle.kmip_plan_commands.proofs.ProgressLineLemmas.{standing_narrow}
+use Rattle.kmip_plan_commands.proofs.progress_line.line_of.Goals as goal
+
+pub returns-clause-narrow : goal.returns-clause-narrow
+returns-clause-narrow c =
+    let told : string_bytes c.push_count-2.new.line ≡ standing_text c.args.finished c.args.keys c.args.spent c.args.most = search rules in
+    rw told (standing_narrow c.args.finished c.args.keys c.args.spent c.args.most)

@@ -1,0 +1,12 @@
+//! What a run is given.
+
+/// What a run is given.
+#[derive(Clone, Copy, Debug)]
+pub struct RunInput<'a> {
+    /// Where what is known is kept, as it is named where it cannot be written.
+    pub path: &'a str,
+    /// How many exchanges may be made at most.
+    pub limit: usize,
+    /// How many keys a message asks about at most, 1 to 8.
+    pub batch: usize,
+}

@@ -1,0 +1,62 @@
+-- Private: definitions that only clauses of private functions cite.
+-- Source: own (view): parts of the public definitions of this crate.
+use Rattle.std.specs.Prelude.{◌≡◌, ◌⊎◌, ℕ, List, [], ◌∷◌, ◌++◌, Option, Some, None, option_and_then, option_to_list, ◌+◌}
+use Rattle.kmip_batch_items.specs.declared.outcome.Outcome.{Outcome}
+use Rattle.kmip_batch_items.specs.declared.request.Request.{Request}
+use Rattle.kmip_batch_items.specs.declared.reply.Reply.{Reply}
+use Rattle.kmip_protocol.specs.Moves.{HasFailed}
+use Rattle.kmip_protocol.specs.Past.{Past}
+use Rattle.kmip_server.specs.ServerStep.{ServerStep}
+use Rattle.kmip_probe.specs.Answers.{answer_with}
+use Rattle.kmip_probe.specs.Asking.{IsNext, message_after, next_inquiry, request_for}
+use Rattle.kmip_probe.specs.declared.answer.Answer.{Answer}
+use Rattle.kmip_probe.specs.declared.answer.Answer.TheVariants.{Nothing, Told}
+use Rattle.kmip_objects.specs.ObjectLaws.{NamedIsIdentified, NamedIsAll, NamedBeforeMore, NamedAmongMore, OneMore, OwnIsRestated, OtherIsKept, RestatedKeeps, NamedIsRestated, StaysDistinct}
+use Rattle.kmip_objects.specs.Objects.{DistinctNames, DistinctUids, object_named, object_with}
+
+-- The message was sent, and the answer is what was handed over for it says
+pub record HasSent (message : List ℕ) (says : Option (List ℕ) → Answer) (answer : Answer) (old new : Past) : Type 0 where
+  pub given : Option (List ℕ)
+  pub sent : new.sent ≡ old.sent ++ message ∷ []
+  pub handed : new.handed ≡ old.handed ++ given ∷ []
+  pub answer_is : answer ≡ says given
+
+-- The server has taken a step for the request, and the answer is what its reply says
+pub record HasReplied (request : Request) (number : ℕ) (prefix : List ℕ) (answer : Answer) (old new : Past) : Type 0 where
+  pub reply : Reply
+  pub step : ServerStep old.room old.objects request.ask reply.outcome new.objects
+  pub id_is : (reply.id ≡ request.id) ⊎ ((reply.id ≡ None) × HasFailed reply.outcome)
+  pub answer_is : answer ≡ answer_with number prefix reply.id reply.outcome
+  pub room_is : new.room ≡ old.room
+
+-- One more question was asked, where it can be, and this is its answer
+pub record HasAsked (prefix : List ℕ) (before : List Answer) (answer : Answer) (old new : Past) : Type 0 where
+  pub sent : new.sent ≡ old.sent ++ option_to_list (message_after prefix before)
+  pub given : List (Option (List ℕ))
+  pub handed : new.handed ≡ old.handed ++ given
+  pub next : (rest : List (Option (List ℕ))) → IsNext prefix before (message_after prefix before) answer (given ++ rest) rest
+
+-- The server has taken a step for the request, which the answer tells; none where there is no request
+abbrev pub HasServed : Option Request → Answer → Past → Past → Type 0
+HasServed None answer old new = (answer ≡ Nothing) × (new ≡ old)
+HasServed (Some request) answer old new =
+    (outcome : Outcome) × ServerStep old.room old.objects request.ask outcome new.objects × (answer ≡ Told outcome) × (new.room ≡ old.room)
+
+-- The server has taken a step for the question that follows these answers, which the answer tells
+abbrev pub HasServedNext : List ℕ → List Answer → Answer → Past → Past → Type 0
+HasServedNext prefix before answer old new = HasServed (option_and_then (request_for prefix before) (next_inquiry before)) answer old new
+
+-- The laws of the crates below.
+pub record ProbeLaws : Type 0 where
+  pub identified : NamedIsIdentified
+  pub all_named : NamedIsAll
+  pub before : NamedBeforeMore
+  pub among : NamedAmongMore
+  pub names : OneMore DistinctNames (λ o. object_named o.attrs.name)
+  pub uids : OneMore DistinctUids (λ o. object_with o.uid)
+  pub own : OwnIsRestated
+  pub other : OtherIsKept
+  pub keeps : RestatedKeeps
+  pub renamed : NamedIsRestated
+  pub names_stay : StaysDistinct DistinctNames
+  pub uids_stay : StaysDistinct DistinctUids

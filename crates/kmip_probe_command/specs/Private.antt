@@ -1,0 +1,27 @@
+-- Private: definitions that only clauses of private functions cite.
+-- Source: own (view): parts of the public definitions of this crate.
+use Rattle.std.specs.Prelude.{ℕ, Bool, List, [], ◌++◌, ◌≡◌, ◌⊎◌, Option, not}
+use Rattle.kmip_probe.specs.declared.findings.Findings.{Findings}
+use Rattle.kmip_probe_command.specs.Wording.{premise_line, are_all_kept, ending_text}
+use Rattle.std.specs.Io.KnownBytes.{Appends}
+use Rattle.kmip_message_commands.specs.declared.command_fault.CommandFault.{CommandFault}
+use Rattle.kmip_message_commands.specs.declared.command_fault.CommandFault.TheVariants.{NoMemory}
+use Rattle.kmip_probe.specs.Judging.{AreFindings}
+use Rattle.kmip_probe.specs.declared.answer.Answer.{Answer}
+use Rattle.kmip_probe_command.specs.Midway.{TellsSome}
+
+-- What is left of the report after the lines of all premises but the last.
+abbrev pub rest_text : Findings → List ℕ
+rest_text findings = premise_line findings premise.IdsAreEchoed ++ ending_text findings
+
+-- A probe broke off, for want of memory, or by the fault of its printer, which holds whole texts
+-- if it takes all or nothing.
+abbrev pub BreaksMidway : CommandFault → CommandFault → Type 0 → List ℕ → Option (List ℕ) → Option (List ℕ) → Type 0
+BreaksMidway fault own_fault IsWhole prefix old new =
+    ((fault ≡ NoMemory) × TellsSome prefix [] old new) ⊎ ((fault ≡ own_fault) × (IsWhole → TellsSome prefix [] old new))
+
+-- This was written by some findings of these answers, and whether a premise is not seen to be
+-- kept.
+abbrev pub TellsEnd : (Findings → List ℕ) → List ℕ → List Answer → Bool → Option (List ℕ) → Option (List ℕ) → Type 0
+TellsEnd text prefix answers refused old new =
+    (findings : Findings) × AreFindings prefix answers findings × (refused ≡ not (are_all_kept findings)) × Appends old new (text findings)

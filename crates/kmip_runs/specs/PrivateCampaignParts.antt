@@ -1,0 +1,152 @@
+-- Private: what the parts of a campaign keep.
+-- Source: own (view).
+use Rattle.std.specs.Prelude.{◌≡◌, ◌≢◌, ◌≤◌, ◌<◌, ℕ, ◌+◌, List, [], ◌∷◌, ◌++◌, filter, length, map, Option, Some, None, string_bytes, take, if◌then◌else◌, vec_capacity, vec_len}
+use Rattle.std.specs.List.{All, AllZip}
+use Rattle.kmip_objects.specs.Objects.{Object}
+use Rattle.kmip_plan.specs.Laws.{KeysAreFound}
+use Rattle.kmip_plan.specs.ChainLaws.{PlacesAndSteps}
+use Rattle.kmip_plan.specs.declared.key.Key.{Key}
+use Rattle.kmip_progress.specs.Suiting.{Suits}
+use Rattle.kmip_progress.specs.declared.known.Known.{Known}
+use Rattle.kmip_client.specs.Clients.{ClientState}
+use Rattle.kmip_client.specs.Held.{TrueProgress}
+use Rattle.kmip_client.specs.Laws.{OnwardToItself, OnwardTwice, HeldForGood}
+use Rattle.kmip_client.specs.Places.{position}
+use Rattle.kmip_client.specs.Saving.{known_of}
+use Rattle.kmip_client.specs.Shapes.{IsKept}
+use Rattle.kmip_client.specs.Verdicts.{AreWithin, counts_of, verdicts_of}
+use Rattle.kmip_client.specs.declared.knowledge.Knowledge.{Knowledge}
+use Rattle.kmip_protocol.specs.Laws.{DeliveriesKeepSound, DeliveriesKeepTheImage, ObjectsGoOnward, OpeningIsMirrored, SoundIsSafe}
+use Rattle.kmip_protocol.specs.Past.{Past, Names, is_planned}
+use Rattle.kmip_protocol.specs.SettlingLaws.{SoundIsReady}
+use Rattle.kmip_runs.specs.Campaign.{CalmLink, HasNoConflict, IsEnd, Settles, saves}
+use Rattle.kmip_runs.specs.Headline.{GoodLink}
+use Rattle.kmip_runs.specs.Driving.{Grown, IsGood, KeepsFurther, Learnt, WentOn}
+use Rattle.kmip_runs.specs.Remembering.{AreKnownFrom, Shows, saved_after, start_knowns}
+use Rattle.kmip_runs.specs.Reporting.{report_text}
+use Rattle.kmip_runs.specs.declared.campaign_end.CampaignEnd.{CampaignEnd}
+use Rattle.kmip_runs.specs.declared.run.Run.{Run}
+use Rattle.kmip_runs.specs.declared.run_end.RunEnd.{RunEnd}
+use Rattle.kmip_runs.specs.declared.ending.Ending.{Ending}
+use Rattle.kmip_runs.specs.declared.stop.Stop.{Stop}
+use Rattle.kmip_runs.specs.declared.stop.Stop.TheVariants as stops
+
+-- the laws of the crates below that campaigns rest on
+pub record CampaignLaws : Type 0 where
+  pub found : KeysAreFound
+  pub places : PlacesAndSteps
+  pub itself : OnwardToItself
+  pub twice : OnwardTwice
+  pub known_for_good : HeldForGood
+  pub deliveries : DeliveriesKeepSound
+  pub onward : ObjectsGoOnward
+  pub images : DeliveriesKeepTheImage
+  pub opening : OpeningIsMirrored
+  pub safe : SoundIsSafe
+  pub ready : SoundIsReady
+
+-- each key has come at least as far as is counted
+abbrev pub Reaches : List Object → Key → ℕ → Type 0
+Reaches objects key count = count ≤ position key objects
+
+-- No end counts a step that its key has not come to, or has a conflict; and what was saved is true.
+pub record Noted (objects : List Object) (keys : List Key) (ends : List RunEnd) (saved : List (List Known)) : Type 0 where
+  pub reached : All (λ (end : RunEnd). AllZip (Reaches objects) keys end.counts.items) ends
+  pub no_conflict : All HasNoConflict ends
+  pub true_saved : All (TrueProgress objects keys) saved
+
+-- All is good between two runs, and what was noted so far is true.
+pub record Standing {L : Type 0} (past : L → Past) (honest : L → Names → Type 0) (keys : List Key) (c : ClientState) (link : L) (ends : List RunEnd) (saved : List (List Known)) : Type 0 where
+  pub good : IsGood past honest c link
+  pub noted : Noted (past link).objects keys ends saved
+
+-- After several runs the link is good, the objects have gone onward, and what was noted is true, whatever the
+-- client knows.
+pub record Campaigned {L : Type 0} (past : L → Past) (honest : L → Names → Type 0) (keys : List Key) (old new : L) (ends : List RunEnd) (saved : List (List Known)) : Type 0 where
+  pub good : GoodLink past honest keys new
+  pub on : WentOn keys (past old) (past new)
+  pub noted : Noted (past new).objects keys ends saved
+
+-- the end says what is known, why the run stopped and how many exchanges it made
+pub record IsEndOf (keys : List Key) (knowns : List Knowledge) (stop : Stop) (exchanges : ℕ) (end : RunEnd) : Type 0 where
+  pub stop_is : end.stop ≡ stop
+  pub exchanges_is : end.exchanges ≡ exchanges
+  pub counts_are : end.counts.items ≡ counts_of knowns
+  pub verdicts_are : end.verdicts.items ≡ verdicts_of keys knowns
+  pub few : AreWithin keys end.counts.items
+  pub report_is : string_bytes end.report ≡ report_text keys end.counts.items end.verdicts.items
+  pub in_memory : stop ≢ stops.NoMemory
+
+-- how a run ended where this is known at its end, and what is saved of it
+pub record IsEnding (keys : List Key) (run : Run) (knowns : List Knowledge) (driven : Stop × ℕ) (ending : Ending) : Type 0 where
+  pub end_is : IsEndOf keys knowns driven.0 driven.1 ending.run
+  pub saved_is : ending.saved ≡ (if run.save then Some (map known_of knowns) else None)
+
+-- one more end can be noted, and what is saved of it, without memory
+pub record HasRoom (end : CampaignEnd) : Type 0 where
+  pub room_for_run : vec_len end.runs < vec_capacity end.runs
+  pub room_for_save : vec_len end.saved < vec_capacity end.saved
+
+-- what is saved, with what a run adds to it
+abbrev pub saved_with : Option (List Known) → List (List Known) → List (List Known)
+saved_with None saved = saved
+saved_with (Some progress) saved = saved ++ progress ∷ []
+
+-- One more end is noted, of this run, that shows what is known.
+pub record IsNoted (keys : List Key) (run : Run) (knowns : List Knowledge) (driven : Stop × ℕ) (old new : List RunEnd) : Type 0 where
+  pub end : RunEnd
+  pub joined : new ≡ old ++ end ∷ []
+  pub is_end : IsEnd keys run end
+  pub shows : Shows keys knowns end
+  pub stop_is : end.stop ≡ driven.0
+  pub exchanges_is : end.exchanges ≡ driven.1
+
+-- the run has ended, and what is known was saved if it says so
+pub record HasEnded (keys : List Key) (run : Run) (knowns : List Knowledge) (driven : Stop × ℕ) (old new : CampaignEnd) : Type 0 where
+  pub noted : IsNoted keys run knowns driven old.runs.items new.runs.items
+  pub saved_are : new.saved.items ≡ saved_after run knowns old.saved.items
+
+-- nothing more is noted
+pub record AreSame (old new : CampaignEnd) : Type 0 where
+  pub same_runs : new.runs.items ≡ old.runs.items
+  pub same_saved : new.saved.items ≡ old.saved.items
+
+-- what a run begins with; what was carried over from earlier plans counts before what was saved under this
+-- one
+abbrev pub begins_with : List Key → List (List Known) → Run → ClientState → CampaignEnd → List Knowledge
+begins_with keys carried run a old = start_knowns keys run.start a.knowns (carried ++ old.saved.items)
+
+-- The run was made and has ended: nothing of what it began with is taken back, and over an honest link its
+-- answers taught the rest.
+pub record HasRun {L : Type 0} (past : L → Past) (honest : L → Names → Type 0) (keys : List Key) (carried : List (List Known)) (run : Run) (a b : ClientState) (x y : L) (old new : CampaignEnd) : Type 0 where
+  pub driven : Stop × ℕ
+  pub ended : HasEnded keys run b.knowns driven old new
+  pub kept : AllZip IsKept (begins_with keys carried run a old) b.knowns
+  pub learnt : honest x (is_planned keys) → honest y (is_planned keys)
+      × Learnt keys run.batch (past x) (past y) (begins_with keys carried run a old) b.knowns driven.1
+
+-- the run that was noted last finished all keys within the plan's bound, if it might make as many exchanges
+pub record HasSettled (keys : List Key) (run : Run) (old new : List RunEnd) : Type 0 where
+  pub end : RunEnd
+  pub joined : new ≡ old ++ end ∷ []
+  pub settles : Settles keys run end
+
+-- the run was broken off, and nothing is noted of it
+pub record IsBroken {L : Type 0} (past : L → Past) (honest : L → Names → Type 0) (keys : List Key) (run : Run) (x y : L) (old new : CampaignEnd) : Type 0 where
+  pub same : AreSame old new
+  pub grown : honest x (is_planned keys) → Grown (past x) (past y)
+  pub few : honest x (is_planned keys) → length (past y).sent ≤ length (past x).sent + run.limit
+
+-- The runs of a plan were made in turn, with what was carried over from earlier plans: what stands after
+-- them, and what their ends say.
+pub record HasRunAll {L : Type 0} (past : L → Past) (honest calm : L → Names → Type 0) (keys : List Key) (carried : List (List Known)) (runs : List Run) (end : CampaignEnd) (old new : L) : Type 0 where
+  pub suits : All (Suits keys) end.saved.items
+  pub honest_still : (names : Names) → honest old names → honest new names
+  pub stands : GoodLink past honest keys old → All (TrueProgress (past old).objects keys) carried
+      → Campaigned past honest keys old new end.runs.items end.saved.items × KeepsFurther past honest calm keys (end.fault ≡ None) old new
+  pub order : AllZip (IsEnd keys) (take (length end.runs.items) runs) end.runs.items
+  pub complete : end.fault ≡ None → AllZip (IsEnd keys) runs end.runs.items × (length end.saved.items ≡ length (filter saves runs))
+  pub fewer : end.fault ≢ None → length end.runs.items < length runs
+  pub known : AreKnownFrom keys carried runs end.runs.items end.saved.items (honest old (is_planned keys)) (end.fault ≡ None) (past old) (past new)
+  pub settles : CalmLink past calm keys old → All (TrueProgress (past old).objects keys) carried → end.fault ≡ None
+      → AllZip (Settles keys) runs end.runs.items × CalmLink past calm keys new

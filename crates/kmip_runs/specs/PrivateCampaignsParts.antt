@@ -1,0 +1,76 @@
+-- Private: what the parts of a campaign on several plans keep.
+-- Source: own (view).
+use Rattle.std.specs.Prelude.{◌≡◌, ◌≢◌, ◌<◌, ◌⊎◌, List, ◌++◌, flat_map, length, map, None, Option, IfSome}
+use Rattle.std.specs.List.{All}
+use Rattle.kmip_plan.specs.Laws.{NewPlansAreNoShorter, PlansProlongAgain, PlansProlongThemselves}
+use Rattle.kmip_plan.specs.declared.key.Key.{Key}
+use Rattle.kmip_progress.specs.Suiting.{Suits}
+use Rattle.kmip_progress.specs.declared.known.Known.{Known}
+use Rattle.kmip_client.specs.Laws.{PositionsAreNoLess, TrueOfProlonged}
+use Rattle.kmip_protocol.specs.Laws.{IsReached, NamesOfProlonged, SoundBetween, SoundOfProlonged}
+use Rattle.kmip_protocol.specs.Past.{Names, Past, is_planned}
+use Rattle.kmip_protocol.specs.SettlingLaws.{ProlongedMissNoLess}
+use Rattle.kmip_runs.specs.Headline.{GoodLink, reported_by}
+use Rattle.kmip_runs.specs.Campaign.{HasNoConflict}
+use Rattle.kmip_runs.specs.PrivateCampaignParts.{HasRunAll}
+use Rattle.kmip_runs.specs.Campaigns.{AreInTurn, CalmStart, GoodStart, IsTrueFor, carried_over, last_plan}
+use Rattle.kmip_runs.specs.Driving.{WentOn}
+use Rattle.kmip_runs.specs.declared.campaign_end.CampaignEnd.{CampaignEnd}
+use Rattle.kmip_runs.specs.declared.run.Run.{Run}
+use Rattle.kmip_runs.specs.declared.run_end.RunEnd.{RunEnd}
+
+-- the laws of the crates below on plans that prolong others
+pub record PlansLaws : Type 0 where
+  pub itself : PlansProlongThemselves
+  pub again : PlansProlongAgain
+  pub longer : NewPlansAreNoShorter
+  pub no_less : PositionsAreNoLess
+  pub known : TrueOfProlonged
+  pub names : NamesOfProlonged
+  pub sound : SoundOfProlonged
+  pub between : SoundBetween
+  pub miss : ProlongedMissNoLess
+
+-- Each step that the ends of runs and what was saved report done was reached, no end has a conflict, and what
+-- was saved is true.
+pub record NotedFor (keys : List Key) (p : Past) (ends : List RunEnd) (saved : List (List Known)) : Type 0 where
+  pub ends_reached : All (IsReached keys p) (flat_map (λ (end : RunEnd). reported_by keys end.counts.items) ends)
+  pub saved_reached : All (IsReached keys p) (flat_map (λ progress. reported_by keys (map (λ known. known.done) progress)) saved)
+  pub no_conflict : All HasNoConflict ends
+  pub true_saved : All (IsTrueFor p.objects keys) saved
+
+-- The runs of one more plan were made, and what they noted joined what was noted.
+pub record HasRunPart {L : Type 0} (past : L → Past) (honest calm : L → Names → Type 0) (keys : List Key) (carried : List (List Known)) (runs : List Run) (x y : L) (old new : CampaignEnd) : Type 0 where
+  pub part : CampaignEnd
+  pub all : HasRunAll past honest calm keys carried runs part x y
+  pub runs_are : new.runs.items ≡ old.runs.items ++ part.runs.items
+  pub saved_are : new.saved.items ≡ old.saved.items ++ part.saved.items
+
+-- The runs of one more plan were made, and either one of them has no end, or there is a plan to which nothing
+-- was carried over.
+pub record HasRunBroken {L : Type 0} (past : L → Past) (honest calm : L → Names → Type 0) (keys : List Key) (next : Option (List Key)) (carried : List (List Known)) (runs : List Run) (x y : L) (old new : CampaignEnd) : Type 0 where
+  pub ran : HasRunPart past honest calm keys carried runs x y old new
+  pub why : (length ran.part.runs.items < length runs) ⊎ (next ≢ None)
+
+-- what was saved so far is read for the next plan, where there is one
+abbrev pub IsReadFor : Option (List Key) → List (List Known) → List (List Known) → Type 0
+IsReadFor next saved read = IfSome next (λ keys. (read ≡ map (carried_over keys) saved) × All (Suits keys) read)
+
+-- The runs of the plan are whole, and what was saved so far was read for the next.
+pub record HasRunWhole {L : Type 0} (past : L → Past) (honest calm : L → Names → Type 0) (keys : List Key) (next : Option (List Key)) (carried : List (List Known)) (runs : List Run) (x y : L) (old new : CampaignEnd) (read : List (List Known)) : Type 0 where
+  pub ran : HasRunPart past honest calm keys carried runs x y old new
+  pub whole : ran.part.fault ≡ None
+  pub read_is : IsReadFor next (carried ++ ran.part.saved.items) read
+
+-- Over a link that is good at the start, all is good for this plan, the last one, after the runs.
+pub record IsGoodFor {L : Type 0} (past : L → Past) (honest : L → Names → Type 0) (keys : List Key) (old new : L) (ends : List RunEnd) (saved : List (List Known)) : Type 0 where
+  pub good : GoodLink past honest keys new
+  pub went : WentOn keys (past old) (past new)
+  pub noted : NotedFor keys (past new) ends saved
+
+-- after the runs on all plans, or on the first ones of them: all is good for the last plan, and what is noted
+-- was noted plan by plan
+pub record HasRunPlans {L : Type 0} (past : L → Past) (honest calm : L → Names → Type 0) (plans : List (List Key)) (runs : List (List Run)) (whole : Type 0) (old new : L) (end : CampaignEnd) : Type 0 where
+  pub good : GoodStart past honest plans old → IsGoodFor past honest (last_plan plans) old new end.runs.items end.saved.items
+  pub in_turn : AreInTurn plans runs end.runs.items end.saved.items (honest old (is_planned (last_plan plans))) (CalmStart past calm plans old)
+      whole (past old) (past new)

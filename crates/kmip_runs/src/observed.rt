@@ -1,0 +1,75 @@
+//! Exchanges that are told as they are made.
+ghost use Rattle.std.specs.Prelude.{◌≡◌};
+
+use crate::observer::Observer;
+use kmip_protocol::{Link, LinkFault};
+use std::alloc::Global;
+
+/// A link that tells an observer of each exchange once it is made, and of the end of a run. As a `Link`
+/// it keeps the clauses of that trait by those of the link within: what is proved over a link holds
+/// over this one. That its observer is told no clause says; the tests count.
+#[derive(Drop)]
+pub struct Observed<L, O> {
+    link: L,
+    observer: O,
+}
+
+impl<L: Link, O: Observer> Observed<L, O> {
+    /// Carries this link, and tells this observer of its exchanges. Takes no memory.
+    pub fn new(link: L, observer: O) -> Self
+        // The link within is this one.
+        ensures link { result.link ≡ link }
+    {
+        Observed { link, observer }
+    }
+
+    /// The link within. Takes no memory.
+    pub fn link(&self) -> &L
+        ensures { result.now ≡ self.now.link }
+    {
+        &self.link
+    }
+
+    /// Who is told. Takes no memory.
+    pub fn observer(&self) -> &O
+        ensures { result.now ≡ self.now.observer }
+    {
+        &self.observer
+    }
+}
+
+impl<L: Link, O: Observer> Link for Observed<L, O> {
+    ghost past = { λ observed. L.past observed.link };
+
+    ghost honest = { λ observed. L.honest observed.link };
+
+    ghost calm = { λ observed. L.calm observed.link };
+
+    ghost failures = { λ observed. L.failures observed.link };
+
+    ghost ended = { λ observed. L.ended observed.link };
+
+    ghost disturbances = { λ observed. L.disturbances observed.link };
+
+    ghost follows = { λ observed next. L.follows observed.link next.link };
+
+    fn exchange(&mut self, alloc: Global, request: &[u8]) -> Result<Option<Vec<u8>>, LinkFault> {
+        let answered = self.link.exchange(alloc, request);
+        match &answered {
+            Ok(Some(reply)) => self.observer.exchanged(request, Ok(Some(reply.as_slice()))),
+            Ok(None) => self.observer.exchanged(request, Ok(None)),
+            Err(fault) => self.observer.exchanged(request, Err(*fault)),
+        }
+        answered
+    }
+
+    fn end_run(&mut self, alloc: Global) -> Result<(), LinkFault> {
+        let ended = self.link.end_run(alloc);
+        self.observer.ended();
+        ended
+    }
+
+    fn calm_laws() {
+        L::calm_laws();
+    }
+}

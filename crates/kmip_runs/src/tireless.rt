@@ -1,0 +1,21 @@
+//! Never waits, and never gives up.
+ghost use Rattle.std.specs.Prelude.{false, true};
+
+use crate::patience::Patience;
+use kmip_client::Client;
+
+/// Never waits, and never gives up.
+#[derive(Clone, Copy)]
+pub struct Tireless;
+
+impl Patience for Tireless {
+    ghost use Rattle.std.specs.Prelude.{false};
+
+    ghost has_given_up = { λ patience. false };
+
+    fn exchanged(&mut self, _client: &Client<'_>, _got_on: bool) {}
+
+    fn go_on(&mut self) -> bool {
+        true
+    }
+}
