@@ -9,13 +9,14 @@ from traits import traits_of
 MOST_WORDS_OF_A_CRATE = 15
 COMMENT = re.compile(r'\s*(?://[/!]?|--)(?: (.*))?$')
 MODULE = re.compile(r'(?:pub )?mod (\w+)')
+TYPE = re.compile(r'^pub (?:struct|enum|trait) (\w+)', re.M)
 
 
 def check_comments(repository):
     """Prints what no sentence says, and each sentence that is too long; returns how many there are."""
     found = [*bare_clauses(repository), *bare_ghosts(repository), *definition_faults(repository)]
     for crate in repository.crates:
-        found += [*module_faults(crate), *crate_faults(crate), *long_sentences(crate)]
+        found += [*module_faults(crate), *crate_faults(crate), *type_faults(crate), *long_sentences(crate)]
     for fault in found:
         print(fault)
     return len(found)
@@ -41,7 +42,7 @@ def bare_ghosts(repository):
 
 
 def definition_faults(repository):
-    """Definitions without a sentence, those that nobody public needs, and files that do not say what they are about."""
+    """Definitions without a sentence, those that stand in the wrong kind of file, and files that do not say what they are about."""
     needed = set()
     for function in repository.functions:
         needed |= repository.behind(roots_of(repository, function))
@@ -54,9 +55,9 @@ def definition_faults(repository):
             if one.names and not one.comment:
                 yield f'{file.path}:{one.line}: no sentence above {one.title()}'
             if one.names and one not in needed and not one.is_private():
-                yield f'{file.path}:{one.line}: no public contract rests on {one.title()}, and it is not marked private'
+                yield f'{file.path}:{one.line}: no public contract rests on {one.title()}, and its file is not named Private..'
             if one.names and one in needed and one.is_private():
-                yield f'{file.path}:{one.line}: a public contract rests on {one.title()}, which is marked private'
+                yield f'{file.path}:{one.line}: a public contract rests on {one.title()}, which stands in a file Private..'
 
 
 def module_faults(crate):
@@ -76,6 +77,17 @@ def crate_faults(crate):
         yield f'crates/{crate}: its root file does not say what it is for'
     elif len(first.split()) > MOST_WORDS_OF_A_CRATE:
         yield f'crates/{crate}: its first sentence has {len(first.split())} words, and at most {MOST_WORDS_OF_A_CRATE} are allowed'
+
+
+def type_faults(crate):
+    """The public types that stand in a file of another name; in crates of tests a type may stand beside its test."""
+    if crate.startswith(('test_', 'rows_')):
+        return
+    for path in sorted((CRATES / crate / 'src').glob('*.rt')):
+        for name in TYPE.findall(path.read_text()):
+            own = re.sub(r'(?<!^)(?=[A-Z])', '_', name).lower()
+            if path.stem != own:
+                yield f'{path}: it is not named after {name}: {own}.rt'
 
 
 def long_sentences(crate):

@@ -8,6 +8,7 @@ Run it at the top of the repository. The headline is the clause *safe* of `kmip_
 an entry for each file of specs/, with what the file says of itself and the definitions that count.
 """
 import pathlib
+import re
 import sys
 
 sys.dont_write_bytecode = True
@@ -19,6 +20,8 @@ from traits import Spoken
 PAGE = pathlib.Path('docs/PROOF.md')
 TOOL = 'tools/headline.py'
 CALL, CLAUSE = 'kmip_runs::campaign', 'safe'
+FIRST = 'Headline'
+NAMED = re.compile(r'^--     (\w+)  ', re.M)
 
 
 def headline_list(repository):
@@ -58,10 +61,24 @@ def wrapped(names, most=110):
 
 def check_headline(repository):
     """Says whether the list is out of date; returns 1 then."""
-    if not PAGE.exists() or made_part(PAGE, TOOL, headline_list(repository)) == PAGE.read_text():
+    if not PAGE.exists():
         return 0
-    print(f'{PAGE}: its list of definitions is out of date: run {TOOL}')
-    return 1
+    faults = [*first_faults(repository)]
+    if made_part(PAGE, TOOL, headline_list(repository)) != PAGE.read_text():
+        faults.append(f'{PAGE}: its list of definitions is out of date: run {TOOL}')
+    for fault in faults:
+        print(fault)
+    return len(faults)
+
+
+def first_faults(repository):
+    """The files that a reader opens first and that do not name the other files of their crate, in their order."""
+    files = [file for file, _ in by_file(repository)]
+    for first in files:
+        if first.path.stem == FIRST:
+            others = [file.path.stem for file in files if file.crate == first.crate and file is not first]
+            if NAMED.findall(first.path.read_text()) != others:
+                yield f'{first.path}: it has to name, in this order: {", ".join(others)}'
 
 
 def main(words):

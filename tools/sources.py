@@ -24,7 +24,7 @@ class Definition:
         return ', '.join(self.names)
 
     def is_private(self):
-        return self.file.is_private or bool(self.comment) and 'private' in self.comment[0].lower()
+        return self.file.is_private
 
 
 class SpecFile:
@@ -34,7 +34,7 @@ class SpecFile:
         self.crate, self.path = crate, path
         lines = path.read_text().splitlines()
         self.says = self.first_comment(lines)
-        self.is_private = bool(self.says) and 'private' in self.says[0].lower()
+        self.is_private = path.stem.startswith('Private')
         self.imports = imports_of('\n'.join(lines), '')
         self.definitions, self.by_name = [], {}
         self.read(lines)

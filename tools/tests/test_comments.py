@@ -22,8 +22,11 @@ class Comments(Scratch):
             'crates/high/src/calling.rt:9: no sentence above requires of high::send',
             'crates/high/src/calling.rt:9: no sentence above ensures told of high::send',
             'crates/low/specs/Carried.antt:14: no sentence above Quick',
-            'crates/high/specs/Calls.antt:21: no public contract rests on IsFull, and it is not marked private',
+            'crates/high/specs/Calls.antt:21: no public contract rests on IsFull, and its file is not named Private..',
             'crates/low/specs/Lib.antt:3: no line above Carried',
+            'crates/low/src/carrying.rt: it is not named after Load: load.rt',
+            'crates/low/src/carrying.rt: it is not named after Wear: wear.rt',
+            'crates/low/src/carrying.rt: it is not named after Carrier: carrier.rt',
             'crates/high/specs/Lib.antt:1: no line above Calls'])
 
     def test_the_docstring_is_the_sentence_of_an_only_promise(self):
@@ -39,10 +42,15 @@ class Comments(Scratch):
         self.assertIn('crates/low/specs/Start.antt:1: it does not say what it is about', lines)
         self.assertIn('crates/low/specs/Start.antt: it names no source', lines)
 
-    def test_private_marks(self):
-        marked = CRATES['crates/low/specs/Carried.antt'].replace('-- The load', '-- Private: the load')
-        self.assertIn('crates/low/specs/Carried.antt:7: a public contract rests on Carried, which is marked private',
-                      self.found_in({'crates/low/specs/Carried.antt': marked}))
+    def test_private_files(self):
+        lib = CRATES['crates/low/specs/Lib.antt'].replace('Start', 'PrivateStart')
+        start = CRATES['crates/low/specs/Start.antt']
+        uses = {path: text.replace('specs.Start.', 'specs.PrivateStart.') for path, text in CRATES.items()}
+        self.assertIn('crates/low/specs/PrivateStart.antt:6: a public contract rests on History, which stands in a file Private..',
+                      self.found_in(uses | {'crates/low/specs/Lib.antt': lib, 'crates/low/specs/PrivateStart.antt': start}))
+
+    def test_types_of_tests_stand_beside_them(self):
+        self.assertEqual(list(comments.type_faults('test_low')), [])
 
     def test_ghosts(self):
         bare = CRATES['crates/low/src/carrying.rt'].replace('    /// It drops nothing.\n', '')

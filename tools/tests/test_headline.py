@@ -30,6 +30,15 @@ class Headline(Scratch):
             f'high\n\n- [Calls](../crates/high/specs/Calls.antt): What a call is.\n  `Sent`\n\n{END}After.\n'))
         self.assertEqual(printed(headline.check_headline, Repository()), (0, []))
 
+    def test_the_file_to_open_first_names_the_others(self):
+        texts = {path: text.replace('specs.Carried.', 'specs.Headline.').replace('mod Carried', 'mod Headline') for path, text in CRATES.items()}
+        text = texts.pop('crates/low/specs/Carried.antt')
+        found = []
+        for head in '', '--     Start  what there is\n':
+            self.write(texts | {'crates/low/specs/Headline.antt': text.replace('-- Source', f'{head}-- Source', 1)})
+            found.append(list(headline.first_faults(Repository())))
+        self.assertEqual(found, [['crates/low/specs/Headline.antt: it has to name, in this order: Start'], []])
+
     def test_no_page_is_no_fault(self):
         pathlib.Path('docs/PROOF.md').unlink()
         self.assertEqual(printed(headline.check_headline, Repository()), (0, []))
