@@ -3,7 +3,7 @@
 //! What the words ask for is done over standard input, files, sockets and standard output. All is safe
 //! and total. No clause says what is printed, as std tells a contract nothing of the bytes of standard
 //! input and output: the stored runs, `make refuse`, `make hostile`, `make storm` and `make peers` try
-//! it. kmipctl calls `run`; rows_kmipctl calls `run_words`, for each of its stored runs.
+//! it. kmipctl calls `run_program`; rows_kmipctl calls `run_words`, for each of its stored runs.
 #![tactic(auto)]
 
 mod doing;
@@ -11,4 +11,4 @@ mod running;
 mod streams;
 mod wrong_address;
 
-pub use running::{run, run_words};
+pub use running::{run_program, run_words};

@@ -18,7 +18,7 @@ use std::{env, io};
 /// Standard error has what `run` shows while it works, and why a file, a socket or a stream fails. It
 /// also has where a plan is no TOML, what to give for a wrong address, what a terminal is asked for,
 /// and that the command line is no text.
-pub fn run(rt: &HostRuntime) -> ExitCode {
+pub fn run_program(rt: &HostRuntime) -> ExitCode {
     open_closed_streams(rt);
     let status = match own_words(rt) {
         Ok(words) => run_words(rt, words.as_slice()),

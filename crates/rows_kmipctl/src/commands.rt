@@ -112,15 +112,15 @@ impl Command {
         writer: &mut NotingWriter,
     ) -> ExitStatus {
         let ended = match call {
-            Call::Program => return self.run(alloc, reader, writer),
+            Call::Program => return self.run_program(alloc, reader, writer),
             Call::ReaderAndWriter => self.call_with(alloc, reader, writer),
-            Call::Memory => self.carry_out_in_memory(alloc, reader.rest, &mut writer.written),
+            Call::Memory => self.call_in_memory(alloc, reader.rest, &mut writer.written),
         };
         finished(ended, writer)
     }
 
     /// Runs it as the program does.
-    fn run(
+    fn run_program(
         &self,
         alloc: Global,
         reader: &mut PieceReader<'_>,
@@ -174,7 +174,7 @@ impl Command {
     }
 
     /// The same in memory.
-    fn carry_out_in_memory(
+    fn call_in_memory(
         &self,
         alloc: Global,
         input: &[u8],
