@@ -31,6 +31,6 @@ pub use checking::{check, check_bytes, push_refusal, run_check};
 pub use checking_after::{check_after, check_after_bytes, run_check_after};
 pub use kmip_choices::Detail;
 pub use running::{RunInput, run, run_bytes, run_plan, run_run};
-pub use simulating::{run_sim, sim, sim_bytes};
+pub use simulating::{SimInput, run_sim, sim, sim_bytes};
 pub use spent::Spent;
 pub use standing::standing_line;
