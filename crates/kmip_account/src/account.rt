@@ -366,7 +366,7 @@ fn stories_of(alloc: Global, count: usize) -> Result<Vec<Story>, NoMemory> {
 fn since(then: Option<Instant>, now: Option<Instant>) -> Duration {
     match (then, now) {
         (Some(then), Some(now)) => now.saturating_duration_since(then),
-        _ => Duration::ZERO,
+        (None, _) | (_, None) => Duration::ZERO,
     }
 }
 

@@ -48,7 +48,12 @@ pub(crate) fn push_answer_about(
             push_other_name(alloc, name, &attrs.name, text)?;
             push_success(alloc, outcome, text)
         }
-        _ => push_success(alloc, outcome, text),
+        Outcome::Failed(None)
+        | Outcome::Created(_)
+        | Outcome::Located(_)
+        | Outcome::Activated(_)
+        | Outcome::Revoked(_)
+        | Outcome::Destroyed(_) => push_success(alloc, outcome, text),
     }
 }
 

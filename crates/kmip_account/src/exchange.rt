@@ -97,7 +97,16 @@ impl Exchange {
 fn unreadable(fault: MessageFault, reply: &[u8]) -> Silence {
     let version = match fault {
         MessageFault::Version => version_in(reply),
-        _ => None,
+        MessageFault::Ttlv(_)
+        | MessageFault::NotMessage
+        | MessageFault::BatchCount
+        | MessageFault::Missing(_)
+        | MessageFault::Twice(_)
+        | MessageFault::WrongType(_)
+        | MessageFault::OutOfRange(_)
+        | MessageFault::UnknownOperation
+        | MessageFault::NoMemory
+        | MessageFault::Undo => None,
     };
     Silence::Unreadable(fault, version)
 }

@@ -1,5 +1,10 @@
 -- What has come of a run is what its exchanges did.
-use Rattle.std.proofs.Common.{◌≡◌, ◌≢◌, ◌≤◌, ◌<◌, ◌⊎◌, ◌∙◌, ℕ, Bool, true, false, List, Option, Result, Ok, Err, inl, inr, subst, sym}
+use Rattle.std.proofs.Common.{◌≡◌, ◌≢◌, ◌≤◌, ◌<◌, ◌⊎◌, ◌∙◌, ℕ, Bool, true, false, List, Option, Result, Ok, Err, IfOk, inl, inr, refl, subst, sym}
+use Rattle.std.specs.Io.KnownBytes.{Appends}
+use Rattle.kmip_message_commands.specs.declared.fault.CommandFault.{CommandFault}
+use Rattle.kmip_plan.specs.Reading.{FailsPlan}
+use Rattle.kmip_plan.specs.declared.fault.PlanFault.{PlanFault}
+use Rattle.kmip_plan.specs.declared.fault.PlanFault.TheVariants as plan_faults
 use Rattle.kmip_plan.specs.declared.key.Key.{Key}
 use Rattle.kmip_client.specs.Clients.{ClientState}
 use Rattle.kmip_client.specs.Held.{Held}
@@ -17,7 +22,8 @@ use Rattle.kmip_runs.specs.Saved.{AreSaved, IsInMemory, IsLeft, IsWhole, Moment,
 use Rattle.kmip_runs.specs.declared.save_fault.SaveFault.{SaveFault}
 use Rattle.kmip_runs.specs.declared.save_fault.SaveFault.TheVariants as faults
 use Rattle.kmip_plan_commands.specs.Course.{AreUntouched, Came, IsGoodStart, IsTrueText}
-use Rattle.kmip_plan_commands.specs.RunText.{Outcome, TellsEither, TellsRunFrom}
+use Rattle.kmip_plan_commands.specs.Checking.{is_memory, plan_refusal_text}
+use Rattle.kmip_plan_commands.specs.RunText.{Outcome, TellsEither, TellsRunFrom, WritesPlanRun, WritesRun}
 
 abbrev ended : Result Stop SaveFault → Result Stop SaveFault
 ended r = r
@@ -164,3 +170,38 @@ tells_start past honest calm disturbances keeps saved refusals was tired a x y i
     let f : (knowns : List Knowledge) (r : Result Stop SaveFault) (made : ℕ) → came knowns r made → other knowns r made =
     λ knowns r made c. came_for past honest calm disturbances keeps saved refusals limit a.batch was tired (λ keys. IsGood past honest a x) (IsGoodStart past honest text x) x y i j a.keys a.knowns knowns r made (good_start past honest a x text (subst H (sym same) held)) c in
     subst P same (subst Q (sym is) (tells_for came other a.keys path limit refused told f t))
+
+-- ---- what is written for a text that was read
+
+-- what is written for a plan is written for the text that it was read from
+pub writes_read : (untouched : Type 0) (came : List Key → List Knowledge → Outcome) (read : Result (List Key) PlanFault) (keys : List Key) (saved : Option (List ℕ)) (path : List ℕ) (limit : ℕ) (result : Result Bool CommandFault) (old new : Option (List ℕ))
+    → read ≡ Ok keys
+    → IfOk result (λ refused. WritesPlanRun untouched (came keys) keys saved path limit refused old new)
+    → IfOk result (λ refused. WritesRun untouched came read saved path limit refused old new)
+writes_read untouched came read keys saved path limit (Ok refused) old new is w = record { text = w.text; tells = rw is w.tells; written = w.written }
+writes_read untouched came read keys saved path limit (Err fault) old new is w = tt
+
+-- a fault that is not want of memory is the one that reading gives
+read_fails : (fault : PlanFault) (read : Result (List Key) PlanFault) → FailsPlan fault read → is_memory fault ≡ false → read ≡ Err fault
+read_fails plan_faults.Toml read fails known = fails
+read_fails plan_faults.NoKeys read fails known = fails
+read_fails plan_faults.TooMany read fails known = fails
+read_fails (plan_faults.Missing field place) read fails known = fails
+read_fails (plan_faults.Unknown field place) read fails known = fails
+read_fails (plan_faults.BadName place) read fails known = fails
+read_fails (plan_faults.BadLength place) read fails known = fails
+read_fails (plan_faults.BadUsage place) read fails known = fails
+read_fails (plan_faults.BadTarget place) read fails known = fails
+read_fails (plan_faults.BadReason place) read fails known = fails
+read_fails (plan_faults.SameName place) read fails known = fails
+read_fails plan_faults.NoMemory read fails known = absurd cc
+
+-- the line of a refusal is written for a text that is no plan
+pub writes_refusal : (untouched : Type 0) (came : List Key → List Knowledge → Outcome) (read : Result (List Key) PlanFault) (fault : PlanFault) (saved : Option (List ℕ)) (path : List ℕ) (limit : ℕ) (result : Result Bool CommandFault) (old new : Option (List ℕ))
+    → untouched → FailsPlan fault read
+    → IfOk result (λ refused. is_memory fault ≡ false)
+    → IfOk result (λ refused. (refused ≡ true) × Appends old new (plan_refusal_text fault))
+    → IfOk result (λ refused. WritesRun untouched came read saved path limit refused old new)
+writes_refusal untouched came read fault saved path limit (Ok refused) old new kept fails known w =
+    record { text = plan_refusal_text fault; tells = rw (read_fails fault read fails known) (kept, w.0, refl); written = w.1 }
+writes_refusal untouched came read fault saved path limit (Err f) old new kept fails known w = tt

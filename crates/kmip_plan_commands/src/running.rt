@@ -1,5 +1,5 @@
 //! The command `run`: a plan is carried out over a link, and what is known is kept after each exchange.
-ghost use Rattle.std.specs.Prelude.{◌≡◌, ◌≢◌, List, [], Ok, Some, IfErr, IfOk, OnErr, IsTrue, option_map};
+ghost use Rattle.std.specs.Prelude.{◌≡◌, ◌≢◌, List, [], false, true, Ok, Some, IfErr, IfOk, OnErr, IsTrue, option_map};
 ghost use Rattle.std.specs.Io.KnownBytes.{Appends};
 ghost use Rattle.kmip_messages.specs.Members.{may_have};
 ghost use Rattle.kmip_plan.specs.Reading.{plan_read};
@@ -9,8 +9,9 @@ ghost use Rattle.kmip_message_commands.specs.Printing.{IfFailed, IfWhole, Unless
 ghost use Rattle.kmip_protocol.specs.Past.{is_planned};
 ghost use Rattle.kmip_runs.specs.Headline.{GoodLink};
 ghost use Rattle.kmip_runs.specs.Driving.{IsGood};
+ghost use Rattle.kmip_plan_commands.specs.Checking.{is_memory, plan_refusal_text};
 ghost use Rattle.kmip_plan_commands.specs.Course.{AreUntouched, AsksFew, Came, IsGoodStart, IsTrueText, KeepsSafe};
-ghost use Rattle.kmip_plan_commands.specs.RunText.{TellsEither, TellsRun, TellsRunFrom, WritesPlanRun, WritesRun, begin_knowns};
+ghost use Rattle.kmip_plan_commands.specs.RunText.{TellsEither, TellsRunFrom, WritesPlanRun, WritesRun, begin_knowns};
 
 use crate::beginning::begin;
 use crate::push_refusal;
@@ -19,7 +20,7 @@ use crate::telling::{progress_refusal_text, run_text, unwritten_text};
 use kmip_client::Client;
 use kmip_client::laws::onward_is_an_order;
 use kmip_message_commands::{CommandFault, ExitStatus, Printed, Printer, finished};
-use kmip_plan::{Plan, read_plan};
+use kmip_plan::{Plan, PlanFault, read_plan};
 use kmip_progress::ProgressFault;
 use kmip_protocol::Link;
 use kmip_runs::{Keeper, Patience, SaveFault, Stop, carry_out};
@@ -129,46 +130,8 @@ pub fn run_plan<L: Link, K: Keeper, E: Patience, W: Write>(
     ensures few { L.honest link.old (is_planned plan.now) → IfWhole result (λ r. AsksFew plan.now
         input.now.batch (L.past link.old) (L.past link.new)) }
 {
-    let ended = write_plan_run(alloc, plan, input, saved, link, keeper, patience, writer);
+    let ended = run_plan_to(alloc, plan, input, saved, link, keeper, patience, writer);
     finished(ended, writer)
-}
-
-/// Carries out a plan, and writes what is told of it.
-///
-/// # Errors
-/// `Output` where the writer fails, and `NoMemory`: nothing is written then.
-fn write_plan_run<L: Link, K: Keeper, E: Patience, W: Write>(
-    alloc: Global,
-    plan: &Plan,
-    input: &RunInput<'_>,
-    saved: Option<&str>,
-    link: &mut L,
-    keeper: &mut K,
-    patience: &mut E,
-    writer: &mut W,
-) -> Result<bool, CommandFault>
-    requires { IsTrue (may_have input.now.batch) }
-    ensures text { IfOk result (λ r. WritesPlanRun
-        (AreUntouched link.old link.new keeper.old keeper.new)
-        (Came L.past L.honest L.calm L.disturbances K.keeps K.saved K.refusals
-        input.now.limit input.now.batch
-        (E.has_given_up patience.old) (E.has_given_up patience.new)
-        (IsGoodStart L.past L.honest (option_map (λ text. text.now) saved.entry) link.old)
-        link.old link.new keeper.old keeper.new plan.now)
-        plan.now (option_map (λ text. text.now) saved.entry)
-        input.now.path.now input.now.limit r (W.contents writer.old) (W.contents writer.new)) }
-    ensures broken { IfErr result (λ fault. UnlessOutput fault
-        (Appends (W.contents writer.old) (W.contents writer.new) [])) }
-    ensures no_input { IfErr result (λ fault. fault ≢ CommandFault.Input) }
-    ensures safe { GoodLink L.past L.honest plan.now link.old
-        → IsTrueText (L.past link.old).objects plan.now
-        (option_map (λ text. text.now) saved.entry)
-        → KeepsSafe L.past L.honest plan.now link.old link.new }
-    ensures few { L.honest link.old (is_planned plan.now) → IfOk result (λ r. AsksFew plan.now
-        input.now.batch (L.past link.old) (L.past link.new)) }
-{
-    let told = told_of_plan(alloc, plan, input, saved, link, keeper, patience)?;
-    print_told(&told, writer)
 }
 
 /// Prints what is told of a run, and says whether something was refused, not written or left
@@ -356,54 +319,72 @@ fn run_to<L: Link, K: Keeper, E: Patience, P: Printer>(
         → L.honest link.old (is_planned keys) → IfOk result (λ r. AsksFew keys input.now.batch
         (L.past link.old) (L.past link.new)) }
 {
-    let told = told_of(alloc, plan, input, saved, link, keeper, patience)?;
-    print_told(&told, printer)
+    onward_is_an_order();
+    match read_plan(alloc, plan) {
+        Ok(plan) => run_plan_to(alloc, &plan, input, saved, link, keeper, patience, printer),
+        Err(fault) => print_refusal(alloc, &fault, printer),
+    }
 }
 
-/// What is told of a run of the text of a plan.
+/// Prints why a plan is refused; want of memory is no reason.
 ///
 /// # Errors
-/// Where there is no memory.
-fn told_of<L: Link, K: Keeper, E: Patience>(
+///
+/// `NoMemory`, and the fault of the printer.
+fn print_refusal<P: Printer>(
     alloc: Global,
-    plan: &str,
+    fault: &PlanFault,
+    printer: &mut P,
+) -> Result<bool, CommandFault>
+    ensures known { IfOk result (λ r. is_memory fault.now ≡ false) }
+    ensures text { IfOk result (λ r. (r ≡ true)
+        × Appends (P.contents printer.old) (P.contents printer.new)
+        (plan_refusal_text fault.now)) }
+    ensures broken { IfErr result (λ fault. Fails fault P.own_fault P.IsWhole
+        (P.contents printer.old) (P.contents printer.new)) }
+{
+    let mut text = Vec::new(alloc);
+    push_refusal(alloc, fault, &mut text)?;
+    printer.print(text.as_slice())?;
+    Ok(true)
+}
+
+/// Carries out a plan, and prints what is told of it.
+///
+/// # Errors
+///
+/// `NoMemory`, and the fault of the printer.
+fn run_plan_to<L: Link, K: Keeper, E: Patience, P: Printer>(
+    alloc: Global,
+    plan: &Plan,
     input: &RunInput<'_>,
     saved: Option<&str>,
     link: &mut L,
     keeper: &mut K,
     patience: &mut E,
-) -> Result<Told, NoMemory>
+    printer: &mut P,
+) -> Result<bool, CommandFault>
     requires { IsTrue (may_have input.now.batch) }
-    ensures text { IfOk result (λ told. TellsRun
+    ensures text { IfOk result (λ r. WritesPlanRun
         (AreUntouched link.old link.new keeper.old keeper.new)
         (Came L.past L.honest L.calm L.disturbances K.keeps K.saved K.refusals
         input.now.limit input.now.batch
         (E.has_given_up patience.old) (E.has_given_up patience.new)
         (IsGoodStart L.past L.honest (option_map (λ text. text.now) saved.entry) link.old)
-        link.old link.new keeper.old keeper.new)
-        (plan_read plan.now) (option_map (λ text. text.now) saved.entry)
-        input.now.path.now input.now.limit told.refused told.text.items) }
-    ensures safe { (keys : List Key) → plan_read plan.now ≡ Ok keys
-        → GoodLink L.past L.honest keys link.old
-        → IsTrueText (L.past link.old).objects keys
+        link.old link.new keeper.old keeper.new plan.now)
+        plan.now (option_map (λ text. text.now) saved.entry)
+        input.now.path.now input.now.limit r (P.contents printer.old) (P.contents printer.new)) }
+    ensures broken { IfErr result (λ fault. Fails fault P.own_fault P.IsWhole
+        (P.contents printer.old) (P.contents printer.new)) }
+    ensures safe { GoodLink L.past L.honest plan.now link.old
+        → IsTrueText (L.past link.old).objects plan.now
         (option_map (λ text. text.now) saved.entry)
-        → KeepsSafe L.past L.honest keys link.old link.new }
-    ensures few { (keys : List Key) → plan_read plan.now ≡ Ok keys
-        → L.honest link.old (is_planned keys) → IfOk result (λ r. AsksFew keys input.now.batch
-        (L.past link.old) (L.past link.new)) }
+        → KeepsSafe L.past L.honest plan.now link.old link.new }
+    ensures few { L.honest link.old (is_planned plan.now) → IfOk result (λ r. AsksFew plan.now
+        input.now.batch (L.past link.old) (L.past link.new)) }
 {
-    onward_is_an_order();
-    match read_plan(alloc, plan) {
-        Ok(plan) => told_of_plan(alloc, &plan, input, saved, link, keeper, patience),
-        Err(fault) => {
-            let mut text = Vec::new(alloc);
-            push_refusal(alloc, &fault, &mut text)?;
-            Ok(Told {
-                text,
-                refused: true,
-            })
-        }
-    }
+    let told = told_of_plan(alloc, plan, input, saved, link, keeper, patience)?;
+    print_told(&told, printer)
 }
 
 /// What is told of a run of this plan.

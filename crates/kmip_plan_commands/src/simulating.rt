@@ -9,10 +9,11 @@ ghost use Rattle.kmip_scripted.specs.ScriptTexts.{IsScript};
 ghost use Rattle.kmip_scripted.specs.Words.{prolongings};
 ghost use Rattle.kmip_simulation.specs.SimText.{sim_text};
 ghost use Rattle.kmip_simulation.specs.Tracing.{trace_text};
-ghost use Rattle.kmip_plan_commands.specs.Simulating.{BreaksOffSim, IsRefusedFor, TellsPlanFault, TellsProlongsNot, TellsScriptFault, TellsSim, TellsSimulation, TellsSimulations, WritesSim, campaign_ended, prolongs_not_text, script_refusal_text, simulation_text};
+ghost use Rattle.kmip_plan_commands.specs.Simulating.{BreaksOffSim, IsRefusedFor, TellsPlanFault, TellsScriptFault, TellsSim, TellsSimulation, TellsSimulations, WritesSim, campaign_ended, prolongs_not_text, script_refusal_text, simulation_text};
 ghost use Rattle.kmip_plan_commands.specs.Private.{GivesWords};
 
 use crate::push_refusal;
+use crate::sim_input::SimInput;
 use kmip_choices::Detail;
 use kmip_message_commands::{CommandFault, ExitStatus, finished, push_text, send};
 use kmip_plan::{Plan, PlanFault, prolongs, read_plan};
@@ -24,30 +25,30 @@ use kmip_ttlv::NoMemory;
 use std::alloc::Global;
 use std::io::Write;
 
-/// Runs `sim`, and prints a line for want of memory. A message asks about at most `batch` keys.
+/// Runs `sim`, and prints a line for want of memory.
 pub fn run_sim<W: Write>(
     alloc: Global,
-    detail: Detail,
-    batch: usize,
     plan: &str,
+    input: &SimInput<'_>,
     further: Option<&str>,
-    script: &str,
     writer: &mut W,
 ) -> ExitStatus
-    // A message may ask about so many keys at most: 1 to 8.
-    requires batch { IsTrue (may_have batch) }
+    // The `batch` of the input is a number from 1 to 8.
+    requires batch { IsTrue (may_have input.now.batch) }
     // Where it did not break off, what `sim` tells was written. It ends with `Done` exactly where the
     // last run of a simulation finished all keys, and else with `Refused`.
-    ensures text { IfWhole result (λ r. WritesSim detail batch (plan_read plan.now)
-        (option_map (λ text. plan_read text.now) further.entry) script.now r
-        (W.contents writer.old) (W.contents writer.new)) }
+    ensures text { IfWhole result (λ r. WritesSim input.now.detail input.now.batch
+        (plan_read plan.now) (option_map (λ text. plan_read text.now) further.entry)
+        input.now.script.now r (W.contents writer.old) (W.contents writer.new)) }
     // Where it failed, but not by its writer, nothing was written, or the runs before memory ran out;
     // and then the line of the fault.
-    ensures broken { IfFailed result (λ fault. UnlessOutput fault (BreaksOffSim detail batch
+    ensures broken { IfFailed result (λ fault. UnlessOutput fault (BreaksOffSim
+        input.now.detail input.now.batch
         (plan_read plan.now) (option_map (λ text. plan_read text.now) further.entry)
-        script.now (fault_line fault) (W.contents writer.old) (W.contents writer.new))) }
+        input.now.script.now (fault_line fault)
+        (W.contents writer.old) (W.contents writer.new))) }
 {
-    let ended = sim(alloc, detail, batch, plan, further, script, writer);
+    let ended = sim(alloc, plan, input, further, writer);
     finished(ended, writer)
 }
 
@@ -66,27 +67,26 @@ pub fn run_sim<W: Write>(
 /// written, in no other detail, and else nothing.
 pub fn sim<W: Write>(
     alloc: Global,
-    detail: Detail,
-    batch: usize,
     plan: &str,
+    input: &SimInput<'_>,
     further: Option<&str>,
-    script: &str,
     writer: &mut W,
 ) -> Result<bool, CommandFault>
-    // A message may ask about so many keys at most: 1 to 8.
-    requires batch { IsTrue (may_have batch) }
+    // The `batch` of the input is a number from 1 to 8.
+    requires batch { IsTrue (may_have input.now.batch) }
     // What is told of the plans and the script was written. The result is false exactly where the last
     // run of a simulation finished all keys.
-    ensures text { IfOk result (λ r. WritesSim detail batch (plan_read plan.now)
-        (option_map (λ text. plan_read text.now) further.entry) script.now r
-        (W.contents writer.old) (W.contents writer.new)) }
-    // Where it failed, but not by its writer, nothing was written, or the runs before memory ran out.
-    ensures broken { IfErr result (λ fault. UnlessOutput fault (BreaksOffSim detail batch
+    ensures text { IfOk result (λ r. WritesSim input.now.detail input.now.batch
         (plan_read plan.now) (option_map (λ text. plan_read text.now) further.entry)
-        script.now []
+        input.now.script.now r (W.contents writer.old) (W.contents writer.new)) }
+    // Where it failed, but not by its writer, nothing was written, or the runs before memory ran out.
+    ensures broken { IfErr result (λ fault. UnlessOutput fault (BreaksOffSim
+        input.now.detail input.now.batch
+        (plan_read plan.now) (option_map (λ text. plan_read text.now) further.entry)
+        input.now.script.now []
         (W.contents writer.old) (W.contents writer.new))) }
 {
-    let told = told_of(alloc, detail, batch, plan, further, script)?;
+    let told = told_of(alloc, plan, input, further)?;
     send(told.text.as_slice(), false, writer)?;
     Ok(told.ended?)
 }
@@ -99,26 +99,24 @@ pub fn sim<W: Write>(
 /// nothing.
 pub fn sim_bytes(
     alloc: Global,
-    detail: Detail,
-    batch: usize,
     plan: &str,
+    input: &SimInput<'_>,
     further: Option<&str>,
-    script: &str,
     output: &mut Vec<u8>,
 ) -> Result<bool, NoMemory>
-    // A message may ask about so many keys at most: 1 to 8.
-    requires batch { IsTrue (may_have batch) }
+    // The `batch` of the input is a number from 1 to 8.
+    requires batch { IsTrue (may_have input.now.batch) }
     // What is told of the plans and the script was appended. The result is false exactly where the last
     // run of a simulation finished all keys.
-    ensures text { IfOk result (λ r. WritesSim detail batch (plan_read plan.now)
-        (option_map (λ text. plan_read text.now) further.entry) script.now r
-        (Some output.old.items) (Some output.new.items)) }
+    ensures text { IfOk result (λ r. WritesSim input.now.detail input.now.batch
+        (plan_read plan.now) (option_map (λ text. plan_read text.now) further.entry)
+        input.now.script.now r (Some output.old.items) (Some output.new.items)) }
     // Where memory ran out, nothing was appended, or the runs before that.
-    ensures broken { OnErr result (BreaksOffSim detail batch (plan_read plan.now)
-        (option_map (λ text. plan_read text.now) further.entry) script.now []
-        (Some output.old.items) (Some output.new.items)) }
+    ensures broken { OnErr result (BreaksOffSim input.now.detail input.now.batch
+        (plan_read plan.now) (option_map (λ text. plan_read text.now) further.entry)
+        input.now.script.now [] (Some output.old.items) (Some output.new.items)) }
 {
-    let told = told_of(alloc, detail, batch, plan, further, script)?;
+    let told = told_of(alloc, plan, input, further)?;
     push_text(told.text.as_slice(), output)?;
     told.ended
 }
@@ -138,19 +136,17 @@ struct Told {
 /// Where there is no memory for the text or for what is read.
 fn told_of(
     alloc: Global,
-    detail: Detail,
-    batch: usize,
     plan: &str,
+    input: &SimInput<'_>,
     further: Option<&str>,
-    script: &str,
 ) -> Result<Told, NoMemory>
-    requires batch { IsTrue (may_have batch) }
-    ensures { IfOk result (λ told. TellsSim detail batch (plan_read plan.now)
-        (option_map (λ text. plan_read text.now) further.entry) script.now
-        told.ended told.text.items) }
+    requires batch { IsTrue (may_have input.now.batch) }
+    ensures { IfOk result (λ told. TellsSim input.now.detail input.now.batch
+        (plan_read plan.now) (option_map (λ text. plan_read text.now) further.entry)
+        input.now.script.now told.ended told.text.items) }
 {
     match read_plan(alloc, plan) {
-        Ok(plan) => told_of_plan(alloc, detail, batch, plan, further, script),
+        Ok(plan) => told_of_plan(alloc, plan, input, further),
         Err(fault) => Ok(told_of_fault(alloc, &fault)?),
     }
 }
@@ -158,22 +154,20 @@ fn told_of(
 /// The same of a plan that is read already.
 fn told_of_plan(
     alloc: Global,
-    detail: Detail,
-    batch: usize,
     plan: Plan,
+    input: &SimInput<'_>,
     further: Option<&str>,
-    script: &str,
 ) -> Result<Told, NoMemory>
-    requires batch { IsTrue (may_have batch) }
-    ensures { IfOk result (λ told. TellsSim detail batch (Ok plan)
-        (option_map (λ text. plan_read text.now) further.entry) script.now
-        told.ended told.text.items) }
+    requires batch { IsTrue (may_have input.now.batch) }
+    ensures { IfOk result (λ told. TellsSim input.now.detail input.now.batch (Ok plan)
+        (option_map (λ text. plan_read text.now) further.entry)
+        input.now.script.now told.ended told.text.items) }
 {
     let Some(further) = further else {
-        return told_of_script(alloc, detail, batch, &plan, script);
+        return told_of_script(alloc, &plan, input);
     };
     match read_plan(alloc, further) {
-        Ok(further) => told_of_plans(alloc, detail, batch, plan, further, script),
+        Ok(further) => told_of_plans(alloc, plan, input, further),
         Err(fault) => Ok(told_of_fault(alloc, &fault)?),
     }
 }
@@ -181,41 +175,34 @@ fn told_of_plan(
 /// The same of two plans that are read already.
 fn told_of_plans(
     alloc: Global,
-    detail: Detail,
-    batch: usize,
     plan: Plan,
+    input: &SimInput<'_>,
     further: Plan,
-    script: &str,
 ) -> Result<Told, NoMemory>
-    requires batch { IsTrue (may_have batch) }
-    ensures { IfOk result (λ told.
-        TellsSim detail batch (Ok plan) (Some (Ok further)) script.now
-        told.ended told.text.items) }
+    requires batch { IsTrue (may_have input.now.batch) }
+    ensures { IfOk result (λ told. TellsSim input.now.detail input.now.batch (Ok plan)
+        (Some (Ok further)) input.now.script.now told.ended told.text.items) }
 {
     if !prolongs(&further, &plan) {
         return told_of_prolongs_not(alloc);
     }
-    match script_in(alloc, script, 1) {
-        Ok(script) => told_of_simulations(alloc, detail, batch, plan, further, script),
+    match script_in(alloc, input.script, 1) {
+        Ok(script) => {
+            told_of_simulations(alloc, input.detail, input.batch, plan, further, script)
+        }
         Err(ScriptFault::Line(line)) => told_of_script_fault(alloc, line),
         Err(ScriptFault::NoMemory) => Err(NoMemory),
     }
 }
 
 /// What is told of a script for a plan that is read already.
-fn told_of_script(
-    alloc: Global,
-    detail: Detail,
-    batch: usize,
-    plan: &Plan,
-    script: &str,
-) -> Result<Told, NoMemory>
-    requires batch { IsTrue (may_have batch) }
-    ensures { IfOk result (λ told.
-        TellsSim detail batch (Ok plan.now) None script.now told.ended told.text.items) }
+fn told_of_script(alloc: Global, plan: &Plan, input: &SimInput<'_>) -> Result<Told, NoMemory>
+    requires batch { IsTrue (may_have input.now.batch) }
+    ensures { IfOk result (λ told. TellsSim input.now.detail input.now.batch (Ok plan.now)
+        None input.now.script.now told.ended told.text.items) }
 {
-    match script_in(alloc, script, 0) {
-        Ok(script) => told_of_simulation(alloc, detail, batch, plan, script),
+    match script_in(alloc, input.script, 0) {
+        Ok(script) => told_of_simulation(alloc, input.detail, input.batch, plan, script),
         Err(ScriptFault::Line(line)) => told_of_script_fault(alloc, line),
         Err(ScriptFault::NoMemory) => Err(NoMemory),
     }

@@ -7,7 +7,7 @@ use kmip_network::{
     Trouble, batch_of, plan_at, probe_server, run_plan, serve, standard_input, standard_output,
     text_at,
 };
-use kmip_plan_commands::{check_after_bytes, run_check, run_check_after, run_sim};
+use kmip_plan_commands::{SimInput, check_after_bytes, run_check, run_check_after, run_sim};
 use kmip_ttlv::NoMemory;
 use std::io;
 use std::io::{BufReader, BufWriter, IsTerminal};
@@ -174,14 +174,10 @@ fn simulate(
     script: &str,
 ) -> Result<ExitStatus, Trouble> {
     let mut writer = BufWriter::new(rt.alloc(), standard_output(rt))?;
-    let batch = batch_of(batch);
-    Ok(run_sim(
-        rt.alloc(),
+    let input = SimInput {
         detail,
-        batch,
-        plan,
-        further,
+        batch: batch_of(batch),
         script,
-        &mut writer,
-    ))
+    };
+    Ok(run_sim(rt.alloc(), plan, &input, further, &mut writer))
 }

@@ -10,8 +10,8 @@ use kmip_message_commands::{
     finished, run_answer, run_answer_stream, run_show, show_bytes, show_lines,
 };
 use kmip_plan_commands::{
-    batch_of, check, check_after, check_after_bytes, check_bytes, run_check, run_check_after,
-    run_sim, sim, sim_bytes,
+    SimInput, batch_of, check, check_after, check_after_bytes, check_bytes, run_check,
+    run_check_after, run_sim, sim, sim_bytes,
 };
 use std::alloc::Global;
 use std::fs;
@@ -134,15 +134,14 @@ impl Command {
             Command::CheckAfter { plan, earlier } => {
                 run_check_after(alloc, plan.as_str(), earlier.as_str(), writer)
             }
-            Command::Simulate(case) => run_sim(
-                alloc,
-                case.detail,
-                batch_of(case.batch),
-                case.plan.as_str(),
-                case.further(),
-                case.script.as_str(),
-                writer,
-            ),
+            Command::Simulate(case) => {
+                let input = SimInput {
+                    detail: case.detail,
+                    batch: batch_of(case.batch),
+                    script: case.script.as_str(),
+                };
+                run_sim(alloc, case.plan.as_str(), &input, case.further(), writer)
+            }
         }
     }
 
@@ -161,15 +160,14 @@ impl Command {
             Command::CheckAfter { plan, earlier } => {
                 check_after(alloc, plan.as_str(), earlier.as_str(), writer)
             }
-            Command::Simulate(case) => sim(
-                alloc,
-                case.detail,
-                batch_of(case.batch),
-                case.plan.as_str(),
-                case.further(),
-                case.script.as_str(),
-                writer,
-            ),
+            Command::Simulate(case) => {
+                let input = SimInput {
+                    detail: case.detail,
+                    batch: batch_of(case.batch),
+                    script: case.script.as_str(),
+                };
+                sim(alloc, case.plan.as_str(), &input, case.further(), writer)
+            }
         }
     }
 
@@ -191,15 +189,14 @@ impl Command {
                 earlier.as_str(),
                 output,
             )?),
-            Command::Simulate(case) => Ok(sim_bytes(
-                alloc,
-                case.detail,
-                batch_of(case.batch),
-                case.plan.as_str(),
-                case.further(),
-                case.script.as_str(),
-                output,
-            )?),
+            Command::Simulate(case) => {
+                let input = SimInput {
+                    detail: case.detail,
+                    batch: batch_of(case.batch),
+                    script: case.script.as_str(),
+                };
+                Ok(sim_bytes(alloc, case.plan.as_str(), &input, case.further(), output)?)
+            }
         }
     }
 }

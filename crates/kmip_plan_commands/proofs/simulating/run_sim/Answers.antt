@@ -23,18 +23,18 @@ joined detail batch read further script line old mid new broken more = record {
 pub returns-clause-text : goal.returns-clause-text
 returns-clause-text g c =
     let further = option_map (λ text. plan_read text.now) c.args.further in
-    finished_whole _ _ _ _ (λ new refused. WritesSim c.args.detail c.args.batch (plan_read c.args.plan.now) further c.args.script.now refused (g.W.Write.contents c.args.writer.now) new)
+    finished_whole _ _ _ _ (λ new refused. WritesSim c.args.input.now.detail c.args.input.now.batch (plan_read c.args.plan.now) further c.args.input.now.script.now refused (g.W.Write.contents c.args.writer.now) new)
     c.finished.ensures c.sim-ended.ensures.text
 
 pub returns-clause-broken : goal.returns-clause-broken
 returns-clause-broken g c =
-    let detail = c.args.detail in
-    let batch = c.args.batch in
+    let detail = c.args.input.now.detail in
+    let batch = c.args.input.now.batch in
     let read = plan_read c.args.plan.now in
     let further = option_map (λ text. plan_read text.now) c.args.further in
     let old = g.W.Write.contents c.args.writer.now in
     let mid = g.W.Write.contents c.sim-ended.new.writer in
     let new = g.W.Write.contents c.finished.new.writer in
-    finished_broken c.sim-ended.result c.finished.result mid new (λ fault. BreaksOffSim detail batch read further c.args.script.now [] old mid)
-    (λ fault. BreaksOffSim detail batch read further c.args.script.now (fault_line fault) old new) c.finished.ensures
-    (λ fault. joined detail batch read further c.args.script.now (fault_line fault) old mid new) c.sim-ended.ensures.broken
+    finished_broken c.sim-ended.result c.finished.result mid new (λ fault. BreaksOffSim detail batch read further c.args.input.now.script.now [] old mid)
+    (λ fault. BreaksOffSim detail batch read further c.args.input.now.script.now (fault_line fault) old new) c.finished.ensures
+    (λ fault. joined detail batch read further c.args.input.now.script.now (fault_line fault) old mid new) c.sim-ended.ensures.broken
