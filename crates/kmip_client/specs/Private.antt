@@ -8,6 +8,7 @@ use Rattle.kmip_batch_items.specs.declared.message_fault.MessageFault.{MessageFa
 use Rattle.kmip_plan.specs.TargetWords.{is_text}
 use Rattle.kmip_plan.specs.declared.key.Key.{Key}
 use Rattle.kmip_client.specs.declared.hear_fault.HearFault.{HearFault}
+use Rattle.kmip_client.specs.declared.hear_fault.HearFault.TheVariants as faults
 use Rattle.kmip_client.specs.declared.knowledge.Knowledge.{Knowledge}
 use Rattle.kmip_client.specs.Knowledge.{chain_length}
 use Rattle.kmip_objects.specs.Ranges.{is_identifier}

@@ -4,7 +4,7 @@ use Rattle.std.specs.Prelude.{ℕ, ◌+◌, List, Bool, true, false, [], Option,
 use Rattle.kmip_protocol.specs.Clean.{Disturbances}
 use Rattle.kmip_protocol.specs.Past.{Past}
 use Rattle.kmip_protocol.specs.declared.link_fault.LinkFault.{LinkFault}
-use Rattle.kmip_protocol.specs.declared.link_fault.LinkFault.TheVariants.{Io, Frame, NoMemory}
+use Rattle.kmip_protocol.specs.declared.link_fault.LinkFault.TheVariants as faults
 use Rattle.std.specs.Io.KnownBytes.{Consumes, IsAtEnd, Appends}
 use Rattle.kmip_frames.specs.Streams.{IsMessage, joined}
 use Rattle.kmip_transport.specs.Receiving.{IsUnfinished, IsNoHead}
@@ -39,9 +39,9 @@ pub record Takes (old new : List ℕ) (unread left : Option (List ℕ)) : Type 0
 abbrev pub IsHandedOver : {M : Type 0} → (M → List ℕ) → Result (Option M) LinkFault → List ℕ → List ℕ → Type 0
 IsHandedOver bytes (Ok (Some message)) old new = IsMessage old × (bytes message ≡ old) × (new ≡ [])
 IsHandedOver bytes (Ok None) old new = IsUnfinished old × (new ≡ old)
-IsHandedOver bytes (Err Io) old new = ⊥
-IsHandedOver bytes (Err Frame) old new = IsNoHead old × (new ≡ old)
-IsHandedOver bytes (Err NoMemory) old new = IsMessage old × (new ≡ old)
+IsHandedOver bytes (Err faults.Io) old new = ⊥
+IsHandedOver bytes (Err faults.Frame) old new = IsNoHead old × (new ≡ old)
+IsHandedOver bytes (Err faults.NoMemory) old new = IsMessage old × (new ≡ old)
 
 -- What one read does to what is held: it adds what was read, or says why nothing was.
 pub record ReadsOnce (IsSure : Type 0) (result : Result Bool LinkFault) (old new : List ℕ) (unread left : Option (List ℕ)) : Type 0 where
@@ -50,7 +50,7 @@ pub record ReadsOnce (IsSure : Type 0) (result : Result Bool LinkFault) (old new
   -- where the stream does not go on, it has ended, and nothing was read
   pub end : result ≡ Ok false → (new ≡ old) × IsAtEnd left
   -- it fails by Io alone, and then nothing was read
-  pub refused : IfErr result (λ fault. (fault ≡ Io) × (new ≡ old))
+  pub refused : IfErr result (λ fault. (fault ≡ faults.Io) × (new ≡ old))
   -- a source that is sure does not fail
   pub sure : IsSure → IsOk result
   -- it has read something where the stream goes on
