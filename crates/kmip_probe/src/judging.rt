@@ -55,7 +55,7 @@ use std::alloc::Global;
 ///
 /// # Errors
 /// Where there is no memory.
-pub fn findings(alloc: Global, prefix: &str, answers: &[Answer]) -> Result<Findings, NoMemory>
+pub fn findings_of(alloc: Global, prefix: &str, answers: &[Answer]) -> Result<Findings, NoMemory>
     ensures { IfOk result (AreFindings prefix.now answers.now) }
 {
     Ok(Findings {

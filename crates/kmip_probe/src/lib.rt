@@ -30,7 +30,7 @@ pub use inquiry::{
     INQUIRIES, Inquiry, LOOK_FIRST, LOOK_SECOND, LOOKS, PREFIX_MAX, QUESTIONS, READ_ATTRIBUTES,
     REVOKE_SECOND, is_prefix, name_of,
 };
-pub use judging::{findings, outcome_at, unread_at};
+pub use judging::{findings_of, outcome_at, unread_at};
 pub use kind::Kind;
 pub use probing::{ask_on, is_free_at, probe};
 pub use protocol_version::ProtocolVersion;

@@ -23,7 +23,7 @@ use crate::premise::{EARLY, EARLY_ANSWERS, LATE, LATE_ANSWERS, Premise};
 use crate::wording::{are_all_kept, lines_of, rest_of_report};
 use kmip_message_commands::{CommandFault, Printer};
 use kmip_probe::laws::the_profile_keeps_all;
-use kmip_probe::{Answer, LOOK_FIRST, LOOK_SECOND, LOOKS, QUESTIONS, ask_on, findings};
+use kmip_probe::{Answer, LOOK_FIRST, LOOK_SECOND, LOOKS, QUESTIONS, ask_on, findings_of};
 use kmip_protocol::Link;
 use std::alloc::Global;
 
@@ -153,7 +153,7 @@ fn print_lines<P: Printer>(
     ensures broken { IfErr result (λ fault. Fails fault P.own_fault P.IsWhole
         (P.contents printer.old) (P.contents printer.new)) }
 {
-    let findings = findings(alloc, prefix, answers)?;
+    let findings = findings_of(alloc, prefix, answers)?;
     let text = lines_of(alloc, &findings, premises)?;
     printer.print(text.as_str().as_bytes())?;
     Ok(())
@@ -176,7 +176,7 @@ fn print_rest<P: Printer>(
     ensures broken { IfErr result (λ fault. Fails fault P.own_fault P.IsWhole
         (P.contents printer.old) (P.contents printer.new)) }
 {
-    let findings = findings(alloc, prefix, answers)?;
+    let findings = findings_of(alloc, prefix, answers)?;
     let text = rest_of_report(alloc, &findings)?;
     printer.print(text.as_str().as_bytes())?;
     Ok(!are_all_kept(&findings))

@@ -2,7 +2,7 @@
 use Rattle.std.proofs.Common.{rules, ◌≡◌, string_bytes}
 use Rattle.kmip_plan_commands.specs.ProgressLineText.{standing_text}
 use Rattle.kmip_plan_commands.proofs.ProgressLineLemmas.{standing_narrow}
-use Rattle.kmip_plan_commands.proofs.progress_line.line_of.Goals as goal
+use Rattle.kmip_plan_commands.proofs.line.line_of.Goals as goal
 
 pub returns-clause-narrow : goal.returns-clause-narrow
 returns-clause-narrow c =
