@@ -31,6 +31,9 @@ def bare_clauses(repository):
             is_only = promises == [clause] and (function.docs or name == 'from_gives')
             if not comment and not is_only:
                 yield f'{function.file}:{function.line}: no sentence above {kind} {name}'.rstrip() + f' of {function.path}'
+        for field in function.promises:
+            if field not in function.clauses and not field[3]:
+                yield f'{field.file.path}: no sentence above the field {field[1]} of what {function.path} promises'
 
 
 def bare_ghosts(repository):

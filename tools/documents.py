@@ -19,7 +19,7 @@ NAME = re.compile(r'`((?:\w+::)*[A-Za-z]+(?:_\w+|[a-z0-9][A-Z]\w*))`')
 def check(repository):
     """Prints what does not fit, and returns the exit status: 1 where there is something."""
     faults = check_comments(repository) + check_headline(repository) + check_own_numbers() + check_layers()
-    faults += check_links() + check_names() + check_messages() + check_mistakes() + check_ways() + check_prose()
+    faults += check_links() + check_names() + check_messages() + check_mistakes(repository) + check_ways() + check_prose()
     print(f'{faults} places to look at' if faults else 'nothing to look at')
     return 1 if faults else 0
 

@@ -40,7 +40,7 @@ def headline_list(repository):
 def by_file(repository):
     """The files that the clause rests on, each below those that it uses, with their definitions."""
     function = next(one for one in repository.functions if one.path == CALL)
-    clause = next(one for one in function.clauses if one[1] == CLAUSE)
+    clause = next(one for one in function.promises if one[1] == CLAUSE)
     files = []
     for one in repository.in_order(repository.behind(Spoken(repository, function, clause).roots)):
         if not files or files[-1][0] is not one.file:

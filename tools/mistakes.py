@@ -2,7 +2,7 @@
 import pathlib
 import re
 
-from sources import CRATES, Crate
+from sources import CRATES, Crate, imports_of
 
 MISTAKES = pathlib.Path('docs/MISTAKES.md')
 START = re.compile(r'(\s*)(?:pub )?(?:pub\(crate\) )?(?:const )?fn (\w+)')
@@ -10,16 +10,19 @@ OWNER = re.compile(r'(?:impl|(?:pub(?:\(crate\))? )?trait)\b.*?(\w+)(?:<[^{]*>)?
 
 
 class Known:
-    """A function of a crate, public or private: the names of its clauses, its lines, and whether it has a loop."""
+    """A function of a crate, public or private: the names of its clauses, its lines, and whether it has a loop.
 
-    def __init__(self, clauses, body):
-        self.named = {name for _, name, _, _ in clauses if name}
+    The fields of a record that is its only promise count as clauses.
+    """
+
+    def __init__(self, clauses, promises, body):
+        self.named = {name for _, name, _, _ in promises if name}
         self.ensured = [name for kind, name, _, _ in clauses if kind == 'ensures']
         self.body = body
         self.has_loop = bool(re.search(r'^\s*(?:while|for|loop)\b.*\{$', body, re.M))
 
 
-def check_mistakes():
+def check_mistakes(repository):
     """What docs/MISTAKES.md names that is not there: an edit, a test, a stored command, a function or a clause of one."""
     faults, crates, rows = 0, {}, 0
     for number, line in enumerate(MISTAKES.read_text().splitlines(), 1):
@@ -33,7 +36,7 @@ def check_mistakes():
             continue
         crate = cells[1].partition(':')[0]
         if crate not in crates:
-            crates[crate] = functions_of(crate)
+            crates[crate] = functions_of(crate, repository)
         for fault in faults_of(crate, crates[crate], cells[1], cells[2]):
             faults += 1
             print(f'{MISTAKES}:{number}: {fault}')
@@ -43,18 +46,20 @@ def check_mistakes():
     return faults
 
 
-def functions_of(crate):
+def functions_of(crate, repository=None):
     """The functions of a crate by their names, and also by the type or trait in whose block they stand."""
     known = {}
     for path in sorted((CRATES / crate / 'src').glob('*.rt')):
-        lines, owner = path.read_text().splitlines(), None
+        lines, owner, imports = path.read_text().splitlines(), None, imports_of(path.read_text(), 'ghost ')
         for number, line in enumerate(lines):
             opened, start = OWNER.match(line), START.match(line)
             owner = opened.group(1) if opened else None if line == '}' else owner
             if start:
                 ends = start.group(1) + '}'
                 last = next((at for at in range(number, len(lines)) if lines[at] == ends), number)
-                function = Known(Crate.contract(lines, number)[2], '\n'.join(lines[number:last]))
+                clauses = Crate.contract(lines, number)[2]
+                promises = repository.opened(clauses, imports) if repository else clauses
+                function = Known(clauses, promises, '\n'.join(lines[number:last]))
                 for name in [start.group(2)] + [f'{owner}::{start.group(2)}'] * bool(owner):
                     known.setdefault(name, []).append(function)
     return known

@@ -9,7 +9,8 @@
 
 Definitions stand in the order in which to read them: what is built on comes first. Where a clause speaks of a
 ghost of a trait (`L.honest`), the trait's clauses that speak of it follow, and their definitions too. A clause
-without a name is called `requires` or `ensures`.
+without a name is called `requires` or `ensures`. Where the only promise of a call is a record, its fields count as
+clauses of the call.
 
 Run it at the top of the repository (`make reading` does). It reads the sources alone, and proves nothing.
 """
@@ -48,7 +49,7 @@ def shown_from(repository, wanted):
 
 def print_list(repository):
     for function in repository.functions:
-        clauses = ', '.join(name or kind for kind, name, _, _ in function.clauses)
+        clauses = ', '.join(name or kind for kind, name, _, _ in function.promises)
         print(f'{function.path}  ({clauses or "no clause"})')
 
 
@@ -70,9 +71,9 @@ def print_clause(clause):
 
 def print_one(repository, function, wanted):
     """Prints what one clause rests on, and returns the exit status: 1 where there is no such clause."""
-    chosen = [clause for clause in function.clauses if (clause[1] or clause[0]) == wanted]
+    chosen = [clause for clause in [*function.promises, *function.clauses] if (clause[1] or clause[0]) == wanted][:1]
     if not chosen:
-        names = ', '.join(clause[1] or clause[0] for clause in function.clauses)
+        names = ', '.join(clause[1] or clause[0] for clause in function.promises)
         print(f'{function.path} has no clause {wanted}; its clauses: {names or "none"}')
         return 1
     print(f'{function.path}, of {function.file}:{function.line}')

@@ -10,6 +10,7 @@ import re
 CRATES = pathlib.Path('crates')
 WORD = re.compile(r"(?<![\w.'-])[A-Za-z_][\w']*(?:-[A-Za-z_]\w*)*")
 RECORD_FIELD = re.compile(r'([{;]\s*)\w+ =(?!=)')
+RECORD = re.compile(r'(?:pub )?record \S+(.*) : Type \d+ where\n')
 
 
 class Definition:
@@ -46,6 +47,8 @@ class SpecFile:
         for line in lines:
             if not line.startswith('--') or line.startswith('-- Source'):
                 return says
+            if line.startswith('--     '):
+                continue
             says.append(line[2:].strip())
         return says
 
@@ -152,6 +155,8 @@ class Repository:
         for crate in self.crates:
             self.parts[crate] = Crate(crate, self)
             self.functions += self.parts[crate].functions
+        for function in self.functions:
+            function.promises = self.opened(function.clauses, function.imports)
 
     def files_in_order(self):
         """The files of specs/, each after those that it uses."""
@@ -182,6 +187,37 @@ class Repository:
         home = self.files.get(module)
         return home.by_name[original] if home and original in home.by_name else (module, original or '')
 
+    def opened(self, clauses, imports):
+        """The clauses, where the only promise of a call is a record: its fields in the place of it."""
+        promises = [clause for clause in clauses if clause[0] == 'ensures']
+        fields = self.fields_behind(promises[0][2], imports, None) if len(promises) == 1 else []
+        return [clause for clause in clauses if clause[0] == 'requires'] + fields if fields else clauses
+
+    def fields_behind(self, body, imports, file):
+        """The fields of the record that a text applies, as clauses; those of a record of the same file are opened.
+
+        There are none where a field speaks of one before it: such a record says that something is there.
+        """
+        head, *given = atoms_of(body)
+        own = {} if file is None else file.by_name
+        record = self.meaning(head, imports, own) if head in own or head in imports else None
+        opened = RECORD.match(record.text) if isinstance(record, Definition) else None
+        asked = parameters_of(opened.group(1)) if opened else []
+        if not opened or len(asked) != len(given):
+            return []
+        found, known, fields = [], dict(imports, **record.file.imports), fields_of(record.text[opened.end():])
+        words = set().union(*(WORD.findall(kind) for _, kind, _ in fields))
+        if any(name in words for name, _, _ in fields):
+            return []
+        for name, kind, comment in fields:
+            said = applied(kind, dict(zip(asked, given)))
+            *premises, last = arrows_of(said)
+            inner = atoms_of(last)[0] in record.file.by_name and self.fields_behind(last, known, record.file)
+            for field in inner or [Field(name, last, comment)]:
+                field.stands_in(record.file, known)
+                found.append(field.after(premises))
+        return found
+
     def behind(self, roots):
         """All that the roots are made of, the roots included."""
         seen, waiting = set(), list(roots)
@@ -201,12 +237,81 @@ class Repository:
         return sorted(definitions, key=lambda one: (place[module_of[id(one.file)]], one.line))
 
 
+class Field(tuple):
+    """A field of a record that is the only promise of a call, as a clause; the file of the record, and its names."""
+
+    file, imports = None, None
+
+    def __new__(cls, name, body, comment):
+        return super().__new__(cls, ('ensures', name, body, comment))
+
+    def stands_in(self, file, imports):
+        if self.file is None:
+            self.file, self.imports = file, imports
+
+    def after(self, premises):
+        """The same, where something is asked first."""
+        field = Field(self[1], ' → '.join([*premises, self[2]]), self[3])
+        field.file, field.imports = self.file, self.imports
+        return field
+
+
+def atoms_of(text):
+    """The words and the groups in signs of a text, one by one."""
+    found, depth = [''], 0
+    for sign in text.strip():
+        depth += (sign in '({[') - (sign in ')}]')
+        if sign.isspace() and not depth:
+            found.append('')
+        else:
+            found[-1] += sign
+    return [one for one in found if one] or ['']
+
+
+def arrows_of(text):
+    """The parts of a text between its outermost arrows."""
+    found = ['']
+    for atom in atoms_of(text):
+        if atom == '→':
+            found.append('')
+        else:
+            found[-1] += (' ' if found[-1] else '') + atom
+    return found
+
+
+def parameters_of(header):
+    """The names of those parameters of a record that are written where it is applied."""
+    groups = [atom for atom in atoms_of(header) if atom.startswith('(')]
+    return [name for group in groups for name in group[1:].split(' : ')[0].split()]
+
+
+def applied(text, given):
+    """The text with these in the place of the names."""
+    return WORD.sub(lambda word: given.get(word.group(), word.group()), text)
+
+
+def fields_of(text):
+    """The fields of a record: the name, the type and the sentences above."""
+    found, comment = [], []
+    for line in text.splitlines():
+        head = re.match(r'  (?:pub )?(\w+) : (.*)', line)
+        if line.startswith('  --'):
+            comment.append(line.strip()[2:].strip())
+        elif head:
+            found.append([head.group(1), head.group(2), ' '.join(comment)])
+            comment = []
+        elif found and line.startswith('   '):
+            found[-1][1] += ' ' + line.strip()
+    return found
+
+
 class Function:
     """A public function, its clauses, and what they name; its line, and the block that it stands in."""
 
     def __init__(self, path, file, docs, clauses, roots, types):
         self.path, self.file, self.docs = path, file, docs
         self.clauses, self.roots, self.types = clauses, roots, types
+        self.promises = clauses
         self.signature, self.imports, self.owner, self.header, self.line = '', {}, '', '', 0
 
 

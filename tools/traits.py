@@ -1,7 +1,7 @@
 """The ghosts of the traits: what a clause such as `L.honest` speaks of, and what the trait promises of it."""
 import re
 
-from sources import CRATES, Crate, Definition, WORD, imports_of
+from sources import CRATES, RECORD, WORD, Crate, Definition, Field, fields_of, imports_of
 
 TRAIT = re.compile(r'^(?:pub |pub\(crate\) )?trait (\w+)[^\n]*\{\n(.*?)^\}', re.M | re.S)
 GHOST = re.compile(r'^((?: *///[^\n]*\n)*) *ghost (\w+): \{ *(.*?) *\};', re.M | re.S)
@@ -22,12 +22,15 @@ class Ghost:
 class Promise:
     """A clause of a method of a trait."""
 
-    def __init__(self, method, kind, name, body, comment, line):
+    def __init__(self, method, kind, name, body, comment, line, field=None):
         self.method, self.kind, self.name, self.body = method, kind, name, body
-        self.comment, self.line = comment, line
+        self.comment, self.line, self.field = comment, line, field
+
+    def clause(self):
+        return self.kind, self.name, self.body, self.comment
 
     def words(self):
-        return set(WORD.findall(self.body))
+        return words_and_fields(self.body)
 
 
 class Trait:
@@ -35,7 +38,7 @@ class Trait:
 
     def __init__(self, path, name, text, first, imports):
         self.path, self.name, self.imports = path, name, imports
-        self.ghosts, self.promises = {}, []
+        self.ghosts, self.promises, self.fields = {}, [], {}
         for found in GHOST.finditer(text):
             docs = [line.strip()[3:].strip() for line in found.group(1).splitlines()]
             line = first + text[:found.start(2)].count('\n')
@@ -55,6 +58,25 @@ class Trait:
                   if re.match(r'\s*(requires|ensures)\b', line)]
         for (kind, name, body, comment), line in zip(clauses, places):
             self.promises.append(Promise(method, kind, name, body, comment, line))
+
+    def open(self, repository):
+        """Takes the fields of a ghost that is a record for ghosts too, and those of a method's only promise for clauses."""
+        for ghost in list(self.ghosts.values()):
+            record = next(iter(repository.resolve(ghost.text.rpartition('→')[2], self.imports)), None)
+            opened = RECORD.match(record.text) if isinstance(record, Definition) else None
+            if opened:
+                fields = fields_of(record.text[opened.end():])
+                self.fields[ghost.name] = record, [name for name, _, _ in fields]
+                for name, kind, comment in fields:
+                    self.ghosts[name] = Ghost(self, name, kind, [comment], ghost.line)
+        methods, promises = {}, []
+        for promise in self.promises:
+            methods.setdefault(promise.method, []).append(promise)
+        for method, own in methods.items():
+            opened = repository.opened([promise.clause() for promise in own], self.imports)
+            promises += own if len(opened) == len(own) else [
+                Promise(method, *field, own[-1].line, field) for field in opened if field[0] == 'ensures']
+        self.promises = promises
 
     def named_in(self, words):
         return [ghost for name, ghost in self.ghosts.items() if name in words]
@@ -84,6 +106,8 @@ def traits_of(repository):
             for path in sorted((CRATES / crate / 'src').glob('*.rt')):
                 for trait in traits_in(path):
                     repository.traits.setdefault(trait.name, trait)
+        for trait in repository.traits.values():
+            trait.open(repository)
     return repository.traits
 
 
@@ -100,13 +124,24 @@ class Spoken:
     def __init__(self, repository, function, clause):
         self.repository, self.groups, self.elsewhere = repository, [], []
         body, types = clause[2], types_seen(function, clause[2])
-        self.roots = repository.resolve(body, function.imports)
+        self.roots = resolved(repository, body, function.imports, clause)
         for name in types:
             self.roots |= repository.models.get(name, set())
         traits, texts = traits_of(repository), [(function.header + ' ' + generics_of(function.signature), body)]
         texts += [repository.views[name] for name in sorted(types) if name in repository.views]
-        for trait, names in self.ghosts_in(function, texts, traits).items():
-            self.follow(traits[trait], [traits[trait].ghosts[name] for name in names])
+        for name, ghosts in self.ghosts_in(function, texts, traits).items():
+            trait = traits[name]
+            self.follow(trait, [trait.ghosts[one] for ghost in ghosts for one in self.seen_of(trait, ghost, body)])
+
+    def seen_of(self, trait, ghost, body):
+        """The ghost; where it is a record, those of its fields that the clause and its definitions speak of."""
+        if ghost not in trait.fields:
+            return [ghost]
+        record, fields = trait.fields[ghost]
+        texts = [one.text for one in self.repository.behind(self.roots)
+                 if isinstance(one, Definition) and record in one.uses]
+        spoken = set().union(*(words_and_fields(text) for text in [body, *texts]))
+        return [field for field in fields if field in spoken] or [ghost]
 
     def ghosts_in(self, function, texts, traits):
         """The ghosts that these texts name, by trait: as `L.honest` for an `L` that is a `Link`, or bare in the trait."""
@@ -128,14 +163,34 @@ class Spoken:
     def follow(self, trait, ghosts):
         promises = trait.promised_of(ghosts)
         spoken = set().union(*(promise.words() for promise in promises)) if promises else set()
-        beside = [ghost for ghost in trait.named_in(spoken) if ghost not in ghosts]
-        for text in [promise.body for promise in promises] + [ghost.text for ghost in ghosts + beside]:
-            self.roots |= self.repository.resolve(text, trait.imports)
+        beside = [ghost for ghost in trait.named_in(spoken) if ghost not in ghosts and ghost.name not in trait.fields]
+        for promise in promises:
+            self.roots |= resolved(self.repository, promise.body, trait.imports, promise.field)
+        for ghost in ghosts + beside:
+            self.roots |= self.repository.resolve(ghost.text, self.imports_of(trait, ghost))
         self.groups.append((trait, ghosts, beside, promises))
+
+    @staticmethod
+    def imports_of(trait, ghost):
+        """What the words of a ghost stand for: those of a field, where it is one of a record."""
+        homes = [record.file.imports for record, fields in trait.fields.values() if ghost.name in fields]
+        return homes[0] if homes else trait.imports
 
     def definitions(self):
         things = self.repository.behind(self.roots)
         return self.repository.in_order([thing for thing in things if isinstance(thing, Definition)])
+
+
+def words_and_fields(text):
+    """The words of a text, and the fields that it takes."""
+    text = re.sub(r'--.*', '', text)
+    return set(WORD.findall(text)) | set(re.findall(r'\.([a-z]\w*)', text))
+
+
+def resolved(repository, body, imports, clause):
+    """What the words of a clause stand for; those of a field where its record stands."""
+    field = isinstance(clause, Field)
+    return repository.resolve(body, clause.imports if field else imports, clause.file if field else None)
 
 
 def bounds_of(header):

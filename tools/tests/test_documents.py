@@ -6,6 +6,7 @@ from made_up import CRATES
 
 import documents
 import mistakes
+from sources import Repository
 
 
 class Documents(Scratch):
@@ -24,7 +25,7 @@ class Documents(Scratch):
             '| late | low: `late.edit` | `Carrier::carry`, *quick* |\n'
             '| heavy | low: `heavy.edit` | `Carrier::carry`, *light* |\n'
             '| none | high: the test `fails` | |\n')})
-        self.assertEqual(printed(mistakes.check_mistakes), (3, [
+        self.assertEqual(printed(mistakes.check_mistakes, Repository()), (3, [
             'docs/MISTAKES.md:4: low has no edit heavy.edit', 'docs/MISTAKES.md:4: low::Carrier::carry has no clause light',
             'docs/MISTAKES.md:5: high has no test fails']))
 

@@ -77,6 +77,63 @@ class Reading(Scratch):
             status, lines = printed(reading.main, ['high::see', clause])
             self.assertEqual((status, self.names(lines)), (0, wanted))
 
+    def write_records(self):
+        """A call whose only promise is a record, over a trait whose one ghost is a record."""
+        self.write({
+            'crates/high/src/lib.rt': '//! A.\nmod moving;\npub use moving::{Mover, move_on};\n',
+            'crates/high/src/moving.rt': (
+                'ghost use Rattle.high.specs.Calls.{IsTold};\nghost use Rattle.high.specs.Moves.{Moves, Saw, Steps};\n\n'
+                '/// Moves.\npub trait Mover {\n    /// What is seen of it.\n    ghost saw: { Self → Saw };\n\n'
+                '    fn step(&mut self)\n        ensures { Steps (saw self.old) (saw self.new) };\n}\n\n'
+                '/// Moves on.\npub fn move_on<M: Mover>(mover: &mut M, far: u32) -> bool\n'
+                '    // It is far.\n    requires { IsTold far }\n'
+                '    ensures { Moves (M.saw mover.old) far result\n        (M.saw mover.new) }\n{\n}\n'),
+            'crates/high/specs/Lib.antt': '-- what a call is\npub mod Calls\n-- what moving is\npub mod Moves\n',
+            'crates/high/specs/Moves.antt': (
+                '-- What moving is.\n-- Source: own.\nuse Rattle.low.specs.Start.{History}\nuse Rattle.low.specs.Carried.{Worn}\n\n'
+                '-- what is seen\npub record Saw : Type 1 where\n  -- All that was.\n  pub all : History\n'
+                '  -- It is sure.\n  pub sure : Type 0\n  -- It is swift.\n  pub swift : Type 0\n\n'
+                '-- what a step is\npub record Steps (old new : Saw) : Type 0 where\n  -- A sure one stays so.\n'
+                '  pub surely : old.sure → new.sure\n  -- A swift one stays so.\n  pub swiftly : old.swift → new.swift\n\n'
+                '-- it has moved\npub record Safely (far : ℕ) (new : Saw) : Type 0 where\n  -- It is safe.\n  pub safe : Worn far new.all\n\n'
+                '-- it moves\npub record Moves (old : Saw) (far : ℕ) (is : Bool) (new : Saw) : Type 0 where\n'
+                '  -- Where it was sure.\n  pub well : old.sure → Safely far new\n'
+                '  -- It is as it was,\n  -- or moved.\n  pub other : old.swift →\n      is ≡ far\n')})
+
+    def test_the_fields_of_a_lone_record_are_clauses(self):
+        self.write_records()
+        self.assertIn('high::move_on  (requires, safe, other)', printed(reading.main, [])[1])
+        status, lines = printed(reading.main, ['high::move_on', 'other'])
+        self.assertEqual((status, self.names(lines)), (0, []))
+        self.assertIn('  It is as it was, or moved.', lines)
+        self.assertIn('  ensures other { (M.saw mover.old).swift → result ≡ far }', lines)
+
+    def test_a_record_below_has_its_premise(self):
+        self.write_records()
+        status, lines = printed(reading.main, ['high::move_on', 'safe'])
+        self.assertEqual((status, self.names(lines)), (0, ['History', 'Worn']))
+        self.assertIn('  ensures safe { (M.saw mover.old).sure → Worn far (M.saw mover.new).all }', lines)
+
+    def test_the_fields_of_a_ghost_are_ghosts(self):
+        self.write_records()
+        lines = printed(reading.main, ['high::move_on', 'safe'])[1]
+        self.assertIn('  sure : Type 0  (line 7)', lines)
+        self.assertIn('  step, ensures surely { (saw self.old).sure → (saw self.new).sure }  (line 10)', lines)
+        self.assertNotIn('swift', ' '.join(lines))
+
+    def test_a_record_that_says_that_something_is_there_is_one_clause(self):
+        self.write_records()
+        self.write({'crates/high/specs/Moves.antt': (
+            '-- What moving is.\n-- Source: own.\n\n-- it moves\npub record Moves (old : Saw) (far : ℕ) (is : Bool) (new : Saw) : Type 0 where\n'
+            '  -- How often.\n  pub often : ℕ\n  -- So often.\n  pub so : often ≡ far\n')})
+        self.assertIn('high::move_on  (requires, ensures)', printed(reading.main, [])[1])
+
+    def test_a_lone_record_is_a_clause_too(self):
+        self.write_records()
+        status, lines = printed(reading.main, ['high::move_on', 'ensures'])
+        self.assertEqual(status, 0)
+        self.assertIn('Moves', self.names(lines))
+
     def test_a_clause_without_a_name(self):
         status, lines = printed(reading.main, ['high::send', 'requires'])
         self.assertEqual((status, self.names(lines)), (0, ['IsLight']))

@@ -25,27 +25,10 @@ impl<L: Link + Drop> AskingAgain<L> {
 
 /// Neither honest nor calm, and its past is empty: nothing is claimed of it.
 impl<L: Link + Drop> Link for AskingAgain<L> {
-    ghost use Rattle.std.specs.Prelude.{[], ⊤};
+    ghost use Rattle.std.specs.Prelude.{⊤};
+    ghost use Rattle.kmip_protocol.specs.Private.{unclaimed};
 
-    ghost past = { λ link. record {
-      room = 0;
-      objects = [];
-      requests = [];
-      replies = [];
-      effects = [];
-      sent = [];
-      handed = [];
-    } };
-
-    ghost honest = { λ link names. ⊥ };
-
-    ghost calm = { λ link names. ⊥ };
-
-    ghost failures = { λ link. 0 };
-
-    ghost ended = { λ link. [] };
-
-    ghost disturbances = { λ link. record { disturbed = 0; requests = 0; strange = 0 } };
+    ghost seen = { λ link. unclaimed 0 };
 
     ghost follows = { λ link next. ⊤ };
 
@@ -74,7 +57,9 @@ impl<L: Link + Drop> Link for AskingAgain<L> {
         }
     }
 
-    fn calm_laws() {}
+    ghost itself = { λ link. tt };
+
+    ghost twice = { λ x y z first second. tt };
 }
 
 /// Whether the bytes of a message ask one Locate, and nothing else.

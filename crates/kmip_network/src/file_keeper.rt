@@ -29,13 +29,9 @@ struct FileKeeper<'a> {
 }
 
 impl<'a> Keeper for FileKeeper<'a> {
-    ghost use Rattle.std.specs.Prelude.{[]};
+    ghost use Rattle.kmip_runs.specs.Private.{unclaimed};
 
-    ghost saved = { λ keeper. [] };
-
-    ghost keeps = { λ keeper. ⊥ };
-
-    ghost refusals = { λ keeper. keeper.refusals };
+    ghost kept = { λ keeper. unclaimed keeper.refusals };
 
     fn save(&mut self, _alloc: Global, text: &[u8]) -> Result<(), SaveFault> {
         match self.file.write(text) {

@@ -11,6 +11,7 @@ use Rattle.kmip_client.specs.Held.{Held}
 use Rattle.kmip_client.specs.declared.knowledge.Knowledge.{Knowledge}
 use Rattle.kmip_protocol.specs.Clean.{Disturbances}
 use Rattle.kmip_protocol.specs.Past.{Names, Past, is_planned}
+use Rattle.kmip_protocol.specs.Seen.{Seen}
 use Rattle.kmip_plan.specs.Chains.{bound}
 use Rattle.kmip_runs.specs.Driving.{AsksOne, IsGood, IsSettling, Keeps, Learnt, need}
 use Rattle.kmip_runs.specs.Losing.{IsEnough}
@@ -21,7 +22,9 @@ use Rattle.kmip_runs.specs.Refusals.{HasRisen}
 use Rattle.kmip_runs.specs.Saved.{AreSaved, IsInMemory, IsLeft, IsWhole, Moment, moment}
 use Rattle.kmip_runs.specs.declared.save_fault.SaveFault.{SaveFault}
 use Rattle.kmip_runs.specs.declared.save_fault.SaveFault.TheVariants as faults
-use Rattle.kmip_plan_commands.specs.Course.{AreUntouched, Came, IsGoodStart, IsTrueText}
+use Rattle.kmip_runs.specs.CarriesOut.{CarriesOut, Stage}
+use Rattle.kmip_runs.specs.Keeping.{Kept}
+use Rattle.kmip_plan_commands.specs.Course.{Came, IsGoodStart, IsTrueText}
 use Rattle.kmip_plan_commands.specs.Checking.{is_memory, plan_refusal_text}
 use Rattle.kmip_plan_commands.specs.RunText.{Outcome, TellsEither, TellsRunFrom, WritesPlanRun, WritesRun}
 
@@ -35,66 +38,35 @@ no_stop : (fault : SaveFault) (stop : Stop) → ended (Err fault) ≡ ended (Ok 
 no_stop fault stop e = absurd cc
 
 -- what carrying out a plan promises, where memory did not run out
-came : {L K : Type 0} (past : L → Past) (honest calm : L → Names → Type 0) (disturbances : L → Disturbances) (keeps : K → Type 0) (saved : K → List (List ℕ)) (refusals : K → ℕ) (limit : ℕ) (was tired : Bool) (a b : ClientState) (x y : L) (i j : K) (r : Result Stop SaveFault) (made : ℕ)
-    → IsInMemory r
-    → (honest x (is_planned a.keys) → honest y (is_planned a.keys) × (IsInMemory r → Learnt a.keys a.batch (past x) (past y) a.knowns b.knowns made))
-    → Keeps a b
-    → (keeps i → keeps j × AreSaved a.keys a.batch (IsGood past honest a x) (honest x (is_planned a.keys)) (moment past a x) (moment past b y) r made (saved i) (saved j))
-    → (IsSettling past calm a x → bound a.keys ≤ limit → tired ≡ false → IsWhole r
-    → (r ≡ Ok stops.AllFinished) × (made ≤ need a (past x)) × (AsksOne a → made ≡ need a (past x)) × (made ≤ bound a.keys))
-    → (IsGood past honest a x → tired ≡ false → IsWhole r → IsEnough a.keys limit (disturbances x) (disturbances y) → r ≡ Ok stops.AllFinished)
-    → (r ≡ Err faults.Output → HasRisen (refusals i) (refusals j))
-    → (r ≡ Ok stops.Limit → (made ≡ limit) ⊎ (tired ≡ true))
-    → (was ≡ false → tired ≡ true → IsLeft r × (made < limit))
-    → Came past honest calm disturbances keeps saved refusals limit a.batch was tired (λ keys. IsGood past honest a x) x y i j a.keys a.knowns b.knowns r made
-came past honest calm disturbances keeps saved refusals limit was tired a b x y i j r made whole known kept saved_are settles outlasts unwritten at_limit given_up =
-    record {
-      kept = kept.kept;
-      learnt = λ h. (known h).1 whole;
-      saved_are = saved_are;
-      settles = λ quiet ready within patient all.
-          let s = settles (record { calm_for = quiet; ready = ready }) within patient all in (s.0, s.3);
-      at_limit = at_limit;
-      given_up = given_up;
-      unwritten = unwritten;
-      outlasts = outlasts;
-    }
+came : (limit : ℕ) (old new : Stage) (r : Result Stop SaveFault) (made : ℕ) → IsInMemory r → CarriesOut limit old r made new
+    → Came limit old.client.batch old.is_tired new.is_tired (λ keys. IsGood old.client old.link) old.link new.link old.keeper new.keeper old.client.keys old.client.knowns new.client.knowns r made
+came limit old new r made whole carries = record {
+  kept = carries.kept.kept;
+  learnt = λ h. (carries.honestly h).known.1 whole;
+  saved_are = carries.saved;
+  settles = λ quiet ready within patient all.
+      let s = (carries.calmly (record { calm_for = quiet; ready = ready })).settles within patient all in (s.0, s.3);
+  at_limit = carries.limit;
+  given_up = carries.given_up;
+  unwritten = carries.output;
+  outlasts = λ good. (carries.well good).outlasts;
+}
 
 -- where it stopped so
-pub came_stop : {L K : Type 0} (past : L → Past) (honest calm : L → Names → Type 0) (disturbances : L → Disturbances) (keeps : K → Type 0) (saved : K → List (List ℕ)) (refusals : K → ℕ) (limit : ℕ) (was tired : Bool) (a b : ClientState) (x y : L) (i j : K) (r : Result Stop SaveFault) (stop : Stop) (made : ℕ)
-    → r ≡ Ok stop → stop ≢ stops.NoMemory
-    → (honest x (is_planned a.keys) → honest y (is_planned a.keys) × (IsInMemory r → Learnt a.keys a.batch (past x) (past y) a.knowns b.knowns made))
-    → Keeps a b
-    → (keeps i → keeps j × AreSaved a.keys a.batch (IsGood past honest a x) (honest x (is_planned a.keys)) (moment past a x) (moment past b y) r made (saved i) (saved j))
-    → (IsSettling past calm a x → bound a.keys ≤ limit → tired ≡ false → IsWhole r
-    → (r ≡ Ok stops.AllFinished) × (made ≤ need a (past x)) × (AsksOne a → made ≡ need a (past x)) × (made ≤ bound a.keys))
-    → (IsGood past honest a x → tired ≡ false → IsWhole r → IsEnough a.keys limit (disturbances x) (disturbances y) → r ≡ Ok stops.AllFinished)
-    → (r ≡ Err faults.Output → HasRisen (refusals i) (refusals j))
-    → (r ≡ Ok stops.Limit → (made ≡ limit) ⊎ (tired ≡ true))
-    → (was ≡ false → tired ≡ true → IsLeft r × (made < limit))
-    → Came past honest calm disturbances keeps saved refusals limit a.batch was tired (λ keys. IsGood past honest a x) x y i j a.keys a.knowns b.knowns (Ok stop) made
-came_stop past honest calm disturbances keeps saved refusals limit was tired a b x y i j r stop made is other known kept saved_are settles outlasts unwritten at_limit given_up =
-    let P : Result Stop SaveFault → Type 0 = λ r. Came past honest calm disturbances keeps saved refusals limit a.batch was tired (λ keys. IsGood past honest a x) x y i j a.keys a.knowns b.knowns r made in
+pub came_stop : (limit : ℕ) (old new : Stage) (r : Result Stop SaveFault) (stop : Stop) (made : ℕ) → r ≡ Ok stop → stop ≢ stops.NoMemory → CarriesOut limit old r made new
+    → Came limit old.client.batch old.is_tired new.is_tired (λ keys. IsGood old.client old.link) old.link new.link old.keeper new.keeper old.client.keys old.client.knowns new.client.knowns (Ok stop) made
+came_stop limit old new r stop made is other carries =
+    let P : Result Stop SaveFault → Type 0 = λ r. Came limit old.client.batch old.is_tired new.is_tired (λ keys. IsGood old.client old.link) old.link new.link old.keeper new.keeper old.client.keys old.client.knowns new.client.knowns r made in
     let whole : IsInMemory r = λ e. other (same_stop stop stops.NoMemory (sym is ∙ e)) in
-    subst P is (came past honest calm disturbances keeps saved refusals limit was tired a b x y i j r made whole known kept saved_are settles outlasts unwritten at_limit given_up)
+    subst P is (came limit old new r made whole carries)
 
 -- where the last text was not saved
-pub came_unsaved : {L K : Type 0} (past : L → Past) (honest calm : L → Names → Type 0) (disturbances : L → Disturbances) (keeps : K → Type 0) (saved : K → List (List ℕ)) (refusals : K → ℕ) (limit : ℕ) (was tired : Bool) (a b : ClientState) (x y : L) (i j : K) (r : Result Stop SaveFault) (fault same : SaveFault) (made : ℕ)
-    → r ≡ Err fault → fault ≡ same
-    → (honest x (is_planned a.keys) → honest y (is_planned a.keys) × (IsInMemory r → Learnt a.keys a.batch (past x) (past y) a.knowns b.knowns made))
-    → Keeps a b
-    → (keeps i → keeps j × AreSaved a.keys a.batch (IsGood past honest a x) (honest x (is_planned a.keys)) (moment past a x) (moment past b y) r made (saved i) (saved j))
-    → (IsSettling past calm a x → bound a.keys ≤ limit → tired ≡ false → IsWhole r
-    → (r ≡ Ok stops.AllFinished) × (made ≤ need a (past x)) × (AsksOne a → made ≡ need a (past x)) × (made ≤ bound a.keys))
-    → (IsGood past honest a x → tired ≡ false → IsWhole r → IsEnough a.keys limit (disturbances x) (disturbances y) → r ≡ Ok stops.AllFinished)
-    → (r ≡ Err faults.Output → HasRisen (refusals i) (refusals j))
-    → (r ≡ Ok stops.Limit → (made ≡ limit) ⊎ (tired ≡ true))
-    → (was ≡ false → tired ≡ true → IsLeft r × (made < limit))
-    → Came past honest calm disturbances keeps saved refusals limit a.batch was tired (λ keys. IsGood past honest a x) x y i j a.keys a.knowns b.knowns (Err same) made
-came_unsaved past honest calm disturbances keeps saved refusals limit was tired a b x y i j r fault same made is alike known kept saved_are settles outlasts unwritten at_limit given_up =
-    let P : Result Stop SaveFault → Type 0 = λ r. Came past honest calm disturbances keeps saved refusals limit a.batch was tired (λ keys. IsGood past honest a x) x y i j a.keys a.knowns b.knowns r made in
+pub came_unsaved : (limit : ℕ) (old new : Stage) (r : Result Stop SaveFault) (fault same : SaveFault) (made : ℕ) → r ≡ Err fault → fault ≡ same → CarriesOut limit old r made new
+    → Came limit old.client.batch old.is_tired new.is_tired (λ keys. IsGood old.client old.link) old.link new.link old.keeper new.keeper old.client.keys old.client.knowns new.client.knowns (Err same) made
+came_unsaved limit old new r fault same made is alike carries =
+    let P : Result Stop SaveFault → Type 0 = λ r. Came limit old.client.batch old.is_tired new.is_tired (λ keys. IsGood old.client old.link) old.link new.link old.keeper new.keeper old.client.keys old.client.knowns new.client.knowns r made in
     let whole : IsInMemory r = λ e. no_stop fault stops.NoMemory (sym is ∙ e) in
-    subst (λ f. P (Err f)) alike (subst P is (came past honest calm disturbances keeps saved refusals limit was tired a b x y i j r made whole known kept saved_are settles outlasts unwritten at_limit given_up))
+    subst (λ f. P (Err f)) alike (subst P is (came limit old new r made whole carries))
 
 saved_for : (keys : List Key) (most : ℕ) (good other honest : Type 0) (a b : Moment) (r : Result Stop SaveFault) (made : ℕ) (old new : List (List ℕ))
     → (other → good) → AreSaved keys most good honest a b r made old new → AreSaved keys most other honest a b r made old new
@@ -111,11 +83,11 @@ saved_for keys most good other honest a b r made old new f s = record {
   last_is = s.last_is;
 }
 
-came_for : {L K : Type 0} (past : L → Past) (honest calm : L → Names → Type 0) (disturbances : L → Disturbances) (keeps : K → Type 0) (saved : K → List (List ℕ)) (refusals : K → ℕ) (limit most : ℕ) (was tired : Bool) (good other : List Key → Type 0) (x y : L) (i j : K) (keys : List Key) (knowns nexts : List Knowledge) (r : Result Stop SaveFault) (made : ℕ)
+came_for : (limit most : ℕ) (was tired : Bool) (good other : List Key → Type 0) (x y : Seen) (i j : Kept) (keys : List Key) (knowns nexts : List Knowledge) (r : Result Stop SaveFault) (made : ℕ)
     → (other keys → good keys)
-    → Came past honest calm disturbances keeps saved refusals limit most was tired good x y i j keys knowns nexts r made
-    → Came past honest calm disturbances keeps saved refusals limit most was tired other x y i j keys knowns nexts r made
-came_for past honest calm disturbances keeps saved refusals limit most was tired good other x y i j keys knowns nexts r made f c =
+    → Came limit most was tired good x y i j keys knowns nexts r made
+    → Came limit most was tired other x y i j keys knowns nexts r made
+came_for limit most was tired good other x y i j keys knowns nexts r made f c =
     record {
       kept = c.kept;
       learnt = c.learnt;
@@ -150,25 +122,25 @@ tells_for one other keys path limit refused text f (inr t) = inr (record {
   text_is = t.text_is;
 })
 
-good_start : {L : Type 0} (past : L → Past) (honest : L → Names → Type 0) (a : ClientState) (x : L) (text : Option (List ℕ))
-    → (IsTrueText (past x).objects a.keys text → Held (past x).objects a.keys a.knowns)
-    → IsGoodStart past honest text x a.keys → IsGood past honest a x
-good_start past honest a x text held g = record { honest_for = g.0.honest_for; sound = g.0.sound; held = held g.1 }
+good_start : (a : ClientState) (x : Seen) (text : Option (List ℕ))
+    → (IsTrueText x.past.objects a.keys text → Held x.past.objects a.keys a.knowns)
+    → IsGoodStart text x a.keys → IsGood a x
+good_start a x text held g = record { honest_for = g.0.honest_for; sound = g.0.sound; held = held g.1 }
 
 -- from what a progress says, what is told has come of the exchanges
-pub tells_start : {L K : Type 0} (past : L → Past) (honest calm : L → Names → Type 0) (disturbances : L → Disturbances) (keeps : K → Type 0) (saved : K → List (List ℕ)) (refusals : K → ℕ) (was tired : Bool) (a : ClientState) (x y : L) (i j : K) (keys : List Key) (text : Option (List ℕ)) (path : List ℕ) (limit : ℕ) (read : Result (List Knowledge) ProgressFault) (refused : Bool) (told : List ℕ)
+pub tells_start : (untouched : Type 0) (was tired : Bool) (a : ClientState) (x y : Seen) (i j : Kept) (keys : List Key) (text : Option (List ℕ)) (path : List ℕ) (limit : ℕ) (read : Result (List Knowledge) ProgressFault) (refused : Bool) (told : List ℕ)
     → a.keys ≡ keys → read ≡ Ok a.knowns
-    → (IsTrueText (past x).objects keys text → Held (past x).objects a.keys a.knowns)
-    → TellsEither (Came past honest calm disturbances keeps saved refusals limit a.batch was tired (λ keys. IsGood past honest a x) x y i j a.keys a.knowns) a.keys path limit refused told
-    → TellsRunFrom (AreUntouched x y i j) (Came past honest calm disturbances keeps saved refusals limit a.batch was tired (IsGoodStart past honest text x) x y i j keys) keys path limit read refused told
-tells_start past honest calm disturbances keeps saved refusals was tired a x y i j keys text path limit read refused told same is held t =
-    let H : List Key → Type 0 = λ keys. IsTrueText (past x).objects keys text → Held (past x).objects a.keys a.knowns in
-    let came : Outcome = Came past honest calm disturbances keeps saved refusals limit a.batch was tired (λ keys. IsGood past honest a x) x y i j a.keys a.knowns in
-    let other : Outcome = Came past honest calm disturbances keeps saved refusals limit a.batch was tired (IsGoodStart past honest text x) x y i j a.keys a.knowns in
-    let P : List Key → Type 0 = λ keys. TellsRunFrom (AreUntouched x y i j) (Came past honest calm disturbances keeps saved refusals limit a.batch was tired (IsGoodStart past honest text x) x y i j keys) keys path limit read refused told in
-    let Q : Result (List Knowledge) ProgressFault → Type 0 = λ read. TellsRunFrom (AreUntouched x y i j) (Came past honest calm disturbances keeps saved refusals limit a.batch was tired (IsGoodStart past honest text x) x y i j a.keys) a.keys path limit read refused told in
+    → (IsTrueText x.past.objects keys text → Held x.past.objects a.keys a.knowns)
+    → TellsEither (Came limit a.batch was tired (λ keys. IsGood a x) x y i j a.keys a.knowns) a.keys path limit refused told
+    → TellsRunFrom untouched (Came limit a.batch was tired (IsGoodStart text x) x y i j keys) keys path limit read refused told
+tells_start untouched was tired a x y i j keys text path limit read refused told same is held t =
+    let H : List Key → Type 0 = λ keys. IsTrueText x.past.objects keys text → Held x.past.objects a.keys a.knowns in
+    let came : Outcome = Came limit a.batch was tired (λ keys. IsGood a x) x y i j a.keys a.knowns in
+    let other : Outcome = Came limit a.batch was tired (IsGoodStart text x) x y i j a.keys a.knowns in
+    let P : List Key → Type 0 = λ keys. TellsRunFrom untouched (Came limit a.batch was tired (IsGoodStart text x) x y i j keys) keys path limit read refused told in
+    let Q : Result (List Knowledge) ProgressFault → Type 0 = λ read. TellsRunFrom untouched (Came limit a.batch was tired (IsGoodStart text x) x y i j a.keys) a.keys path limit read refused told in
     let f : (knowns : List Knowledge) (r : Result Stop SaveFault) (made : ℕ) → came knowns r made → other knowns r made =
-    λ knowns r made c. came_for past honest calm disturbances keeps saved refusals limit a.batch was tired (λ keys. IsGood past honest a x) (IsGoodStart past honest text x) x y i j a.keys a.knowns knowns r made (good_start past honest a x text (subst H (sym same) held)) c in
+    λ knowns r made c. came_for limit a.batch was tired (λ keys. IsGood a x) (IsGoodStart text x) x y i j a.keys a.knowns knowns r made (good_start a x text (subst H (sym same) held)) c in
     subst P same (subst Q (sym is) (tells_for came other a.keys path limit refused told f t))
 
 -- ---- what is written for a text that was read

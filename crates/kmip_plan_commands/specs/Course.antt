@@ -12,6 +12,7 @@ use Rattle.kmip_client.specs.Shapes.{IsKept}
 use Rattle.kmip_client.specs.declared.knowledge.Knowledge.{Knowledge}
 use Rattle.kmip_protocol.specs.Clean.{Disturbances}
 use Rattle.kmip_protocol.specs.Past.{Names, Past, is_planned}
+use Rattle.kmip_protocol.specs.Seen.{Seen}
 use Rattle.kmip_protocol.specs.Ready.{IsReady}
 use Rattle.kmip_runs.specs.Headline.{GoodLink}
 use Rattle.kmip_runs.specs.Driving.{IsQuestion, Learnt, WentOn}
@@ -22,6 +23,7 @@ use Rattle.kmip_runs.specs.Refusals.{HasRisen}
 use Rattle.kmip_runs.specs.Saved.{AreSaved, IsLeft, IsWhole}
 use Rattle.kmip_runs.specs.declared.save_fault.SaveFault.{SaveFault}
 use Rattle.kmip_runs.specs.declared.save_fault.SaveFault.TheVariants as faults
+use Rattle.kmip_runs.specs.Keeping.{Kept}
 
 -- Nothing was sent, and nothing was kept.
 abbrev pub AreUntouched : {L K : Type 0} → L → L → K → K → Type 0
@@ -30,21 +32,21 @@ AreUntouched old new old_keeper new_keeper = (new ≡ old) × (new_keeper ≡ ol
 -- What came of `exchanges` exchanges over a link, each about at most `most` keys. `knowns` is what was
 -- known at first, `nexts` what is known then, and `result` says why no more were made. `good` is that the
 -- link was honest, all was sound, and what was known was true.
-pub record Came {L K : Type 0} (past : L → Past) (honest calm : L → Names → Type 0) (disturbances : L → Disturbances) (keeps : K → Type 0) (saved : K → List (List ℕ)) (refusals : K → ℕ) (limit most : ℕ) (was_tired is_tired : Bool) (good : List Key → Type 0) (old new : L) (old_keeper new_keeper : K) (keys : List Key) (knowns nexts : List Knowledge) (result : Result Stop SaveFault) (exchanges : ℕ) : Type 0 where
+pub record Came (limit most : ℕ) (was_tired is_tired : Bool) (good : List Key → Type 0) (old new : Seen) (old_keeper new_keeper : Kept) (keys : List Key) (knowns nexts : List Knowledge) (result : Result Stop SaveFault) (exchanges : ℕ) : Type 0 where
   -- No identifier or count is taken back.
   pub kept : AllZip IsKept knowns nexts
   -- Over an honest link, each message asked about keys of the plan. What is known then is what was known
   -- at first and what the exchanges handed over.
-  pub learnt : honest old (is_planned keys) → Learnt keys most (past old) (past new) knowns nexts exchanges
+  pub learnt : old.honest (is_planned keys) → Learnt keys most old.past new.past knowns nexts exchanges
   -- Where the keeper keeps what it is given, it does so still. The text of what was known after each
   -- exchange was kept, but for the last one where it could not be (`AreSaved`). Where all was good, what
   -- each of these texts says is true of the objects at the end, so that the next run may begin with it.
-  pub saved_are : keeps old_keeper → keeps new_keeper
-      × AreSaved keys most (good keys) (honest old (is_planned keys)) (record { knowns = knowns; past = past old }) (record { knowns = nexts; past = past new }) result exchanges (saved old_keeper) (saved new_keeper)
+  pub saved_are : old_keeper.keeps → new_keeper.keeps
+      × AreSaved keys most (good keys) (old.honest (is_planned keys)) (record { knowns = knowns; past = old.past }) (record { knowns = nexts; past = new.past }) result exchanges old_keeper.saved new_keeper.saved
   -- Over a calm link, with what is ready to settle, and a limit of at least the plan's bound: every key
   -- is finished after no more exchanges than the bound. That is said where each text could be kept,
   -- memory did not run out, and patience has not given up.
-  pub settles : calm old (is_planned keys) → IsReady (past old).room keys (past old).objects knowns → bound keys ≤ limit → is_tired ≡ false → IsWhole result
+  pub settles : old.calm (is_planned keys) → IsReady old.past.room keys old.past.objects knowns → bound keys ≤ limit → is_tired ≡ false → IsWhole result
       → (result ≡ Ok stops.AllFinished) × (exchanges ≤ bound keys)
   -- It stops with `Limit` only after as many exchanges as it may make, or where patience has given up.
   pub at_limit : result ≡ Ok stops.Limit → (exchanges ≡ limit) ⊎ (is_tired ≡ true)
@@ -53,11 +55,11 @@ pub record Came {L K : Type 0} (past : L → Past) (honest calm : L → Names �
   pub given_up : was_tired ≡ false → is_tired ≡ true → IsLeft result × (exchanges < limit)
   -- That a text could not be written is told only where the keeper's count of refusals has risen, or
   -- stands at its last value.
-  pub unwritten : result ≡ Err faults.Output → HasRisen (refusals old_keeper) (refusals new_keeper)
+  pub unwritten : result ≡ Err faults.Output → HasRisen old_keeper.refusals new_keeper.refusals
   -- Where all was good, with no premise of calm: the plan's bound, one exchange for each key, and what
   -- the link counted of the run's disturbed exchanges are enough for every key. That too is said where
   -- each text could be kept, memory did not run out, and patience has not given up.
-  pub outlasts : good keys → is_tired ≡ false → IsWhole result → IsEnough keys limit (disturbances old) (disturbances new) → result ≡ Ok stops.AllFinished
+  pub outlasts : good keys → is_tired ≡ false → IsWhole result → IsEnough keys limit old.disturbances new.disturbances → result ≡ Ok stops.AllFinished
 
 -- The text of a progress, where there is one, says what is true of these objects.
 abbrev pub IsTrueText : List Object → List Key → Option (List ℕ) → Type 0
@@ -66,15 +68,15 @@ IsTrueText objects keys (Some text) = (saved : List Known) → read_text keys te
 
 -- The link is honest for the keys and all that has happened over it is sound. The text of a progress,
 -- where there is one, is true.
-abbrev pub IsGoodStart : {L : Type 0} → (L → Past) → (L → Names → Type 0) → Option (List ℕ) → L → List Key → Type 0
-IsGoodStart past honest text link keys = GoodLink past honest keys link × IsTrueText (past link).objects keys text
+abbrev pub IsGoodStart : Option (List ℕ) → Seen → List Key → Type 0
+IsGoodStart text link keys = GoodLink keys link × IsTrueText link.past.objects keys text
 
 -- Own (law): over a link that was honest and sound for the keys, from nothing or from what was true, the
 -- link is so still. The objects have gone onward, and a past that was an image of the plan machine is one
 -- still.
-pub record KeepsSafe {L : Type 0} (past : L → Past) (honest : L → Names → Type 0) (keys : List Key) (old new : L) : Type 0 where
-  pub stays_good : GoodLink past honest keys new
-  pub went_on : WentOn keys (past old) (past new)
+pub record KeepsSafe (keys : List Key) (old new : Seen) : Type 0 where
+  pub stays_good : GoodLink keys new
+  pub went_on : WentOn keys old.past new.past
 
 -- Own (law): each message that was sent asks about one of these keys or more, at most `most` of them, and
 -- about none twice.

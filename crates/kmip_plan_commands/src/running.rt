@@ -55,11 +55,10 @@ pub fn run_run<L: Link, K: Keeper, E: Patience, W: Write>(
     // unfinished. What is told has come of the exchanges that are told: `Came`.
     ensures text { IfWhole result (λ r. WritesRun
         (AreUntouched link.old link.new keeper.old keeper.new)
-        (Came L.past L.honest L.calm L.disturbances K.keeps K.saved K.refusals
-        input.now.limit input.now.batch
+        (Came input.now.limit input.now.batch
         (E.has_given_up patience.old) (E.has_given_up patience.new)
-        (IsGoodStart L.past L.honest (option_map (λ text. text.now) saved.entry) link.old)
-        link.old link.new keeper.old keeper.new)
+        (IsGoodStart (option_map (λ text. text.now) saved.entry) (L.seen link.old))
+        (L.seen link.old) (L.seen link.new) (K.kept keeper.old) (K.kept keeper.new))
         (plan_read plan.now) (option_map (λ text. text.now) saved.entry)
         input.now.path.now input.now.limit r (W.contents writer.old) (W.contents writer.new)) }
     // Where it ends with `Failed`, exactly the line of the fault is written. Of a writer that failed,
@@ -71,16 +70,17 @@ pub fn run_run<L: Link, K: Keeper, E: Patience, W: Write>(
     // after it too, however it ends. The objects have gone onward, and a past that was an image of the
     // plan machine is one still.
     ensures safe { (keys : List Key) → plan_read plan.now ≡ Ok keys
-        → GoodLink L.past L.honest keys link.old
-        → IsTrueText (L.past link.old).objects keys
+        → GoodLink keys (L.seen link.old)
+        → IsTrueText (L.seen link.old).past.objects keys
         (option_map (λ text. text.now) saved.entry)
-        → KeepsSafe L.past L.honest keys link.old link.new }
+        → KeepsSafe keys (L.seen link.old) (L.seen link.new) }
     // Over a link that is honest for the names of the plan, each message that was sent asks about keys of
     // the plan, each once, and about no more than the input says. That is not said where it ends with
     // `Failed`.
     ensures few { (keys : List Key) → plan_read plan.now ≡ Ok keys
-        → L.honest link.old (is_planned keys) → IfWhole result (λ r. AsksFew keys input.now.batch
-        (L.past link.old) (L.past link.new)) }
+        → (L.seen link.old).honest (is_planned keys)
+        → IfWhole result (λ r. AsksFew keys input.now.batch
+        (L.seen link.old).past (L.seen link.new).past) }
 {
     let ended = run(alloc, plan, input, saved, link, keeper, patience, writer);
     finished(ended, writer)
@@ -105,11 +105,10 @@ pub fn run_plan<L: Link, K: Keeper, E: Patience, W: Write>(
     // unfinished. What is told has come of the exchanges that are told: `Came`.
     ensures text { IfWhole result (λ r. WritesPlanRun
         (AreUntouched link.old link.new keeper.old keeper.new)
-        (Came L.past L.honest L.calm L.disturbances K.keeps K.saved K.refusals
-        input.now.limit input.now.batch
+        (Came input.now.limit input.now.batch
         (E.has_given_up patience.old) (E.has_given_up patience.new)
-        (IsGoodStart L.past L.honest (option_map (λ text. text.now) saved.entry) link.old)
-        link.old link.new keeper.old keeper.new plan.now)
+        (IsGoodStart (option_map (λ text. text.now) saved.entry) (L.seen link.old))
+        (L.seen link.old) (L.seen link.new) (K.kept keeper.old) (K.kept keeper.new) plan.now)
         plan.now (option_map (λ text. text.now) saved.entry)
         input.now.path.now input.now.limit r (W.contents writer.old) (W.contents writer.new)) }
     // Where it ends with `Failed`, exactly the line of the fault is written. Of a writer that failed,
@@ -120,15 +119,16 @@ pub fn run_plan<L: Link, K: Keeper, E: Patience, W: Write>(
     // sound, and that the progress, if any, is true. Then the link is honest and all is sound after it
     // too, however it ends. The objects have gone onward, and a past that was an image of the plan
     // machine is one still.
-    ensures safe { GoodLink L.past L.honest plan.now link.old
-        → IsTrueText (L.past link.old).objects plan.now
+    ensures safe { GoodLink plan.now (L.seen link.old)
+        → IsTrueText (L.seen link.old).past.objects plan.now
         (option_map (λ text. text.now) saved.entry)
-        → KeepsSafe L.past L.honest plan.now link.old link.new }
+        → KeepsSafe plan.now (L.seen link.old) (L.seen link.new) }
     // Over a link that is honest for the names of the plan, each message that was sent asks about keys of
     // the plan, each once, and about no more than the input says. That is not said where it ends with
     // `Failed`.
-    ensures few { L.honest link.old (is_planned plan.now) → IfWhole result (λ r. AsksFew plan.now
-        input.now.batch (L.past link.old) (L.past link.new)) }
+    ensures few { (L.seen link.old).honest (is_planned plan.now)
+        → IfWhole result (λ r. AsksFew plan.now
+        input.now.batch (L.seen link.old).past (L.seen link.new).past) }
 {
     let ended = run_plan_to(alloc, plan, input, saved, link, keeper, patience, writer);
     finished(ended, writer)
@@ -187,11 +187,10 @@ pub fn run<L: Link, K: Keeper, E: Patience, W: Write>(
     // keys, and when fewer are made.
     ensures text { IfOk result (λ r. WritesRun
         (AreUntouched link.old link.new keeper.old keeper.new)
-        (Came L.past L.honest L.calm L.disturbances K.keeps K.saved K.refusals
-        input.now.limit input.now.batch
+        (Came input.now.limit input.now.batch
         (E.has_given_up patience.old) (E.has_given_up patience.new)
-        (IsGoodStart L.past L.honest (option_map (λ text. text.now) saved.entry) link.old)
-        link.old link.new keeper.old keeper.new)
+        (IsGoodStart (option_map (λ text. text.now) saved.entry) (L.seen link.old))
+        (L.seen link.old) (L.seen link.new) (K.kept keeper.old) (K.kept keeper.new))
         (plan_read plan.now) (option_map (λ text. text.now) saved.entry)
         input.now.path.now input.now.limit r (W.contents writer.old) (W.contents writer.new)) }
     // At want of memory nothing is written. Of a writer that failed, nothing is said.
@@ -204,16 +203,17 @@ pub fn run<L: Link, K: Keeper, E: Patience, W: Write>(
     // after it too, however it ends. The objects have gone onward, and a past that was an image of the
     // plan machine is one still.
     ensures safe { (keys : List Key) → plan_read plan.now ≡ Ok keys
-        → GoodLink L.past L.honest keys link.old
-        → IsTrueText (L.past link.old).objects keys
+        → GoodLink keys (L.seen link.old)
+        → IsTrueText (L.seen link.old).past.objects keys
         (option_map (λ text. text.now) saved.entry)
-        → KeepsSafe L.past L.honest keys link.old link.new }
+        → KeepsSafe keys (L.seen link.old) (L.seen link.new) }
     // Over a link that is honest for the names of the plan, each message that was sent asks about keys of
     // the plan, each once, and about no more than the input says. That is not said where it ends with a
     // fault.
     ensures few { (keys : List Key) → plan_read plan.now ≡ Ok keys
-        → L.honest link.old (is_planned keys) → IfOk result (λ r. AsksFew keys input.now.batch
-        (L.past link.old) (L.past link.new)) }
+        → (L.seen link.old).honest (is_planned keys)
+        → IfOk result (λ r. AsksFew keys input.now.batch
+        (L.seen link.old).past (L.seen link.new).past) }
 {
     run_to(alloc, plan, input, saved, link, keeper, patience, writer)
 }
@@ -239,11 +239,10 @@ pub fn run_bytes<L: Link, K: Keeper, E: Patience>(
     // told: `Came`.
     ensures text { IfOk result (λ r. WritesRun
         (AreUntouched link.old link.new keeper.old keeper.new)
-        (Came L.past L.honest L.calm L.disturbances K.keeps K.saved K.refusals
-        input.now.limit input.now.batch
+        (Came input.now.limit input.now.batch
         (E.has_given_up patience.old) (E.has_given_up patience.new)
-        (IsGoodStart L.past L.honest (option_map (λ text. text.now) saved.entry) link.old)
-        link.old link.new keeper.old keeper.new)
+        (IsGoodStart (option_map (λ text. text.now) saved.entry) (L.seen link.old))
+        (L.seen link.old) (L.seen link.new) (K.kept keeper.old) (K.kept keeper.new))
         (plan_read plan.now) (option_map (λ text. text.now) saved.entry)
         input.now.path.now input.now.limit r (Some output.old.items) (Some output.new.items)) }
     // At want of memory, the only fault, nothing is appended.
@@ -253,15 +252,16 @@ pub fn run_bytes<L: Link, K: Keeper, E: Patience>(
     // after it too, however it ends. The objects have gone onward, and a past that was an image of the
     // plan machine is one still.
     ensures safe { (keys : List Key) → plan_read plan.now ≡ Ok keys
-        → GoodLink L.past L.honest keys link.old
-        → IsTrueText (L.past link.old).objects keys
+        → GoodLink keys (L.seen link.old)
+        → IsTrueText (L.seen link.old).past.objects keys
         (option_map (λ text. text.now) saved.entry)
-        → KeepsSafe L.past L.honest keys link.old link.new }
+        → KeepsSafe keys (L.seen link.old) (L.seen link.new) }
     // Over a link that is honest for the names of the plan, each message that was sent asks about keys of
     // the plan, each once, and about no more than the input says. That is not said at want of memory.
     ensures few { (keys : List Key) → plan_read plan.now ≡ Ok keys
-        → L.honest link.old (is_planned keys) → IfOk result (λ r. AsksFew keys input.now.batch
-        (L.past link.old) (L.past link.new)) }
+        → (L.seen link.old).honest (is_planned keys)
+        → IfOk result (λ r. AsksFew keys input.now.batch
+        (L.seen link.old).past (L.seen link.new).past) }
 {
     let mut printed = Printed {
         text: mem::replace(output, Vec::new(alloc)),
@@ -301,23 +301,23 @@ fn run_to<L: Link, K: Keeper, E: Patience, P: Printer>(
     requires { IsTrue (may_have input.now.batch) }
     ensures text { IfOk result (λ r. WritesRun
         (AreUntouched link.old link.new keeper.old keeper.new)
-        (Came L.past L.honest L.calm L.disturbances K.keeps K.saved K.refusals
-        input.now.limit input.now.batch
+        (Came input.now.limit input.now.batch
         (E.has_given_up patience.old) (E.has_given_up patience.new)
-        (IsGoodStart L.past L.honest (option_map (λ text. text.now) saved.entry) link.old)
-        link.old link.new keeper.old keeper.new)
+        (IsGoodStart (option_map (λ text. text.now) saved.entry) (L.seen link.old))
+        (L.seen link.old) (L.seen link.new) (K.kept keeper.old) (K.kept keeper.new))
         (plan_read plan.now) (option_map (λ text. text.now) saved.entry)
         input.now.path.now input.now.limit r (P.contents printer.old) (P.contents printer.new)) }
     ensures broken { IfErr result (λ fault. Fails fault P.own_fault P.IsWhole
         (P.contents printer.old) (P.contents printer.new)) }
     ensures safe { (keys : List Key) → plan_read plan.now ≡ Ok keys
-        → GoodLink L.past L.honest keys link.old
-        → IsTrueText (L.past link.old).objects keys
+        → GoodLink keys (L.seen link.old)
+        → IsTrueText (L.seen link.old).past.objects keys
         (option_map (λ text. text.now) saved.entry)
-        → KeepsSafe L.past L.honest keys link.old link.new }
+        → KeepsSafe keys (L.seen link.old) (L.seen link.new) }
     ensures few { (keys : List Key) → plan_read plan.now ≡ Ok keys
-        → L.honest link.old (is_planned keys) → IfOk result (λ r. AsksFew keys input.now.batch
-        (L.past link.old) (L.past link.new)) }
+        → (L.seen link.old).honest (is_planned keys)
+        → IfOk result (λ r. AsksFew keys input.now.batch
+        (L.seen link.old).past (L.seen link.new).past) }
 {
     onward_is_an_order();
     match read_plan(alloc, plan) {
@@ -367,21 +367,21 @@ fn run_plan_to<L: Link, K: Keeper, E: Patience, P: Printer>(
     requires { IsTrue (may_have input.now.batch) }
     ensures text { IfOk result (λ r. WritesPlanRun
         (AreUntouched link.old link.new keeper.old keeper.new)
-        (Came L.past L.honest L.calm L.disturbances K.keeps K.saved K.refusals
-        input.now.limit input.now.batch
+        (Came input.now.limit input.now.batch
         (E.has_given_up patience.old) (E.has_given_up patience.new)
-        (IsGoodStart L.past L.honest (option_map (λ text. text.now) saved.entry) link.old)
-        link.old link.new keeper.old keeper.new plan.now)
+        (IsGoodStart (option_map (λ text. text.now) saved.entry) (L.seen link.old))
+        (L.seen link.old) (L.seen link.new) (K.kept keeper.old) (K.kept keeper.new) plan.now)
         plan.now (option_map (λ text. text.now) saved.entry)
         input.now.path.now input.now.limit r (P.contents printer.old) (P.contents printer.new)) }
     ensures broken { IfErr result (λ fault. Fails fault P.own_fault P.IsWhole
         (P.contents printer.old) (P.contents printer.new)) }
-    ensures safe { GoodLink L.past L.honest plan.now link.old
-        → IsTrueText (L.past link.old).objects plan.now
+    ensures safe { GoodLink plan.now (L.seen link.old)
+        → IsTrueText (L.seen link.old).past.objects plan.now
         (option_map (λ text. text.now) saved.entry)
-        → KeepsSafe L.past L.honest plan.now link.old link.new }
-    ensures few { L.honest link.old (is_planned plan.now) → IfOk result (λ r. AsksFew plan.now
-        input.now.batch (L.past link.old) (L.past link.new)) }
+        → KeepsSafe plan.now (L.seen link.old) (L.seen link.new) }
+    ensures few { (L.seen link.old).honest (is_planned plan.now)
+        → IfOk result (λ r. AsksFew plan.now
+        input.now.batch (L.seen link.old).past (L.seen link.new).past) }
 {
     let told = told_of_plan(alloc, plan, input, saved, link, keeper, patience)?;
     print_told(&told, printer)
@@ -403,20 +403,20 @@ fn told_of_plan<L: Link, K: Keeper, E: Patience>(
     requires { IsTrue (may_have input.now.batch) }
     ensures text { IfOk result (λ told. TellsRunFrom
         (AreUntouched link.old link.new keeper.old keeper.new)
-        (Came L.past L.honest L.calm L.disturbances K.keeps K.saved K.refusals
-        input.now.limit input.now.batch
+        (Came input.now.limit input.now.batch
         (E.has_given_up patience.old) (E.has_given_up patience.new)
-        (IsGoodStart L.past L.honest (option_map (λ text. text.now) saved.entry) link.old)
-        link.old link.new keeper.old keeper.new plan.now)
+        (IsGoodStart (option_map (λ text. text.now) saved.entry) (L.seen link.old))
+        (L.seen link.old) (L.seen link.new) (K.kept keeper.old) (K.kept keeper.new) plan.now)
         plan.now input.now.path.now input.now.limit
         (begin_knowns plan.now (option_map (λ text. text.now) saved.entry))
         told.refused told.text.items) }
-    ensures safe { GoodLink L.past L.honest plan.now link.old
-        → IsTrueText (L.past link.old).objects plan.now
+    ensures safe { GoodLink plan.now (L.seen link.old)
+        → IsTrueText (L.seen link.old).past.objects plan.now
         (option_map (λ text. text.now) saved.entry)
-        → KeepsSafe L.past L.honest plan.now link.old link.new }
-    ensures few { L.honest link.old (is_planned plan.now) → IfOk result (λ r. AsksFew plan.now
-        input.now.batch (L.past link.old) (L.past link.new)) }
+        → KeepsSafe plan.now (L.seen link.old) (L.seen link.new) }
+    ensures few { (L.seen link.old).honest (is_planned plan.now)
+        → IfOk result (λ r. AsksFew plan.now
+        input.now.batch (L.seen link.old).past (L.seen link.new).past) }
 {
     onward_is_an_order();
     match begin(alloc, plan, saved) {
@@ -450,16 +450,16 @@ fn told_of_exchanges<L: Link, K: Keeper, E: Patience>(
     patience: &mut E,
 ) -> Result<Told, NoMemory>
     ensures text { IfOk result (λ told. TellsEither
-        (Came L.past L.honest L.calm L.disturbances K.keeps K.saved K.refusals
-        input.now.limit client.old.batch
+        (Came input.now.limit client.old.batch
         (E.has_given_up patience.old) (E.has_given_up patience.new)
-        (λ keys. IsGood L.past L.honest client.old link.old)
-        link.old link.new keeper.old keeper.new client.old.keys client.old.knowns)
+        (λ keys. IsGood client.old (L.seen link.old))
+        (L.seen link.old) (L.seen link.new) (K.kept keeper.old) (K.kept keeper.new) client.old.keys
+        client.old.knowns)
         client.old.keys input.now.path.now input.now.limit told.refused told.text.items) }
-    ensures safe { IsGood L.past L.honest client.old link.old
-        → KeepsSafe L.past L.honest client.old.keys link.old link.new }
-    ensures few { L.honest link.old (is_planned client.old.keys) → IfOk result (λ r. AsksFew
-        client.old.keys client.old.batch (L.past link.old) (L.past link.new)) }
+    ensures safe { IsGood client.old (L.seen link.old)
+        → KeepsSafe client.old.keys (L.seen link.old) (L.seen link.new) }
+    ensures few { (L.seen link.old).honest (is_planned client.old.keys) → IfOk result (λ r. AsksFew
+        client.old.keys client.old.batch (L.seen link.old).past (L.seen link.new).past) }
 {
     let (ended, exchanges) = carry_out(alloc, client, link, keeper, patience, input.limit);
     match ended {

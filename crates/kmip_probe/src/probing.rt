@@ -41,22 +41,23 @@ pub fn probe<L: Link>(alloc: Global, prefix: &str, link: &mut L) -> Result<Vec<A
     // No question is left: none follows these answers.
     ensures whole { IfOk result (λ answers. next_inquiry answers.items ≡ None) }
     // Over a link that is honest for some names, at most 25 messages are sent, however it ends.
-    ensures few { (names : Names) → L.honest link.old names
-        → length (L.past link.new).sent ≤ length (L.past link.old).sent + QUESTIONS }
+    ensures few { (names : Names) → (L.seen link.old).honest names
+        → length (L.seen link.new).past.sent ≤ length (L.seen link.old).past.sent + QUESTIONS }
     // Over a link that is honest for some names, which it is after it too, the messages sent are the stated
     // questions, each as it is asked after the answers before it.
-    ensures sent { (names : Names) → L.honest link.old names → L.honest link.new names
-        × IfOk result (λ answers. (L.past link.new).sent
-        ≡ (L.past link.old).sent ++ messages_from prefix.now [] answers.items) }
+    ensures sent { (names : Names) → (L.seen link.old).honest names → (L.seen link.new).honest names
+        × IfOk result (λ answers. (L.seen link.new).past.sent
+        ≡ (L.seen link.old).past.sent ++ messages_from prefix.now [] answers.items) }
     // Over a link that is honest for some names, the answers are what was handed over, in turn.
-    ensures heard { (names : Names) → L.honest link.old names → IfOk result (λ answers.
-        (given : List (Option (List ℕ))) × ((L.past link.new).handed
-        ≡ (L.past link.old).handed ++ given) × AreAnswers prefix.now [] answers.items given) }
+    ensures heard { (names : Names) → (L.seen link.old).honest names → IfOk result (λ answers.
+        (given : List (Option (List ℕ))) × ((L.seen link.new).past.handed
+        ≡ (L.seen link.old).past.handed ++ given) × AreAnswers prefix.now [] answers.items given) }
     // Let the link be calm for some names. Let names and identifiers of the server's objects be distinct, the
     // two names of the probe be free, and there be room for two more objects. Then the answers are those of
     // the profile, question by question.
-    ensures kept { (names : Names) → L.calm link.old names
-        → IsUnprobed prefix.now (L.past link.old) → IfOk result (λ answers. (first second : List ℕ)
+    ensures kept { (names : Names) → (L.seen link.old).calm names
+        → IsUnprobed prefix.now (L.seen link.old).past
+        → IfOk result (λ answers. (first second : List ℕ)
         × (answers.items ≡ map Answer.Told (outcomes_of prefix.now first second))) }
 {
     let mut answers = Vec::new(alloc);
@@ -96,26 +97,27 @@ pub fn ask_on<L: Link>(
     ensures most { length answers.new.items ≤ most }
     // Over a link that is honest for some names, at most one message is sent for each answer that was still
     // wanted, however it ends.
-    ensures few { (names : Names) → L.honest link.old names
-        → length (L.past link.new).sent + length answers.old.items
-        ≤ length (L.past link.old).sent + most }
+    ensures few { (names : Names) → (L.seen link.old).honest names
+        → length (L.seen link.new).past.sent + length answers.old.items
+        ≤ length (L.seen link.old).past.sent + most }
     // Over such a link, unless memory ran out, at most one message is sent for each answer that came.
-    ensures each { (names : Names) → L.honest link.old names → OnOk result
-        (length (L.past link.new).sent + length answers.old.items
-        ≤ length (L.past link.old).sent + length answers.new.items) }
+    ensures each { (names : Names) → (L.seen link.old).honest names → OnOk result
+        (length (L.seen link.new).past.sent + length answers.old.items
+        ≤ length (L.seen link.old).past.sent + length answers.new.items) }
     // Over such a link, which it is after it too, and unless memory ran out: where the answers before had
     // come of the first questions, those after it have come of these and of the next ones.
-    ensures asked { (names : Names) → L.honest link.old names → L.honest link.new names
+    ensures asked { (names : Names) → (L.seen link.old).honest names
+        → (L.seen link.new).honest names
         × OnOk result (AsksOn prefix.now answers.old.items answers.new.items
-        (L.past link.old) (L.past link.new)) }
+        (L.seen link.old).past (L.seen link.new).past) }
     // Over a link that is calm for some names, unless memory ran out: where the answers before were those of
     // the profile, all answers after it are. The link is then calm for these names still.
-    ensures served { (names : Names) → L.calm link.old names
-        → AreServed prefix.now answers.old.items (L.past link.old) → OnOk result
-        (L.calm link.new names × AreServed prefix.now answers.new.items (L.past link.new)) }
+    ensures served { (names : Names) → (L.seen link.old).calm names
+        → AreServed prefix.now answers.old.items (L.seen link.old).past → OnOk result
+        ((L.seen link.new).calm names × AreServed prefix.now answers.new.items
+        (L.seen link.new).past) }
 {
     laws_below();
-    L::calm_laws();
     for _ in answers.len()..most {
         let Some(inquiry) = next_inquiry(answers.as_slice()) else {
             return Ok(());
@@ -203,16 +205,16 @@ fn put<L: Link>(
     requires lawful { All IsLawful answers.now }
     requires next { next_inquiry answers.now ≡ Some inquiry }
     ensures lawful { IfOk result IsLawful }
-    ensures asked { (names : Names) → L.honest link.old names → L.honest link.new names
-        × IfOk result (λ answer. HasAsked prefix.now answers.now answer (L.past link.old)
-        (L.past link.new)) }
-    ensures few { (names : Names) → L.honest link.old names
-        → length (L.past link.new).sent ≤ length (L.past link.old).sent + 1 }
-    ensures served { (names : Names) → L.calm link.old names → L.calm link.new names
-        × IfOk result (λ answer. HasServedNext prefix.now answers.now answer (L.past link.old)
-        (L.past link.new)) }
+    ensures asked { (names : Names) → (L.seen link.old).honest names
+        → (L.seen link.new).honest names
+        × IfOk result (λ answer. HasAsked prefix.now answers.now answer (L.seen link.old).past
+        (L.seen link.new).past) }
+    ensures few { (names : Names) → (L.seen link.old).honest names
+        → length (L.seen link.new).past.sent ≤ length (L.seen link.old).past.sent + 1 }
+    ensures served { (names : Names) → (L.seen link.old).calm names → (L.seen link.new).calm names
+        × IfOk result (λ answer. HasServedNext prefix.now answers.now answer (L.seen link.old).past
+        (L.seen link.new).past) }
 {
-    L::calm_laws();
     let Some(request) = request_for(alloc, prefix, inquiry, answers)? else {
         return Ok(Answer::Nothing);
     };
@@ -233,18 +235,18 @@ fn ask<L: Link>(
 ) -> Result<Answer, NoMemory>
     requires { IsTrue (request_fits request.now) }
     ensures lawful { IfOk result IsLawful }
-    ensures asked { (names : Names) → L.honest link.old names → L.honest link.new names
+    ensures asked { (names : Names) → (L.seen link.old).honest names
+        → (L.seen link.new).honest names
         × IfOk result (λ answer. HasSent (canon (requests_item (request.now ∷ [])))
-        (answer_to number prefix.now) answer (L.past link.old) (L.past link.new)) }
-    ensures few { (names : Names) → L.honest link.old names
-        → length (L.past link.new).sent ≤ length (L.past link.old).sent + 1 }
-    ensures served { (names : Names) → L.calm link.old names → L.calm link.new names
+        (answer_to number prefix.now) answer (L.seen link.old).past (L.seen link.new).past) }
+    ensures few { (names : Names) → (L.seen link.old).honest names
+        → length (L.seen link.new).past.sent ≤ length (L.seen link.old).past.sent + 1 }
+    ensures served { (names : Names) → (L.seen link.old).calm names → (L.seen link.new).calm names
         × IfOk result (λ answer. HasReplied request.now number prefix.now answer
-        (L.past link.old) (L.past link.new)) }
+        (L.seen link.old).past (L.seen link.new).past) }
 {
     deliveries_keep_the_requests();
     answer_laws();
-    L::calm_laws();
     let bytes = write_request(alloc, std::slice::from_ref(request))?;
     let Ok(handed) = answer_or_loss(link.exchange(alloc, bytes.as_slice())) else {
         return Err(NoMemory);

@@ -14,6 +14,7 @@ use Rattle.kmip_probe.specs.TwoObjects.{AreServed}
 use Rattle.kmip_probe.specs.declared.answer.Answer.TheVariants.{Told}
 use Rattle.kmip_probe.specs.declared.which.Which.TheVariants.{First, Second}
 use Rattle.kmip_protocol.specs.Past.{Names, Past}
+use Rattle.kmip_protocol.specs.Seen.{Seen}
 use Rattle.kmip_probe.specs.declared.answer.Answer.{Answer}
 use Rattle.kmip_probe.specs.declared.findings.Findings.{Findings}
 use Rattle.kmip_probe.proofs.ProbingLemmas.{so_many}
@@ -138,10 +139,10 @@ still_begun prefix answers all (more, is) two none =
     let still_second = still_free answers all more is two 1 (inr refl) ∙ second in rw (still_first, still_second) refl
 
 -- why nothing was made was told
-pub told_unbegun : {L : Type 0} (past : L → Past) (honest : L → Names → Type 0) (prefix : List ℕ) (answers : List Answer) (before after : L) (refused : Bool)
-    (text : List ℕ) (old new : Option (List ℕ)) → ((names : Names) → honest before names → AreAsked prefix answers (past before) (past after))
-    → Some text ≡ unbegun_text prefix answers → (refused ≡ true) × Appends old new text → WritesProbe past honest prefix before after refused old new
-told_unbegun past honest prefix answers before after refused text old new asked is (refused_is, written) = record {
+pub told_unbegun : (prefix : List ℕ) (answers : List Answer) (before after : Seen) (refused : Bool)
+    (text : List ℕ) (old new : Option (List ℕ)) → ((names : Names) → before.honest names → AreAsked prefix answers before.past after.past)
+    → Some text ≡ unbegun_text prefix answers → (refused ≡ true) × Appends old new text → WritesProbe prefix before after refused old new
+told_unbegun prefix answers before after refused text old new asked is (refused_is, written) = record {
   answers = answers;
   text = text;
   asked = asked;
@@ -149,11 +150,11 @@ told_unbegun past honest prefix answers before after refused text old new asked 
   written = written;
 }
 
-told_begun : {L : Type 0} (past : L → Past) (honest : L → Names → Type 0) (prefix : List ℕ) (answers : List Answer) (before after : L) (refused : Bool)
-    (old new : Option (List ℕ)) → ((names : Names) → honest before names → AreAsked prefix answers (past before) (past after))
+told_begun : (prefix : List ℕ) (answers : List Answer) (before after : Seen) (refused : Bool)
+    (old new : Option (List ℕ)) → ((names : Names) → before.honest names → AreAsked prefix answers before.past after.past)
     → unbegun_text prefix answers ≡ None → TellsEnd (λ findings. making_text prefix ++ report_text findings) prefix answers refused old new
-    → WritesProbe past honest prefix before after refused old new
-told_begun past honest prefix answers before after refused old new asked none (findings, are, refused_is, written) = record {
+    → WritesProbe prefix before after refused old new
+told_begun prefix answers before after refused old new asked none (findings, are, refused_is, written) = record {
   answers = answers;
   text = making_text prefix ++ report_text findings;
   asked = asked;
@@ -164,17 +165,17 @@ told_begun past honest prefix answers before after refused old new asked none (f
 }
 
 -- what was found was told, of all questions that were asked
-pub told_on : {L : Type 0} (past : L → Past) (honest : L → Names → Type 0) (prefix : List ℕ) (begun answers : List Answer) (before between after : L)
+pub told_on : (prefix : List ℕ) (begun answers : List Answer) (before between after : Seen)
     (result : Result Bool CommandFault) (old new : Option (List ℕ))
-    → ((names : Names) → honest before names → honest between names × AreAsked prefix begun (past before) (past between))
-    → ((names : Names) → honest between names → IfOk result (λ r. AsksOn prefix begun answers (past between) (past after)))
+    → ((names : Names) → before.honest names → between.honest names × AreAsked prefix begun before.past between.past)
+    → ((names : Names) → between.honest names → IfOk result (λ r. AsksOn prefix begun answers between.past after.past))
     → unbegun_text prefix answers ≡ None
     → IfOk result (λ r. TellsEnd (λ findings. making_text prefix ++ report_text findings) prefix answers r old new)
-    → IfOk result (λ r. WritesProbe past honest prefix before after r old new)
-told_on past honest prefix begun answers before between after (Ok r) old new asked further none tells =
-    told_begun past honest prefix answers before after r old new
-    (λ names honest_before. let (still, first) = asked names honest_before in further names still (past before) first) none tells
-told_on past honest prefix begun answers before between after (Err fault) old new asked further none tells = tt
+    → IfOk result (λ r. WritesProbe prefix before after r old new)
+told_on prefix begun answers before between after (Ok r) old new asked further none tells =
+    told_begun prefix answers before after r old new
+    (λ names honest_before. let (still, first) = asked names honest_before in further names still before.past first) none tells
+told_on prefix begun answers before between after (Err fault) old new asked further none tells = tt
 
 -- ---- over a calm link to a server of the profile
 

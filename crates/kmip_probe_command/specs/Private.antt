@@ -10,6 +10,7 @@ use Rattle.kmip_message_commands.specs.declared.command_fault.CommandFault.TheVa
 use Rattle.kmip_probe.specs.Judging.{AreFindings}
 use Rattle.kmip_probe.specs.declared.answer.Answer.{Answer}
 use Rattle.kmip_probe_command.specs.Midway.{TellsSome}
+use Rattle.kmip_probe_command.specs.declared.premise.Premise.TheVariants as premise
 
 -- What is left of the report after the lines of all premises but the last.
 abbrev pub rest_text : Findings → List ℕ

@@ -4,6 +4,7 @@ use Rattle.std.specs.Prelude.{◌≡◌, ℕ, Bool, true, not, List, [], ◌∷�
 use Rattle.std.specs.Io.KnownBytes.{Appends}
 use Rattle.kmip_batch_items.specs.declared.standard.TheConstants.{REASON_NON_UNIQUE_NAME, REASON_WRONG_STATE}
 use Rattle.kmip_protocol.specs.Past.{Names, Past}
+use Rattle.kmip_protocol.specs.Seen.{Seen}
 use Rattle.kmip_probe.specs.Judging.{AreFindings}
 use Rattle.kmip_probe.specs.Putting.{AreAsked}
 use Rattle.kmip_probe_command.specs.LookText.{making_text, unbegun_text}
@@ -28,10 +29,10 @@ abbrev pub TellsProbe : List ℕ → List Answer → Bool → List ℕ → Type 
 TellsProbe prefix answers refused text = TellsFrom prefix answers (unbegun_text prefix answers) refused text
 
 -- The questions were asked over the link, where it is honest, and what their answers tell was written.
-pub record WritesProbe {L : Type 0} (past : L → Past) (honest : L → Names → Type 0) (prefix : List ℕ) (before after : L) (refused : Bool) (old new : Option (List ℕ)) : Type 0 where
+pub record WritesProbe (prefix : List ℕ) (before after : Seen) (refused : Bool) (old new : Option (List ℕ)) : Type 0 where
   pub answers : List Answer
   pub text : List ℕ
-  pub asked : (names : Names) → honest before names → AreAsked prefix answers (past before) (past after)
+  pub asked : (names : Names) → before.honest names → AreAsked prefix answers before.past after.past
   pub tells : TellsProbe prefix answers refused text
   pub written : Appends old new text
 

@@ -40,8 +40,8 @@ pub fn run_probe<L: Link, W: Write>(
     // tell: which keys are to be made and the report, or why nothing was made. That is the object that
     // has a name, or that it could not be told, with the reason where the look was refused or its reply
     // can't be read. Over an honest link these are the answers of the questions that were asked.
-    ensures text { IsTrue (is_prefix prefix.now) → IfWhole result (λ r. WritesProbe
-        L.past L.honest prefix.now link.old link.new r
+    ensures text { IsTrue (is_prefix prefix.now) → IfWhole result
+        (λ r. WritesProbe prefix.now (L.seen link.old) (L.seen link.new) r
         (W.contents writer.old) (W.contents writer.new)) }
     // Of any other prefix nothing is asked. Where it does not fail, a line says so, and it is refused.
     ensures unfit { is_prefix prefix.now ≡ false → (link.new ≡ link.old) × IfWhole result
@@ -54,13 +54,13 @@ pub fn run_probe<L: Link, W: Write>(
     // The fault is never that of a reader.
     ensures no_input { IfFailed result (λ fault. fault ≢ CommandFault.Input) }
     // Over an honest link at most 25 messages are sent, however it ends.
-    ensures few { (names : Names) → L.honest link.old names
-        → length (L.past link.new).sent ≤ length (L.past link.old).sent + QUESTIONS }
+    ensures few { (names : Names) → (L.seen link.old).honest names
+        → length (L.seen link.new).past.sent ≤ length (L.seen link.old).past.sent + QUESTIONS }
     // It asks for a calm link to a server whose objects have distinct names and identifiers, none of them
     // one of the two names, with room for two more. Then the text names the two keys and says yes to
     // every premise, and nothing is refused, unless memory or the writer fails.
-    ensures kept { IsTrue (is_prefix prefix.now) → (names : Names) → L.calm link.old names
-        → IsUnprobed prefix.now (L.past link.old) → IfWhole result (λ r. (r ≡ false)
+    ensures kept { IsTrue (is_prefix prefix.now) → (names : Names) → (L.seen link.old).calm names
+        → IsUnprobed prefix.now (L.seen link.old).past → IfWhole result (λ r. (r ≡ false)
         × Appends (W.contents writer.old) (W.contents writer.new)
         (making_text prefix.now ++ kept_text)) }
 {
@@ -81,18 +81,18 @@ fn write_probe<L: Link, W: Write>(
     link: &mut L,
     writer: &mut W,
 ) -> Result<bool, CommandFault>
-    ensures text { IsTrue (is_prefix prefix.now) → IfOk result (λ r. WritesProbe
-        L.past L.honest prefix.now link.old link.new r
+    ensures text { IsTrue (is_prefix prefix.now) → IfOk result
+        (λ r. WritesProbe prefix.now (L.seen link.old) (L.seen link.new) r
         (W.contents writer.old) (W.contents writer.new)) }
     ensures unfit { is_prefix prefix.now ≡ false → (link.new ≡ link.old) × IfOk result
         (λ r. (r ≡ true) × Appends (W.contents writer.old) (W.contents writer.new) unfit_text) }
     ensures broken { IfErr result (λ fault. UnlessOutput fault (TellsSome prefix.now []
         (W.contents writer.old) (W.contents writer.new))) }
     ensures no_input { IfErr result (λ fault. fault ≢ CommandFault.Input) }
-    ensures few { (names : Names) → L.honest link.old names
-        → length (L.past link.new).sent ≤ length (L.past link.old).sent + QUESTIONS }
-    ensures kept { IsTrue (is_prefix prefix.now) → (names : Names) → L.calm link.old names
-        → IsUnprobed prefix.now (L.past link.old) → IfOk result (λ r. (r ≡ false)
+    ensures few { (names : Names) → (L.seen link.old).honest names
+        → length (L.seen link.new).past.sent ≤ length (L.seen link.old).past.sent + QUESTIONS }
+    ensures kept { IsTrue (is_prefix prefix.now) → (names : Names) → (L.seen link.old).calm names
+        → IsUnprobed prefix.now (L.seen link.old).past → IfOk result (λ r. (r ≡ false)
         × Appends (W.contents writer.old) (W.contents writer.new)
         (making_text prefix.now ++ kept_text)) }
 {
@@ -114,8 +114,8 @@ pub fn probe_bytes<L: Link>(
     // made and the report, or why nothing was made. That is the object that has a name, or that it could
     // not be told, with the reason where the look was refused or its reply can't be read. Over an honest
     // link these are the answers of the questions that were asked.
-    ensures text { IsTrue (is_prefix prefix.now) → IfOk result (λ r. WritesProbe
-        L.past L.honest prefix.now link.old link.new r
+    ensures text { IsTrue (is_prefix prefix.now) → IfOk result
+        (λ r. WritesProbe prefix.now (L.seen link.old) (L.seen link.new) r
         (Some output.old.items) (Some output.new.items)) }
     // Of any other prefix nothing is asked. Where it does not fail, a line says so, and it is refused.
     ensures unfit { is_prefix prefix.now ≡ false → (link.new ≡ link.old) × IfOk result
@@ -123,13 +123,13 @@ pub fn probe_bytes<L: Link>(
     // At want of memory nothing is appended.
     ensures broken { OnErr result (output.new.items ≡ output.old.items) }
     // Over an honest link at most 25 messages are sent, however it ends.
-    ensures few { (names : Names) → L.honest link.old names
-        → length (L.past link.new).sent ≤ length (L.past link.old).sent + QUESTIONS }
+    ensures few { (names : Names) → (L.seen link.old).honest names
+        → length (L.seen link.new).past.sent ≤ length (L.seen link.old).past.sent + QUESTIONS }
     // It asks for a calm link to a server whose objects have distinct names and identifiers, none of them
     // one of the two names, with room for two more. Then the text names the two keys and says yes to
     // every premise, and nothing is refused, unless memory runs out.
-    ensures kept { IsTrue (is_prefix prefix.now) → (names : Names) → L.calm link.old names
-        → IsUnprobed prefix.now (L.past link.old) → IfOk result (λ r. (r ≡ false)
+    ensures kept { IsTrue (is_prefix prefix.now) → (names : Names) → (L.seen link.old).calm names
+        → IsUnprobed prefix.now (L.seen link.old).past → IfOk result (λ r. (r ≡ false)
         × (output.new.items ≡ output.old.items ++ (making_text prefix.now ++ kept_text))) }
 {
     let before = output.len();
@@ -158,17 +158,17 @@ fn probe_to<L: Link, P: Printer>(
     link: &mut L,
     printer: &mut P,
 ) -> Result<bool, CommandFault>
-    ensures text { IsTrue (is_prefix prefix.now) → IfOk result (λ r. WritesProbe
-        L.past L.honest prefix.now link.old link.new r
+    ensures text { IsTrue (is_prefix prefix.now) → IfOk result
+        (λ r. WritesProbe prefix.now (L.seen link.old) (L.seen link.new) r
         (P.contents printer.old) (P.contents printer.new)) }
     ensures unfit { is_prefix prefix.now ≡ false → (link.new ≡ link.old) × IfOk result
         (λ r. (r ≡ true) × Appends (P.contents printer.old) (P.contents printer.new) unfit_text) }
     ensures broken { IfErr result (λ fault. BreaksMidway fault P.own_fault P.IsWhole prefix.now
         (P.contents printer.old) (P.contents printer.new)) }
-    ensures few { (names : Names) → L.honest link.old names
-        → length (L.past link.new).sent ≤ length (L.past link.old).sent + QUESTIONS }
-    ensures kept { IsTrue (is_prefix prefix.now) → (names : Names) → L.calm link.old names
-        → IsUnprobed prefix.now (L.past link.old) → IfOk result (λ r. (r ≡ false)
+    ensures few { (names : Names) → (L.seen link.old).honest names
+        → length (L.seen link.new).past.sent ≤ length (L.seen link.old).past.sent + QUESTIONS }
+    ensures kept { IsTrue (is_prefix prefix.now) → (names : Names) → (L.seen link.old).calm names
+        → IsUnprobed prefix.now (L.seen link.old).past → IfOk result (λ r. (r ≡ false)
         × Appends (P.contents printer.old) (P.contents printer.new)
         (making_text prefix.now ++ kept_text)) }
 {

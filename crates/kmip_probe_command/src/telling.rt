@@ -40,14 +40,14 @@ pub(crate) fn tell<L: Link, P: Printer>(
     printer: &mut P,
 ) -> Result<bool, CommandFault>
     requires { IsTrue (is_prefix prefix.now) }
-    ensures text { IfOk result (λ r. WritesProbe L.past L.honest prefix.now link.old link.new r
+    ensures text { IfOk result (λ r. WritesProbe prefix.now (L.seen link.old) (L.seen link.new) r
         (P.contents printer.old) (P.contents printer.new)) }
     ensures broken { IfErr result (λ fault. BreaksMidway fault P.own_fault P.IsWhole prefix.now
         (P.contents printer.old) (P.contents printer.new)) }
-    ensures few { (names : Names) → L.honest link.old names
-        → length (L.past link.new).sent ≤ length (L.past link.old).sent + QUESTIONS }
-    ensures kept { (names : Names) → L.calm link.old names
-        → IsUnprobed prefix.now (L.past link.old) → IfOk result (λ r. (r ≡ false)
+    ensures few { (names : Names) → (L.seen link.old).honest names
+        → length (L.seen link.new).past.sent ≤ length (L.seen link.old).past.sent + QUESTIONS }
+    ensures kept { (names : Names) → (L.seen link.old).calm names
+        → IsUnprobed prefix.now (L.seen link.old).past → IfOk result (λ r. (r ≡ false)
         × Appends (P.contents printer.old) (P.contents printer.new)
         (making_text prefix.now ++ kept_text)) }
 {
@@ -79,18 +79,20 @@ fn tell_on<L: Link, P: Printer>(
     requires first { IsTrue (is_free_at answers.old.items LOOK_FIRST) }
     requires second { IsTrue (is_free_at answers.old.items LOOK_SECOND) }
     ensures onward { (more : List Answer) × (answers.new.items ≡ answers.old.items ++ more) }
-    ensures asked { (names : Names) → L.honest link.old names → IfOk result (λ r. AsksOn prefix.now
-        answers.old.items answers.new.items (L.past link.old) (L.past link.new)) }
+    ensures asked { (names : Names) → (L.seen link.old).honest names
+        → IfOk result (λ r. AsksOn prefix.now
+        answers.old.items answers.new.items (L.seen link.old).past (L.seen link.new).past) }
     ensures text { IfOk result (λ r. TellsEnd (λ f. making_text prefix.now ++ report_text f)
         prefix.now answers.new.items r (P.contents printer.old) (P.contents printer.new)) }
     ensures all { IfOk result (λ r. length answers.new.items ≡ QUESTIONS) }
     ensures broken { IfErr result (λ fault. BreaksMidway fault P.own_fault P.IsWhole prefix.now
         (P.contents printer.old) (P.contents printer.new)) }
-    ensures few { (names : Names) → L.honest link.old names
-        → length (L.past link.new).sent + LOOKS ≤ length (L.past link.old).sent + QUESTIONS }
-    ensures served { (names : Names) → L.calm link.old names
-        → AreServed prefix.now answers.old.items (L.past link.old)
-        → IfOk result (λ r. AreServed prefix.now answers.new.items (L.past link.new)) }
+    ensures few { (names : Names) → (L.seen link.old).honest names
+        → length (L.seen link.new).past.sent + LOOKS
+        ≤ length (L.seen link.old).past.sent + QUESTIONS }
+    ensures served { (names : Names) → (L.seen link.old).calm names
+        → AreServed prefix.now answers.old.items (L.seen link.old).past
+        → IfOk result (λ r. AreServed prefix.now answers.new.items (L.seen link.new).past) }
 {
     print_making(alloc, prefix, printer)?;
     ask_on(alloc, prefix, link, EARLY_ANSWERS, answers)?;

@@ -6,7 +6,9 @@
 --     Calm       what it does over a calm link
 --     Clean      which exchanges go as they should, and what a link counts of the others
 --     Ending     where runs were ended over a link
+--     Faults     the faults of a link, and how many failures there may be
 --     Sound      what holds of the past for the keys of a plan at all times
+--     Seen       all that a contract sees of a link, as one value
 -- Source: own (law), over KMIP 2.1, Operations.
 use Rattle.std.specs.Prelude.{◌≡◌, ◌≤◌, ℕ, nat_eq, List, ◌∷◌, length, filter, take, Option, Some, None}
 use Rattle.std.specs.Cmp.Lexicographic.{pointwise}

@@ -21,6 +21,10 @@ pub mod Calm
 pub mod Clean
 -- where the runs ended that were ended over a link
 pub mod Ending
+-- all that a contract sees of a link, as one value
+pub mod Seen
+-- what an exchange and the end of a run promise
+pub mod Linking
 -- the plan machine, and when a past is an image of it
 pub mod Machine
 -- the laws of all that may happen
@@ -43,3 +47,5 @@ pub mod Losing
 pub mod LosingLaws
 -- private: the laws of the crates below that the laws here rest on
 pub mod PrivateSettlingLawbook
+-- private: what only clauses of private functions and instances of traits cite
+pub mod Private

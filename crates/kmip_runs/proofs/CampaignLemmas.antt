@@ -20,6 +20,7 @@ use Rattle.kmip_client.specs.declared.knowledge.Knowledge.{Knowledge}
 use Rattle.kmip_protocol.specs.Laws.{IsReached}
 use Rattle.kmip_protocol.specs.Moves.{Delivered}
 use Rattle.kmip_protocol.specs.Past.{Names, Past, is_planned}
+use Rattle.kmip_protocol.specs.Seen.{Seen}
 use Rattle.kmip_protocol.specs.Sound.{Sound}
 use Rattle.kmip_server.specs.declared.effect.Effect.{Effect}
 use Rattle.kmip_runs.specs.Headline.{GoodLink, reported, reported_by, steps_counted}
@@ -212,80 +213,79 @@ noted_none objects keys ends saved no_end none_saved =
 
 -- ---- one run
 
-module _ {L : Type 0} (past : L → Past) (honest : L → Names → Type 0) where
-  pub good_with : (a b : ClientState) (x : L) → b.keys ≡ a.keys → IsGood past honest a x → Held (past x).objects b.keys b.knowns → IsGood past honest b x
-  good_with a b x same good held = record {
-    honest_for = subst (λ ks. honest x (is_planned ks)) (sym same) good.honest_for;
-    sound = subst (λ ks. Sound ks (past x)) (sym same) good.sound;
-    held = held;
-  }
+pub good_with : (a b : ClientState) (x : Seen) → b.keys ≡ a.keys → IsGood a x → Held x.past.objects b.keys b.knowns → IsGood b x
+good_with a b x same good held = record {
+  honest_for = subst (λ ks. x.honest (is_planned ks)) (sym same) good.honest_for;
+  sound = subst (λ ks. Sound ks x.past) (sym same) good.sound;
+  held = held;
+}
 
-  -- begun, driven and noted
-  pub stood : CampaignLaws → (keys : List Key) (a b c : ClientState) (x y : L) (stop : Stop) (ends nexts : List RunEnd) (saved kept : List (List Known)) → IsLawful keys
-      → a.keys ≡ keys → b.keys ≡ keys → c.keys ≡ keys
-      → (All (TrueProgress (past x).objects keys) saved → Held (past x).objects a.keys a.knowns → Held (past x).objects b.keys b.knowns)
-      → (IsGood past honest b x → IsGood past honest c y) → (IsGood past honest b x → WentOn b.keys (past x) (past y)) → (IsGood past honest b x → stop ≢ stops.Conflict)
-      → ((objects : List Object) → stop ≢ stops.Conflict → Held objects c.keys c.knowns → Noted objects c.keys ends saved → Noted objects c.keys nexts kept)
-      → Standing past honest keys a x ends saved → Standing past honest keys c y nexts kept × WentOn keys (past x) (past y)
-  stood l keys a b c x y stop ends nexts saved kept lawful a_keys b_keys c_keys begun good goes none notes standing =
-      let begins = good_with a b x (b_keys ∙ sym a_keys) standing.good (begun standing.noted.true_saved standing.good.held) in
-      let went = subst (λ ks. WentOn ks (past x) (past y)) b_keys (goes begins) in
-      let driven = good begins in (
-        record {
-          good = driven;
-          noted = subst (λ ks. Noted (past y).objects ks nexts kept) c_keys
-              (notes (past y).objects (none begins) driven.held
-              (subst (λ ks. Noted (past y).objects ks ends saved) (sym c_keys) (noted_onward l keys (past x).objects (past y).objects ends saved lawful went.onward standing.noted)));
-        },
-        went,
-      )
+-- begun, driven and noted
+pub stood : CampaignLaws → (keys : List Key) (a b c : ClientState) (x y : Seen) (stop : Stop) (ends nexts : List RunEnd) (saved kept : List (List Known)) → IsLawful keys
+    → a.keys ≡ keys → b.keys ≡ keys → c.keys ≡ keys
+    → (All (TrueProgress x.past.objects keys) saved → Held x.past.objects a.keys a.knowns → Held x.past.objects b.keys b.knowns)
+    → (IsGood b x → IsGood c y) → (IsGood b x → WentOn b.keys x.past y.past) → (IsGood b x → stop ≢ stops.Conflict)
+    → ((objects : List Object) → stop ≢ stops.Conflict → Held objects c.keys c.knowns → Noted objects c.keys ends saved → Noted objects c.keys nexts kept)
+    → Standing keys a x ends saved → Standing keys c y nexts kept × WentOn keys x.past y.past
+stood l keys a b c x y stop ends nexts saved kept lawful a_keys b_keys c_keys begun good goes none notes standing =
+    let begins = good_with a b x (b_keys ∙ sym a_keys) standing.good (begun standing.noted.true_saved standing.good.held) in
+    let went = subst (λ ks. WentOn ks x.past y.past) b_keys (goes begins) in
+    let driven = good begins in (
+      record {
+        good = driven;
+        noted = subst (λ ks. Noted y.past.objects ks nexts kept) c_keys
+            (notes y.past.objects (none begins) driven.held
+            (subst (λ ks. Noted y.past.objects ks ends saved) (sym c_keys) (noted_onward l keys x.past.objects y.past.objects ends saved lawful went.onward standing.noted)));
+      },
+      went,
+    )
 
-  -- and closed
-  pub closed : CampaignLaws → (keys : List Key) (c : ClientState) (x y z : L) (ends : List RunEnd) (saved : List (List Known)) → IsLawful keys → c.keys ≡ keys
-      → ((names : Names) → honest y names → honest z names × Delivered names (past y) (past z))
-      → Standing past honest keys c y ends saved × WentOn keys (past x) (past y) → Standing past honest keys c z ends saved × WentOn keys (past x) (past z)
-  closed l keys c x y z ends saved lawful c_keys ended (standing, went) =
-      let sound = subst (λ ks. Sound ks (past y)) c_keys standing.good.sound in
-      let step = ended (is_planned keys) (subst (λ ks. honest y (is_planned ks)) c_keys standing.good.honest_for) in
-      let on = l.onward keys (past y) (past z) sound step.1 in (
-        record {
-          good = record {
-            honest_for = subst (λ ks. honest z (is_planned ks)) (sym c_keys) step.0;
-            sound = subst (λ ks. Sound ks (past z)) (sym c_keys) (l.deliveries keys (past y) (past z) sound step.1);
-            held = l.known_for_good c.keys c.knowns (past y).objects (past z).objects (subst (λ ks. IsLawful ks) (sym c_keys) lawful)
-                (subst (λ ks. Onward ks (past y).objects (past z).objects) (sym c_keys) on) standing.good.held;
-          };
-          noted = noted_onward l keys (past y).objects (past z).objects ends saved lawful on standing.noted;
-        },
-        record {
-          onward = l.twice keys (past x).objects (past y).objects (past z).objects went.onward on;
-          mirrored = λ image. l.images keys (past y) (past z) sound (went.mirrored image) step.1;
-        },
-      )
+-- and closed
+pub closed : CampaignLaws → (keys : List Key) (c : ClientState) (x y z : Seen) (ends : List RunEnd) (saved : List (List Known)) → IsLawful keys → c.keys ≡ keys
+    → ((names : Names) → y.honest names → z.honest names × Delivered names y.past z.past)
+    → Standing keys c y ends saved × WentOn keys x.past y.past → Standing keys c z ends saved × WentOn keys x.past z.past
+closed l keys c x y z ends saved lawful c_keys ended (standing, went) =
+    let sound = subst (λ ks. Sound ks y.past) c_keys standing.good.sound in
+    let step = ended (is_planned keys) (subst (λ ks. y.honest (is_planned ks)) c_keys standing.good.honest_for) in
+    let on = l.onward keys y.past z.past sound step.1 in (
+      record {
+        good = record {
+          honest_for = subst (λ ks. z.honest (is_planned ks)) (sym c_keys) step.0;
+          sound = subst (λ ks. Sound ks z.past) (sym c_keys) (l.deliveries keys y.past z.past sound step.1);
+          held = l.known_for_good c.keys c.knowns y.past.objects z.past.objects (subst (λ ks. IsLawful ks) (sym c_keys) lawful)
+              (subst (λ ks. Onward ks y.past.objects z.past.objects) (sym c_keys) on) standing.good.held;
+        };
+        noted = noted_onward l keys y.past.objects z.past.objects ends saved lawful on standing.noted;
+      },
+      record {
+        onward = l.twice keys x.past.objects y.past.objects z.past.objects went.onward on;
+        mirrored = λ image. l.images keys y.past z.past sound (went.mirrored image) step.1;
+      },
+    )
 
-  -- a client that knows nothing begins
-  pub opened : CampaignLaws → (keys : List Key) (c : ClientState) (x : L) (ends : List RunEnd) (saved : List (List Known)) → c.keys ≡ keys
-      → Held (past x).objects c.keys c.knowns → ends ≡ [] → saved ≡ [] → GoodLink past honest keys x
-      → Standing past honest keys c x ends saved × WentOn keys (past x) (past x)
-  opened l keys c x ends saved c_keys held no_end none_saved good = (
-    record {
-      good = record {
-        honest_for = subst (λ ks. honest x (is_planned ks)) (sym c_keys) good.honest_for;
-        sound = subst (λ ks. Sound ks (past x)) (sym c_keys) good.sound;
-        held = held;
-      };
-      noted = noted_none (past x).objects keys ends saved no_end none_saved;
-    },
-    record { onward = l.itself keys (past x).objects; mirrored = λ image. image },
-  )
-
-  pub campaigned : (keys : List Key) (c : ClientState) (x y : L) (ends : List RunEnd) (saved : List (List Known)) → c.keys ≡ keys
-      → Standing past honest keys c y ends saved × WentOn keys (past x) (past y) → Campaigned past honest keys x y ends saved
-  campaigned keys c x y ends saved c_keys (standing, went) = record {
+-- a client that knows nothing begins
+pub opened : CampaignLaws → (keys : List Key) (c : ClientState) (x : Seen) (ends : List RunEnd) (saved : List (List Known)) → c.keys ≡ keys
+    → Held x.past.objects c.keys c.knowns → ends ≡ [] → saved ≡ [] → GoodLink keys x
+    → Standing keys c x ends saved × WentOn keys x.past x.past
+opened l keys c x ends saved c_keys held no_end none_saved good = (
+  record {
     good = record {
-      honest_for = subst (λ ks. honest y (is_planned ks)) c_keys standing.good.honest_for;
-      sound = subst (λ ks. Sound ks (past y)) c_keys standing.good.sound;
+      honest_for = subst (λ ks. x.honest (is_planned ks)) (sym c_keys) good.honest_for;
+      sound = subst (λ ks. Sound ks x.past) (sym c_keys) good.sound;
+      held = held;
     };
-    on = went;
-    noted = standing.noted;
-  }
+    noted = noted_none x.past.objects keys ends saved no_end none_saved;
+  },
+  record { onward = l.itself keys x.past.objects; mirrored = λ image. image },
+)
+
+pub campaigned : (keys : List Key) (c : ClientState) (x y : Seen) (ends : List RunEnd) (saved : List (List Known)) → c.keys ≡ keys
+    → Standing keys c y ends saved × WentOn keys x.past y.past → Campaigned keys x y ends saved
+campaigned keys c x y ends saved c_keys (standing, went) = record {
+  good = record {
+    honest_for = subst (λ ks. y.honest (is_planned ks)) c_keys standing.good.honest_for;
+    sound = subst (λ ks. Sound ks y.past) c_keys standing.good.sound;
+  };
+  on = went;
+  noted = standing.noted;
+}

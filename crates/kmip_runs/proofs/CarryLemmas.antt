@@ -13,6 +13,7 @@ use Rattle.kmip_client.specs.declared.knowledge.Knowledge.{Knowledge}
 use Rattle.kmip_client.specs.declared.verdict.Verdict.TheVariants.{Working, Finished}
 use Rattle.kmip_protocol.specs.Moves.{Delivered}
 use Rattle.kmip_protocol.specs.Past.{Names, Past, is_planned}
+use Rattle.kmip_protocol.specs.Seen.{Seen}
 use Rattle.kmip_client.specs.Saving.{progress}
 use Rattle.kmip_progress.specs.Texts.{progress_text}
 use Rattle.kmip_protocol.specs.Sound.{Sound}
@@ -24,6 +25,8 @@ use Rattle.kmip_runs.specs.Saved.{AreSaved, IsInMemory, AreUnsaved, IsLeft, IsWh
 use Rattle.kmip_runs.specs.declared.save_fault.SaveFault.{SaveFault}
 use Rattle.kmip_runs.proofs.SavedLemmas.{saved_broken, saved_closed, saved_none, saved_not, saved_one, saved_then}
 use Rattle.kmip_runs.proofs.WentLemmas.{kept_itself, learnt_delivered, stop_is, went_closed, went_nowhere, went_then, went_unbegun}
+use Rattle.kmip_runs.specs.Drives.{Drives}
+use Rattle.kmip_runs.specs.Keeping.{Kept}
 
 -- ---- how the end of the run changes the answer
 
@@ -103,200 +106,192 @@ saved_from_start keys most good better holds then begun ended result n old new b
 
 -- ---- one exchange
 
-module _ {L : Type 0} (past : L → Past) (honest calm : L → Names → Type 0) where
-  -- what driving promises of the exchanges that it makes
-  pub drove : (a b : ClientState) (x y : L) (driven : Stop × ℕ) → (IsGood past honest a x → IsGood past honest b y)
-      → (IsGood past honest a x → WentOn a.keys (past x) (past y))
-      → (honest x (is_planned a.keys) → honest y (is_planned a.keys) × (driven.0 ≢ stops.NoMemory → Learnt a.keys a.batch (past x) (past y) a.knowns b.knowns driven.1))
-      → (honest x (is_planned a.keys) → driven.0 ≡ stops.NoMemory → LearntUntil a.keys a.batch (past x) (past y) a.knowns b.knowns driven.1)
-      → (honest x (is_planned a.keys) → Grown (past x) (past y)) → Keeps a b
-      → (IsSettling past calm a x → driven.0 ≢ stops.NoMemory → Nearer past calm a b x y driven.1)
-      → Went past honest calm a b x y (Ok driven.0) driven.1
-  drove a b x y driven good goes known broken grown keeps near = record {
-    good = good;
-    goes = goes;
-    known = λ holds. let learnt = known holds in (learnt.0, λ memory. learnt.1 (λ is. memory (ap Ok is)));
-    broken = λ holds is. broken holds (stop_is driven.0 stops.NoMemory is);
-    grown = grown;
-    keeps = keeps;
-    near = near;
-  }
+-- what driving promises of the exchanges that it makes
+pub drove : (a b : ClientState) (x y : Seen) (most : ℕ) (driven : Stop × ℕ) (follows : Type 0) → Drives x a most driven y b follows → Went a b x y (Ok driven.0) driven.1
+drove a b x y most driven follows drives = record {
+  good = λ good. (drives.well good).good;
+  goes = λ good. (drives.well good).goes;
+  known = λ holds. let learnt = (drives.honestly holds).known in (learnt.0, λ memory. learnt.1 (λ is. memory (ap Ok is)));
+  broken = λ holds is. (drives.honestly holds).broken (stop_is driven.0 stops.NoMemory is);
+  grown = λ holds. (drives.honestly holds).grown;
+  keeps = drives.kept;
+  near = λ settling memory. (drives.calmly settling).calm memory;
+}
 
-  -- where it was not saved
-  failed : (a b : ClientState) (x y : L) (stop : Stop) (fault : SaveFault) (n : ℕ) → stop ≢ stops.NoMemory → Went past honest calm a b x y (Ok stop) n
-      → Went past honest calm a b x y (Err fault) n
-  failed a b x y stop fault n in_memory went = record {
-    good = went.good;
-    goes = went.goes;
-    known = λ holds. let learnt = went.known holds in (learnt.0, λ memory. learnt.1 (λ is. in_memory (stop_is stop stops.NoMemory is)));
-    broken = λ holds is. absurd cc;
-    grown = went.grown;
-    keeps = went.keeps;
-    near = λ settling whole. absurd whole;
-  }
+-- where it was not saved
+failed : (a b : ClientState) (x y : Seen) (stop : Stop) (fault : SaveFault) (n : ℕ) → stop ≢ stops.NoMemory → Went a b x y (Ok stop) n
+    → Went a b x y (Err fault) n
+failed a b x y stop fault n in_memory went = record {
+  good = went.good;
+  goes = went.goes;
+  known = λ holds. let learnt = went.known holds in (learnt.0, λ memory. learnt.1 (λ is. in_memory (stop_is stop stops.NoMemory is)));
+  broken = λ holds is. absurd cc;
+  grown = went.grown;
+  keeps = went.keeps;
+  near = λ settling whole. absurd whole;
+}
 
-  learns : (a b : ClientState) (x y : L) (stop : Stop) (n : ℕ) → stop ≢ stops.NoMemory → Went past honest calm a b x y (Ok stop) n → honest x (is_planned a.keys)
-      → Learnt a.keys a.batch (past x) (past y) a.knowns b.knowns n
-  learns a b x y stop n in_memory went holds = (went.known holds).1 (λ is. in_memory (stop_is stop stops.NoMemory is))
+learns : (a b : ClientState) (x y : Seen) (stop : Stop) (n : ℕ) → stop ≢ stops.NoMemory → Went a b x y (Ok stop) n → x.honest (is_planned a.keys)
+    → Learnt a.keys a.batch x.past y.past a.knowns b.knowns n
+learns a b x y stop n in_memory went holds = (went.known holds).1 (λ is. in_memory (stop_is stop stops.NoMemory is))
 
-  module _ {K : Type 0} (keeps : K → Type 0) (saved : K → List (List ℕ)) where
-    -- where memory ran out
-    pub carried_without : (a b : ClientState) (x y : L) (i : K) (driven : Stop × ℕ) → driven.0 ≡ stops.NoMemory → driven.1 ≤ 1
-        → Went past honest calm a b x y (Ok driven.0) driven.1 → Carried past honest calm keeps saved a b x y i i (Ok driven.0) driven.1
-    carried_without a b x y i driven memory few went = record {
+-- where memory ran out
+pub carried_without : (a b : ClientState) (x y : Seen) (i : Kept) (driven : Stop × ℕ) → driven.0 ≡ stops.NoMemory → driven.1 ≤ 1
+    → Went a b x y (Ok driven.0) driven.1 → Carried a b x y i i (Ok driven.0) driven.1
+carried_without a b x y i driven memory few went = record {
+  went = went;
+  kept = λ keeping. (
+    keeping,
+    subst
+        (λ stop. AreSaved a.keys a.batch (IsGood a x) (x.honest (is_planned a.keys)) (moment a x) (moment b y) (Ok stop) driven.1 i.saved i.saved)
+        (sym memory)
+        (saved_broken a.keys a.batch (IsGood a x) (x.honest (is_planned a.keys)) (moment a x) (moment b y) driven.1 i.saved went.keeps.kept few),
+  );
+}
+
+-- where no exchange was made
+pub carried_none : (a b : ClientState) (x y : Seen) (i : Kept) (driven : Stop × ℕ) → driven.1 ≡ 0 → Went a b x y (Ok driven.0) driven.1
+    → Carried a b x y i i (Ok driven.0) 0
+carried_none a b x y i driven none went =
+    let went_so = subst (λ n. Went a b x y (Ok driven.0) n) none went in
+    record {
+      went = went_so;
+      kept = λ keeping. (
+        keeping,
+        saved_none a.keys a.batch (IsGood a x) (x.honest (is_planned a.keys)) (moment a x) (moment b y) driven.0 i.saved went.keeps.kept
+            (λ holds memory. learns a b x y driven.0 0 memory went_so holds),
+      );
+    }
+
+-- where there was no memory to begin with
+pub carried_unbegun : CarryingLaws → (c : ClientState) (x : Seen) (i : Kept) → Carried c c x x i i (Ok stops.NoMemory) 0
+carried_unbegun l c x i = record {
+  went = went_unbegun l c x;
+  kept = λ keeping. (
+    keeping,
+    saved_broken c.keys c.batch (IsGood c x) (x.honest (is_planned c.keys)) (moment c x) (moment c x) 0 i.saved (kept_itself c.knowns) (omega arith),
+  );
+}
+
+pub carried_one : (a b : ClientState) (x y : Seen) (i j : Kept) (driven : Stop × ℕ) → driven.1 ≡ 1 → driven.0 ≢ stops.NoMemory
+    → (i.keeps → j.keeps × (j.saved ≡ i.saved ++ progress_text b.keys (progress b) ∷ [])) → Went a b x y (Ok driven.0) driven.1
+    → Carried a b x y i j (Ok driven.0) 1
+carried_one a b x y i j driven one memory saves went =
+    let went_so = subst (λ n. Went a b x y (Ok driven.0) n) one went in
+    record {
+      went = went_so;
+      kept = λ keeping.
+          let so = saves keeping in (
+            so.0,
+            saved_one a.keys a.batch (IsGood a x) (x.honest (is_planned a.keys)) (moment a x) (moment b y) driven.0 i.saved j.saved went.keeps.kept
+                (learns a b x y driven.0 1 memory went_so)
+                (subst (λ ks. j.saved ≡ i.saved ++ progress_text ks (progress b) ∷ []) went.keeps.keys_stay so.1)
+                (λ good. subst (λ ks. Held y.past.objects ks b.knowns) went.keeps.keys_stay (went.good good).held),
+          );
+    }
+
+pub carried_not : (a b : ClientState) (x y : Seen) (i j : Kept) (driven : Stop × ℕ) (fault : SaveFault) → driven.1 ≡ 1 → driven.0 ≢ stops.NoMemory
+    → (i.keeps → j.keeps × (j.saved ≡ i.saved)) → Went a b x y (Ok driven.0) driven.1
+    → Carried a b x y i j (Err fault) 1
+carried_not a b x y i j driven fault one memory saves went =
+    let went_so = subst (λ n. Went a b x y (Ok driven.0) n) one went in
+    record {
+      went = failed a b x y driven.0 fault 1 memory went_so;
+      kept = λ keeping.
+          let so = saves keeping in (
+            so.0,
+            saved_not a.keys a.batch (IsGood a x) (x.honest (is_planned a.keys)) (moment a x) (moment b y) fault i.saved j.saved went.keeps.kept
+                (learns a b x y driven.0 1 memory went_so) so.1,
+          );
+    }
+
+-- ---- several exchanges
+
+carried_itself : CarryingLaws → (c : ClientState) (x : Seen) (i : Kept) → Carried c c x x i i (Ok stops.Limit) 0
+carried_itself l c x i =
+    let memory : stops.Limit ≢ stops.NoMemory = λ is. absurd cc in
+    let went = went_nowhere l c x (Ok stops.Limit) (λ is. absurd cc) in
+    record {
       went = went;
       kept = λ keeping. (
         keeping,
-        subst
-            (λ stop. AreSaved a.keys a.batch (IsGood past honest a x) (honest x (is_planned a.keys)) (moment past a x) (moment past b y) (Ok stop) driven.1 (saved i) (saved i))
-            (sym memory)
-            (saved_broken a.keys a.batch (IsGood past honest a x) (honest x (is_planned a.keys)) (moment past a x) (moment past b y) driven.1 (saved i) went.keeps.kept few),
+        saved_none c.keys c.batch (IsGood c x) (x.honest (is_planned c.keys)) (moment c x) (moment c x) stops.Limit i.saved (kept_itself c.knowns)
+            (λ holds memory. learns c c x x stops.Limit 0 memory went holds),
       );
     }
 
-    -- where no exchange was made
-    pub carried_none : (a b : ClientState) (x y : L) (i : K) (driven : Stop × ℕ) → driven.1 ≡ 0 → Went past honest calm a b x y (Ok driven.0) driven.1
-        → Carried past honest calm keeps saved a b x y i i (Ok driven.0) 0
-    carried_none a b x y i driven none went =
-        let went_so = subst (λ n. Went past honest calm a b x y (Ok driven.0) n) none went in
-        record {
-          went = went_so;
-          kept = λ keeping. (
-            keeping,
-            saved_none a.keys a.batch (IsGood past honest a x) (honest x (is_planned a.keys)) (moment past a x) (moment past b y) driven.0 (saved i) went.keeps.kept
-                (λ holds memory. learns a b x y driven.0 0 memory went_so holds),
+pub carried_then : CarryingLaws → (a b c : ClientState) (x y z : Seen) (i j k : Kept) (result : Result Stop SaveFault) (m n : ℕ) → IsLawful a.keys
+    → Carried a b x y i j (Ok stops.Limit) m → Carried b c y z j k result n
+    → Carried a c x z i k result (m + n)
+carried_then l a b c x y z i j k result m n lawful first second =
+    let keys = first.went.keeps.keys_stay in
+    let memory : stops.Limit ≢ stops.NoMemory = λ is. absurd cc in
+    record {
+      went = went_then l a b c x y z stops.Limit result m n memory first.went second.went;
+      kept = λ keeping.
+          let before = first.kept keeping in
+          let after = second.kept before.0 in (
+            after.0,
+            saved_then l.blind a.keys a.batch (IsGood a x) (x.honest (is_planned a.keys)) (moment a x) (moment b y) (moment c z) stops.Limit result m n i.saved
+                j.saved k.saved memory
+                (λ good knowns.
+                l.known_for_good a.keys knowns y.past.objects z.past.objects lawful
+                (subst (λ ks. WentOn ks y.past z.past) keys (second.went.goes (first.went.good good))).onward)
+                before.1
+                (saved_from_start a.keys a.batch (IsGood a x) (IsGood b y) (x.honest (is_planned a.keys)) (y.honest (is_planned a.keys)) (moment b y) (moment c z) result n j.saved
+                k.saved first.went.good (λ holds. (first.went.known holds).0)
+                (subst (λ ks. AreSaved ks a.batch (IsGood b y) (y.honest (is_planned ks)) (moment b y) (moment c z) result n j.saved k.saved) keys
+                (subst (λ most. AreSaved b.keys most (IsGood b y) (y.honest (is_planned b.keys)) (moment b y) (moment c z) result n j.saved k.saved)
+                first.went.keeps.batch_stays after.1))),
           );
-        }
-
-    -- where there was no memory to begin with
-    pub carried_unbegun : CarryingLaws → (c : ClientState) (x : L) (i : K) → Carried past honest calm keeps saved c c x x i i (Ok stops.NoMemory) 0
-    carried_unbegun l c x i = record {
-      went = went_unbegun past honest calm l c x;
-      kept = λ keeping. (
-        keeping,
-        saved_broken c.keys c.batch (IsGood past honest c x) (honest x (is_planned c.keys)) (moment past c x) (moment past c x) 0 (saved i) (kept_itself c.knowns) (omega arith),
-      );
     }
 
-    pub carried_one : (a b : ClientState) (x y : L) (i j : K) (driven : Stop × ℕ) → driven.1 ≡ 1 → driven.0 ≢ stops.NoMemory
-        → (keeps i → keeps j × (saved j ≡ saved i ++ progress_text b.keys (progress b) ∷ [])) → Went past honest calm a b x y (Ok driven.0) driven.1
-        → Carried past honest calm keeps saved a b x y i j (Ok driven.0) 1
-    carried_one a b x y i j driven one memory saves went =
-        let went_so = subst (λ n. Went past honest calm a b x y (Ok driven.0) n) one went in
-        record {
-          went = went_so;
-          kept = λ keeping.
-              let so = saves keeping in (
-                so.0,
-                saved_one a.keys a.batch (IsGood past honest a x) (honest x (is_planned a.keys)) (moment past a x) (moment past b y) driven.0 (saved i) (saved j) went.keeps.kept
-                    (learns a b x y driven.0 1 memory went_so)
-                    (subst (λ ks. saved j ≡ saved i ++ progress_text ks (progress b) ∷ []) went.keeps.keys_stay so.1)
-                    (λ good. subst (λ ks. Held (past y).objects ks b.knowns) went.keeps.keys_stay (went.good good).held),
-              );
-        }
+-- so many were made, and after the last of them some key is worked on still
+pub record Carrying (a b : ClientState) (x y : Seen) (i j : Kept) (made : ℕ) : Type 0 where
+  pub carried : Carried a b x y i j (Ok stops.Limit) made
+  pub works : 0 < made → SomeWorks b.keys b.knowns
 
-    pub carried_not : (a b : ClientState) (x y : L) (i j : K) (driven : Stop × ℕ) (fault : SaveFault) → driven.1 ≡ 1 → driven.0 ≢ stops.NoMemory
-        → (keeps i → keeps j × (saved j ≡ saved i)) → Went past honest calm a b x y (Ok driven.0) driven.1
-        → Carried past honest calm keeps saved a b x y i j (Err fault) 1
-    carried_not a b x y i j driven fault one memory saves went =
-        let went_so = subst (λ n. Went past honest calm a b x y (Ok driven.0) n) one went in
-        record {
-          went = failed a b x y driven.0 fault 1 memory went_so;
-          kept = λ keeping.
-              let so = saves keeping in (
-                so.0,
-                saved_not a.keys a.batch (IsGood past honest a x) (honest x (is_planned a.keys)) (moment past a x) (moment past b y) fault (saved i) (saved j) went.keeps.kept
-                    (learns a b x y driven.0 1 memory went_so) so.1,
-              );
-        }
+pub carrying_none : CarryingLaws → (c : ClientState) (x : Seen) (i : Kept) → Carrying c c x x i i 0
+carrying_none l c x i = record { carried = carried_itself l c x i; works = λ positive. absurd (omega (arith, positive)) }
 
-    -- ---- several exchanges
+pub carrying_more : CarryingLaws → (a b c : ClientState) (x y z : Seen) (i j k : Kept) (result : Result Stop SaveFault) (m n : ℕ) → IsLawful a.keys → Carrying a b x y i j m
+    → Carried b c y z j k result n → result ≡ Ok stops.Limit → n ≡ 1 → IfOk result (λ stop. Stands stop c.keys c.knowns)
+    → Carrying a c x z i k (m + 1)
+carrying_more l a b c x y z i j k result m n lawful before step limit one stands =
+    let joined = carried_then l a b c x y z i j k result m n lawful before.carried step in record {
+      carried = subst (λ r. Carried a c x z i k r (m + 1)) limit
+          (subst (λ n. Carried a c x z i k result (m + n)) one joined);
+      works = λ positive. subst (λ r. IfOk r (λ stop. Stands stop c.keys c.knowns)) limit stands;
+    }
 
-    carried_itself : CarryingLaws → (c : ClientState) (x : L) (i : K) → Carried past honest calm keeps saved c c x x i i (Ok stops.Limit) 0
-    carried_itself l c x i =
-        let memory : stops.Limit ≢ stops.NoMemory = λ is. absurd cc in
-        let went = went_nowhere past honest calm l c x (Ok stops.Limit) (λ is. absurd cc) in
-        record {
-          went = went;
-          kept = λ keeping. (
-            keeping,
-            saved_none c.keys c.batch (IsGood past honest c x) (honest x (is_planned c.keys)) (moment past c x) (moment past c x) stops.Limit (saved i) (kept_itself c.knowns)
-                (λ holds memory. learns c c x x stops.Limit 0 memory went holds),
+-- and the end of the run
+pub carried_closed : {V E : Type 0} → CarryingLaws → (a b : ClientState) (x y z : Seen) (i j : Kept) (result ended : Result Stop SaveFault) (closed : Result V E) (m : ℕ)
+    → IsLawful a.keys → ((names : Names) → y.honest names → z.honest names × Delivered names y.past z.past)
+    → ((names : Names) → y.calm names → z.calm names × OnOk closed (z.past ≡ y.past)) → OnOk closed (ended ≡ result)
+    → OnErr closed (OnOk result (ended ≡ Ok stops.NoMemory)) → OnErr result (ended ≡ result)
+    → Carried a b x y i j result m → Carried a b x z i j ended m
+carried_closed l a b x y z i j result ended closed m lawful delivers calms same stop fault first =
+    let memory = memory_before closed result ended same stop fault in
+    let whole = whole_before {P = z.past ≡ y.past} closed result ended same stop fault in
+    record {
+      went = went_closed l a b x y z result ended closed m lawful delivers calms memory (λ is. cut_before closed result ended same stop fault is) whole first.went;
+      kept = λ keeping.
+          let before = first.kept keeping in (
+            before.0,
+            saved_closed l.blind a.keys a.batch (IsGood a x) (x.honest (is_planned a.keys)) (moment a x) (moment b y) (moment b z) result ended m i.saved j.saved
+                refl
+                (λ holds.
+                learnt_delivered l.requests a.keys a.batch (is_planned a.keys) y.past z.past b.knowns
+                (delivers (is_planned a.keys) (first.went.known holds).0).1)
+                (still_unsaved closed result ended same stop fault) memory (λ done. (whole done).0)
+                (λ good knowns.
+                l.known_for_good a.keys knowns y.past.objects z.past.objects lawful
+                (l.onward a.keys y.past z.past (subst (λ ks. Sound ks y.past) first.went.keeps.keys_stay (first.went.good good).sound)
+                (delivers (is_planned a.keys)
+                (subst (λ ks. y.honest (is_planned ks)) first.went.keeps.keys_stay (first.went.good good).honest_for)).1))
+                before.1,
           );
-        }
-
-    pub carried_then : CarryingLaws → (a b c : ClientState) (x y z : L) (i j k : K) (result : Result Stop SaveFault) (m n : ℕ) → IsLawful a.keys
-        → Carried past honest calm keeps saved a b x y i j (Ok stops.Limit) m → Carried past honest calm keeps saved b c y z j k result n
-        → Carried past honest calm keeps saved a c x z i k result (m + n)
-    carried_then l a b c x y z i j k result m n lawful first second =
-        let keys = first.went.keeps.keys_stay in
-        let memory : stops.Limit ≢ stops.NoMemory = λ is. absurd cc in
-        record {
-          went = went_then past honest calm l a b c x y z stops.Limit result m n memory first.went second.went;
-          kept = λ keeping.
-              let before = first.kept keeping in
-              let after = second.kept before.0 in (
-                after.0,
-                saved_then l.blind a.keys a.batch (IsGood past honest a x) (honest x (is_planned a.keys)) (moment past a x) (moment past b y) (moment past c z) stops.Limit result m n (saved i)
-                    (saved j) (saved k) memory
-                    (λ good knowns.
-                    l.known_for_good a.keys knowns (past y).objects (past z).objects lawful
-                    (subst (λ ks. WentOn ks (past y) (past z)) keys (second.went.goes (first.went.good good))).onward)
-                    before.1
-                    (saved_from_start a.keys a.batch (IsGood past honest a x) (IsGood past honest b y) (honest x (is_planned a.keys)) (honest y (is_planned a.keys)) (moment past b y) (moment past c z) result n (saved j)
-                    (saved k) first.went.good (λ holds. (first.went.known holds).0)
-                    (subst (λ ks. AreSaved ks a.batch (IsGood past honest b y) (honest y (is_planned ks)) (moment past b y) (moment past c z) result n (saved j) (saved k)) keys
-                    (subst (λ most. AreSaved b.keys most (IsGood past honest b y) (honest y (is_planned b.keys)) (moment past b y) (moment past c z) result n (saved j) (saved k))
-                    first.went.keeps.batch_stays after.1))),
-              );
-        }
-
-    -- so many were made, and after the last of them some key is worked on still
-    pub record Carrying (a b : ClientState) (x y : L) (i j : K) (made : ℕ) : Type 0 where
-      pub carried : Carried past honest calm keeps saved a b x y i j (Ok stops.Limit) made
-      pub works : 0 < made → SomeWorks b.keys b.knowns
-
-    pub carrying_none : CarryingLaws → (c : ClientState) (x : L) (i : K) → Carrying c c x x i i 0
-    carrying_none l c x i = record { carried = carried_itself l c x i; works = λ positive. absurd (omega (arith, positive)) }
-
-    pub carrying_more : CarryingLaws → (a b c : ClientState) (x y z : L) (i j k : K) (result : Result Stop SaveFault) (m n : ℕ) → IsLawful a.keys → Carrying a b x y i j m
-        → Carried past honest calm keeps saved b c y z j k result n → result ≡ Ok stops.Limit → n ≡ 1 → IfOk result (λ stop. Stands stop c.keys c.knowns)
-        → Carrying a c x z i k (m + 1)
-    carrying_more l a b c x y z i j k result m n lawful before step limit one stands =
-        let joined = carried_then l a b c x y z i j k result m n lawful before.carried step in record {
-          carried = subst (λ r. Carried past honest calm keeps saved a c x z i k r (m + 1)) limit
-              (subst (λ n. Carried past honest calm keeps saved a c x z i k result (m + n)) one joined);
-          works = λ positive. subst (λ r. IfOk r (λ stop. Stands stop c.keys c.knowns)) limit stands;
-        }
-
-    -- and the end of the run
-    pub carried_closed : {V E : Type 0} → CarryingLaws → (a b : ClientState) (x y z : L) (i j : K) (result ended : Result Stop SaveFault) (closed : Result V E) (m : ℕ)
-        → IsLawful a.keys → ((names : Names) → honest y names → honest z names × Delivered names (past y) (past z))
-        → ((names : Names) → calm y names → calm z names × OnOk closed (past z ≡ past y)) → OnOk closed (ended ≡ result)
-        → OnErr closed (OnOk result (ended ≡ Ok stops.NoMemory)) → OnErr result (ended ≡ result)
-        → Carried past honest calm keeps saved a b x y i j result m → Carried past honest calm keeps saved a b x z i j ended m
-    carried_closed l a b x y z i j result ended closed m lawful delivers calms same stop fault first =
-        let memory = memory_before closed result ended same stop fault in
-        let whole = whole_before {P = past z ≡ past y} closed result ended same stop fault in
-        record {
-          went = went_closed past honest calm l a b x y z result ended closed m lawful delivers calms memory (λ is. cut_before closed result ended same stop fault is) whole first.went;
-          kept = λ keeping.
-              let before = first.kept keeping in (
-                before.0,
-                saved_closed l.blind a.keys a.batch (IsGood past honest a x) (honest x (is_planned a.keys)) (moment past a x) (moment past b y) (moment past b z) result ended m (saved i) (saved j)
-                    refl
-                    (λ holds.
-                    learnt_delivered l.requests a.keys a.batch (is_planned a.keys) (past y) (past z) b.knowns
-                    (delivers (is_planned a.keys) (first.went.known holds).0).1)
-                    (still_unsaved closed result ended same stop fault) memory (λ done. (whole done).0)
-                    (λ good knowns.
-                    l.known_for_good a.keys knowns (past y).objects (past z).objects lawful
-                    (l.onward a.keys (past y) (past z) (subst (λ ks. Sound ks (past y)) first.went.keeps.keys_stay (first.went.good good).sound)
-                    (delivers (is_planned a.keys)
-                    (subst (λ ks. honest y (is_planned ks)) first.went.keeps.keys_stay (first.went.good good).honest_for)).1))
-                    before.1,
-              );
-        }
+    }
 
 -- ---- how it ends
 
@@ -326,42 +321,41 @@ pub unless_given_up : (result : Result Stop SaveFault) (made limit : ℕ) (tired
     → tired ≡ false → result ≡ Ok stops.Limit → made ≡ limit
 unless_given_up result made limit tired at fresh is = elim (at is) [ inl all ↦ all | inr gave ↦ absurd cc ]
 
-module _ {L : Type 0} (past : L → Past) (honest calm : L → Names → Type 0) where
-  -- over a calm link, with as many exchanges as the plan is bounded by, all keys are finished
-  settled_stop : CarryingLaws → (a b : ClientState) (x y : L) (stop : Stop) (made limit : ℕ) → IsLawful a.keys → IsSettling past calm a x
-      → Nearer past calm a b x y made → stop ≢ stops.NoMemory → Stands stop b.keys b.knowns → (stop ≡ stops.Limit → made ≡ limit) → bound a.keys ≤ limit
-      → (stop ≡ stops.AllFinished) × (made ≤ need a (past x)) × (AsksOne a → made ≡ need a (past x)) × (made ≤ bound a.keys)
-  settled_stop l a b x y stops.AllFinished made limit lawful first near memory stands at enough =
-      let held = near.settling.ready.held in
-      let few = l.bounded (past x).room a.keys (past x).objects a.knowns lawful first.ready in
-      let nothing = l.needed b.keys (past y).objects b.knowns held (finished_settled (past y).objects b.keys b.knowns held stands) in
-      let sum = near.nearer in
-      (refl, omega (arith, sum), λ one. omega (arith, near.exactly one, nothing), omega (arith, sum, few))
-  settled_stop l a b x y stops.Limit made limit lawful first near memory stands at enough =
-      let few = l.bounded (past x).room a.keys (past x).objects a.knowns lawful first.ready in
-      let all = at refl in
-      let sum = near.nearer in
-      let nothing : need b (past y) ≡ 0 = omega (arith, sum, few, enough, all) in
-      let both : Working ≡ Finished = sym stands.2 ∙ l.needless b.keys (past y).objects b.knowns near.settling.ready.held nothing stands.0 stands.1 in
-      absurd cc
-  settled_stop l a b x y stops.Conflict made limit lawful first near memory stands at enough =
-      let clash = stands.1 in
-      absurd (l.no_conflict (past y).objects b.keys b.knowns near.settling.ready.held clash.0 clash.1 clash.3)
-  settled_stop l a b x y stops.NoMemory made limit lawful first near memory stands at enough = absurd (memory refl)
+-- over a calm link, with as many exchanges as the plan is bounded by, all keys are finished
+settled_stop : CarryingLaws → (a b : ClientState) (x y : Seen) (stop : Stop) (made limit : ℕ) → IsLawful a.keys → IsSettling a x
+    → Nearer a b x y made → stop ≢ stops.NoMemory → Stands stop b.keys b.knowns → (stop ≡ stops.Limit → made ≡ limit) → bound a.keys ≤ limit
+    → (stop ≡ stops.AllFinished) × (made ≤ need a x.past) × (AsksOne a → made ≡ need a x.past) × (made ≤ bound a.keys)
+settled_stop l a b x y stops.AllFinished made limit lawful first near memory stands at enough =
+    let held = near.settling.ready.held in
+    let few = l.bounded x.past.room a.keys x.past.objects a.knowns lawful first.ready in
+    let nothing = l.needed b.keys y.past.objects b.knowns held (finished_settled y.past.objects b.keys b.knowns held stands) in
+    let sum = near.nearer in
+    (refl, omega (arith, sum), λ one. omega (arith, near.exactly one, nothing), omega (arith, sum, few))
+settled_stop l a b x y stops.Limit made limit lawful first near memory stands at enough =
+    let few = l.bounded x.past.room a.keys x.past.objects a.knowns lawful first.ready in
+    let all = at refl in
+    let sum = near.nearer in
+    let nothing : need b y.past ≡ 0 = omega (arith, sum, few, enough, all) in
+    let both : Working ≡ Finished = sym stands.2 ∙ l.needless b.keys y.past.objects b.knowns near.settling.ready.held nothing stands.0 stands.1 in
+    absurd cc
+settled_stop l a b x y stops.Conflict made limit lawful first near memory stands at enough =
+    let clash = stands.1 in
+    absurd (l.no_conflict y.past.objects b.keys b.knowns near.settling.ready.held clash.0 clash.1 clash.3)
+settled_stop l a b x y stops.NoMemory made limit lawful first near memory stands at enough = absurd (memory refl)
 
-  pub settled_end : CarryingLaws → (a b : ClientState) (x y : L) (result : Result Stop SaveFault) (made limit : ℕ) → IsLawful a.keys
-      → Went past honest calm a b x y result made → IfOk result (λ stop. Stands stop b.keys b.knowns) → (result ≡ Ok stops.Limit → made ≡ limit)
-      → IsSettling past calm a x → bound a.keys ≤ limit → IsWhole result → (result ≡ Ok stops.AllFinished) × (made ≤ need a (past x))
-      × (AsksOne a → made ≡ need a (past x)) × (made ≤ bound a.keys)
-  settled_end l a b x y (Err fault) made limit lawful went stands at settling enough whole = absurd whole
-  settled_end l a b x y (Ok stop) made limit lawful went stands at settling enough whole =
-      let near = went.near settling whole in
-      let end = settled_stop l a b x y stop made limit lawful settling near whole stands (λ is. at (ap Ok is)) enough in
-      (ap Ok end.0, end.1, end.2, end.3)
+pub settled_end : CarryingLaws → (a b : ClientState) (x y : Seen) (result : Result Stop SaveFault) (made limit : ℕ) → IsLawful a.keys
+    → Went a b x y result made → IfOk result (λ stop. Stands stop b.keys b.knowns) → (result ≡ Ok stops.Limit → made ≡ limit)
+    → IsSettling a x → bound a.keys ≤ limit → IsWhole result → (result ≡ Ok stops.AllFinished) × (made ≤ need a x.past)
+    × (AsksOne a → made ≡ need a x.past) × (made ≤ bound a.keys)
+settled_end l a b x y (Err fault) made limit lawful went stands at settling enough whole = absurd whole
+settled_end l a b x y (Ok stop) made limit lawful went stands at settling enough whole =
+    let near = went.near settling whole in
+    let end = settled_stop l a b x y stop made limit lawful settling near whole stands (λ is. at (ap Ok is)) enough in
+    (ap Ok end.0, end.1, end.2, end.3)
 
-  -- what is true is in no conflict
-  pub good_end : CarryingLaws → (a b : ClientState) (x y : L) (result : Result Stop SaveFault) (made : ℕ) → Went past honest calm a b x y result made
-      → IfOk result (λ stop. Stands stop b.keys b.knowns) → IsGood past honest a x → result ≢ Ok stops.Conflict
-  good_end l a b x y result made went stands good = λ is.
-      let clash = (subst (λ r. IfOk r (λ stop. Stands stop b.keys b.knowns)) is stands).1 in
-      l.no_conflict (past y).objects b.keys b.knowns (went.good good).held clash.0 clash.1 clash.3
+-- what is true is in no conflict
+pub good_end : CarryingLaws → (a b : ClientState) (x y : Seen) (result : Result Stop SaveFault) (made : ℕ) → Went a b x y result made
+    → IfOk result (λ stop. Stands stop b.keys b.knowns) → IsGood a x → result ≢ Ok stops.Conflict
+good_end l a b x y result made went stands good = λ is.
+    let clash = (subst (λ r. IfOk r (λ stop. Stands stop b.keys b.knowns)) is stands).1 in
+    l.no_conflict y.past.objects b.keys b.knowns (went.good good).held clash.0 clash.1 clash.3

@@ -6,6 +6,7 @@ use Rattle.kmip_client.specs.declared.verdict.Verdict.TheVariants.{Working, Fini
 use Rattle.kmip_protocol.specs.Clean.{Disturbances}
 use Rattle.kmip_protocol.specs.Moves.{Delivered}
 use Rattle.kmip_protocol.specs.Past.{Names, Past, is_planned}
+use Rattle.kmip_protocol.specs.Seen.{Seen}
 use Rattle.kmip_protocol.specs.Needs.{need_all}
 use Rattle.kmip_runs.specs.Driving.{IsGood, Stands}
 use Rattle.kmip_runs.specs.Losing.{ArePaid, IsEnough, cost, left_for}
@@ -24,47 +25,46 @@ limit_in_memory result limit = λ is. let both = stop_is stops.Limit stops.NoMem
 pub paid_none : (left : ℕ) (d : Disturbances) → ArePaid 0 left left d d
 paid_none left d = omega arith
 
-module _ {L : Type 0} (past : L → Past) (honest : L → Names → Type 0) (counts : L → Disturbances) where
-  -- what arrives at the end of a run costs nothing
-  pub paid_closed : CarryingLaws → (b : ClientState) (y z : L) (made before : ℕ) (d : Disturbances) → IsLawful b.keys → IsGood past honest b y
-      → ((names : Names) → honest y names → honest z names × Delivered names (past y) (past z))
-      → ((names : Names) → honest y names → counts z ≡ counts y) → ArePaid made before (left_for b (past y)) d (counts y)
-      → ArePaid made before (left_for b (past z)) d (counts z)
-  paid_closed l b y z made before d lawful good delivers same paid =
-      let names = is_planned b.keys in
-      let fewer = l.late b.keys (past y) (past z) b.knowns lawful good.sound good.held (delivers names good.honest_for).1 in
-      let even = ap cost (same names good.honest_for) in
-      omega (arith, paid, fewer, even)
+-- what arrives at the end of a run costs nothing
+pub paid_closed : CarryingLaws → (b : ClientState) (y z : Seen) (made before : ℕ) (d : Disturbances) → IsLawful b.keys → IsGood b y
+    → ((names : Names) → y.honest names → z.honest names × Delivered names y.past z.past)
+    → ((names : Names) → y.honest names → z.disturbances ≡ y.disturbances) → ArePaid made before (left_for b y.past) d y.disturbances
+    → ArePaid made before (left_for b z.past) d z.disturbances
+paid_closed l b y z made before d lawful good delivers same paid =
+    let names = is_planned b.keys in
+    let fewer = l.late b.keys y.past z.past b.knowns lawful good.sound good.held (delivers names good.honest_for).1 in
+    let even = ap cost (same names good.honest_for) in
+    omega (arith, paid, fewer, even)
 
-  -- where as many exchanges were made as a plan may take, and as the disturbed ones cost, no key is worked on
-  spent : CarryingLaws → (a b : ClientState) (x y : L) (limit : ℕ) → {P : Type 0} → IsLawful a.keys → IsGood past honest a x → IsGood past honest b y
-      → ArePaid limit (left_for a (past x)) (left_for b (past y)) (counts x) (counts y) → IsEnough a.keys limit (counts x) (counts y)
-      → SomeWorks b.keys b.knowns → P
-  spent l a b x y limit lawful good still paid enough works =
-      let most = l.left_bounded a.keys (past x) a.knowns lawful good.sound good.held in
-      let needs = l.needs_left b.keys (past y) b.knowns in
-      let nothing : need_all b.keys b.knowns (past y).objects ≡ 0 = omega (arith, paid, enough, most, needs) in
-      let both : Working ≡ Finished = sym works.2 ∙ l.needless b.keys (past y).objects b.knowns still.held nothing works.0 works.1 in
-      absurd cc
+-- where as many exchanges were made as a plan may take, and as the disturbed ones cost, no key is worked on
+spent : CarryingLaws → (a b : ClientState) (x y : Seen) (limit : ℕ) → {P : Type 0} → IsLawful a.keys → IsGood a x → IsGood b y
+    → ArePaid limit (left_for a x.past) (left_for b y.past) x.disturbances y.disturbances → IsEnough a.keys limit x.disturbances y.disturbances
+    → SomeWorks b.keys b.knowns → P
+spent l a b x y limit lawful good still paid enough works =
+    let most = l.left_bounded a.keys x.past a.knowns lawful good.sound good.held in
+    let needs = l.needs_left b.keys y.past b.knowns in
+    let nothing : need_all b.keys b.knowns y.past.objects ≡ 0 = omega (arith, paid, enough, most, needs) in
+    let both : Working ≡ Finished = sym works.2 ∙ l.needless b.keys y.past.objects b.knowns still.held nothing works.0 works.1 in
+    absurd cc
 
-  outlasted_stop : CarryingLaws → (a b : ClientState) (x y : L) (stop : Stop) (made limit : ℕ) → IsLawful a.keys → IsGood past honest a x
-      → IsGood past honest b y → ArePaid made (left_for a (past x)) (left_for b (past y)) (counts x) (counts y) → stop ≢ stops.NoMemory
-      → Stands stop b.keys b.knowns → (stop ≡ stops.Limit → made ≡ limit) → IsEnough a.keys limit (counts x) (counts y) → stop ≡ stops.AllFinished
-  outlasted_stop l a b x y stops.AllFinished made limit lawful good still paid memory stands at enough = refl
-  outlasted_stop l a b x y stops.Limit made limit lawful good still paid memory stands at enough =
-      spent l a b x y limit lawful good still
-      (subst (λ n. ArePaid n (left_for a (past x)) (left_for b (past y)) (counts x) (counts y)) (at refl) paid) enough stands
-  outlasted_stop l a b x y stops.Conflict made limit lawful good still paid memory stands at enough =
-      let clash = stands.1 in
-      absurd (l.no_conflict (past y).objects b.keys b.knowns still.held clash.0 clash.1 clash.3)
-  outlasted_stop l a b x y stops.NoMemory made limit lawful good still paid memory stands at enough = absurd (memory refl)
+outlasted_stop : CarryingLaws → (a b : ClientState) (x y : Seen) (stop : Stop) (made limit : ℕ) → IsLawful a.keys → IsGood a x
+    → IsGood b y → ArePaid made (left_for a x.past) (left_for b y.past) x.disturbances y.disturbances → stop ≢ stops.NoMemory
+    → Stands stop b.keys b.knowns → (stop ≡ stops.Limit → made ≡ limit) → IsEnough a.keys limit x.disturbances y.disturbances → stop ≡ stops.AllFinished
+outlasted_stop l a b x y stops.AllFinished made limit lawful good still paid memory stands at enough = refl
+outlasted_stop l a b x y stops.Limit made limit lawful good still paid memory stands at enough =
+    spent l a b x y limit lawful good still
+    (subst (λ n. ArePaid n (left_for a x.past) (left_for b y.past) x.disturbances y.disturbances) (at refl) paid) enough stands
+outlasted_stop l a b x y stops.Conflict made limit lawful good still paid memory stands at enough =
+    let clash = stands.1 in
+    absurd (l.no_conflict y.past.objects b.keys b.knowns still.held clash.0 clash.1 clash.3)
+outlasted_stop l a b x y stops.NoMemory made limit lawful good still paid memory stands at enough = absurd (memory refl)
 
-  -- a run that may make enough exchanges finishes every key
-  pub outlasted : CarryingLaws → (a b : ClientState) (x y : L) (result : Result Stop SaveFault) (made limit : ℕ) → IsLawful a.keys → IsGood past honest a x
-      → IsGood past honest b y → (IsInMemory result → ArePaid made (left_for a (past x)) (left_for b (past y)) (counts x) (counts y))
-      → IfOk result (λ stop. Stands stop b.keys b.knowns) → (result ≡ Ok stops.Limit → made ≡ limit) → IsWhole result
-      → IsEnough a.keys limit (counts x) (counts y) → result ≡ Ok stops.AllFinished
-  outlasted l a b x y (Err fault) made limit lawful good still paid stands at whole enough = absurd whole
-  outlasted l a b x y (Ok stop) made limit lawful good still paid stands at whole enough =
-      ap Ok
-      (outlasted_stop l a b x y stop made limit lawful good still (paid (in_memory (Ok stop) whole)) whole stands (λ is. at (ap Ok is)) enough)
+-- a run that may make enough exchanges finishes every key
+pub outlasted : CarryingLaws → (a b : ClientState) (x y : Seen) (result : Result Stop SaveFault) (made limit : ℕ) → IsLawful a.keys → IsGood a x
+    → IsGood b y → (IsInMemory result → ArePaid made (left_for a x.past) (left_for b y.past) x.disturbances y.disturbances)
+    → IfOk result (λ stop. Stands stop b.keys b.knowns) → (result ≡ Ok stops.Limit → made ≡ limit) → IsWhole result
+    → IsEnough a.keys limit x.disturbances y.disturbances → result ≡ Ok stops.AllFinished
+outlasted l a b x y (Err fault) made limit lawful good still paid stands at whole enough = absurd whole
+outlasted l a b x y (Ok stop) made limit lawful good still paid stands at whole enough =
+    ap Ok
+    (outlasted_stop l a b x y stop made limit lawful good still (paid (in_memory (Ok stop) whole)) whole stands (λ is. at (ap Ok is)) enough)

@@ -16,6 +16,7 @@ use Rattle.kmip_client.specs.declared.clash.Clash.{Clash}
 use Rattle.kmip_client.specs.declared.knowledge.Knowledge.{Knowledge}
 use Rattle.kmip_client.specs.declared.verdict.Verdict.TheVariants.{Finished}
 use Rattle.kmip_protocol.specs.Past.{Names, Past}
+use Rattle.kmip_protocol.specs.Seen.{Seen}
 use Rattle.kmip_protocol.specs.Needs.{chains_and_looks, need_all}
 use Rattle.kmip_protocol.specs.Ready.{IsReady}
 use Rattle.kmip_runs.specs.Driving.{AreFinished, AsksOne, IsComplete, IsSettling, IsUntouched, need}
@@ -81,27 +82,26 @@ complete l keys objects knowns lawful held finished = record {
   verdicts = full_verdicts objects keys knowns held finished;
 }
 
-module _ {L : Type 0} (past : L → Past) (calm : L → Names → Type 0) where
-  -- where nothing was made and nothing is known, a client is ready, and needs all chains and a look a key
-  pub untouched_settles : Lawbook → (c : ClientState) (x : L) → IsLawful c.keys → IsUntouched past calm c x
-      → IsSettling past calm c x × (need c (past x) ≡ chains_and_looks c.keys)
-  untouched_settles l c x lawful start = (
-    record {
-      calm_for = start.calm_for;
-      ready = subst (λ (s : ClientState). IsReady (past x).room c.keys (past x).objects s.knowns) (sym start.fresh_is)
-          (l.untouched c.keys (past x).room (past x).objects lawful start.none_made start.roomy);
-    },
-    ap (λ (s : ClientState). need_all c.keys s.knowns (past x).objects) start.fresh_is ∙ l.chains c.keys (past x).objects lawful start.none_made,
-  )
+-- where nothing was made and nothing is known, a client is ready, and needs all chains and a look a key
+pub untouched_settles : Lawbook → (c : ClientState) (x : Seen) → IsLawful c.keys → IsUntouched c x
+    → IsSettling c x × (need c x.past ≡ chains_and_looks c.keys)
+untouched_settles l c x lawful start = (
+  record {
+    calm_for = start.calm_for;
+    ready = subst (λ (s : ClientState). IsReady x.past.room c.keys x.past.objects s.knowns) (sym start.fresh_is)
+        (l.untouched c.keys x.past.room x.past.objects lawful start.none_made start.roomy);
+  },
+  ap (λ (s : ClientState). need_all c.keys s.knowns x.past.objects) start.fresh_is ∙ l.chains c.keys x.past.objects lawful start.none_made,
+)
 
-  pub completed : Lawbook → (c next : ClientState) (x y : L) (made : ℕ) → IsLawful c.keys → IsUntouched past calm c x → IsSettling past calm next y
-      → next.keys ≡ c.keys → made ≤ need c (past x) → (AsksOne c → made ≡ need c (past x)) → AreFinished next.keys next.knowns
-      → (made ≤ chains_and_looks c.keys) × (AsksOne c → made ≡ chains_and_looks c.keys) × IsComplete c.keys (past y).objects next.knowns
-  completed l c next x y made lawful start settling keys few exactly finished =
-      let chains = (untouched_settles l c x lawful start).1 in (
-        omega (arith, few, chains),
-        λ one. exactly one ∙ chains,
-        complete l c.keys (past y).objects next.knowns lawful
-            (subst (λ ks. Held (past y).objects ks next.knowns) keys settling.ready.held)
-            (subst (λ ks. AreFinished ks next.knowns) keys finished),
-      )
+pub completed : Lawbook → (c next : ClientState) (x y : Seen) (made : ℕ) → IsLawful c.keys → IsUntouched c x → IsSettling next y
+    → next.keys ≡ c.keys → made ≤ need c x.past → (AsksOne c → made ≡ need c x.past) → AreFinished next.keys next.knowns
+    → (made ≤ chains_and_looks c.keys) × (AsksOne c → made ≡ chains_and_looks c.keys) × IsComplete c.keys y.past.objects next.knowns
+completed l c next x y made lawful start settling keys few exactly finished =
+    let chains = (untouched_settles l c x lawful start).1 in (
+      omega (arith, few, chains),
+      λ one. exactly one ∙ chains,
+      complete l c.keys y.past.objects next.knowns lawful
+          (subst (λ ks. Held y.past.objects ks next.knowns) keys settling.ready.held)
+          (subst (λ ks. AreFinished ks next.knowns) keys finished),
+    )

@@ -6,6 +6,7 @@ use Rattle.kmip_client.specs.Clients.{AreSettled, ClientState}
 use Rattle.kmip_client.specs.Known.{facts}
 use Rattle.kmip_client.specs.declared.knowledge.Knowledge.{Knowledge}
 use Rattle.kmip_protocol.specs.Past.{Names, Past, is_planned}
+use Rattle.kmip_protocol.specs.Seen.{Seen}
 use Rattle.kmip_runs.specs.Driving.{AsksOne, Grown, IsGood, IsSettling, IsUnheard, IsUnmade, Keeps, KeepsFurther, Learnt, LearntUntil, Nearer, SomeClash, Stands, WentOn}
 use Rattle.kmip_runs.specs.Private.{IsBrokenOff}
 use Rattle.kmip_runs.specs.PrivateLawbook.{Lawbook}
@@ -35,108 +36,107 @@ breaks_off : (keys : List Key) (most : ℕ) (old new : Past) (heard : ℕ) (faul
 breaks_off keys most old new heard Unmade off = inl (omega arith, off)
 breaks_off keys most old new heard Unheard off = inr (refl, off)
 
-module _ {L : Type 0} (past : L → Past) (honest calm : L → Names → Type 0) where
-  -- after so many exchanges
-  pub record Driven (first now : ClientState) (start link : L) (made : ℕ) : Type 0 where
-    pub good : IsGood past honest first start → IsGood past honest now link
-    pub goes : IsGood past honest first start → WentOn first.keys (past start) (past link)
-    pub known : honest start (is_planned first.keys)
-        → honest link (is_planned first.keys) × Learnt first.keys first.batch (past start) (past link) first.knowns now.knowns made
-    pub grown : honest start (is_planned first.keys) → Grown (past start) (past link)
-    pub keeps : Keeps first now
-    pub near : IsSettling past calm first start → Nearer past calm first now start link made
-    pub honest_still : (names : Names) → honest start names → honest link names
-    pub further : IsGood past honest first start → KeepsFurther past honest calm first.keys ⊤ start link
+-- after so many exchanges
+pub record Driven (first now : ClientState) (start link : Seen) (made : ℕ) : Type 0 where
+  pub good : IsGood first start → IsGood now link
+  pub goes : IsGood first start → WentOn first.keys start.past link.past
+  pub known : start.honest (is_planned first.keys)
+      → link.honest (is_planned first.keys) × Learnt first.keys first.batch start.past link.past first.knowns now.knowns made
+  pub grown : start.honest (is_planned first.keys) → Grown start.past link.past
+  pub keeps : Keeps first now
+  pub near : IsSettling first start → Nearer first now start link made
+  pub honest_still : (names : Names) → start.honest names → link.honest names
+  pub further : IsGood first start → KeepsFurther first.keys ⊤ start link
 
-  pub driven_none : Lawbook → (c : ClientState) (link : L) → Driven c c link link 0
-  driven_none l c link = record {
-    good = λ good. good;
-    goes = λ good. went_nowhere l c.keys (past link);
-    known = λ holds. (holds, learnt_nothing c.keys c.batch (past link) c.knowns);
-    grown = λ holds. grown_itself (past link);
-    keeps = keeps_itself c;
-    near = nearer_none past calm c link;
-    honest_still = λ names holds. holds;
-    further = λ good. further_nowhere past honest calm l.itself c.keys link ⊤;
-  }
+pub driven_none : Lawbook → (c : ClientState) (link : Seen) → Driven c c link link 0
+driven_none l c link = record {
+  good = λ good. good;
+  goes = λ good. went_nowhere l c.keys link.past;
+  known = λ holds. (holds, learnt_nothing c.keys c.batch link.past c.knowns);
+  grown = λ holds. grown_itself link.past;
+  keeps = keeps_itself c;
+  near = nearer_none c link;
+  honest_still = λ names holds. holds;
+  further = λ good. further_nowhere l.itself c.keys link ⊤;
+}
 
-  -- what is kept for a plan that prolongs the client's, by one more turn
-  pub further_last : Lawbook → (a b c : ClientState) (x y z : L) (m : ℕ) (whole : Type 0) → Driven a b x y m
-      → (IsGood past honest b y → KeepsFurther past honest calm b.keys whole y z) → IsGood past honest a x → KeepsFurther past honest calm a.keys whole x z
-  further_last l a b c x y z m whole first last good =
-      further_then past honest calm l.twice a.keys x y z ⊤ whole (λ is. tt) (first.further good)
-      (subst (λ ks. KeepsFurther past honest calm ks whole y z) first.keeps.keys_stay (last (first.good good)))
+-- what is kept for a plan that prolongs the client's, by one more turn
+pub further_last : Lawbook → (a b c : ClientState) (x y z : Seen) (m : ℕ) (whole : Type 0) → Driven a b x y m
+    → (IsGood b y → KeepsFurther b.keys whole y z) → IsGood a x → KeepsFurther a.keys whole x z
+further_last l a b c x y z m whole first last good =
+    further_then l.twice a.keys x y z ⊤ whole (λ is. tt) (first.further good)
+    (subst (λ ks. KeepsFurther ks whole y z) first.keeps.keys_stay (last (first.good good)))
 
-  -- where the turns were broken off, nothing is said of a calm link
-  pub further_if : (keys : List Key) (x y : L) (whole other : Type 0) → (other → whole) → KeepsFurther past honest calm keys whole x y
-      → KeepsFurther past honest calm keys other x y
-  further_if keys x y whole other to kept = record { good = kept.good; calmly = λ is. kept.calmly (to is) }
+-- where the turns were broken off, nothing is said of a calm link
+pub further_if : (keys : List Key) (x y : Seen) (whole other : Type 0) → (other → whole) → KeepsFurther keys whole x y
+    → KeepsFurther keys other x y
+further_if keys x y whole other to kept = record { good = kept.good; calmly = λ is. kept.calmly (to is) }
 
-  -- and one more turn, that asked or did not
-  pub driven_then : Lawbook → (a b c : ClientState) (x y z : L) (m n : ℕ) → Driven a b x y m → Driven b c y z n → Driven a c x z (m + n)
-  driven_then l a b c x y z m n first second = record {
-    good = λ good. second.good (first.good good);
-    goes = λ good. went_then l a.keys (past x) (past y) (past z) (first.goes good) (subst (λ ks. WentOn ks (past y) (past z)) first.keeps.keys_stay (second.goes (first.good good)));
-    known = λ holds.
-        let before = first.known holds in
-        let after = second.known (subst (λ ks. honest y (is_planned ks)) (sym first.keeps.keys_stay) before.0) in (
-          subst (λ ks. honest z (is_planned ks)) first.keeps.keys_stay after.0,
-          learnt_then l.blind a.keys a.batch (past x) (past y) (past z) a.knowns b.knowns c.knowns m n before.1
-              (learnt_of a.keys b.keys a.batch b.batch (past y) (past z) b.knowns c.knowns n first.keeps.keys_stay first.keeps.batch_stays after.1),
-        );
-    grown = λ holds.
-        grown_then (past x) (past y) (past z) (first.grown holds)
-        (second.grown (subst (λ ks. honest y (is_planned ks)) (sym first.keeps.keys_stay) (first.known holds).0));
-    keeps = keeps_then a b c first.keeps second.keeps;
-    near = λ settling.
-        let before = first.near settling in
-        nearer_then past calm a b c x y z m n (asks_one a b first.keeps) before (second.near before.settling);
-    honest_still = λ names holds. second.honest_still names (first.honest_still names holds);
-    further = further_last l a b c x y z m ⊤ first second.further;
-  }
-
-  -- and a last turn that asked nothing
-  pub known_end : Lawbook → (a b c : ClientState) (x y z : L) (m : ℕ) → Driven a b x y m
-      → (honest y (is_planned b.keys) → honest z (is_planned b.keys) × Learnt b.keys b.batch (past y) (past z) b.knowns c.knowns 0)
-      → honest x (is_planned a.keys) → honest z (is_planned a.keys) × Learnt a.keys a.batch (past x) (past z) a.knowns c.knowns m
-  known_end l a b c x y z m first last holds =
+-- and one more turn, that asked or did not
+pub driven_then : Lawbook → (a b c : ClientState) (x y z : Seen) (m n : ℕ) → Driven a b x y m → Driven b c y z n → Driven a c x z (m + n)
+driven_then l a b c x y z m n first second = record {
+  good = λ good. second.good (first.good good);
+  goes = λ good. went_then l a.keys x.past y.past z.past (first.goes good) (subst (λ ks. WentOn ks y.past z.past) first.keeps.keys_stay (second.goes (first.good good)));
+  known = λ holds.
       let before = first.known holds in
-      let after = last (subst (λ ks. honest y (is_planned ks)) (sym first.keeps.keys_stay) before.0) in
-      let none : m + 0 ≡ m = omega arith in (
-        subst (λ ks. honest z (is_planned ks)) first.keeps.keys_stay after.0,
-        subst (λ n. Learnt a.keys a.batch (past x) (past z) a.knowns c.knowns n) none
-            (learnt_then l.blind a.keys a.batch (past x) (past y) (past z) a.knowns b.knowns c.knowns m 0 before.1
-            (learnt_of a.keys b.keys a.batch b.batch (past y) (past z) b.knowns c.knowns 0 first.keeps.keys_stay first.keeps.batch_stays after.1)),
-      )
+      let after = second.known (subst (λ ks. y.honest (is_planned ks)) (sym first.keeps.keys_stay) before.0) in (
+        subst (λ ks. z.honest (is_planned ks)) first.keeps.keys_stay after.0,
+        learnt_then l.blind a.keys a.batch x.past y.past z.past a.knowns b.knowns c.knowns m n before.1
+            (learnt_of a.keys b.keys a.batch b.batch y.past z.past b.knowns c.knowns n first.keeps.keys_stay first.keeps.batch_stays after.1),
+      );
+  grown = λ holds.
+      grown_then x.past y.past z.past (first.grown holds)
+      (second.grown (subst (λ ks. y.honest (is_planned ks)) (sym first.keeps.keys_stay) (first.known holds).0));
+  keeps = keeps_then a b c first.keeps second.keeps;
+  near = λ settling.
+      let before = first.near settling in
+      nearer_then a b c x y z m n (asks_one a b first.keeps) before (second.near before.settling);
+  honest_still = λ names holds. second.honest_still names (first.honest_still names holds);
+  further = further_last l a b c x y z m ⊤ first second.further;
+}
 
-  -- and a last exchange in which memory ran out
-  pub broken_end : (a b c : ClientState) (x y z : L) (m : ℕ) (fault : TurnFault) → Driven a b x y m
-      → (honest y (is_planned b.keys) → (facts c.knowns ≡ facts b.knowns) × IsBrokenOff b.keys b.batch (past y) (past z) fault) → honest x (is_planned a.keys)
-      → LearntUntil a.keys a.batch (past x) (past z) a.knowns c.knowns (m + exchanges_made fault)
-  broken_end a b c x y z m fault first last holds =
-      let before = first.known holds in
-      let off = last (subst (λ ks. honest y (is_planned ks)) (sym first.keeps.keys_stay) before.0) in
-      record {
-        between = past y;
-        heard = m;
-        learnt = learnt_still a.keys a.batch (past x) (past y) (past y) a.knowns b.knowns c.knowns m before.1 (stays_itself (past y)) off.0;
-        broken = breaks_off a.keys a.batch (past y) (past z) m fault
-            (subst (λ ks. IsBrokenOff ks a.batch (past y) (past z) fault) first.keeps.keys_stay
-            (subst (λ most. IsBrokenOff b.keys most (past y) (past z) fault) first.keeps.batch_stays off.1));
-      }
+-- and a last turn that asked nothing
+pub known_end : Lawbook → (a b c : ClientState) (x y z : Seen) (m : ℕ) → Driven a b x y m
+    → (y.honest (is_planned b.keys) → z.honest (is_planned b.keys) × Learnt b.keys b.batch y.past z.past b.knowns c.knowns 0)
+    → x.honest (is_planned a.keys) → z.honest (is_planned a.keys) × Learnt a.keys a.batch x.past z.past a.knowns c.knowns m
+known_end l a b c x y z m first last holds =
+    let before = first.known holds in
+    let after = last (subst (λ ks. y.honest (is_planned ks)) (sym first.keeps.keys_stay) before.0) in
+    let none : m + 0 ≡ m = omega arith in (
+      subst (λ ks. z.honest (is_planned ks)) first.keeps.keys_stay after.0,
+      subst (λ n. Learnt a.keys a.batch x.past z.past a.knowns c.knowns n) none
+          (learnt_then l.blind a.keys a.batch x.past y.past z.past a.knowns b.knowns c.knowns m 0 before.1
+          (learnt_of a.keys b.keys a.batch b.batch y.past z.past b.knowns c.knowns 0 first.keeps.keys_stay first.keeps.batch_stays after.1)),
+    )
 
-  -- so few exchanges were made
-  pub few_made : (a b : ClientState) (x y : L) (m limit : ℕ) → Driven a b x y m → m ≤ limit → honest x (is_planned a.keys) → length (past y).sent ≤ length (past x).sent + limit
-  few_made a b x y m limit driven within holds =
-      let long = learnt_long a.keys a.batch (past x) (past y) a.knowns b.knowns m (driven.known holds).1 in
-      omega (arith, long, within)
+-- and a last exchange in which memory ran out
+pub broken_end : (a b c : ClientState) (x y z : Seen) (m : ℕ) (fault : TurnFault) → Driven a b x y m
+    → (y.honest (is_planned b.keys) → (facts c.knowns ≡ facts b.knowns) × IsBrokenOff b.keys b.batch y.past z.past fault) → x.honest (is_planned a.keys)
+    → LearntUntil a.keys a.batch x.past z.past a.knowns c.knowns (m + exchanges_made fault)
+broken_end a b c x y z m fault first last holds =
+    let before = first.known holds in
+    let off = last (subst (λ ks. y.honest (is_planned ks)) (sym first.keeps.keys_stay) before.0) in
+    record {
+      between = y.past;
+      heard = m;
+      learnt = learnt_still a.keys a.batch x.past y.past y.past a.knowns b.knowns c.knowns m before.1 (stays_itself y.past) off.0;
+      broken = breaks_off a.keys a.batch y.past z.past m fault
+          (subst (λ ks. IsBrokenOff ks a.batch y.past z.past fault) first.keeps.keys_stay
+          (subst (λ most. IsBrokenOff b.keys most y.past z.past fault) first.keeps.batch_stays off.1));
+    }
 
-  -- what is good is in no conflict
-  pub good_no_conflict : Lawbook → (c : ClientState) (link : L) (stop : Stop) → IsGood past honest c link → Stands stop c.keys c.knowns → stop ≢ stops.Conflict
-  good_no_conflict l c link stop good stands = λ is. in_conflict (subst (λ s. Stands s c.keys c.knowns) is stands).1
-    where
-      in_conflict : {X : Type 0} → SomeClash c.keys c.knowns → X
-      in_conflict clash = absurd (l.no_conflict (past link).objects c.keys c.knowns good.held clash.0 clash.1 clash.3)
+-- so few exchanges were made
+pub few_made : (a b : ClientState) (x y : Seen) (m limit : ℕ) → Driven a b x y m → m ≤ limit → x.honest (is_planned a.keys) → length y.past.sent ≤ length x.past.sent + limit
+few_made a b x y m limit driven within holds =
+    let long = learnt_long a.keys a.batch x.past y.past a.knowns b.knowns m (driven.known holds).1 in
+    omega (arith, long, within)
+
+-- what is good is in no conflict
+pub good_no_conflict : Lawbook → (c : ClientState) (link : Seen) (stop : Stop) → IsGood c link → Stands stop c.keys c.knowns → stop ≢ stops.Conflict
+good_no_conflict l c link stop good stands = λ is. in_conflict (subst (λ s. Stands s c.keys c.knowns) is stands).1
+  where
+    in_conflict : {X : Type 0} → SomeClash c.keys c.knowns → X
+    in_conflict clash = absurd (l.no_conflict link.past.objects c.keys c.knowns good.held clash.0 clash.1 clash.3)
 
 -- where each key is settled a run does not stop at its limit
 pub settled_no_limit : Lawbook → (c : ClientState) (stop : Stop) → AreSettled c.keys c.knowns → Stands stop c.keys c.knowns → stop ≢ stops.Limit

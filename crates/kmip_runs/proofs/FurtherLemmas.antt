@@ -14,6 +14,7 @@ use Rattle.kmip_protocol.specs.Calm.{CalmlyExchanged}
 use Rattle.kmip_protocol.specs.Exchanges.{Exchanged}
 use Rattle.kmip_protocol.specs.Moves.{Delivered}
 use Rattle.kmip_protocol.specs.Past.{AreAmong, Names, Past, is_planned}
+use Rattle.kmip_protocol.specs.Seen.{Seen}
 use Rattle.kmip_protocol.specs.Sound.{Sound}
 use Rattle.kmip_protocol.specs.declared.link_fault.LinkFault.{LinkFault}
 use Rattle.kmip_protocol.specs.Needs.{missing}
@@ -24,93 +25,90 @@ use Rattle.kmip_runs.specs.PrivateLawbook.{Lawbook}
 use Rattle.kmip_protocol.specs.Losses.{or_loss}
 use Rattle.kmip_runs.proofs.SettleLemmas.{calmly}
 
-module _ {L : Type 0} (past : L → Past) (honest calm : L → Names → Type 0) where
-  -- where nothing is done
-  pub further_nowhere : OnwardToItself → (keys : List Key) (link : L) (whole : Type 0) → KeepsFurther past honest calm keys whole link link
-  further_nowhere itself keys link whole = record {
-    good = λ further lawful prolongs good. (good, record { onward = itself further (past link).objects; mirrored = λ image. image });
-    calmly = λ is further lawful prolongs calmly. calmly;
-  }
+-- where nothing is done
+pub further_nowhere : OnwardToItself → (keys : List Key) (link : Seen) (whole : Type 0) → KeepsFurther keys whole link link
+further_nowhere itself keys link whole = record {
+  good = λ further lawful prolongs good. (good, record { onward = itself further link.past.objects; mirrored = λ image. image });
+  calmly = λ is further lawful prolongs calmly. calmly;
+}
 
-  -- one after the other
-  pub further_then : OnwardTwice → (keys : List Key) (x y z : L) (first second : Type 0) → (second → first) → KeepsFurther past honest calm keys first x y
-      → KeepsFurther past honest calm keys second y z → KeepsFurther past honest calm keys second x z
-  further_then twice keys x y z first second also a b = record {
-    good = λ further lawful prolongs good.
-        let before = a.good further lawful prolongs good in
-        let after = b.good further lawful prolongs before.0 in
-        let on = twice further (past x).objects (past y).objects (past z).objects before.1.onward after.1.onward in
-        (after.0, record { onward = on; mirrored = λ image. after.1.mirrored (before.1.mirrored image) });
-    calmly = λ is further lawful prolongs calmly. b.calmly is further lawful prolongs (a.calmly (also is) further lawful prolongs calmly);
-  }
+-- one after the other
+pub further_then : OnwardTwice → (keys : List Key) (x y z : Seen) (first second : Type 0) → (second → first) → KeepsFurther keys first x y
+    → KeepsFurther keys second y z → KeepsFurther keys second x z
+further_then twice keys x y z first second also a b = record {
+  good = λ further lawful prolongs good.
+      let before = a.good further lawful prolongs good in
+      let after = b.good further lawful prolongs before.0 in
+      let on = twice further x.past.objects y.past.objects z.past.objects before.1.onward after.1.onward in
+      (after.0, record { onward = on; mirrored = λ image. after.1.mirrored (before.1.mirrored image) });
+  calmly = λ is further lawful prolongs calmly. b.calmly is further lawful prolongs (a.calmly (also is) further lawful prolongs calmly);
+}
 
-  -- a question is asked
-  asked_further : Lawbook → (keys further : List Key) (x y : L) (sent : List ℕ) (answered : Result (Option (List ℕ)) LinkFault) → IsLawful further
-      → Prolongs further keys → JustifiedMessage keys (past x).objects sent
-      → ((names : Names) → honest x names → honest y names × Exchanged names (past x) sent answered (past y))
-      → GoodLink past honest further x → GoodLink past honest further y × WentOn further (past x) (past y)
-  asked_further l keys further x y sent answered lawful prolongs just goes good =
-      let asked =
-      All-weaker (Justified keys (past x).objects) (Justified further (past x).objects)
-      (λ request may. l.asked (past x).objects further keys request lawful prolongs may) (requests_in sent) just in
-      let step = goes (is_planned further) good.honest_for in
-      let kept = l.exchanges further (past x) (past y) sent answered good.sound asked step.1 in (
-        record { honest_for = step.0; sound = kept.0 },
+-- a question is asked
+asked_further : Lawbook → (keys further : List Key) (x y : Seen) (sent : List ℕ) (answered : Result (Option (List ℕ)) LinkFault) → IsLawful further
+    → Prolongs further keys → JustifiedMessage keys x.past.objects sent
+    → ((names : Names) → x.honest names → y.honest names × Exchanged names x.past sent answered y.past)
+    → GoodLink further x → GoodLink further y × WentOn further x.past y.past
+asked_further l keys further x y sent answered lawful prolongs just goes good =
+    let asked =
+    All-weaker (Justified keys x.past.objects) (Justified further x.past.objects)
+    (λ request may. l.asked x.past.objects further keys request lawful prolongs may) (requests_in sent) just in
+    let step = goes (is_planned further) good.honest_for in
+    let kept = l.exchanges further x.past y.past sent answered good.sound asked step.1 in (
+      record { honest_for = step.0; sound = kept.0 },
+      record {
+        onward = kept.1;
+        mirrored = λ image. l.images further x.past y.past sent answered good.sound image asked step.1;
+      },
+    )
+
+-- and answered
+pub further_asked : Lawbook → (c : ClientState) (x y : Seen) (sent : List ℕ) (answered : Result (Option (List ℕ)) LinkFault) (places : List ℕ) (question : Question)
+    (whole : Type 0) → IsLawful c.keys → IsAbout c.keys c.knowns places question → sent ≡ question.bytes
+    → ((names : Names) → x.honest names → y.honest names × Exchanged names x.past sent answered y.past)
+    → ((names : Names) → x.calm names → y.calm names × CalmlyExchanged names x.past sent answered y.past)
+    → (whole → (answer : Option (List ℕ)) × (or_loss answered ≡ Some answer))
+    → JustifiedMessage c.keys x.past.objects sent → IsGood c x → KeepsFurther c.keys whole x y
+further_asked l c x y sent answered places question whole lawful_keys about bytes goes goes_calmly answers just good = record {
+  good = λ further lawful prolongs far. asked_further l c.keys further x y sent answered lawful prolongs just goes far;
+  calmly = λ is further lawful prolongs far.
+      let far_good : GoodLink further x = record { honest_for = x.calm_is_honest (is_planned further) far.calm_for; sound = far.sound } in
+      let after = (asked_further l c.keys further x y sent answered lawful prolongs just goes far_good).0 in
+      let step = goes_calmly (is_planned further) far.calm_for in
+      let own = goes_calmly (is_planned c.keys) ((x.fewer (is_planned further) (is_planned c.keys) (l.names further c.keys lawful prolongs)).1 far.calm_for) in
+      let answer = answers is in
+      let done =
+      subst (λ b. CalmlyExchanged (is_planned c.keys) x.past b (Ok answer.0) y.past) bytes
+      (calmly (is_planned c.keys) x.past y.past sent answered answer.0 answer.1 own.1) in
+      let roomy = far.roomy in
+      let less = l.less further c.keys x.past.objects prolongs in
+      let ready = l.ready c.keys x.past c.knowns good.sound good.held (omega (arith, roomy, less)) in
+      record {
+        calm_for = step.0;
+        sound = after.sound;
+        roomy = l.room further c.keys (is_planned c.keys) x.past y.past c.knowns places question answer.0 lawful_keys lawful prolongs far.sound ready about done roomy;
+      };
+}
+
+-- a run is closed: something is delivered, and nothing over a calm link
+pub further_closed : {E : Type 0} → CampaignLaws → (keys : List Key) (y z : Seen) (closed : Result (Unit {0}) E)
+    → ((names : Names) → y.honest names → z.honest names × Delivered names y.past z.past)
+    → ((names : Names) → y.calm names → z.calm names × OnOk closed (z.past ≡ y.past)) → KeepsFurther keys (closed ≡ Ok tt) y z
+further_closed l keys y z closed ended ended_calmly = record {
+  good = λ further lawful prolongs good.
+      let step = ended (is_planned further) good.honest_for in (
+        record { honest_for = step.0; sound = l.deliveries further y.past z.past good.sound step.1 },
         record {
-          onward = kept.1;
-          mirrored = λ image. l.images further (past x) (past y) sent answered good.sound image asked step.1;
+          onward = l.onward further y.past z.past good.sound step.1;
+          mirrored = λ image. l.images further y.past z.past good.sound image step.1;
         },
-      )
-
-  -- and answered
-  pub further_asked : Lawbook → (c : ClientState) (x y : L) (sent : List ℕ) (answered : Result (Option (List ℕ)) LinkFault) (places : List ℕ) (question : Question)
-      (whole : Type 0) → IsLawful c.keys → IsAbout c.keys c.knowns places question → sent ≡ question.bytes
-      → ((names : Names) → honest x names → honest y names × Exchanged names (past x) sent answered (past y))
-      → ((names : Names) → calm x names → calm y names × CalmlyExchanged names (past x) sent answered (past y))
-      → ((link : L) (names : Names) → calm link names → honest link names)
-      → ((link : L) (names fewer : Names) → AreAmong fewer names → calm link names → calm link fewer)
-      → (whole → (answer : Option (List ℕ)) × (or_loss answered ≡ Some answer))
-      → JustifiedMessage c.keys (past x).objects sent → IsGood past honest c x → KeepsFurther past honest calm c.keys whole x y
-  further_asked l c x y sent answered places question whole lawful_keys about bytes goes goes_calmly calm_honest calm_fewer answers just good = record {
-    good = λ further lawful prolongs far. asked_further l c.keys further x y sent answered lawful prolongs just goes far;
-    calmly = λ is further lawful prolongs far.
-        let far_good : GoodLink past honest further x = record { honest_for = calm_honest x (is_planned further) far.calm_for; sound = far.sound } in
-        let after = (asked_further l c.keys further x y sent answered lawful prolongs just goes far_good).0 in
-        let step = goes_calmly (is_planned further) far.calm_for in
-        let own = goes_calmly (is_planned c.keys) (calm_fewer x (is_planned further) (is_planned c.keys) (l.names further c.keys lawful prolongs) far.calm_for) in
-        let answer = answers is in
-        let done =
-        subst (λ b. CalmlyExchanged (is_planned c.keys) (past x) b (Ok answer.0) (past y)) bytes
-        (calmly (is_planned c.keys) (past x) (past y) sent answered answer.0 answer.1 own.1) in
-        let roomy = far.roomy in
-        let less = l.less further c.keys (past x).objects prolongs in
-        let ready = l.ready c.keys (past x) c.knowns good.sound good.held (omega (arith, roomy, less)) in
-        record {
-          calm_for = step.0;
-          sound = after.sound;
-          roomy = l.room further c.keys (is_planned c.keys) (past x) (past y) c.knowns places question answer.0 lawful_keys lawful prolongs far.sound ready about done roomy;
-        };
-  }
-
-  -- a run is closed: something is delivered, and nothing over a calm link
-  pub further_closed : {E : Type 0} → CampaignLaws → (keys : List Key) (y z : L) (closed : Result (Unit {0}) E)
-      → ((names : Names) → honest y names → honest z names × Delivered names (past y) (past z))
-      → ((names : Names) → calm y names → calm z names × OnOk closed (past z ≡ past y)) → KeepsFurther past honest calm keys (closed ≡ Ok tt) y z
-  further_closed l keys y z closed ended ended_calmly = record {
-    good = λ further lawful prolongs good.
-        let step = ended (is_planned further) good.honest_for in (
-          record { honest_for = step.0; sound = l.deliveries further (past y) (past z) good.sound step.1 },
-          record {
-            onward = l.onward further (past y) (past z) good.sound step.1;
-            mirrored = λ image. l.images further (past y) (past z) good.sound image step.1;
-          },
-        );
-    calmly = λ is further lawful prolongs far.
-        let step = ended_calmly (is_planned further) far.calm_for in
-        let same : past z ≡ past y = subst (λ r. OnOk r (past z ≡ past y)) is step.1 in
-        record {
-          calm_for = step.0;
-          sound = subst (λ p. Sound further p) (sym same) far.sound;
-          roomy = subst (λ (p : Past). length p.objects + missing further p.objects ≤ p.room) (sym same) far.roomy;
-        };
-  }
+      );
+  calmly = λ is further lawful prolongs far.
+      let step = ended_calmly (is_planned further) far.calm_for in
+      let same : z.past ≡ y.past = subst (λ r. OnOk r (z.past ≡ y.past)) is step.1 in
+      record {
+        calm_for = step.0;
+        sound = subst (λ p. Sound further p) (sym same) far.sound;
+        roomy = subst (λ (p : Past). length p.objects + missing further p.objects ≤ p.room) (sym same) far.roomy;
+      };
+}

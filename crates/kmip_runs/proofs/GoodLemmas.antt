@@ -14,6 +14,7 @@ use Rattle.kmip_client.specs.declared.knowledge.Knowledge.{Knowledge}
 use Rattle.kmip_client.specs.declared.question.Question.{Question}
 use Rattle.kmip_protocol.specs.Exchanges.{AreGiven, Exchanged}
 use Rattle.kmip_protocol.specs.Past.{Names, Past, is_planned}
+use Rattle.kmip_protocol.specs.Seen.{Seen}
 use Rattle.kmip_protocol.specs.Sound.{Sound}
 use Rattle.kmip_protocol.specs.declared.link_fault.LinkFault.{LinkFault}
 use Rattle.kmip_runs.specs.Driving.{IsGood, Keeps, WentOn}
@@ -67,55 +68,54 @@ pub if_handed : {X : Type 0} (P : List ℕ → Type 0) (answer : Option X) (byte
 if_handed P None bytes so = tt
 if_handed P (Some x) bytes so = so
 
-module _ {L : Type 0} (past : L → Past) (honest : L → Names → Type 0) where
-  -- what is good is good once the question is asked, and the question may be
-  pub good_asked : (c next : ClientState) (link : L) (asked : Option Question) (question : Question) → next ≡ after_ask c → asked ≡ Some question
-      → ((objects : List Object) → Held objects c.keys c.knowns → IfSome asked (λ q. JustifiedMessage c.keys objects q.bytes)) → IsGood past honest c link
-      → IsGood past honest next link × JustifiedMessage next.keys (past link).objects question.bytes
-  good_asked c next link asked question is some may good =
-      let objects = (past link).objects in
-      let just = subst (λ o. IfSome o (λ q. JustifiedMessage c.keys objects q.bytes)) some (may objects good.held) in
-      subst (λ n. IsGood past honest n link × JustifiedMessage n.keys objects question.bytes) (sym is)
-      (record { honest_for = good.honest_for; sound = good.sound; held = good.held }, just)
+-- what is good is good once the question is asked, and the question may be
+pub good_asked : (c next : ClientState) (link : Seen) (asked : Option Question) (question : Question) → next ≡ after_ask c → asked ≡ Some question
+    → ((objects : List Object) → Held objects c.keys c.knowns → IfSome asked (λ q. JustifiedMessage c.keys objects q.bytes)) → IsGood c link
+    → IsGood next link × JustifiedMessage next.keys link.past.objects question.bytes
+good_asked c next link asked question is some may good =
+    let objects = link.past.objects in
+    let just = subst (λ o. IfSome o (λ q. JustifiedMessage c.keys objects q.bytes)) some (may objects good.held) in
+    subst (λ n. IsGood n link × JustifiedMessage n.keys objects question.bytes) (sym is)
+    (record { honest_for = good.honest_for; sound = good.sound; held = good.held }, just)
 
-  -- what an exchange leaves: all is sound still, and what was known is true still
-  pub record Left (c : ClientState) (old new : L) : Type 0 where
-    pub honest_for : honest new (is_planned c.keys)
-    pub sound : Sound c.keys (past new)
-    pub held : Held (past new).objects c.keys c.knowns
-    pub on : WentOn c.keys (past old) (past new)
+-- what an exchange leaves: all is sound still, and what was known is true still
+pub record Left (c : ClientState) (old new : Seen) : Type 0 where
+  pub honest_for : new.honest (is_planned c.keys)
+  pub sound : Sound c.keys new.past
+  pub held : Held new.past.objects c.keys c.knowns
+  pub on : WentOn c.keys old.past new.past
 
-  pub left : (l : Lawbook) (c : ClientState) (old new : L) (sent : List ℕ) (answered : Result (Option (List ℕ)) LinkFault) → IsLawful c.keys
-      → IsGood past honest c old → JustifiedMessage c.keys (past old).objects sent
-      → ((names : Names) → honest old names → honest new names × Exchanged names (past old) sent answered (past new)) → Left c old new
-  left l c old new sent answered lawful good just goes =
-      let step = goes (is_planned c.keys) good.honest_for in
-      let kept = l.exchanges c.keys (past old) (past new) sent answered good.sound just step.1 in
-      record {
-        honest_for = step.0;
-        sound = kept.0;
-        held = l.known_for_good c.keys c.knowns (past old).objects (past new).objects lawful kept.1 good.held;
-        on = record {
-          onward = kept.1;
-          mirrored = λ image. l.images c.keys (past old) (past new) sent answered good.sound image just step.1;
-        };
-      }
-
-  -- what was handed over is true
-  pub told : (l : Lawbook) (keys : List Key) (old new : Past) (sent : List ℕ) (answered : Result (Option (List ℕ)) LinkFault) (answer : Option (List ℕ)) → Sound keys new
-      → or_loss answered ≡ Some answer → Exchanged (is_planned keys) old sent answered new → IfSome answer (TrueMessage keys new.objects)
-  told l keys old new sent answered None sound is done = tt
-  told l keys old new sent answered (Some given) sound is done =
-      let hands = handed_over (is_planned keys) old new sent answered (Some given) is done in
-      l.answers keys new given sound (subst (λ (p : Past). AreGiven p given) (sym hands.is) hands.given)
-
-  pub good_left : (c next : ClientState) (old new : L) → Left c old new → next.keys ≡ c.keys → Held (past new).objects next.keys next.knowns
-      → IsGood past honest next new × WentOn c.keys (past old) (past new)
-  good_left c next old new l keys held = (
+pub left : (l : Lawbook) (c : ClientState) (old new : Seen) (sent : List ℕ) (answered : Result (Option (List ℕ)) LinkFault) → IsLawful c.keys
+    → IsGood c old → JustifiedMessage c.keys old.past.objects sent
+    → ((names : Names) → old.honest names → new.honest names × Exchanged names old.past sent answered new.past) → Left c old new
+left l c old new sent answered lawful good just goes =
+    let step = goes (is_planned c.keys) good.honest_for in
+    let kept = l.exchanges c.keys old.past new.past sent answered good.sound just step.1 in
     record {
-      honest_for = subst (λ ks. honest new (is_planned ks)) (sym keys) l.honest_for;
-      sound = subst (λ ks. Sound ks (past new)) (sym keys) l.sound;
-      held = held;
-    },
-    l.on,
-  )
+      honest_for = step.0;
+      sound = kept.0;
+      held = l.known_for_good c.keys c.knowns old.past.objects new.past.objects lawful kept.1 good.held;
+      on = record {
+        onward = kept.1;
+        mirrored = λ image. l.images c.keys old.past new.past sent answered good.sound image just step.1;
+      };
+    }
+
+-- what was handed over is true
+pub told : (l : Lawbook) (keys : List Key) (old new : Past) (sent : List ℕ) (answered : Result (Option (List ℕ)) LinkFault) (answer : Option (List ℕ)) → Sound keys new
+    → or_loss answered ≡ Some answer → Exchanged (is_planned keys) old sent answered new → IfSome answer (TrueMessage keys new.objects)
+told l keys old new sent answered None sound is done = tt
+told l keys old new sent answered (Some given) sound is done =
+    let hands = handed_over (is_planned keys) old new sent answered (Some given) is done in
+    l.answers keys new given sound (subst (λ (p : Past). AreGiven p given) (sym hands.is) hands.given)
+
+pub good_left : (c next : ClientState) (old new : Seen) → Left c old new → next.keys ≡ c.keys → Held new.past.objects next.keys next.knowns
+    → IsGood next new × WentOn c.keys old.past new.past
+good_left c next old new l keys held = (
+  record {
+    honest_for = subst (λ ks. new.honest (is_planned ks)) (sym keys) l.honest_for;
+    sound = subst (λ ks. Sound ks new.past) (sym keys) l.sound;
+    held = held;
+  },
+  l.on,
+)

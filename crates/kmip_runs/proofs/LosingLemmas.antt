@@ -12,6 +12,7 @@ use Rattle.kmip_client.specs.declared.question.Question.{Question}
 use Rattle.kmip_protocol.specs.Clean.{Counted, Disturbances, IsCounted}
 use Rattle.kmip_protocol.specs.Exchanges.{Exchanged, HandsOver}
 use Rattle.kmip_protocol.specs.Past.{Names, Past, is_planned}
+use Rattle.kmip_protocol.specs.Seen.{Seen}
 use Rattle.kmip_protocol.specs.declared.link_fault.LinkFault.{LinkFault}
 use Rattle.kmip_protocol.specs.declared.link_fault.LinkFault.TheVariants.{Io, Frame, NoMemory}
 use Rattle.kmip_protocol.specs.Losing.{left_all}
@@ -48,55 +49,54 @@ paid_none left d = omega arith
 pub paid_then : (m n a b c : ℕ) (d e f : Disturbances) → ArePaid m a b d e → ArePaid n b c e f → ArePaid (m + n) a c d f
 paid_then m n a b c d e f first second = omega (arith, first, second)
 
-module _ {L : Type 0} (past : L → Past) (honest : L → Names → Type 0) (counts : L → Disturbances) where
-  pub paid_one : Lawbook → (c next : ClientState) (x y : L) (sent : List ℕ) (answered : Result (Option (List ℕ)) LinkFault) (question : Question)
-      (answer : Option (List ℕ)) → IsLawful c.keys → IsToBePut c question → sent ≡ question.bytes
-      → ((names : Names) → honest x names → honest y names × Exchanged names (past x) sent answered (past y))
-      → ((names : Names) → honest x names → Counted names (past x) sent answered (past y) (counts x) (counts y)) → or_loss answered ≡ Some answer
-      → IsGood past honest c x → next.keys ≡ c.keys → next ≡ taught question answer c
-      → ArePaid 1 (left_for c (past x)) (left_for next (past y)) (counts x) (counts y)
-  paid_one l c next x y sent answered question answer lawful put bytes goes counting is good keys learnt =
-      subst (λ ks. ArePaid 1 (left_for c (past x)) (left_all ks next.knowns (past y)) (counts x) (counts y)) (sym keys)
-      (subst (λ (s : ClientState). ArePaid 1 (left_for c (past x)) (left_all c.keys s.knowns (past y)) (counts x) (counts y)) (sym learnt)
-      (paid (subst (λ b. IsCounted names (past x) b answer (past y) (counts x) (counts y)) bytes
-      (counted names (past x) (past y) sent answered answer (counts x) (counts y) is (counting names good.honest_for)))))
-    where
-      names : Names
-      names = is_planned c.keys
+pub paid_one : Lawbook → (c next : ClientState) (x y : Seen) (sent : List ℕ) (answered : Result (Option (List ℕ)) LinkFault) (question : Question)
+    (answer : Option (List ℕ)) → IsLawful c.keys → IsToBePut c question → sent ≡ question.bytes
+    → ((names : Names) → x.honest names → y.honest names × Exchanged names x.past sent answered y.past)
+    → ((names : Names) → x.honest names → Counted names x.past sent answered y.past x.disturbances y.disturbances) → or_loss answered ≡ Some answer
+    → IsGood c x → next.keys ≡ c.keys → next ≡ taught question answer c
+    → ArePaid 1 (left_for c x.past) (left_for next y.past) x.disturbances y.disturbances
+paid_one l c next x y sent answered question answer lawful put bytes goes counting is good keys learnt =
+    subst (λ ks. ArePaid 1 (left_for c x.past) (left_all ks next.knowns y.past) x.disturbances y.disturbances) (sym keys)
+    (subst (λ (s : ClientState). ArePaid 1 (left_for c x.past) (left_all c.keys s.knowns y.past) x.disturbances y.disturbances) (sym learnt)
+    (paid (subst (λ b. IsCounted names x.past b answer y.past x.disturbances y.disturbances) bytes
+    (counted names x.past y.past sent answered answer x.disturbances y.disturbances is (counting names good.honest_for)))))
+  where
+    names : Names
+    names = is_planned c.keys
 
-      hands : HandsOver names (past x) question.bytes answer (past y)
-      hands = subst (λ b. HandsOver names (past x) b answer (past y)) bytes
-          (handed_over names (past x) (past y) sent answered answer is (goes names good.honest_for).1)
+    hands : HandsOver names x.past question.bytes answer y.past
+    hands = subst (λ b. HandsOver names x.past b answer y.past) bytes
+        (handed_over names x.past y.past sent answered answer is (goes names good.honest_for).1)
 
-      paid : IsCounted names (past x) question.bytes answer (past y) (counts x) (counts y)
-          → ArePaid 1 (left_for c (past x)) (left_all c.keys (known_then c.keys question answer c.knowns) (past y)) (counts x) (counts y)
-      paid (inl (clean, same)) =
-          let nearer = l.clean c.keys (past x) (past y) c.knowns put.places question answer lawful good.sound good.held put.about clean in
-          let even = ap cost same in
-          omega (arith, nearer, even, put.about.some)
-      paid (inr (strange, enough, more)) =
-          let costs = l.disturbed c.keys (past x) (past y) c.knowns put.places question answer lawful good.sound good.held put.about hands in
-          let many = ap length put.about.asks ∙ as_many_asked c.keys c.knowns put.places put.about.works in
-          let all = ap cost more in
-          omega (arith, costs, enough, many, all)
+    paid : IsCounted names x.past question.bytes answer y.past x.disturbances y.disturbances
+        → ArePaid 1 (left_for c x.past) (left_all c.keys (known_then c.keys question answer c.knowns) y.past) x.disturbances y.disturbances
+    paid (inl (clean, same)) =
+        let nearer = l.clean c.keys x.past y.past c.knowns put.places question answer lawful good.sound good.held put.about clean in
+        let even = ap cost same in
+        omega (arith, nearer, even, put.about.some)
+    paid (inr (strange, enough, more)) =
+        let costs = l.disturbed c.keys x.past y.past c.knowns put.places question answer lawful good.sound good.held put.about hands in
+        let many = ap length put.about.asks ∙ as_many_asked c.keys c.knowns put.places put.about.works in
+        let all = ap cost more in
+        omega (arith, costs, enough, many, all)
 
-  -- where no more may be left all keys are finished
-  pub paid_off : Lawbook → (c : ClientState) (x : L) → IsGood past honest c x → left_for c (past x) ≡ 0 → AreFinished c.keys c.knowns
-  paid_off l c x good none =
-      let needs = l.needs_left c.keys (past x) c.knowns in
-      let nothing : need_all c.keys c.knowns (past x).objects ≡ 0 = omega (arith, needs, none) in
-      l.needless c.keys (past x).objects c.knowns good.held nothing
+-- where no more may be left all keys are finished
+pub paid_off : Lawbook → (c : ClientState) (x : Seen) → IsGood c x → left_for c x.past ≡ 0 → AreFinished c.keys c.knowns
+paid_off l c x good none =
+    let needs = l.needs_left c.keys x.past c.knowns in
+    let nothing : need_all c.keys c.knowns x.past.objects ≡ 0 = omega (arith, needs, none) in
+    l.needless c.keys x.past.objects c.knowns good.held nothing
 
-  -- so it is after as many exchanges as a plan may take, and what the disturbed ones cost
-  pub paid_limit : Lawbook → (c now : ClientState) (x y : L) (limit : ℕ) → IsLawful c.keys → IsGood past honest c x → IsGood past honest now y
-      → ArePaid limit (left_for c (past x)) (left_for now (past y)) (counts x) (counts y)
-      → bound c.keys + length c.keys + cost (counts y) ≤ limit + cost (counts x) → AreFinished now.keys now.knowns
-  paid_limit l c now x y limit lawful good still paid enough =
-      let most = l.left_bounded c.keys (past x) c.knowns lawful good.sound good.held in
-      let none : left_for now (past y) ≡ 0 = omega (arith, paid, enough, most) in
-      paid_off l now y still none
+-- so it is after as many exchanges as a plan may take, and what the disturbed ones cost
+pub paid_limit : Lawbook → (c now : ClientState) (x y : Seen) (limit : ℕ) → IsLawful c.keys → IsGood c x → IsGood now y
+    → ArePaid limit (left_for c x.past) (left_for now y.past) x.disturbances y.disturbances
+    → bound c.keys + length c.keys + cost y.disturbances ≤ limit + cost x.disturbances → AreFinished now.keys now.knowns
+paid_limit l c now x y limit lawful good still paid enough =
+    let most = l.left_bounded c.keys x.past c.knowns lawful good.sound good.held in
+    let none : left_for now y.past ≡ 0 = omega (arith, paid, enough, most) in
+    paid_off l now y still none
 
-  -- and where no key is worked on
-  pub paid_end : Lawbook → (c : ClientState) (x : L) → IsGood past honest c x → AreSettled c.keys c.knowns → AreFinished c.keys c.knowns
-  paid_end l c x good settled =
-      l.needless c.keys (past x).objects c.knowns good.held (l.needed c.keys (past x).objects c.knowns good.held settled)
+-- and where no key is worked on
+pub paid_end : Lawbook → (c : ClientState) (x : Seen) → IsGood c x → AreSettled c.keys c.knowns → AreFinished c.keys c.knowns
+paid_end l c x good settled =
+    l.needless c.keys x.past.objects c.knowns good.held (l.needed c.keys x.past.objects c.knowns good.held settled)

@@ -7,6 +7,7 @@ use Rattle.kmip_client.specs.Clients.{ClientState}
 use Rattle.kmip_client.specs.Held.{Held, TrueProgress}
 use Rattle.kmip_protocol.specs.Clean.{Disturbances}
 use Rattle.kmip_protocol.specs.Past.{Names, Past}
+use Rattle.kmip_protocol.specs.Seen.{Seen}
 use Rattle.kmip_runs.specs.PrivateCampaignParts.{IsNoted, Standing}
 use Rattle.kmip_runs.specs.Driving.{IsGood}
 use Rattle.kmip_runs.specs.Losing.{AllOutlast, IsEnough, Outlasts}
@@ -36,22 +37,22 @@ outlast_more keys runs at run ends nexts d e f is all one =
     subst (λ front. AllOutlast keys front nexts d f) (sym (one_further runs at run is))
     (subst (λ es. AllOutlast keys (take at runs ++ run ∷ []) es d f) (sym one.joined) (outlast_push keys (take at runs) ends run one.end d e f all one.outlasts))
 
-module _ {L : Type 0} (past : L → Past) (honest : L → Names → Type 0) (counts : L → Disturbances) (keys : List Key) where
+module _ (keys : List Key) where
   -- begun, driven, noted and closed
-  pub outlasted_run : (run : Run) (a b c : ClientState) (x y z : L) (driven : Stop × ℕ) (ends nexts : List RunEnd) (saved : List (List Known))
+  pub outlasted_run : (run : Run) (a b c : ClientState) (x y z : Seen) (driven : Stop × ℕ) (ends nexts : List RunEnd) (saved : List (List Known))
       → a.keys ≡ keys → b.keys ≡ keys → c.keys ≡ keys
-      → (All (TrueProgress (past x).objects keys) saved → Held (past x).objects a.keys a.knowns → Held (past x).objects b.keys b.knowns)
-      → (IsGood past honest b x → driven.0 ≢ stops.NoMemory → IsEnough b.keys run.limit (counts x) (counts y) → driven.0 ≡ stops.AllFinished)
-      → driven.0 ≢ stops.NoMemory → IsNoted c.keys run c.knowns driven ends nexts → (counts z ≡ counts y)
-      → Standing past honest keys a x ends saved → HasOutlasted keys run ends nexts (counts x) (counts z)
+      → (All (TrueProgress x.past.objects keys) saved → Held x.past.objects a.keys a.knowns → Held x.past.objects b.keys b.knowns)
+      → (IsGood b x → driven.0 ≢ stops.NoMemory → IsEnough b.keys run.limit x.disturbances y.disturbances → driven.0 ≡ stops.AllFinished)
+      → driven.0 ≢ stops.NoMemory → IsNoted c.keys run c.knowns driven ends nexts → (z.disturbances ≡ y.disturbances)
+      → Standing keys a x ends saved → HasOutlasted keys run ends nexts x.disturbances z.disturbances
   outlasted_run run a b c x y z driven ends nexts saved a_keys b_keys c_keys begun outlasts memory noted same standing =
       let held = begun standing.noted.true_saved standing.good.held in
-      let good = good_with past honest a b x (b_keys ∙ sym a_keys) standing.good held in
+      let good = good_with a b x (b_keys ∙ sym a_keys) standing.good held in
       record {
         end = noted.end;
         joined = noted.joined;
         outlasts = λ enough.
             noted.stop_is
             ∙ outlasts good memory
-            (subst (λ ks. IsEnough ks run.limit (counts x) (counts y)) (sym b_keys) (subst (λ d. IsEnough keys run.limit (counts x) d) same enough));
+            (subst (λ ks. IsEnough ks run.limit x.disturbances y.disturbances) (sym b_keys) (subst (λ d. IsEnough keys run.limit x.disturbances d) same enough));
       }

@@ -21,6 +21,7 @@ use Rattle.kmip_client.specs.Held.{TrueProgress}
 use Rattle.kmip_client.specs.Saving.{known_of}
 use Rattle.kmip_client.specs.declared.knowledge.Knowledge.{Knowledge}
 use Rattle.kmip_protocol.specs.Past.{AreAmong, Names, Past, is_planned}
+use Rattle.kmip_protocol.specs.Seen.{Seen}
 use Rattle.kmip_protocol.specs.Sound.{Sound}
 use Rattle.kmip_runs.specs.Campaign.{CalmLink}
 use Rattle.kmip_runs.specs.Headline.{GoodLink}
@@ -153,24 +154,24 @@ take_long (y ∷ xs) zero x is = refl
 take_long (y ∷ xs) (suc place) x is = ap (λ n. suc n) (take_long xs place x is)
 
 -- all that stands before the runs on the plan at a place
-module _ {L : Type 0} (past : L → Past) (honest calm : L → Names → Type 0) (plans : List (List Key)) (runs : List (List Run)) where
-  pub record Reached (start link : L) (place : ℕ) (ends : List RunEnd) (saved carried : List (List Known)) : Type 0 where
-    pub good : IsGoodFor past honest (last_plan plans) start link ends saved
-    pub sound : (keys : List Key) → slice_get plans place ≡ Some keys → IsLawful keys → Sound keys (past link)
-    pub carried_true : (keys : List Key) → slice_get plans place ≡ Some keys → All (TrueProgress (past link).objects keys) carried
+module _ (plans : List (List Key)) (runs : List (List Run)) where
+  pub record Reached (start link : Seen) (place : ℕ) (ends : List RunEnd) (saved carried : List (List Known)) : Type 0 where
+    pub good : IsGoodFor (last_plan plans) start link ends saved
+    pub sound : (keys : List Key) → slice_get plans place ≡ Some keys → IsLawful keys → Sound keys link.past
+    pub carried_true : (keys : List Key) → slice_get plans place ≡ Some keys → All (TrueProgress link.past.objects keys) carried
 
-  pub record Turning (start link : L) (place : ℕ) (end : CampaignEnd) (carried : List (List Known)) : Type 0 where
+  pub record Turning (start link : Seen) (place : ℕ) (end : CampaignEnd) (carried : List (List Known)) : Type 0 where
     pub parts : List Part
     pub ends_are : end.runs.items ≡ flat_map part_ends parts
     pub saved_are : end.saved.items ≡ flat_map part_saved parts
-    pub each : AreParts (take place plans) (take place runs) [] parts (honest start (is_planned (last_plan plans))) (CalmStart past calm plans start) ⊤ (past start) (past link)
+    pub each : AreParts (take place plans) (take place runs) [] parts (start.honest (is_planned (last_plan plans))) (CalmStart plans start) ⊤ start.past link.past
     pub carried_are : (keys : List Key) → slice_get plans place ≡ Some keys → (carried ≡ map (carried_over keys) end.saved.items) × All (Suits keys) carried
-    pub honest_still : (names : Names) → honest start names → honest link names
-    pub stands : GoodStart past honest plans start → Reached start link place end.runs.items end.saved.items carried
-    pub calmly : CalmStart past calm plans start → CalmLink past calm (last_plan plans) link
+    pub honest_still : (names : Names) → start.honest names → link.honest names
+    pub stands : GoodStart plans start → Reached start link place end.runs.items end.saved.items carried
+    pub calmly : CalmStart plans start → CalmLink (last_plan plans) link
 
   -- before the first plan
-  pub turning_none : CampaignLaws → PlansLaws → (x : L) (end : CampaignEnd) (last : List Key) (carried : List (List Known)) → end.runs.items ≡ [] → end.saved.items ≡ [] → carried ≡ []
+  pub turning_none : CampaignLaws → PlansLaws → (x : Seen) (end : CampaignEnd) (last : List Key) (carried : List (List Known)) → end.runs.items ≡ [] → end.saved.items ≡ [] → carried ≡ []
       → AreProlonged plans → IsLawful (last_plan plans) → IsLawful (first_plan plans) → slice_get plans 0 ≡ Some (first_plan plans) → Turning x x 0 end carried
   turning_none r l x end last carried no_end none_saved none prolonged lawful first_lawful is =
       let prolongs = last_prolongs l plans 0 (first_plan plans) prolonged is in
@@ -183,82 +184,80 @@ module _ {L : Type 0} (past : L → Past) (honest calm : L → Names → Type 0)
         honest_still = λ names holds. holds;
         stands = λ start. record {
           good = record {
-            good = record { honest_for = start.honest_for; sound = l.sound (last_plan plans) (first_plan plans) (past x) first_lawful lawful prolongs start.none_further start.sound };
-            went = record { onward = r.itself (last_plan plans) (past x).objects; mirrored = λ image. image };
-            noted = noted_for_none (last_plan plans) (past x) end.runs.items end.saved.items no_end none_saved;
+            good = record { honest_for = start.honest_for; sound = l.sound (last_plan plans) (first_plan plans) x.past first_lawful lawful prolongs start.none_further start.sound };
+            went = record { onward = r.itself (last_plan plans) x.past.objects; mirrored = λ image. image };
+            noted = noted_for_none (last_plan plans) x.past end.runs.items end.saved.items no_end none_saved;
           };
-          sound = λ keys at lawful_keys. subst (λ ks. Sound ks (past x)) (first_is plans keys at) start.sound;
-          carried_true = λ keys at. rw none (All-nil (TrueProgress (past x).objects keys));
+          sound = λ keys at lawful_keys. subst (λ ks. Sound ks x.past) (first_is plans keys at) start.sound;
+          carried_true = λ keys at. rw none (All-nil (TrueProgress x.past.objects keys));
         };
         calmly = λ start. record {
           calm_for = start.calm_for;
-          sound = l.sound (last_plan plans) (first_plan plans) (past x) first_lawful lawful prolongs start.none_further start.sound;
+          sound = l.sound (last_plan plans) (first_plan plans) x.past first_lawful lawful prolongs start.none_further start.sound;
           roomy = start.roomy;
         };
       }
 
   -- what the runs on the plan at a place leave, whole or broken off
-  pub record Turned (start link : L) (place : ℕ) (end : CampaignEnd) (whole : Type 0) : Type 0 where
+  pub record Turned (start link : Seen) (place : ℕ) (end : CampaignEnd) (whole : Type 0) : Type 0 where
     pub parts : List Part
     pub ends_are : end.runs.items ≡ flat_map part_ends parts
     pub saved_are : end.saved.items ≡ flat_map part_saved parts
-    pub each : AreParts (take (suc place) plans) (take (suc place) runs) [] parts (honest start (is_planned (last_plan plans))) (CalmStart past calm plans start) whole (past start)
-        (past link)
-    pub good : GoodStart past honest plans start → IsGoodFor past honest (last_plan plans) start link end.runs.items end.saved.items
+    pub each : AreParts (take (suc place) plans) (take (suc place) runs) [] parts (start.honest (is_planned (last_plan plans))) (CalmStart plans start) whole start.past
+        link.past
+    pub good : GoodStart plans start → IsGoodFor (last_plan plans) start link end.runs.items end.saved.items
 
   -- what is honest and calm for the names of the last plan is so for those of each
-  module _ (r : CampaignLaws) (l : PlansLaws) (prolonged : AreProlonged plans) (lawful : IsLawful (last_plan plans))
-      (calm_honest : (link : L) (names : Names) → calm link names → honest link names)
-      (fewer : (link : L) (names few : Names) → AreAmong few names → (honest link names → honest link few) × (calm link names → calm link few)) where
-    good_of : (start x : L) (place : ℕ) (end : CampaignEnd) (keys : List Key) (carried : List (List Known)) → slice_get plans place ≡ Some keys → IsLawful keys
-        → Turning start x place end carried → GoodStart past honest plans start → GoodLink past honest keys x
+  module _ (r : CampaignLaws) (l : PlansLaws) (prolonged : AreProlonged plans) (lawful : IsLawful (last_plan plans)) where
+    good_of : (start x : Seen) (place : ℕ) (end : CampaignEnd) (keys : List Key) (carried : List (List Known)) → slice_get plans place ≡ Some keys → IsLawful keys
+        → Turning start x place end carried → GoodStart plans start → GoodLink keys x
     good_of start x place end keys carried is lawful_keys before begun =
         let names = l.names (last_plan plans) keys lawful (last_prolongs l plans place keys prolonged is) in
         record {
-          honest_for = (fewer x (is_planned (last_plan plans)) (is_planned keys) names).0 (before.honest_still (is_planned (last_plan plans)) begun.honest_for);
+          honest_for = (x.fewer (is_planned (last_plan plans)) (is_planned keys) names).0 (before.honest_still (is_planned (last_plan plans)) begun.honest_for);
           sound = (before.stands begun).sound keys is lawful_keys;
         }
 
-    begun_of : (start : L) → CalmStart past calm plans start → GoodStart past honest plans start
+    begun_of : (start : Seen) → CalmStart plans start → GoodStart plans start
     begun_of start begun =
-        record { honest_for = calm_honest start (is_planned (last_plan plans)) begun.calm_for; sound = begun.sound; none_further = begun.none_further }
+        record { honest_for = start.calm_is_honest (is_planned (last_plan plans)) begun.calm_for; sound = begun.sound; none_further = begun.none_further }
 
-    calm_of : (start x : L) (place : ℕ) (end : CampaignEnd) (keys : List Key) (carried : List (List Known)) → slice_get plans place ≡ Some keys → IsLawful keys
-        → Turning start x place end carried → CalmStart past calm plans start → CalmLink past calm keys x
+    calm_of : (start x : Seen) (place : ℕ) (end : CampaignEnd) (keys : List Key) (carried : List (List Known)) → slice_get plans place ≡ Some keys → IsLawful keys
+        → Turning start x place end carried → CalmStart plans start → CalmLink keys x
     calm_of start x place end keys carried is lawful_keys before begun =
         let prolongs = last_prolongs l plans place keys prolonged is in
         let names = l.names (last_plan plans) keys lawful prolongs in
         let far = before.calmly begun in
         record {
-          calm_for = (fewer x (is_planned (last_plan plans)) (is_planned keys) names).1 far.calm_for;
+          calm_for = (x.fewer (is_planned (last_plan plans)) (is_planned keys) names).1 far.calm_for;
           sound = (before.stands (begun_of start begun)).sound keys is lawful_keys;
-          roomy = let less = l.miss (last_plan plans) keys (past x).objects prolongs in omega (arith, far.roomy, less);
+          roomy = let less = l.miss (last_plan plans) keys x.past.objects prolongs in omega (arith, far.roomy, less);
         }
 
-    part_of : (start x y : L) (place : ℕ) (keys : List Key) (list : List Run) (old : CampaignEnd) (carried : List (List Known)) (whole : Type 0) → IsLawful keys
-        → slice_get plans place ≡ Some keys → (before : Turning start x place old carried) (part : CampaignEnd) → HasRunAll past honest calm keys carried list part x y
+    part_of : (start x y : Seen) (place : ℕ) (keys : List Key) (list : List Run) (old : CampaignEnd) (carried : List (List Known)) (whole : Type 0) → IsLawful keys
+        → slice_get plans place ≡ Some keys → (before : Turning start x place old carried) (part : CampaignEnd) → HasRunAll keys carried list part x y
         → (whole → part.fault ≡ None)
         → IsPart keys (map (carried_over keys) ([] ++ flat_map part_saved before.parts)) list (record { ends = part.runs.items; saved = part.saved.items })
-        (honest start (is_planned (last_plan plans))) (CalmStart past calm plans start) whole (past x) (past y)
+        (start.honest (is_planned (last_plan plans))) (CalmStart plans start) whole x.past y.past
     part_of start x y place keys list old carried whole lawful_keys is before part all to =
         let names = l.names (last_plan plans) keys lawful (last_prolongs l plans place keys prolonged is) in
         let carried_is : carried ≡ map (carried_over keys) (flat_map part_saved before.parts) = (before.carried_are keys is).0 ∙ ap (map (carried_over keys)) before.saved_are in
         record {
           order = all.order;
           complete = λ holds. all.complete (to holds);
-          known = subst (λ cs. AreKnownFrom keys cs list part.runs.items part.saved.items (honest start (is_planned (last_plan plans))) whole (past x) (past y)) carried_is
-              (known_for keys carried list part.runs.items part.saved.items (honest x (is_planned keys)) (honest start (is_planned (last_plan plans))) whole (past x) (past y)
-              (λ holds. (fewer x (is_planned (last_plan plans)) (is_planned keys) names).0 (before.honest_still (is_planned (last_plan plans)) holds))
-              (known_if keys carried list part.runs.items part.saved.items (honest x (is_planned keys)) (part.fault ≡ None) whole (past x) (past y) to all.known));
+          known = subst (λ cs. AreKnownFrom keys cs list part.runs.items part.saved.items (start.honest (is_planned (last_plan plans))) whole x.past y.past) carried_is
+              (known_for keys carried list part.runs.items part.saved.items (x.honest (is_planned keys)) (start.honest (is_planned (last_plan plans))) whole x.past y.past
+              (λ holds. (x.fewer (is_planned (last_plan plans)) (is_planned keys) names).0 (before.honest_still (is_planned (last_plan plans)) holds))
+              (known_if keys carried list part.runs.items part.saved.items (x.honest (is_planned keys)) (part.fault ≡ None) whole x.past y.past to all.known));
           settles = λ begun holds.
               (all.settles (calm_of start x place old keys carried is lawful_keys before begun)
               ((before.stands (begun_of start begun)).carried_true keys is) (to holds)).0;
         }
 
     -- the runs on the plan at a place were made
-    turned : (start x y : L) (place : ℕ) (keys : List Key) (list : List Run) (old new : CampaignEnd) (carried : List (List Known)) (whole : Type 0) → IsLawful keys
+    turned : (start x y : Seen) (place : ℕ) (keys : List Key) (list : List Run) (old new : CampaignEnd) (carried : List (List Known)) (whole : Type 0) → IsLawful keys
         → slice_get plans place ≡ Some keys → slice_get runs place ≡ Some list → Turning start x place old carried
-        → (ran : HasRunPart past honest calm keys carried list x y old new) → (whole → ran.part.fault ≡ None) → Turned start y place new whole
+        → (ran : HasRunPart keys carried list x y old new) → (whole → ran.part.fault ≡ None) → Turned start y place new whole
     turned start x y place keys list old new carried whole lawful_keys is so before ran to =
         let part : Part = record { ends = ran.part.runs.items; saved = ran.part.saved.items } in
         let prolongs = last_prolongs l plans place keys prolonged is in
@@ -266,8 +265,8 @@ module _ {L : Type 0} (past : L → Past) (honest calm : L → Names → Type 0)
           parts = before.parts ++ part ∷ [];
           ends_are = ran.runs_are ∙ ap (λ ends. ends ++ ran.part.runs.items) before.ends_are ∙ flat_push part_ends before.parts part;
           saved_are = ran.saved_are ∙ ap (λ saved. saved ++ ran.part.saved.items) before.saved_are ∙ flat_push part_saved before.parts part;
-          each = parts_more (honest start (is_planned (last_plan plans))) (CalmStart past calm plans start) plans runs [] before.parts place keys list part whole (past start)
-              (past x) (past y) is so before.each (part_of start x y place keys list old carried whole lawful_keys is before ran.part ran.all to);
+          each = parts_more (start.honest (is_planned (last_plan plans))) (CalmStart plans start) plans runs [] before.parts place keys list part whole start.past
+              x.past y.past is so before.each (part_of start x y place keys list old carried whole lawful_keys is before ran.part ran.all to);
           good = λ begun.
               let reached = before.stands begun in
               let (camp, kept) = ran.all.stands (good_of start x place old keys carried is lawful_keys before begun) (reached.carried_true keys is) in
@@ -275,21 +274,21 @@ module _ {L : Type 0} (past : L → Past) (honest calm : L → Names → Type 0)
               record {
                 good = last;
                 went = record {
-                  onward = r.twice (last_plan plans) (past start).objects (past x).objects (past y).objects reached.good.went.onward went.onward;
+                  onward = r.twice (last_plan plans) start.past.objects x.past.objects y.past.objects reached.good.went.onward went.onward;
                   mirrored = λ image. went.mirrored (reached.good.went.mirrored image);
                 };
                 noted = rw (ran.runs_are, ran.saved_are)
-                    (noted_for_both (last_plan plans) (past y) old.runs.items ran.part.runs.items old.saved.items ran.part.saved.items
-                    (noted_for_onward r (last_plan plans) (past x) (past y) old.runs.items old.saved.items lawful went.onward reached.good.noted)
-                    (noted_over r l (last_plan plans) keys (past y) ran.part.runs.items ran.part.saved.items lawful prolongs camp.noted));
+                    (noted_for_both (last_plan plans) y.past old.runs.items ran.part.runs.items old.saved.items ran.part.saved.items
+                    (noted_for_onward r (last_plan plans) x.past y.past old.runs.items old.saved.items lawful went.onward reached.good.noted)
+                    (noted_over r l (last_plan plans) keys y.past ran.part.runs.items ran.part.saved.items lawful prolongs camp.noted));
               };
         }
 
     -- and are whole
-    pub turning_more : (start x y : L) (place : ℕ) (keys : List Key) (after : Option (List Key)) (list : List Run) (old new : CampaignEnd) (carried read : List (List Known))
+    pub turning_more : (start x y : Seen) (place : ℕ) (keys : List Key) (after : Option (List Key)) (list : List Run) (old new : CampaignEnd) (carried read : List (List Known))
         → IsLawful keys → slice_get plans place ≡ Some keys → slice_get runs place ≡ Some list → after ≡ slice_get plans (suc place)
         → ((a b : List Key) → Prolongs a b → length b ≤ length a)
-        → Turning start x place old carried → HasRunWhole past honest calm keys after carried list x y old new read → Turning start y (suc place) new read
+        → Turning start x place old carried → HasRunWhole keys after carried list x y old new read → Turning start y (suc place) new read
     turning_more start x y place keys after list old new carried read lawful_keys is so next_is longer before ran =
         let end = turned start x y place keys list old new carried ⊤ lawful_keys is so before ran.ran (λ holds. ran.whole) in
         let all = ran.ran.all in
@@ -314,17 +313,17 @@ module _ {L : Type 0} (past : L → Past) (honest calm : L → Names → Type 0)
               record {
                 good = end.good begun;
                 sound = λ next at lawful_next.
-                    l.between (last_plan plans) next keys (past y) lawful_keys lawful_next lawful (next_prolongs plans place keys next prolonged is at)
+                    l.between (last_plan plans) next keys y.past lawful_keys lawful_next lawful (next_prolongs plans place keys next prolonged is at)
                     (last_prolongs l plans (suc place) next prolonged at) camp.good.sound last.sound;
                 carried_true = λ next at.
                     let prolongs = next_prolongs plans place keys next prolonged is at in
-                    let objects = (past y).objects in
+                    let objects = y.past.objects in
                     let over = λ (saved : List (List Known)) (holds : All (TrueProgress objects keys) saved). All-weaker (TrueProgress objects keys) (IsTrueFor objects next)
                     (λ one holds. true_over l objects next keys one prolongs holds) saved holds in
                     subst (λ rs. All (TrueProgress objects next) rs) (sym (reads next at).0)
                     (All-map (TrueProgress objects next) (carried_over next) (carried ++ ran.ran.part.saved.items)
                     (All-append (IsTrueFor objects next) carried ran.ran.part.saved.items
-                    (over carried (true_onward r keys (past x).objects objects carried lawful_keys camp.on.onward (reached.carried_true keys is)))
+                    (over carried (true_onward r keys x.past.objects objects carried lawful_keys camp.on.onward (reached.carried_true keys is)))
                     (over ran.ran.part.saved.items camp.noted.true_saved)));
               };
           calmly = λ begun.
@@ -334,15 +333,15 @@ module _ {L : Type 0} (past : L → Past) (honest calm : L → Names → Type 0)
         }
 
     -- or one of them has no end, or nothing was carried over to the next plan
-    broken_of : (start x y : L) (place : ℕ) (keys : List Key) (next : Option (List Key)) (list : List Run) (old new : CampaignEnd) (carried : List (List Known))
+    broken_of : (start x y : Seen) (place : ℕ) (keys : List Key) (next : Option (List Key)) (list : List Run) (old new : CampaignEnd) (carried : List (List Known))
         → slice_get plans place ≡ Some keys → slice_get runs place ≡ Some list → next ≡ slice_get plans (suc place) → (before : Turning start x place old carried)
-        → (broken : HasRunBroken past honest calm keys next carried list x y old new)
+        → (broken : HasRunBroken keys next carried list x y old new)
         → (length (before.parts ++ record { ends = broken.ran.part.runs.items; saved = broken.ran.part.saved.items } ∷ []) < length plans)
         ⊎ LastIsShort runs (before.parts ++ record { ends = broken.ran.part.runs.items; saved = broken.ran.part.saved.items } ∷ [])
     broken_of start x y place keys next list old new carried is so next_is before broken =
         let part : Part = record { ends = broken.ran.part.runs.items; saved = broken.ran.part.saved.items } in
         let long : length before.parts ≡ place =
-        parts_long (honest start (is_planned (last_plan plans))) (CalmStart past calm plans start) (take place plans) (take place runs) [] before.parts (past start) (past x) before.each
+        parts_long (start.honest (is_planned (last_plan plans))) (CalmStart plans start) (take place plans) (take place runs) [] before.parts start.past x.past before.each
         ∙ take_long plans place keys is in
         elim broken.why [
           | inl short ↦ inr (last_short runs before.parts part place list long so short)
@@ -352,61 +351,61 @@ module _ {L : Type 0} (past : L → Past) (honest calm : L → Names → Type 0)
         ]
 
     -- or the runs on it were broken off, or none was made
-    plans_broken : (start y : L) (place : ℕ) (end : CampaignEnd) (whole : Type 0) → (whole → ⊥) → (turned : Turned start y place end whole)
-        → (length turned.parts < length plans) ⊎ LastIsShort runs turned.parts → HasRunPlans past honest calm plans runs whole start y end
+    plans_broken : (start y : Seen) (place : ℕ) (end : CampaignEnd) (whole : Type 0) → (whole → ⊥) → (turned : Turned start y place end whole)
+        → (length turned.parts < length plans) ⊎ LastIsShort runs turned.parts → HasRunPlans plans runs whole start y end
     plans_broken start y place end whole none turned broken = record {
       good = turned.good;
       in_turn = record {
         parts = turned.parts;
         ends_are = turned.ends_are;
         saved_are = turned.saved_are;
-        each = parts_broken (honest start (is_planned (last_plan plans))) (CalmStart past calm plans start) plans runs [] turned.parts (suc place) whole (past start) (past y)
+        each = parts_broken (start.honest (is_planned (last_plan plans))) (CalmStart plans start) plans runs [] turned.parts (suc place) whole start.past y.past
             none turned.each;
         broken = λ but. broken;
       };
     }
 
-    pub run_broken : (start x y : L) (place : ℕ) (keys : List Key) (next : Option (List Key)) (list : List Run) (old new : CampaignEnd) (carried : List (List Known)) (whole : Type 0)
+    pub run_broken : (start x y : Seen) (place : ℕ) (keys : List Key) (next : Option (List Key)) (list : List Run) (old new : CampaignEnd) (carried : List (List Known)) (whole : Type 0)
         → (whole → ⊥) → IsLawful keys → slice_get plans place ≡ Some keys → slice_get runs place ≡ Some list → next ≡ slice_get plans (suc place)
-        → Turning start x place old carried → HasRunBroken past honest calm keys next carried list x y old new → HasRunPlans past honest calm plans runs whole start y new
+        → Turning start x place old carried → HasRunBroken keys next carried list x y old new → HasRunPlans plans runs whole start y new
     unfolding turned
     run_broken start x y place keys next list old new carried whole none lawful_keys is so next_is before broken =
         plans_broken start y place new whole none
         (turned start x y place keys list old new carried whole lawful_keys is so before broken.ran (λ holds. absurd (none holds)))
         (broken_of start x y place keys next list old new carried is so next_is before broken)
 
-    pub plans_left : (start x : L) (place : ℕ) (keys : List Key) (old new : CampaignEnd) (carried : List (List Known)) (whole : Type 0) → (whole → ⊥)
-        → slice_get plans place ≡ Some keys → Turning start x place old carried → AreSame old new → HasRunPlans past honest calm plans runs whole start x new
+    pub plans_left : (start x : Seen) (place : ℕ) (keys : List Key) (old new : CampaignEnd) (carried : List (List Known)) (whole : Type 0) → (whole → ⊥)
+        → slice_get plans place ≡ Some keys → Turning start x place old carried → AreSame old new → HasRunPlans plans runs whole start x new
     plans_left start x place keys old new carried whole none is before same = record {
       good = λ begun.
-          subst (λ ends. IsGoodFor past honest (last_plan plans) start x ends new.saved.items) (sym same.same_runs)
-          (subst (λ saved. IsGoodFor past honest (last_plan plans) start x old.runs.items saved) (sym same.same_saved) (before.stands begun).good);
+          subst (λ ends. IsGoodFor (last_plan plans) start x ends new.saved.items) (sym same.same_runs)
+          (subst (λ saved. IsGoodFor (last_plan plans) start x old.runs.items saved) (sym same.same_saved) (before.stands begun).good);
       in_turn = record {
         parts = before.parts;
         ends_are = same.same_runs ∙ before.ends_are;
         saved_are = same.same_saved ∙ before.saved_are;
-        each = parts_broken (honest start (is_planned (last_plan plans))) (CalmStart past calm plans start) plans runs [] before.parts place whole (past start) (past x) none
-            (parts_if (honest start (is_planned (last_plan plans))) (CalmStart past calm plans start) (take place plans) (take place runs) [] before.parts ⊤ whole (past start)
-            (past x) (λ holds. tt) before.each);
+        each = parts_broken (start.honest (is_planned (last_plan plans))) (CalmStart plans start) plans runs [] before.parts place whole start.past x.past none
+            (parts_if (start.honest (is_planned (last_plan plans))) (CalmStart plans start) (take place plans) (take place runs) [] before.parts ⊤ whole start.past
+            x.past (λ holds. tt) before.each);
         broken = λ but.
             let below = there_is plans place (λ no. some_none keys (sym is ∙ no)) in
             let long =
-            parts_long (honest start (is_planned (last_plan plans))) (CalmStart past calm plans start) (take place plans) (take place runs) [] before.parts (past start) (past x) before.each
+            parts_long (start.honest (is_planned (last_plan plans))) (CalmStart plans start) (take place plans) (take place runs) [] before.parts start.past x.past before.each
             ∙ take_long plans place keys is in
             inl (omega (arith, below, long));
       };
     }
 
     -- the runs on all plans were made
-    pub plans_all : (start x : L) (place : ℕ) (end : CampaignEnd) (carried : List (List Known)) (whole : Type 0) → whole → place ≡ length plans → length runs ≡ length plans
-        → Turning start x place end carried → HasRunPlans past honest calm plans runs whole start x end
+    pub plans_all : (start x : Seen) (place : ℕ) (end : CampaignEnd) (carried : List (List Known)) (whole : Type 0) → whole → place ≡ length plans → length runs ≡ length plans
+        → Turning start x place end carried → HasRunPlans plans runs whole start x end
     plans_all start x place end carried whole is all as_many before = record {
       good = λ begun. (before.stands begun).good;
       in_turn = record {
         parts = before.parts;
         ends_are = before.ends_are;
         saved_are = before.saved_are;
-        each = parts_all (honest start (is_planned (last_plan plans))) (CalmStart past calm plans start) plans runs [] before.parts place whole (past start) (past x) all as_many
+        each = parts_all (start.honest (is_planned (last_plan plans))) (CalmStart plans start) plans runs [] before.parts place whole start.past x.past all as_many
             before.each;
         broken = λ but. absurd (but is);
       };

@@ -14,6 +14,7 @@ use Rattle.kmip_client.specs.Shapes.{IsKept}
 use Rattle.kmip_client.specs.declared.knowledge.Knowledge.{Knowledge}
 use Rattle.kmip_protocol.specs.Moves.{Delivered}
 use Rattle.kmip_protocol.specs.Past.{Names, Past, is_planned}
+use Rattle.kmip_protocol.specs.Seen.{Seen}
 use Rattle.kmip_runs.specs.PrivateCampaignParts.{AreSame, HasEnded, HasRun, IsBroken, begins_with}
 use Rattle.kmip_runs.specs.Driving.{Grown, IsQuestion, Keeps, Learnt}
 use Rattle.kmip_runs.specs.Remembering.{AreAsked, AreHeard, AreKnownFrom, AreTaught, IsTalkOf, Shows, Talk, limit_at, saved_after, saved_from, start_knowns, starts, starts_from}
@@ -132,17 +133,17 @@ saved_behind run knowns carried saved = elim (cases_Bool run.save) [
   | inr none ↦ rw none refl
 ]
 
-module _ {L : Type 0} (past : L → Past) (honest : L → Names → Type 0) (keys : List Key) (carried : List (List Known)) (runs : List Run) where
+module _ (keys : List Key) (carried : List (List Known)) (runs : List Run) where
   -- so much was known at the ends, and the client knows what was known at the last
-  pub record Recalled (c : ClientState) (x y : L) (ends : List RunEnd) (saved : List (List Known)) : Type 0 where
+  pub record Recalled (c : ClientState) (x y : Seen) (ends : List RunEnd) (saved : List (List Known)) : Type 0 where
     pub known : List (List Knowledge)
     pub shown : AllZip (Shows keys) known ends
     pub kept : AllZip (AllZip IsKept) (starts keys carried runs known) known
     pub saved_are : carried ++ saved ≡ saved_from carried runs known
     pub last_is : c.knowns ≡ last_of known (fresh keys).knowns
-    pub heard : honest x (is_planned keys) → honest y (is_planned keys) × AreHeard keys runs (starts keys carried runs known) known ends (past x) (past y)
+    pub heard : x.honest (is_planned keys) → y.honest (is_planned keys) × AreHeard keys runs (starts keys carried runs known) known ends x.past y.past
 
-  pub recalled_none : (c : ClientState) (x : L) (ends : List RunEnd) (saved : List (List Known)) → c.knowns ≡ (fresh keys).knowns → ends ≡ [] → saved ≡ []
+  pub recalled_none : (c : ClientState) (x : Seen) (ends : List RunEnd) (saved : List (List Known)) → c.knowns ≡ (fresh keys).knowns → ends ≡ [] → saved ≡ []
       → Recalled c x x ends saved
   recalled_none c x ends saved is no_end none_saved =
       let none = starts_none keys (fresh keys).knowns carried runs in
@@ -155,21 +156,21 @@ module _ {L : Type 0} (past : L → Past) (honest : L → Names → Type 0) (key
         last_is = is;
         heard = λ holds. (
           holds,
-          subst (λ begun. AreHeard keys runs begun [] [] (past x) (past x)) (sym none)
+          subst (λ begun. AreHeard keys runs begun [] [] x.past x.past) (sym none)
               (record {
                 talks = [];
                 taught = tt;
                 talks_are = tt;
                 asked = tt;
-                sent_are = sym (append-nil (past x).sent);
-                handed_are = sym (append-nil (past x).handed);
-                requests_are = sym (append-nil (past x).requests);
+                sent_are = sym (append-nil x.past.sent);
+                handed_are = sym (append-nil x.past.handed);
+                requests_are = sym (append-nil x.past.requests);
               }),
         );
       })
 
-  pub recalled_more : (a b : ClientState) (x y z : L) (run : Run) (old new : CampaignEnd) (place : ℕ) → slice_get runs place ≡ Some run
-      → length old.runs.items ≡ place → Recalled a x y old.runs.items old.saved.items → HasRun past honest keys carried run a b y z old new → Recalled b x z new.runs.items new.saved.items
+  pub recalled_more : (a b : ClientState) (x y z : Seen) (run : Run) (old new : CampaignEnd) (place : ℕ) → slice_get runs place ≡ Some run
+      → length old.runs.items ≡ place → Recalled a x y old.runs.items old.saved.items → HasRun keys carried run a b y z old new → Recalled b x z new.runs.items new.saved.items
   recalled_more a b x y z run old new place is long before ran =
       let noted = ran.ended.noted in
       let many = AllZip-long (Shows keys) before.known old.runs.items before.shown in
@@ -195,30 +196,30 @@ module _ {L : Type 0} (past : L → Past) (honest : L → Names → Type 0) (key
             let first = before.heard holds in
             let second = ran.learnt first.0 in (
               second.0,
-              subst (λ s. AreHeard keys runs s (before.known ++ b.knowns ∷ []) (old.runs.items ++ noted.end ∷ []) (past x) (past z)) (sym further)
-                  (heard_more keys runs run (starts keys carried runs before.known) before.known old.runs.items (past x) (past y) (past z) start b.knowns ran.driven.1
+              subst (λ s. AreHeard keys runs s (before.known ++ b.knowns ∷ []) (old.runs.items ++ noted.end ∷ []) x.past z.past) (sym further)
+                  (heard_more keys runs run (starts keys carried runs before.known) before.known old.runs.items x.past y.past z.past start b.knowns ran.driven.1
                   noted.end (subst (λ n. slice_get runs n ≡ Some run) (sym long) is) noted.exchanges_is first.1 second.1),
             );
       })
 
-  pub recalled_known : (c : ClientState) (x y : L) (ends : List RunEnd) (saved : List (List Known)) (whole : Type 0) → Recalled c x y ends saved
-      → AreKnownFrom keys carried runs ends saved (honest x (is_planned keys)) whole (past x) (past y)
+  pub recalled_known : (c : ClientState) (x y : Seen) (ends : List RunEnd) (saved : List (List Known)) (whole : Type 0) → Recalled c x y ends saved
+      → AreKnownFrom keys carried runs ends saved (x.honest (is_planned keys)) whole x.past y.past
   recalled_known c x y ends saved whole recalled = record {
     known = recalled.known;
     shown = recalled.shown;
     kept = recalled.kept;
     saved_are = recalled.saved_are;
-    until = past y;
+    until = y.past;
     heard = λ holds. (recalled.heard holds).1;
-    grown = λ holds. grown_itself (past y);
+    grown = λ holds. grown_itself y.past;
     few_more = λ holds. omega arith;
     no_more = λ is. refl;
   }
 
   -- the next run was broken off
-  pub broken_known : (c : ClientState) (x y z : L) (run : Run) (old new : CampaignEnd) (place : ℕ) (whole : Type 0) → slice_get runs place ≡ Some run
-      → length old.runs.items ≡ place → (whole → past y ≡ past z) → Recalled c x y old.runs.items old.saved.items → IsBroken past honest keys run y z old new
-      → AreKnownFrom keys carried runs new.runs.items new.saved.items (honest x (is_planned keys)) whole (past x) (past z)
+  pub broken_known : (c : ClientState) (x y z : Seen) (run : Run) (old new : CampaignEnd) (place : ℕ) (whole : Type 0) → slice_get runs place ≡ Some run
+      → length old.runs.items ≡ place → (whole → y.past ≡ z.past) → Recalled c x y old.runs.items old.saved.items → IsBroken keys run y z old new
+      → AreKnownFrom keys carried runs new.runs.items new.saved.items (x.honest (is_planned keys)) whole x.past z.past
   broken_known c x y z run old new place whole is long no_more recalled broken =
       let many = AllZip-long (Shows keys) recalled.known old.runs.items recalled.shown in
       let at = subst (λ n. slice_get runs n ≡ Some run) (sym long ∙ many) is in
@@ -229,57 +230,57 @@ module _ {L : Type 0} (past : L → Past) (honest : L → Names → Type 0) (key
         shown = recalled.shown;
         kept = recalled.kept;
         saved_are = recalled.saved_are;
-        until = past y;
+        until = y.past;
         heard = λ holds. (recalled.heard holds).1;
         grown = λ holds. broken.grown (recalled.heard holds).0;
         few_more = λ holds. rw limit (broken.few (recalled.heard holds).0);
         no_more = no_more;
       })
 
-module _ {L : Type 0} (past : L → Past) (honest : L → Names → Type 0) (keys : List Key) (carried : List (List Known)) where
+module _ (keys : List Key) (carried : List (List Known)) where
   -- a run is begun, driven, noted and closed
-  pub ran_closed : (run : Run) (a b c : ClientState) (x y z : L) (driven : Stop × ℕ) (old new : CampaignEnd) → b.keys ≡ keys → b.batch ≡ run.batch
+  pub ran_closed : (run : Run) (a b c : ClientState) (x y z : Seen) (driven : Stop × ℕ) (old new : CampaignEnd) → b.keys ≡ keys → b.batch ≡ run.batch
       → b.knowns ≡ begins_with keys carried run a old → Keeps b c
-      → (honest x (is_planned b.keys) → honest y (is_planned b.keys) × Learnt b.keys b.batch (past x) (past y) b.knowns c.knowns driven.1)
-      → HasEnded c.keys run c.knowns driven old new → ((names : Names) → honest y names → honest z names × Delivered names (past y) (past z))
-      → HasRun past honest keys carried run a c x z old new
+      → (x.honest (is_planned b.keys) → y.honest (is_planned b.keys) × Learnt b.keys b.batch x.past y.past b.knowns c.knowns driven.1)
+      → HasEnded c.keys run c.knowns driven old new → ((names : Names) → y.honest names → z.honest names × Delivered names y.past z.past)
+      → HasRun keys carried run a c x z old new
   ran_closed run a b c x y z driven old new b_keys b_batch begun keeps learnt ended closes = record {
     driven = driven;
     ended = subst (λ ks. HasEnded ks run c.knowns driven old new) (keeps.keys_stay ∙ b_keys) ended;
     kept = subst (λ start. AllZip IsKept start c.knowns) begun keeps.kept;
     learnt = λ holds.
-        let taught = learnt (subst (λ ks. honest x (is_planned ks)) (sym b_keys) holds) in
-        let close = closes (is_planned keys) (subst (λ ks. honest y (is_planned ks)) b_keys taught.0) in (
+        let taught = learnt (subst (λ ks. x.honest (is_planned ks)) (sym b_keys) holds) in
+        let close = closes (is_planned keys) (subst (λ ks. y.honest (is_planned ks)) b_keys taught.0) in (
           close.0,
-          learnt_still keys run.batch (past x) (past y) (past z) (begins_with keys carried run a old) c.knowns c.knowns driven.1
-              (subst (λ start. Learnt keys run.batch (past x) (past y) start c.knowns driven.1) begun
-              (subst (λ most. Learnt keys most (past x) (past y) b.knowns c.knowns driven.1) b_batch
-              (subst (λ ks. Learnt ks b.batch (past x) (past y) b.knowns c.knowns driven.1) b_keys taught.1)))
-              (delivered_stays (is_planned keys) (past y) (past z) close.1) refl,
+          learnt_still keys run.batch x.past y.past z.past (begins_with keys carried run a old) c.knowns c.knowns driven.1
+              (subst (λ start. Learnt keys run.batch x.past y.past start c.knowns driven.1) begun
+              (subst (λ most. Learnt keys most x.past y.past b.knowns c.knowns driven.1) b_batch
+              (subst (λ ks. Learnt ks b.batch x.past y.past b.knowns c.knowns driven.1) b_keys taught.1)))
+              (delivered_stays (is_planned keys) y.past z.past close.1) refl,
         );
   }
 
   -- or begun, driven and broken off
-  pub broken_off : (b : ClientState) (x y : L) (run : Run) (old new : CampaignEnd) → b.keys ≡ keys → (honest x (is_planned b.keys) → Grown (past x) (past y))
-      → (honest x (is_planned b.keys) → length (past y).sent ≤ length (past x).sent + run.limit) → AreSame old new → IsBroken past honest keys run x y old new
+  pub broken_off : (b : ClientState) (x y : Seen) (run : Run) (old new : CampaignEnd) → b.keys ≡ keys → (x.honest (is_planned b.keys) → Grown x.past y.past)
+      → (x.honest (is_planned b.keys) → length y.past.sent ≤ length x.past.sent + run.limit) → AreSame old new → IsBroken keys run x y old new
   broken_off b x y run old new b_keys grown few same = record {
     same = same;
-    grown = λ holds. grown (subst (λ ks. honest x (is_planned ks)) (sym b_keys) holds);
-    few = λ holds. few (subst (λ ks. honest x (is_planned ks)) (sym b_keys) holds);
+    grown = λ holds. grown (subst (λ ks. x.honest (is_planned ks)) (sym b_keys) holds);
+    few = λ holds. few (subst (λ ks. x.honest (is_planned ks)) (sym b_keys) holds);
   }
 
   -- or begun and driven, and broken off where it was to be ended over the link
-  pub broken_closed : (b : ClientState) (x y z : L) (run : Run) (old new : CampaignEnd) → b.keys ≡ keys → (honest x (is_planned b.keys) → Grown (past x) (past y))
-      → (honest x (is_planned b.keys) → length (past y).sent ≤ length (past x).sent + run.limit) → ((names : Names) → honest x names → honest y names)
-      → ((names : Names) → honest y names → honest z names × Delivered names (past y) (past z)) → AreSame old new → IsBroken past honest keys run x z old new
+  pub broken_closed : (b : ClientState) (x y z : Seen) (run : Run) (old new : CampaignEnd) → b.keys ≡ keys → (x.honest (is_planned b.keys) → Grown x.past y.past)
+      → (x.honest (is_planned b.keys) → length y.past.sent ≤ length x.past.sent + run.limit) → ((names : Names) → x.honest names → y.honest names)
+      → ((names : Names) → y.honest names → z.honest names × Delivered names y.past z.past) → AreSame old new → IsBroken keys run x z old new
   broken_closed b x y z run old new b_keys grown few still closes same =
       let off = broken_off b x y run old new b_keys grown few same in
       record {
         same = same;
         grown = λ holds.
             let close = closes (is_planned keys) (still (is_planned keys) holds) in
-            grown_then (past x) (past y) (past z) (off.grown holds) (delivered_grown (is_planned keys) (past y) (past z) close.1);
+            grown_then x.past y.past z.past (off.grown holds) (delivered_grown (is_planned keys) y.past z.past close.1);
         few = λ holds.
             let close = closes (is_planned keys) (still (is_planned keys) holds) in
-            subst (λ sent. length sent ≤ length (past x).sent + run.limit) (sym (delivered_stays (is_planned keys) (past y) (past z) close.1).sent_stays) (off.few holds);
+            subst (λ sent. length sent ≤ length x.past.sent + run.limit) (sym (delivered_stays (is_planned keys) y.past z.past close.1).sent_stays) (off.few holds);
       }

@@ -13,6 +13,7 @@ use Rattle.kmip_progress.specs.declared.known.Known.{Known}
 use Rattle.kmip_client.specs.Clients.{ClientState, fresh}
 use Rattle.kmip_client.specs.Held.{Held, TrueProgress}
 use Rattle.kmip_protocol.specs.Past.{Names, Past, is_planned}
+use Rattle.kmip_protocol.specs.Seen.{Seen}
 use Rattle.kmip_runs.specs.Campaign.{CalmLink, IsEnd, Settles, saves}
 use Rattle.kmip_runs.specs.Headline.{GoodLink}
 use Rattle.kmip_runs.specs.PrivateCampaignParts.{Campaigned, CampaignLaws, HasRun, HasSettled, Standing}
@@ -28,18 +29,18 @@ use Rattle.kmip_runs.proofs.FurtherLemmas.{further_nowhere, further_then}
 use Rattle.kmip_runs.proofs.OrderLemmas.{ends_more, saved_long, saves_more, zip_more}
 use Rattle.kmip_runs.proofs.RememberLemmas.{Recalled, recalled_more, recalled_none}
 
-pub record Running {L : Type 0} (past : L → Past) (honest calm : L → Names → Type 0) (keys : List Key) (carried : List (List Known)) (c : ClientState) (start link : L) (runs : List Run) (ends : List RunEnd) (saved : List (List Known)) (at : ℕ) : Type 0 where
+pub record Running (keys : List Key) (carried : List (List Known)) (c : ClientState) (start link : Seen) (runs : List Run) (ends : List RunEnd) (saved : List (List Known)) (at : ℕ) : Type 0 where
   pub keys_are : c.keys ≡ keys
   pub suits : All (Suits keys) saved
-  pub stands : GoodLink past honest keys start → All (TrueProgress (past start).objects keys) carried
-      → Standing past honest keys c link ends saved × WentOn keys (past start) (past link)
-  pub honest_still : (names : Names) → honest start names → honest link names
-  pub further : GoodLink past honest keys start → All (TrueProgress (past start).objects keys) carried
-      → KeepsFurther past honest calm keys ⊤ start link
+  pub stands : GoodLink keys start → All (TrueProgress start.past.objects keys) carried
+      → Standing keys c link ends saved × WentOn keys start.past link.past
+  pub honest_still : (names : Names) → start.honest names → link.honest names
+  pub further : GoodLink keys start → All (TrueProgress start.past.objects keys) carried
+      → KeepsFurther keys ⊤ start link
   pub each : AllZip (IsEnd keys) (take at runs) ends
-  pub settled : CalmLink past calm keys start → All (TrueProgress (past start).objects keys) carried → AllZip (Settles keys) (take at runs) ends × CalmLink past calm keys link
+  pub settled : CalmLink keys start → All (TrueProgress start.past.objects keys) carried → AllZip (Settles keys) (take at runs) ends × CalmLink keys link
   pub as_many_ends : length ends ≡ at
-  pub recalled : Recalled past honest keys carried runs c start link ends saved
+  pub recalled : Recalled keys carried runs c start link ends saved
   pub as_many : length saved ≡ length (filter saves (take at runs))
 
 one_longer : (old new : List RunEnd) (end : RunEnd) (at : ℕ) → length old ≡ at → new ≡ old ++ end ∷ [] → length new ≡ suc at
@@ -52,53 +53,53 @@ take-none (run ∷ runs) = refl
 none_each : (R : Run → RunEnd → Type 0) (runs : List Run) → AllZip R (take 0 runs) []
 none_each R runs = subst (λ rs. AllZip R rs []) (sym (take-none runs)) tt
 
-module _ {L : Type 0} (past : L → Past) (honest calm : L → Names → Type 0) (keys : List Key) (carried : List (List Known)) where
+module _ (keys : List Key) (carried : List (List Known)) where
   -- what was carried over is true still
-  pub carried_on : CampaignLaws → (start link : L) → IsLawful keys → WentOn keys (past start) (past link) → All (TrueProgress (past start).objects keys) carried
-      → All (TrueProgress (past link).objects keys) carried
-  carried_on l start link lawful went holds = true_onward l keys (past start).objects (past link).objects carried lawful went.onward holds
+  pub carried_on : CampaignLaws → (start link : Seen) → IsLawful keys → WentOn keys start.past link.past → All (TrueProgress start.past.objects keys) carried
+      → All (TrueProgress link.past.objects keys) carried
+  carried_on l start link lawful went holds = true_onward l keys start.past.objects link.past.objects carried lawful went.onward holds
 
   -- what stands after one more run, whether it was broken off or not
-  pub ran_on : CampaignLaws → (a b : ClientState) (start x y : L) (runs : List Run) (at : ℕ) (whole : Type 0) (ends nexts : List RunEnd) (saved kept : List (List Known))
-      → IsLawful keys → Running past honest calm keys carried a start x runs ends saved at
-      → (Standing past honest keys a x ends saved → All (TrueProgress (past x).objects keys) carried
-      → Standing past honest keys b y nexts kept × WentOn keys (past x) (past y))
-      → (Standing past honest keys a x ends saved → All (TrueProgress (past x).objects keys) carried → KeepsFurther past honest calm keys whole x y)
-      → GoodLink past honest keys start → All (TrueProgress (past start).objects keys) carried
-      → Standing past honest keys b y nexts kept × WentOn keys (past start) (past y) × KeepsFurther past honest calm keys whole start y
+  pub ran_on : CampaignLaws → (a b : ClientState) (start x y : Seen) (runs : List Run) (at : ℕ) (whole : Type 0) (ends nexts : List RunEnd) (saved kept : List (List Known))
+      → IsLawful keys → Running keys carried a start x runs ends saved at
+      → (Standing keys a x ends saved → All (TrueProgress x.past.objects keys) carried
+      → Standing keys b y nexts kept × WentOn keys x.past y.past)
+      → (Standing keys a x ends saved → All (TrueProgress x.past.objects keys) carried → KeepsFurther keys whole x y)
+      → GoodLink keys start → All (TrueProgress start.past.objects keys) carried
+      → Standing keys b y nexts kept × WentOn keys start.past y.past × KeepsFurther keys whole start y
   ran_on l a b start x y runs at whole ends nexts saved kept lawful before stands further good holds =
       let (standing, went) = before.stands good holds in
       let now = carried_on l start x lawful went holds in
       let (then, on) = stands standing now in (
         then,
-        record { onward = l.twice keys (past start).objects (past x).objects (past y).objects went.onward on.onward; mirrored = λ image. on.mirrored (went.mirrored image) },
-        further_then past honest calm l.twice keys start x y ⊤ whole (λ is. tt) (before.further good holds) (further standing now),
+        record { onward = l.twice keys start.past.objects x.past.objects y.past.objects went.onward on.onward; mirrored = λ image. on.mirrored (went.mirrored image) },
+        further_then l.twice keys start x y ⊤ whole (λ is. tt) (before.further good holds) (further standing now),
       )
 
-  pub ran_off : CampaignLaws → (a b : ClientState) (start x y : L) (runs : List Run) (at : ℕ) (whole : Type 0) (ends nexts : List RunEnd) (saved kept : List (List Known))
-      → IsLawful keys → b.keys ≡ keys → Running past honest calm keys carried a start x runs ends saved at
-      → (Standing past honest keys a x ends saved → All (TrueProgress (past x).objects keys) carried
-      → Standing past honest keys b y nexts kept × WentOn keys (past x) (past y))
-      → (Standing past honest keys a x ends saved → All (TrueProgress (past x).objects keys) carried → KeepsFurther past honest calm keys whole x y)
-      → GoodLink past honest keys start → All (TrueProgress (past start).objects keys) carried
-      → Campaigned past honest keys start y nexts kept × KeepsFurther past honest calm keys whole start y
+  pub ran_off : CampaignLaws → (a b : ClientState) (start x y : Seen) (runs : List Run) (at : ℕ) (whole : Type 0) (ends nexts : List RunEnd) (saved kept : List (List Known))
+      → IsLawful keys → b.keys ≡ keys → Running keys carried a start x runs ends saved at
+      → (Standing keys a x ends saved → All (TrueProgress x.past.objects keys) carried
+      → Standing keys b y nexts kept × WentOn keys x.past y.past)
+      → (Standing keys a x ends saved → All (TrueProgress x.past.objects keys) carried → KeepsFurther keys whole x y)
+      → GoodLink keys start → All (TrueProgress start.past.objects keys) carried
+      → Campaigned keys start y nexts kept × KeepsFurther keys whole start y
   ran_off l a b start x y runs at whole ends nexts saved kept lawful b_keys before stands further good holds =
       let (standing, went, kept_further) = ran_on l a b start x y runs at whole ends nexts saved kept lawful before stands further good holds in
-      (campaigned past honest keys b start y nexts kept b_keys (standing, went), kept_further)
+      (campaigned keys b start y nexts kept b_keys (standing, went), kept_further)
 
   -- and one more run
-  pub running_more : CampaignLaws → (a b : ClientState) (start x y : L) (runs : List Run) (at : ℕ) (run : Run) (old new : CampaignEnd) → IsLawful keys
-      → slice_get runs at ≡ Some run → Running past honest calm keys carried a start x runs old.runs.items old.saved.items at → b.keys ≡ keys → All (Suits keys) new.saved.items
-      → (Standing past honest keys a x old.runs.items old.saved.items → All (TrueProgress (past x).objects keys) carried
-      → Standing past honest keys b y new.runs.items new.saved.items × WentOn keys (past x) (past y))
-      → ((names : Names) → honest x names → honest y names)
-      → (Standing past honest keys a x old.runs.items old.saved.items → All (TrueProgress (past x).objects keys) carried → KeepsFurther past honest calm keys ⊤ x y)
-      → HasRun past honest keys carried run a b x y old new → ((link : L) (names : Names) → calm link names → honest link names)
-      → (Standing past honest keys a x old.runs.items old.saved.items → All (TrueProgress (past x).objects keys) carried → CalmLink past calm keys x
-      → HasSettled keys run old.runs.items new.runs.items × CalmLink past calm keys y) → Running past honest calm keys carried b start y runs new.runs.items new.saved.items (at + 1)
-  running_more l a b start x y runs at run old new lawful is before b_keys suits stands still further ran calm_honest settles =
+  pub running_more : CampaignLaws → (a b : ClientState) (start x y : Seen) (runs : List Run) (at : ℕ) (run : Run) (old new : CampaignEnd) → IsLawful keys
+      → slice_get runs at ≡ Some run → Running keys carried a start x runs old.runs.items old.saved.items at → b.keys ≡ keys → All (Suits keys) new.saved.items
+      → (Standing keys a x old.runs.items old.saved.items → All (TrueProgress x.past.objects keys) carried
+      → Standing keys b y new.runs.items new.saved.items × WentOn keys x.past y.past)
+      → ((names : Names) → x.honest names → y.honest names)
+      → (Standing keys a x old.runs.items old.saved.items → All (TrueProgress x.past.objects keys) carried → KeepsFurther keys ⊤ x y)
+      → HasRun keys carried run a b x y old new
+      → (Standing keys a x old.runs.items old.saved.items → All (TrueProgress x.past.objects keys) carried → CalmLink keys x
+      → HasSettled keys run old.runs.items new.runs.items × CalmLink keys y) → Running keys carried b start y runs new.runs.items new.saved.items (at + 1)
+  running_more l a b start x y runs at run old new lawful is before b_keys suits stands still further ran settles =
       let e : at + 1 ≡ suc at = omega arith in
-      subst (λ n. Running past honest calm keys carried b start y runs new.runs.items new.saved.items n) (sym e)
+      subst (λ n. Running keys carried b start y runs new.runs.items new.saved.items n) (sym e)
       (record {
         keys_are = b_keys;
         suits = suits;
@@ -111,56 +112,56 @@ module _ {L : Type 0} (past : L → Past) (honest calm : L → Names → Type 0)
         each = ends_more keys runs at run old.runs.items new.runs.items is before.each b.knowns ran.driven ran.ended.noted;
         settled = λ calmly holds.
             let first = before.settled calmly holds in
-            let good : GoodLink past honest keys start = record { honest_for = calm_honest start (is_planned keys) calmly.calm_for; sound = calmly.sound } in
+            let good : GoodLink keys start = record { honest_for = start.calm_is_honest (is_planned keys) calmly.calm_for; sound = calmly.sound } in
             let (standing, went) = before.stands good holds in
             let second = settles standing (carried_on l start x lawful went holds) first.1 in (
               zip_more (Settles keys) runs at run old.runs.items new.runs.items second.0.end is first.0 second.0.joined second.0.settles,
               second.1,
             );
         as_many_ends = one_longer old.runs.items new.runs.items ran.ended.noted.end at before.as_many_ends ran.ended.noted.joined;
-        recalled = recalled_more past honest keys carried runs a b start x y run old new at is before.as_many_ends before.recalled ran;
+        recalled = recalled_more keys carried runs a b start x y run old new at is before.as_many_ends before.recalled ran;
         as_many = saves_more runs at run (length old.saved.items) (length new.saved.items) is before.as_many
             (saved_long run b.knowns old.saved.items new.saved.items ran.ended.saved_are);
       })
 
   -- before the first
-  pub running_none : CampaignLaws → (c : ClientState) (x : L) (runs : List Run) (ends : List RunEnd) (saved : List (List Known)) → c ≡ fresh keys
-      → ((objects : List Object) → Held objects c.keys c.knowns) → ends ≡ [] → saved ≡ [] → Running past honest calm keys carried c x x runs ends saved 0
+  pub running_none : CampaignLaws → (c : ClientState) (x : Seen) (runs : List Run) (ends : List RunEnd) (saved : List (List Known)) → c ≡ fresh keys
+      → ((objects : List Object) → Held objects c.keys c.knowns) → ends ≡ [] → saved ≡ [] → Running keys carried c x x runs ends saved 0
   running_none l c x runs ends saved is held no_end none_saved =
       let c_keys = ap (λ (s : ClientState). s.keys) is in
       record {
         keys_are = c_keys;
         suits = rw none_saved (All-nil (Suits keys));
-        stands = λ good holds. opened past honest l keys c x ends saved c_keys (held (past x).objects) no_end none_saved good;
+        stands = λ good holds. opened l keys c x ends saved c_keys (held x.past.objects) no_end none_saved good;
         honest_still = λ names honestly. honestly;
-        further = λ good holds. further_nowhere past honest calm l.itself keys x ⊤;
+        further = λ good holds. further_nowhere l.itself keys x ⊤;
         each = rw no_end (none_each (IsEnd keys) runs);
         settled = λ calmly holds. (rw no_end (none_each (Settles keys) runs), calmly);
         as_many_ends = ap length no_end;
-        recalled = recalled_none past honest keys carried runs c x ends saved (ap (λ (s : ClientState). s.knowns) is) no_end none_saved;
+        recalled = recalled_none keys carried runs c x ends saved (ap (λ (s : ClientState). s.knowns) is) no_end none_saved;
         as_many = ap length none_saved ∙ sym (ap (λ rs. length (filter saves rs)) (take-none runs));
       }
 
   -- no client was there to begin with
-  pub ran_nothing : CampaignLaws → (x : L) (whole : Type 0) (ends : List RunEnd) (saved : List (List Known)) → ends ≡ [] → saved ≡ [] → GoodLink past honest keys x
-      → Campaigned past honest keys x x ends saved × KeepsFurther past honest calm keys whole x x
+  pub ran_nothing : CampaignLaws → (x : Seen) (whole : Type 0) (ends : List RunEnd) (saved : List (List Known)) → ends ≡ [] → saved ≡ [] → GoodLink keys x
+      → Campaigned keys x x ends saved × KeepsFurther keys whole x x
   ran_nothing l x whole ends saved no_end none_saved good = (
     record {
       good = good;
-      on = record { onward = l.itself keys (past x).objects; mirrored = λ image. image };
-      noted = noted_none (past x).objects keys ends saved no_end none_saved;
+      on = record { onward = l.itself keys x.past.objects; mirrored = λ image. image };
+      noted = noted_none x.past.objects keys ends saved no_end none_saved;
     },
-    further_nowhere past honest calm l.itself keys x whole,
+    further_nowhere l.itself keys x whole,
   )
 
   -- a run is begun and driven
-  pub driven_further : (a b : ClientState) (x y : L) (stop : Stop) (ends : List RunEnd) (saved : List (List Known)) → a.keys ≡ keys → b.keys ≡ keys
-      → (All (TrueProgress (past x).objects keys) saved → Held (past x).objects a.keys a.knowns → Held (past x).objects b.keys b.knowns)
-      → (IsGood past honest b x → KeepsFurther past honest calm b.keys (stop ≢ stops.NoMemory) x y) → Standing past honest keys a x ends saved
-      → KeepsFurther past honest calm keys (stop ≢ stops.NoMemory) x y
+  pub driven_further : (a b : ClientState) (x y : Seen) (stop : Stop) (ends : List RunEnd) (saved : List (List Known)) → a.keys ≡ keys → b.keys ≡ keys
+      → (All (TrueProgress x.past.objects keys) saved → Held x.past.objects a.keys a.knowns → Held x.past.objects b.keys b.knowns)
+      → (IsGood b x → KeepsFurther b.keys (stop ≢ stops.NoMemory) x y) → Standing keys a x ends saved
+      → KeepsFurther keys (stop ≢ stops.NoMemory) x y
   driven_further a b x y stop ends saved a_keys b_keys begun further standing =
-      subst (λ ks. KeepsFurther past honest calm ks (stop ≢ stops.NoMemory) x y) b_keys
-      (further (good_with past honest a b x (b_keys ∙ sym a_keys) standing.good (begun standing.noted.true_saved standing.good.held)))
+      subst (λ ks. KeepsFurther ks (stop ≢ stops.NoMemory) x y) b_keys
+      (further (good_with a b x (b_keys ∙ sym a_keys) standing.good (begun standing.noted.true_saved standing.good.held)))
 
 -- ---- all runs
 

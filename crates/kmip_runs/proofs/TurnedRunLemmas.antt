@@ -5,6 +5,7 @@ use Rattle.kmip_progress.specs.declared.known.Known.{Known}
 use Rattle.kmip_client.specs.Clients.{ClientState, fresh}
 use Rattle.kmip_protocol.specs.Moves.{Delivered}
 use Rattle.kmip_protocol.specs.Past.{Names, Past, is_planned}
+use Rattle.kmip_protocol.specs.Seen.{Seen}
 use Rattle.kmip_runs.specs.PrivateCampaignParts.{AreSame, HasEnded}
 use Rattle.kmip_runs.specs.Driving.{Keeps}
 use Rattle.kmip_runs.specs.Remembering.{Talk, saved_after}
@@ -68,17 +69,17 @@ left_same stops.Limit last next memory left = left
 left_same stops.Conflict last next memory left = left
 left_same stops.NoMemory last next memory left = absurd (memory refl)
 
-module _ {L : Type 0} (past : L → Past) (honest : L → Names → Type 0) (keys : List Key) where
+module _ (keys : List Key) where
   -- a run is begun, driven, noted and closed
-  pub ran_turned : (run : Run) (first b c : ClientState) (x y z : L) (driven : Stop × ℕ) (old new : CampaignEnd) → b.keys ≡ keys → b ≡ first → Keeps b c
-      → ((names : Names) → honest x names → honest y names) → ((names : Names) → honest y names → honest z names × Delivered names (past y) (past z))
-      → driven.0 ≢ stops.NoMemory → IsTurned (honest x (is_planned b.keys)) driven.0 driven.1 b c (past x) (past y) → HasEnded c.keys run c.knowns driven old new
-      → RanTurned keys first c (honest x (is_planned keys)) (past x) (past z) old.runs.items new.runs.items
+  pub ran_turned : (run : Run) (first b c : ClientState) (x y z : Seen) (driven : Stop × ℕ) (old new : CampaignEnd) → b.keys ≡ keys → b ≡ first → Keeps b c
+      → ((names : Names) → x.honest names → y.honest names) → ((names : Names) → y.honest names → z.honest names × Delivered names y.past z.past)
+      → driven.0 ≢ stops.NoMemory → IsTurned (x.honest (is_planned b.keys)) driven.0 driven.1 b c x.past y.past → HasEnded c.keys run c.knowns driven old new
+      → RanTurned keys first c (x.honest (is_planned keys)) x.past z.past old.runs.items new.runs.items
   ran_turned run first b c x y z driven old new b_keys begun keeps still closes memory turned ended =
       let noted = subst (λ ks. HasEnded ks run c.knowns driven old new) (keeps.keys_stay ∙ b_keys) ended in
       let same : c ≡ turned.last = left_same driven.0 turned.last c memory turned.left in
       let turns = subst (λ s. Turns turned.questions turned.answers b s) (sym same) turned.turns in
-      let own : honest x (is_planned keys) → honest x (is_planned b.keys) = λ holds. subst (λ ks. honest x (is_planned ks)) (sym b_keys) holds in
+      let own : x.honest (is_planned keys) → x.honest (is_planned b.keys) = λ holds. subst (λ ks. x.honest (is_planned ks)) (sym b_keys) holds in
       record {
         end = noted.noted.end;
         talk = record { questions = turned.questions; answers = turned.answers };
@@ -88,9 +89,9 @@ module _ {L : Type 0} (past : L → Past) (honest : L → Names → Type 0) (key
           as_many = turned.as_many ∙ sym noted.noted.exchanges_is;
           shows = noted.noted.shows;
         };
-        sent_are = λ holds. (delivered_stays (is_planned keys) (past y) (past z) (closes (is_planned keys) (still (is_planned keys) holds)).1).sent_stays ∙ turned.sent_are (own holds);
+        sent_are = λ holds. (delivered_stays (is_planned keys) y.past z.past (closes (is_planned keys) (still (is_planned keys) holds)).1).sent_stays ∙ turned.sent_are (own holds);
         handed_are = λ holds.
-            (delivered_stays (is_planned keys) (past y) (past z) (closes (is_planned keys) (still (is_planned keys) holds)).1).handed_stays
+            (delivered_stays (is_planned keys) y.past z.past (closes (is_planned keys) (still (is_planned keys) holds)).1).handed_stays
             ∙ turned.handed_are (own holds) memory;
       }
 

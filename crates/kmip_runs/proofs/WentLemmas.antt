@@ -15,6 +15,7 @@ use Rattle.kmip_client.specs.declared.knowledge.Knowledge.{Knowledge}
 use Rattle.kmip_protocol.specs.Laws.{DeliveriesKeepTheRequests}
 use Rattle.kmip_protocol.specs.Moves.{Delivered}
 use Rattle.kmip_protocol.specs.Past.{Names, Past, is_planned}
+use Rattle.kmip_protocol.specs.Seen.{Seen}
 use Rattle.kmip_protocol.specs.Ready.{IsReady}
 use Rattle.kmip_runs.specs.Driving.{AsksOne, Grown, IsGood, IsQuestion, Keeps, Learnt, LearntUntil, WentOn, need}
 use Rattle.kmip_runs.specs.declared.stop.Stop.{Stop}
@@ -222,138 +223,137 @@ stop_is s t is = cc
 
 -- ---- exchanges, one after the other
 
-module _ {L : Type 0} (past : L → Past) (honest calm : L → Names → Type 0) where
-  pub went_nowhere : CarryingLaws → (c : ClientState) (x : L) (result : Result Stop SaveFault) → IsInMemory result → Went past honest calm c c x x result 0
-  went_nowhere l c x result memory = record {
-    good = λ good. good;
-    goes = λ good. record { onward = l.itself c.keys (past x).objects; mirrored = λ image. image };
-    known = λ holds. (holds, λ in_memory. learnt_nothing c.keys c.batch (past x) c.knowns);
-    broken = λ holds is. absurd (memory is);
-    grown = λ holds. grown_itself (past x);
-    keeps = keeps_itself c;
-    near = λ settling whole. record { settling = settling; nearer = omega arith; exactly = λ one. omega arith };
-  }
+pub went_nowhere : CarryingLaws → (c : ClientState) (x : Seen) (result : Result Stop SaveFault) → IsInMemory result → Went c c x x result 0
+went_nowhere l c x result memory = record {
+  good = λ good. good;
+  goes = λ good. record { onward = l.itself c.keys x.past.objects; mirrored = λ image. image };
+  known = λ holds. (holds, λ in_memory. learnt_nothing c.keys c.batch x.past c.knowns);
+  broken = λ holds is. absurd (memory is);
+  grown = λ holds. grown_itself x.past;
+  keeps = keeps_itself c;
+  near = λ settling whole. record { settling = settling; nearer = omega arith; exactly = λ one. omega arith };
+}
 
-  -- where there was no memory to begin with
-  pub went_unbegun : CarryingLaws → (c : ClientState) (x : L) → Went past honest calm c c x x (Ok stops.NoMemory) 0
-  went_unbegun l c x = record {
-    good = λ good. good;
-    goes = λ good. record { onward = l.itself c.keys (past x).objects; mirrored = λ image. image };
-    known = λ holds. (holds, λ memory. absurd (memory refl));
-    broken = λ holds is. record {
-      between = past x;
-      heard = 0;
-      learnt = learnt_nothing c.keys c.batch (past x) c.knowns;
-      broken = inl (refl, record { asked = inl refl; sent_stays = refl; handed_stays = refl });
-    };
-    grown = λ holds. grown_itself (past x);
-    keeps = keeps_itself c;
-    near = λ settling whole. absurd (whole refl);
-  }
+-- where there was no memory to begin with
+pub went_unbegun : CarryingLaws → (c : ClientState) (x : Seen) → Went c c x x (Ok stops.NoMemory) 0
+went_unbegun l c x = record {
+  good = λ good. good;
+  goes = λ good. record { onward = l.itself c.keys x.past.objects; mirrored = λ image. image };
+  known = λ holds. (holds, λ memory. absurd (memory refl));
+  broken = λ holds is. record {
+    between = x.past;
+    heard = 0;
+    learnt = learnt_nothing c.keys c.batch x.past c.knowns;
+    broken = inl (refl, record { asked = inl refl; sent_stays = refl; handed_stays = refl });
+  };
+  grown = λ holds. grown_itself x.past;
+  keeps = keeps_itself c;
+  near = λ settling whole. absurd (whole refl);
+}
 
-  pub went_then : CarryingLaws → (a b c : ClientState) (x y z : L) (stop : Stop) (result : Result Stop SaveFault) (m n : ℕ) → stop ≢ stops.NoMemory
-      → Went past honest calm a b x y (Ok stop) m → Went past honest calm b c y z result n → Went past honest calm a c x z result (m + n)
-  went_then l a b c x y z stop result m n memory first second =
-      let in_memory : IsInMemory (Ok stop) = λ is. memory (stop_is stop stops.NoMemory is) in
-      let keys = first.keeps.keys_stay in
-      record {
-        good = λ good. second.good (first.good good);
-        goes = λ good.
-            let before = first.goes good in
-            let after = subst (λ ks. WentOn ks (past y) (past z)) keys (second.goes (first.good good)) in
-            record {
-              onward = l.twice a.keys (past x).objects (past y).objects (past z).objects before.onward after.onward;
-              mirrored = λ image. after.mirrored (before.mirrored image);
-            };
-        known = λ holds.
-            let before = first.known holds in
-            let after = second.known (subst (λ ks. honest y (is_planned ks)) (sym keys) before.0) in (
-              subst (λ ks. honest z (is_planned ks)) keys after.0,
-              λ whole.
-                  learnt_then l.blind a.keys a.batch (past x) (past y) (past z) a.knowns b.knowns c.knowns m n (before.1 in_memory)
-                  (subst (λ ks. Learnt ks a.batch (past y) (past z) b.knowns c.knowns n) keys
-                  (subst (λ most. Learnt b.keys most (past y) (past z) b.knowns c.knowns n) first.keeps.batch_stays (after.1 whole))),
-            );
-        broken = λ holds is.
-            let before = first.known holds in
-            let after = second.broken (subst (λ ks. honest y (is_planned ks)) (sym keys) before.0) is in
-            until_then l.blind a.keys a.batch (past x) (past y) (past z) a.knowns b.knowns c.knowns m n (before.1 in_memory)
-            (subst (λ ks. LearntUntil ks a.batch (past y) (past z) b.knowns c.knowns n) keys
-            (subst (λ most. LearntUntil b.keys most (past y) (past z) b.knowns c.knowns n) first.keeps.batch_stays after));
-        grown = λ holds.
-            grown_then (past x) (past y) (past z) (first.grown holds) (second.grown (subst (λ ks. honest y (is_planned ks)) (sym keys) (first.known holds).0));
-        keeps = keeps_then a b c first.keeps second.keeps;
-        near = λ settling whole.
-            let before = first.near settling memory in
-            let after = second.near before.settling whole in
-            record {
-              settling = after.settling;
-              nearer = omega (arith, before.nearer, after.nearer);
-              exactly = λ one. omega (arith, before.exactly one, after.exactly (asks_one a b first.keeps one));
-            };
-      }
+pub went_then : CarryingLaws → (a b c : ClientState) (x y z : Seen) (stop : Stop) (result : Result Stop SaveFault) (m n : ℕ) → stop ≢ stops.NoMemory
+    → Went a b x y (Ok stop) m → Went b c y z result n → Went a c x z result (m + n)
+went_then l a b c x y z stop result m n memory first second =
+    let in_memory : IsInMemory (Ok stop) = λ is. memory (stop_is stop stops.NoMemory is) in
+    let keys = first.keeps.keys_stay in
+    record {
+      good = λ good. second.good (first.good good);
+      goes = λ good.
+          let before = first.goes good in
+          let after = subst (λ ks. WentOn ks y.past z.past) keys (second.goes (first.good good)) in
+          record {
+            onward = l.twice a.keys x.past.objects y.past.objects z.past.objects before.onward after.onward;
+            mirrored = λ image. after.mirrored (before.mirrored image);
+          };
+      known = λ holds.
+          let before = first.known holds in
+          let after = second.known (subst (λ ks. y.honest (is_planned ks)) (sym keys) before.0) in (
+            subst (λ ks. z.honest (is_planned ks)) keys after.0,
+            λ whole.
+                learnt_then l.blind a.keys a.batch x.past y.past z.past a.knowns b.knowns c.knowns m n (before.1 in_memory)
+                (subst (λ ks. Learnt ks a.batch y.past z.past b.knowns c.knowns n) keys
+                (subst (λ most. Learnt b.keys most y.past z.past b.knowns c.knowns n) first.keeps.batch_stays (after.1 whole))),
+          );
+      broken = λ holds is.
+          let before = first.known holds in
+          let after = second.broken (subst (λ ks. y.honest (is_planned ks)) (sym keys) before.0) is in
+          until_then l.blind a.keys a.batch x.past y.past z.past a.knowns b.knowns c.knowns m n (before.1 in_memory)
+          (subst (λ ks. LearntUntil ks a.batch y.past z.past b.knowns c.knowns n) keys
+          (subst (λ most. LearntUntil b.keys most y.past z.past b.knowns c.knowns n) first.keeps.batch_stays after));
+      grown = λ holds.
+          grown_then x.past y.past z.past (first.grown holds) (second.grown (subst (λ ks. y.honest (is_planned ks)) (sym keys) (first.known holds).0));
+      keeps = keeps_then a b c first.keeps second.keeps;
+      near = λ settling whole.
+          let before = first.near settling memory in
+          let after = second.near before.settling whole in
+          record {
+            settling = after.settling;
+            nearer = omega (arith, before.nearer, after.nearer);
+            exactly = λ one. omega (arith, before.exactly one, after.exactly (asks_one a b first.keeps one));
+          };
+    }
 
-  -- the end of the run, after these exchanges
-  pub went_closed : {V E : Type 0} → CarryingLaws → (a b : ClientState) (x y z : L) (result ended : Result Stop SaveFault) (closed : Result V E) (m : ℕ) → IsLawful a.keys
-      → ((names : Names) → honest y names → honest z names × Delivered names (past y) (past z))
-      → ((names : Names) → calm y names → calm z names × OnOk closed (past z ≡ past y)) → (IsInMemory ended → IsInMemory result)
-      → (ended ≡ Ok stops.NoMemory → (result ≡ Ok stops.NoMemory) ⊎ IsInMemory result)
-      → (IsWhole ended → IsWhole result × (OnOk closed (past z ≡ past y) → past z ≡ past y)) → Went past honest calm a b x y result m → Went past honest calm a b x z ended m
-  went_closed l a b x y z result ended closed m lawful delivers calms memory cut whole first =
-      let keys = first.keeps.keys_stay in
-      record {
-        good = λ good. (good_closed (first.good good)).0;
-        goes = λ good.
-            let before = first.goes good in
-            let after = subst (λ ks. WentOn ks (past y) (past z)) keys (good_closed (first.good good)).1 in
-            record {
-              onward = l.twice a.keys (past x).objects (past y).objects (past z).objects before.onward after.onward;
-              mirrored = λ image. after.mirrored (before.mirrored image);
+-- the end of the run, after these exchanges
+pub went_closed : {V E : Type 0} → CarryingLaws → (a b : ClientState) (x y z : Seen) (result ended : Result Stop SaveFault) (closed : Result V E) (m : ℕ) → IsLawful a.keys
+    → ((names : Names) → y.honest names → z.honest names × Delivered names y.past z.past)
+    → ((names : Names) → y.calm names → z.calm names × OnOk closed (z.past ≡ y.past)) → (IsInMemory ended → IsInMemory result)
+    → (ended ≡ Ok stops.NoMemory → (result ≡ Ok stops.NoMemory) ⊎ IsInMemory result)
+    → (IsWhole ended → IsWhole result × (OnOk closed (z.past ≡ y.past) → z.past ≡ y.past)) → Went a b x y result m → Went a b x z ended m
+went_closed l a b x y z result ended closed m lawful delivers calms memory cut whole first =
+    let keys = first.keeps.keys_stay in
+    record {
+      good = λ good. (good_closed (first.good good)).0;
+      goes = λ good.
+          let before = first.goes good in
+          let after = subst (λ ks. WentOn ks y.past z.past) keys (good_closed (first.good good)).1 in
+          record {
+            onward = l.twice a.keys x.past.objects y.past.objects z.past.objects before.onward after.onward;
+            mirrored = λ image. after.mirrored (before.mirrored image);
+          };
+      known = λ holds.
+          let before = first.known holds in
+          let step = delivers (is_planned a.keys) before.0 in (
+            step.0,
+            λ in_memory.
+                let none : m + 0 ≡ m = omega arith in
+                subst (λ n. Learnt a.keys a.batch x.past z.past a.knowns b.knowns n) none
+                (learnt_then l.blind a.keys a.batch x.past y.past z.past a.knowns b.knowns b.knowns m 0 (before.1 (memory in_memory))
+                (learnt_delivered l.requests a.keys a.batch (is_planned a.keys) y.past z.past b.knowns step.1)),
+          );
+      broken = λ holds is.
+          let before = first.known holds in
+          let step = delivers (is_planned a.keys) before.0 in
+          elim (cut is) [
+            | inl so ↦ until_delivered l.requests a.keys a.batch (is_planned a.keys) x.past y.past z.past a.knowns b.knowns m step.1 (first.broken holds so)
+            | inr in_memory ↦ until_behind l.requests a.keys a.batch (is_planned a.keys) x.past y.past z.past a.knowns b.knowns m step.1 (before.1 in_memory)
+          ];
+      grown = λ holds.
+          let step = delivers (is_planned a.keys) (first.known holds).0 in
+          grown_then x.past y.past z.past (first.grown holds) (grown_delivered l.requests (is_planned a.keys) y.past z.past step.1);
+      keeps = first.keeps;
+      near = λ settling done.
+          let held = whole done in
+          let before = first.near settling held.0 in
+          let step = calms (is_planned b.keys) before.settling.calm_for in
+          let same = held.1 step.1 in
+          record {
+            settling = record {
+              calm_for = step.0;
+              ready = subst (λ (p : Past). IsReady p.room b.keys p.objects b.knowns) (sym same) before.settling.ready;
             };
-        known = λ holds.
-            let before = first.known holds in
-            let step = delivers (is_planned a.keys) before.0 in (
-              step.0,
-              λ in_memory.
-                  let none : m + 0 ≡ m = omega arith in
-                  subst (λ n. Learnt a.keys a.batch (past x) (past z) a.knowns b.knowns n) none
-                  (learnt_then l.blind a.keys a.batch (past x) (past y) (past z) a.knowns b.knowns b.knowns m 0 (before.1 (memory in_memory))
-                  (learnt_delivered l.requests a.keys a.batch (is_planned a.keys) (past y) (past z) b.knowns step.1)),
-            );
-        broken = λ holds is.
-            let before = first.known holds in
-            let step = delivers (is_planned a.keys) before.0 in
-            elim (cut is) [
-              | inl so ↦ until_delivered l.requests a.keys a.batch (is_planned a.keys) (past x) (past y) (past z) a.knowns b.knowns m step.1 (first.broken holds so)
-              | inr in_memory ↦ until_behind l.requests a.keys a.batch (is_planned a.keys) (past x) (past y) (past z) a.knowns b.knowns m step.1 (before.1 in_memory)
-            ];
-        grown = λ holds.
-            let step = delivers (is_planned a.keys) (first.known holds).0 in
-            grown_then (past x) (past y) (past z) (first.grown holds) (grown_delivered l.requests (is_planned a.keys) (past y) (past z) step.1);
-        keeps = first.keeps;
-        near = λ settling done.
-            let held = whole done in
-            let before = first.near settling held.0 in
-            let step = calms (is_planned b.keys) before.settling.calm_for in
-            let same = held.1 step.1 in
-            record {
-              settling = record {
-                calm_for = step.0;
-                ready = subst (λ (p : Past). IsReady p.room b.keys p.objects b.knowns) (sym same) before.settling.ready;
-              };
-              nearer = subst (λ (p : Past). m + need b p ≤ need a (past x)) (sym same) before.nearer;
-              exactly = λ one. subst (λ (p : Past). m + need b p ≡ need a (past x)) (sym same) (before.exactly one);
-            };
-      }
-    where
-      good_closed : IsGood past honest b y → IsGood past honest b z × WentOn b.keys (past y) (past z)
-      good_closed good =
-          let step = delivers (is_planned b.keys) good.honest_for in
-          let on = l.onward b.keys (past y) (past z) good.sound step.1 in (
-            record {
-              honest_for = step.0;
-              sound = l.deliveries b.keys (past y) (past z) good.sound step.1;
-              held = l.known_for_good b.keys b.knowns (past y).objects (past z).objects (subst (λ ks. IsLawful ks) (sym first.keeps.keys_stay) lawful) on good.held;
-            },
-            record { onward = on; mirrored = λ image. l.images b.keys (past y) (past z) good.sound image step.1 },
-          )
+            nearer = subst (λ (p : Past). m + need b p ≤ need a x.past) (sym same) before.nearer;
+            exactly = λ one. subst (λ (p : Past). m + need b p ≡ need a x.past) (sym same) (before.exactly one);
+          };
+    }
+  where
+    good_closed : IsGood b y → IsGood b z × WentOn b.keys y.past z.past
+    good_closed good =
+        let step = delivers (is_planned b.keys) good.honest_for in
+        let on = l.onward b.keys y.past z.past good.sound step.1 in (
+          record {
+            honest_for = step.0;
+            sound = l.deliveries b.keys y.past z.past good.sound step.1;
+            held = l.known_for_good b.keys b.knowns y.past.objects z.past.objects (subst (λ ks. IsLawful ks) (sym first.keeps.keys_stay) lawful) on good.held;
+          },
+          record { onward = on; mirrored = λ image. l.images b.keys y.past z.past good.sound image step.1 },
+        )

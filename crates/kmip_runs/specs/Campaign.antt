@@ -10,6 +10,7 @@ use Rattle.kmip_client.specs.declared.clash.Clash.{Clash}
 use Rattle.kmip_client.specs.declared.verdict.Verdict.{Verdict}
 use Rattle.kmip_client.specs.declared.verdict.Verdict.TheVariants.{Working, Finished, Conflict}
 use Rattle.kmip_protocol.specs.Past.{Past, Names, is_planned}
+use Rattle.kmip_protocol.specs.Seen.{Seen}
 use Rattle.kmip_protocol.specs.Sound.{Sound}
 use Rattle.kmip_protocol.specs.Needs.{missing}
 use Rattle.kmip_runs.specs.Reporting.{report_text}
@@ -61,10 +62,10 @@ pub record IsEnd (keys : List Key) (run : Run) (end : RunEnd) : Type 0 where
 
 -- The link is calm for the plan's names, all that has happened over it is sound, and there is room for the
 -- objects that are missing.
-pub record CalmLink {L : Type 0} (past : L → Past) (calm : L → Names → Type 0) (keys : List Key) (link : L) : Type 0 where
-  pub calm_for : calm link (is_planned keys)
-  pub sound : Sound keys (past link)
-  pub roomy : length (past link).objects + missing keys (past link).objects ≤ (past link).room
+pub record CalmLink (keys : List Key) (link : Seen) : Type 0 where
+  pub calm_for : link.calm (is_planned keys)
+  pub sound : Sound keys link.past
+  pub roomy : length link.past.objects + missing keys link.past.objects ≤ link.past.room
 
 -- a run that may make as many exchanges as the plan's bound finishes all keys within that bound
 abbrev pub Settles : List Key → Run → RunEnd → Type 0

@@ -9,6 +9,7 @@ use Rattle.kmip_progress.specs.Suiting.{nothing_known}
 use Rattle.kmip_progress.specs.declared.known.Known.{Known}
 use Rattle.kmip_client.specs.Held.{TrueProgress}
 use Rattle.kmip_protocol.specs.Past.{Names, Past, is_planned}
+use Rattle.kmip_protocol.specs.Seen.{Seen}
 use Rattle.kmip_protocol.specs.Sound.{NoneIsFurther, Sound}
 use Rattle.kmip_protocol.specs.Needs.{missing}
 use Rattle.kmip_runs.specs.Campaign.{IsEnd, Settles, saves}
@@ -35,19 +36,19 @@ last_plan (keys ∷ next ∷ plans) = last_plan (next ∷ plans)
 
 -- The link is honest for the names of the last plan, and all that has happened over it is sound for the
 -- first. No name that only later plans have is on an object.
-pub record GoodStart {L : Type 0} (past : L → Past) (honest : L → Names → Type 0) (plans : List (List Key)) (link : L) : Type 0 where
-  pub honest_for : honest link (is_planned (last_plan plans))
-  pub sound : Sound (first_plan plans) (past link)
-  pub none_further : NoneIsFurther (last_plan plans) (first_plan plans) (past link).objects
+pub record GoodStart (plans : List (List Key)) (link : Seen) : Type 0 where
+  pub honest_for : link.honest (is_planned (last_plan plans))
+  pub sound : Sound (first_plan plans) link.past
+  pub none_further : NoneIsFurther (last_plan plans) (first_plan plans) link.past.objects
 
 -- The link is calm for the names of the last plan, and all that has happened over it is sound for the first.
 -- No name that only later plans have is on an object, and there is room for the objects that the last plan
 -- misses.
-pub record CalmStart {L : Type 0} (past : L → Past) (calm : L → Names → Type 0) (plans : List (List Key)) (link : L) : Type 0 where
-  pub calm_for : calm link (is_planned (last_plan plans))
-  pub sound : Sound (first_plan plans) (past link)
-  pub none_further : NoneIsFurther (last_plan plans) (first_plan plans) (past link).objects
-  pub roomy : length (past link).objects + missing (last_plan plans) (past link).objects ≤ (past link).room
+pub record CalmStart (plans : List (List Key)) (link : Seen) : Type 0 where
+  pub calm_for : link.calm (is_planned (last_plan plans))
+  pub sound : Sound (first_plan plans) link.past
+  pub none_further : NoneIsFurther (last_plan plans) (first_plan plans) link.past.objects
+  pub roomy : length link.past.objects + missing (last_plan plans) link.past.objects ≤ link.past.room
 
 -- what was saved under a plan, as its text is read for one that prolongs it: nothing is known of the further
 -- keys. Own (choice).

@@ -22,6 +22,7 @@ use Rattle.kmip_client.specs.declared.knowledge.Knowledge.{Knowledge}
 use Rattle.kmip_client.specs.declared.verdict.Verdict.TheVariants.{Finished, Conflict}
 use Rattle.kmip_protocol.specs.Machine.{IsMirrored}
 use Rattle.kmip_protocol.specs.Past.{Past, Names, is_planned}
+use Rattle.kmip_protocol.specs.Seen.{Seen}
 use Rattle.kmip_protocol.specs.Sound.{Sound}
 use Rattle.kmip_client.specs.Known.{facts, known_after}
 use Rattle.kmip_protocol.specs.SettlingLaws.{NoneIsMade}
@@ -34,23 +35,23 @@ use Rattle.kmip_runs.specs.declared.stop.Stop.TheVariants as stops
 
 -- The link is honest for the plan's names, all that has happened over it is sound, and what the client knows
 -- is true.
-pub record IsGood {L : Type 0} (past : L → Past) (honest : L → Names → Type 0) (c : ClientState) (link : L) : Type 0 where
-  pub honest_for : honest link (is_planned c.keys)
-  pub sound : Sound c.keys (past link)
-  pub held : Held (past link).objects c.keys c.knowns
+pub record IsGood (c : ClientState) (link : Seen) : Type 0 where
+  pub honest_for : link.honest (is_planned c.keys)
+  pub sound : Sound c.keys link.past
+  pub held : Held link.past.objects c.keys c.knowns
 
 -- The link is calm for the plan's names, and the client is ready to settle.
-pub record IsSettling {L : Type 0} (past : L → Past) (calm : L → Names → Type 0) (c : ClientState) (link : L) : Type 0 where
-  pub calm_for : calm link (is_planned c.keys)
-  pub ready : IsReady (past link).room c.keys (past link).objects c.knowns
+pub record IsSettling (c : ClientState) (link : Seen) : Type 0 where
+  pub calm_for : link.calm (is_planned c.keys)
+  pub ready : IsReady link.past.room c.keys link.past.objects c.knowns
 
 -- The link is calm for the plan's names, none of them has an object, there is room for all, and the client
 -- knows nothing yet, however many keys its messages ask about.
-pub record IsUntouched {L : Type 0} (past : L → Past) (calm : L → Names → Type 0) (c : ClientState) (link : L) : Type 0 where
-  pub calm_for : calm link (is_planned c.keys)
+pub record IsUntouched (c : ClientState) (link : Seen) : Type 0 where
+  pub calm_for : link.calm (is_planned c.keys)
   pub fresh_is : c ≡ record (fresh c.keys) { batch = c.batch }
-  pub none_made : NoneIsMade c.keys (past link).objects
-  pub roomy : length (past link).objects + length c.keys ≤ (past link).room
+  pub none_made : NoneIsMade c.keys link.past.objects
+  pub roomy : length link.past.objects + length c.keys ≤ link.past.room
 
 -- Each key of the plan has an object at the end of its chain, and the counts and verdicts say so.
 pub record IsComplete (keys : List Key) (objects : List Object) (knowns : List Knowledge) : Type 0 where
@@ -69,10 +70,10 @@ need c p = need_all c.keys c.knowns p.objects
 
 -- The link is calm and the client ready still. This many exchanges were made, and all keys need at least as
 -- many fewer questions; where each message asks one, exactly as many fewer. Own (law).
-pub record Nearer {L : Type 0} (past : L → Past) (calm : L → Names → Type 0) (c next : ClientState) (x y : L) (made : ℕ) : Type 0 where
-  pub settling : IsSettling past calm next y
-  pub nearer : made + need next (past y) ≤ need c (past x)
-  pub exactly : AsksOne c → made + need next (past y) ≡ need c (past x)
+pub record Nearer (c next : ClientState) (x y : Seen) (made : ℕ) : Type 0 where
+  pub settling : IsSettling next y
+  pub nearer : made + need next y.past ≤ need c x.past
+  pub exactly : AsksOne c → made + need next y.past ≡ need c x.past
 
 -- The objects have gone onward for each key, and a past that was an image of the plan machine still is. Own
 -- (law).
@@ -84,11 +85,11 @@ pub record WentOn (keys : List Key) (old new : Past) : Type 0 where
 -- for its names, what was sound for it stays so, its objects go onward, and an image of its machine stays
 -- one. Over a calm one there is room still for the objects that it misses, where memory did not run out. Own
 -- (law).
-pub record KeepsFurther {L : Type 0} (past : L → Past) (honest calm : L → Names → Type 0) (keys : List Key) (whole : Type 0) (old new : L) : Type 0 where
-  pub good : (further : List Key) → IsLawful further → Prolongs further keys → GoodLink past honest further old
-      → GoodLink past honest further new × WentOn further (past old) (past new)
-  pub calmly : whole → (further : List Key) → IsLawful further → Prolongs further keys → CalmLink past calm further old
-      → CalmLink past calm further new
+pub record KeepsFurther (keys : List Key) (whole : Type 0) (old new : Seen) : Type 0 where
+  pub good : (further : List Key) → IsLawful further → Prolongs further keys → GoodLink further old
+      → GoodLink further new × WentOn further old.past new.past
+  pub calmly : whole → (further : List Key) → IsLawful further → Prolongs further keys → CalmLink further old
+      → CalmLink further new
 
 -- The bytes ask about one key of the plan or more, at most `most` and each once. They ask what a phase of
 -- each key asks, in its one written form.

@@ -5,15 +5,16 @@ use Rattle.std.specs.Prelude.{ℕ, List, [], ◌∷◌, ◌++◌, ◌+◌, map, 
 use Rattle.kmip_plan.specs.Chains.{chain}
 use Rattle.kmip_plan.specs.declared.key.Key.{Key}
 use Rattle.kmip_progress.specs.declared.known.Known.{Known}
-use Rattle.kmip_protocol.specs.Past.{Past, Names, is_planned}
+use Rattle.kmip_protocol.specs.Past.{is_planned}
+use Rattle.kmip_protocol.specs.Seen.{Seen}
 use Rattle.kmip_protocol.specs.Sound.{Sound}
 use Rattle.kmip_server.specs.declared.effect.Effect.{Effect}
 use Rattle.kmip_runs.specs.declared.run_end.RunEnd.{RunEnd}
 
 -- The link is honest for the plan's names, and all that has happened over it is sound.
-pub record GoodLink {L : Type 0} (past : L → Past) (honest : L → Names → Type 0) (keys : List Key) (link : L) : Type 0 where
-  pub honest_for : honest link (is_planned keys)
-  pub sound : Sound keys (past link)
+pub record GoodLink (keys : List Key) (link : Seen) : Type 0 where
+  pub honest_for : link.honest (is_planned keys)
+  pub sound : Sound keys link.past
 
 -- the first steps of a key's chain, as many as are counted
 abbrev pub steps_counted : Key → ℕ → List Effect

@@ -10,6 +10,8 @@ pub mod Reporting
 pub mod Campaign
 -- what a run of exchanges keeps, asks and learns, how it stands when it stops, and how near its end it is
 pub mod Driving
+-- what driving a client over a link promises, and ending a run
+pub mod Drives
 -- what the turns of a run make of a client
 pub mod Turning
 -- what exchanges over a link that goes on losing cost, and how many are enough
@@ -22,6 +24,8 @@ pub mod Remembering
 pub mod TurnedRuns
 -- campaigns on several plans, of which each prolongs the one before it
 pub mod Campaigns
+-- what a campaign promises
+pub mod MakesCampaigns
 -- private: what the parts of a campaign keep
 pub mod PrivateCampaignParts
 -- private: what the parts of a campaign on several plans keep
@@ -32,6 +36,10 @@ pub mod PrivateLawbook
 
 -- which texts are saved, and what each of them says
 pub mod Saved
+-- what carrying out a plan promises
+pub mod CarriesOut
+-- all that a contract sees of a keeper, as one value
+pub mod Keeping
 -- that a text could not be written
 pub mod Refusals
 -- how long a run waits that does not get on

@@ -20,6 +20,7 @@ use Rattle.kmip_protocol.specs.Turns.{taught}
 use Rattle.kmip_runs.specs.Turning.{GivesUp}
 use Rattle.kmip_runs.specs.Remembering.{Talk}
 use Rattle.kmip_runs.specs.TurnedRuns.{RunTurned}
+use Rattle.kmip_runs.specs.Keeping.{Kept}
 
 -- What a turn leaves in which memory ran out, by where it did.
 abbrev pub IsBrokenOff : List Key → ℕ → Past → Past → TurnFault → Type 0
@@ -111,3 +112,7 @@ pub record RanTurned (keys : List Key) (first last : ClientState) (honest : Type
   pub turned : RunTurned keys first last end talk
   pub sent_are : honest → new.sent ≡ old.sent ++ talk.questions
   pub handed_are : honest → new.handed ≡ old.handed ++ talk.answers
+
+-- A keeper of which nothing is claimed, but how often it could not write a text.
+abbrev pub unclaimed : ℕ → Kept
+unclaimed refusals = record { saved = []; keeps = ⊥; refusals = refusals }

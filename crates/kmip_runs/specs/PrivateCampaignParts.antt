@@ -18,6 +18,7 @@ use Rattle.kmip_client.specs.Verdicts.{AreWithin, counts_of, verdicts_of}
 use Rattle.kmip_client.specs.declared.knowledge.Knowledge.{Knowledge}
 use Rattle.kmip_protocol.specs.Laws.{DeliveriesKeepSound, DeliveriesKeepTheImage, ObjectsGoOnward, OpeningIsMirrored, SoundIsSafe}
 use Rattle.kmip_protocol.specs.Past.{Past, Names, is_planned}
+use Rattle.kmip_protocol.specs.Seen.{Seen}
 use Rattle.kmip_protocol.specs.SettlingLaws.{SoundIsReady}
 use Rattle.kmip_runs.specs.Campaign.{CalmLink, HasNoConflict, IsEnd, Settles, saves}
 use Rattle.kmip_runs.specs.Headline.{GoodLink}
@@ -56,16 +57,16 @@ pub record Noted (objects : List Object) (keys : List Key) (ends : List RunEnd) 
   pub true_saved : All (TrueProgress objects keys) saved
 
 -- All is good between two runs, and what was noted so far is true.
-pub record Standing {L : Type 0} (past : L → Past) (honest : L → Names → Type 0) (keys : List Key) (c : ClientState) (link : L) (ends : List RunEnd) (saved : List (List Known)) : Type 0 where
-  pub good : IsGood past honest c link
-  pub noted : Noted (past link).objects keys ends saved
+pub record Standing (keys : List Key) (c : ClientState) (link : Seen) (ends : List RunEnd) (saved : List (List Known)) : Type 0 where
+  pub good : IsGood c link
+  pub noted : Noted link.past.objects keys ends saved
 
 -- After several runs the link is good, the objects have gone onward, and what was noted is true, whatever the
 -- client knows.
-pub record Campaigned {L : Type 0} (past : L → Past) (honest : L → Names → Type 0) (keys : List Key) (old new : L) (ends : List RunEnd) (saved : List (List Known)) : Type 0 where
-  pub good : GoodLink past honest keys new
-  pub on : WentOn keys (past old) (past new)
-  pub noted : Noted (past new).objects keys ends saved
+pub record Campaigned (keys : List Key) (old new : Seen) (ends : List RunEnd) (saved : List (List Known)) : Type 0 where
+  pub good : GoodLink keys new
+  pub on : WentOn keys old.past new.past
+  pub noted : Noted new.past.objects keys ends saved
 
 -- the end says what is known, why the run stopped and how many exchanges it made
 pub record IsEndOf (keys : List Key) (knowns : List Knowledge) (stop : Stop) (exchanges : ℕ) (end : RunEnd) : Type 0 where
@@ -118,12 +119,12 @@ begins_with keys carried run a old = start_knowns keys run.start a.knowns (carri
 
 -- The run was made and has ended: nothing of what it began with is taken back, and over an honest link its
 -- answers taught the rest.
-pub record HasRun {L : Type 0} (past : L → Past) (honest : L → Names → Type 0) (keys : List Key) (carried : List (List Known)) (run : Run) (a b : ClientState) (x y : L) (old new : CampaignEnd) : Type 0 where
+pub record HasRun (keys : List Key) (carried : List (List Known)) (run : Run) (a b : ClientState) (x y : Seen) (old new : CampaignEnd) : Type 0 where
   pub driven : Stop × ℕ
   pub ended : HasEnded keys run b.knowns driven old new
   pub kept : AllZip IsKept (begins_with keys carried run a old) b.knowns
-  pub learnt : honest x (is_planned keys) → honest y (is_planned keys)
-      × Learnt keys run.batch (past x) (past y) (begins_with keys carried run a old) b.knowns driven.1
+  pub learnt : x.honest (is_planned keys) → y.honest (is_planned keys)
+      × Learnt keys run.batch x.past y.past (begins_with keys carried run a old) b.knowns driven.1
 
 -- the run that was noted last finished all keys within the plan's bound, if it might make as many exchanges
 pub record HasSettled (keys : List Key) (run : Run) (old new : List RunEnd) : Type 0 where
@@ -132,21 +133,21 @@ pub record HasSettled (keys : List Key) (run : Run) (old new : List RunEnd) : Ty
   pub settles : Settles keys run end
 
 -- the run was broken off, and nothing is noted of it
-pub record IsBroken {L : Type 0} (past : L → Past) (honest : L → Names → Type 0) (keys : List Key) (run : Run) (x y : L) (old new : CampaignEnd) : Type 0 where
+pub record IsBroken (keys : List Key) (run : Run) (x y : Seen) (old new : CampaignEnd) : Type 0 where
   pub same : AreSame old new
-  pub grown : honest x (is_planned keys) → Grown (past x) (past y)
-  pub few : honest x (is_planned keys) → length (past y).sent ≤ length (past x).sent + run.limit
+  pub grown : x.honest (is_planned keys) → Grown x.past y.past
+  pub few : x.honest (is_planned keys) → length y.past.sent ≤ length x.past.sent + run.limit
 
 -- The runs of a plan were made in turn, with what was carried over from earlier plans: what stands after
 -- them, and what their ends say.
-pub record HasRunAll {L : Type 0} (past : L → Past) (honest calm : L → Names → Type 0) (keys : List Key) (carried : List (List Known)) (runs : List Run) (end : CampaignEnd) (old new : L) : Type 0 where
+pub record HasRunAll (keys : List Key) (carried : List (List Known)) (runs : List Run) (end : CampaignEnd) (old new : Seen) : Type 0 where
   pub suits : All (Suits keys) end.saved.items
-  pub honest_still : (names : Names) → honest old names → honest new names
-  pub stands : GoodLink past honest keys old → All (TrueProgress (past old).objects keys) carried
-      → Campaigned past honest keys old new end.runs.items end.saved.items × KeepsFurther past honest calm keys (end.fault ≡ None) old new
+  pub honest_still : (names : Names) → old.honest names → new.honest names
+  pub stands : GoodLink keys old → All (TrueProgress old.past.objects keys) carried
+      → Campaigned keys old new end.runs.items end.saved.items × KeepsFurther keys (end.fault ≡ None) old new
   pub order : AllZip (IsEnd keys) (take (length end.runs.items) runs) end.runs.items
   pub complete : end.fault ≡ None → AllZip (IsEnd keys) runs end.runs.items × (length end.saved.items ≡ length (filter saves runs))
   pub fewer : end.fault ≢ None → length end.runs.items < length runs
-  pub known : AreKnownFrom keys carried runs end.runs.items end.saved.items (honest old (is_planned keys)) (end.fault ≡ None) (past old) (past new)
-  pub settles : CalmLink past calm keys old → All (TrueProgress (past old).objects keys) carried → end.fault ≡ None
-      → AllZip (Settles keys) runs end.runs.items × CalmLink past calm keys new
+  pub known : AreKnownFrom keys carried runs end.runs.items end.saved.items (old.honest (is_planned keys)) (end.fault ≡ None) old.past new.past
+  pub settles : CalmLink keys old → All (TrueProgress old.past.objects keys) carried → end.fault ≡ None
+      → AllZip (Settles keys) runs end.runs.items × CalmLink keys new

@@ -9,6 +9,7 @@ use Rattle.kmip_progress.specs.declared.known.Known.{Known}
 use Rattle.kmip_client.specs.Laws.{PositionsAreNoLess, TrueOfProlonged}
 use Rattle.kmip_protocol.specs.Laws.{IsReached, NamesOfProlonged, SoundBetween, SoundOfProlonged}
 use Rattle.kmip_protocol.specs.Past.{Names, Past, is_planned}
+use Rattle.kmip_protocol.specs.Seen.{Seen}
 use Rattle.kmip_protocol.specs.SettlingLaws.{ProlongedMissNoLess}
 use Rattle.kmip_runs.specs.Headline.{GoodLink, reported_by}
 use Rattle.kmip_runs.specs.Campaign.{HasNoConflict}
@@ -40,16 +41,16 @@ pub record NotedFor (keys : List Key) (p : Past) (ends : List RunEnd) (saved : L
   pub true_saved : All (IsTrueFor p.objects keys) saved
 
 -- The runs of one more plan were made, and what they noted joined what was noted.
-pub record HasRunPart {L : Type 0} (past : L → Past) (honest calm : L → Names → Type 0) (keys : List Key) (carried : List (List Known)) (runs : List Run) (x y : L) (old new : CampaignEnd) : Type 0 where
+pub record HasRunPart (keys : List Key) (carried : List (List Known)) (runs : List Run) (x y : Seen) (old new : CampaignEnd) : Type 0 where
   pub part : CampaignEnd
-  pub all : HasRunAll past honest calm keys carried runs part x y
+  pub all : HasRunAll keys carried runs part x y
   pub runs_are : new.runs.items ≡ old.runs.items ++ part.runs.items
   pub saved_are : new.saved.items ≡ old.saved.items ++ part.saved.items
 
 -- The runs of one more plan were made, and either one of them has no end, or there is a plan to which nothing
 -- was carried over.
-pub record HasRunBroken {L : Type 0} (past : L → Past) (honest calm : L → Names → Type 0) (keys : List Key) (next : Option (List Key)) (carried : List (List Known)) (runs : List Run) (x y : L) (old new : CampaignEnd) : Type 0 where
-  pub ran : HasRunPart past honest calm keys carried runs x y old new
+pub record HasRunBroken (keys : List Key) (next : Option (List Key)) (carried : List (List Known)) (runs : List Run) (x y : Seen) (old new : CampaignEnd) : Type 0 where
+  pub ran : HasRunPart keys carried runs x y old new
   pub why : (length ran.part.runs.items < length runs) ⊎ (next ≢ None)
 
 -- what was saved so far is read for the next plan, where there is one
@@ -57,20 +58,20 @@ abbrev pub IsReadFor : Option (List Key) → List (List Known) → List (List Kn
 IsReadFor next saved read = IfSome next (λ keys. (read ≡ map (carried_over keys) saved) × All (Suits keys) read)
 
 -- The runs of the plan are whole, and what was saved so far was read for the next.
-pub record HasRunWhole {L : Type 0} (past : L → Past) (honest calm : L → Names → Type 0) (keys : List Key) (next : Option (List Key)) (carried : List (List Known)) (runs : List Run) (x y : L) (old new : CampaignEnd) (read : List (List Known)) : Type 0 where
-  pub ran : HasRunPart past honest calm keys carried runs x y old new
+pub record HasRunWhole (keys : List Key) (next : Option (List Key)) (carried : List (List Known)) (runs : List Run) (x y : Seen) (old new : CampaignEnd) (read : List (List Known)) : Type 0 where
+  pub ran : HasRunPart keys carried runs x y old new
   pub whole : ran.part.fault ≡ None
   pub read_is : IsReadFor next (carried ++ ran.part.saved.items) read
 
 -- Over a link that is good at the start, all is good for this plan, the last one, after the runs.
-pub record IsGoodFor {L : Type 0} (past : L → Past) (honest : L → Names → Type 0) (keys : List Key) (old new : L) (ends : List RunEnd) (saved : List (List Known)) : Type 0 where
-  pub good : GoodLink past honest keys new
-  pub went : WentOn keys (past old) (past new)
-  pub noted : NotedFor keys (past new) ends saved
+pub record IsGoodFor (keys : List Key) (old new : Seen) (ends : List RunEnd) (saved : List (List Known)) : Type 0 where
+  pub good : GoodLink keys new
+  pub went : WentOn keys old.past new.past
+  pub noted : NotedFor keys new.past ends saved
 
 -- after the runs on all plans, or on the first ones of them: all is good for the last plan, and what is noted
 -- was noted plan by plan
-pub record HasRunPlans {L : Type 0} (past : L → Past) (honest calm : L → Names → Type 0) (plans : List (List Key)) (runs : List (List Run)) (whole : Type 0) (old new : L) (end : CampaignEnd) : Type 0 where
-  pub good : GoodStart past honest plans old → IsGoodFor past honest (last_plan plans) old new end.runs.items end.saved.items
-  pub in_turn : AreInTurn plans runs end.runs.items end.saved.items (honest old (is_planned (last_plan plans))) (CalmStart past calm plans old)
-      whole (past old) (past new)
+pub record HasRunPlans (plans : List (List Key)) (runs : List (List Run)) (whole : Type 0) (old new : Seen) (end : CampaignEnd) : Type 0 where
+  pub good : GoodStart plans old → IsGoodFor (last_plan plans) old new end.runs.items end.saved.items
+  pub in_turn : AreInTurn plans runs end.runs.items end.saved.items (old.honest (is_planned (last_plan plans))) (CalmStart plans old)
+      whole old.past new.past

@@ -10,6 +10,7 @@ use Rattle.kmip_client.specs.Saving.{known_of}
 use Rattle.kmip_client.specs.Shapes.{IsKept}
 use Rattle.kmip_client.specs.declared.knowledge.Knowledge.{Knowledge}
 use Rattle.kmip_protocol.specs.Past.{Past}
+use Rattle.kmip_protocol.specs.Seen.{Seen}
 use Rattle.kmip_runs.specs.Driving.{Learnt}
 use Rattle.kmip_runs.specs.declared.stop.Stop.{Stop}
 use Rattle.kmip_runs.specs.declared.stop.Stop.TheVariants as stops
@@ -21,8 +22,8 @@ pub record Moment : Type 0 where
   pub past : Past
 
 -- What a client knows now, and what has happened over its link.
-abbrev pub moment : {L : Type 0} → (L → Past) → ClientState → L → Moment
-moment past c link = record { knowns = c.knowns; past = past link }
+abbrev pub moment : ClientState → Seen → Moment
+moment c link = record { knowns = c.knowns; past = link.past }
 
 -- The progress text of what is known at a moment.
 abbrev pub text_at : List Key → Moment → List ℕ

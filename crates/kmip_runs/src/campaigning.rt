@@ -20,6 +20,7 @@ ghost use Rattle.kmip_runs.specs.Private.{HasOutlasted};
 ghost use Rattle.kmip_runs.specs.Remembering.{AreKnown, AreKnownFrom, resumed, saved_numbered, start_knowns};
 ghost use Rattle.kmip_runs.specs.TurnedRuns.{AreTurnedFrom, begin_client, resumed_client};
 ghost use Rattle.kmip_runs.specs.Private.{RanTurned};
+ghost use Rattle.kmip_runs.specs.MakesCampaigns.{MakesCampaign};
 
 use crate::campaign_end::CampaignEnd;
 use crate::driving::drive;
@@ -53,81 +54,8 @@ use std::alloc::Global;
 pub fn campaign<L: Link>(alloc: Global, plan: &Plan, link: &mut L, runs: &[Run]) -> CampaignEnd
     // Each run asks about one to eight keys at once.
     requires { MayBatch runs.now }
-    // Over a good link, the past after the campaign is safe for all that its ends and its saves report done.
-    // Each planned name is on at most one object, with the attributes of the plan. What took effect on it is
-    // the first steps of its chain, each once and in order, and every step reported is among these. A request
-    // that comes again after its step took effect changes no object.
-    ensures safe { GoodLink L.past L.honest plan.now link.old
-        → Safe plan.now (L.past link.new)
-        (reported plan.now result.runs.items result.saved.items) }
-    // Over a good link the past is an image of a run of the plan machine, where nothing of the plan had
-    // happened before, or where the past was such an image before.
-    ensures machine { GoodLink L.past L.honest plan.now link.old
-        → (Opening plan.now (L.past link.old) → IsMirrored plan.now (L.past link.new))
-        × (IsMirrored plan.now (L.past link.old) → IsMirrored plan.now (L.past link.new)) }
-    // Over a good link no run stops in conflict, and no end has a key in conflict.
-    ensures no_conflict { GoodLink L.past L.honest plan.now link.old
-        → All HasNoConflict result.runs.items }
-    // A good link is good after the campaign too, so that another campaign may follow.
-    ensures sound { GoodLink L.past L.honest plan.now link.old
-        → GoodLink L.past L.honest plan.now link.new }
-    // Over a good link each saved progress is true of the objects that are there after the campaign.
-    ensures true_saved { GoodLink L.past L.honest plan.now link.old
-        → All (TrueProgress (L.past link.new).objects plan.now) result.saved.items }
-    // Over a good link the object of each planned name keeps its identifier and never goes back, and a past
-    // that was an image of the plan machine still is.
-    ensures goes { GoodLink L.past L.honest plan.now link.old
-        → WentOn plan.now (L.past link.old) (L.past link.new) }
-    // Over any link the ends are those of the first runs, in order. Each is borne out by its own counts and
-    // verdicts (`IsEnd`): its report, the reason why it stopped, and its number of exchanges within the
-    // limit.
-    ensures order { AllZip (IsEnd plan.now) (take (length result.runs.items) runs.now)
-        result.runs.items }
-    // Unless memory ran out, over any link each run has its end, and as much was saved as the runs say.
-    ensures complete { result.fault ≡ None → AllZip (IsEnd plan.now) runs.now result.runs.items
-        × (length result.saved.items ≡ length (filter saves runs.now)) }
-    // For each end there is a knowledge that it shows. This takes back no identifier and no count of what the
-    // run began with: nothing, what was known at the end before, or what was saved. What was saved is exactly
-    // what was known at the ends of the runs that say so. Where the link is honest for the plan's names,
-    // sound or not, each exchange that the ends count sent one message. It asks about keys of the plan, each
-    // once, and about no more of them than the run asks about at once. What is known at an end is what its
-    // run began with and what its exchanges handed over. Nothing else was asked, sent or handed over until
-    // the last end, and later only where memory ran out: then the next run sent no more messages than its
-    // limit.
-    ensures known { AreKnown plan.now runs.now result.runs.items result.saved.items
-        (L.honest link.old (is_planned plan.now)) (result.fault ≡ None)
-        (L.past link.old) (L.past link.new) }
-    // Client by client: each run begins with a client that knows nothing, with that of the run before, or
-    // with one that goes on from a save. The turns of the run, one for each exchange that its end counts,
-    // made of it the client that the end shows. Where the link is honest for the plan's names, the messages
-    // that were sent until the last end are the questions of these turns, and what was handed over are their
-    // answers. Unless memory ran out, nothing was sent or handed over later.
-    ensures turned { AreTurnedFrom plan.now [] runs.now result.runs.items
-        (L.honest link.old (is_planned plan.now)) (result.fault ≡ None)
-        (L.past link.old) (L.past link.new) }
-    // Where the link is calm for the plan's names, all that has happened over it is sound, and there is room
-    // for the objects that are missing (`CalmLink`): unless memory ran out, so it is after the campaign. And
-    // each run that may make as many exchanges as the plan's bound finishes every key within that bound,
-    // whatever it began with.
-    ensures settles { CalmLink L.past L.calm plan.now link.old → result.fault ≡ None
-        → AllZip (Settles plan.now) runs.now result.runs.items
-        × CalmLink L.past L.calm plan.now link.new }
-    // Over a good link, unless memory ran out, each run finishes every key if it may make enough exchanges,
-    // whatever it began with. Enough are the plan's bound, one for each key, and what the disturbed ones of
-    // its own exchanges cost. A disturbed exchange costs one, two for each request that it sent, and one for
-    // each reply about another key that the link counts. It is no premise that the link ever stops losing.
-    ensures outlasts { GoodLink L.past L.honest plan.now link.old → result.fault ≡ None
-        → AllOutlast plan.now runs.now result.runs.items (L.disturbances link.old)
-        (L.disturbances link.new) }
-    // Where memory ran out, some run has no end.
-    ensures fewer { result.fault ≢ None → length result.runs.items < length runs.now }
-    // Where the link is honest for the plan's names, the runs that have ends are those that were ended over
-    // it, each right after its last exchange, and no other run was.
-    ensures ended { L.honest link.old (is_planned plan.now) → AreEnded result.runs.items
-        (length (L.past link.old).sent) (L.ended link.old) (L.ended link.new) }
-    // Unless memory ran out, the link after the campaign is what calls made of the link before, as the link
-    // itself tells it (`follows`).
-    ensures followed { result.fault ≡ None → L.follows link.old link.new }
+    ensures { MakesCampaign (L.seen link.old) plan.now runs.now result (L.seen link.new)
+        (L.follows link.old link.new) }
 {
     laws_of_runs();
     plan.keys();
@@ -162,19 +90,21 @@ pub(crate) fn run_all<L: Link>(
 ) -> CampaignEnd
     requires carried { All (Suits plan.now) carried.now }
     requires batches { MayBatch runs.now }
-    ensures all { HasRunAll L.past L.honest L.calm plan.now carried.now runs.now result
-        link.old link.new }
-    ensures outlasts { GoodLink L.past L.honest plan.now link.old
-        → All (TrueProgress (L.past link.old).objects plan.now) carried.now → result.fault ≡ None
-        → AllOutlast plan.now runs.now result.runs.items (L.disturbances link.old)
-        (L.disturbances link.new) }
-    ensures ended { L.honest link.old (is_planned plan.now) → EndsJoin [] result.runs.items
-        (result.fault ≡ None) (length (L.past link.old).sent) (length (L.past link.new).sent)
-        (L.ended link.old) (L.ended link.new) }
+    ensures all { HasRunAll plan.now carried.now runs.now result
+        (L.seen link.old) (L.seen link.new) }
+    ensures outlasts { GoodLink plan.now (L.seen link.old)
+        → All (TrueProgress (L.seen link.old).past.objects plan.now) carried.now → result.fault
+        ≡ None
+        → AllOutlast plan.now runs.now result.runs.items (L.seen link.old).disturbances
+        (L.seen link.new).disturbances }
+    ensures ended { (L.seen link.old).honest (is_planned plan.now) → EndsJoin [] result.runs.items
+        (result.fault ≡ None) (length (L.seen link.old).past.sent)
+        (length (L.seen link.new).past.sent)
+        (L.seen link.old).ended (L.seen link.new).ended }
     ensures followed { result.fault ≡ None → L.follows link.old link.new }
     ensures turned { AreTurnedFrom plan.now carried.now runs.now result.runs.items
-        (L.honest link.old (is_planned plan.now)) (result.fault ≡ None)
-        (L.past link.old) (L.past link.new) }
+        ((L.seen link.old).honest (is_planned plan.now)) (result.fault ≡ None)
+        (L.seen link.old).past (L.seen link.new).past }
 {
     let mut end = CampaignEnd {
         runs: Vec::new(alloc),
@@ -203,38 +133,38 @@ fn run_each<L: Link>(
     requires carried { All (Suits plan.now) carried.now }
     requires batches { MayBatch runs.now }
     ensures suits { All (Suits plan.now) end.new.saved.items }
-    ensures stands { GoodLink L.past L.honest plan.now link.old
-        → All (TrueProgress (L.past link.old).objects plan.now) carried.now
-        → Campaigned L.past L.honest plan.now link.old link.new end.new.runs.items
+    ensures stands { GoodLink plan.now (L.seen link.old)
+        → All (TrueProgress (L.seen link.old).past.objects plan.now) carried.now
+        → Campaigned plan.now (L.seen link.old) (L.seen link.new) end.new.runs.items
         end.new.saved.items
-        × KeepsFurther L.past L.honest L.calm plan.now (result ≡ Ok tt) link.old link.new }
-    ensures honest { (names : Names) → L.honest link.old names → L.honest link.new names }
+        × KeepsFurther plan.now (result ≡ Ok tt) (L.seen link.old) (L.seen link.new) }
+    ensures honest { (names : Names) → (L.seen link.old).honest names
+        → (L.seen link.new).honest names }
     ensures order { AllZip (IsEnd plan.now) (take (length end.new.runs.items) runs.now)
         end.new.runs.items }
     ensures complete { OnOk result (AllZip (IsEnd plan.now) runs.now end.new.runs.items
         × (length end.new.saved.items ≡ length (filter saves runs.now))) }
     ensures known { AreKnownFrom plan.now carried.now runs.now end.new.runs.items
-        end.new.saved.items (L.honest link.old (is_planned plan.now)) (result ≡ Ok tt)
-        (L.past link.old) (L.past link.new) }
+        end.new.saved.items ((L.seen link.old).honest (is_planned plan.now)) (result ≡ Ok tt)
+        (L.seen link.old).past (L.seen link.new).past }
     ensures turned { AreTurnedFrom plan.now carried.now runs.now end.new.runs.items
-        (L.honest link.old (is_planned plan.now)) (result ≡ Ok tt)
-        (L.past link.old) (L.past link.new) }
-    ensures settles { CalmLink L.past L.calm plan.now link.old
-        → All (TrueProgress (L.past link.old).objects plan.now) carried.now
+        ((L.seen link.old).honest (is_planned plan.now)) (result ≡ Ok tt)
+        (L.seen link.old).past (L.seen link.new).past }
+    ensures settles { CalmLink plan.now (L.seen link.old)
+        → All (TrueProgress (L.seen link.old).past.objects plan.now) carried.now
         → OnOk result (AllZip (Settles plan.now) runs.now end.new.runs.items
-        × CalmLink L.past L.calm plan.now link.new) }
-    ensures outlasts { GoodLink L.past L.honest plan.now link.old
-        → All (TrueProgress (L.past link.old).objects plan.now) carried.now
+        × CalmLink plan.now (L.seen link.new)) }
+    ensures outlasts { GoodLink plan.now (L.seen link.old)
+        → All (TrueProgress (L.seen link.old).past.objects plan.now) carried.now
         → OnOk result (AllOutlast plan.now runs.now end.new.runs.items
-        (L.disturbances link.old) (L.disturbances link.new)) }
+        (L.seen link.old).disturbances (L.seen link.new).disturbances) }
     ensures fewer { OnErr result (length end.new.runs.items < length runs.now) }
-    ensures ended { L.honest link.old (is_planned plan.now) → EndsJoin [] end.new.runs.items
-        (result ≡ Ok tt) (length (L.past link.old).sent) (length (L.past link.new).sent)
-        (L.ended link.old) (L.ended link.new) }
+    ensures ended { (L.seen link.old).honest (is_planned plan.now) → EndsJoin [] end.new.runs.items
+        (result ≡ Ok tt) (length (L.seen link.old).past.sent) (length (L.seen link.new).past.sent)
+        (L.seen link.old).ended (L.seen link.new).ended }
     ensures followed { OnOk result (L.follows link.old link.new) }
 {
     laws_of_runs();
-    L::calm_laws();
     plan.keys();
     if runs.is_empty() {
         return Ok(());
@@ -265,42 +195,43 @@ fn one_run<'p, L: Link>(
     requires suits { All (Suits plan.now) end.old.saved.items }
     ensures keys { client.new.keys ≡ plan.now }
     ensures suits { All (Suits plan.now) end.new.saved.items }
-    ensures stands { Standing L.past L.honest plan.now client.old link.old end.old.runs.items
+    ensures stands { Standing plan.now client.old (L.seen link.old) end.old.runs.items
         end.old.saved.items
-        → All (TrueProgress (L.past link.old).objects plan.now) carried.now
-        → Standing L.past L.honest plan.now client.new link.new end.new.runs.items
-        end.new.saved.items × WentOn plan.now (L.past link.old) (L.past link.new) }
-    ensures honest { (names : Names) → L.honest link.old names → L.honest link.new names }
-    ensures further { Standing L.past L.honest plan.now client.old link.old end.old.runs.items
+        → All (TrueProgress (L.seen link.old).past.objects plan.now) carried.now
+        → Standing plan.now client.new (L.seen link.new) end.new.runs.items
+        end.new.saved.items × WentOn plan.now (L.seen link.old).past (L.seen link.new).past }
+    ensures honest { (names : Names) → (L.seen link.old).honest names
+        → (L.seen link.new).honest names }
+    ensures further { Standing plan.now client.old (L.seen link.old) end.old.runs.items
         end.old.saved.items
-        → All (TrueProgress (L.past link.old).objects plan.now) carried.now
-        → KeepsFurther L.past L.honest L.calm plan.now (result ≡ Ok tt) link.old link.new }
-    ensures ran { OnOk result (HasRun L.past L.honest plan.now carried.now run client.old
-        client.new link.old link.new end.old end.new) }
+        → All (TrueProgress (L.seen link.old).past.objects plan.now) carried.now
+        → KeepsFurther plan.now (result ≡ Ok tt) (L.seen link.old) (L.seen link.new) }
+    ensures ran { OnOk result (HasRun plan.now carried.now run client.old
+        client.new (L.seen link.old) (L.seen link.new) end.old end.new) }
     ensures turned { OnOk result (RanTurned plan.now
         (begin_client plan.now run client.old (carried.now ++ end.old.saved.items)) client.new
-        (L.honest link.old (is_planned plan.now)) (L.past link.old) (L.past link.new)
+        ((L.seen link.old).honest (is_planned plan.now)) (L.seen link.old).past
+        (L.seen link.new).past
         end.old.runs.items end.new.runs.items) }
-    ensures broken { OnErr result (IsBroken L.past L.honest plan.now run link.old link.new
+    ensures broken { OnErr result (IsBroken plan.now run (L.seen link.old) (L.seen link.new)
         end.old end.new) }
-    ensures settles { Standing L.past L.honest plan.now client.old link.old end.old.runs.items
+    ensures settles { Standing plan.now client.old (L.seen link.old) end.old.runs.items
         end.old.saved.items
-        → All (TrueProgress (L.past link.old).objects plan.now) carried.now
-        → CalmLink L.past L.calm plan.now link.old
+        → All (TrueProgress (L.seen link.old).past.objects plan.now) carried.now
+        → CalmLink plan.now (L.seen link.old)
         → OnOk result (HasSettled plan.now run end.old.runs.items end.new.runs.items
-        × CalmLink L.past L.calm plan.now link.new) }
-    ensures outlasts { Standing L.past L.honest plan.now client.old link.old end.old.runs.items
+        × CalmLink plan.now (L.seen link.new)) }
+    ensures outlasts { Standing plan.now client.old (L.seen link.old) end.old.runs.items
         end.old.saved.items
-        → All (TrueProgress (L.past link.old).objects plan.now) carried.now
+        → All (TrueProgress (L.seen link.old).past.objects plan.now) carried.now
         → OnOk result (HasOutlasted plan.now run end.old.runs.items end.new.runs.items
-        (L.disturbances link.old) (L.disturbances link.new)) }
-    ensures ended { L.honest link.old (is_planned plan.now) → EndsJoin end.old.runs.items
-        end.new.runs.items (result ≡ Ok tt) (length (L.past link.old).sent)
-        (length (L.past link.new).sent) (L.ended link.old) (L.ended link.new) }
+        (L.seen link.old).disturbances (L.seen link.new).disturbances) }
+    ensures ended { (L.seen link.old).honest (is_planned plan.now) → EndsJoin end.old.runs.items
+        end.new.runs.items (result ≡ Ok tt) (length (L.seen link.old).past.sent)
+        (length (L.seen link.new).past.sent) (L.seen link.old).ended (L.seen link.new).ended }
     ensures followed { OnOk result (L.follows link.old link.new) }
 {
     laws_of_runs();
-    L::calm_laws();
     plan.keys();
     begin(alloc, plan, client, carried, end.saved.as_slice(), run)?;
     let driven = drive(alloc, client, link, run.limit);

@@ -11,6 +11,7 @@ ghost use Rattle.kmip_runs.specs.Losing.{ArePaid, IsEnough, left_for};
 ghost use Rattle.kmip_runs.specs.PrivateCarried.{Carried, CarryingLaws};
 ghost use Rattle.kmip_runs.specs.Refusals.{HasRisen};
 ghost use Rattle.kmip_runs.specs.Saved.{AreSaved, IsInMemory, IsLeft, IsWhole, moment};
+ghost use Rattle.kmip_runs.specs.CarriesOut.{CarriesOut};
 
 use crate::keeper::Keeper;
 use crate::patience::Patience;
@@ -56,107 +57,17 @@ pub fn carry_out<L: Link, K: Keeper, P: Patience>(
     patience: &mut P,
     limit: usize,
 ) -> (Result<Stop, SaveFault>, usize)
-    // Where all is good, it is so after it, however it stops: the link is honest for the plan's names,
-    // all that has happened over it is sound, and what the client knows is true.
-    ensures good { IsGood L.past L.honest client.old link.old
-        → IsGood L.past L.honest client.new link.new }
-    // Where all was good (`IsGood`), the objects have gone onward. A past that was an image of the plan
-    // machine is one still.
-    ensures goes { IsGood L.past L.honest client.old link.old
-        → WentOn client.old.keys (L.past link.old) (L.past link.new) }
-    // A link that was honest for the plan's names is so after it. Unless it stops for want of memory, as
-    // many messages were sent as it counts exchanges, and nothing else was asked. Each asks about keys of
-    // the plan, each once, and about no more than the client asks about at once. What is then known of
-    // identifiers, counts and conflicts is what was known before and what these exchanges handed over.
-    ensures known { L.honest link.old (is_planned client.old.keys)
-        → L.honest link.new (is_planned client.old.keys)
-        × (IsInMemory result.0 → Learnt client.old.keys client.old.batch (L.past link.old)
-        (L.past link.new) client.old.knowns client.new.knowns result.1) }
-    // Where it stops for want of memory, over a link that was honest for the plan's names: the exchanges
-    // that it counts were made. What they handed over was learnt, but of the last one there may have been
-    // no memory to learn. An exchange that lacked memory itself is not counted: it sent nothing, and
-    // asked at most the questions of one message.
-    ensures broken { L.honest link.old (is_planned client.old.keys)
-        → result.0 ≡ Ok Stop.NoMemory → LearntUntil client.old.keys client.old.batch
-        (L.past link.old) (L.past link.new) client.old.knowns client.new.knowns result.1 }
-    // Over a link that was honest for the plan's names nothing that was asked, sent or handed over is
-    // taken back, however it stops.
-    ensures grown { L.honest link.old (is_planned client.old.keys)
-        → Grown (L.past link.old) (L.past link.new) }
-    // Over any link the plan stays, and how many keys a message may ask about. No identifier or count is
-    // taken back.
-    ensures kept { Keeps client.old client.new }
-    // A keeper that keeps what it is given does so still. It saved one text for each exchange, in order,
-    // and no other. The last exchange has none where its text was not saved, and may have none where
-    // memory ran out. Each is the progress text of what was known at a moment; no moment, and not the
-    // end, takes back an identifier or a count. `AreSaved` says what each text says over an honest link,
-    // and what it says where all was good at the start.
-    ensures saved { K.keeps keeper.old → K.keeps keeper.new
-        × AreSaved client.old.keys client.old.batch (IsGood L.past L.honest client.old link.old)
-        (L.honest link.old (is_planned client.old.keys))
-        (moment L.past client.old link.old) (moment L.past client.new link.new)
-        result.0 result.1 (K.saved keeper.old) (K.saved keeper.new) }
-    // The keeper's count of refusals never falls.
-    ensures counted { K.refusals keeper.old ≤ K.refusals keeper.new }
-    // It answers that a text could not be written only where the keeper's count of refusals has risen, or
-    // stands at its last value, 2^64 - 1. So it does not give up by itself.
-    ensures output { result.0 ≡ Err SaveFault.Output
-        → HasRisen (K.refusals keeper.old) (K.refusals keeper.new) }
-    // `AllFinished`: every key is finished. `Limit`: some key is worked on. `Conflict`: no key is worked
-    // on, and one is in conflict.
-    ensures stands { IfOk result.0 (λ stop. Stands stop client.new.keys client.new.knowns) }
-    // It stops with `Limit` only after exactly `limit` exchanges, or where patience has given up.
-    ensures limit { result.0 ≡ Ok Stop.Limit
-        → (result.1 ≡ limit) ⊎ IsTrue (P.has_given_up patience.new) }
-    // Where patience gives up in the call, fewer than `limit` exchanges were made. It stops with `Limit`
-    // then, or for want of memory.
-    ensures given_up { P.has_given_up patience.old ≡ false
-        → IsTrue (P.has_given_up patience.new) → IsLeft result.0 × (result.1 < limit) }
-    // At most `limit` exchanges are made.
-    ensures within { result.1 ≤ limit }
-    // Over a calm link, where the client was ready to settle: unless memory ran out or a text was not
-    // saved, link and client are so still. The client needs at least one question less for each exchange
-    // that was made, and exactly one where each message asks about one key.
-    ensures calm { IsSettling L.past L.calm client.old link.old → IsWhole result.0
-        → Nearer L.past L.calm client.old client.new link.old link.new result.1 }
-    // Over a calm link, where the client was ready to settle, with a limit of at least the plan's bound,
-    // it stops with `AllFinished`. It makes no more exchanges than the keys needed questions, at most the
-    // bound, and exactly as many where each message asks about one key. That is said unless patience has
-    // given up, memory ran out or a text was not saved.
-    ensures settles { IsSettling L.past L.calm client.old link.old
-        → bound client.old.keys ≤ limit → P.has_given_up patience.new ≡ false
-        → IsWhole result.0 → (result.0 ≡ Ok Stop.AllFinished)
-        × (result.1 ≤ need client.old (L.past link.old))
-        × (AsksOne client.old → result.1 ≡ need client.old (L.past link.old))
-        × (result.1 ≤ bound client.old.keys) }
-    // Where all was good (`IsGood`), with no premise of calm: the exchanges that were made and those that
-    // are left are no more than were left, and what disturbed exchanges cost. That is said unless it
-    // stops for want of memory, and also where the text of the last one was not saved. What arrives at
-    // the end of the run adds nothing.
-    ensures losing { IsGood L.past L.honest client.old link.old → IsInMemory result.0
-        → ArePaid result.1 (left_for client.old (L.past link.old))
-        (left_for client.new (L.past link.new)) (L.disturbances link.old)
-        (L.disturbances link.new) }
-    // Where all was good (`IsGood`), it stops with `AllFinished`, unless patience has given up, memory
-    // ran out or a text was not saved. It asks for a limit of at least the plan's bound, one exchange for
-    // each key, and what the disturbed exchanges of the call cost.
-    ensures outlasts { IsGood L.past L.honest client.old link.old
-        → P.has_given_up patience.new ≡ false → IsWhole result.0
-        → IsEnough client.old.keys limit (L.disturbances link.old) (L.disturbances link.new)
-        → result.0 ≡ Ok Stop.AllFinished }
-    // Where all was good (`IsGood`), it does not stop with `Conflict`.
-    ensures no_conflict { IsGood L.past L.honest client.old link.old
-        → result.0 ≢ Ok Stop.Conflict }
-    // Over a link that was honest for the plan's names the run is ended once, right after its last
-    // exchange, unless memory ran out or a text was not saved.
-    ensures ended { L.honest link.old (is_planned client.old.keys) → IsWhole result.0
-        → EndedAt (length (L.past link.old).sent + result.1) (L.ended link.old)
-        (L.ended link.new) }
-    // Over a link that was honest for the plan's names the run is ended at most once, however it stops,
-    // and after all that was sent.
-    ensures once { L.honest link.old (is_planned client.old.keys)
-        → EndedAt (length (L.past link.new).sent) (L.ended link.old) (L.ended link.new)
-        ⊎ (L.ended link.new ≡ L.ended link.old) }
+    ensures { CarriesOut limit (record {
+      link = L.seen link.old;
+      client = client.old;
+      keeper = K.kept keeper.old;
+      is_tired = P.has_given_up patience.old;
+    }) result.0 result.1 (record {
+      link = L.seen link.new;
+      client = client.new;
+      keeper = K.kept keeper.new;
+      is_tired = P.has_given_up patience.new;
+    }) }
 {
     laws_below();
     let _plan = client.plan();
@@ -193,27 +104,29 @@ fn exchange_to_the_end<L: Link, K: Keeper, P: Patience>(
     patience: &mut P,
     limit: usize,
 ) -> (Result<Stop, SaveFault>, usize)
-    ensures carried { Carried L.past L.honest L.calm K.keeps K.saved client.old client.new
-        link.old link.new keeper.old keeper.new result.0 result.1 }
-    ensures counted { K.refusals keeper.old ≤ K.refusals keeper.new }
+    ensures carried { Carried client.old client.new
+        (L.seen link.old) (L.seen link.new) (K.kept keeper.old) (K.kept keeper.new) result.0
+        result.1 }
+    ensures counted { (K.kept keeper.old).refusals ≤ (K.kept keeper.new).refusals }
     ensures output { result.0 ≡ Err SaveFault.Output
-        → HasRisen (K.refusals keeper.old) (K.refusals keeper.new) }
+        → HasRisen (K.kept keeper.old).refusals (K.kept keeper.new).refusals }
     ensures stands { IfOk result.0 (λ stop. Stands stop client.new.keys client.new.knowns) }
     ensures limit { result.0 ≡ Ok Stop.Limit
         → (result.1 ≡ limit) ⊎ IsTrue (P.has_given_up patience.new) }
     ensures given_up { P.has_given_up patience.old ≡ false
         → IsTrue (P.has_given_up patience.new) → IsLeft result.0 × (result.1 < limit) }
     ensures within { result.1 ≤ limit }
-    ensures losing { IsGood L.past L.honest client.old link.old → IsInMemory result.0
-        → ArePaid result.1 (left_for client.old (L.past link.old))
-        (left_for client.new (L.past link.new)) (L.disturbances link.old)
-        (L.disturbances link.new) }
-    ensures ended { L.honest link.old (is_planned client.old.keys) → IsWhole result.0
-        → EndedAt (length (L.past link.old).sent + result.1) (L.ended link.old)
-        (L.ended link.new) }
-    ensures once { L.honest link.old (is_planned client.old.keys)
-        → EndedAt (length (L.past link.new).sent) (L.ended link.old) (L.ended link.new)
-        ⊎ (L.ended link.new ≡ L.ended link.old) }
+    ensures losing { IsGood client.old (L.seen link.old) → IsInMemory result.0
+        → ArePaid result.1 (left_for client.old (L.seen link.old).past)
+        (left_for client.new (L.seen link.new).past) (L.seen link.old).disturbances
+        (L.seen link.new).disturbances }
+    ensures ended { (L.seen link.old).honest (is_planned client.old.keys) → IsWhole result.0
+        → EndedAt (length (L.seen link.old).past.sent + result.1) (L.seen link.old).ended
+        (L.seen link.new).ended }
+    ensures once { (L.seen link.old).honest (is_planned client.old.keys)
+        → EndedAt (length (L.seen link.new).past.sent) (L.seen link.old).ended
+        (L.seen link.new).ended
+        ⊎ ((L.seen link.new).ended ≡ (L.seen link.old).ended) }
 {
     laws_below();
     let _plan = client.plan();
@@ -235,23 +148,24 @@ fn exchange_in_turn<L: Link, K: Keeper, P: Patience>(
     patience: &mut P,
     limit: usize,
 ) -> (Result<Stop, SaveFault>, usize)
-    ensures carried { Carried L.past L.honest L.calm K.keeps K.saved client.old client.new
-        link.old link.new keeper.old keeper.new result.0 result.1 }
-    ensures counted { K.refusals keeper.old ≤ K.refusals keeper.new }
+    ensures carried { Carried client.old client.new
+        (L.seen link.old) (L.seen link.new) (K.kept keeper.old) (K.kept keeper.new) result.0
+        result.1 }
+    ensures counted { (K.kept keeper.old).refusals ≤ (K.kept keeper.new).refusals }
     ensures output { result.0 ≡ Err SaveFault.Output
-        → HasRisen (K.refusals keeper.old) (K.refusals keeper.new) }
+        → HasRisen (K.kept keeper.old).refusals (K.kept keeper.new).refusals }
     ensures stands { IfOk result.0 (λ stop. Stands stop client.new.keys client.new.knowns) }
     ensures limit { result.0 ≡ Ok Stop.Limit
         → (result.1 ≡ limit) ⊎ IsTrue (P.has_given_up patience.new) }
     ensures given_up { P.has_given_up patience.old ≡ false
         → IsTrue (P.has_given_up patience.new) → IsLeft result.0 × (result.1 < limit) }
     ensures within { result.1 ≤ limit }
-    ensures losing { IsGood L.past L.honest client.old link.old → IsInMemory result.0
-        → ArePaid result.1 (left_for client.old (L.past link.old))
-        (left_for client.new (L.past link.new)) (L.disturbances link.old)
-        (L.disturbances link.new) }
-    ensures ended { L.honest link.old (is_planned client.old.keys)
-        → L.ended link.new ≡ L.ended link.old }
+    ensures losing { IsGood client.old (L.seen link.old) → IsInMemory result.0
+        → ArePaid result.1 (left_for client.old (L.seen link.old).past)
+        (left_for client.new (L.seen link.new).past) (L.seen link.old).disturbances
+        (L.seen link.new).disturbances }
+    ensures ended { (L.seen link.old).honest (is_planned client.old.keys)
+        → (L.seen link.new).ended ≡ (L.seen link.old).ended }
 {
     laws_below();
     let _plan = client.plan();
@@ -286,20 +200,21 @@ fn exchange_once<L: Link, K: Keeper>(
     link: &mut L,
     keeper: &mut K,
 ) -> (Result<Stop, SaveFault>, usize)
-    ensures carried { Carried L.past L.honest L.calm K.keeps K.saved client.old client.new
-        link.old link.new keeper.old keeper.new result.0 result.1 }
-    ensures counted { K.refusals keeper.old ≤ K.refusals keeper.new }
+    ensures carried { Carried client.old client.new
+        (L.seen link.old) (L.seen link.new) (K.kept keeper.old) (K.kept keeper.new) result.0
+        result.1 }
+    ensures counted { (K.kept keeper.old).refusals ≤ (K.kept keeper.new).refusals }
     ensures output { result.0 ≡ Err SaveFault.Output
-        → HasRisen (K.refusals keeper.old) (K.refusals keeper.new) }
+        → HasRisen (K.kept keeper.old).refusals (K.kept keeper.new).refusals }
     ensures stands { IfOk result.0 (λ stop. Stands stop client.new.keys client.new.knowns) }
     ensures limit { result.0 ≡ Ok Stop.Limit → result.1 ≡ 1 }
     ensures within { result.1 ≤ 1 }
-    ensures losing { IsGood L.past L.honest client.old link.old → IsInMemory result.0
-        → ArePaid result.1 (left_for client.old (L.past link.old))
-        (left_for client.new (L.past link.new)) (L.disturbances link.old)
-        (L.disturbances link.new) }
-    ensures ended { (names : Names) → L.honest link.old names
-        → L.ended link.new ≡ L.ended link.old }
+    ensures losing { IsGood client.old (L.seen link.old) → IsInMemory result.0
+        → ArePaid result.1 (left_for client.old (L.seen link.old).past)
+        (left_for client.new (L.seen link.new).past) (L.seen link.old).disturbances
+        (L.seen link.new).disturbances }
+    ensures ended { (names : Names) → (L.seen link.old).honest names
+        → (L.seen link.new).ended ≡ (L.seen link.old).ended }
 {
     laws_below();
     let (stop, exchanges) = drive(alloc, client, link, 1);
@@ -336,13 +251,13 @@ fn save_progress<K: Keeper>(
     client: &Client<'_>,
     keeper: &mut K,
 ) -> Result<(), SaveFault>
-    ensures kept { K.keeps keeper.old → K.keeps keeper.new
-        × OnOk result (K.saved keeper.new ≡ K.saved keeper.old
+    ensures kept { (K.kept keeper.old).keeps → (K.kept keeper.new).keeps
+        × OnOk result ((K.kept keeper.new).saved ≡ (K.kept keeper.old).saved
         ++ progress_text client.now.keys (progress client.now) ∷ [])
-        × OnErr result (K.saved keeper.new ≡ K.saved keeper.old) }
-    ensures counted { K.refusals keeper.old ≤ K.refusals keeper.new }
+        × OnErr result ((K.kept keeper.new).saved ≡ (K.kept keeper.old).saved) }
+    ensures counted { (K.kept keeper.old).refusals ≤ (K.kept keeper.new).refusals }
     ensures output { IfErr result (λ fault. fault ≡ SaveFault.Output
-        → HasRisen (K.refusals keeper.old) (K.refusals keeper.new)) }
+        → HasRisen (K.kept keeper.old).refusals (K.kept keeper.new).refusals) }
 {
     let progress = client.progress(alloc)?;
     let text = progress.write_text(alloc, client.plan())?;

@@ -19,6 +19,7 @@ ghost use Rattle.kmip_runs.specs.Private.{IsAnswered, IsGivenUp, TakesTurn, mess
 ghost use Rattle.kmip_runs.specs.Turning.{IsTurned};
 ghost use Rattle.kmip_protocol.specs.Needs.{chains_and_looks};
 ghost use Rattle.kmip_protocol.specs.Turns.{answers_part, is_unanswered, lost_each, taught, taught_by};
+ghost use Rattle.kmip_runs.specs.Drives.{Drives};
 
 use crate::stop::Stop;
 use crate::turn_fault::TurnFault;
@@ -61,106 +62,10 @@ pub fn drive<L: Link>(
     link: &mut L,
     limit: usize,
 ) -> (Stop, usize)
-    // Where all was good before, all is good after it, however it stops.
-    ensures good { IsGood L.past L.honest client.old link.old
-        → IsGood L.past L.honest client.new link.new }
-    // Where all was good before, the object of each planned name keeps its identifier and never goes back,
-    // and a past that was an image of the plan machine still is.
-    ensures goes { IsGood L.past L.honest client.old link.old
-        → WentOn client.old.keys (L.past link.old) (L.past link.new) }
-    // Where the link is honest for the plan's names, it is so after it. Unless memory ran out, each exchange
-    // that is counted sent one message about keys of the plan, each once, and no more of them than the client
-    // asks about at once. Nothing else was asked, sent or handed over. What is known of identifiers, counts
-    // and conflicts is what was known before and what these exchanges handed over.
-    ensures known { L.honest link.old (is_planned client.old.keys)
-        → L.honest link.new (is_planned client.old.keys)
-        × (result.0 ≢ Stop.NoMemory → Learnt client.old.keys client.old.batch (L.past link.old)
-        (L.past link.new) client.old.knowns client.new.knowns result.1) }
-    // Where memory ran out over such a link, so it is of the exchanges that are counted, but nothing was
-    // learnt from a last reply for which there was no memory. An exchange that lacked memory itself is not
-    // counted: it sent and handed over nothing, and may have asked one message.
-    ensures broken { L.honest link.old (is_planned client.old.keys) → result.0 ≡ Stop.NoMemory
-        → LearntUntil client.old.keys client.old.batch (L.past link.old) (L.past link.new)
-        client.old.knowns client.new.knowns result.1 }
-    // Over any link the client took as many turns as exchanges are counted. In each it asked its next
-    // question, and learnt from an answer or that none came. Where memory ran out, it may then have given up
-    // one more question. Where the link is honest for the plan's names, the messages sent are these
-    // questions, and unless memory ran out, what was handed over are these answers.
-    ensures turned { IsTurned (L.honest link.old (is_planned client.old.keys)) result.0 result.1
-        client.old client.new (L.past link.old) (L.past link.new) }
-    // Where the link is honest for the plan's names, at most `limit` messages are sent.
-    ensures few { L.honest link.old (is_planned client.old.keys)
-        → length (L.past link.new).sent ≤ length (L.past link.old).sent + limit }
-    // Where the link is honest for the plan's names, nothing that was asked, sent or handed over is taken
-    // back.
-    ensures grown { L.honest link.old (is_planned client.old.keys)
-        → Grown (L.past link.old) (L.past link.new) }
-    // Over any link the plan stays, and how many keys are asked about at once, and no identifier or count
-    // that was known is taken back.
-    ensures kept { Keeps client.old client.new }
-    // It stops with `AllFinished` only where every key is finished, and with `Limit` only where one is worked
-    // on. It stops with `Conflict` only where none is worked on and one is in conflict.
-    ensures stands { Stands result.0 client.new.keys client.new.knowns }
-    // With `Limit` it has made exactly `limit` exchanges.
-    ensures limit { result.0 ≡ Stop.Limit → result.1 ≡ limit }
-    // It makes at most `limit` exchanges.
-    ensures within { result.1 ≤ limit }
-    // Where the link is calm and the client ready (`IsSettling`), and `limit` is at least the plan's bound:
-    // unless memory ran out, it stops with `AllFinished`. It makes no more exchanges than the keys still need
-    // questions, and at most the bound. It makes exactly as many as they need where each message asks one
-    // (`AsksOne`).
-    ensures settles { IsSettling L.past L.calm client.old link.old
-        → bound client.old.keys ≤ limit → result.0 ≢ Stop.NoMemory
-        → (result.0 ≡ Stop.AllFinished) × (result.1 ≤ need client.old (L.past link.old))
-        × (AsksOne client.old → result.1 ≡ need client.old (L.past link.old))
-        × (result.1 ≤ bound client.old.keys) }
-    // Where the link is calm and the client ready, both are so after it, unless memory ran out. Each exchange
-    // brought down what the keys need by one question at least, and by exactly one where each message asks
-    // one.
-    ensures calm { IsSettling L.past L.calm client.old link.old → result.0 ≢ Stop.NoMemory
-        → Nearer L.past L.calm client.old client.new link.old link.new result.1 }
-    // Where all was good, with no premise of calm, and unless memory ran out: the exchanges that were made
-    // and those that may be left are at most those that might be left before, and what the disturbed ones
-    // cost. Such sums of several calls in a row add up.
-    ensures losing { IsGood L.past L.honest client.old link.old → result.0 ≢ Stop.NoMemory
-        → ArePaid result.1 (left_for client.old (L.past link.old))
-        (left_for client.new (L.past link.new)) (L.disturbances link.old)
-        (L.disturbances link.new) }
-    // Where all was good, and unless memory ran out: if `limit` is at least the plan's bound, one for each
-    // key, and what its own disturbed exchanges cost, it stops with `AllFinished`.
-    ensures outlasts { IsGood L.past L.honest client.old link.old → result.0 ≢ Stop.NoMemory
-        → IsEnough client.old.keys limit (L.disturbances link.old) (L.disturbances link.new)
-        → result.0 ≡ Stop.AllFinished }
-    // Where the link is calm, no planned name has an object, there is room for all and nothing is known
-    // (`IsUntouched`), and `limit` is at least the plan's bound: unless memory ran out, it stops with
-    // `AllFinished`. It makes at most as many exchanges as all chains have steps, and one more for each key.
-    // It makes exactly as many where each message asks one. Then each object is at the end of its chain, and
-    // counts and verdicts say so.
-    ensures finishes { IsUntouched L.past L.calm client.old link.old
-        → bound client.old.keys ≤ limit → result.0 ≢ Stop.NoMemory
-        → (result.0 ≡ Stop.AllFinished) × (result.1 ≤ chains_and_looks client.old.keys)
-        × (AsksOne client.old → result.1 ≡ chains_and_looks client.old.keys)
-        × IsComplete client.old.keys (L.past link.new).objects client.new.knowns }
-    // Where all was good, it does not stop in conflict.
-    ensures no_conflict { IsGood L.past L.honest client.old link.old
-        → result.0 ≢ Stop.Conflict }
-    // A link that is honest for some names is so after it.
-    ensures honest { (names : Names) → L.honest link.old names → L.honest link.new names }
-    // Over a link that is honest for some names it ends no run.
-    ensures ended { (names : Names) → L.honest link.old names
-        → L.ended link.new ≡ L.ended link.old }
-    // Where all was good, what holds for a plan that prolongs the client's is kept. Over a link that is
-    // honest for its names, what was sound for it stays so, its objects go onward, and an image of its
-    // machine stays one. Over a calm link with room for what that plan misses, there is room still, unless
-    // memory ran out.
-    ensures further { IsGood L.past L.honest client.old link.old → KeepsFurther L.past L.honest
-        L.calm client.old.keys (result.0 ≢ Stop.NoMemory) link.old link.new }
-    // Unless memory ran out, the link after it is what calls made of the link before, as the link itself
-    // tells it.
-    ensures followed { result.0 ≢ Stop.NoMemory → L.follows link.old link.new }
+    ensures { Drives (L.seen link.old) client.old limit result (L.seen link.new) client.new
+        (L.follows link.old link.new) }
 {
     laws_below();
-    L::calm_laws();
     let _plan = client.plan();
     for made in 0..limit {
         match turn(alloc, client, link) {
@@ -207,41 +112,43 @@ fn laws_below()
 /// Where there is no memory; the client is then as it was, or the keys that were asked about are
 /// looked at again.
 fn turn<L: Link>(alloc: Global, client: &mut Client<'_>, link: &mut L) -> Result<bool, TurnFault>
-    ensures good { IsGood L.past L.honest client.old link.old
-        → IsGood L.past L.honest client.new link.new }
-    ensures goes { IsGood L.past L.honest client.old link.old
-        → WentOn client.old.keys (L.past link.old) (L.past link.new) }
-    ensures known { L.honest link.old (is_planned client.old.keys)
-        → L.honest link.new (is_planned client.old.keys)
-        × IfOk result (λ asked. Learnt client.old.keys client.old.batch (L.past link.old)
-        (L.past link.new) client.old.knowns client.new.knowns (one_if asked)) }
-    ensures broken { L.honest link.old (is_planned client.old.keys) → IfErr result (λ fault.
+    ensures good { IsGood client.old (L.seen link.old)
+        → IsGood client.new (L.seen link.new) }
+    ensures goes { IsGood client.old (L.seen link.old)
+        → WentOn client.old.keys (L.seen link.old).past (L.seen link.new).past }
+    ensures known { (L.seen link.old).honest (is_planned client.old.keys)
+        → (L.seen link.new).honest (is_planned client.old.keys)
+        × IfOk result (λ asked. Learnt client.old.keys client.old.batch (L.seen link.old).past
+        (L.seen link.new).past client.old.knowns client.new.knowns (one_if asked)) }
+    ensures broken { (L.seen link.old).honest (is_planned client.old.keys) → IfErr result (λ fault.
         (facts client.new.knowns ≡ facts client.old.knowns)
-        × IsBrokenOff client.old.keys client.old.batch (L.past link.old) (L.past link.new) fault) }
-    ensures lost { IfErr result (IsGivenUp (L.honest link.old (is_planned client.old.keys))
-        client.old client.new (L.past link.old) (L.past link.new)) }
-    ensures turned { IfOk result (λ asked. TakesTurn (L.honest link.old (is_planned client.old.keys))
-        asked client.old client.new (L.past link.old) (L.past link.new)) }
-    ensures grown { L.honest link.old (is_planned client.old.keys)
-        → Grown (L.past link.old) (L.past link.new) }
+        × IsBrokenOff client.old.keys client.old.batch (L.seen link.old).past (L.seen link.new).past
+        fault) }
+    ensures lost { IfErr result (IsGivenUp ((L.seen link.old).honest (is_planned client.old.keys))
+        client.old client.new (L.seen link.old).past (L.seen link.new).past) }
+    ensures turned { IfOk result (λ asked. TakesTurn ((L.seen link.old).honest
+        (is_planned client.old.keys))
+        asked client.old client.new (L.seen link.old).past (L.seen link.new).past) }
+    ensures grown { (L.seen link.old).honest (is_planned client.old.keys)
+        → Grown (L.seen link.old).past (L.seen link.new).past }
     ensures kept { Keeps client.old client.new }
     ensures none { IfOk result (λ asked. asked ≡ false
         → AreSettled client.new.keys client.new.knowns) }
-    ensures calm { IsSettling L.past L.calm client.old link.old → IfOk result (λ asked.
-        Nearer L.past L.calm client.old client.new link.old link.new (one_if asked)) }
-    ensures losing { IsGood L.past L.honest client.old link.old → IfOk result (λ asked.
-        ArePaid (one_if asked) (left_for client.old (L.past link.old))
-        (left_for client.new (L.past link.new)) (L.disturbances link.old)
-        (L.disturbances link.new)) }
-    ensures honest { (names : Names) → L.honest link.old names → L.honest link.new names }
-    ensures ended { (names : Names) → L.honest link.old names
-        → L.ended link.new ≡ L.ended link.old }
-    ensures further { IsGood L.past L.honest client.old link.old → KeepsFurther L.past L.honest
-        L.calm client.old.keys (IsOk result) link.old link.new }
+    ensures calm { IsSettling client.old (L.seen link.old) → IfOk result (λ asked.
+        Nearer client.old client.new (L.seen link.old) (L.seen link.new) (one_if asked)) }
+    ensures losing { IsGood client.old (L.seen link.old) → IfOk result (λ asked.
+        ArePaid (one_if asked) (left_for client.old (L.seen link.old).past)
+        (left_for client.new (L.seen link.new).past) (L.seen link.old).disturbances
+        (L.seen link.new).disturbances) }
+    ensures honest { (names : Names) → (L.seen link.old).honest names
+        → (L.seen link.new).honest names }
+    ensures ended { (names : Names) → (L.seen link.old).honest names
+        → (L.seen link.new).ended ≡ (L.seen link.old).ended }
+    ensures further { IsGood client.old (L.seen link.old)
+        → KeepsFurther client.old.keys (IsOk result) (L.seen link.old) (L.seen link.new) }
     ensures followed { OnOk result (L.follows link.old link.new) }
 {
     laws_below();
-    L::calm_laws();
     let Some(question) = client.ask(alloc)? else {
         return Ok(false);
     };
@@ -260,42 +167,43 @@ fn put<L: Link>(
     question: &Question,
 ) -> Result<(), TurnFault>
     requires { IsToBePut client.old question.now }
-    ensures good { IsGood L.past L.honest client.old link.old
-        → JustifiedMessage client.old.keys (L.past link.old).objects question.now.bytes
-        → IsGood L.past L.honest client.new link.new
-        × WentOn client.old.keys (L.past link.old) (L.past link.new) }
-    ensures known { L.honest link.old (is_planned client.old.keys)
-        → L.honest link.new (is_planned client.old.keys)
-        × OnOk result (Learnt client.old.keys client.old.batch (L.past link.old)
-        (L.past link.new) client.old.knowns client.new.knowns 1) }
-    ensures broken { L.honest link.old (is_planned client.old.keys) → IfErr result (λ fault.
+    ensures good { IsGood client.old (L.seen link.old)
+        → JustifiedMessage client.old.keys (L.seen link.old).past.objects question.now.bytes
+        → IsGood client.new (L.seen link.new)
+        × WentOn client.old.keys (L.seen link.old).past (L.seen link.new).past }
+    ensures known { (L.seen link.old).honest (is_planned client.old.keys)
+        → (L.seen link.new).honest (is_planned client.old.keys)
+        × OnOk result (Learnt client.old.keys client.old.batch (L.seen link.old).past
+        (L.seen link.new).past client.old.knowns client.new.knowns 1) }
+    ensures broken { (L.seen link.old).honest (is_planned client.old.keys) → IfErr result (λ fault.
         (facts client.new.knowns ≡ facts client.old.knowns)
-        × IsBrokenOff client.old.keys client.old.batch (L.past link.old) (L.past link.new) fault) }
+        × IsBrokenOff client.old.keys client.old.batch (L.seen link.old).past (L.seen link.new).past
+        fault) }
     ensures lost { OnErr result (client.new ≡ taught question.now None client.old) }
-    ensures sent { L.honest link.old (is_planned client.old.keys) → IfErr result (λ fault.
-        (L.past link.new).sent
-        ≡ (L.past link.old).sent ++ messages_made fault question.now.bytes) }
+    ensures sent { (L.seen link.old).honest (is_planned client.old.keys) → IfErr result (λ fault.
+        (L.seen link.new).past.sent
+        ≡ (L.seen link.old).past.sent ++ messages_made fault question.now.bytes) }
     ensures answered { OnOk result (IsAnswered
-        (L.honest link.old (is_planned client.old.keys)) question.now client.old client.new
-        (L.past link.old) (L.past link.new)) }
-    ensures grown { L.honest link.old (is_planned client.old.keys)
-        → Grown (L.past link.old) (L.past link.new) }
+        ((L.seen link.old).honest (is_planned client.old.keys)) question.now client.old client.new
+        (L.seen link.old).past (L.seen link.new).past) }
+    ensures grown { (L.seen link.old).honest (is_planned client.old.keys)
+        → Grown (L.seen link.old).past (L.seen link.new).past }
     ensures kept { Keeps client.old client.new }
-    ensures calm { IsSettling L.past L.calm client.old link.old → OnOk result (
-        Nearer L.past L.calm client.old client.new link.old link.new 1) }
-    ensures losing { IsGood L.past L.honest client.old link.old → OnOk result (ArePaid 1
-        (left_for client.old (L.past link.old)) (left_for client.new (L.past link.new))
-        (L.disturbances link.old) (L.disturbances link.new)) }
-    ensures honest { (names : Names) → L.honest link.old names → L.honest link.new names }
-    ensures ended { (names : Names) → L.honest link.old names
-        → L.ended link.new ≡ L.ended link.old }
-    ensures further { IsGood L.past L.honest client.old link.old
-        → JustifiedMessage client.old.keys (L.past link.old).objects question.now.bytes
-        → KeepsFurther L.past L.honest L.calm client.old.keys (IsOk result) link.old link.new }
+    ensures calm { IsSettling client.old (L.seen link.old) → OnOk result (
+        Nearer client.old client.new (L.seen link.old) (L.seen link.new) 1) }
+    ensures losing { IsGood client.old (L.seen link.old) → OnOk result (ArePaid 1
+        (left_for client.old (L.seen link.old).past) (left_for client.new (L.seen link.new).past)
+        (L.seen link.old).disturbances (L.seen link.new).disturbances) }
+    ensures honest { (names : Names) → (L.seen link.old).honest names
+        → (L.seen link.new).honest names }
+    ensures ended { (names : Names) → (L.seen link.old).honest names
+        → (L.seen link.new).ended ≡ (L.seen link.old).ended }
+    ensures further { IsGood client.old (L.seen link.old)
+        → JustifiedMessage client.old.keys (L.seen link.old).past.objects question.now.bytes
+        → KeepsFurther client.old.keys (IsOk result) (L.seen link.old) (L.seen link.new) }
     ensures followed { OnOk result (L.follows link.old link.new) }
 {
     laws_below();
-    L::calm_laws();
     let _plan = client.plan();
     let Ok(answer) = answer_or_loss(link.exchange(alloc, question.bytes.as_slice())) else {
         lose_each(client, question.parts.as_slice());

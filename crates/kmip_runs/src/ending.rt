@@ -8,6 +8,7 @@ ghost use Rattle.kmip_protocol.specs.Ending.{EndedAt};
 ghost use Rattle.kmip_protocol.specs.Moves.{Delivered};
 ghost use Rattle.kmip_protocol.specs.Past.{Names};
 ghost use Rattle.kmip_runs.specs.PrivateCampaignParts.{AreSame, HasRoom, IsEnding, IsEndOf, saved_with};
+ghost use Rattle.kmip_runs.specs.Drives.{ClosesRun};
 
 use crate::campaign_end::CampaignEnd;
 use crate::reporting::report_of;
@@ -116,28 +117,7 @@ fn end_of(alloc: Global, client: &Client<'_>, driven: (Stop, usize)) -> Result<R
 /// # Errors
 /// Where there is no memory; the end of the run is then not noted, and no failure of the network was met.
 pub fn close_run<L: Link>(alloc: Global, link: &mut L) -> Result<(), NoMemory>
-    // A link that is honest for some names is so after it, and what happened in between is a delivery beside
-    // these names.
-    ensures honest { (names : Names) → L.honest link.old names → L.honest link.new names
-        × Delivered names (L.past link.old) (L.past link.new) }
-    // A link that is calm for some names is so after it, and unless memory ran out nothing happened.
-    ensures calm { (names : Names) → L.calm link.old names → L.calm link.new names
-        × OnOk result (L.past link.new ≡ L.past link.old) }
-    // Over a link that is honest for some names, no exchange is counted as disturbed by it.
-    ensures undisturbed { (names : Names) → L.honest link.old names
-        → L.disturbances link.new ≡ L.disturbances link.old }
-    // Over a link that is honest for some names, and unless memory ran out, the end is noted after those
-    // before it, by how many messages had been sent.
-    ensures ended { (names : Names) → L.honest link.old names → OnOk result (
-        EndedAt (length (L.past link.old).sent) (L.ended link.old) (L.ended link.new)) }
-    // Where memory ran out over such a link, no end is noted.
-    ensures unended { (names : Names) → L.honest link.old names → OnErr result (
-        L.ended link.new ≡ L.ended link.old) }
-    // Unless memory ran out, the link after it is what calls made of the link before, as the link itself
-    // tells it.
-    ensures followed { OnOk result (L.follows link.old link.new) }
-    // Where memory ran out, no failure of the network was counted.
-    ensures wanting { OnErr result (L.failures link.new ≡ L.failures link.old) }
+    ensures { ClosesRun (L.seen link.old) result (L.seen link.new) (L.follows link.old link.new) }
 {
     match link.end_run(alloc) {
         Ok(()) | Err(LinkFault::Io) | Err(LinkFault::Frame) => Ok(()),

@@ -39,17 +39,7 @@ impl<L: Link, O: Observer> Observed<L, O> {
 }
 
 impl<L: Link, O: Observer> Link for Observed<L, O> {
-    ghost past = { λ observed. L.past observed.link };
-
-    ghost honest = { λ observed. L.honest observed.link };
-
-    ghost calm = { λ observed. L.calm observed.link };
-
-    ghost failures = { λ observed. L.failures observed.link };
-
-    ghost ended = { λ observed. L.ended observed.link };
-
-    ghost disturbances = { λ observed. L.disturbances observed.link };
+    ghost seen = { λ observed. L.seen observed.link };
 
     ghost follows = { λ observed next. L.follows observed.link next.link };
 
@@ -69,7 +59,7 @@ impl<L: Link, O: Observer> Link for Observed<L, O> {
         ended
     }
 
-    fn calm_laws() {
-        L::calm_laws();
-    }
+    ghost itself = { λ observed. L.itself observed.link };
+
+    ghost twice = { λ x y z. L.twice x.link y.link z.link };
 }

@@ -23,6 +23,7 @@ ghost use Rattle.kmip_runs.specs.PrivateCampaignsParts.{HasRunBroken, HasRunPlan
 ghost use Rattle.kmip_runs.specs.Driving.{WentOn};
 ghost use Rattle.kmip_runs.specs.Ending.{AreEnded};
 ghost use Rattle.kmip_runs.specs.Private.{EndsJoin};
+ghost use Rattle.kmip_runs.specs.MakesCampaigns.{MakesCampaigns};
 
 use crate::campaign_end::CampaignEnd;
 use crate::campaigning::{laws_of_runs, run_all};
@@ -64,50 +65,8 @@ pub fn campaigns<L: Link>(
     requires prolong { AreProlonged plans.now }
     // Each run asks about one to eight keys at once.
     requires batches { All (λ list. MayBatch list.items) runs.now }
-    // Where the start is good, the past is safe for the last plan and for all that was reported on any of the
-    // plans, whatever the runs were and wherever memory ran out.
-    ensures safe { GoodStart L.past L.honest plans.now link.old
-        → Safe (last_plan plans.now) (L.past link.new)
-        (reported (last_plan plans.now) result.runs.items result.saved.items) }
-    // Where the start is good, the past is an image of a run of the last plan's machine, if nothing of that
-    // plan had happened before, or if the past was such an image before.
-    ensures machine { GoodStart L.past L.honest plans.now link.old
-        → (Opening (last_plan plans.now) (L.past link.old)
-        → IsMirrored (last_plan plans.now) (L.past link.new))
-        × (IsMirrored (last_plan plans.now) (L.past link.old)
-        → IsMirrored (last_plan plans.now) (L.past link.new)) }
-    // Where the start is good, no run stops in conflict, and no end has a key in conflict.
-    ensures no_conflict { GoodStart L.past L.honest plans.now link.old
-        → All HasNoConflict result.runs.items }
-    // Where the start is good, the link is good for the last plan after it: honest, and all is sound.
-    ensures sound { GoodStart L.past L.honest plans.now link.old
-        → GoodLink L.past L.honest (last_plan plans.now) link.new }
-    // Where the start is good, each saved progress is true of the last plan and of the objects that are there
-    // after it, where nothing is known of the further keys.
-    ensures true_saved { GoodStart L.past L.honest plans.now link.old
-        → All (IsTrueFor (L.past link.new).objects (last_plan plans.now)) result.saved.items }
-    // Where the start is good, the object of each name of the last plan keeps its identifier and never goes
-    // back, and a past that was an image of that plan's machine still is.
-    ensures goes { GoodStart L.past L.honest plans.now link.old
-        → WentOn (last_plan plans.now) (L.past link.old) (L.past link.new) }
-    // Over any link what is noted was noted plan by plan. The runs on each plan are as `order`, `complete`
-    // and `known` of `campaign` say for that plan alone, where `Saved` finds what was saved so far, carried
-    // over to the plan. Where the start is calm (`CalmStart`), and memory did not run out in them, each that
-    // may make as many exchanges as its plan's bound finishes every key of the plan within it. The runs on
-    // each plan begin where those before them ended. Only where memory ran out are runs missing: then the
-    // runs on the last plan that was begun lack an end, or a further plan was not begun.
-    ensures in_turn { AreInTurn plans.now (map (λ list. list.items) runs.now)
-        result.runs.items result.saved.items (L.honest link.old (is_planned (last_plan plans.now)))
-        (CalmStart L.past L.calm plans.now link.old) (result.fault ≡ None)
-        (L.past link.old) (L.past link.new) }
-    // Where the link is honest for the names of the last plan, the runs that have ends are those that were
-    // ended over it, each right after its last exchange, and no other run was.
-    ensures ended { L.honest link.old (is_planned (last_plan plans.now))
-        → AreEnded result.runs.items (length (L.past link.old).sent)
-        (L.ended link.old) (L.ended link.new) }
-    // Unless memory ran out, the link after it is what calls made of the link before, as the link itself
-    // tells it.
-    ensures followed { result.fault ≡ None → L.follows link.old link.new }
+    ensures { MakesCampaigns (L.seen link.old) plans.now (map (λ list. list.items) runs.now) result
+        (L.seen link.new) (L.follows link.old link.new) }
 {
     laws_below();
     let mut end = CampaignEnd {
@@ -151,15 +110,14 @@ fn run_plans<L: Link>(
     requires as_many { length runs.now ≡ length plans.now }
     requires prolong { AreProlonged plans.now }
     requires batches { All (λ list. MayBatch list.items) runs.now }
-    ensures ran { HasRunPlans L.past L.honest L.calm plans.now (map (λ list. list.items) runs.now)
-        (result ≡ Ok tt) link.old link.new end.new }
-    ensures ended { L.honest link.old (is_planned (last_plan plans.now))
-        → EndsJoin [] end.new.runs.items (result ≡ Ok tt) (length (L.past link.old).sent)
-        (length (L.past link.new).sent) (L.ended link.old) (L.ended link.new) }
+    ensures ran { HasRunPlans plans.now (map (λ list. list.items) runs.now)
+        (result ≡ Ok tt) (L.seen link.old) (L.seen link.new) end.new }
+    ensures ended { (L.seen link.old).honest (is_planned (last_plan plans.now))
+        → EndsJoin [] end.new.runs.items (result ≡ Ok tt) (length (L.seen link.old).past.sent)
+        (length (L.seen link.new).past.sent) (L.seen link.old).ended (L.seen link.new).ended }
     ensures followed { OnOk result (L.follows link.old link.new) }
 {
     laws_below();
-    L::calm_laws();
     plans[0].keys();
     plans[plans.len() - 1].keys();
     let mut carried = Vec::new(alloc);
@@ -190,15 +148,16 @@ fn run_part<L: Link>(
     requires carried { All (Suits plan.now) carried.now }
     requires batches { MayBatch runs.now }
     requires prolongs { IfSome next (λ next. Prolongs next.now plan.now) }
-    ensures ran { IfOk result (λ read. HasRunWhole L.past L.honest L.calm plan.now
-        (option_map (λ next. next.now) next.entry) carried.now runs.now link.old link.new
+    ensures ran { IfOk result (λ read. HasRunWhole plan.now
+        (option_map (λ next. next.now) next.entry) carried.now runs.now (L.seen link.old)
+        (L.seen link.new)
         end.old end.new read.items) }
     ensures broken { OnErr result ((AreSame end.old end.new × (link.new ≡ link.old))
-        ⊎ HasRunBroken L.past L.honest L.calm plan.now (option_map (λ next. next.now) next.entry)
-        carried.now runs.now link.old link.new end.old end.new) }
-    ensures ended { L.honest link.old (is_planned plan.now) → EndsJoin end.old.runs.items
-        end.new.runs.items (IsOk result) (length (L.past link.old).sent)
-        (length (L.past link.new).sent) (L.ended link.old) (L.ended link.new) }
+        ⊎ HasRunBroken plan.now (option_map (λ next. next.now) next.entry)
+        carried.now runs.now (L.seen link.old) (L.seen link.new) end.old end.new) }
+    ensures ended { (L.seen link.old).honest (is_planned plan.now) → EndsJoin end.old.runs.items
+        end.new.runs.items (IsOk result) (length (L.seen link.old).past.sent)
+        (length (L.seen link.new).past.sent) (L.seen link.old).ended (L.seen link.new).ended }
     ensures followed { OnOk result (L.follows link.old link.new) }
 {
     end.runs.reserve(runs.len())?;

@@ -9,6 +9,9 @@ use Rattle.kmip_scripted.specs.Words.{after_words, AreBegun}
 use Rattle.kmip_runs.specs.declared.run.Run.{Run}
 use Rattle.kmip_scripted.specs.declared.runs.Part.{Part}
 use Rattle.kmip_scripted.specs.Runs.{runs_from}
+use Rattle.std.specs.Prelude.{◌++◌, refl}
+use Rattle.std.proofs.Common.{◌∙◌, ap}
+use Rattle.kmip_scripted.specs.Following.{Call, after_call, after_calls, Follows}
 
 -- The requests of a message were all asked.
 abbrev pub WasAsked : List ℕ → Scene → Type 0
@@ -38,3 +41,19 @@ grown count (run ∷ runs) = record run { limit = count + run.limit } ∷ runs
 -- The runs of the words that are left, where some of the first run's are taken.
 abbrev pub left_of : ℕ → Part → List Word → List Run
 left_of more part words = grown part.limit (runs_from more part.begun part.start words)
+
+-- Calls, and then others, are all of them.
+calls_append : (xs ys : List Call) (s : Scene) → after_calls ys (after_calls xs s) ≡ after_calls (xs ++ ys) s
+calls_append [] ys s = refl
+calls_append (x ∷ xs) ys s = calls_append xs ys (after_call x s)
+
+-- A link follows itself, as the trait of links asks.
+pub follows_itself : (s : Scene) → Follows s s
+follows_itself s = record { calls = []; is = refl }
+
+-- What calls make of what calls made, all of them made.
+pub follows_twice : (x y z : Scene) → Follows x y → Follows y z → Follows x z
+follows_twice x y z a b = record {
+  calls = a.calls ++ b.calls;
+  is = b.is ∙ ap (after_calls b.calls) a.is ∙ calls_append a.calls b.calls x;
+}

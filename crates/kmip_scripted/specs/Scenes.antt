@@ -1,7 +1,7 @@
 -- What a link in memory holds at one time: the records of its server, the messages as bytes, and the
 -- words of its script that are left; and what that says of the past.
 -- Source: own (view), over KMIP 2.1, Message Structure.
-use Rattle.std.specs.Prelude.{ℕ, List, [], Option}
+use Rattle.std.specs.Prelude.{◌≡◌, ⊤, ℕ, List, [], Option, refl}
 use Rattle.std.specs.List.{flat_map}
 use Rattle.kmip_messages.specs.Items.{replies_in, requests_in}
 use Rattle.kmip_server.specs.Shown.{objects_in, room_in}
@@ -9,6 +9,7 @@ use Rattle.kmip_store.specs.Stock.{Stock}
 use Rattle.kmip_server.specs.declared.effect.Effect.{Effect}
 use Rattle.kmip_protocol.specs.Clean.{Disturbances}
 use Rattle.kmip_protocol.specs.Past.{Past}
+use Rattle.kmip_protocol.specs.Seen.{Seen}
 use Rattle.kmip_scripted.specs.declared.word.Word.{Word}
 
 -- What a link in memory holds.
@@ -71,3 +72,18 @@ disturbances_in s = record { disturbed = s.disturbed; requests = s.disturbed_req
 -- The link with other counts of what was disturbed.
 abbrev pub with_disturbances : Disturbances → Scene → Scene
 with_disturbances d s = record s { disturbed = d.disturbed; disturbed_requests = d.requests; strange = d.strange }
+
+-- What is seen of a link in memory. It is honest for any names, whatever its script, and calm for them once no
+-- word is left: from then on it loses, delays and repeats nothing.
+abbrev pub seen_in : Scene → Seen
+seen_in s = record {
+  past = past_in s;
+  honest = λ names. ⊤;
+  calm = λ names. s.words ≡ [];
+  failures = 0;
+  disturbances = disturbances_in s;
+  ended = s.ended;
+  calm_is_honest = λ names none. tt;
+  may_fail = λ names none. refl;
+  fewer = λ names few among. (λ honest. honest, λ none. none);
+}

@@ -27,15 +27,15 @@ pub fn runs_end_as_the_link_does()
 pub fn a_link_in_memory_is_honest<S: Records>()
     // It is honest for any names.
     ensures honest { (link : Scene) (names : Names)
-        → ⟦<Scripted<S> as Link>⟧.honest link names }
+        → (⟦<Scripted<S> as Link>⟧.seen link).honest names }
     // It is calm for any names once no word is left.
     ensures calm { (link : Scene) (names : Names) → link.words ≡ []
-        → ⟦<Scripted<S> as Link>⟧.calm link names }
+        → (⟦<Scripted<S> as Link>⟧.seen link).calm names }
     // What has happened over it is what its lists say.
-    ensures past { (link : Scene) → ⟦<Scripted<S> as Link>⟧.past link ≡ past_in link }
+    ensures past { (link : Scene) → (⟦<Scripted<S> as Link>⟧.seen link).past ≡ past_in link }
     // Where runs ended over it is what its list of ends says.
-    ensures ended { (link : Scene) → ⟦<Scripted<S> as Link>⟧.ended link ≡ link.ended }
+    ensures ended { (link : Scene) → (⟦<Scripted<S> as Link>⟧.seen link).ended ≡ link.ended }
     // How many exchanges were disturbed is what its counts say.
     ensures disturbed { (link : Scene)
-        → ⟦<Scripted<S> as Link>⟧.disturbances link ≡ disturbances_in link }
+        → (⟦<Scripted<S> as Link>⟧.seen link).disturbances ≡ disturbances_in link }
 {}

@@ -26,21 +26,11 @@ use std::alloc::Global;
 /// its message. It is also counted where nothing is handed over, and where the server had no room for
 /// what it asks.
 impl<S: Records> Link for Scripted<S> {
-    ghost use Rattle.std.specs.Prelude.{◌≡◌, [], ⊤};
     ghost use Rattle.kmip_scripted.specs.Following.{Follows};
-    ghost use Rattle.kmip_scripted.specs.Scenes.{disturbances_in, past_in};
+    ghost use Rattle.kmip_scripted.specs.Private.{follows_itself, follows_twice};
+    ghost use Rattle.kmip_scripted.specs.Scenes.{seen_in};
 
-    ghost past = { past_in };
-
-    ghost honest = { λ link names. ⊤ };
-
-    ghost calm = { λ link names. link.words ≡ [] };
-
-    ghost failures = { λ link. 0 };
-
-    ghost disturbances = { disturbances_in };
-
-    ghost ended = { λ link. link.ended };
+    ghost seen = { seen_in };
 
     ghost follows = { Follows };
 
@@ -114,5 +104,7 @@ impl<S: Records> Link for Scripted<S> {
         }
     }
 
-    fn calm_laws() {}
+    ghost itself = { follows_itself };
+
+    ghost twice = { follows_twice };
 }

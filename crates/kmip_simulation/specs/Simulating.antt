@@ -5,7 +5,6 @@ use Rattle.std.specs.List.{All, AllZip}
 use Rattle.kmip_plan.specs.declared.key.Key.{Key}
 use Rattle.kmip_client.specs.Held.{TrueProgress}
 use Rattle.kmip_protocol.specs.Machine.{IsMirrored}
-use Rattle.kmip_protocol.specs.Past.{Names}
 use Rattle.kmip_protocol.specs.Headline.{Safe}
 use Rattle.kmip_protocol.specs.Sound.{Opening, Sound}
 use Rattle.kmip_runs.specs.Campaign.{CalmLink, HasNoConflict, IsEnd, Settles, saves}
@@ -20,7 +19,7 @@ use Rattle.kmip_runs.specs.declared.run.Run.{Run}
 use Rattle.kmip_store.specs.Stock.{empty_stock, most_room}
 use Rattle.kmip_scripted.specs.Following.{Follows}
 use Rattle.kmip_scripted.specs.Runs.{lists_of, runs_of}
-use Rattle.kmip_scripted.specs.Scenes.{Scene, disturbances_in, past_in, scene_of}
+use Rattle.kmip_scripted.specs.Scenes.{Scene, disturbances_in, past_in, scene_of, seen_in}
 use Rattle.kmip_scripted.specs.Words.{next_words}
 use Rattle.kmip_scripted.specs.declared.word.Word.{Word}
 
@@ -37,10 +36,6 @@ AreMade keys runs end = AllZip (IsEnd keys) runs end.runs.items × (length end.s
 abbrev pub in_batches : ℕ → List Run → List Run
 in_batches batch runs = map (λ (run : Run). record run { batch = batch }) runs
 
--- no word of a link's script is left: from then on it loses, delays and repeats nothing
-abbrev pub HasNoWord : Scene → Names → Type 0
-HasNoWord link names = link.words ≡ []
-
 -- What the headline says of a campaign over a link in memory, with its premises met: whatever the link lost, delayed and repeated, what
 -- the server did is safe, and a past of the plan machine; no run found a conflict; over a calm link the
 -- runs finish; and so they do over any, if they may make as many exchanges as the losses cost.
@@ -54,8 +49,8 @@ pub record IsCarriedOut (keys : List Key) (runs : List Run) (end : CampaignEnd) 
   pub order : AllZip (IsEnd keys) (take (length end.runs.items) runs) end.runs.items
   pub complete : end.fault ≡ None → AreMade keys runs end
   pub known : AreKnown keys runs end.runs.items end.saved.items ⊤ (end.fault ≡ None) (past_in before) (past_in after)
-  pub settles : CalmLink past_in HasNoWord keys before → end.fault ≡ None
-      → AllZip (Settles keys) runs end.runs.items × CalmLink past_in HasNoWord keys after
+  pub settles : CalmLink keys (seen_in before) → end.fault ≡ None
+      → AllZip (Settles keys) runs end.runs.items × CalmLink keys (seen_in after)
   pub outlasts : end.fault ≡ None → AllOutlast keys runs end.runs.items (disturbances_in before) (disturbances_in after)
   pub ended : AreEnded end.runs.items (length before.sent) before.ended after.ended
   pub followed : end.fault ≡ None → Follows before after
@@ -66,7 +61,7 @@ pub record IsCarriedOut (keys : List Key) (runs : List Run) (end : CampaignEnd) 
 pub record IsSimulated (keys : List Key) (batch : ℕ) (words : List Word) (end : CampaignEnd) (link : Scene) : Type 0 where
   pub opening : Opening keys (past_in (first_scene words))
   pub mirrored : IsMirrored keys (past_in link)
-  pub calm : words ≡ [] → CalmLink past_in HasNoWord keys (first_scene words)
+  pub calm : words ≡ [] → CalmLink keys (seen_in (first_scene words))
   pub carried : IsCarriedOut keys (in_batches batch (runs_of keys words)) end (first_scene words) link
 
 -- After that, a second campaign made these runs for the same plan over the same link.
@@ -86,6 +81,6 @@ pub record AreSimulated (plans : List (List Key)) (batch : ℕ) (words : List Wo
   pub true_saved : All (IsTrueFor (past_in link).objects (last_plan plans)) end.saved.items
   pub opening : (keys : List Key) → Opening keys (past_in (first_scene words))
   pub in_turn : AreInTurn plans (map (in_batches batch) (lists_of (last_plan plans) words)) end.runs.items end.saved.items ⊤
-      (CalmStart past_in HasNoWord plans (first_scene words)) (end.fault ≡ None) (past_in (first_scene words)) (past_in link)
+      (CalmStart plans (seen_in (first_scene words))) (end.fault ≡ None) (past_in (first_scene words)) (past_in link)
   pub ended : AreEnded end.runs.items 0 [] link.ended
   pub followed : end.fault ≡ None → Follows (first_scene words) link

@@ -1,8 +1,6 @@
 -- Private: definitions that only clauses of private functions cite.
 -- Source: own (view): parts of the public definitions of this crate.
 use Rattle.std.specs.Prelude.{ℕ, ◌+◌, List, Bool, true, false, [], Option, Some, None, Result, Ok, Err, ◌≡◌, ◌<◌, ◌++◌, length, IfErr, IsOk, ℤ, IfSome}
-use Rattle.kmip_protocol.specs.Clean.{Disturbances}
-use Rattle.kmip_protocol.specs.Past.{Past}
 use Rattle.kmip_protocol.specs.declared.link_fault.LinkFault.{LinkFault}
 use Rattle.kmip_protocol.specs.declared.link_fault.LinkFault.TheVariants as faults
 use Rattle.std.specs.Io.KnownBytes.{Consumes, IsAtEnd, Appends}
@@ -15,18 +13,6 @@ use Rattle.kmip_store.specs.Stock.{Stock}
 use Rattle.kmip_transport.specs.declared.stream_end.StreamEnd.{StreamEnd}
 use Rattle.kmip_transport.specs.declared.stream_end.StreamEnd.TheVariants.{Frame, Io, NoMemory}
 use Rattle.kmip_transport.specs.Serving.{stock_after_messages, replies_to}
-
--- Nothing is claimed of what has happened over a network
-abbrev pub unknown_past : Past
-unknown_past = record { room = 0; objects = []; requests = []; replies = []; effects = []; sent = []; handed = [] }
-
--- And no exchange is counted, clean or disturbed
-abbrev pub none_counted : Disturbances
-none_counted = record { disturbed = 0; requests = 0; strange = 0 }
-
--- And no end of a run is noted
-abbrev pub none_ended : List ℕ
-none_ended = []
 
 -- Some bytes were read and joined those held; a reader that tells its bytes began with them, and has
 -- lost them

@@ -1,15 +1,9 @@
 //! The links over streams as links. Nothing is claimed of what a network does.
-ghost use Rattle.std.specs.Prelude.{◌≡◌, ◌≤◌, ◌<◌, ⊤, length, Ok, Err, None, IfErr};
-ghost use Rattle.kmip_protocol.specs.Calm.{CalmlyExchanged, CalmlyEnded};
-ghost use Rattle.kmip_protocol.specs.Clean.{Counted, IsRoomy};
-ghost use Rattle.kmip_protocol.specs.Ending.{Ended};
-ghost use Rattle.kmip_protocol.specs.Exchanges.{Exchanged, answer_in};
+ghost use Rattle.std.specs.Prelude.{◌≡◌, ◌<◌, ⊤};
 ghost use Rattle.kmip_protocol.specs.Faults.{most_failures};
-ghost use Rattle.kmip_protocol.specs.Losses.{IsInMemory};
-ghost use Rattle.kmip_protocol.specs.Moves.{Delivered};
-ghost use Rattle.kmip_protocol.specs.Past.{Names};
+ghost use Rattle.kmip_protocol.specs.Linking.{EndsRun, MakesExchange};
+ghost use Rattle.kmip_protocol.specs.Private.{unclaimed};
 ghost use Rattle.kmip_transport.specs.Links.{closed, link_after, opened};
-ghost use Rattle.kmip_transport.specs.Private.{none_counted, none_ended, unknown_past};
 
 use crate::dial::Dial;
 use crate::stream_link::StreamLink;
@@ -19,39 +13,17 @@ use std::alloc::Global;
 /// Never known to be honest or calm: a network may do anything.
 impl<D: Dial + Drop> Link for StreamLink<D> {
     ghost use Rattle.std.specs.Prelude.{⊤};
-    ghost use Rattle.kmip_transport.specs.Private.{none_counted, none_ended, unknown_past};
+    ghost use Rattle.kmip_protocol.specs.Private.{unclaimed};
 
-    ghost past = { λ link. unknown_past };
-
-    ghost honest = { λ link names. ⊥ };
-
-    ghost calm = { λ link names. ⊥ };
-
-    ghost failures = { λ link. link.failures };
-
-    ghost ended = { λ link. none_ended };
-
-    ghost disturbances = { λ link. none_counted };
+    ghost seen = { λ link. unclaimed link.failures };
 
     ghost follows = { λ link next. ⊤ };
 
     /// The request is sent once, and once a reply received.
     fn exchange(&mut self, alloc: Global, request: &[u8]) -> Result<Option<Vec<u8>>, LinkFault>
-        ensures honest { (names : Names) → ⊥ → ⊥ × Exchanged names unknown_past request.now
-            (answer_in (λ v. v.items) result) unknown_past }
-        ensures calm { (names : Names) → ⊥ → ⊥ × CalmlyExchanged names unknown_past request.now
-            (answer_in (λ v. v.items) result) unknown_past }
-        ensures counted { self.old.failures ≤ self.new.failures }
-        ensures io { IfErr result (λ fault. fault ≡ LinkFault.Io
-            → self.old.failures < self.new.failures) }
-        ensures spent { self.old.failures ≡ most_failures
-            → answer_in (λ v. v.items) result ≡ Ok None }
-        ensures disturbed { (names : Names) → ⊥ → Counted names unknown_past request.now
-            (answer_in (λ v. v.items) result) unknown_past none_counted none_counted }
-        ensures undisturbed { (names : Names) → ⊥ → IsRoomy (answer_in (λ v. v.items) result)
-            → none_counted ≡ none_counted }
-        ensures ended { (names : Names) → ⊥ → none_ended ≡ none_ended }
-        ensures followed { IsInMemory (answer_in (λ v. v.items) result) → ⊤ }
+        // It keeps what every link promises of an exchange.
+        ensures made { MakesExchange (λ v. v.items) (unclaimed self.old.failures) request.now result
+            (unclaimed self.new.failures) ⊤ }
         // It leaves the link as one `send` and one `receive` do. An exchange that sent again, where a stream
         // that was held brings no reply, would leave it otherwise.
         ensures one { self.old.failures < most_failures
@@ -67,19 +39,9 @@ impl<D: Dial + Drop> Link for StreamLink<D> {
 
     /// The stream is closed, if one is open.
     fn end_run(&mut self, _alloc: Global) -> Result<(), LinkFault>
-        ensures honest { (names : Names) → ⊥ → ⊥ × Delivered names unknown_past unknown_past }
-        ensures calm { (names : Names) → ⊥
-            → ⊥ × CalmlyEnded names result unknown_past unknown_past }
-        ensures counted { self.old.failures ≤ self.new.failures }
-        ensures io { IfErr result (λ fault. fault ≡ LinkFault.Io
-            → self.old.failures < self.new.failures) }
-        ensures spent { self.old.failures ≡ most_failures → result ≡ Ok tt }
-        ensures undisturbed { (names : Names) → ⊥ → none_counted ≡ none_counted }
-        ensures ended { (names : Names) → ⊥
-            → Ended result (length unknown_past.sent) none_ended none_ended }
-        ensures followed { IsInMemory result → ⊤ }
-        ensures wanting { result ≡ Err LinkFault.NoMemory
-            → self.new.failures ≡ self.old.failures }
+        // It keeps what every link promises of the end of a run.
+        ensures ends { EndsRun (unclaimed self.old.failures) result
+            (unclaimed self.new.failures) ⊤ }
         // The stream is closed, and no more happens to the link.
         ensures closed { self.new ≡ closed self.old }
     {
@@ -87,5 +49,7 @@ impl<D: Dial + Drop> Link for StreamLink<D> {
         Ok(())
     }
 
-    fn calm_laws() {}
+    ghost itself = { λ link. tt };
+
+    ghost twice = { λ x y z first second. tt };
 }

@@ -144,20 +144,10 @@ fn unless_lost(fault: LinkFault) -> Result<(), NoMemory>
 
 /// Never known to be honest or calm: a network may do anything.
 impl<R: Net + Clock + Drop, S: Records + Drop> Link for Loopback<R, S> {
-    ghost use Rattle.std.specs.Prelude.{[], ⊤};
-    ghost use Rattle.kmip_transport.specs.Private.{none_counted, unknown_past};
+    ghost use Rattle.std.specs.Prelude.{⊤};
+    ghost use Rattle.kmip_protocol.specs.Private.{unclaimed};
 
-    ghost past = { λ loopback. unknown_past };
-
-    ghost honest = { λ loopback names. ⊥ };
-
-    ghost calm = { λ loopback names. ⊥ };
-
-    ghost failures = { λ loopback. loopback.link.failures };
-
-    ghost ended = { λ loopback. [] };
-
-    ghost disturbances = { λ loopback. none_counted };
+    ghost seen = { λ loopback. unclaimed loopback.link.failures };
 
     ghost follows = { λ loopback next. ⊤ };
 
@@ -178,5 +168,7 @@ impl<R: Net + Clock + Drop, S: Records + Drop> Link for Loopback<R, S> {
         Ok(())
     }
 
-    fn calm_laws() {}
+    ghost itself = { λ link. tt };
+
+    ghost twice = { λ x y z first second. tt };
 }

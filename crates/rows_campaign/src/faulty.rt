@@ -207,27 +207,10 @@ fn written(alloc: Global, members: &[Reply]) -> Result<Option<Vec<u8>>, LinkFaul
 /// Neither honest nor calm, and its past is empty: nothing is claimed of it but that its failures
 /// are counted.
 impl<S: Records> Link for Faulty<S> {
-    ghost use Rattle.std.specs.Prelude.{[], ⊤};
+    ghost use Rattle.std.specs.Prelude.{⊤};
+    ghost use Rattle.kmip_protocol.specs.Private.{unclaimed};
 
-    ghost past = { λ link. record {
-      room = 0;
-      objects = [];
-      requests = [];
-      replies = [];
-      effects = [];
-      sent = [];
-      handed = [];
-    } };
-
-    ghost honest = { λ link names. ⊥ };
-
-    ghost calm = { λ link names. ⊥ };
-
-    ghost failures = { λ link. link.failures };
-
-    ghost ended = { λ link. [] };
-
-    ghost disturbances = { λ link. record { disturbed = 0; requests = 0; strange = 0 } };
+    ghost seen = { λ link. unclaimed link.failures };
 
     ghost follows = { λ link next. ⊤ };
 
@@ -252,5 +235,7 @@ impl<S: Records> Link for Faulty<S> {
         }
     }
 
-    fn calm_laws() {}
+    ghost itself = { λ link. tt };
+
+    ghost twice = { λ x y z first second. tt };
 }

@@ -40,27 +40,10 @@ impl Peer {
 /// Neither honest nor calm, and its past is empty: nothing is claimed of it. What can't be answered is
 /// lost.
 impl Link for Peer {
-    ghost use Rattle.std.specs.Prelude.{[], ⊤};
+    ghost use Rattle.std.specs.Prelude.{⊤};
+    ghost use Rattle.kmip_protocol.specs.Private.{unclaimed};
 
-    ghost past = { λ link. record {
-      room = 0;
-      objects = [];
-      requests = [];
-      replies = [];
-      effects = [];
-      sent = [];
-      handed = [];
-    } };
-
-    ghost honest = { λ link names. ⊥ };
-
-    ghost calm = { λ link names. ⊥ };
-
-    ghost failures = { λ link. 0 };
-
-    ghost ended = { λ link. [] };
-
-    ghost disturbances = { λ link. record { disturbed = 0; requests = 0; strange = 0 } };
+    ghost seen = { λ link. unclaimed 0 };
 
     ghost follows = { λ link next. ⊤ };
 
@@ -72,5 +55,7 @@ impl Link for Peer {
         Ok(())
     }
 
-    fn calm_laws() {}
+    ghost itself = { λ link. tt };
+
+    ghost twice = { λ x y z first second. tt };
 }

@@ -44,11 +44,11 @@ fn line_of(alloc: Global, text: &Bytes) -> Result<String, Fail> {
 impl Keeper for Shelf {
     ghost use Rattle.std.specs.Prelude.{⊤};
 
-    ghost saved = { λ shelf. shelf.texts.items };
-
-    ghost keeps = { λ shelf. ⊤ };
-
-    ghost refusals = { λ shelf. shelf.refusals };
+    ghost kept = { λ shelf. record {
+      saved = shelf.texts.items;
+      keeps = ⊤;
+      refusals = shelf.refusals;
+    } };
 
     fn save(&mut self, alloc: Global, text: &[u8]) -> Result<(), SaveFault> {
         if self.texts.len() >= self.room {

@@ -33,13 +33,9 @@ impl Tally {
 
 /// What was saved before cannot be read back: nothing is claimed of it.
 impl Keeper for Tally {
-    ghost use Rattle.std.specs.Prelude.{[]};
+    ghost use Rattle.kmip_runs.specs.Private.{unclaimed};
 
-    ghost saved = { λ tally. [] };
-
-    ghost keeps = { λ tally. ⊥ };
-
-    ghost refusals = { λ tally. 0 };
+    ghost kept = { λ tally. unclaimed 0 };
 
     fn save(&mut self, _alloc: Global, text: &[u8]) -> Result<(), SaveFault> {
         self.last.clear();

@@ -10,7 +10,7 @@ returns-in_ok-text-in-Ok g c = record {
     knowns = c.carry_out-ended.new.client.knowns;
     stop = c.in-Ok.stop;
     exchanges = c.carry_out-ended.result.1;
-    has_come = came_stop _ _ _ g.L.Link.disturbances _ _ g.K.Keeper.refusals _ _ _ c.args.client.now c.carry_out-ended.new.client c.args.link.now c.carry_out-ended.new.link c.args.keeper.now c.carry_out-ended.new.keeper c.carry_out-ended.result.0 c.in-Ok.stop c.carry_out-ended.result.1 c.in-Ok.is (search rules) c.carry_out-ended.ensures.known c.carry_out-ended.ensures.kept c.carry_out-ended.ensures.saved c.carry_out-ended.ensures.settles c.carry_out-ended.ensures.outlasts c.carry_out-ended.ensures.output c.carry_out-ended.ensures.limit c.carry_out-ended.ensures.given_up;
+    has_come = came_stop _ _ _ c.carry_out-ended.result.0 c.in-Ok.stop c.carry_out-ended.result.1 c.in-Ok.is (search rules) c.carry_out-ended.ensures;
     in_memory = search rules;
     stands = search rules;
     within = search rules;
@@ -26,7 +26,7 @@ pub returns-in_ok-text-in-Err-Output-clause-text :
 returns-in_ok-text-in-Err-Output-clause-text g c = inr (record {
   knowns = c.carry_out-ended.new.client.knowns;
   exchanges = c.carry_out-ended.result.1;
-  has_come = came_unsaved _ _ _ g.L.Link.disturbances _ _ g.K.Keeper.refusals _ _ _ c.args.client.now c.carry_out-ended.new.client c.args.link.now c.carry_out-ended.new.link c.args.keeper.now c.carry_out-ended.new.keeper c.carry_out-ended.result.0 c.in-Err-Output.field-0 faults.Output c.carry_out-ended.result.1 c.in-Err-Output.is (search rules) c.carry_out-ended.ensures.known c.carry_out-ended.ensures.kept c.carry_out-ended.ensures.saved c.carry_out-ended.ensures.settles c.carry_out-ended.ensures.outlasts c.carry_out-ended.ensures.output c.carry_out-ended.ensures.limit c.carry_out-ended.ensures.given_up;
+  has_come = came_unsaved _ _ _ c.carry_out-ended.result.0 c.in-Err-Output.field-0 faults.Output c.carry_out-ended.result.1 c.in-Err-Output.is (search rules) c.carry_out-ended.ensures;
   refused_is = search rules;
   text_is = search rules;
 })

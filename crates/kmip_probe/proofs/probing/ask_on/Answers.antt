@@ -55,12 +55,11 @@ loop-preserved g c =
       asked = λ names honest.
           let (before, asked) = c.loop.invariant.asked names honest in
           let (still, once) = c.in_ok-answer.ensures.asked names before in
-          let p = g.L.Link.past in
           let slice = c.as_slice-in-loop.ensures.value in (
             still,
-            λ start first. subst (λ xs. AreAsked c.args.prefix.now xs start (p c.put.new.link)) (sym pushed)
-                (asked_more c.args.prefix.now c.loop.answers.items c.in_ok-answer.answer start (p c.loop.link) (p c.put.new.link) (asked start first)
-                (subst (λ xs. HasAsked c.args.prefix.now xs c.in_ok-answer.answer (p c.loop.link) (p c.put.new.link)) slice once)),
+            λ start first. subst (λ xs. AreAsked c.args.prefix.now xs start (g.L.Link.seen c.put.new.link).past) (sym pushed)
+                (asked_more c.args.prefix.now c.loop.answers.items c.in_ok-answer.answer start (g.L.Link.seen c.loop.link).past (g.L.Link.seen c.put.new.link).past (asked start first)
+                (subst (λ xs. HasAsked c.args.prefix.now xs c.in_ok-answer.answer (g.L.Link.seen c.loop.link).past (g.L.Link.seen c.put.new.link).past) slice once)),
           );
       few = λ names honest.
           let few = c.loop.invariant.few names honest in
@@ -69,13 +68,12 @@ loop-preserved g c =
       served = λ names calm first.
           let (before, served) = c.loop.invariant.served names calm first in
           let (still, once) = c.in_ok-answer.ensures.served names before in
-          let p = g.L.Link.past in
           let slice = c.as_slice-in-loop.ensures.value in (
             still,
-            subst (λ xs. AreServed c.args.prefix.now xs (p c.put.new.link)) (sym pushed)
-                (one_served c.laws_below.ensures c.args.prefix.now c.loop.answers.items c.in_ok-answer.answer (p c.loop.link) (p c.put.new.link)
+            subst (λ xs. AreServed c.args.prefix.now xs (g.L.Link.seen c.put.new.link).past) (sym pushed)
+                (one_served c.laws_below.ensures c.args.prefix.now c.loop.answers.items c.in_ok-answer.answer (g.L.Link.seen c.loop.link).past (g.L.Link.seen c.put.new.link).past
                 (omega (arith, c.loop.invariant.count, c.loop-test.true, c.requires.most)) served
-                (subst (λ xs. HasServedNext c.args.prefix.now xs c.in_ok-answer.answer (p c.loop.link) (p c.put.new.link)) slice once)),
+                (subst (λ xs. HasServedNext c.args.prefix.now xs c.in_ok-answer.answer (g.L.Link.seen c.loop.link).past (g.L.Link.seen c.put.new.link).past) slice once)),
           );
     }
 

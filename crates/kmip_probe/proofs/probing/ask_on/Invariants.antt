@@ -13,10 +13,10 @@ invariant-loop g l = record {
   count : length l.answers.items ≡ l.counter;
   lawful : All IsLawful l.answers.items;
   onward : (more : List Answer) × (l.answers.items ≡ l.initial.answers.items ++ more);
-  asked : (names : Names) → g.L.Link.honest l.initial.link names
-      → g.L.Link.honest l.link names × AsksOn l.prefix l.initial.answers.items l.answers.items (g.L.Link.past l.initial.link) (g.L.Link.past l.link);
-  few : (names : Names) → g.L.Link.honest l.initial.link names
-      → length (g.L.Link.past l.link).sent + length l.initial.answers.items ≤ length (g.L.Link.past l.initial.link).sent + l.counter;
-  served : (names : Names) → g.L.Link.calm l.initial.link names → AreServed l.prefix l.initial.answers.items (g.L.Link.past l.initial.link)
-      → g.L.Link.calm l.link names × AreServed l.prefix l.answers.items (g.L.Link.past l.link);
+  asked : (names : Names) → (g.L.Link.seen l.initial.link).honest names
+      → (g.L.Link.seen l.link).honest names × AsksOn l.prefix l.initial.answers.items l.answers.items (g.L.Link.seen l.initial.link).past (g.L.Link.seen l.link).past;
+  few : (names : Names) → (g.L.Link.seen l.initial.link).honest names
+      → length (g.L.Link.seen l.link).past.sent + length l.initial.answers.items ≤ length (g.L.Link.seen l.initial.link).past.sent + l.counter;
+  served : (names : Names) → (g.L.Link.seen l.initial.link).calm names → AreServed l.prefix l.initial.answers.items (g.L.Link.seen l.initial.link).past
+      → (g.L.Link.seen l.link).calm names × AreServed l.prefix l.answers.items (g.L.Link.seen l.link).past;
 }

@@ -16,16 +16,15 @@ returns-in_err-ask_on-clause-few g c = λ names honest. let few = c.ask_on.ensur
 pub returns-clause-sent : goal.returns-clause-sent
 returns-clause-sent g c = λ names honest.
     let (still, asked) = c.in_ok-ask_on.ensures.asked names honest in
-    (still, (asked (g.L.Link.past c.args.link.now) (nothing_asked c.args.prefix.now c.new-answers.result.items (g.L.Link.past c.args.link.now) c.new-answers.ensures.items)).sent)
+    (still, (asked (g.L.Link.seen c.args.link.now).past (nothing_asked c.args.prefix.now c.new-answers.result.items (g.L.Link.seen c.args.link.now).past c.new-answers.ensures.items)).sent)
 
 pub returns-clause-heard : goal.returns-clause-heard
 returns-clause-heard g c = λ names honest.
     let (still, asked) = c.in_ok-ask_on.ensures.asked names honest in
-    let all = asked (g.L.Link.past c.args.link.now) (nothing_asked c.args.prefix.now c.new-answers.result.items (g.L.Link.past c.args.link.now) c.new-answers.ensures.items) in
+    let all = asked (g.L.Link.seen c.args.link.now).past (nothing_asked c.args.prefix.now c.new-answers.result.items (g.L.Link.seen c.args.link.now).past c.new-answers.ensures.items) in
     (all.given, all.handed, all.heard)
 
 pub returns-clause-kept : goal.returns-clause-kept
 returns-clause-kept g c = λ names calm free.
-    let p = g.L.Link.past in
-    let (still, served) = c.in_ok-ask_on.ensures.served names calm (none_served c.args.prefix.now c.new-answers.result.items (p c.args.link.now) c.new-answers.ensures.items free) in
-    all_answered c.args.prefix.now c.ask_on.new.answers.items (p c.ask_on.new.link) c.in_ok-ask_on.ensures.most c.in_ok-ask_on.ensures.whole served
+    let (still, served) = c.in_ok-ask_on.ensures.served names calm (none_served c.args.prefix.now c.new-answers.result.items (g.L.Link.seen c.args.link.now).past c.new-answers.ensures.items free) in
+    all_answered c.args.prefix.now c.ask_on.new.answers.items (g.L.Link.seen c.ask_on.new.link).past c.in_ok-ask_on.ensures.most c.in_ok-ask_on.ensures.whole served

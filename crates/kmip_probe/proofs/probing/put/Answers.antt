@@ -13,7 +13,7 @@ returns-clause-served g c = λ names calm.
     let (still, replied) = c.ask.ensures.served names calm in (
       still,
       weaken c.ask.result
-          (λ answer replied. served_by c.args.prefix.now c.args.answers.now c.args.inquiry c.in-Some.request _ answer (g.L.Link.past c.args.link.now) (g.L.Link.past c.ask.new.link)
+          (λ answer replied. served_by c.args.prefix.now c.args.answers.now c.args.inquiry c.in-Some.request _ answer (g.L.Link.seen c.args.link.now).past (g.L.Link.seen c.ask.new.link).past
           c.requires.next (sym c.in_ok-request.ensures ∙ c.in-Some.is) refl replied)
           replied,
     )

@@ -22,36 +22,36 @@ use Rattle.kmip_runs.proofs.campaigning.one_run.Goals as goal
 
 pub returns-in_err-ending-clause-stands : goal.returns-in_err-ending-clause-stands
 returns-in_err-ending-clause-stands g c = λ standing carried.
-    stood g.L.Link.past g.L.Link.honest c.laws_of_runs.ensures c.args.plan.now c.args.client.now c.begin.new.client c.drive-driven.new.client c.args.link.now
-    c.drive-driven.new.link c.drive-driven.result.0 c.args.end.now.runs.items c.ending_of.new.end.runs.items c.args.end.now.saved.items c.ending_of.new.end.saved.items
+    stood c.laws_of_runs.ensures c.args.plan.now c.args.client.now c.begin.new.client c.drive-driven.new.client (g.L.Link.seen c.args.link.now)
+    (g.L.Link.seen c.drive-driven.new.link) c.drive-driven.result.0 c.args.end.now.runs.items c.ending_of.new.end.runs.items c.args.end.now.saved.items c.ending_of.new.end.saved.items
     c.keys.ensures.lawful c.requires.keys c.begin.ensures.keys (c.drive-driven.ensures.kept.keys_stay ∙ c.begin.ensures.keys)
-    (λ saved. c.begin.ensures.held (g.L.Link.past c.args.link.now).objects carried
-    (subst (λ ps. All (TrueProgress (g.L.Link.past c.args.link.now).objects c.args.plan.now) ps) (sym c.as_slice.ensures.value) saved))
-    c.drive-driven.ensures.good c.drive-driven.ensures.goes c.drive-driven.ensures.no_conflict
+    (λ saved. c.begin.ensures.held (g.L.Link.seen c.args.link.now).past.objects carried
+    (subst (λ ps. All (TrueProgress (g.L.Link.seen c.args.link.now).past.objects c.args.plan.now) ps) (sym c.as_slice.ensures.value) saved))
+    (λ good. (c.drive-driven.ensures.well good).good) (λ good. (c.drive-driven.ensures.well good).goes) (λ good. (c.drive-driven.ensures.well good).no_conflict)
     (λ objects none held noted. noted_still objects c.drive-driven.new.client.keys c.args.end.now c.ending_of.new.end c.ending_of.ensures.same noted) standing
 
 pub returns-in_err-close_run-clause-stands : goal.returns-in_err-close_run-clause-stands
 returns-in_err-close_run-clause-stands g c = λ standing carried.
-    closed g.L.Link.past g.L.Link.honest c.laws_of_runs.ensures c.args.plan.now c.drive-driven.new.client c.args.link.now c.drive-driven.new.link c.close_run.new.link
-    c.ending_of.new.end.runs.items c.ending_of.new.end.saved.items c.keys.ensures.lawful (c.drive-driven.ensures.kept.keys_stay ∙ c.begin.ensures.keys) c.close_run.ensures.honest
-    (stood g.L.Link.past g.L.Link.honest c.laws_of_runs.ensures c.args.plan.now c.args.client.now c.begin.new.client c.drive-driven.new.client c.args.link.now
-    c.drive-driven.new.link c.drive-driven.result.0 c.args.end.now.runs.items c.ending_of.new.end.runs.items c.args.end.now.saved.items c.ending_of.new.end.saved.items
+    closed c.laws_of_runs.ensures c.args.plan.now c.drive-driven.new.client (g.L.Link.seen c.args.link.now) (g.L.Link.seen c.drive-driven.new.link) (g.L.Link.seen c.close_run.new.link)
+    c.ending_of.new.end.runs.items c.ending_of.new.end.saved.items c.keys.ensures.lawful (c.drive-driven.ensures.kept.keys_stay ∙ c.begin.ensures.keys) (λ names honest. (c.close_run.ensures.honestly names honest).honest)
+    (stood c.laws_of_runs.ensures c.args.plan.now c.args.client.now c.begin.new.client c.drive-driven.new.client (g.L.Link.seen c.args.link.now)
+    (g.L.Link.seen c.drive-driven.new.link) c.drive-driven.result.0 c.args.end.now.runs.items c.ending_of.new.end.runs.items c.args.end.now.saved.items c.ending_of.new.end.saved.items
     c.keys.ensures.lawful c.requires.keys c.begin.ensures.keys (c.drive-driven.ensures.kept.keys_stay ∙ c.begin.ensures.keys)
-    (λ saved. c.begin.ensures.held (g.L.Link.past c.args.link.now).objects carried
-    (subst (λ ps. All (TrueProgress (g.L.Link.past c.args.link.now).objects c.args.plan.now) ps) (sym c.as_slice.ensures.value) saved))
-    c.drive-driven.ensures.good c.drive-driven.ensures.goes c.drive-driven.ensures.no_conflict
+    (λ saved. c.begin.ensures.held (g.L.Link.seen c.args.link.now).past.objects carried
+    (subst (λ ps. All (TrueProgress (g.L.Link.seen c.args.link.now).past.objects c.args.plan.now) ps) (sym c.as_slice.ensures.value) saved))
+    (λ good. (c.drive-driven.ensures.well good).good) (λ good. (c.drive-driven.ensures.well good).goes) (λ good. (c.drive-driven.ensures.well good).no_conflict)
     (λ objects none held noted. noted_still objects c.drive-driven.new.client.keys c.args.end.now c.ending_of.new.end c.ending_of.ensures.same noted) standing)
 
 pub returns-clause-stands : goal.returns-clause-stands
 returns-clause-stands g c = λ standing carried.
-    closed g.L.Link.past g.L.Link.honest c.laws_of_runs.ensures c.args.plan.now c.drive-driven.new.client c.args.link.now c.drive-driven.new.link c.close_run.new.link
-    c.note.new.end.runs.items c.note.new.end.saved.items c.keys.ensures.lawful (c.drive-driven.ensures.kept.keys_stay ∙ c.begin.ensures.keys) c.close_run.ensures.honest
-    (stood g.L.Link.past g.L.Link.honest c.laws_of_runs.ensures c.args.plan.now c.args.client.now c.begin.new.client c.drive-driven.new.client c.args.link.now
-    c.drive-driven.new.link c.drive-driven.result.0 c.args.end.now.runs.items c.note.new.end.runs.items c.args.end.now.saved.items c.note.new.end.saved.items
+    closed c.laws_of_runs.ensures c.args.plan.now c.drive-driven.new.client (g.L.Link.seen c.args.link.now) (g.L.Link.seen c.drive-driven.new.link) (g.L.Link.seen c.close_run.new.link)
+    c.note.new.end.runs.items c.note.new.end.saved.items c.keys.ensures.lawful (c.drive-driven.ensures.kept.keys_stay ∙ c.begin.ensures.keys) (λ names honest. (c.close_run.ensures.honestly names honest).honest)
+    (stood c.laws_of_runs.ensures c.args.plan.now c.args.client.now c.begin.new.client c.drive-driven.new.client (g.L.Link.seen c.args.link.now)
+    (g.L.Link.seen c.drive-driven.new.link) c.drive-driven.result.0 c.args.end.now.runs.items c.note.new.end.runs.items c.args.end.now.saved.items c.note.new.end.saved.items
     c.keys.ensures.lawful c.requires.keys c.begin.ensures.keys (c.drive-driven.ensures.kept.keys_stay ∙ c.begin.ensures.keys)
-    (λ saved. c.begin.ensures.held (g.L.Link.past c.args.link.now).objects carried
-    (subst (λ ps. All (TrueProgress (g.L.Link.past c.args.link.now).objects c.args.plan.now) ps) (sym c.as_slice.ensures.value) saved))
-    c.drive-driven.ensures.good c.drive-driven.ensures.goes c.drive-driven.ensures.no_conflict
+    (λ saved. c.begin.ensures.held (g.L.Link.seen c.args.link.now).past.objects carried
+    (subst (λ ps. All (TrueProgress (g.L.Link.seen c.args.link.now).past.objects c.args.plan.now) ps) (sym c.as_slice.ensures.value) saved))
+    (λ good. (c.drive-driven.ensures.well good).good) (λ good. (c.drive-driven.ensures.well good).goes) (λ good. (c.drive-driven.ensures.well good).no_conflict)
     (λ objects none held noted. noted_ending objects c.drive-driven.new.client.keys c.args.run c.drive-driven.new.client.knowns c.drive-driven.result c.in_ok-ending.ending
     c.args.end.now c.note.new.end c.in_ok-ending.ensures.is (c.in_ok-ending.ensures.held objects)
     (c.note.ensures.runs ∙ ap (λ ends. ends ++ c.in_ok-ending.ending.run ∷ []) c.ending_of.ensures.same.same_runs)
@@ -69,43 +69,43 @@ returns-in_err-begin-clause-broken g c =
     always_err c.from_residual.result
     (record {
       same = record { same_runs = refl; same_saved = refl };
-      grown = λ honest. grown_itself (g.L.Link.past c.args.link.now);
+      grown = λ honest. grown_itself (g.L.Link.seen c.args.link.now).past;
       few = λ honest. omega arith;
     })
 
 pub returns-in_err-ending-clause-broken : goal.returns-in_err-ending-clause-broken
 returns-in_err-ending-clause-broken g c =
     always_err c.from_residual-in_err-ending.result
-    (broken_off g.L.Link.past g.L.Link.honest c.args.plan.now c.args.carried.now c.begin.new.client c.args.link.now c.drive-driven.new.link c.args.run c.args.end.now
-    c.ending_of.new.end c.begin.ensures.keys c.drive-driven.ensures.grown c.drive-driven.ensures.few c.ending_of.ensures.same)
+    (broken_off c.args.plan.now c.args.carried.now c.begin.new.client (g.L.Link.seen c.args.link.now) (g.L.Link.seen c.drive-driven.new.link) c.args.run c.args.end.now
+    c.ending_of.new.end c.begin.ensures.keys (λ honest. (c.drive-driven.ensures.honestly honest).grown) (λ honest. (c.drive-driven.ensures.honestly honest).few) c.ending_of.ensures.same)
 
 pub returns-in_err-close_run-clause-broken : goal.returns-in_err-close_run-clause-broken
 returns-in_err-close_run-clause-broken g c =
     always_err c.from_residual-in_err-close_run.result
-    (broken_closed g.L.Link.past g.L.Link.honest c.args.plan.now c.args.carried.now c.begin.new.client c.args.link.now c.drive-driven.new.link c.close_run.new.link
-    c.args.run c.args.end.now c.ending_of.new.end c.begin.ensures.keys c.drive-driven.ensures.grown c.drive-driven.ensures.few c.drive-driven.ensures.honest
-    c.close_run.ensures.honest c.ending_of.ensures.same)
+    (broken_closed c.args.plan.now c.args.carried.now c.begin.new.client (g.L.Link.seen c.args.link.now) (g.L.Link.seen c.drive-driven.new.link) (g.L.Link.seen c.close_run.new.link)
+    c.args.run c.args.end.now c.ending_of.new.end c.begin.ensures.keys (λ honest. (c.drive-driven.ensures.honestly honest).grown) (λ honest. (c.drive-driven.ensures.honestly honest).few) c.drive-driven.ensures.honest
+    (λ names honest. (c.close_run.ensures.honestly names honest).honest) c.ending_of.ensures.same)
 
 pub returns-clause-ran : goal.returns-clause-ran
 returns-clause-ran g c =
-    ran_closed g.L.Link.past g.L.Link.honest c.args.plan.now c.args.carried.now c.args.run c.args.client.now c.begin.new.client c.drive-driven.new.client c.args.link.now
-    c.drive-driven.new.link c.close_run.new.link c.drive-driven.result c.args.end.now c.note.new.end c.begin.ensures.keys c.in_ok-begin.ensures.batch
+    ran_closed c.args.plan.now c.args.carried.now c.args.run c.args.client.now c.begin.new.client c.drive-driven.new.client (g.L.Link.seen c.args.link.now)
+    (g.L.Link.seen c.drive-driven.new.link) (g.L.Link.seen c.close_run.new.link) c.drive-driven.result c.args.end.now c.note.new.end c.begin.ensures.keys c.in_ok-begin.ensures.batch
     (subst (λ ps. c.begin.new.client.knowns ≡ start_knowns c.args.plan.now c.args.run.start c.args.client.now.knowns (c.args.carried.now ++ ps)) c.as_slice.ensures.value
     c.in_ok-begin.ensures.begun)
     c.drive-driven.ensures.kept
-    (λ honest. let known = c.drive-driven.ensures.known honest in (known.0, known.1 c.in_ok-ending.ensures.is.end_is.in_memory))
+    (λ honest. let known = (c.drive-driven.ensures.honestly honest).known in (known.0, known.1 c.in_ok-ending.ensures.is.end_is.in_memory))
     (has_ended c.drive-driven.new.client.keys c.drive-driven.new.client.knowns c.args.run c.drive-driven.result c.in_ok-ending.ending c.args.end.now c.note.new.end
     c.in_ok-ending.ensures.is c.drive-driven.ensures.stands c.drive-driven.ensures.limit c.drive-driven.ensures.within
     (c.note.ensures.runs ∙ ap (λ ends. ends ++ c.in_ok-ending.ending.run ∷ []) c.ending_of.ensures.same.same_runs)
-    (c.note.ensures.saved ∙ ap (λ saved. saved_with c.in_ok-ending.ending.saved saved) c.ending_of.ensures.same.same_saved)) c.close_run.ensures.honest
+    (c.note.ensures.saved ∙ ap (λ saved. saved_with c.in_ok-ending.ending.saved saved) c.ending_of.ensures.same.same_saved)) (λ names honest. (c.close_run.ensures.honestly names honest).honest)
 
 pub returns-clause-turned : goal.returns-clause-turned
 returns-clause-turned g c =
-    ran_turned g.L.Link.past g.L.Link.honest c.args.plan.now c.args.run _ c.begin.new.client c.drive-driven.new.client c.args.link.now c.drive-driven.new.link
-    c.close_run.new.link c.drive-driven.result c.args.end.now c.note.new.end c.begin.ensures.keys
+    ran_turned c.args.plan.now c.args.run _ c.begin.new.client c.drive-driven.new.client (g.L.Link.seen c.args.link.now) (g.L.Link.seen c.drive-driven.new.link)
+    (g.L.Link.seen c.close_run.new.link) c.drive-driven.result c.args.end.now c.note.new.end c.begin.ensures.keys
     (subst (λ ps. c.begin.new.client ≡ begin_client c.args.plan.now c.args.run c.args.client.now (c.args.carried.now ++ ps)) c.as_slice.ensures.value
     c.in_ok-begin.ensures.client)
-    c.drive-driven.ensures.kept c.drive-driven.ensures.honest c.close_run.ensures.honest c.in_ok-ending.ensures.is.end_is.in_memory c.drive-driven.ensures.turned
+    c.drive-driven.ensures.kept c.drive-driven.ensures.honest (λ names honest. (c.close_run.ensures.honestly names honest).honest) c.in_ok-ending.ensures.is.end_is.in_memory c.drive-driven.ensures.turned
     (has_ended c.drive-driven.new.client.keys c.drive-driven.new.client.knowns c.args.run c.drive-driven.result c.in_ok-ending.ending c.args.end.now c.note.new.end
     c.in_ok-ending.ensures.is c.drive-driven.ensures.stands c.drive-driven.ensures.limit c.drive-driven.ensures.within
     (c.note.ensures.runs ∙ ap (λ ends. ends ++ c.in_ok-ending.ending.run ∷ []) c.ending_of.ensures.same.same_runs)
@@ -114,12 +114,12 @@ returns-clause-turned g c =
 pub returns-clause-settles : goal.returns-clause-settles
 returns-clause-settles g c = λ standing carried calmly.
     if_ok c.close_run.result (search rules)
-    (settled_run g.L.Link.past g.L.Link.honest g.L.Link.calm c.args.plan.now c.laws_of_runs.ensures c.args.run c.args.client.now c.begin.new.client c.drive-driven.new.client
-    c.args.link.now c.drive-driven.new.link c.close_run.new.link c.drive-driven.result c.args.end.now.runs.items c.note.new.end.runs.items c.args.end.now.saved.items
+    (settled_run c.args.plan.now c.laws_of_runs.ensures c.args.run c.args.client.now c.begin.new.client c.drive-driven.new.client
+    (g.L.Link.seen c.args.link.now) (g.L.Link.seen c.drive-driven.new.link) (g.L.Link.seen c.close_run.new.link) c.drive-driven.result c.args.end.now.runs.items c.note.new.end.runs.items c.args.end.now.saved.items
     c.close_run.result c.requires.keys c.begin.ensures.keys (c.drive-driven.ensures.kept.keys_stay ∙ c.begin.ensures.keys)
-    (λ saved. c.begin.ensures.held (g.L.Link.past c.args.link.now).objects carried
-    (subst (λ ps. All (TrueProgress (g.L.Link.past c.args.link.now).objects c.args.plan.now) ps) (sym c.as_slice.ensures.value) saved))
-    c.drive-driven.ensures.good c.drive-driven.ensures.settles c.drive-driven.ensures.calm c.in_ok-ending.ensures.is.end_is.in_memory (has_ended c.drive-driven.new.client.keys c.drive-driven.new.client.knowns c.args.run c.drive-driven.result c.in_ok-ending.ending c.args.end.now c.note.new.end
+    (λ saved. c.begin.ensures.held (g.L.Link.seen c.args.link.now).past.objects carried
+    (subst (λ ps. All (TrueProgress (g.L.Link.seen c.args.link.now).past.objects c.args.plan.now) ps) (sym c.as_slice.ensures.value) saved))
+    (λ good. (c.drive-driven.ensures.well good).good) (λ settling. (c.drive-driven.ensures.calmly settling).settles) (λ settling. (c.drive-driven.ensures.calmly settling).calm) c.in_ok-ending.ensures.is.end_is.in_memory (has_ended c.drive-driven.new.client.keys c.drive-driven.new.client.knowns c.args.run c.drive-driven.result c.in_ok-ending.ending c.args.end.now c.note.new.end
     c.in_ok-ending.ensures.is c.drive-driven.ensures.stands c.drive-driven.ensures.limit c.drive-driven.ensures.within
     (c.note.ensures.runs ∙ ap (λ ends. ends ++ c.in_ok-ending.ending.run ∷ []) c.ending_of.ensures.same.same_runs)
     (c.note.ensures.saved ∙ ap (λ saved. saved_with c.in_ok-ending.ending.saved saved) c.ending_of.ensures.same.same_saved)).noted
@@ -127,45 +127,45 @@ returns-clause-settles g c = λ standing carried calmly.
 
 pub returns-in_err-begin-clause-further : goal.returns-in_err-begin-clause-further
 returns-in_err-begin-clause-further g c = λ standing carried.
-    further_nowhere g.L.Link.past g.L.Link.honest g.L.Link.calm c.laws_of_runs.ensures.itself c.args.plan.now c.args.link.now _
+    further_nowhere c.laws_of_runs.ensures.itself c.args.plan.now (g.L.Link.seen c.args.link.now) _
 
 pub returns-in_err-ending-clause-further : goal.returns-in_err-ending-clause-further
 returns-in_err-ending-clause-further g c = λ standing carried.
-    further_if g.L.Link.past g.L.Link.honest g.L.Link.calm c.args.plan.now c.args.link.now c.drive-driven.new.link _ _
+    further_if c.args.plan.now (g.L.Link.seen c.args.link.now) (g.L.Link.seen c.drive-driven.new.link) _ _
     (λ is. no_ok c.from_residual-in_err-ending.result tt c.from_residual-in_err-ending.ensures.0 is)
-    (driven_further g.L.Link.past g.L.Link.honest g.L.Link.calm c.args.plan.now c.args.carried.now c.args.client.now c.begin.new.client c.args.link.now
-    c.drive-driven.new.link c.drive-driven.result.0 c.args.end.now.runs.items c.args.end.now.saved.items c.requires.keys c.begin.ensures.keys
-    (λ saved. c.begin.ensures.held (g.L.Link.past c.args.link.now).objects carried
-    (subst (λ ps. All (TrueProgress (g.L.Link.past c.args.link.now).objects c.args.plan.now) ps) (sym c.as_slice.ensures.value) saved))
-    c.drive-driven.ensures.further standing)
+    (driven_further c.args.plan.now c.args.carried.now c.args.client.now c.begin.new.client (g.L.Link.seen c.args.link.now)
+    (g.L.Link.seen c.drive-driven.new.link) c.drive-driven.result.0 c.args.end.now.runs.items c.args.end.now.saved.items c.requires.keys c.begin.ensures.keys
+    (λ saved. c.begin.ensures.held (g.L.Link.seen c.args.link.now).past.objects carried
+    (subst (λ ps. All (TrueProgress (g.L.Link.seen c.args.link.now).past.objects c.args.plan.now) ps) (sym c.as_slice.ensures.value) saved))
+    (λ good. (c.drive-driven.ensures.well good).further) standing)
 
 pub returns-in_err-close_run-clause-further : goal.returns-in_err-close_run-clause-further
 returns-in_err-close_run-clause-further g c = λ standing carried.
-    further_if g.L.Link.past g.L.Link.honest g.L.Link.calm c.args.plan.now c.args.link.now c.close_run.new.link _ _
+    further_if c.args.plan.now (g.L.Link.seen c.args.link.now) (g.L.Link.seen c.close_run.new.link) _ _
     (λ is. no_ok c.from_residual-in_err-close_run.result tt c.from_residual-in_err-close_run.ensures.0 is)
-    (further_then g.L.Link.past g.L.Link.honest g.L.Link.calm c.laws_of_runs.ensures.twice c.args.plan.now c.args.link.now c.drive-driven.new.link c.close_run.new.link _ _
+    (further_then c.laws_of_runs.ensures.twice c.args.plan.now (g.L.Link.seen c.args.link.now) (g.L.Link.seen c.drive-driven.new.link) (g.L.Link.seen c.close_run.new.link) _ _
     (λ is. c.in_ok-ending.ensures.is.end_is.in_memory)
-    (driven_further g.L.Link.past g.L.Link.honest g.L.Link.calm c.args.plan.now c.args.carried.now c.args.client.now c.begin.new.client c.args.link.now
-    c.drive-driven.new.link c.drive-driven.result.0 c.args.end.now.runs.items c.args.end.now.saved.items c.requires.keys c.begin.ensures.keys
-    (λ saved. c.begin.ensures.held (g.L.Link.past c.args.link.now).objects carried
-    (subst (λ ps. All (TrueProgress (g.L.Link.past c.args.link.now).objects c.args.plan.now) ps) (sym c.as_slice.ensures.value) saved))
-    c.drive-driven.ensures.further standing)
-    (further_closed g.L.Link.past g.L.Link.honest g.L.Link.calm c.laws_of_runs.ensures c.args.plan.now c.drive-driven.new.link c.close_run.new.link c.close_run.result
-    c.close_run.ensures.honest c.close_run.ensures.calm))
+    (driven_further c.args.plan.now c.args.carried.now c.args.client.now c.begin.new.client (g.L.Link.seen c.args.link.now)
+    (g.L.Link.seen c.drive-driven.new.link) c.drive-driven.result.0 c.args.end.now.runs.items c.args.end.now.saved.items c.requires.keys c.begin.ensures.keys
+    (λ saved. c.begin.ensures.held (g.L.Link.seen c.args.link.now).past.objects carried
+    (subst (λ ps. All (TrueProgress (g.L.Link.seen c.args.link.now).past.objects c.args.plan.now) ps) (sym c.as_slice.ensures.value) saved))
+    (λ good. (c.drive-driven.ensures.well good).further) standing)
+    (further_closed c.laws_of_runs.ensures c.args.plan.now (g.L.Link.seen c.drive-driven.new.link) (g.L.Link.seen c.close_run.new.link) c.close_run.result
+    (λ names honest. (c.close_run.ensures.honestly names honest).honest) c.close_run.ensures.calm))
 
 pub returns-clause-further : goal.returns-clause-further
 returns-clause-further g c = λ standing carried.
-    further_if g.L.Link.past g.L.Link.honest g.L.Link.calm c.args.plan.now c.args.link.now c.close_run.new.link _ _
+    further_if c.args.plan.now (g.L.Link.seen c.args.link.now) (g.L.Link.seen c.close_run.new.link) _ _
     (λ is. search rules)
-    (further_then g.L.Link.past g.L.Link.honest g.L.Link.calm c.laws_of_runs.ensures.twice c.args.plan.now c.args.link.now c.drive-driven.new.link c.close_run.new.link _ _
+    (further_then c.laws_of_runs.ensures.twice c.args.plan.now (g.L.Link.seen c.args.link.now) (g.L.Link.seen c.drive-driven.new.link) (g.L.Link.seen c.close_run.new.link) _ _
     (λ is. c.in_ok-ending.ensures.is.end_is.in_memory)
-    (driven_further g.L.Link.past g.L.Link.honest g.L.Link.calm c.args.plan.now c.args.carried.now c.args.client.now c.begin.new.client c.args.link.now
-    c.drive-driven.new.link c.drive-driven.result.0 c.args.end.now.runs.items c.args.end.now.saved.items c.requires.keys c.begin.ensures.keys
-    (λ saved. c.begin.ensures.held (g.L.Link.past c.args.link.now).objects carried
-    (subst (λ ps. All (TrueProgress (g.L.Link.past c.args.link.now).objects c.args.plan.now) ps) (sym c.as_slice.ensures.value) saved))
-    c.drive-driven.ensures.further standing)
-    (further_closed g.L.Link.past g.L.Link.honest g.L.Link.calm c.laws_of_runs.ensures c.args.plan.now c.drive-driven.new.link c.close_run.new.link c.close_run.result
-    c.close_run.ensures.honest c.close_run.ensures.calm))
+    (driven_further c.args.plan.now c.args.carried.now c.args.client.now c.begin.new.client (g.L.Link.seen c.args.link.now)
+    (g.L.Link.seen c.drive-driven.new.link) c.drive-driven.result.0 c.args.end.now.runs.items c.args.end.now.saved.items c.requires.keys c.begin.ensures.keys
+    (λ saved. c.begin.ensures.held (g.L.Link.seen c.args.link.now).past.objects carried
+    (subst (λ ps. All (TrueProgress (g.L.Link.seen c.args.link.now).past.objects c.args.plan.now) ps) (sym c.as_slice.ensures.value) saved))
+    (λ good. (c.drive-driven.ensures.well good).further) standing)
+    (further_closed c.laws_of_runs.ensures c.args.plan.now (g.L.Link.seen c.drive-driven.new.link) (g.L.Link.seen c.close_run.new.link) c.close_run.result
+    (λ names honest. (c.close_run.ensures.honestly names honest).honest) c.close_run.ensures.calm))
 
 pub returns-in_err-begin-clause-ended : goal.returns-in_err-begin-clause-ended
 returns-in_err-begin-clause-ended g c = λ honest.
@@ -181,7 +181,7 @@ returns-in_err-ending-clause-ended g c = λ honest.
 pub returns-in_err-close_run-clause-ended : goal.returns-in_err-close_run-clause-ended
 returns-in_err-close_run-clause-ended g c = λ honest.
     let names = is_planned c.args.plan.now in
-    let unended = c.in_err-close_run.ensures.unended names (c.drive-driven.ensures.honest names honest) in
+    let unended = (c.in_err-close_run.ensures.honestly names (c.drive-driven.ensures.honest names honest)).unended in
     join_none c.args.end.now.runs.items c.ending_of.new.end.runs.items _ _ _ _ _ c.ending_of.ensures.same.same_runs
     (unended ∙ c.drive-driven.ensures.ended names honest)
     (λ is. no_ok c.from_residual-in_err-close_run.result tt c.from_residual-in_err-close_run.ensures.0 is)
@@ -189,36 +189,35 @@ returns-in_err-close_run-clause-ended g c = λ honest.
 -- the run was ended over the link, and then noted
 pub returns-clause-ended : goal.returns-clause-ended
 returns-clause-ended g c = λ honest.
-    let past = g.L.Link.past in
     let names = is_planned c.args.plan.now in
-    let driven = c.drive-driven.new.link in
-    let known = c.drive-driven.ensures.known (subst (λ ks. g.L.Link.honest c.args.link.now (is_planned ks)) (sym c.begin.ensures.keys) honest) in
+    let driven = g.L.Link.seen c.drive-driven.new.link in
+    let known = (c.drive-driven.ensures.honestly (subst (λ ks. (g.L.Link.seen c.args.link.now).honest (is_planned ks)) (sym c.begin.ensures.keys) honest)).known in
     let still = c.drive-driven.ensures.honest names honest in
     join_run c.begin.new.client.keys c.drive-driven.new.client.keys c.begin.new.client.batch names c.args.run c.begin.new.client.knowns c.drive-driven.new.client.knowns
-    c.drive-driven.new.client.knowns c.drive-driven.result (past c.args.link.now) (past driven) (past c.close_run.new.link) c.args.end.now c.note.new.end
-    _ (g.L.Link.ended c.args.link.now) (g.L.Link.ended driven) (g.L.Link.ended c.close_run.new.link) (has_ended c.drive-driven.new.client.keys c.drive-driven.new.client.knowns c.args.run c.drive-driven.result c.in_ok-ending.ending c.args.end.now c.note.new.end
+    c.drive-driven.new.client.knowns c.drive-driven.result (g.L.Link.seen c.args.link.now).past driven.past (g.L.Link.seen c.close_run.new.link).past c.args.end.now c.note.new.end
+    _ (g.L.Link.seen c.args.link.now).ended driven.ended (g.L.Link.seen c.close_run.new.link).ended (has_ended c.drive-driven.new.client.keys c.drive-driven.new.client.knowns c.args.run c.drive-driven.result c.in_ok-ending.ending c.args.end.now c.note.new.end
     c.in_ok-ending.ensures.is c.drive-driven.ensures.stands c.drive-driven.ensures.limit c.drive-driven.ensures.within
     (c.note.ensures.runs ∙ ap (λ ends. ends ++ c.in_ok-ending.ending.run ∷ []) c.ending_of.ensures.same.same_runs)
     (c.note.ensures.saved ∙ ap (λ saved. saved_with c.in_ok-ending.ending.saved saved) c.ending_of.ensures.same.same_saved))
-    (known.1 c.in_ok-ending.ensures.is.end_is.in_memory) (c.close_run.ensures.honest names still).1 (c.drive-driven.ensures.ended names honest)
-    (c.in_ok-close_run.ensures.ended names still)
+    (known.1 c.in_ok-ending.ensures.is.end_is.in_memory) (c.close_run.ensures.honestly names still).honest.1 (c.drive-driven.ensures.ended names honest)
+    (c.in_ok-close_run.ensures.honestly names still).ended
 
 pub returns-clause-outlasts : goal.returns-clause-outlasts
 returns-clause-outlasts g c = λ standing carried.
     let held = standing.good.honest_for in
     let still = c.drive-driven.ensures.honest (is_planned c.args.client.now.keys) held in
-    outlasted_run g.L.Link.past g.L.Link.honest g.L.Link.disturbances c.args.plan.now c.args.run c.args.client.now c.begin.new.client c.drive-driven.new.client
-    c.args.link.now c.drive-driven.new.link c.close_run.new.link c.drive-driven.result c.args.end.now.runs.items c.note.new.end.runs.items c.args.end.now.saved.items
+    outlasted_run c.args.plan.now c.args.run c.args.client.now c.begin.new.client c.drive-driven.new.client
+    (g.L.Link.seen c.args.link.now) (g.L.Link.seen c.drive-driven.new.link) (g.L.Link.seen c.close_run.new.link) c.drive-driven.result c.args.end.now.runs.items c.note.new.end.runs.items c.args.end.now.saved.items
     c.requires.keys c.begin.ensures.keys (c.drive-driven.ensures.kept.keys_stay ∙ c.begin.ensures.keys)
-    (λ saved. c.begin.ensures.held (g.L.Link.past c.args.link.now).objects carried
-    (subst (λ ps. All (TrueProgress (g.L.Link.past c.args.link.now).objects c.args.plan.now) ps) (sym c.as_slice.ensures.value) saved))
-    c.drive-driven.ensures.outlasts c.in_ok-ending.ensures.is.end_is.in_memory (has_ended c.drive-driven.new.client.keys c.drive-driven.new.client.knowns c.args.run c.drive-driven.result c.in_ok-ending.ending c.args.end.now c.note.new.end
+    (λ saved. c.begin.ensures.held (g.L.Link.seen c.args.link.now).past.objects carried
+    (subst (λ ps. All (TrueProgress (g.L.Link.seen c.args.link.now).past.objects c.args.plan.now) ps) (sym c.as_slice.ensures.value) saved))
+    (λ good. (c.drive-driven.ensures.well good).outlasts) c.in_ok-ending.ensures.is.end_is.in_memory (has_ended c.drive-driven.new.client.keys c.drive-driven.new.client.knowns c.args.run c.drive-driven.result c.in_ok-ending.ending c.args.end.now c.note.new.end
     c.in_ok-ending.ensures.is c.drive-driven.ensures.stands c.drive-driven.ensures.limit c.drive-driven.ensures.within
     (c.note.ensures.runs ∙ ap (λ ends. ends ++ c.in_ok-ending.ending.run ∷ []) c.ending_of.ensures.same.same_runs)
     (c.note.ensures.saved ∙ ap (λ saved. saved_with c.in_ok-ending.ending.saved saved) c.ending_of.ensures.same.same_saved)).noted
-    (c.close_run.ensures.undisturbed (is_planned c.args.client.now.keys) still) standing
+    (c.close_run.ensures.honestly (is_planned c.args.client.now.keys) still).undisturbed standing
 
 pub returns-clause-followed : goal.returns-clause-followed
 returns-clause-followed g c =
-    c.calm_laws.ensures.twice c.args.link.now c.drive-driven.new.link c.close_run.new.link (c.drive-driven.ensures.followed c.in_ok-ending.ensures.is.end_is.in_memory)
+    g.met.L.Link.twice c.args.link.now c.drive-driven.new.link c.close_run.new.link (c.drive-driven.ensures.followed c.in_ok-ending.ensures.is.end_is.in_memory)
     c.in_ok-close_run.ensures.followed

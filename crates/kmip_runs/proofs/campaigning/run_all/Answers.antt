@@ -8,7 +8,6 @@ use Rattle.kmip_runs.proofs.campaigning.run_all.Goals as goal
 
 pub returns : goal.returns
 returns g c =
-    let past = g.L.Link.past in
     let keys = c.args.plan.now in
     let end = c.run_each.new.end in
     let whole = ok_of c.run_each.result c.err-fault.result c.err-fault.ensures.value in
@@ -19,17 +18,17 @@ returns g c =
         stands = λ good carried.
             let stands = c.run_each.ensures.stands good carried in (
               stands.0,
-              further_if past g.L.Link.honest g.L.Link.calm keys c.args.link.now c.run_each.new.link _ _ whole stands.1,
+              further_if keys (g.L.Link.seen c.args.link.now) (g.L.Link.seen c.run_each.new.link) _ _ whole stands.1,
             );
         order = c.run_each.ensures.order;
         complete = λ is. if_ok c.run_each.result (whole is) c.run_each.ensures.complete;
         fewer = λ fault. if_fault c.run_each.result c.err-fault.result c.err-fault.ensures.value fault c.run_each.ensures.fewer;
-        known = known_if keys c.args.carried.now c.args.runs.now end.runs.items end.saved.items _ _ _ (past c.args.link.now) (past c.run_each.new.link) whole
+        known = known_if keys c.args.carried.now c.args.runs.now end.runs.items end.saved.items _ _ _ (g.L.Link.seen c.args.link.now).past (g.L.Link.seen c.run_each.new.link).past whole
             c.run_each.ensures.known;
         settles = λ calmly carried is. if_ok c.run_each.result (whole is) (c.run_each.ensures.settles calmly carried);
       };
       outlasts = λ good carried is. if_ok c.run_each.result (whole is) (c.run_each.ensures.outlasts good carried);
       ended = λ honest. join_if [] end.runs.items _ _ _ _ _ _ whole (c.run_each.ensures.ended honest);
-      turned = turned_if keys c.args.carried.now c.args.runs.now end.runs.items _ _ _ (past c.args.link.now) (past c.run_each.new.link) whole c.run_each.ensures.turned;
+      turned = turned_if keys c.args.carried.now c.args.runs.now end.runs.items _ _ _ (g.L.Link.seen c.args.link.now).past (g.L.Link.seen c.run_each.new.link).past whole c.run_each.ensures.turned;
       followed = λ is. if_ok c.run_each.result (whole is) c.run_each.ensures.followed;
     }

@@ -23,12 +23,10 @@ use Rattle.kmip_runs.proofs.campaigning.run_each.Goals as goal
 
 pub returns-in_err-client-clause-known : goal.returns-in_err-client-clause-known
 returns-in_err-client-clause-known g c =
-    let past = g.L.Link.past in
-    let honest = g.L.Link.honest in
     let keys = c.args.plan.now in
     let end = c.args.end.now in
-    recalled_known past honest keys c.args.carried.now c.args.runs.now (fresh keys) c.args.link.now c.args.link.now end.runs.items end.saved.items _
-    (recalled_none past honest keys c.args.carried.now c.args.runs.now (fresh keys) c.args.link.now end.runs.items end.saved.items refl c.requires.no_end c.requires.none_saved)
+    recalled_known keys c.args.carried.now c.args.runs.now (fresh keys) (g.L.Link.seen c.args.link.now) (g.L.Link.seen c.args.link.now) end.runs.items end.saved.items _
+    (recalled_none keys c.args.carried.now c.args.runs.now (fresh keys) (g.L.Link.seen c.args.link.now) end.runs.items end.saved.items refl c.requires.no_end c.requires.none_saved)
 
 -- where there is no run nothing is made
 pub returns-then-is_empty-clause-complete : goal.returns-then-is_empty-clause-complete
@@ -40,13 +38,13 @@ pub returns-then-is_empty-clause-known : goal.returns-then-is_empty-clause-known
 returns-then-is_empty-clause-known g c =
     let keys = c.args.plan.now in
     let end = c.args.end.now in
-    recalled_known g.L.Link.past g.L.Link.honest keys c.args.carried.now c.args.runs.now (fresh keys) c.args.link.now c.args.link.now end.runs.items end.saved.items _
-    (recalled_none g.L.Link.past g.L.Link.honest keys c.args.carried.now c.args.runs.now (fresh keys) c.args.link.now end.runs.items end.saved.items refl c.requires.no_end
+    recalled_known keys c.args.carried.now c.args.runs.now (fresh keys) (g.L.Link.seen c.args.link.now) (g.L.Link.seen c.args.link.now) end.runs.items end.saved.items _
+    (recalled_none keys c.args.carried.now c.args.runs.now (fresh keys) (g.L.Link.seen c.args.link.now) end.runs.items end.saved.items refl c.requires.no_end
     c.requires.none_saved)
 
 pub returns-then-is_empty-clause-stands : goal.returns-then-is_empty-clause-stands
 returns-then-is_empty-clause-stands g c = λ good carried.
-    ran_nothing g.L.Link.past g.L.Link.honest g.L.Link.calm c.args.plan.now c.args.carried.now c.laws_of_runs.ensures c.args.link.now _ c.args.end.now.runs.items
+    ran_nothing c.args.plan.now c.args.carried.now c.laws_of_runs.ensures (g.L.Link.seen c.args.link.now) _ c.args.end.now.runs.items
     c.args.end.now.saved.items c.requires.no_end c.requires.none_saved good
 
 pub returns-then-is_empty-clause-settles : goal.returns-then-is_empty-clause-settles
@@ -57,7 +55,7 @@ returns-then-is_empty-clause-settles g c = λ calmly holds.
 pub returns-then-is_empty-clause-outlasts : goal.returns-then-is_empty-clause-outlasts
 returns-then-is_empty-clause-outlasts g c = λ good holds.
     let none = no_runs c.args.runs.now (search rules) in
-    subst (λ rs. AllOutlast c.args.plan.now rs c.args.end.now.runs.items (g.L.Link.disturbances c.args.link.now) (g.L.Link.disturbances c.args.link.now)) (sym none)
+    subst (λ rs. AllOutlast c.args.plan.now rs c.args.end.now.runs.items (g.L.Link.seen c.args.link.now).disturbances (g.L.Link.seen c.args.link.now).disturbances) (sym none)
     (outlast_none c.args.plan.now [] c.args.end.now.runs.items _ _ c.requires.no_end refl)
 
 pub returns-then-is_empty-clause-ended : goal.returns-then-is_empty-clause-ended
@@ -65,23 +63,23 @@ returns-then-is_empty-clause-ended g c = λ honest. join_none [] c.args.end.now.
 
 pub returns-then-is_empty-clause-turned : goal.returns-then-is_empty-clause-turned
 returns-then-is_empty-clause-turned g c =
-    nothing_turned c.args.plan.now c.args.carried.now c.args.runs.now _ _ (g.L.Link.past c.args.link.now) c.args.end.now.runs.items c.requires.no_end
+    nothing_turned c.args.plan.now c.args.carried.now c.args.runs.now _ _ (g.L.Link.seen c.args.link.now).past c.args.end.now.runs.items c.requires.no_end
 
 pub returns-then-is_empty-clause-suits : goal.returns-then-is_empty-clause-suits
 returns-then-is_empty-clause-suits g c = rw c.requires.none_saved (All-nil (Suits c.args.plan.now))
 
 pub returns-then-is_empty-clause-followed : goal.returns-then-is_empty-clause-followed
-returns-then-is_empty-clause-followed g c = c.calm_laws.ensures.itself c.args.link.now
+returns-then-is_empty-clause-followed g c = g.met.L.Link.itself c.args.link.now
 
 pub loop-place-init : goal.loop-place-init
 loop-place-init g c = record {
   running =
-      running_none g.L.Link.past g.L.Link.honest g.L.Link.calm c.args.plan.now c.args.carried.now c.laws_of_runs.ensures c.in_ok-client.client c.args.link.now c.args.runs.now c.args.end.now.runs.items
+      running_none c.args.plan.now c.args.carried.now c.laws_of_runs.ensures c.in_ok-client.client (g.L.Link.seen c.args.link.now) c.args.runs.now c.args.end.now.runs.items
       c.args.end.now.saved.items c.in_ok-client.ensures.fresh c.in_ok-client.ensures.held c.requires.no_end c.requires.none_saved;
   ended = λ honest. join_none [] c.args.end.now.runs.items ⊤ _ _ _ _ c.requires.no_end refl (λ is. refl);
   outlasted = λ good holds. outlast_none c.args.plan.now c.args.runs.now c.args.end.now.runs.items _ _ c.requires.no_end refl;
-  followed = c.calm_laws.ensures.itself c.args.link.now;
-  turned = none_turned c.args.plan.now c.args.carried.now c.args.runs.now c.in_ok-client.client _ (g.L.Link.past c.args.link.now) c.args.end.now.runs.items
+  followed = g.met.L.Link.itself c.args.link.now;
+  turned = none_turned c.args.plan.now c.args.carried.now c.args.runs.now c.in_ok-client.client _ (g.L.Link.seen c.args.link.now).past c.args.end.now.runs.items
       c.args.end.now.saved.items c.in_ok-client.ensures.fresh c.requires.no_end c.requires.none_saved;
 }
 
@@ -101,7 +99,7 @@ returns-in_err-one_run-clause-known g c =
     let below : c.loop-place.place < length c.args.runs.now = search rules in
     let runs = c.args.runs.now in
     let before = c.loop-place.invariant.running in
-    broken_known g.L.Link.past g.L.Link.honest c.args.plan.now c.args.carried.now runs c.loop-place.client c.args.link.now c.loop-place.link c.one_run.new.link _
+    broken_known c.args.plan.now c.args.carried.now runs c.loop-place.client (g.L.Link.seen c.args.link.now) (g.L.Link.seen c.loop-place.link) (g.L.Link.seen c.one_run.new.link) _
     c.loop-place.end c.one_run.new.end c.loop-place.place _ (slice_get-get_or runs c.loop-place.place _ below) before.as_many_ends
     (λ is. no_ok c.from_residual-in_err-one_run.result tt c.from_residual-in_err-one_run.ensures.0 is) before.recalled c.in_err-one_run.ensures.broken
 
@@ -110,13 +108,13 @@ loop-place-preserved g c =
     let below : c.loop-place.place < length c.args.runs.now = search rules in
     record {
       running =
-          running_more g.L.Link.past g.L.Link.honest g.L.Link.calm c.args.plan.now c.args.carried.now c.laws_of_runs.ensures c.loop-place.client c.one_run.new.client
-          c.args.link.now c.loop-place.link c.one_run.new.link c.args.runs.now c.loop-place.place _ c.loop-place.end c.one_run.new.end c.keys.ensures.lawful
+          running_more c.args.plan.now c.args.carried.now c.laws_of_runs.ensures c.loop-place.client c.one_run.new.client
+          (g.L.Link.seen c.args.link.now) (g.L.Link.seen c.loop-place.link) (g.L.Link.seen c.one_run.new.link) c.args.runs.now c.loop-place.place _ c.loop-place.end c.one_run.new.end c.keys.ensures.lawful
           (slice_get-get_or c.args.runs.now c.loop-place.place _ below) c.loop-place.invariant.running c.one_run.ensures.keys c.one_run.ensures.suits c.one_run.ensures.stands
           c.one_run.ensures.honest
-          (λ standing carried. further_if g.L.Link.past g.L.Link.honest g.L.Link.calm c.args.plan.now c.loop-place.link c.one_run.new.link _ ⊤ (λ is. search rules)
+          (λ standing carried. further_if c.args.plan.now (g.L.Link.seen c.loop-place.link) (g.L.Link.seen c.one_run.new.link) _ ⊤ (λ is. search rules)
           (c.one_run.ensures.further standing carried)) c.in_ok-one_run.ensures.ran
-          c.calm_laws.ensures.honest c.in_ok-one_run.ensures.settles;
+          c.in_ok-one_run.ensures.settles;
       ended = λ honest.
           join_then [] c.loop-place.end.runs.items c.one_run.new.end.runs.items ⊤ ⊤ _ _ _ _ _ _ tt (c.loop-place.invariant.ended honest)
           (join_if c.loop-place.end.runs.items c.one_run.new.end.runs.items _ ⊤ _ _ _ _ (λ is. search rules)
@@ -124,18 +122,18 @@ loop-place-preserved g c =
       outlasted = λ good holds.
           let (standing, went) = c.loop-place.invariant.running.stands good holds in
           let now =
-          carried_on g.L.Link.past g.L.Link.honest g.L.Link.calm c.args.plan.now c.args.carried.now c.laws_of_runs.ensures c.args.link.now c.loop-place.link
+          carried_on c.args.plan.now c.args.carried.now c.laws_of_runs.ensures (g.L.Link.seen c.args.link.now) (g.L.Link.seen c.loop-place.link)
           c.keys.ensures.lawful went holds in
           let e : c.loop-place.place + 1 ≡ suc c.loop-place.place = omega arith in
           subst
-          (λ n. AllOutlast c.args.plan.now (take n c.args.runs.now) c.one_run.new.end.runs.items (g.L.Link.disturbances c.args.link.now) (g.L.Link.disturbances c.one_run.new.link))
+          (λ n. AllOutlast c.args.plan.now (take n c.args.runs.now) c.one_run.new.end.runs.items (g.L.Link.seen c.args.link.now).disturbances (g.L.Link.seen c.one_run.new.link).disturbances)
           (sym e)
           (outlast_more c.args.plan.now c.args.runs.now c.loop-place.place _ c.loop-place.end.runs.items c.one_run.new.end.runs.items _ _ _
           (slice_get-get_or c.args.runs.now c.loop-place.place _ below) (c.loop-place.invariant.outlasted good holds) (c.in_ok-one_run.ensures.outlasts standing now));
-      followed = c.calm_laws.ensures.twice c.args.link.now c.loop-place.link c.one_run.new.link c.loop-place.invariant.followed c.in_ok-one_run.ensures.followed;
+      followed = g.met.L.Link.twice c.args.link.now c.loop-place.link c.one_run.new.link c.loop-place.invariant.followed c.in_ok-one_run.ensures.followed;
       turned =
-          more_turned c.args.plan.now c.args.carried.now c.args.runs.now c.loop-place.client c.one_run.new.client _ _ (g.L.Link.past c.args.link.now)
-          (g.L.Link.past c.loop-place.link) (g.L.Link.past c.one_run.new.link) _ c.loop-place.end.runs.items c.one_run.new.end.runs.items c.loop-place.end.saved.items
+          more_turned c.args.plan.now c.args.carried.now c.args.runs.now c.loop-place.client c.one_run.new.client _ _ (g.L.Link.seen c.args.link.now).past
+          (g.L.Link.seen c.loop-place.link).past (g.L.Link.seen c.one_run.new.link).past _ c.loop-place.end.runs.items c.one_run.new.end.runs.items c.loop-place.end.saved.items
           c.one_run.new.end.saved.items c.loop-place.place (slice_get-get_or c.args.runs.now c.loop-place.place _ below) c.loop-place.invariant.running.as_many_ends
           (c.loop-place.invariant.running.honest_still (is_planned c.args.plan.now)) c.loop-place.invariant.turned c.in_ok-one_run.ensures.turned
           c.in_ok-one_run.ensures.ran.ended.saved_are;
@@ -146,28 +144,28 @@ returns-clause-order g c = ends_all c.args.plan.now c.args.runs.now c.loop-place
 
 pub returns-clause-known : goal.returns-clause-known
 returns-clause-known g c =
-    recalled_known g.L.Link.past g.L.Link.honest c.args.plan.now c.args.carried.now c.args.runs.now c.loop-place.client c.args.link.now c.loop-place.link c.loop-place.end.runs.items
+    recalled_known c.args.plan.now c.args.carried.now c.args.runs.now c.loop-place.client (g.L.Link.seen c.args.link.now) (g.L.Link.seen c.loop-place.link) c.loop-place.end.runs.items
     c.loop-place.end.saved.items _ c.loop-place.invariant.running.recalled
 
 pub returns-in_err-client-clause-stands : goal.returns-in_err-client-clause-stands
 returns-in_err-client-clause-stands g c = λ good carried.
-    ran_nothing g.L.Link.past g.L.Link.honest g.L.Link.calm c.args.plan.now c.args.carried.now c.laws_of_runs.ensures c.args.link.now _ c.args.end.now.runs.items
+    ran_nothing c.args.plan.now c.args.carried.now c.laws_of_runs.ensures (g.L.Link.seen c.args.link.now) _ c.args.end.now.runs.items
     c.args.end.now.saved.items c.requires.no_end c.requires.none_saved good
 
 pub returns-in_err-one_run-clause-stands : goal.returns-in_err-one_run-clause-stands
 returns-in_err-one_run-clause-stands g c =
-    ran_off g.L.Link.past g.L.Link.honest g.L.Link.calm c.args.plan.now c.args.carried.now c.laws_of_runs.ensures c.loop-place.client c.one_run.new.client c.args.link.now
-    c.loop-place.link c.one_run.new.link c.args.runs.now c.loop-place.place _ c.loop-place.end.runs.items c.one_run.new.end.runs.items c.loop-place.end.saved.items
+    ran_off c.args.plan.now c.args.carried.now c.laws_of_runs.ensures c.loop-place.client c.one_run.new.client (g.L.Link.seen c.args.link.now)
+    (g.L.Link.seen c.loop-place.link) (g.L.Link.seen c.one_run.new.link) c.args.runs.now c.loop-place.place _ c.loop-place.end.runs.items c.one_run.new.end.runs.items c.loop-place.end.saved.items
     c.one_run.new.end.saved.items c.keys.ensures.lawful c.one_run.ensures.keys c.loop-place.invariant.running c.one_run.ensures.stands
-    (λ standing carried. further_if g.L.Link.past g.L.Link.honest g.L.Link.calm c.args.plan.now c.loop-place.link c.one_run.new.link _ _
+    (λ standing carried. further_if c.args.plan.now (g.L.Link.seen c.loop-place.link) (g.L.Link.seen c.one_run.new.link) _ _
     (λ is. no_ok c.from_residual-in_err-one_run.result tt c.from_residual-in_err-one_run.ensures.0 is) (c.one_run.ensures.further standing carried))
 
 pub returns-clause-stands : goal.returns-clause-stands
 returns-clause-stands g c = λ good carried.
     let stands = c.loop-place.invariant.running.stands good carried in (
-      campaigned g.L.Link.past g.L.Link.honest c.args.plan.now c.loop-place.client c.args.link.now c.loop-place.link c.loop-place.end.runs.items
+      campaigned c.args.plan.now c.loop-place.client (g.L.Link.seen c.args.link.now) (g.L.Link.seen c.loop-place.link) c.loop-place.end.runs.items
           c.loop-place.end.saved.items c.loop-place.invariant.running.keys_are stands,
-      further_if g.L.Link.past g.L.Link.honest g.L.Link.calm c.args.plan.now c.args.link.now c.loop-place.link ⊤ _ (λ is. tt)
+      further_if c.args.plan.now (g.L.Link.seen c.args.link.now) (g.L.Link.seen c.loop-place.link) ⊤ _ (λ is. tt)
           (c.loop-place.invariant.running.further good carried),
     )
 
@@ -229,12 +227,12 @@ returns-clause-complete g c =
 
 pub returns-clause-settles : goal.returns-clause-settles
 returns-clause-settles g c = λ calmly holds.
-    subst (λ rs. AllZip (Settles c.args.plan.now) rs c.loop-place.end.runs.items × CalmLink g.L.Link.past g.L.Link.calm c.args.plan.now c.loop-place.link) (take_all c.loop-place.place c.args.runs.now c.loop-place-test.false)
+    subst (λ rs. AllZip (Settles c.args.plan.now) rs c.loop-place.end.runs.items × CalmLink c.args.plan.now (g.L.Link.seen c.loop-place.link)) (take_all c.loop-place.place c.args.runs.now c.loop-place-test.false)
     (c.loop-place.invariant.running.settled calmly holds)
 
 pub returns-clause-outlasts : goal.returns-clause-outlasts
 returns-clause-outlasts g c = λ good holds.
-    subst (λ rs. AllOutlast c.args.plan.now rs c.loop-place.end.runs.items (g.L.Link.disturbances c.args.link.now) (g.L.Link.disturbances c.loop-place.link)) (take_all c.loop-place.place c.args.runs.now c.loop-place-test.false)
+    subst (λ rs. AllOutlast c.args.plan.now rs c.loop-place.end.runs.items (g.L.Link.seen c.args.link.now).disturbances (g.L.Link.seen c.loop-place.link).disturbances) (take_all c.loop-place.place c.args.runs.now c.loop-place-test.false)
     (c.loop-place.invariant.outlasted good holds)
 
 pub returns-in_err-client-clause-followed : goal.returns-in_err-client-clause-followed
@@ -248,22 +246,19 @@ returns-clause-followed g c = c.loop-place.invariant.followed
 
 pub returns-in_err-client-clause-turned : goal.returns-in_err-client-clause-turned
 returns-in_err-client-clause-turned g c =
-    let past = g.L.Link.past in
     let keys = c.args.plan.now in
     let carried = c.args.carried.now in
-    nothing_turned keys carried c.args.runs.now _ _ (past c.args.link.now) c.args.end.now.runs.items c.requires.no_end
+    nothing_turned keys carried c.args.runs.now _ _ (g.L.Link.seen c.args.link.now).past c.args.end.now.runs.items c.requires.no_end
 
 pub returns-in_err-one_run-clause-turned : goal.returns-in_err-one_run-clause-turned
 returns-in_err-one_run-clause-turned g c =
-    let past = g.L.Link.past in
     let before = c.loop-place.end in
     let none : c.from_residual-in_err-one_run.result ≡ Ok tt → ⊥ = λ is. no_ok c.from_residual-in_err-one_run.result tt c.from_residual-in_err-one_run.ensures.0 is in
-    all_turned c.args.plan.now c.args.carried.now c.args.runs.now c.loop-place.client _ _ (past c.args.link.now) (past c.loop-place.link) (past c.one_run.new.link)
+    all_turned c.args.plan.now c.args.carried.now c.args.runs.now c.loop-place.client _ _ (g.L.Link.seen c.args.link.now).past (g.L.Link.seen c.loop-place.link).past (g.L.Link.seen c.one_run.new.link).past
     before.runs.items c.one_run.new.end.runs.items before.saved.items c.in_err-one_run.ensures.broken.same.same_runs (λ is. absurd (none is)) c.loop-place.invariant.turned
 
 pub returns-clause-turned : goal.returns-clause-turned
 returns-clause-turned g c =
-    let past = g.L.Link.past in
     let ends = c.loop-place.end.runs.items in
-    all_turned c.args.plan.now c.args.carried.now c.args.runs.now c.loop-place.client _ _ (past c.args.link.now) (past c.loop-place.link) (past c.loop-place.link) ends ends
+    all_turned c.args.plan.now c.args.carried.now c.args.runs.now c.loop-place.client _ _ (g.L.Link.seen c.args.link.now).past (g.L.Link.seen c.loop-place.link).past (g.L.Link.seen c.loop-place.link).past ends ends
     c.loop-place.end.saved.items refl (λ is. refl) c.loop-place.invariant.turned

@@ -13,12 +13,12 @@ use Rattle.kmip_runs.proofs.campaigning.run_each.Given as goal
 
 abbrev pub invariant-loop-place : goal.invariant-loop-place
 invariant-loop-place g l = record {
-  running : Running g.L.Link.past g.L.Link.honest g.L.Link.calm l.fn.plan l.fn.carried l.client l.fn.link l.link l.runs l.end.runs.items l.end.saved.items l.place;
-  ended : g.L.Link.honest l.fn.link (is_planned l.fn.plan)
-      → EndsJoin [] l.end.runs.items ⊤ (length (g.L.Link.past l.fn.link).sent) (length (g.L.Link.past l.link).sent) (g.L.Link.ended l.fn.link) (g.L.Link.ended l.link);
-  outlasted : GoodLink g.L.Link.past g.L.Link.honest l.fn.plan l.fn.link → All (TrueProgress (g.L.Link.past l.fn.link).objects l.fn.plan) l.fn.carried
-      → AllOutlast l.fn.plan (take l.place l.runs) l.end.runs.items (g.L.Link.disturbances l.fn.link) (g.L.Link.disturbances l.link);
+  running : Running l.fn.plan l.fn.carried l.client (g.L.Link.seen l.fn.link) (g.L.Link.seen l.link) l.runs l.end.runs.items l.end.saved.items l.place;
+  ended : (g.L.Link.seen l.fn.link).honest (is_planned l.fn.plan)
+      → EndsJoin [] l.end.runs.items ⊤ (length (g.L.Link.seen l.fn.link).past.sent) (length (g.L.Link.seen l.link).past.sent) (g.L.Link.seen l.fn.link).ended (g.L.Link.seen l.link).ended;
+  outlasted : GoodLink l.fn.plan (g.L.Link.seen l.fn.link) → All (TrueProgress (g.L.Link.seen l.fn.link).past.objects l.fn.plan) l.fn.carried
+      → AllOutlast l.fn.plan (take l.place l.runs) l.end.runs.items (g.L.Link.seen l.fn.link).disturbances (g.L.Link.seen l.link).disturbances;
   followed : g.L.Link.follows l.fn.link l.link;
-  turned : TurnedSoFar l.fn.plan l.fn.carried l.runs l.client (g.L.Link.honest l.fn.link (is_planned l.fn.plan)) (g.L.Link.past l.fn.link) (g.L.Link.past l.link)
+  turned : TurnedSoFar l.fn.plan l.fn.carried l.runs l.client ((g.L.Link.seen l.fn.link).honest (is_planned l.fn.plan)) (g.L.Link.seen l.fn.link).past (g.L.Link.seen l.link).past
       l.end.runs.items l.end.saved.items;
 }

@@ -12,32 +12,28 @@ use Rattle.kmip_runs.proofs.carrying.exchange_in_turn.Goals.{else-made-limit-via
 
 pub returns-then-limit-eq0-clause-carried : goal.returns-then-limit-eq0-clause-carried
 returns-then-limit-eq0-clause-carried g c =
-    let past = g.L.Link.past in
-    let honest = g.L.Link.honest in
-    let calm = g.L.Link.calm in
     let e = c.drive-stop.ensures in
     let none : c.drive-stop.result.1 ≡ 0 = omega (arith, e.within) in
-    carried_none past honest calm g.K.Keeper.keeps g.K.Keeper.saved c.args.client.now c.drive-stop.new.client c.args.link.now c.drive-stop.new.link
-    c.args.keeper.now c.drive-stop.result none
-    (drove past honest calm c.args.client.now c.drive-stop.new.client c.args.link.now c.drive-stop.new.link c.drive-stop.result e.good e.goes e.known e.broken e.grown e.kept
-    e.calm)
+    carried_none c.args.client.now c.drive-stop.new.client (g.L.Link.seen c.args.link.now) (g.L.Link.seen c.drive-stop.new.link)
+    (g.K.Keeper.kept c.args.keeper.now) c.drive-stop.result none
+    (drove c.args.client.now c.drive-stop.new.client (g.L.Link.seen c.args.link.now) (g.L.Link.seen c.drive-stop.new.link) _ c.drive-stop.result _ e)
 
 pub loop-made-init : goal.loop-made-init
 loop-made-init g c = record {
   carrying =
-      carrying_none g.L.Link.past g.L.Link.honest g.L.Link.calm g.K.Keeper.keeps g.K.Keeper.saved c.laws_below.ensures c.args.client.now c.args.link.now c.args.keeper.now;
+      carrying_none c.laws_below.ensures c.args.client.now (g.L.Link.seen c.args.link.now) (g.K.Keeper.kept c.args.keeper.now);
   as_many = search rules;
   patient = refl;
   counted = omega arith;
   ended = λ honest. refl;
-  paid = λ good. paid_none (left_for c.args.client.now (g.L.Link.past c.args.link.now)) (g.L.Link.disturbances c.args.link.now);
+  paid = λ good. paid_none (left_for c.args.client.now (g.L.Link.seen c.args.link.now).past) (g.L.Link.seen c.args.link.now).disturbances;
 }
 
 pub returns-then-not-is_at_limit-clause-carried : goal.returns-then-not-is_at_limit-clause-carried
 returns-then-not-is_at_limit-clause-carried g c =
     let step = c.exchange_once-carried in
-    carried_then g.L.Link.past g.L.Link.honest g.L.Link.calm g.K.Keeper.keeps g.K.Keeper.saved c.laws_below.ensures c.args.client.now c.loop-made.client
-    step.new.client c.args.link.now c.loop-made.link step.new.link c.args.keeper.now c.loop-made.keeper step.new.keeper step.result.0 c.loop-made.made step.result.1
+    carried_then c.laws_below.ensures c.args.client.now c.loop-made.client
+    step.new.client (g.L.Link.seen c.args.link.now) (g.L.Link.seen c.loop-made.link) (g.L.Link.seen step.new.link) (g.K.Keeper.kept c.args.keeper.now) (g.K.Keeper.kept c.loop-made.keeper) (g.K.Keeper.kept step.new.keeper) step.result.0 c.loop-made.made step.result.1
     c.plan-plan.ensures.lawful c.loop-made.invariant.carrying.carried step.ensures.carried
 
 pub loop-made-preserved : goal.loop-made-preserved
@@ -47,8 +43,8 @@ loop-made-preserved g c =
     let limit : step.result.0 ≡ Ok stops.Limit = search rules in
     record {
       carrying =
-          carrying_more g.L.Link.past g.L.Link.honest g.L.Link.calm g.K.Keeper.keeps g.K.Keeper.saved c.laws_below.ensures c.args.client.now c.loop-made.client
-          step.new.client c.args.link.now c.loop-made.link step.new.link c.args.keeper.now c.loop-made.keeper step.new.keeper step.result.0 c.loop-made.made step.result.1
+          carrying_more c.laws_below.ensures c.args.client.now c.loop-made.client
+          step.new.client (g.L.Link.seen c.args.link.now) (g.L.Link.seen c.loop-made.link) (g.L.Link.seen step.new.link) (g.K.Keeper.kept c.args.keeper.now) (g.K.Keeper.kept c.loop-made.keeper) (g.K.Keeper.kept step.new.keeper) step.result.0 c.loop-made.made step.result.1
           c.plan-plan.ensures.lawful c.loop-made.invariant.carrying step.ensures.carried limit (step.ensures.limit limit) step.ensures.stands;
       as_many = c.tell.ensures.as_many ∙ c.loop-made.invariant.as_many ∙ ap length (sym step.ensures.carried.went.keeps.keys_stay);
       patient =
@@ -71,15 +67,15 @@ loop-made-preserved g c =
 
 pub returns-in_default-clause-carried : goal.returns-in_default-clause-carried
 returns-in_default-clause-carried g c =
-    carried_unbegun g.L.Link.past g.L.Link.honest g.L.Link.calm g.K.Keeper.keeps g.K.Keeper.saved c.laws_below.ensures c.args.client.now c.args.link.now c.args.keeper.now
+    carried_unbegun c.laws_below.ensures c.args.client.now (g.L.Link.seen c.args.link.now) (g.K.Keeper.kept c.args.keeper.now)
 
 pub returns-then-not-go_on-clause-carried : goal.returns-then-not-go_on-clause-carried
 returns-then-not-go_on-clause-carried g c =
     let step = c.exchange_once-carried in
     let limit : step.result.0 ≡ Ok stops.Limit = search rules in
     let more =
-    carrying_more g.L.Link.past g.L.Link.honest g.L.Link.calm g.K.Keeper.keeps g.K.Keeper.saved c.laws_below.ensures c.args.client.now c.loop-made.client
-    step.new.client c.args.link.now c.loop-made.link step.new.link c.args.keeper.now c.loop-made.keeper step.new.keeper step.result.0 c.loop-made.made step.result.1
+    carrying_more c.laws_below.ensures c.args.client.now c.loop-made.client
+    step.new.client (g.L.Link.seen c.args.link.now) (g.L.Link.seen c.loop-made.link) (g.L.Link.seen step.new.link) (g.K.Keeper.kept c.args.keeper.now) (g.K.Keeper.kept c.loop-made.keeper) (g.K.Keeper.kept step.new.keeper) step.result.0 c.loop-made.made step.result.1
     c.plan-plan.ensures.lawful c.loop-made.invariant.carrying step.ensures.carried limit (step.ensures.limit limit) step.ensures.stands in
     more.carried
 
@@ -92,7 +88,7 @@ pub returns-then-limit-eq0-clause-losing : goal.returns-then-limit-eq0-clause-lo
 returns-then-limit-eq0-clause-losing g c = λ good memory.
     let e = c.drive-stop.ensures in
     let none : c.drive-stop.result.1 ≡ 0 = omega (arith, e.within) in
-    let paid = e.losing good (λ is. memory (ap Ok is)) in
+    let paid = (e.well good).losing (λ is. memory (ap Ok is)) in
     omega (arith, none, paid)
 
 pub returns-then-not-is_at_limit-clause-losing : goal.returns-then-not-is_at_limit-clause-losing

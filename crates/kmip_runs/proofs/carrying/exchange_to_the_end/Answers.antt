@@ -13,9 +13,9 @@ pub returns-clause-carried : goal.returns-clause-carried
 returns-clause-carried g c =
     let done = c.exchange_in_turn-carried in
     let end = c.after_close.ensures in
-    carried_closed g.L.Link.past g.L.Link.honest g.L.Link.calm g.K.Keeper.keeps g.K.Keeper.saved c.laws_below.ensures c.args.client.now done.new.client
-    c.args.link.now done.new.link c.close_run-closed.new.link c.args.keeper.now done.new.keeper done.result.0 c.after_close.result c.close_run-closed.result done.result.1
-    c.plan-plan.ensures.lawful c.close_run-closed.ensures.honest c.close_run-closed.ensures.calm end.whole end.stop end.fault done.ensures.carried
+    carried_closed c.laws_below.ensures c.args.client.now done.new.client
+    (g.L.Link.seen c.args.link.now) (g.L.Link.seen done.new.link) (g.L.Link.seen c.close_run-closed.new.link) (g.K.Keeper.kept c.args.keeper.now) (g.K.Keeper.kept done.new.keeper) done.result.0 c.after_close.result c.close_run-closed.result done.result.1
+    c.plan-plan.ensures.lawful (λ names honest. (c.close_run-closed.ensures.honestly names honest).honest) c.close_run-closed.ensures.calm end.whole end.stop end.fault done.ensures.carried
 
 pub returns-clause-stands : goal.returns-clause-stands
 returns-clause-stands g c =
@@ -38,37 +38,33 @@ returns-clause-given_up g c = λ fresh gave.
 
 pub returns-clause-ended : goal.returns-clause-ended
 returns-clause-ended g c = λ honest.
-    let past = g.L.Link.past in
     let names = is_planned c.args.client.now.keys in
     let done = c.exchange_in_turn-carried in
     let end = c.after_close.ensures in
     let known = done.ensures.carried.went.known honest in
-    ended_whole c.args.client.now.keys c.args.client.now.batch (past c.args.link.now) (past done.new.link) c.args.client.now.knowns done.new.client.knowns c.close_run-closed.result
-    done.result.0 c.after_close.result done.result.1 (g.L.Link.ended c.args.link.now) (g.L.Link.ended done.new.link) (g.L.Link.ended c.close_run-closed.new.link)
-    end.whole end.stop end.fault known.1 (done.ensures.ended honest) (c.close_run-closed.ensures.ended names known.0)
+    ended_whole c.args.client.now.keys c.args.client.now.batch (g.L.Link.seen c.args.link.now).past (g.L.Link.seen done.new.link).past c.args.client.now.knowns done.new.client.knowns c.close_run-closed.result
+    done.result.0 c.after_close.result done.result.1 (g.L.Link.seen c.args.link.now).ended (g.L.Link.seen done.new.link).ended (g.L.Link.seen c.close_run-closed.new.link).ended
+    end.whole end.stop end.fault known.1 (done.ensures.ended honest) (c.close_run-closed.ensures.honestly names known.0).ended
 
 pub returns-clause-once : goal.returns-clause-once
 returns-clause-once g c = λ honest.
-    let past = g.L.Link.past in
     let names = is_planned c.args.client.now.keys in
     let done = c.exchange_in_turn-carried in
     let still = (done.ensures.carried.went.known honest).0 in
-    ended_once (past done.new.link) (past c.close_run-closed.new.link) (g.L.Link.ended c.args.link.now) (g.L.Link.ended done.new.link)
-    (g.L.Link.ended c.close_run-closed.new.link)
-    (c.laws_below.ensures.requests names (past done.new.link) (past c.close_run-closed.new.link) (c.close_run-closed.ensures.honest names still).1).sent
+    ended_once (g.L.Link.seen done.new.link).past (g.L.Link.seen c.close_run-closed.new.link).past (g.L.Link.seen c.args.link.now).ended (g.L.Link.seen done.new.link).ended
+    (g.L.Link.seen c.close_run-closed.new.link).ended
+    (c.laws_below.ensures.requests names (g.L.Link.seen done.new.link).past (g.L.Link.seen c.close_run-closed.new.link).past (c.close_run-closed.ensures.honestly names still).honest.1).sent
     (done.ensures.ended honest)
-    (one_of_both c.close_run-closed.result (c.close_run-closed.ensures.ended names still) (c.close_run-closed.ensures.unended names still))
+    (one_of_both c.close_run-closed.result (c.close_run-closed.ensures.honestly names still).ended (c.close_run-closed.ensures.honestly names still).unended)
 
 pub returns-clause-losing : goal.returns-clause-losing
 returns-clause-losing g c = λ good memory.
-    let past = g.L.Link.past in
-    let counts = g.L.Link.disturbances in
     let done = c.exchange_in_turn-carried in
     let end = c.after_close.ensures in
     let went = done.ensures.carried.went in
-    paid_closed past g.L.Link.honest counts c.laws_below.ensures done.new.client done.new.link c.close_run-closed.new.link done.result.1
-    (left_for c.args.client.now (past c.args.link.now)) (counts c.args.link.now)
-    (subst IsLawful (sym went.keeps.keys_stay) c.plan-plan.ensures.lawful) (went.good good) c.close_run-closed.ensures.honest c.close_run-closed.ensures.undisturbed
+    paid_closed c.laws_below.ensures done.new.client (g.L.Link.seen done.new.link) (g.L.Link.seen c.close_run-closed.new.link) done.result.1
+    (left_for c.args.client.now (g.L.Link.seen c.args.link.now).past) (g.L.Link.seen c.args.link.now).disturbances
+    (subst IsLawful (sym went.keeps.keys_stay) c.plan-plan.ensures.lawful) (went.good good) (λ names honest. (c.close_run-closed.ensures.honestly names honest).honest) (λ names honest. (c.close_run-closed.ensures.honestly names honest).undisturbed)
     (done.ensures.losing good (memory_before c.close_run-closed.result done.result.0 c.after_close.result end.whole end.stop end.fault memory))
 
 pub returns-clause-output : goal.returns-clause-output

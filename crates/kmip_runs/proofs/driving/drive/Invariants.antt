@@ -9,10 +9,10 @@ use Rattle.kmip_runs.proofs.driving.drive.Given as goal
 
 abbrev pub invariant-loop-made : goal.invariant-loop-made
 invariant-loop-made g l = record {
-  driven : Driven g.L.Link.past g.L.Link.honest g.L.Link.calm l.fn.client l.client l.fn.link l.link l.made;
-  ended : (names : Names) → g.L.Link.honest l.fn.link names → g.L.Link.ended l.link ≡ g.L.Link.ended l.fn.link;
-  paid : IsGood g.L.Link.past g.L.Link.honest l.fn.client l.fn.link
-      → ArePaid l.made (left_for l.fn.client (g.L.Link.past l.fn.link)) (left_for l.client (g.L.Link.past l.link)) (g.L.Link.disturbances l.fn.link) (g.L.Link.disturbances l.link);
-  turned : HasTurned (g.L.Link.honest l.fn.link (is_planned l.fn.client.keys)) l.made l.fn.client l.client (g.L.Link.past l.fn.link) (g.L.Link.past l.link);
+  driven : Driven l.fn.client l.client (g.L.Link.seen l.fn.link) (g.L.Link.seen l.link) l.made;
+  ended : (names : Names) → (g.L.Link.seen l.fn.link).honest names → (g.L.Link.seen l.link).ended ≡ (g.L.Link.seen l.fn.link).ended;
+  paid : IsGood l.fn.client (g.L.Link.seen l.fn.link)
+      → ArePaid l.made (left_for l.fn.client (g.L.Link.seen l.fn.link).past) (left_for l.client (g.L.Link.seen l.link).past) (g.L.Link.seen l.fn.link).disturbances (g.L.Link.seen l.link).disturbances;
+  turned : HasTurned ((g.L.Link.seen l.fn.link).honest (is_planned l.fn.client.keys)) l.made l.fn.client l.client (g.L.Link.seen l.fn.link).past (g.L.Link.seen l.link).past;
   followed : g.L.Link.follows l.fn.link l.link;
 }

@@ -27,8 +27,8 @@ pub returns-in_default-clause-known : goal.returns-in_default-clause-known
 returns-in_default-clause-known g c = λ honest. (
   honest,
   subst
-      (λ (s : ClientState). Learnt c.args.client.now.keys c.args.client.now.batch (g.L.Link.past c.args.link.now) (g.L.Link.past c.args.link.now) c.args.client.now.knowns s.knowns 0) (sym c.in_ok-question.ensures.turn)
-      (learnt_nothing c.args.client.now.keys c.args.client.now.batch (g.L.Link.past c.args.link.now) c.args.client.now.knowns),
+      (λ (s : ClientState). Learnt c.args.client.now.keys c.args.client.now.batch (g.L.Link.seen c.args.link.now).past (g.L.Link.seen c.args.link.now).past c.args.client.now.knowns s.knowns 0) (sym c.in_ok-question.ensures.turn)
+      (learnt_nothing c.args.client.now.keys c.args.client.now.batch (g.L.Link.seen c.args.link.now).past c.args.client.now.knowns),
 )
 
 pub returns-in_default-clause-kept : goal.returns-in_default-clause-kept
@@ -45,72 +45,68 @@ put-requires g c =
 pub returns-clause-good : goal.returns-clause-good
 returns-clause-good g c = λ good.
     let asked =
-    good_asked g.L.Link.past g.L.Link.honest c.args.client.now c.ask.new.self c.args.link.now _ c.in-Some.question c.in_ok-question.ensures.turn
+    good_asked c.args.client.now c.ask.new.self (g.L.Link.seen c.args.link.now) _ c.in-Some.question c.in_ok-question.ensures.turn
     c.in-Some.is c.in_ok-question.ensures.justified good in
     (c.put.ensures.good asked.0 asked.1).0
 
 pub returns-clause-goes : goal.returns-clause-goes
 returns-clause-goes g c = λ good.
-    let past = g.L.Link.past in
     let asked =
-    good_asked past g.L.Link.honest c.args.client.now c.ask.new.self c.args.link.now _ c.in-Some.question c.in_ok-question.ensures.turn c.in-Some.is
+    good_asked c.args.client.now c.ask.new.self (g.L.Link.seen c.args.link.now) _ c.in-Some.question c.in_ok-question.ensures.turn c.in-Some.is
     c.in_ok-question.ensures.justified good in
-    subst (λ (s : ClientState). WentOn s.keys (past c.args.link.now) (past c.put.new.link)) c.in_ok-question.ensures.turn
+    subst (λ (s : ClientState). WentOn s.keys (g.L.Link.seen c.args.link.now).past (g.L.Link.seen c.put.new.link).past) c.in_ok-question.ensures.turn
     (c.put.ensures.good asked.0 asked.1).1
 
 pub returns-in_err-question-clause-grown : goal.returns-in_err-question-clause-grown
-returns-in_err-question-clause-grown g c = λ honest. grown_itself (g.L.Link.past c.args.link.now)
+returns-in_err-question-clause-grown g c = λ honest. grown_itself (g.L.Link.seen c.args.link.now).past
 
 pub returns-in_default-clause-grown : goal.returns-in_default-clause-grown
-returns-in_default-clause-grown g c = λ honest. grown_itself (g.L.Link.past c.args.link.now)
+returns-in_default-clause-grown g c = λ honest. grown_itself (g.L.Link.seen c.args.link.now).past
 
 pub returns-in_err-question-clause-broken : goal.returns-in_err-question-clause-broken
 returns-in_err-question-clause-broken g c = λ honest.
     let fault = err_from_is_err_and c.from_residual.result c.from_residual.ensures.1 in
     rw (fault.1, fault.2) (
       ap (λ (s : ClientState). facts s.knowns) c.in_err-question.ensures.same,
-      broken_nowhere c.args.client.now.keys c.args.client.now.batch (g.L.Link.past c.args.link.now),
+      broken_nowhere c.args.client.now.keys c.args.client.now.batch (g.L.Link.seen c.args.link.now).past,
     )
 
 pub returns-in_err-put-clause-broken : goal.returns-in_err-put-clause-broken
 returns-in_err-put-clause-broken g c = λ honest.
-    let past = g.L.Link.past in
     let asked = c.in_ok-question.ensures.turn in
     let fault = err_from_is_err_and c.from_residual-in_err-put.result c.from_residual-in_err-put.ensures.1 in
     rw (fault.1, fault.2)
     (subst
     (λ (s : ClientState). (facts c.put.new.client.knowns ≡ facts s.knowns)
-    × IsBrokenOff s.keys s.batch (past c.args.link.now) (past c.put.new.link) c.in_err-put.field-0.0) asked
-    (c.in_err-put.ensures.broken (subst (λ (s : ClientState). g.L.Link.honest c.args.link.now (is_planned s.keys)) (sym asked) honest)))
+    × IsBrokenOff s.keys s.batch (g.L.Link.seen c.args.link.now).past (g.L.Link.seen c.put.new.link).past c.in_err-put.field-0.0) asked
+    (c.in_err-put.ensures.broken (subst (λ (s : ClientState). (g.L.Link.seen c.args.link.now).honest (is_planned s.keys)) (sym asked) honest)))
 
 pub returns-in_err-question-clause-further : goal.returns-in_err-question-clause-further
 returns-in_err-question-clause-further g c = λ good.
-    further_nowhere g.L.Link.past g.L.Link.honest g.L.Link.calm c.laws_below.ensures.itself c.args.client.now.keys c.args.link.now _
+    further_nowhere c.laws_below.ensures.itself c.args.client.now.keys (g.L.Link.seen c.args.link.now) _
 
 pub returns-in_default-clause-further : goal.returns-in_default-clause-further
 returns-in_default-clause-further g c = λ good.
-    further_nowhere g.L.Link.past g.L.Link.honest g.L.Link.calm c.laws_below.ensures.itself c.args.client.now.keys c.args.link.now _
+    further_nowhere c.laws_below.ensures.itself c.args.client.now.keys (g.L.Link.seen c.args.link.now) _
 
 -- the question may be asked, and so much is kept by its exchange
 pub returns-clause-further : goal.returns-clause-further
 returns-clause-further g c = λ good.
-    let past = g.L.Link.past in
     let asked =
-    good_asked past g.L.Link.honest c.args.client.now c.ask.new.self c.args.link.now _ c.in-Some.question c.in_ok-question.ensures.turn c.in-Some.is
+    good_asked c.args.client.now c.ask.new.self (g.L.Link.seen c.args.link.now) _ c.in-Some.question c.in_ok-question.ensures.turn c.in-Some.is
     c.in_ok-question.ensures.justified good in
-    further_if past g.L.Link.honest g.L.Link.calm c.args.client.now.keys c.args.link.now c.put.new.link _ _ (λ is. tt)
-    (subst (λ (s : ClientState). KeepsFurther past g.L.Link.honest g.L.Link.calm s.keys ⊤ c.args.link.now c.put.new.link) c.in_ok-question.ensures.turn
-    (further_if past g.L.Link.honest g.L.Link.calm c.ask.new.self.keys c.args.link.now c.put.new.link _ ⊤ (λ is. search rules)
+    further_if c.args.client.now.keys (g.L.Link.seen c.args.link.now) (g.L.Link.seen c.put.new.link) _ _ (λ is. tt)
+    (subst (λ (s : ClientState). KeepsFurther s.keys ⊤ (g.L.Link.seen c.args.link.now) (g.L.Link.seen c.put.new.link)) c.in_ok-question.ensures.turn
+    (further_if c.ask.new.self.keys (g.L.Link.seen c.args.link.now) (g.L.Link.seen c.put.new.link) _ ⊤ (λ is. search rules)
     (c.put.ensures.further asked.0 asked.1)))
 
 pub returns-in_err-put-clause-further : goal.returns-in_err-put-clause-further
 returns-in_err-put-clause-further g c = λ good.
-    let past = g.L.Link.past in
     let asked =
-    good_asked past g.L.Link.honest c.args.client.now c.ask.new.self c.args.link.now _ c.in-Some.question c.in_ok-question.ensures.turn c.in-Some.is
+    good_asked c.args.client.now c.ask.new.self (g.L.Link.seen c.args.link.now) _ c.in-Some.question c.in_ok-question.ensures.turn c.in-Some.is
     c.in_ok-question.ensures.justified good in
-    subst (λ (s : ClientState). KeepsFurther past g.L.Link.honest g.L.Link.calm s.keys (IsOk c.from_residual-in_err-put.result) c.args.link.now c.put.new.link) c.in_ok-question.ensures.turn
-    (further_if past g.L.Link.honest g.L.Link.calm c.ask.new.self.keys c.args.link.now c.put.new.link _ _
+    subst (λ (s : ClientState). KeepsFurther s.keys (IsOk c.from_residual-in_err-put.result) (g.L.Link.seen c.args.link.now) (g.L.Link.seen c.put.new.link)) c.in_ok-question.ensures.turn
+    (further_if c.ask.new.self.keys (g.L.Link.seen c.args.link.now) (g.L.Link.seen c.put.new.link) _ _
     (λ is. no_both c.from_residual-in_err-put.result c.from_residual-in_err-put.ensures.0 is) (c.put.ensures.further asked.0 asked.1))
 
 -- of a fault nothing is said that holds of a value
@@ -119,10 +115,10 @@ if_err P (Ok v) is = absurd cc
 if_err P (Err fault) is = tt
 
 pub returns-in_err-question-clause-good : goal.returns-in_err-question-clause-good
-returns-in_err-question-clause-good g c = λ good. subst (λ s. IsGood g.L.Link.past g.L.Link.honest s c.args.link.now) (sym c.in_err-question.ensures.same) good
+returns-in_err-question-clause-good g c = λ good. subst (λ s. IsGood s (g.L.Link.seen c.args.link.now)) (sym c.in_err-question.ensures.same) good
 
 pub returns-in_err-question-clause-goes : goal.returns-in_err-question-clause-goes
-returns-in_err-question-clause-goes g c = λ good. went_nowhere c.laws_below.ensures c.args.client.now.keys (g.L.Link.past c.args.link.now)
+returns-in_err-question-clause-goes g c = λ good. went_nowhere c.laws_below.ensures c.args.client.now.keys (g.L.Link.seen c.args.link.now).past
 
 pub returns-in_err-question-clause-known : goal.returns-in_err-question-clause-known
 returns-in_err-question-clause-known g c = λ honest. (honest, if_err _ c.from_residual.result c.from_residual.ensures.0)
@@ -143,40 +139,38 @@ returns-in_err-question-clause-losing g c = λ good. if_err _ c.from_residual.re
 
 pub returns-in_default-clause-good : goal.returns-in_default-clause-good
 returns-in_default-clause-good g c = λ good.
-    subst (λ s. IsGood g.L.Link.past g.L.Link.honest s c.args.link.now) (sym c.in_ok-question.ensures.turn)
+    subst (λ s. IsGood s (g.L.Link.seen c.args.link.now)) (sym c.in_ok-question.ensures.turn)
     (record { honest_for = good.honest_for; sound = good.sound; held = good.held })
 
 pub returns-in_default-clause-goes : goal.returns-in_default-clause-goes
-returns-in_default-clause-goes g c = λ good. went_nowhere c.laws_below.ensures c.args.client.now.keys (g.L.Link.past c.args.link.now)
+returns-in_default-clause-goes g c = λ good. went_nowhere c.laws_below.ensures c.args.client.now.keys (g.L.Link.seen c.args.link.now).past
 
 pub returns-in_default-clause-none : goal.returns-in_default-clause-none
 returns-in_default-clause-none g c = λ is.
     subst (λ (s : ClientState). AreSettled s.keys s.knowns) (sym c.in_ok-question.ensures.turn) (c.in_ok-question.ensures.none c.in_default.is)
 
 pub returns-in_default-clause-calm : goal.returns-in_default-clause-calm
-returns-in_default-clause-calm g c = nearer_asked g.L.Link.past g.L.Link.calm c.args.client.now c.ask.new.self c.args.link.now c.in_ok-question.ensures.turn
+returns-in_default-clause-calm g c = nearer_asked c.args.client.now c.ask.new.self (g.L.Link.seen c.args.link.now) c.in_ok-question.ensures.turn
 
 pub returns-in_default-clause-losing : goal.returns-in_default-clause-losing
 returns-in_default-clause-losing g c = λ good.
-    let left = left_for c.args.client.now (g.L.Link.past c.args.link.now) in
-    let lost = g.L.Link.disturbances c.args.link.now in
-    subst (λ s. ArePaid 0 left (left_for s (g.L.Link.past c.args.link.now)) lost lost) (sym c.in_ok-question.ensures.turn) (paid_none left lost)
+    let left = left_for c.args.client.now (g.L.Link.seen c.args.link.now).past in
+    let lost = (g.L.Link.seen c.args.link.now).disturbances in
+    subst (λ s. ArePaid 0 left (left_for s (g.L.Link.seen c.args.link.now).past) lost lost) (sym c.in_ok-question.ensures.turn) (paid_none left lost)
 
 pub returns-in_err-put-clause-good : goal.returns-in_err-put-clause-good
 returns-in_err-put-clause-good g c = λ good.
-    let past = g.L.Link.past in
     let asked =
-    good_asked past g.L.Link.honest c.args.client.now c.ask.new.self c.args.link.now _ c.in-Some.question c.in_ok-question.ensures.turn c.in-Some.is
+    good_asked c.args.client.now c.ask.new.self (g.L.Link.seen c.args.link.now) _ c.in-Some.question c.in_ok-question.ensures.turn c.in-Some.is
     c.in_ok-question.ensures.justified good in
     (c.put.ensures.good asked.0 asked.1).0
 
 pub returns-in_err-put-clause-goes : goal.returns-in_err-put-clause-goes
 returns-in_err-put-clause-goes g c = λ good.
-    let past = g.L.Link.past in
     let asked =
-    good_asked past g.L.Link.honest c.args.client.now c.ask.new.self c.args.link.now _ c.in-Some.question c.in_ok-question.ensures.turn c.in-Some.is
+    good_asked c.args.client.now c.ask.new.self (g.L.Link.seen c.args.link.now) _ c.in-Some.question c.in_ok-question.ensures.turn c.in-Some.is
     c.in_ok-question.ensures.justified good in
-    subst (λ (s : ClientState). WentOn s.keys (past c.args.link.now) (past c.put.new.link)) c.in_ok-question.ensures.turn
+    subst (λ (s : ClientState). WentOn s.keys (g.L.Link.seen c.args.link.now).past (g.L.Link.seen c.put.new.link).past) c.in_ok-question.ensures.turn
     (c.put.ensures.good asked.0 asked.1).1
 
 pub returns-in_err-put-clause-known : goal.returns-in_err-put-clause-known
@@ -184,12 +178,11 @@ returns-in_err-put-clause-known g c = λ honest. (c.put.ensures.honest _ honest,
 
 pub returns-in_err-put-clause-lost : goal.returns-in_err-put-clause-lost
 returns-in_err-put-clause-lost g c =
-    let past = g.L.Link.past in
     let asked = c.in_ok-question.ensures.turn in
     let fault = err_from_is_err_and c.from_residual-in_err-put.result c.from_residual-in_err-put.ensures.1 in
     rw (fault.1, fault.2)
-    (given_up _ _ c.args.client.now c.ask.new.self c.put.new.client (past c.args.link.now) (past c.put.new.link) c.in-Some.question c.in_err-put.field-0.0
-    (λ honest. subst (λ (s : ClientState). g.L.Link.honest c.args.link.now (is_planned s.keys)) (sym asked) honest) asked
+    (given_up _ _ c.args.client.now c.ask.new.self c.put.new.client (g.L.Link.seen c.args.link.now).past (g.L.Link.seen c.put.new.link).past c.in-Some.question c.in_err-put.field-0.0
+    (λ honest. subst (λ (s : ClientState). (g.L.Link.seen c.args.link.now).honest (is_planned s.keys)) (sym asked) honest) asked
     (sym c.in_ok-question.ensures.question ∙ c.in-Some.is) c.in_err-put.ensures.lost c.in_err-put.ensures.sent)
 
 pub returns-in_default-clause-turned : goal.returns-in_default-clause-turned
@@ -201,19 +194,18 @@ returns-in_default-clause-turned g c = record {
 
 pub returns-clause-turned : goal.returns-clause-turned
 returns-clause-turned g c =
-    let past = g.L.Link.past in
     record {
       question = c.in-Some.question;
       question_is = sym c.in_ok-question.ensures.question ∙ c.in-Some.is;
       answered =
           subst
-          (λ (s : ClientState). IsAnswered (g.L.Link.honest c.args.link.now (is_planned s.keys)) c.in-Some.question s c.put.new.client (past c.args.link.now) (past c.put.new.link))
+          (λ (s : ClientState). IsAnswered ((g.L.Link.seen c.args.link.now).honest (is_planned s.keys)) c.in-Some.question s c.put.new.client (g.L.Link.seen c.args.link.now).past (g.L.Link.seen c.put.new.link).past)
           c.in_ok-question.ensures.turn c.in_ok-put.ensures.answered;
     }
 
 pub returns-in_err-put-clause-grown : goal.returns-in_err-put-clause-grown
 returns-in_err-put-clause-grown g c = λ honest.
-    c.put.ensures.grown (subst (λ (s : ClientState). g.L.Link.honest c.args.link.now (is_planned s.keys)) (sym c.in_ok-question.ensures.turn) honest)
+    c.put.ensures.grown (subst (λ (s : ClientState). (g.L.Link.seen c.args.link.now).honest (is_planned s.keys)) (sym c.in_ok-question.ensures.turn) honest)
 
 pub returns-in_err-put-clause-kept : goal.returns-in_err-put-clause-kept
 returns-in_err-put-clause-kept g c = keeps_then c.args.client.now c.ask.new.self c.put.new.client (keeps_asked c.args.client.now c.ask.new.self c.in_ok-question.ensures.turn) c.put.ensures.kept
@@ -226,7 +218,7 @@ returns-in_err-put-clause-ended g c = c.put.ensures.ended
 
 pub returns-clause-grown : goal.returns-clause-grown
 returns-clause-grown g c = λ honest.
-    c.put.ensures.grown (subst (λ (s : ClientState). g.L.Link.honest c.args.link.now (is_planned s.keys)) (sym c.in_ok-question.ensures.turn) honest)
+    c.put.ensures.grown (subst (λ (s : ClientState). (g.L.Link.seen c.args.link.now).honest (is_planned s.keys)) (sym c.in_ok-question.ensures.turn) honest)
 
 pub returns-clause-kept : goal.returns-clause-kept
 returns-clause-kept g c = keeps_then c.args.client.now c.ask.new.self c.put.new.client (keeps_asked c.args.client.now c.ask.new.self c.in_ok-question.ensures.turn) c.put.ensures.kept
@@ -248,32 +240,28 @@ returns-in_err-put-clause-losing g c = λ good. if_err _ c.from_residual-in_err-
 
 pub returns-clause-known : goal.returns-clause-known
 returns-clause-known g c = λ honest.
-    let past = g.L.Link.past in
-    let link = c.args.link.now in
-    let next = c.put.new.link in
+    let link = g.L.Link.seen c.args.link.now in
+    let next = g.L.Link.seen c.put.new.link in
     subst
-    (λ (s : ClientState). g.L.Link.honest next (is_planned s.keys) × Learnt s.keys s.batch (past link) (past next) s.knowns c.put.new.client.knowns 1) c.in_ok-question.ensures.turn
-    (c.in_ok-put.ensures.known (subst (λ (s : ClientState). g.L.Link.honest link (is_planned s.keys)) (sym c.in_ok-question.ensures.turn) honest))
+    (λ (s : ClientState). next.honest (is_planned s.keys) × Learnt s.keys s.batch link.past next.past s.knowns c.put.new.client.knowns 1) c.in_ok-question.ensures.turn
+    (c.in_ok-put.ensures.known (subst (λ (s : ClientState). link.honest (is_planned s.keys)) (sym c.in_ok-question.ensures.turn) honest))
 
 pub returns-clause-none : goal.returns-clause-none
 returns-clause-none g c = λ is. absurd cc
 
 pub returns-clause-calm : goal.returns-clause-calm
 returns-clause-calm g c = λ settling.
-    let past = g.L.Link.past in
-    let calm = g.L.Link.calm in
     let client = c.args.client.now in
-    let link = c.args.link.now in
-    let first = nearer_asked past calm client c.ask.new.self link c.in_ok-question.ensures.turn settling in
-    nearer_then past calm client c.ask.new.self c.put.new.client link link c.put.new.link 0 1 (asks_one client c.ask.new.self (keeps_asked client c.ask.new.self c.in_ok-question.ensures.turn)) first
+    let link = g.L.Link.seen c.args.link.now in
+    let first = nearer_asked client c.ask.new.self link c.in_ok-question.ensures.turn settling in
+    nearer_then client c.ask.new.self c.put.new.client link link (g.L.Link.seen c.put.new.link) 0 1 (asks_one client c.ask.new.self (keeps_asked client c.ask.new.self c.in_ok-question.ensures.turn)) first
     (c.in_ok-put.ensures.calm first.settling)
 
 pub returns-clause-losing : goal.returns-clause-losing
 returns-clause-losing g c = λ good.
-    let past = g.L.Link.past in
     let asked =
-    good_asked past g.L.Link.honest c.args.client.now c.ask.new.self c.args.link.now _ c.in-Some.question c.in_ok-question.ensures.turn c.in-Some.is
+    good_asked c.args.client.now c.ask.new.self (g.L.Link.seen c.args.link.now) _ c.in-Some.question c.in_ok-question.ensures.turn c.in-Some.is
     c.in_ok-question.ensures.justified good in
     subst
-    (λ s. ArePaid 1 (left_for s (past c.args.link.now)) (left_for c.put.new.client (past c.put.new.link)) (g.L.Link.disturbances c.args.link.now) (g.L.Link.disturbances c.put.new.link))
+    (λ s. ArePaid 1 (left_for s (g.L.Link.seen c.args.link.now).past) (left_for c.put.new.client (g.L.Link.seen c.put.new.link).past) (g.L.Link.seen c.args.link.now).disturbances (g.L.Link.seen c.put.new.link).disturbances)
     c.in_ok-question.ensures.turn (c.in_ok-put.ensures.losing asked.0)

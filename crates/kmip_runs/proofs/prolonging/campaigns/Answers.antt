@@ -11,27 +11,28 @@ use Rattle.kmip_runs.proofs.prolonging.campaigns.Goals as goal
 
 pub returns : goal.returns
 returns g c =
-    let past = g.L.Link.past in
     let r = c.laws_below.ensures.runs in
     let plans = c.args.plans.now in
     let keys = last_plan plans in
     let all = c.run_plans.ensures.ran in
     let end = c.run_plans.new.end in
-    let old = past c.args.link.now in
-    let new = past c.run_plans.new.link in
+    let old = (g.L.Link.seen c.args.link.now).past in
+    let new = (g.L.Link.seen c.run_plans.new.link).past in
     record {
-      safe = λ begun.
-          let noted = (all.good begun).noted in
-          r.safe keys new (reported keys end.runs.items end.saved.items) (all.good begun).good.sound
-          (All-append (IsReached keys new) (flat_map (λ ended. reported_by keys ended.counts.items) end.runs.items)
-          (flat_map (λ progress. reported_by keys (map (λ known. known.done) progress)) end.saved.items) noted.ends_reached noted.saved_reached);
-      machine = λ begun.
-          let went = (all.good begun).went in
-          (λ opening. went.mirrored (r.opening keys old opening), went.mirrored);
-      no_conflict = λ begun. (all.good begun).noted.no_conflict;
-      sound = λ begun. (all.good begun).good;
-      true_saved = λ begun. (all.good begun).noted.true_saved;
-      goes = λ begun. (all.good begun).went;
+      well = λ begun. record {
+        safe =
+            let noted = (all.good begun).noted in
+            r.safe keys new (reported keys end.runs.items end.saved.items) (all.good begun).good.sound
+            (All-append (IsReached keys new) (flat_map (λ ended. reported_by keys ended.counts.items) end.runs.items)
+            (flat_map (λ progress. reported_by keys (map (λ known. known.done) progress)) end.saved.items) noted.ends_reached noted.saved_reached);
+        machine =
+            let went = (all.good begun).went in
+            (λ opening. went.mirrored (r.opening keys old opening), went.mirrored);
+        no_conflict = (all.good begun).noted.no_conflict;
+        sound = (all.good begun).good;
+        true_saved = (all.good begun).noted.true_saved;
+        goes = (all.good begun).went;
+      };
       in_turn = in_turn_if plans (map (λ list. list.items) c.args.runs.now) end.runs.items end.saved.items _ _ _ _ old new
           (ok_of c.run_plans.result c.err-fault.result c.err-fault.ensures.value) (of_ok c.run_plans.result c.err-fault.result c.err-fault.ensures.value) all.in_turn;
       ended = λ honest.

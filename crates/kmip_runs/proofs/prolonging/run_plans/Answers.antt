@@ -23,12 +23,12 @@ loop-place-init g c =
     let first_plan_is = first_is plans c.index-plans-0.result first in
     record {
       turning =
-          turning_none g.L.Link.past g.L.Link.honest g.L.Link.calm plans (map (λ list. list.items) c.args.runs.now) c.laws_below.ensures.runs c.laws_below.ensures.plans
-          c.args.link.now c.args.end.now (last_plan plans) c.new-carried.result.items c.requires.no_end c.requires.none_saved c.new-carried.ensures.items c.requires.prolong
+          turning_none plans (map (λ list. list.items) c.args.runs.now) c.laws_below.ensures.runs c.laws_below.ensures.plans
+          (g.L.Link.seen c.args.link.now) c.args.end.now (last_plan plans) c.new-carried.result.items c.requires.no_end c.requires.none_saved c.new-carried.ensures.items c.requires.prolong
           (subst (λ ks. IsLawful ks) (sym (last_is plans (length plans - 1) c.index-plans-plans.result (omega (arith, c.requires.some)) most)) c.keys-2.ensures.lawful)
           (subst (λ ks. IsLawful ks) (sym first_plan_is) c.keys.ensures.lawful) (subst (λ ks. slice_get plans 0 ≡ Some ks) (sym first_plan_is) first);
       ended = λ honest. join_none [] c.args.end.now.runs.items ⊤ _ _ _ _ c.requires.no_end refl (λ is. refl);
-      followed = c.calm_laws.ensures.itself c.args.link.now;
+      followed = g.met.L.Link.itself c.args.link.now;
     }
 
 pub run_part-requires-clause-carried : goal.run_part-requires-clause-carried
@@ -50,9 +50,6 @@ run_part-requires-clause-prolongs g c =
 
 pub returns-in_err-carried-clause-ran : goal.returns-in_err-carried-clause-ran
 returns-in_err-carried-clause-ran g c =
-    let past = g.L.Link.past in
-    let honest = g.L.Link.honest in
-    let calm = g.L.Link.calm in
     let plans = c.args.plans.now in
     let runs = map (λ list. list.items) c.args.runs.now in
     let place = c.loop-place.place in
@@ -69,28 +66,25 @@ returns-in_err-carried-clause-ran g c =
     let next_is = found ∙ ap (λ n. slice_get plans n) further in
     let r = c.laws_below.ensures.runs in
     let l = c.laws_below.ensures.plans in
-    let start = c.args.link.now in
-    let now = c.run_part.new.link in
+    let start = g.L.Link.seen c.args.link.now in
+    let now = g.L.Link.seen c.run_part.new.link in
     let keys = c.index-plans-place.result in
     let before = c.loop-place.invariant.turning in
     elim c.in_err-carried.ensures.broken [
       | inl left ↦
-          plans_left past honest calm plans runs r l c.requires.prolong lawful c.calm_laws.ensures.honest c.calm_laws.ensures.fewer start now place keys c.loop-place.end
+          plans_left plans runs r l c.requires.prolong lawful start now place keys c.loop-place.end
           c.run_part.new.end c.loop-place.carried.items _ none at
-          (subst (λ link. Turning past honest calm plans runs start link place c.loop-place.end c.loop-place.carried.items) (sym left.1) before) left.0
+          (subst (λ link. Turning plans runs start (g.L.Link.seen link) place c.loop-place.end c.loop-place.carried.items) (sym left.1) before) left.0
       | inr broken ↦
-          let is = subst (λ saved. HasRunBroken past honest calm keys (option_map (λ next. next.now) c.get-next.result) saved c.as_slice-list.result.now c.loop-place.link now
+          let is = subst (λ saved. HasRunBroken keys (option_map (λ next. next.now) c.get-next.result) saved c.as_slice-list.result.now (g.L.Link.seen c.loop-place.link) now
           c.loop-place.end c.run_part.new.end) c.as_slice.ensures.value broken in
-          run_broken past honest calm plans runs r l c.requires.prolong lawful c.calm_laws.ensures.honest c.calm_laws.ensures.fewer start c.loop-place.link now place keys
+          run_broken plans runs r l c.requires.prolong lawful start (g.L.Link.seen c.loop-place.link) now place keys
           (option_map (λ next. next.now) c.get-next.result) c.as_slice-list.result.now c.loop-place.end c.run_part.new.end c.loop-place.carried.items _ none
           c.keys-in-loop-place.ensures.lawful at so next_is before is
     ]
 
 pub loop-place-preserved : goal.loop-place-preserved
 loop-place-preserved g c =
-    let past = g.L.Link.past in
-    let honest = g.L.Link.honest in
-    let calm = g.L.Link.calm in
     let plans = c.args.plans.now in
     let runs = map (λ list. list.items) c.args.runs.now in
     let place = c.loop-place.place in
@@ -106,19 +100,18 @@ loop-place-preserved g c =
     let among = c.laws_below.ensures.plans.names (last_plan plans) c.index-plans-place.result lawful (last_prolongs c.laws_below.ensures.plans plans place c.index-plans-place.result c.requires.prolong at) in
     record {
       turning =
-          subst (λ n. Turning past honest calm plans runs c.args.link.now c.run_part.new.link n c.run_part.new.end c.in_ok-carried.carried.items) (sym further)
-          (turning_more past honest calm plans runs c.laws_below.ensures.runs c.laws_below.ensures.plans c.requires.prolong lawful c.calm_laws.ensures.honest
-          c.calm_laws.ensures.fewer c.args.link.now c.loop-place.link c.run_part.new.link place c.index-plans-place.result _ c.as_slice-list.result.now c.loop-place.end
+          subst (λ n. Turning plans runs (g.L.Link.seen c.args.link.now) (g.L.Link.seen c.run_part.new.link) n c.run_part.new.end c.in_ok-carried.carried.items) (sym further)
+          (turning_more plans runs c.laws_below.ensures.runs c.laws_below.ensures.plans c.requires.prolong lawful (g.L.Link.seen c.args.link.now) (g.L.Link.seen c.loop-place.link) (g.L.Link.seen c.run_part.new.link) place c.index-plans-place.result _ c.as_slice-list.result.now c.loop-place.end
           c.run_part.new.end c.loop-place.carried.items c.in_ok-carried.carried.items c.keys-in-loop-place.ensures.lawful at so
           (found ∙ ap (λ n. slice_get plans n) further) c.laws_below.ensures.plans.longer c.loop-place.invariant.turning
-          (subst (λ saved. HasRunWhole past honest calm c.index-plans-place.result (option_map (λ next. next.now) c.get-next.result) saved c.as_slice-list.result.now
-          c.loop-place.link c.run_part.new.link c.loop-place.end c.run_part.new.end c.in_ok-carried.carried.items) c.as_slice.ensures.value c.in_ok-carried.ensures.ran));
+          (subst (λ saved. HasRunWhole c.index-plans-place.result (option_map (λ next. next.now) c.get-next.result) saved c.as_slice-list.result.now
+          (g.L.Link.seen c.loop-place.link) (g.L.Link.seen c.run_part.new.link) c.loop-place.end c.run_part.new.end c.in_ok-carried.carried.items) c.as_slice.ensures.value c.in_ok-carried.ensures.ran));
       ended = λ far.
-          let near = (c.calm_laws.ensures.fewer c.loop-place.link (is_planned (last_plan plans)) (is_planned c.index-plans-place.result) among).0
+          let near = ((g.L.Link.seen c.loop-place.link).fewer (is_planned (last_plan plans)) (is_planned c.index-plans-place.result) among).0
           (c.loop-place.invariant.turning.honest_still (is_planned (last_plan plans)) far) in
           join_then [] c.loop-place.end.runs.items c.run_part.new.end.runs.items ⊤ ⊤ _ _ _ _ _ _ tt (c.loop-place.invariant.ended far)
           (join_if c.loop-place.end.runs.items c.run_part.new.end.runs.items _ ⊤ _ _ _ _ (λ is. search rules) (c.run_part.ensures.ended near));
-      followed = c.calm_laws.ensures.twice c.args.link.now c.loop-place.link c.run_part.new.link c.loop-place.invariant.followed c.in_ok-carried.ensures.followed;
+      followed = g.met.L.Link.twice c.args.link.now c.loop-place.link c.run_part.new.link c.loop-place.invariant.followed c.in_ok-carried.ensures.followed;
     }
 
 pub returns-clause-ran : goal.returns-clause-ran
@@ -128,8 +121,7 @@ returns-clause-ran g c =
     let most = slice_get_read plans (length plans) (length plans - 1) c.index-plans-plans.result refl (omega (arith, c.requires.some)) c.index-plans-plans.is in
     let lawful = subst (λ ks. IsLawful ks) (sym (last_is plans (length plans - 1) c.index-plans-plans.result (omega (arith, c.requires.some)) most)) c.keys-2.ensures.lawful in
     let all : c.loop-place.place ≡ length plans = omega (arith, c.loop-place-test.false, c.loop-place.auto.place-end) in
-    plans_all g.L.Link.past g.L.Link.honest g.L.Link.calm plans runs c.laws_below.ensures.runs c.laws_below.ensures.plans c.requires.prolong lawful c.calm_laws.ensures.honest
-    c.calm_laws.ensures.fewer c.args.link.now c.loop-place.link c.loop-place.place c.loop-place.end c.loop-place.carried.items _ (search rules) all
+    plans_all plans runs c.laws_below.ensures.runs c.laws_below.ensures.plans c.requires.prolong lawful (g.L.Link.seen c.args.link.now) (g.L.Link.seen c.loop-place.link) c.loop-place.place c.loop-place.end c.loop-place.carried.items _ (search rules) all
     (length-map c.args.runs.now (λ list. list.items) ∙ c.requires.as_many) c.loop-place.invariant.turning
 
 pub returns-in_err-carried-clause-ended : goal.returns-in_err-carried-clause-ended
@@ -143,7 +135,7 @@ returns-in_err-carried-clause-ended g c = λ far.
     let most = slice_get_read plans (length plans) (length plans - 1) c.index-plans-plans.result refl (omega (arith, c.requires.some)) c.index-plans-plans.is in
     let lawful = subst (λ ks. IsLawful ks) (sym (last_is plans (length plans - 1) c.index-plans-plans.result (omega (arith, c.requires.some)) most)) c.keys-2.ensures.lawful in
     let among = l.names (last_plan plans) keys lawful (last_prolongs l plans place keys c.requires.prolong at) in
-    let near = (c.calm_laws.ensures.fewer c.loop-place.link (is_planned (last_plan plans)) (is_planned keys) among).0
+    let near = ((g.L.Link.seen c.loop-place.link).fewer (is_planned (last_plan plans)) (is_planned keys) among).0
     (c.loop-place.invariant.turning.honest_still (is_planned (last_plan plans)) far) in
     join_then [] c.loop-place.end.runs.items c.run_part.new.end.runs.items ⊤ _ _ _ _ _ _ _ tt (c.loop-place.invariant.ended far)
     (join_if c.loop-place.end.runs.items c.run_part.new.end.runs.items _ _ _ _ _ _ (λ is. no_ok c.from_residual.result tt c.from_residual.ensures.0 is)

@@ -8,8 +8,8 @@ use Rattle.kmip_runs.proofs.prolonging.run_plans.Given as goal
 
 abbrev pub invariant-loop-place : goal.invariant-loop-place
 invariant-loop-place g l = record {
-  turning : Turning g.L.Link.past g.L.Link.honest g.L.Link.calm l.plans (map (λ list. list.items) l.runs) l.fn.link l.link l.place l.end l.carried.items;
-  ended : g.L.Link.honest l.fn.link (is_planned (last_plan l.plans))
-      → EndsJoin [] l.end.runs.items ⊤ (length (g.L.Link.past l.fn.link).sent) (length (g.L.Link.past l.link).sent) (g.L.Link.ended l.fn.link) (g.L.Link.ended l.link);
+  turning : Turning l.plans (map (λ list. list.items) l.runs) (g.L.Link.seen l.fn.link) (g.L.Link.seen l.link) l.place l.end l.carried.items;
+  ended : (g.L.Link.seen l.fn.link).honest (is_planned (last_plan l.plans))
+      → EndsJoin [] l.end.runs.items ⊤ (length (g.L.Link.seen l.fn.link).past.sent) (length (g.L.Link.seen l.link).past.sent) (g.L.Link.seen l.fn.link).ended (g.L.Link.seen l.link).ended;
   followed : g.L.Link.follows l.fn.link l.link;
 }

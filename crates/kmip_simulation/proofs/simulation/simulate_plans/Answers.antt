@@ -6,11 +6,11 @@ use Rattle.std.specs.Prelude.{⊤, None}
 use Rattle.kmip_protocol.specs.Sound.{Opening}
 use Rattle.kmip_scripted.specs.Runs.{lists_of}
 use Rattle.kmip_scripted.specs.Following.{Follows}
-use Rattle.kmip_scripted.specs.Scenes.{Scene, past_in}
+use Rattle.kmip_scripted.specs.Scenes.{Scene, past_in, seen_in}
 use Rattle.kmip_runs.specs.Campaign.{MayBatch}
 use Rattle.kmip_runs.specs.declared.run.Run.{Run}
 use Rattle.kmip_runs.specs.Campaigns.{AreInTurn, CalmStart, GoodStart, first_plan, last_plan}
-use Rattle.kmip_simulation.specs.Simulating.{HasNoWord, in_batches}
+use Rattle.kmip_simulation.specs.Simulating.{in_batches}
 use Rattle.kmip_runs.specs.Ending.{AreEnded}
 use Rattle.kmip_simulation.proofs.PlansLemmas.{second_is}
 use Rattle.kmip_simulation.proofs.simulation.simulate_plans.Goals as goal
@@ -24,7 +24,7 @@ returns-clause-simulated c =
     let end = c.campaigns-end.result in
     let after = c.campaigns-end.new.link in
     let opening : (keys : _) → Opening keys (past_in link) = c.new_link-link.ensures.opening in
-    let good : GoodStart past_in (λ link names. ⊤) plans link = record {
+    let good : GoodStart plans (seen_in link) = record {
       honest_for = tt;
       sound = c.nothing_done_is_sound.ensures (first_plan plans) (past_in link) (opening (first_plan plans));
       none_further = λ key planned none. (opening (last_plan plans)).no_object key planned;
@@ -37,17 +37,17 @@ returns-clause-simulated c =
     ∙ ap (λ ls. map (in_batches batch) (map (λ list. list.items) ls)) c.as_slice.ensures.value
     ∙ ap (map (in_batches batch)) (c.in_ok-lists.ensures.lists ∙ ap (λ keys. lists_of keys words) second) in
     record {
-      safe = c.campaigns-end.ensures.safe good;
-      machine = (c.campaigns-end.ensures.machine good).0 (opening (last_plan plans));
-      sound = (c.campaigns-end.ensures.sound good).sound;
-      no_conflict = c.campaigns-end.ensures.no_conflict good;
-      true_saved = c.campaigns-end.ensures.true_saved good;
+      safe = (c.campaigns-end.ensures.well good).safe;
+      machine = (c.campaigns-end.ensures.well good).machine.0 (opening (last_plan plans));
+      sound = (c.campaigns-end.ensures.well good).sound.sound;
+      no_conflict = (c.campaigns-end.ensures.well good).no_conflict;
+      true_saved = (c.campaigns-end.ensures.well good).true_saved;
       opening = λ keys. subst (λ s. Opening keys (past_in s)) first (opening keys);
       in_turn =
           subst
-          (λ s. AreInTurn plans lists end.runs.items end.saved.items ⊤ (CalmStart past_in HasNoWord plans s) (end.fault ≡ None) (past_in s) (past_in after)) first
+          (λ s. AreInTurn plans lists end.runs.items end.saved.items ⊤ (CalmStart plans (seen_in s)) (end.fault ≡ None) (past_in s) (past_in after)) first
           (subst
-          (λ rs. AreInTurn plans rs end.runs.items end.saved.items ⊤ (CalmStart past_in HasNoWord plans link) (end.fault ≡ None) (past_in link) (past_in after)) runs
+          (λ rs. AreInTurn plans rs end.runs.items end.saved.items ⊤ (CalmStart plans (seen_in link)) (end.fault ≡ None) (past_in link) (past_in after)) runs
           c.campaigns-end.ensures.in_turn);
       ended = subst (λ (s : Scene). AreEnded end.runs.items (length s.sent) s.ended after.ended) first (c.campaigns-end.ensures.ended tt);
       followed = λ is. subst (λ s. Follows s after) first (c.campaigns-end.ensures.followed is);
