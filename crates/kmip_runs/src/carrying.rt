@@ -71,7 +71,9 @@ pub fn carry_out<L: Link, K: Keeper, P: Patience>(
 {
     laws_below();
     let _plan = client.plan();
-    exchange_to_the_end(alloc, client, link, keeper, patience, limit)
+    let (carried, made) = exchange_in_turn(alloc, client, link, keeper, patience, limit);
+    let closed = close_run(alloc, link);
+    (after_close(carried, closed), made)
 }
 
 /// The laws of the crates below.
@@ -90,49 +92,6 @@ fn laws_below()
     who_needs_nothing_is_finished();
     left_is_bounded();
     late_arrivals_add_nothing();
-}
-
-/// Makes exchanges and saves what is known after each, and ends the run over the link.
-///
-/// # Errors
-/// Why the text of the last exchange was not saved.
-fn exchange_to_the_end<L: Link, K: Keeper, P: Patience>(
-    alloc: Global,
-    client: &mut Client<'_>,
-    link: &mut L,
-    keeper: &mut K,
-    patience: &mut P,
-    limit: usize,
-) -> (Result<Stop, SaveFault>, usize)
-    ensures carried { Carried client.old client.new
-        (L.seen link.old) (L.seen link.new) (K.kept keeper.old) (K.kept keeper.new) result.0
-        result.1 }
-    ensures counted { (K.kept keeper.old).refusals ≤ (K.kept keeper.new).refusals }
-    ensures output { result.0 ≡ Err SaveFault.Output
-        → HasRisen (K.kept keeper.old).refusals (K.kept keeper.new).refusals }
-    ensures stands { IfOk result.0 (λ stop. Stands stop client.new.keys client.new.knowns) }
-    ensures limit { result.0 ≡ Ok Stop.Limit
-        → (result.1 ≡ limit) ⊎ IsTrue (P.has_given_up patience.new) }
-    ensures given_up { P.has_given_up patience.old ≡ false
-        → IsTrue (P.has_given_up patience.new) → IsLeft result.0 × (result.1 < limit) }
-    ensures within { result.1 ≤ limit }
-    ensures losing { IsGood client.old (L.seen link.old) → IsInMemory result.0
-        → ArePaid result.1 (left_for client.old (L.seen link.old).past)
-        (left_for client.new (L.seen link.new).past) (L.seen link.old).disturbances
-        (L.seen link.new).disturbances }
-    ensures ended { (L.seen link.old).honest (is_planned client.old.keys) → IsWhole result.0
-        → EndedAt (length (L.seen link.old).past.sent + result.1) (L.seen link.old).ended
-        (L.seen link.new).ended }
-    ensures once { (L.seen link.old).honest (is_planned client.old.keys)
-        → EndedAt (length (L.seen link.new).past.sent) (L.seen link.old).ended
-        (L.seen link.new).ended
-        ⊎ ((L.seen link.new).ended ≡ (L.seen link.old).ended) }
-{
-    laws_below();
-    let _plan = client.plan();
-    let (carried, made) = exchange_in_turn(alloc, client, link, keeper, patience, limit);
-    let closed = close_run(alloc, link);
-    (after_close(carried, closed), made)
 }
 
 /// Makes exchanges and saves what is known after each, until no key is worked on any more, `limit`

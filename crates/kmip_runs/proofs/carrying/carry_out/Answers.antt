@@ -1,43 +1,81 @@
--- All of it, clause by clause.
-use Rattle.std.proofs.Common.{rules}
-use Rattle.kmip_runs.proofs.CarryLemmas.{good_end, settled_end, unless_given_up}
-use Rattle.kmip_runs.proofs.CarryLosingLemmas.{outlasted}
+-- All of it, clause by clause: what the exchanges promise, and what the end of the run leaves of it.
+use Rattle.std.proofs.Common.{subst, sym, rules}
+use Rattle.kmip_plan.specs.Plans.{IsLawful}
+use Rattle.kmip_protocol.specs.Past.{is_planned}
+use Rattle.kmip_runs.specs.Losing.{ArePaid, left_for}
+use Rattle.kmip_runs.specs.Saved.{IsInMemory}
+use Rattle.kmip_runs.proofs.CarryLemmas.{carried_closed, good_end, left_last, limit_last, memory_before, settled_end, stands_last, unless_given_up}
+use Rattle.kmip_runs.proofs.CarryEndingLemmas.{ended_once, ended_whole, one_of_both}
+use Rattle.kmip_runs.proofs.CarryLosingLemmas.{outlasted, paid_closed}
+use Rattle.kmip_runs.proofs.RefusalLemmas.{output_before}
 use Rattle.kmip_runs.proofs.carrying.carry_out.Goals as goal
 
 pub returns : goal.returns
-returns g c = record {
-  well = λ good. record {
-    good = search rules;
-    goes = search rules;
-    losing = search rules;
-    outlasts = λ patient whole enough.
-        let done = c.exchange_to_the_end in
-        outlasted c.laws_below.ensures c.args.client.now done.new.client (g.L.Link.seen c.args.link.now) (g.L.Link.seen done.new.link)
-        done.result.0 done.result.1 c.args.limit c.plan-plan.ensures.lawful good (done.ensures.carried.went.good good) (done.ensures.losing good) done.ensures.stands
-        (unless_given_up _ _ _ _ done.ensures.limit patient) whole enough;
-    no_conflict = (let done = c.exchange_to_the_end in good_end c.laws_below.ensures c.args.client.now done.new.client (g.L.Link.seen c.args.link.now) (g.L.Link.seen done.new.link) done.result.0 done.result.1 done.ensures.carried.went done.ensures.stands) good;
-  };
-  honestly = λ honest. record {
-    known = c.exchange_to_the_end.ensures.carried.went.known honest;
-    broken = c.exchange_to_the_end.ensures.carried.went.broken honest;
-    grown = c.exchange_to_the_end.ensures.carried.went.grown honest;
-    ended = c.exchange_to_the_end.ensures.ended honest;
-    once = c.exchange_to_the_end.ensures.once honest;
-  };
-  kept = search rules;
-  saved = search rules;
-  counted = search rules;
-  output = search rules;
-  stands = search rules;
-  limit = search rules;
-  given_up = search rules;
-  within = search rules;
-  calmly = λ settling. record {
-    calm = search rules;
-    settles = λ enough patient whole.
-        let done = c.exchange_to_the_end in
-        settled_end c.laws_below.ensures c.args.client.now done.new.client (g.L.Link.seen c.args.link.now) (g.L.Link.seen done.new.link) done.result.0
-        done.result.1 c.args.limit c.plan-plan.ensures.lawful done.ensures.carried.went done.ensures.stands
-        (unless_given_up _ _ _ _ done.ensures.limit patient) settling enough whole;
-  };
-}
+returns g c =
+    let laws = c.laws_below.ensures in
+    let lawful = c.plan-plan.ensures.lawful in
+    let done = c.exchange_in_turn-carried in
+    let close = c.close_run-closed in
+    let end = c.after_close.ensures in
+    let last = c.after_close.result in
+    let client = c.args.client.now in
+    let next = done.new.client in
+    let old = g.L.Link.seen c.args.link.now in
+    let mid = g.L.Link.seen done.new.link in
+    let new = g.L.Link.seen close.new.link in
+    let names = is_planned client.keys in
+    let kept = g.K.Keeper.kept in
+    let first = done.ensures.carried in
+    let limit = limit_last close.result done.result.0 last end.whole end.stop end.fault in
+    let stands = stands_last next close.result done.result.0 last end.whole end.stop end.fault done.ensures.stands in
+    let carried =
+    carried_closed laws client next old mid new (kept c.args.keeper.now) (kept done.new.keeper) done.result.0 last close.result done.result.1 lawful
+    (λ names honest. (close.ensures.honestly names honest).honest) close.ensures.calm end.whole end.stop end.fault first in
+    record {
+      well = λ good.
+          let paid : IsInMemory last → ArePaid done.result.1 (left_for client old.past) (left_for next new.past) old.disturbances new.disturbances =
+          λ memory.
+          paid_closed laws next mid new done.result.1 (left_for client old.past) old.disturbances
+          (subst IsLawful (sym first.went.keeps.keys_stay) lawful) (first.went.good good)
+          (λ names honest. (close.ensures.honestly names honest).honest) (λ names honest. (close.ensures.honestly names honest).undisturbed)
+          (done.ensures.losing good (memory_before close.result done.result.0 last end.whole end.stop end.fault memory)) in
+          record {
+            good = carried.went.good good;
+            goes = carried.went.goes good;
+            losing = paid;
+            outlasts = λ patient whole enough.
+                outlasted laws client next old new last done.result.1 c.args.limit lawful good (carried.went.good good) paid stands
+                (λ is. unless_given_up _ _ _ _ done.ensures.limit patient (limit is)) whole enough;
+            no_conflict = good_end laws client next old new last done.result.1 carried.went stands good;
+          };
+      honestly = λ honest.
+          let known = first.went.known honest in
+          let closed = close.ensures.honestly names known.0 in
+          record {
+            known = carried.went.known honest;
+            broken = carried.went.broken honest;
+            grown = carried.went.grown honest;
+            ended =
+                ended_whole client.keys client.batch old.past mid.past client.knowns next.knowns close.result done.result.0 last done.result.1
+                old.ended mid.ended new.ended end.whole end.stop end.fault known.1 (done.ensures.ended honest) closed.ended;
+            once =
+                ended_once mid.past new.past old.ended mid.ended new.ended (laws.requests names mid.past new.past closed.honest.1).sent
+                (done.ensures.ended honest) (one_of_both close.result closed.ended closed.unended);
+          };
+      kept = carried.went.keeps;
+      saved = carried.kept;
+      counted = search rules;
+      output = λ is. done.ensures.output (output_before close.result done.result.0 last end.whole end.stop end.fault is);
+      stands = stands;
+      limit = λ is. done.ensures.limit (limit is);
+      given_up = λ fresh gave.
+          let left = done.ensures.given_up fresh gave in
+          (left_last close.result done.result.0 last end.whole end.stop end.fault left.0, left.1);
+      within = search rules;
+      calmly = λ settling. record {
+        calm = carried.went.near settling;
+        settles = λ enough patient whole.
+            settled_end laws client next old new last done.result.1 c.args.limit lawful carried.went stands
+            (λ is. unless_given_up _ _ _ _ done.ensures.limit patient (limit is)) settling enough whole;
+      };
+    }
