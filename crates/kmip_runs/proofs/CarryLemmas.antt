@@ -5,7 +5,8 @@ use Rattle.kmip_objects.specs.Objects.{Object}
 use Rattle.kmip_plan.specs.Chains.{bound}
 use Rattle.kmip_plan.specs.Plans.{IsLawful}
 use Rattle.kmip_plan.specs.declared.key.Key.{Key}
-use Rattle.kmip_client.specs.Clients.{AreSettled, ClientState, SomeWorks}
+use Rattle.kmip_client.specs.Clients.{AreSettled, ClientState, SomeWorks, one_if}
+use Rattle.kmip_client.specs.Known.{facts}
 use Rattle.kmip_client.specs.Held.{Held}
 use Rattle.kmip_client.specs.Knowledge.{chain_length, clash_verdict, is_working, verdict_of}
 use Rattle.kmip_client.specs.declared.clash.Clash.{Clash}
@@ -17,12 +18,16 @@ use Rattle.kmip_protocol.specs.Seen.{Seen}
 use Rattle.kmip_client.specs.Saving.{progress}
 use Rattle.kmip_progress.specs.Texts.{progress_text}
 use Rattle.kmip_protocol.specs.Sound.{Sound}
-use Rattle.kmip_runs.specs.Driving.{AreFinished, AsksOne, Grown, IsGood, IsSettling, Keeps, Learnt, LearntUntil, Nearer, Stands, WentOn, need}
+use Rattle.kmip_runs.specs.Driving.{AreFinished, AsksOne, Grown, IsGood, IsSettling, IsUnheard, IsUnmade, Keeps, Learnt, LearntUntil, Nearer, Stands, WentOn, need}
 use Rattle.kmip_runs.specs.declared.stop.Stop.{Stop}
 use Rattle.kmip_runs.specs.declared.stop.Stop.TheVariants as stops
+use Rattle.kmip_runs.specs.Private.{IsBrokenOff, exchanges_made}
 use Rattle.kmip_runs.specs.PrivateCarried.{Carried, CarryingLaws, Went}
 use Rattle.kmip_runs.specs.Saved.{AreSaved, IsInMemory, AreUnsaved, IsLeft, IsWhole, Moment, moment}
 use Rattle.kmip_runs.specs.declared.save_fault.SaveFault.{SaveFault}
+use Rattle.kmip_runs.specs.declared.turn_fault.TurnFault.{TurnFault}
+use Rattle.kmip_runs.specs.declared.turn_fault.TurnFault.TheVariants.{Unmade, Unheard}
+use Rattle.kmip_runs.proofs.KnownLemmas.{learnt_nothing, learnt_still, stays_itself}
 use Rattle.kmip_runs.proofs.SavedLemmas.{saved_broken, saved_closed, saved_none, saved_not, saved_one, saved_then}
 use Rattle.kmip_runs.proofs.WentLemmas.{kept_itself, learnt_delivered, stop_is, went_closed, went_nowhere, went_then, went_unbegun}
 use Rattle.kmip_runs.specs.Drives.{Drives}
@@ -118,50 +123,80 @@ drove a b x y most driven follows drives = record {
   near = λ settling memory. (drives.calmly settling).calm memory;
 }
 
--- where it was not saved
-failed : (a b : ClientState) (x y : Seen) (stop : Stop) (fault : SaveFault) (n : ℕ) → stop ≢ stops.NoMemory → Went a b x y (Ok stop) n
-    → Went a b x y (Err fault) n
-failed a b x y stop fault n in_memory went = record {
-  good = went.good;
-  goes = went.goes;
-  known = λ holds. let learnt = went.known holds in (learnt.0, λ memory. learnt.1 (λ is. in_memory (stop_is stop stops.NoMemory is)));
-  broken = λ holds is. absurd cc;
-  grown = went.grown;
-  keeps = went.keeps;
-  near = λ settling whole. absurd whole;
+-- what a turn promises in which memory did not run out, whether it asked or not
+pub took : (a b : ClientState) (x y : Seen) (result : Result Stop SaveFault) (asked : Bool) → IsInMemory result → (IsGood a x → IsGood b y)
+    → (IsGood a x → WentOn a.keys x.past y.past)
+    → (x.honest (is_planned a.keys) → y.honest (is_planned a.keys) × Learnt a.keys a.batch x.past y.past a.knowns b.knowns (one_if asked))
+    → (x.honest (is_planned a.keys) → Grown x.past y.past) → Keeps a b → (IsSettling a x → Nearer a b x y (one_if asked))
+    → Went a b x y result (one_if asked)
+took a b x y result asked memory good goes known grown keeps near = record {
+  good = good;
+  goes = goes;
+  known = λ holds. let learnt = known holds in (learnt.0, λ in_memory. learnt.1);
+  broken = λ holds is. absurd (memory is);
+  grown = grown;
+  keeps = keeps;
+  near = λ settling whole. near settling;
+}
+
+one_at_most : (fault : TurnFault) → exchanges_made fault ≤ 1
+one_at_most Unmade = omega arith
+one_at_most Unheard = omega arith
+
+broken_first : (keys : List Key) (most : ℕ) (old new : Past) (fault : TurnFault) → IsBrokenOff keys most old new fault
+    → ((exchanges_made fault ≡ 0) × IsUnmade keys most old new) ⊎ ((exchanges_made fault ≡ 0 + 1) × IsUnheard keys most old new)
+broken_first keys most old new Unmade off = inl (refl, off)
+broken_first keys most old new Unheard off = inr (refl, off)
+
+-- and one in which it did
+pub broke : (a b : ClientState) (x y : Seen) (fault : TurnFault) → (IsGood a x → IsGood b y) → (IsGood a x → WentOn a.keys x.past y.past)
+    → (x.honest (is_planned a.keys) → y.honest (is_planned a.keys))
+    → (x.honest (is_planned a.keys) → (facts b.knowns ≡ facts a.knowns) × IsBrokenOff a.keys a.batch x.past y.past fault)
+    → (x.honest (is_planned a.keys) → Grown x.past y.past) → Keeps a b → Went a b x y (Ok stops.NoMemory) (exchanges_made fault)
+broke a b x y fault good goes honest broken grown keeps = record {
+  good = good;
+  goes = goes;
+  known = λ holds. (honest holds, λ in_memory. absurd (in_memory refl));
+  broken = λ holds is.
+      let off = broken holds in
+      record {
+        between = x.past;
+        heard = 0;
+        learnt = learnt_still a.keys a.batch x.past x.past x.past a.knowns a.knowns b.knowns 0
+            (learnt_nothing a.keys a.batch x.past a.knowns) (stays_itself x.past) off.0;
+        broken = broken_first a.keys a.batch x.past y.past fault off.1;
+      };
+  grown = grown;
+  keeps = keeps;
+  near = λ settling whole. absurd (whole refl);
+}
+
+-- where memory ran out
+pub carried_broken : (a b : ClientState) (x y : Seen) (i : Kept) (fault : TurnFault) (n : ℕ) → n ≡ exchanges_made fault
+    → Went a b x y (Ok stops.NoMemory) (exchanges_made fault) → Carried a b x y i i (Ok stops.NoMemory) n
+carried_broken a b x y i fault n made went = record {
+  went = subst (λ n. Went a b x y (Ok stops.NoMemory) n) (sym made) went;
+  kept = λ keeping. (
+    keeping,
+    saved_broken a.keys a.batch (IsGood a x) (x.honest (is_planned a.keys)) (moment a x) (moment b y) n i.saved went.keeps.kept
+        (subst (λ n. n ≤ 1) (sym made) (one_at_most fault)),
+  );
 }
 
 learns : (a b : ClientState) (x y : Seen) (stop : Stop) (n : ℕ) → stop ≢ stops.NoMemory → Went a b x y (Ok stop) n → x.honest (is_planned a.keys)
     → Learnt a.keys a.batch x.past y.past a.knowns b.knowns n
 learns a b x y stop n in_memory went holds = (went.known holds).1 (λ is. in_memory (stop_is stop stops.NoMemory is))
 
--- where memory ran out
-pub carried_without : (a b : ClientState) (x y : Seen) (i : Kept) (driven : Stop × ℕ) → driven.0 ≡ stops.NoMemory → driven.1 ≤ 1
-    → Went a b x y (Ok driven.0) driven.1 → Carried a b x y i i (Ok driven.0) driven.1
-carried_without a b x y i driven memory few went = record {
+-- where no exchange was made
+pub carried_none : (a b : ClientState) (x y : Seen) (i : Kept) (stop : Stop) → Went a b x y (Ok stop) 0 → Carried a b x y i i (Ok stop) 0
+carried_none a b x y i stop went = record {
   went = went;
   kept = λ keeping. (
     keeping,
-    subst
-        (λ stop. AreSaved a.keys a.batch (IsGood a x) (x.honest (is_planned a.keys)) (moment a x) (moment b y) (Ok stop) driven.1 i.saved i.saved)
-        (sym memory)
-        (saved_broken a.keys a.batch (IsGood a x) (x.honest (is_planned a.keys)) (moment a x) (moment b y) driven.1 i.saved went.keeps.kept few),
+    saved_none a.keys a.batch (IsGood a x) (x.honest (is_planned a.keys)) (moment a x) (moment b y) stop i.saved went.keeps.kept
+        (λ holds memory. learns a b x y stop 0 memory went holds),
   );
 }
-
--- where no exchange was made
-pub carried_none : (a b : ClientState) (x y : Seen) (i : Kept) (driven : Stop × ℕ) → driven.1 ≡ 0 → Went a b x y (Ok driven.0) driven.1
-    → Carried a b x y i i (Ok driven.0) 0
-carried_none a b x y i driven none went =
-    let went_so = subst (λ n. Went a b x y (Ok driven.0) n) none went in
-    record {
-      went = went_so;
-      kept = λ keeping. (
-        keeping,
-        saved_none a.keys a.batch (IsGood a x) (x.honest (is_planned a.keys)) (moment a x) (moment b y) driven.0 i.saved went.keeps.kept
-            (λ holds memory. learns a b x y driven.0 0 memory went_so holds),
-      );
-    }
 
 -- where there was no memory to begin with
 pub carried_unbegun : CarryingLaws → (c : ClientState) (x : Seen) (i : Kept) → Carried c c x x i i (Ok stops.NoMemory) 0
@@ -173,37 +208,34 @@ carried_unbegun l c x i = record {
   );
 }
 
-pub carried_one : (a b : ClientState) (x y : Seen) (i j : Kept) (driven : Stop × ℕ) → driven.1 ≡ 1 → driven.0 ≢ stops.NoMemory
-    → (i.keeps → j.keeps × (j.saved ≡ i.saved ++ progress_text b.keys (progress b) ∷ [])) → Went a b x y (Ok driven.0) driven.1
-    → Carried a b x y i j (Ok driven.0) 1
-carried_one a b x y i j driven one memory saves went =
-    let went_so = subst (λ n. Went a b x y (Ok driven.0) n) one went in
-    record {
-      went = went_so;
-      kept = λ keeping.
-          let so = saves keeping in (
-            so.0,
-            saved_one a.keys a.batch (IsGood a x) (x.honest (is_planned a.keys)) (moment a x) (moment b y) driven.0 i.saved j.saved went.keeps.kept
-                (learns a b x y driven.0 1 memory went_so)
-                (subst (λ ks. j.saved ≡ i.saved ++ progress_text ks (progress b) ∷ []) went.keeps.keys_stay so.1)
-                (λ good. subst (λ ks. Held y.past.objects ks b.knowns) went.keeps.keys_stay (went.good good).held),
-          );
-    }
+-- where it was saved
+pub carried_one : (a b : ClientState) (x y : Seen) (i j : Kept) (stop : Stop) → stop ≢ stops.NoMemory
+    → (i.keeps → j.keeps × (j.saved ≡ i.saved ++ progress_text b.keys (progress b) ∷ [])) → Went a b x y (Ok stop) 1
+    → Carried a b x y i j (Ok stop) 1
+carried_one a b x y i j stop memory saves went = record {
+  went = went;
+  kept = λ keeping.
+      let so = saves keeping in (
+        so.0,
+        saved_one a.keys a.batch (IsGood a x) (x.honest (is_planned a.keys)) (moment a x) (moment b y) stop i.saved j.saved went.keeps.kept
+            (learns a b x y stop 1 memory went)
+            (subst (λ ks. j.saved ≡ i.saved ++ progress_text ks (progress b) ∷ []) went.keeps.keys_stay so.1)
+            (λ good. subst (λ ks. Held y.past.objects ks b.knowns) went.keeps.keys_stay (went.good good).held),
+      );
+}
 
-pub carried_not : (a b : ClientState) (x y : Seen) (i j : Kept) (driven : Stop × ℕ) (fault : SaveFault) → driven.1 ≡ 1 → driven.0 ≢ stops.NoMemory
-    → (i.keeps → j.keeps × (j.saved ≡ i.saved)) → Went a b x y (Ok driven.0) driven.1
-    → Carried a b x y i j (Err fault) 1
-carried_not a b x y i j driven fault one memory saves went =
-    let went_so = subst (λ n. Went a b x y (Ok driven.0) n) one went in
-    record {
-      went = failed a b x y driven.0 fault 1 memory went_so;
-      kept = λ keeping.
-          let so = saves keeping in (
-            so.0,
-            saved_not a.keys a.batch (IsGood a x) (x.honest (is_planned a.keys)) (moment a x) (moment b y) fault i.saved j.saved went.keeps.kept
-                (learns a b x y driven.0 1 memory went_so) so.1,
-          );
-    }
+-- where it was not saved
+pub carried_not : (a b : ClientState) (x y : Seen) (i j : Kept) (fault : SaveFault) → (i.keeps → j.keeps × (j.saved ≡ i.saved))
+    → Went a b x y (Err fault) 1 → Carried a b x y i j (Err fault) 1
+carried_not a b x y i j fault saves went = record {
+  went = went;
+  kept = λ keeping.
+      let so = saves keeping in (
+        so.0,
+        saved_not a.keys a.batch (IsGood a x) (x.honest (is_planned a.keys)) (moment a x) (moment b y) fault i.saved j.saved went.keeps.kept
+            (λ holds. (went.known holds).1 (λ is. absurd cc)) so.1,
+      );
+}
 
 -- ---- several exchanges
 

@@ -13,6 +13,7 @@ ghost use Rattle.kmip_runs.specs.Refusals.{HasRisen};
 ghost use Rattle.kmip_runs.specs.Saved.{AreSaved, IsInMemory, IsLeft, IsWhole, moment};
 ghost use Rattle.kmip_runs.specs.CarriesOut.{CarriesOut};
 
+use crate::driving::{stop_of, turn};
 use crate::keeper::Keeper;
 use crate::patience::Patience;
 use crate::save_fault::SaveFault;
@@ -20,7 +21,8 @@ use crate::sights::Sights;
 use crate::{Stop, close_run, drive};
 use kmip_client::Client;
 use kmip_client::laws::{
-    onward_is_an_order, truth_is_for_good, what_is_known_was_heard, what_is_true_is_no_conflict,
+    onward_is_an_order, the_settled_are_not_worked_on, truth_is_for_good, what_is_known_was_heard,
+    what_is_true_is_no_conflict,
 };
 use kmip_protocol::Link;
 use kmip_protocol::laws::{
@@ -175,16 +177,15 @@ fn exchange_once<L: Link, K: Keeper>(
     ensures ended { (names : Names) → (L.seen link.old).honest names
         → (L.seen link.new).ended ≡ (L.seen link.old).ended }
 {
-    laws_below();
-    let (stop, exchanges) = drive(alloc, client, link, 1);
-    if stop.is_no_memory() {
-        return (Ok(stop), exchanges);
-    }
-    if exchanges == 0 {
-        return (Ok(stop), 0);
+    // proof: a key that is settled is not worked on
+    the_settled_are_not_worked_on();
+    match turn(alloc, client, link) {
+        Ok(true) => {}
+        Ok(false) => return (Ok(stop_of(client)), 0),
+        Err(fault) => return (Ok(Stop::NoMemory), fault.exchanges()),
     }
     match save_progress(alloc, client, keeper) {
-        Ok(()) => (Ok(stop), 1),
+        Ok(()) => (Ok(stop_of(client)), 1),
         Err(fault) => (Err(fault), 1),
     }
 }

@@ -111,7 +111,11 @@ fn laws_below()
 /// # Errors
 /// Where there is no memory; the client is then as it was, or the keys that were asked about are
 /// looked at again.
-fn turn<L: Link>(alloc: Global, client: &mut Client<'_>, link: &mut L) -> Result<bool, TurnFault>
+pub(crate) fn turn<L: Link>(
+    alloc: Global,
+    client: &mut Client<'_>,
+    link: &mut L,
+) -> Result<bool, TurnFault>
     ensures good { IsGood client.old (L.seen link.old)
         → IsGood client.new (L.seen link.new) }
     ensures goes { IsGood client.old (L.seen link.old)
@@ -349,7 +353,7 @@ fn unless_no_memory(fault: HearFault) -> Result<(), TurnFault>
 }
 
 /// Why a run stops that makes no further exchange.
-fn stop_of(client: &Client<'_>) -> Stop
+pub(crate) fn stop_of(client: &Client<'_>) -> Stop
     ensures stands { Stands result client.now.keys client.now.knowns }
     ensures in_memory { result ≢ Stop.NoMemory }
 {

@@ -1,9 +1,10 @@
 -- Exchange by exchange.
-use Rattle.std.proofs.Common.{◌≡◌, ◌∙◌, Ok, ap, length, sym, refl, rules, arith}
+use Rattle.std.proofs.Common.{◌≡◌, ◌∙◌, Ok, ap, length, subst, sym, refl, rules, arith}
 use Rattle.kmip_protocol.specs.Past.{is_planned}
 use Rattle.kmip_runs.specs.Losing.{left_for}
 use Rattle.kmip_runs.specs.declared.stop.Stop.TheVariants as stops
 use Rattle.kmip_runs.proofs.CarryLemmas.{carried_none, carried_then, carried_unbegun, carrying_more, carrying_none, drove}
+use Rattle.kmip_runs.specs.PrivateCarried.{Went}
 use Rattle.kmip_runs.proofs.RefusalLemmas.{rises_from}
 use Rattle.kmip_runs.proofs.CarryLosingLemmas.{limit_in_memory, paid_none}
 use Rattle.kmip_runs.proofs.PatienceLemmas.{still_patient}
@@ -15,8 +16,9 @@ returns-then-limit-eq0-clause-carried g c =
     let e = c.drive-stop.ensures in
     let none : c.drive-stop.result.1 ≡ 0 = omega (arith, e.within) in
     carried_none c.args.client.now c.drive-stop.new.client (g.L.Link.seen c.args.link.now) (g.L.Link.seen c.drive-stop.new.link)
-    (g.K.Keeper.kept c.args.keeper.now) c.drive-stop.result none
-    (drove c.args.client.now c.drive-stop.new.client (g.L.Link.seen c.args.link.now) (g.L.Link.seen c.drive-stop.new.link) _ c.drive-stop.result _ e)
+    (g.K.Keeper.kept c.args.keeper.now) c.drive-stop.result.0
+    (subst (λ n. Went c.args.client.now c.drive-stop.new.client (g.L.Link.seen c.args.link.now) (g.L.Link.seen c.drive-stop.new.link) (Ok c.drive-stop.result.0) n) none
+    (drove c.args.client.now c.drive-stop.new.client (g.L.Link.seen c.args.link.now) (g.L.Link.seen c.drive-stop.new.link) _ c.drive-stop.result _ e))
 
 pub loop-made-init : goal.loop-made-init
 loop-made-init g c = record {

@@ -1,64 +1,59 @@
 -- One exchange, saved or not.
-use Rattle.std.proofs.Common.{◌≡◌, Ok, ap, rules, arith, refl}
+use Rattle.std.proofs.Common.{Ok, Err, subst, rules}
+use Rattle.kmip_client.specs.Clients.{one_if}
+use Rattle.kmip_runs.specs.PrivateCarried.{Went}
 use Rattle.kmip_runs.specs.declared.stop.Stop.TheVariants as stops
-use Rattle.kmip_runs.proofs.CarryLemmas.{carried_none, carried_not, carried_one, carried_without, drove}
+use Rattle.kmip_runs.proofs.CarryLemmas.{broke, carried_broken, carried_none, carried_not, carried_one, took}
+use Rattle.kmip_runs.proofs.WentLemmas.{stop_is}
 use Rattle.kmip_runs.proofs.carrying.exchange_once.Goals as goal
 
-pub returns-then-is_no_memory-clause-carried : goal.returns-then-is_no_memory-clause-carried
-returns-then-is_no_memory-clause-carried g c =
-    let e = c.drive-stop.ensures in
-    let memory : c.drive-stop.result.0 ≡ stops.NoMemory = search rules in
-    carried_without c.args.client.now c.drive-stop.new.client (g.L.Link.seen c.args.link.now) (g.L.Link.seen c.drive-stop.new.link)
-    (g.K.Keeper.kept c.args.keeper.now) c.drive-stop.result memory e.within
-    (drove c.args.client.now c.drive-stop.new.client (g.L.Link.seen c.args.link.now) (g.L.Link.seen c.drive-stop.new.link) _ c.drive-stop.result _ e)
-
-pub returns-then-exchanges-eq0-clause-carried : goal.returns-then-exchanges-eq0-clause-carried
-returns-then-exchanges-eq0-clause-carried g c =
-    let e = c.drive-stop.ensures in
-    let none : c.drive-stop.result.1 ≡ 0 = search rules in
-    carried_none c.args.client.now c.drive-stop.new.client (g.L.Link.seen c.args.link.now) (g.L.Link.seen c.drive-stop.new.link)
-    (g.K.Keeper.kept c.args.keeper.now) c.drive-stop.result none
-    (drove c.args.client.now c.drive-stop.new.client (g.L.Link.seen c.args.link.now) (g.L.Link.seen c.drive-stop.new.link) _ c.drive-stop.result _ e)
-
-pub returns-in-Ok-clause-carried : goal.returns-in-Ok-clause-carried
-returns-in-Ok-clause-carried g c =
-    let e = c.drive-stop.ensures in
-    let one : c.drive-stop.result.1 ≡ 1 = omega (arith, e.within, c.if-exchanges-eq0.false) in
-    carried_one c.args.client.now c.drive-stop.new.client (g.L.Link.seen c.args.link.now) (g.L.Link.seen c.drive-stop.new.link)
-    (g.K.Keeper.kept c.args.keeper.now) (g.K.Keeper.kept c.save_progress.new.keeper) c.drive-stop.result one (c.if-is_no_memory.ensures.not refl)
-    (λ keeping. let so = c.in-Ok.ensures.kept keeping in (so.0, so.1))
-    (drove c.args.client.now c.drive-stop.new.client (g.L.Link.seen c.args.link.now) (g.L.Link.seen c.drive-stop.new.link) _ c.drive-stop.result _ e)
+pub returns-in-Ok-false-clause-carried : goal.returns-in-Ok-false-clause-carried
+returns-in-Ok-false-clause-carried g c =
+    let e = c.in-Ok-false.ensures in
+    let client = c.args.client.now in
+    let next = c.turn.new.client in
+    let x = g.L.Link.seen c.args.link.now in
+    let y = g.L.Link.seen c.turn.new.link in
+    let stop = c.stop_of.result in
+    carried_none client next x y (g.K.Keeper.kept c.args.keeper.now) stop
+    (subst (λ asked. Went client next x y (Ok stop) (one_if asked)) c.in-Ok-false.field-0-test
+    (took client next x y (Ok stop) c.in-Ok-false.field-0 (λ is. c.stop_of.ensures.in_memory (stop_is stop stops.NoMemory is)) e.good e.goes e.known e.grown
+    e.kept e.calm))
 
 pub returns-in-Err-clause-carried : goal.returns-in-Err-clause-carried
 returns-in-Err-clause-carried g c =
-    let e = c.drive-stop.ensures in
-    let one : c.drive-stop.result.1 ≡ 1 = omega (arith, e.within, c.if-exchanges-eq0.false) in
-    carried_not c.args.client.now c.drive-stop.new.client (g.L.Link.seen c.args.link.now) (g.L.Link.seen c.drive-stop.new.link)
-    (g.K.Keeper.kept c.args.keeper.now) (g.K.Keeper.kept c.save_progress.new.keeper) c.drive-stop.result c.in-Err.fault one (c.if-is_no_memory.ensures.not refl)
-    (λ keeping. let so = c.in-Err.ensures.kept keeping in (so.0, so.2))
-    (drove c.args.client.now c.drive-stop.new.client (g.L.Link.seen c.args.link.now) (g.L.Link.seen c.drive-stop.new.link) _ c.drive-stop.result _ e)
+    let e = c.in-Err.ensures in
+    let client = c.args.client.now in
+    let next = c.turn.new.client in
+    let x = g.L.Link.seen c.args.link.now in
+    let y = g.L.Link.seen c.turn.new.link in
+    let fault = c.in-Err.fault in
+    carried_broken client next x y (g.K.Keeper.kept c.args.keeper.now) fault _ (search rules)
+    (broke client next x y fault e.good e.goes (λ holds. (e.known holds).0) e.broken e.grown e.kept)
 
-pub returns-then-is_no_memory-clause-losing : goal.returns-then-is_no_memory-clause-losing
-returns-then-is_no_memory-clause-losing g c = λ good memory.
-    let none : c.drive-stop.result.0 ≡ stops.NoMemory = search rules in
-    absurd (memory (ap Ok none))
+pub returns-in-Ok-clause-carried : goal.returns-in-Ok-clause-carried
+returns-in-Ok-clause-carried g c =
+    let e = c.in-Ok-true.ensures in
+    let client = c.args.client.now in
+    let next = c.turn.new.client in
+    let x = g.L.Link.seen c.args.link.now in
+    let y = g.L.Link.seen c.turn.new.link in
+    let stop = c.stop_of-in-Ok.result in
+    carried_one client next x y (g.K.Keeper.kept c.args.keeper.now) (g.K.Keeper.kept c.save_progress.new.keeper) stop c.stop_of-in-Ok.ensures.in_memory
+    (λ keeping. let so = c.in-Ok.ensures.kept keeping in (so.0, so.1))
+    (subst (λ asked. Went client next x y (Ok stop) (one_if asked)) c.in-Ok-true.field-0-test
+    (took client next x y (Ok stop) c.in-Ok-true.field-0 (λ is. c.stop_of-in-Ok.ensures.in_memory (stop_is stop stops.NoMemory is)) e.good e.goes e.known
+    e.grown e.kept e.calm))
 
-pub returns-then-exchanges-eq0-clause-losing : goal.returns-then-exchanges-eq0-clause-losing
-returns-then-exchanges-eq0-clause-losing g c = λ good memory.
-    let none : c.drive-stop.result.1 ≡ 0 = search rules in
-    let paid = (c.drive-stop.ensures.well good).losing (λ is. memory (ap Ok is)) in
-    omega (arith, none, paid)
-
-pub returns-in-Ok-clause-losing : goal.returns-in-Ok-clause-losing
-returns-in-Ok-clause-losing g c = λ good memory.
-    let e = c.drive-stop.ensures in
-    let one : c.drive-stop.result.1 ≡ 1 = omega (arith, e.within, c.if-exchanges-eq0.false) in
-    let paid = (e.well good).losing (λ is. memory (ap Ok is)) in
-    omega (arith, one, paid)
-
-pub returns-in-Err-clause-losing : goal.returns-in-Err-clause-losing
-returns-in-Err-clause-losing g c = λ good memory.
-    let e = c.drive-stop.ensures in
-    let one : c.drive-stop.result.1 ≡ 1 = omega (arith, e.within, c.if-exchanges-eq0.false) in
-    let paid = (e.well good).losing (c.if-is_no_memory.ensures.not refl) in
-    omega (arith, one, paid)
+pub returns-in-Err-save_progress-clause-carried : goal.returns-in-Err-save_progress-clause-carried
+returns-in-Err-save_progress-clause-carried g c =
+    let e = c.in-Ok-true.ensures in
+    let client = c.args.client.now in
+    let next = c.turn.new.client in
+    let x = g.L.Link.seen c.args.link.now in
+    let y = g.L.Link.seen c.turn.new.link in
+    let fault = c.in-Err-save_progress.fault in
+    carried_not client next x y (g.K.Keeper.kept c.args.keeper.now) (g.K.Keeper.kept c.save_progress.new.keeper) fault
+    (λ keeping. let so = c.in-Err-save_progress.ensures.kept keeping in (so.0, so.2))
+    (subst (λ asked. Went client next x y (Err fault) (one_if asked)) c.in-Ok-true.field-0-test
+    (took client next x y (Err fault) c.in-Ok-true.field-0 (λ is. absurd cc) e.good e.goes e.known e.grown e.kept e.calm))
