@@ -30,7 +30,6 @@ use Rattle.kmip_runs.specs.declared.turn_fault.TurnFault.TheVariants.{Unmade, Un
 use Rattle.kmip_runs.proofs.KnownLemmas.{learnt_nothing, learnt_still, stays_itself}
 use Rattle.kmip_runs.proofs.SavedLemmas.{saved_broken, saved_closed, saved_none, saved_not, saved_one, saved_then}
 use Rattle.kmip_runs.proofs.WentLemmas.{kept_itself, learnt_delivered, stop_is, went_closed, went_nowhere, went_then, went_unbegun}
-use Rattle.kmip_runs.specs.Drives.{Drives}
 use Rattle.kmip_runs.specs.Keeping.{Kept}
 
 -- ---- how the end of the run changes the answer
@@ -110,18 +109,6 @@ saved_from_start keys most good better holds then begun ended result n old new b
 }
 
 -- ---- one exchange
-
--- what driving promises of the exchanges that it makes
-pub drove : (a b : ClientState) (x y : Seen) (most : ℕ) (driven : Stop × ℕ) (follows : Type 0) → Drives x a most driven y b follows → Went a b x y (Ok driven.0) driven.1
-drove a b x y most driven follows drives = record {
-  good = λ good. (drives.well good).good;
-  goes = λ good. (drives.well good).goes;
-  known = λ holds. let learnt = (drives.honestly holds).known in (learnt.0, λ memory. learnt.1 (λ is. memory (ap Ok is)));
-  broken = λ holds is. (drives.honestly holds).broken (stop_is driven.0 stops.NoMemory is);
-  grown = λ holds. (drives.honestly holds).grown;
-  keeps = drives.kept;
-  near = λ settling memory. (drives.calmly settling).calm memory;
-}
 
 -- what a turn promises in which memory did not run out, whether it asked or not
 pub took : (a b : ClientState) (x y : Seen) (result : Result Stop SaveFault) (asked : Bool) → IsInMemory result → (IsGood a x → IsGood b y)
@@ -239,7 +226,7 @@ carried_not a b x y i j fault saves went = record {
 
 -- ---- several exchanges
 
-carried_itself : CarryingLaws → (c : ClientState) (x : Seen) (i : Kept) → Carried c c x x i i (Ok stops.Limit) 0
+pub carried_itself : CarryingLaws → (c : ClientState) (x : Seen) (i : Kept) → Carried c c x x i i (Ok stops.Limit) 0
 carried_itself l c x i =
     let memory : stops.Limit ≢ stops.NoMemory = λ is. absurd cc in
     let went = went_nowhere l c x (Ok stops.Limit) (λ is. absurd cc) in
@@ -278,23 +265,21 @@ carried_then l a b c x y z i j k result m n lawful first second =
           );
     }
 
--- so many were made, and after the last of them some key is worked on still
-pub record Carrying (a b : ClientState) (x y : Seen) (i j : Kept) (made : ℕ) : Type 0 where
-  pub carried : Carried a b x y i j (Ok stops.Limit) made
-  pub works : 0 < made → SomeWorks b.keys b.knowns
+-- and one more, after which some key is worked on still
+pub carried_more : CarryingLaws → (a b c : ClientState) (x y z : Seen) (i j k : Kept) (result : Result Stop SaveFault) (m n : ℕ) → IsLawful a.keys
+    → Carried a b x y i j (Ok stops.Limit) m → Carried b c y z j k result n → result ≡ Ok stops.Limit → n ≡ 1
+    → Carried a c x z i k (Ok stops.Limit) (m + 1)
+carried_more l a b c x y z i j k result m n lawful before step limit one =
+    subst (λ r. Carried a c x z i k r (m + 1)) limit
+    (subst (λ n. Carried a c x z i k result (m + n)) one (carried_then l a b c x y z i j k result m n lawful before step))
 
-pub carrying_none : CarryingLaws → (c : ClientState) (x : Seen) (i : Kept) → Carrying c c x x i i 0
-carrying_none l c x i = record { carried = carried_itself l c x i; works = λ positive. absurd (omega (arith, positive)) }
-
-pub carrying_more : CarryingLaws → (a b c : ClientState) (x y z : Seen) (i j k : Kept) (result : Result Stop SaveFault) (m n : ℕ) → IsLawful a.keys → Carrying a b x y i j m
-    → Carried b c y z j k result n → result ≡ Ok stops.Limit → n ≡ 1 → IfOk result (λ stop. Stands stop c.keys c.knowns)
-    → Carrying a c x z i k (m + 1)
-carrying_more l a b c x y z i j k result m n lawful before step limit one stands =
-    let joined = carried_then l a b c x y z i j k result m n lawful before.carried step in record {
-      carried = subst (λ r. Carried a c x z i k r (m + 1)) limit
-          (subst (λ n. Carried a c x z i k result (m + n)) one joined);
-      works = λ positive. subst (λ r. IfOk r (λ stop. Stands stop c.keys c.knowns)) limit stands;
-    }
+-- after the last of them it stops for what the client knows
+pub carried_stop : CarryingLaws → (a b : ClientState) (x y : Seen) (i j : Kept) (stop : Stop) (m n : ℕ) → IsLawful a.keys → stop ≢ stops.NoMemory → m ≡ n
+    → Carried a b x y i j (Ok stops.Limit) m → Carried a b x y i j (Ok stop) n
+carried_stop l a b x y i j stop m n lawful memory same before =
+    let rest = carried_none b b y y j stop (went_nowhere l b y (Ok stop) (λ is. memory (stop_is stop stops.NoMemory is))) in
+    let all : m + 0 ≡ n = omega (arith, same) in
+    subst (λ n. Carried a b x y i j (Ok stop) n) all (carried_then l a b b x y y i j j (Ok stop) m 0 lawful before rest)
 
 -- and the end of the run
 pub carried_closed : {V E : Type 0} → CarryingLaws → (a b : ClientState) (x y z : Seen) (i j : Kept) (result ended : Result Stop SaveFault) (closed : Result V E) (m : ℕ)

@@ -18,7 +18,7 @@ use crate::keeper::Keeper;
 use crate::patience::Patience;
 use crate::save_fault::SaveFault;
 use crate::sights::Sights;
-use crate::{Stop, close_run, drive};
+use crate::{Stop, close_run};
 use kmip_client::Client;
 use kmip_client::laws::{
     onward_is_an_order, the_settled_are_not_worked_on, truth_is_for_good, what_is_known_was_heard,
@@ -130,10 +130,6 @@ fn exchange_in_turn<L: Link, K: Keeper, P: Patience>(
 {
     laws_below();
     let _plan = client.plan();
-    if limit == 0 {
-        let (stop, _) = drive(alloc, client, link, 0);
-        return (Ok(stop), 0);
-    }
     let Ok(begun) = Sights::of(alloc, client) else {
         return (Ok(Stop::NoMemory), 0);
     };
@@ -148,7 +144,7 @@ fn exchange_in_turn<L: Link, K: Keeper, P: Patience>(
             return (Ok(Stop::Limit), made + 1);
         }
     }
-    (Ok(Stop::Limit), limit)
+    (Ok(stop_of(client)), limit)
 }
 
 /// Makes one exchange, if any key is worked on, and saves what is then known.

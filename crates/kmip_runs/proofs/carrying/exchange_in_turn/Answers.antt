@@ -1,29 +1,19 @@
 -- Exchange by exchange.
-use Rattle.std.proofs.Common.{◌≡◌, ◌∙◌, Ok, ap, length, subst, sym, refl, rules, arith}
+use Rattle.std.proofs.Common.{◌≡◌, ◌∙◌, Ok, ap, length, sym, refl, rules, arith}
 use Rattle.kmip_protocol.specs.Past.{is_planned}
 use Rattle.kmip_runs.specs.Losing.{left_for}
 use Rattle.kmip_runs.specs.declared.stop.Stop.TheVariants as stops
-use Rattle.kmip_runs.proofs.CarryLemmas.{carried_none, carried_then, carried_unbegun, carrying_more, carrying_none, drove}
-use Rattle.kmip_runs.specs.PrivateCarried.{Went}
+use Rattle.kmip_runs.proofs.CarryLemmas.{carried_itself, carried_more, carried_stop, carried_then, carried_unbegun}
 use Rattle.kmip_runs.proofs.RefusalLemmas.{rises_from}
 use Rattle.kmip_runs.proofs.CarryLosingLemmas.{limit_in_memory, paid_none}
 use Rattle.kmip_runs.proofs.PatienceLemmas.{still_patient}
 use Rattle.kmip_runs.proofs.carrying.exchange_in_turn.Goals as goal
 use Rattle.kmip_runs.proofs.carrying.exchange_in_turn.Goals.{else-made-limit-via-then-made-limit+else-not-go_on, else-made-limit-via-else-made-limit}
 
-pub returns-then-limit-eq0-clause-carried : goal.returns-then-limit-eq0-clause-carried
-returns-then-limit-eq0-clause-carried g c =
-    let e = c.drive-stop.ensures in
-    let none : c.drive-stop.result.1 ≡ 0 = omega (arith, e.within) in
-    carried_none c.args.client.now c.drive-stop.new.client (g.L.Link.seen c.args.link.now) (g.L.Link.seen c.drive-stop.new.link)
-    (g.K.Keeper.kept c.args.keeper.now) c.drive-stop.result.0
-    (subst (λ n. Went c.args.client.now c.drive-stop.new.client (g.L.Link.seen c.args.link.now) (g.L.Link.seen c.drive-stop.new.link) (Ok c.drive-stop.result.0) n) none
-    (drove c.args.client.now c.drive-stop.new.client (g.L.Link.seen c.args.link.now) (g.L.Link.seen c.drive-stop.new.link) _ c.drive-stop.result _ e))
-
 pub loop-made-init : goal.loop-made-init
 loop-made-init g c = record {
-  carrying =
-      carrying_none c.laws_below.ensures c.args.client.now (g.L.Link.seen c.args.link.now) (g.K.Keeper.kept c.args.keeper.now);
+  carried =
+      carried_itself c.laws_below.ensures c.args.client.now (g.L.Link.seen c.args.link.now) (g.K.Keeper.kept c.args.keeper.now);
   as_many = search rules;
   patient = refl;
   counted = omega arith;
@@ -36,7 +26,7 @@ returns-then-not-is_at_limit-clause-carried g c =
     let step = c.exchange_once-carried in
     carried_then c.laws_below.ensures c.args.client.now c.loop-made.client
     step.new.client (g.L.Link.seen c.args.link.now) (g.L.Link.seen c.loop-made.link) (g.L.Link.seen step.new.link) (g.K.Keeper.kept c.args.keeper.now) (g.K.Keeper.kept c.loop-made.keeper) (g.K.Keeper.kept step.new.keeper) step.result.0 c.loop-made.made step.result.1
-    c.plan-plan.ensures.lawful c.loop-made.invariant.carrying.carried step.ensures.carried
+    c.plan-plan.ensures.lawful c.loop-made.invariant.carried step.ensures.carried
 
 pub loop-made-preserved : goal.loop-made-preserved
 loop-made-preserved g c =
@@ -44,10 +34,10 @@ loop-made-preserved g c =
     let tired = g.P.Patience.has_given_up in
     let limit : step.result.0 ≡ Ok stops.Limit = search rules in
     record {
-      carrying =
-          carrying_more c.laws_below.ensures c.args.client.now c.loop-made.client
+      carried =
+          carried_more c.laws_below.ensures c.args.client.now c.loop-made.client
           step.new.client (g.L.Link.seen c.args.link.now) (g.L.Link.seen c.loop-made.link) (g.L.Link.seen step.new.link) (g.K.Keeper.kept c.args.keeper.now) (g.K.Keeper.kept c.loop-made.keeper) (g.K.Keeper.kept step.new.keeper) step.result.0 c.loop-made.made step.result.1
-          c.plan-plan.ensures.lawful c.loop-made.invariant.carrying step.ensures.carried limit (step.ensures.limit limit) step.ensures.stands;
+          c.plan-plan.ensures.lawful c.loop-made.invariant.carried step.ensures.carried limit (step.ensures.limit limit);
       as_many = c.tell.ensures.as_many ∙ c.loop-made.invariant.as_many ∙ ap length (sym step.ensures.carried.went.keeps.keys_stay);
       patient =
           elim c.else-made-limit.branch [
@@ -58,11 +48,11 @@ loop-made-preserved g c =
           ];
       counted = omega (arith, c.loop-made.invariant.counted, step.ensures.counted);
       ended = λ honest.
-          let still = (c.loop-made.invariant.carrying.carried.went.known honest).0 in
+          let still = (c.loop-made.invariant.carried.went.known honest).0 in
           step.ensures.ended (is_planned c.args.client.now.keys) still ∙ c.loop-made.invariant.ended honest;
       paid = λ good.
           let first = c.loop-made.invariant.paid good in
-          let second = step.ensures.losing (c.loop-made.invariant.carrying.carried.went.good good) (limit_in_memory step.result.0 limit) in
+          let second = step.ensures.losing (c.loop-made.invariant.carried.went.good good) (limit_in_memory step.result.0 limit) in
           let one = step.ensures.limit limit in
           omega (arith, first, second, one);
     }
@@ -75,28 +65,19 @@ pub returns-then-not-go_on-clause-carried : goal.returns-then-not-go_on-clause-c
 returns-then-not-go_on-clause-carried g c =
     let step = c.exchange_once-carried in
     let limit : step.result.0 ≡ Ok stops.Limit = search rules in
-    let more =
-    carrying_more c.laws_below.ensures c.args.client.now c.loop-made.client
+    carried_more c.laws_below.ensures c.args.client.now c.loop-made.client
     step.new.client (g.L.Link.seen c.args.link.now) (g.L.Link.seen c.loop-made.link) (g.L.Link.seen step.new.link) (g.K.Keeper.kept c.args.keeper.now) (g.K.Keeper.kept c.loop-made.keeper) (g.K.Keeper.kept step.new.keeper) step.result.0 c.loop-made.made step.result.1
-    c.plan-plan.ensures.lawful c.loop-made.invariant.carrying step.ensures.carried limit (step.ensures.limit limit) step.ensures.stands in
-    more.carried
+    c.plan-plan.ensures.lawful c.loop-made.invariant.carried step.ensures.carried limit (step.ensures.limit limit)
 
 pub returns-then-not-is_at_limit-clause-ended : goal.returns-then-not-is_at_limit-clause-ended
 returns-then-not-is_at_limit-clause-ended g c = λ honest.
-    let still = (c.loop-made.invariant.carrying.carried.went.known honest).0 in
+    let still = (c.loop-made.invariant.carried.went.known honest).0 in
     c.exchange_once-carried.ensures.ended (is_planned c.args.client.now.keys) still ∙ c.loop-made.invariant.ended honest
-
-pub returns-then-limit-eq0-clause-losing : goal.returns-then-limit-eq0-clause-losing
-returns-then-limit-eq0-clause-losing g c = λ good memory.
-    let e = c.drive-stop.ensures in
-    let none : c.drive-stop.result.1 ≡ 0 = omega (arith, e.within) in
-    let paid = (e.well good).losing (λ is. memory (ap Ok is)) in
-    omega (arith, none, paid)
 
 pub returns-then-not-is_at_limit-clause-losing : goal.returns-then-not-is_at_limit-clause-losing
 returns-then-not-is_at_limit-clause-losing g c = λ good memory.
     let first = c.loop-made.invariant.paid good in
-    let second = c.exchange_once-carried.ensures.losing (c.loop-made.invariant.carrying.carried.went.good good) memory in
+    let second = c.exchange_once-carried.ensures.losing (c.loop-made.invariant.carried.went.good good) memory in
     omega (arith, first, second)
 
 pub returns-clause-losing : goal.returns-clause-losing
@@ -108,3 +89,9 @@ returns-clause-losing g c = λ good memory.
 pub returns-then-not-is_at_limit-clause-output : goal.returns-then-not-is_at_limit-clause-output
 returns-then-not-is_at_limit-clause-output g c = λ is.
     rises_from _ _ _ c.loop-made.invariant.counted (c.exchange_once-carried.ensures.output is)
+
+pub returns-clause-carried : goal.returns-clause-carried
+returns-clause-carried g c =
+    let made : c.loop-made.made ≡ c.args.limit = omega (arith, c.loop-made-test.false, c.loop-made.auto.made-end) in
+    carried_stop c.laws_below.ensures c.args.client.now c.loop-made.client (g.L.Link.seen c.args.link.now) (g.L.Link.seen c.loop-made.link) (g.K.Keeper.kept c.args.keeper.now) (g.K.Keeper.kept c.loop-made.keeper) c.stop_of.result c.loop-made.made
+    c.args.limit c.plan-plan.ensures.lawful c.stop_of.ensures.in_memory made c.loop-made.invariant.carried

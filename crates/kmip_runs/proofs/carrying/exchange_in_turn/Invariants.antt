@@ -1,14 +1,15 @@
 -- So many exchanges were made, and are paid for, and what was known after each is saved; no run was ended. It was not given up meanwhile.
-use Rattle.std.proofs.Common.{◌≡◌, ◌≤◌, length}
+use Rattle.std.proofs.Common.{◌≡◌, ◌≤◌, Ok, length}
 use Rattle.kmip_protocol.specs.Past.{is_planned}
 use Rattle.kmip_runs.specs.Driving.{IsGood}
 use Rattle.kmip_runs.specs.Losing.{ArePaid, left_for}
-use Rattle.kmip_runs.proofs.CarryLemmas.{Carrying}
+use Rattle.kmip_runs.specs.PrivateCarried.{Carried}
+use Rattle.kmip_runs.specs.declared.stop.Stop.TheVariants as stops
 use Rattle.kmip_runs.proofs.carrying.exchange_in_turn.Given as goal
 
 abbrev pub invariant-loop-made : goal.invariant-loop-made
 invariant-loop-made g l = record {
-  carrying : Carrying l.fn.client l.client (g.L.Link.seen l.fn.link) (g.L.Link.seen l.link) (g.K.Keeper.kept l.fn.keeper) (g.K.Keeper.kept l.keeper) l.made;
+  carried : Carried l.fn.client l.client (g.L.Link.seen l.fn.link) (g.L.Link.seen l.link) (g.K.Keeper.kept l.fn.keeper) (g.K.Keeper.kept l.keeper) (Ok stops.Limit) l.made;
   as_many : length l.sights.items.items ≡ length l.client.keys;
   patient : g.P.Patience.has_given_up l.patience ≡ g.P.Patience.has_given_up l.fn.patience;
   counted : (g.K.Keeper.kept l.fn.keeper).refusals ≤ (g.K.Keeper.kept l.keeper).refusals;
