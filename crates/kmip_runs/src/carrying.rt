@@ -1,17 +1,14 @@
 //! A plan carried out over a link, and saved after each exchange.
-ghost use Rattle.std.specs.Prelude.{◌≡◌, ◌≢◌, ◌≤◌, ◌<◌, ◌+◌, ◌++◌, ◌∷◌, ◌⊎◌, [], ℕ, length, Ok, Err, IfOk, IfErr, IsTrue, OnErr, OnOk, false};
-ghost use Rattle.kmip_client.specs.Clients.{SomeWorks};
+ghost use Rattle.std.specs.Prelude.{◌≡◌, ◌≢◌, ◌≤◌, ◌<◌, ◌++◌, ◌∷◌, ◌⊎◌, [], length, Ok, Err, IfOk, IfErr, IsTrue, OnErr, OnOk, false};
 ghost use Rattle.kmip_client.specs.Saving.{progress};
-ghost use Rattle.kmip_plan.specs.Chains.{bound};
 ghost use Rattle.kmip_progress.specs.Texts.{progress_text};
-ghost use Rattle.kmip_protocol.specs.Ending.{EndedAt};
 ghost use Rattle.kmip_protocol.specs.Past.{Names, is_planned};
-ghost use Rattle.kmip_runs.specs.Driving.{AsksOne, IsGood, IsSettling, Nearer, need, WentOn, Learnt, LearntUntil, Grown, Keeps, Stands};
-ghost use Rattle.kmip_runs.specs.Losing.{ArePaid, IsEnough, left_for};
+ghost use Rattle.kmip_runs.specs.CarriesOut.{CarriesOut};
+ghost use Rattle.kmip_runs.specs.Driving.{IsGood, Stands};
+ghost use Rattle.kmip_runs.specs.Losing.{ArePaid, left_for};
 ghost use Rattle.kmip_runs.specs.PrivateCarried.{Carried, CarryingLaws};
 ghost use Rattle.kmip_runs.specs.Refusals.{HasRisen};
-ghost use Rattle.kmip_runs.specs.Saved.{AreSaved, IsInMemory, IsLeft, IsWhole, moment};
-ghost use Rattle.kmip_runs.specs.CarriesOut.{CarriesOut};
+ghost use Rattle.kmip_runs.specs.Saved.{IsInMemory, IsLeft};
 
 use crate::driving::{stop_of, turn};
 use crate::keeper::Keeper;
