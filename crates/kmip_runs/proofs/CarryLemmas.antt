@@ -1,11 +1,11 @@
 -- Carrying out a plan: exchanges, what is saved of them, and the end.
-use Rattle.std.proofs.Common.{Option, Some, None, Bool, true, ◌++◌, ◌≡◌, ◌≢◌, ◌≤◌, ◌⊎◌, ℕ, suc, ◌+◌, nat_le, ◌<◌, List, [], ◌∷◌, Result, Ok, Err, IfOk, OnErr, OnOk, false, sym, ap, subst, refl, ◌∙◌, inl, inr, arith}
+use Rattle.std.proofs.Common.{Option, Some, None, Bool, true, ◌++◌, ◌≡◌, ◌≢◌, ◌≤◌, ◌⊎◌, ℕ, suc, ◌+◌, nat_le, List, [], ◌∷◌, Result, Ok, Err, IfOk, OnErr, OnOk, false, sym, ap, subst, refl, ◌∙◌, inl, inr, arith}
 use Rattle.std.proofs.lemmas.Bool.{cases_Bool, le-ltb, leb-true}
 use Rattle.kmip_objects.specs.Objects.{Object}
 use Rattle.kmip_plan.specs.Chains.{bound}
 use Rattle.kmip_plan.specs.Plans.{IsLawful}
 use Rattle.kmip_plan.specs.declared.key.Key.{Key}
-use Rattle.kmip_client.specs.Clients.{AreSettled, ClientState, SomeWorks, one_if}
+use Rattle.kmip_client.specs.Clients.{AreSettled, ClientState, one_if}
 use Rattle.kmip_client.specs.Known.{facts}
 use Rattle.kmip_client.specs.Held.{Held}
 use Rattle.kmip_client.specs.Knowledge.{chain_length, clash_verdict, is_working, verdict_of}
@@ -18,7 +18,7 @@ use Rattle.kmip_protocol.specs.Seen.{Seen}
 use Rattle.kmip_client.specs.Saving.{progress}
 use Rattle.kmip_progress.specs.Texts.{progress_text}
 use Rattle.kmip_protocol.specs.Sound.{Sound}
-use Rattle.kmip_runs.specs.Driving.{AreFinished, AsksOne, Grown, IsGood, IsSettling, IsUnheard, IsUnmade, Keeps, Learnt, LearntUntil, Nearer, Stands, WentOn, need}
+use Rattle.kmip_runs.specs.Driving.{AreFinished, AsksOne, Grown, IsGood, IsSettling, IsUnheard, IsUnmade, Keeps, Learnt, Nearer, Stands, WentOn, need}
 use Rattle.kmip_runs.specs.declared.stop.Stop.{Stop}
 use Rattle.kmip_runs.specs.declared.stop.Stop.TheVariants as stops
 use Rattle.kmip_runs.specs.Private.{IsBrokenOff, exchanges_made}

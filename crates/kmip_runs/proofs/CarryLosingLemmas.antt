@@ -5,7 +5,7 @@ use Rattle.kmip_client.specs.Clients.{ClientState, SomeWorks}
 use Rattle.kmip_client.specs.declared.verdict.Verdict.TheVariants.{Working, Finished}
 use Rattle.kmip_protocol.specs.Clean.{Disturbances}
 use Rattle.kmip_protocol.specs.Moves.{Delivered}
-use Rattle.kmip_protocol.specs.Past.{Names, Past, is_planned}
+use Rattle.kmip_protocol.specs.Past.{Names, is_planned}
 use Rattle.kmip_protocol.specs.Seen.{Seen}
 use Rattle.kmip_protocol.specs.Needs.{need_all}
 use Rattle.kmip_runs.specs.Driving.{IsGood, Stands}
