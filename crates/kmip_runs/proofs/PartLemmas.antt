@@ -5,7 +5,7 @@ use Rattle.kmip_plan.specs.Prolonging.{Prolongs}
 use Rattle.kmip_plan.specs.declared.key.Key.{Key}
 use Rattle.kmip_progress.specs.declared.known.Known.{Known}
 use Rattle.kmip_protocol.specs.Past.{Past}
-use Rattle.kmip_runs.specs.Campaigns.{AreParts, AreProlonged, IsPart, LastIsShort, Part, carried_over, first_plan, last_plan, part_saved}
+use Rattle.kmip_runs.specs.Campaigns.{AreParts, AreProlonged, IsPart, LastIsShort, Part, Premises, carried_over, first_plan, last_plan, part_saved}
 use Rattle.kmip_runs.specs.PrivateCampaignsParts.{PlansLaws}
 use Rattle.kmip_runs.specs.declared.run.Run.{Run}
 use Rattle.kmip_runs.proofs.RunLemmas.{known_if}
@@ -71,19 +71,19 @@ same_list a b is = cc
 not_empty : {A X : Type 0} (x : A) (xs : List A) → x ∷ xs ≡ [] → X
 not_empty x xs is = absurd cc
 
-module _ (honest calm : Type 0) where
+module _ (premises : Premises) where
   pub part_if : (keys : List Key) (carried : List (List Known)) (list : List Run) (part : Part) (whole other : Type 0) (old new : Past) → (other → whole)
-      → IsPart keys carried list part honest calm whole old new → IsPart keys carried list part honest calm other old new
+      → IsPart keys carried list part premises whole old new → IsPart keys carried list part premises other old new
   part_if keys carried list part whole other old new to is = record {
     order = is.order;
     complete = λ holds. is.complete (to holds);
-    known = known_if keys carried list part.ends part.saved honest whole other old new to is.known;
+    known = known_if keys carried list part.ends part.saved premises.honest whole other old new to is.known;
     settles = λ calmly holds. is.settles calmly (to holds);
   }
 
   -- less is said where it is said of less
   pub parts_if : (plans : List (List Key)) (runs : List (List Run)) (saved : List (List Known)) (parts : List Part) (whole other : Type 0) (old new : Past) → (other → whole)
-      → AreParts plans runs saved parts honest calm whole old new → AreParts plans runs saved parts honest calm other old new
+      → AreParts plans runs saved parts premises whole old new → AreParts plans runs saved parts premises other old new
   parts_if plans runs saved [] whole other old new to are = (λ holds. are.0 (to holds), are.1)
   parts_if [] runs saved (p ∷ parts) whole other old new to are = absurd are
   parts_if (keys ∷ plans) [] saved (p ∷ parts) whole other old new to are = absurd are
@@ -95,7 +95,7 @@ module _ (honest calm : Type 0) where
 
   -- the runs on the first plans were made, and those on the others were not
   pub parts_broken : (plans : List (List Key)) (runs : List (List Run)) (saved : List (List Known)) (parts : List Part) (place : ℕ) (whole : Type 0) (old new : Past)
-      → (whole → ⊥) → AreParts (take place plans) (take place runs) saved parts honest calm whole old new → AreParts plans runs saved parts honest calm whole old new
+      → (whole → ⊥) → AreParts (take place plans) (take place runs) saved parts premises whole old new → AreParts plans runs saved parts premises whole old new
   parts_broken plans runs saved [] place whole old new none are = (λ holds. absurd (none holds), are.1)
   parts_broken [] runs saved (p ∷ parts) zero whole old new none are = absurd are
   parts_broken [] runs saved (p ∷ parts) (suc place) whole old new none are = absurd are
@@ -106,28 +106,28 @@ module _ (honest calm : Type 0) where
 
   -- the runs on all plans were made
   pub parts_all : (plans : List (List Key)) (runs : List (List Run)) (saved : List (List Known)) (parts : List Part) (place : ℕ) (whole : Type 0) (old new : Past)
-      → place ≡ length plans → length runs ≡ length plans → AreParts (take place plans) (take place runs) saved parts honest calm ⊤ old new
-      → AreParts plans runs saved parts honest calm whole old new
+      → place ≡ length plans → length runs ≡ length plans → AreParts (take place plans) (take place runs) saved parts premises ⊤ old new
+      → AreParts plans runs saved parts premises whole old new
   parts_all plans runs saved parts place whole old new all as_many are =
       let all_plans = ap (λ n. take n plans) all ∙ take_all plans in
       let all_runs = ap (λ n. take n runs) (all ∙ sym as_many) ∙ take_all runs in
       parts_if plans runs saved parts ⊤ whole old new (λ holds. tt)
-      (subst (λ ps. AreParts ps runs saved parts honest calm ⊤ old new) all_plans
-      (subst (λ rs. AreParts (take place plans) rs saved parts honest calm ⊤ old new) all_runs are))
+      (subst (λ ps. AreParts ps runs saved parts premises ⊤ old new) all_plans
+      (subst (λ rs. AreParts (take place plans) rs saved parts premises ⊤ old new) all_runs are))
 
   -- the runs of one more plan were made
   pub parts_more : (plans : List (List Key)) (runs : List (List Run)) (saved : List (List Known)) (parts : List Part) (place : ℕ) (keys : List Key) (list : List Run) (part : Part)
       (whole : Type 0) (old between new : Past) → slice_get plans place ≡ Some keys → slice_get runs place ≡ Some list
-      → AreParts (take place plans) (take place runs) saved parts honest calm ⊤ old between
-      → IsPart keys (map (carried_over keys) (saved ++ flat_map part_saved parts)) list part honest calm whole between new
-      → AreParts (take (suc place) plans) (take (suc place) runs) saved (parts ++ part ∷ []) honest calm whole old new
+      → AreParts (take place plans) (take place runs) saved parts premises ⊤ old between
+      → IsPart keys (map (carried_over keys) (saved ++ flat_map part_saved parts)) list part premises whole between new
+      → AreParts (take (suc place) plans) (take (suc place) runs) saved (parts ++ part ∷ []) premises whole old new
   parts_more [] runs saved parts place keys list part whole old between new is so before more = absurd cc
   parts_more (first ∷ plans) [] saved parts place keys list part whole old between new is so before more = absurd cc
   parts_more (first ∷ plans) (runs ∷ lists) saved [] zero keys list part whole old between new is so before more =
       rw (same_plan first keys is, same_list runs list so, before.1) (
         new,
         part_if keys (map (carried_over keys) saved) list part whole (whole ⊎ (◌≢◌ {A = List Part} [] [])) between new (one_of whole)
-            (subst (λ s. IsPart keys (map (carried_over keys) s) list part honest calm whole between new) (append-nil saved) more),
+            (subst (λ s. IsPart keys (map (carried_over keys) s) list part premises whole between new) (append-nil saved) more),
         (λ holds. take_none plans, refl),
       )
   parts_more (first ∷ plans) (runs ∷ lists) saved [] (suc place) keys list part whole old between new is so before more =
@@ -137,12 +137,12 @@ module _ (honest calm : Type 0) where
     before.0,
     part_if first (map (carried_over first) saved) runs p (⊤ ⊎ (parts ≢ [])) (whole ⊎ (parts ++ part ∷ [] ≢ [])) old before.0 (λ both. inl tt) before.1,
     parts_more plans lists (saved ++ p.saved) parts place keys list part whole before.0 between new is so before.2
-        (subst (λ s. IsPart keys (map (carried_over keys) s) list part honest calm whole between new) (sym (append_assoc saved p.saved (flat_map part_saved parts))) more),
+        (subst (λ s. IsPart keys (map (carried_over keys) s) list part premises whole between new) (sym (append_assoc saved p.saved (flat_map part_saved parts))) more),
   )
 
   -- as many parts as plans, where the runs on each were made
   pub parts_long : (plans : List (List Key)) (runs : List (List Run)) (saved : List (List Known)) (parts : List Part) (old new : Past)
-      → AreParts plans runs saved parts honest calm ⊤ old new → length parts ≡ length plans
+      → AreParts plans runs saved parts premises ⊤ old new → length parts ≡ length plans
   parts_long plans runs saved [] old new are = ap length (sym (are.0 tt))
   parts_long [] runs saved (p ∷ parts) old new are = absurd are
   parts_long (keys ∷ plans) [] saved (p ∷ parts) old new are = absurd are

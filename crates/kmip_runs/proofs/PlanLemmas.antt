@@ -26,7 +26,7 @@ use Rattle.kmip_protocol.specs.Sound.{Sound}
 use Rattle.kmip_runs.specs.Campaign.{CalmLink}
 use Rattle.kmip_runs.specs.Headline.{GoodLink}
 use Rattle.kmip_runs.specs.PrivateCampaignParts.{AreSame, CampaignLaws, HasRunAll}
-use Rattle.kmip_runs.specs.Campaigns.{AreInTurn, AreParts, AreProlonged, CalmStart, GoodStart, IsPart, IsTrueFor, LastIsShort, Part, carried_over, first_plan, last_plan, part_ends, part_saved}
+use Rattle.kmip_runs.specs.Campaigns.{AreInTurn, AreParts, AreProlonged, CalmStart, GoodStart, IsPart, IsTrueFor, LastIsShort, Part, Premises, carried_over, first_plan, last_plan, part_ends, part_saved}
 use Rattle.kmip_runs.specs.PrivateCampaignsParts.{HasRunBroken, HasRunPart, HasRunPlans, HasRunWhole, IsGoodFor, IsReadFor, PlansLaws}
 use Rattle.kmip_runs.specs.Remembering.{AreKnownFrom, Shows, saved_after, saved_from}
 use Rattle.kmip_runs.specs.declared.campaign_end.CampaignEnd.{CampaignEnd}
@@ -153,6 +153,10 @@ take_long [] place x is = absurd cc
 take_long (y ∷ xs) zero x is = refl
 take_long (y ∷ xs) (suc place) x is = ap (λ n. suc n) (take_long xs place x is)
 
+-- what is premised of the link before the runs on the first plan
+abbrev premises_of : List (List Key) → Seen → Premises
+premises_of plans start = record { honest = start.honest (is_planned (last_plan plans)); calm = CalmStart plans start }
+
 -- all that stands before the runs on the plan at a place
 module _ (plans : List (List Key)) (runs : List (List Run)) where
   pub record Reached (start link : Seen) (place : ℕ) (ends : List RunEnd) (saved carried : List (List Known)) : Type 0 where
@@ -164,7 +168,7 @@ module _ (plans : List (List Key)) (runs : List (List Run)) where
     pub parts : List Part
     pub ends_are : end.runs.items ≡ flat_map part_ends parts
     pub saved_are : end.saved.items ≡ flat_map part_saved parts
-    pub each : AreParts (take place plans) (take place runs) [] parts (start.honest (is_planned (last_plan plans))) (CalmStart plans start) ⊤ start.past link.past
+    pub each : AreParts (take place plans) (take place runs) [] parts (premises_of plans start) ⊤ start.past link.past
     pub carried_are : (keys : List Key) → slice_get plans place ≡ Some keys → (carried ≡ map (carried_over keys) end.saved.items) × All (Suits keys) carried
     pub honest_still : (names : Names) → start.honest names → link.honest names
     pub stands : GoodStart plans start → Reached start link place end.runs.items end.saved.items carried
@@ -203,8 +207,7 @@ module _ (plans : List (List Key)) (runs : List (List Run)) where
     pub parts : List Part
     pub ends_are : end.runs.items ≡ flat_map part_ends parts
     pub saved_are : end.saved.items ≡ flat_map part_saved parts
-    pub each : AreParts (take (suc place) plans) (take (suc place) runs) [] parts (start.honest (is_planned (last_plan plans))) (CalmStart plans start) whole start.past
-        link.past
+    pub each : AreParts (take (suc place) plans) (take (suc place) runs) [] parts (premises_of plans start) whole start.past link.past
     pub good : GoodStart plans start → IsGoodFor (last_plan plans) start link end.runs.items end.saved.items
 
   -- what is honest and calm for the names of the last plan is so for those of each
@@ -238,7 +241,7 @@ module _ (plans : List (List Key)) (runs : List (List Run)) where
         → slice_get plans place ≡ Some keys → (before : Turning start x place old carried) (part : CampaignEnd) → HasRunAll keys carried list part x y
         → (whole → part.fault ≡ None)
         → IsPart keys (map (carried_over keys) ([] ++ flat_map part_saved before.parts)) list (record { ends = part.runs.items; saved = part.saved.items })
-        (start.honest (is_planned (last_plan plans))) (CalmStart plans start) whole x.past y.past
+        (premises_of plans start) whole x.past y.past
     part_of start x y place keys list old carried whole lawful_keys is before part all to =
         let names = l.names (last_plan plans) keys lawful (last_prolongs l plans place keys prolonged is) in
         let carried_is : carried ≡ map (carried_over keys) (flat_map part_saved before.parts) = (before.carried_are keys is).0 ∙ ap (map (carried_over keys)) before.saved_are in
@@ -265,7 +268,7 @@ module _ (plans : List (List Key)) (runs : List (List Run)) where
           parts = before.parts ++ part ∷ [];
           ends_are = ran.runs_are ∙ ap (λ ends. ends ++ ran.part.runs.items) before.ends_are ∙ flat_push part_ends before.parts part;
           saved_are = ran.saved_are ∙ ap (λ saved. saved ++ ran.part.saved.items) before.saved_are ∙ flat_push part_saved before.parts part;
-          each = parts_more (start.honest (is_planned (last_plan plans))) (CalmStart plans start) plans runs [] before.parts place keys list part whole start.past
+          each = parts_more (premises_of plans start) plans runs [] before.parts place keys list part whole start.past
               x.past y.past is so before.each (part_of start x y place keys list old carried whole lawful_keys is before ran.part ran.all to);
           good = λ begun.
               let reached = before.stands begun in
@@ -288,7 +291,8 @@ module _ (plans : List (List Key)) (runs : List (List Run)) where
     pub turning_more : (start x y : Seen) (place : ℕ) (keys : List Key) (after : Option (List Key)) (list : List Run) (old new : CampaignEnd) (carried read : List (List Known))
         → IsLawful keys → slice_get plans place ≡ Some keys → slice_get runs place ≡ Some list → after ≡ slice_get plans (suc place)
         → ((a b : List Key) → Prolongs a b → length b ≤ length a)
-        → Turning start x place old carried → HasRunWhole keys after carried list x y old new read → Turning start y (suc place) new read
+        → Turning start x place old carried → HasRunWhole keys after carried list (record { link = x; end = old }) (record { link = y; end = new }) read
+        → Turning start y (suc place) new read
     turning_more start x y place keys after list old new carried read lawful_keys is so next_is longer before ran =
         let end = turned start x y place keys list old new carried ⊤ lawful_keys is so before ran.ran (λ holds. ran.whole) in
         let all = ran.ran.all in
@@ -341,7 +345,7 @@ module _ (plans : List (List Key)) (runs : List (List Run)) where
     broken_of start x y place keys next list old new carried is so next_is before broken =
         let part : Part = record { ends = broken.ran.part.runs.items; saved = broken.ran.part.saved.items } in
         let long : length before.parts ≡ place =
-        parts_long (start.honest (is_planned (last_plan plans))) (CalmStart plans start) (take place plans) (take place runs) [] before.parts start.past x.past before.each
+        parts_long (premises_of plans start) (take place plans) (take place runs) [] before.parts start.past x.past before.each
         ∙ take_long plans place keys is in
         elim broken.why [
           | inl short ↦ inr (last_short runs before.parts part place list long so short)
@@ -359,7 +363,7 @@ module _ (plans : List (List Key)) (runs : List (List Run)) where
         parts = turned.parts;
         ends_are = turned.ends_are;
         saved_are = turned.saved_are;
-        each = parts_broken (start.honest (is_planned (last_plan plans))) (CalmStart plans start) plans runs [] turned.parts (suc place) whole start.past y.past
+        each = parts_broken (premises_of plans start) plans runs [] turned.parts (suc place) whole start.past y.past
             none turned.each;
         broken = λ but. broken;
       };
@@ -384,13 +388,13 @@ module _ (plans : List (List Key)) (runs : List (List Run)) where
         parts = before.parts;
         ends_are = same.same_runs ∙ before.ends_are;
         saved_are = same.same_saved ∙ before.saved_are;
-        each = parts_broken (start.honest (is_planned (last_plan plans))) (CalmStart plans start) plans runs [] before.parts place whole start.past x.past none
-            (parts_if (start.honest (is_planned (last_plan plans))) (CalmStart plans start) (take place plans) (take place runs) [] before.parts ⊤ whole start.past
+        each = parts_broken (premises_of plans start) plans runs [] before.parts place whole start.past x.past none
+            (parts_if (premises_of plans start) (take place plans) (take place runs) [] before.parts ⊤ whole start.past
             x.past (λ holds. tt) before.each);
         broken = λ but.
             let below = there_is plans place (λ no. some_none keys (sym is ∙ no)) in
             let long =
-            parts_long (start.honest (is_planned (last_plan plans))) (CalmStart plans start) (take place plans) (take place runs) [] before.parts start.past x.past before.each
+            parts_long (premises_of plans start) (take place plans) (take place runs) [] before.parts start.past x.past before.each
             ∙ take_long plans place keys is in
             inl (omega (arith, below, long));
       };
@@ -405,7 +409,7 @@ module _ (plans : List (List Key)) (runs : List (List Run)) where
         parts = before.parts;
         ends_are = before.ends_are;
         saved_are = before.saved_are;
-        each = parts_all (start.honest (is_planned (last_plan plans))) (CalmStart plans start) plans runs [] before.parts place whole start.past x.past all as_many
+        each = parts_all (premises_of plans start) plans runs [] before.parts place whole start.past x.past all as_many
             before.each;
         broken = λ but. absurd (but is);
       };
@@ -417,7 +421,7 @@ in_turn_if plans runs ends saved honest calm whole other old new to back are = r
   parts = are.parts;
   ends_are = are.ends_are;
   saved_are = are.saved_are;
-  each = parts_if honest calm plans runs [] are.parts whole other old new to are.each;
+  each = parts_if (record { honest = honest; calm = calm }) plans runs [] are.parts whole other old new to are.each;
   broken = λ but. are.broken (λ is. but (back is));
 }
 

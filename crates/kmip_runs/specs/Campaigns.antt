@@ -72,23 +72,28 @@ part_ends part = part.ends
 abbrev pub part_saved : Part → List (List Known)
 part_saved part = part.saved
 
+-- what may be premised of the link where the first run begins: that it is honest, and that all is calm
+pub record Premises : Type 1 where
+  pub honest : Type 0
+  pub calm : Type 0
+
 -- These runs were made on a plan, between two pasts, as in a campaign on this plan alone that finds what was
 -- carried over to it.
-pub record IsPart (keys : List Key) (carried : List (List Known)) (runs : List Run) (part : Part) (honest calm whole : Type 0) (old new : Past) : Type 0 where
+pub record IsPart (keys : List Key) (carried : List (List Known)) (runs : List Run) (part : Part) (premises : Premises) (whole : Type 0) (old new : Past) : Type 0 where
   pub order : AllZip (IsEnd keys) (take (length part.ends) runs) part.ends
   pub complete : whole → AllZip (IsEnd keys) runs part.ends × (length part.saved ≡ length (filter saves runs))
-  pub known : AreKnownFrom keys carried runs part.ends part.saved honest whole old new
-  pub settles : calm → whole → AllZip (Settles keys) runs part.ends
+  pub known : AreKnownFrom keys carried runs part.ends part.saved premises.honest whole old new
+  pub settles : premises.calm → whole → AllZip (Settles keys) runs part.ends
 
 -- The lists of runs were made on the plans in turn, the last of them whole or broken off. What was saved so
 -- far is carried over to each plan.
-abbrev pub AreParts : List (List Key) → List (List Run) → List (List Known) → List Part → Type 0 → Type 0 → Type 0 → Past → Past → Type 0
-AreParts plans runs saved [] honest calm whole old new = (whole → plans ≡ []) × (old ≡ new)
-AreParts [] runs saved (part ∷ parts) honest calm whole old new = ⊥
-AreParts (keys ∷ plans) [] saved (part ∷ parts) honest calm whole old new = ⊥
-AreParts (keys ∷ plans) (list ∷ runs) saved (part ∷ parts) honest calm whole old new =
-    (between : Past) × IsPart keys (map (carried_over keys) saved) list part honest calm (whole ⊎ (parts ≢ [])) old between
-    × AreParts plans runs (saved ++ part.saved) parts honest calm whole between new
+abbrev pub AreParts : List (List Key) → List (List Run) → List (List Known) → List Part → Premises → Type 0 → Past → Past → Type 0
+AreParts plans runs saved [] premises whole old new = (whole → plans ≡ []) × (old ≡ new)
+AreParts [] runs saved (part ∷ parts) premises whole old new = ⊥
+AreParts (keys ∷ plans) [] saved (part ∷ parts) premises whole old new = ⊥
+AreParts (keys ∷ plans) (list ∷ runs) saved (part ∷ parts) premises whole old new =
+    (between : Past) × IsPart keys (map (carried_over keys) saved) list part premises (whole ⊎ (parts ≢ [])) old between
+    × AreParts plans runs (saved ++ part.saved) parts premises whole between new
 
 -- the last of these parts has fewer ends than its list has runs
 abbrev pub LastIsShort : List (List Run) → List Part → Type 0
@@ -103,5 +108,5 @@ pub record AreInTurn (plans : List (List Key)) (runs : List (List Run)) (ends : 
   pub parts : List Part
   pub ends_are : ends ≡ flat_map part_ends parts
   pub saved_are : saved ≡ flat_map part_saved parts
-  pub each : AreParts plans runs [] parts honest calm whole old new
+  pub each : AreParts plans runs [] parts (record { honest = honest; calm = calm }) whole old new
   pub broken : (whole → ⊥) → (length parts < length plans) ⊎ LastIsShort runs parts

@@ -117,14 +117,19 @@ pub record AreSame (old new : CampaignEnd) : Type 0 where
 abbrev pub begins_with : List Key → List (List Known) → Run → ClientState → CampaignEnd → List Knowledge
 begins_with keys carried run a old = start_knowns keys run.start a.knowns (carried ++ old.saved.items)
 
+-- What is seen at a moment in a campaign: of the link, and what is noted so far.
+pub record CampaignStage : Type 1 where
+  pub link : Seen
+  pub end : CampaignEnd
+
 -- The run was made and has ended: nothing of what it began with is taken back, and over an honest link its
 -- answers taught the rest.
-pub record HasRun (keys : List Key) (carried : List (List Known)) (run : Run) (a b : ClientState) (x y : Seen) (old new : CampaignEnd) : Type 0 where
+pub record HasRun (keys : List Key) (carried : List (List Known)) (run : Run) (a b : ClientState) (old new : CampaignStage) : Type 0 where
   pub driven : Stop × ℕ
-  pub ended : HasEnded keys run b.knowns driven old new
-  pub kept : AllZip IsKept (begins_with keys carried run a old) b.knowns
-  pub learnt : x.honest (is_planned keys) → y.honest (is_planned keys)
-      × Learnt keys run.batch x.past y.past (begins_with keys carried run a old) b.knowns driven.1
+  pub ended : HasEnded keys run b.knowns driven old.end new.end
+  pub kept : AllZip IsKept (begins_with keys carried run a old.end) b.knowns
+  pub learnt : old.link.honest (is_planned keys) → new.link.honest (is_planned keys)
+      × Learnt keys run.batch old.link.past new.link.past (begins_with keys carried run a old.end) b.knowns driven.1
 
 -- the run that was noted last finished all keys within the plan's bound, if it might make as many exchanges
 pub record HasSettled (keys : List Key) (run : Run) (old new : List RunEnd) : Type 0 where

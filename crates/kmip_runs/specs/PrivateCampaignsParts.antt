@@ -13,7 +13,7 @@ use Rattle.kmip_protocol.specs.Seen.{Seen}
 use Rattle.kmip_protocol.specs.SettlingLaws.{ProlongedMissNoLess}
 use Rattle.kmip_runs.specs.Headline.{GoodLink, reported_by}
 use Rattle.kmip_runs.specs.Campaign.{HasNoConflict}
-use Rattle.kmip_runs.specs.PrivateCampaignParts.{HasRunAll}
+use Rattle.kmip_runs.specs.PrivateCampaignParts.{HasRunAll, CampaignStage}
 use Rattle.kmip_runs.specs.Campaigns.{AreInTurn, CalmStart, GoodStart, IsTrueFor, carried_over, last_plan}
 use Rattle.kmip_runs.specs.Driving.{WentOn}
 use Rattle.kmip_runs.specs.declared.campaign_end.CampaignEnd.{CampaignEnd}
@@ -58,8 +58,8 @@ abbrev pub IsReadFor : Option (List Key) → List (List Known) → List (List Kn
 IsReadFor next saved read = IfSome next (λ keys. (read ≡ map (carried_over keys) saved) × All (Suits keys) read)
 
 -- The runs of the plan are whole, and what was saved so far was read for the next.
-pub record HasRunWhole (keys : List Key) (next : Option (List Key)) (carried : List (List Known)) (runs : List Run) (x y : Seen) (old new : CampaignEnd) (read : List (List Known)) : Type 0 where
-  pub ran : HasRunPart keys carried runs x y old new
+pub record HasRunWhole (keys : List Key) (next : Option (List Key)) (carried : List (List Known)) (runs : List Run) (old new : CampaignStage) (read : List (List Known)) : Type 0 where
+  pub ran : HasRunPart keys carried runs old.link new.link old.end new.end
   pub whole : ran.part.fault ≡ None
   pub read_is : IsReadFor next (carried ++ ran.part.saved.items) read
 

@@ -206,8 +206,9 @@ fn one_run<'p, L: Link>(
         end.old.saved.items
         → All (TrueProgress (L.seen link.old).past.objects plan.now) carried.now
         → KeepsFurther plan.now (result ≡ Ok tt) (L.seen link.old) (L.seen link.new) }
-    ensures ran { OnOk result (HasRun plan.now carried.now run client.old
-        client.new (L.seen link.old) (L.seen link.new) end.old end.new) }
+    ensures ran { OnOk result (HasRun plan.now carried.now run client.old client.new
+        (record { link = L.seen link.old; end = end.old })
+        (record { link = L.seen link.new; end = end.new })) }
     ensures turned { OnOk result (RanTurned plan.now
         (begin_client plan.now run client.old (carried.now ++ end.old.saved.items)) client.new
         ((L.seen link.old).honest (is_planned plan.now)) (L.seen link.old).past

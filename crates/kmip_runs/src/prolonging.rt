@@ -149,9 +149,9 @@ fn run_part<L: Link>(
     requires batches { MayBatch runs.now }
     requires prolongs { IfSome next (λ next. Prolongs next.now plan.now) }
     ensures ran { IfOk result (λ read. HasRunWhole plan.now
-        (option_map (λ next. next.now) next.entry) carried.now runs.now (L.seen link.old)
-        (L.seen link.new)
-        end.old end.new read.items) }
+        (option_map (λ next. next.now) next.entry) carried.now runs.now
+        (record { link = L.seen link.old; end = end.old })
+        (record { link = L.seen link.new; end = end.new }) read.items) }
     ensures broken { OnErr result ((AreSame end.old end.new × (link.new ≡ link.old))
         ⊎ HasRunBroken plan.now (option_map (λ next. next.now) next.entry)
         carried.now runs.now (L.seen link.old) (L.seen link.new) end.old end.new) }

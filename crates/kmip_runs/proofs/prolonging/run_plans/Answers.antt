@@ -105,7 +105,8 @@ loop-place-preserved g c =
           c.run_part.new.end c.loop-place.carried.items c.in_ok-carried.carried.items c.keys-in-loop-place.ensures.lawful at so
           (found ∙ ap (λ n. slice_get plans n) further) c.laws_below.ensures.plans.longer c.loop-place.invariant.turning
           (subst (λ saved. HasRunWhole c.index-plans-place.result (option_map (λ next. next.now) c.get-next.result) saved c.as_slice-list.result.now
-          (g.L.Link.seen c.loop-place.link) (g.L.Link.seen c.run_part.new.link) c.loop-place.end c.run_part.new.end c.in_ok-carried.carried.items) c.as_slice.ensures.value c.in_ok-carried.ensures.ran));
+          (record { link = g.L.Link.seen c.loop-place.link; end = c.loop-place.end }) (record { link = g.L.Link.seen c.run_part.new.link; end = c.run_part.new.end })
+          c.in_ok-carried.carried.items) c.as_slice.ensures.value c.in_ok-carried.ensures.ran));
       ended = λ far.
           let near = ((g.L.Link.seen c.loop-place.link).fewer (is_planned (last_plan plans)) (is_planned c.index-plans-place.result) among).0
           (c.loop-place.invariant.turning.honest_still (is_planned (last_plan plans)) far) in
