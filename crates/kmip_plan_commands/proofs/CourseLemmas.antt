@@ -21,10 +21,8 @@ use Rattle.kmip_progress.specs.declared.progress_fault.ProgressFault.{ProgressFa
 use Rattle.kmip_runs.specs.Refusals.{HasRisen}
 use Rattle.kmip_runs.specs.Saved.{AreSaved, IsInMemory, IsLeft, IsWhole, Moment, moment}
 use Rattle.kmip_runs.specs.declared.save_fault.SaveFault.{SaveFault}
-use Rattle.kmip_runs.specs.declared.save_fault.SaveFault.TheVariants as faults
 use Rattle.kmip_runs.specs.CarriesOut.{CarriesOut, Stage}
-use Rattle.kmip_runs.specs.Keeping.{Kept}
-use Rattle.kmip_plan_commands.specs.Course.{Came, IsGoodStart, IsTrueText}
+use Rattle.kmip_plan_commands.specs.Course.{Came, IsGoodStart, IsTrueText, RunState, run_state}
 use Rattle.kmip_plan_commands.specs.Checking.{is_memory, plan_refusal_text}
 use Rattle.kmip_plan_commands.specs.RunText.{Outcome, TellsEither, TellsRunFrom, WritesPlanRun, WritesRun}
 
@@ -37,9 +35,17 @@ same_stop x y e = cc
 no_stop : (fault : SaveFault) (stop : Stop) → ended (Err fault) ≡ ended (Ok stop) → ⊥
 no_stop fault stop e = absurd cc
 
+-- what came, of these parts
+abbrev outcome : List Knowledge → Result Stop SaveFault → ℕ → Outcome
+outcome knowns result exchanges = record { knowns = knowns; result = result; exchanges = exchanges }
+
+-- what is seen at a stage, as the state of a run
+abbrev state_at : Stage → RunState
+state_at s = run_state s.link s.keeper s.is_tired
+
 -- what carrying out a plan promises, where memory did not run out
 came : (limit : ℕ) (old new : Stage) (r : Result Stop SaveFault) (made : ℕ) → IsInMemory r → CarriesOut limit old r made new
-    → Came limit old.client.batch old.is_tired new.is_tired (λ keys. IsGood old.client old.link) old.link new.link old.keeper new.keeper old.client.keys old.client.knowns new.client.knowns r made
+    → Came limit old.client.batch (λ keys. IsGood old.client old.link) (state_at old) (state_at new) old.client.keys old.client.knowns (outcome new.client.knowns r made)
 came limit old new r made whole carries = record {
   kept = carries.kept.kept;
   learnt = λ h. (carries.honestly h).known.1 whole;
@@ -54,17 +60,17 @@ came limit old new r made whole carries = record {
 
 -- where it stopped so
 pub came_stop : (limit : ℕ) (old new : Stage) (r : Result Stop SaveFault) (stop : Stop) (made : ℕ) → r ≡ Ok stop → stop ≢ stops.NoMemory → CarriesOut limit old r made new
-    → Came limit old.client.batch old.is_tired new.is_tired (λ keys. IsGood old.client old.link) old.link new.link old.keeper new.keeper old.client.keys old.client.knowns new.client.knowns (Ok stop) made
+    → Came limit old.client.batch (λ keys. IsGood old.client old.link) (state_at old) (state_at new) old.client.keys old.client.knowns (outcome new.client.knowns (Ok stop) made)
 came_stop limit old new r stop made is other carries =
-    let P : Result Stop SaveFault → Type 0 = λ r. Came limit old.client.batch old.is_tired new.is_tired (λ keys. IsGood old.client old.link) old.link new.link old.keeper new.keeper old.client.keys old.client.knowns new.client.knowns r made in
+    let P : Result Stop SaveFault → Type 0 = λ r. Came limit old.client.batch (λ keys. IsGood old.client old.link) (state_at old) (state_at new) old.client.keys old.client.knowns (outcome new.client.knowns r made) in
     let whole : IsInMemory r = λ e. other (same_stop stop stops.NoMemory (sym is ∙ e)) in
     subst P is (came limit old new r made whole carries)
 
 -- where the last text was not saved
 pub came_unsaved : (limit : ℕ) (old new : Stage) (r : Result Stop SaveFault) (fault same : SaveFault) (made : ℕ) → r ≡ Err fault → fault ≡ same → CarriesOut limit old r made new
-    → Came limit old.client.batch old.is_tired new.is_tired (λ keys. IsGood old.client old.link) old.link new.link old.keeper new.keeper old.client.keys old.client.knowns new.client.knowns (Err same) made
+    → Came limit old.client.batch (λ keys. IsGood old.client old.link) (state_at old) (state_at new) old.client.keys old.client.knowns (outcome new.client.knowns (Err same) made)
 came_unsaved limit old new r fault same made is alike carries =
-    let P : Result Stop SaveFault → Type 0 = λ r. Came limit old.client.batch old.is_tired new.is_tired (λ keys. IsGood old.client old.link) old.link new.link old.keeper new.keeper old.client.keys old.client.knowns new.client.knowns r made in
+    let P : Result Stop SaveFault → Type 0 = λ r. Came limit old.client.batch (λ keys. IsGood old.client old.link) (state_at old) (state_at new) old.client.keys old.client.knowns (outcome new.client.knowns r made) in
     let whole : IsInMemory r = λ e. no_stop fault stops.NoMemory (sym is ∙ e) in
     subst (λ f. P (Err f)) alike (subst P is (came limit old new r made whole carries))
 
@@ -83,31 +89,31 @@ saved_for keys most good other honest a b r made old new f s = record {
   last_is = s.last_is;
 }
 
-came_for : (limit most : ℕ) (was tired : Bool) (good other : List Key → Type 0) (x y : Seen) (i j : Kept) (keys : List Key) (knowns nexts : List Knowledge) (r : Result Stop SaveFault) (made : ℕ)
+came_for : (limit most : ℕ) (good other : List Key → Type 0) (old new : RunState) (keys : List Key) (knowns : List Knowledge) (o : Outcome)
     → (other keys → good keys)
-    → Came limit most was tired good x y i j keys knowns nexts r made
-    → Came limit most was tired other x y i j keys knowns nexts r made
-came_for limit most was tired good other x y i j keys knowns nexts r made f c =
+    → Came limit most good old new keys knowns o
+    → Came limit most other old new keys knowns o
+came_for limit most good other old new keys knowns o f c =
     record {
       kept = c.kept;
       learnt = c.learnt;
-      saved_are = λ k. ((c.saved_are k).0, saved_for keys most (good keys) (other keys) _ _ _ r made _ _ f (c.saved_are k).1);
+      saved_are = λ k. ((c.saved_are k).0, saved_for keys most (good keys) (other keys) _ _ _ o.result o.exchanges _ _ f (c.saved_are k).1);
       settles = c.settles;
       at_limit = c.at_limit;
       given_up = c.given_up;
       unwritten = c.unwritten;
-      outlasts = λ o. c.outlasts (f o);
+      outlasts = λ h. c.outlasts (f h);
     }
 
 -- what is told of a run has come of it, where a lesser premise will do
-tells_for : (one other : Outcome) (keys : List Key) (path : List ℕ) (limit : ℕ) (refused : Bool) (text : List ℕ)
-    → ((knowns : List Knowledge) (r : Result Stop SaveFault) (made : ℕ) → one knowns r made → other knowns r made)
+tells_for : (one other : Outcome → Type 0) (keys : List Key) (path : List ℕ) (limit : ℕ) (refused : Bool) (text : List ℕ)
+    → ((o : Outcome) → one o → other o)
     → TellsEither one keys path limit refused text → TellsEither other keys path limit refused text
 tells_for one other keys path limit refused text f (inl t) = inl (record {
   knowns = t.knowns;
   stop = t.stop;
   exchanges = t.exchanges;
-  has_come = f _ _ _ t.has_come;
+  has_come = f _ t.has_come;
   in_memory = t.in_memory;
   stands = t.stands;
   within = t.within;
@@ -117,7 +123,7 @@ tells_for one other keys path limit refused text f (inl t) = inl (record {
 tells_for one other keys path limit refused text f (inr t) = inr (record {
   knowns = t.knowns;
   exchanges = t.exchanges;
-  has_come = f _ _ _ t.has_come;
+  has_come = f _ t.has_come;
   refused_is = t.refused_is;
   text_is = t.text_is;
 })
@@ -128,25 +134,25 @@ good_start : (a : ClientState) (x : Seen) (text : Option (List ℕ))
 good_start a x text held g = record { honest_for = g.0.honest_for; sound = g.0.sound; held = held g.1 }
 
 -- from what a progress says, what is told has come of the exchanges
-pub tells_start : (untouched : Type 0) (was tired : Bool) (a : ClientState) (x y : Seen) (i j : Kept) (keys : List Key) (text : Option (List ℕ)) (path : List ℕ) (limit : ℕ) (read : Result (List Knowledge) ProgressFault) (refused : Bool) (told : List ℕ)
+pub tells_start : (untouched : Type 0) (a : ClientState) (old new : RunState) (keys : List Key) (text : Option (List ℕ)) (path : List ℕ) (limit : ℕ) (read : Result (List Knowledge) ProgressFault) (refused : Bool) (told : List ℕ)
     → a.keys ≡ keys → read ≡ Ok a.knowns
-    → (IsTrueText x.past.objects keys text → Held x.past.objects a.keys a.knowns)
-    → TellsEither (Came limit a.batch was tired (λ keys. IsGood a x) x y i j a.keys a.knowns) a.keys path limit refused told
-    → TellsRunFrom untouched (Came limit a.batch was tired (IsGoodStart text x) x y i j keys) keys path limit read refused told
-tells_start untouched was tired a x y i j keys text path limit read refused told same is held t =
-    let H : List Key → Type 0 = λ keys. IsTrueText x.past.objects keys text → Held x.past.objects a.keys a.knowns in
-    let came : Outcome = Came limit a.batch was tired (λ keys. IsGood a x) x y i j a.keys a.knowns in
-    let other : Outcome = Came limit a.batch was tired (IsGoodStart text x) x y i j a.keys a.knowns in
-    let P : List Key → Type 0 = λ keys. TellsRunFrom untouched (Came limit a.batch was tired (IsGoodStart text x) x y i j keys) keys path limit read refused told in
-    let Q : Result (List Knowledge) ProgressFault → Type 0 = λ read. TellsRunFrom untouched (Came limit a.batch was tired (IsGoodStart text x) x y i j a.keys) a.keys path limit read refused told in
-    let f : (knowns : List Knowledge) (r : Result Stop SaveFault) (made : ℕ) → came knowns r made → other knowns r made =
-    λ knowns r made c. came_for limit a.batch was tired (λ keys. IsGood a x) (IsGoodStart text x) x y i j a.keys a.knowns knowns r made (good_start a x text (subst H (sym same) held)) c in
+    → (IsTrueText old.link.past.objects keys text → Held old.link.past.objects a.keys a.knowns)
+    → TellsEither (Came limit a.batch (λ keys. IsGood a old.link) old new a.keys a.knowns) a.keys path limit refused told
+    → TellsRunFrom untouched (Came limit a.batch (IsGoodStart text old.link) old new keys) keys path limit read refused told
+tells_start untouched a old new keys text path limit read refused told same is held t =
+    let H : List Key → Type 0 = λ keys. IsTrueText old.link.past.objects keys text → Held old.link.past.objects a.keys a.knowns in
+    let came : Outcome → Type 0 = Came limit a.batch (λ keys. IsGood a old.link) old new a.keys a.knowns in
+    let other : Outcome → Type 0 = Came limit a.batch (IsGoodStart text old.link) old new a.keys a.knowns in
+    let P : List Key → Type 0 = λ keys. TellsRunFrom untouched (Came limit a.batch (IsGoodStart text old.link) old new keys) keys path limit read refused told in
+    let Q : Result (List Knowledge) ProgressFault → Type 0 = λ read. TellsRunFrom untouched (Came limit a.batch (IsGoodStart text old.link) old new a.keys) a.keys path limit read refused told in
+    let f : (o : Outcome) → came o → other o =
+    λ o c. came_for limit a.batch (λ keys. IsGood a old.link) (IsGoodStart text old.link) old new a.keys a.knowns o (good_start a old.link text (subst H (sym same) held)) c in
     subst P same (subst Q (sym is) (tells_for came other a.keys path limit refused told f t))
 
 -- ---- what is written for a text that was read
 
 -- what is written for a plan is written for the text that it was read from
-pub writes_read : (untouched : Type 0) (came : List Key → List Knowledge → Outcome) (read : Result (List Key) PlanFault) (keys : List Key) (saved : Option (List ℕ)) (path : List ℕ) (limit : ℕ) (result : Result Bool CommandFault) (old new : Option (List ℕ))
+pub writes_read : (untouched : Type 0) (came : List Key → List Knowledge → Outcome → Type 0) (read : Result (List Key) PlanFault) (keys : List Key) (saved : Option (List ℕ)) (path : List ℕ) (limit : ℕ) (result : Result Bool CommandFault) (old new : Option (List ℕ))
     → read ≡ Ok keys
     → IfOk result (λ refused. WritesPlanRun untouched (came keys) keys saved path limit refused old new)
     → IfOk result (λ refused. WritesRun untouched came read saved path limit refused old new)
@@ -169,7 +175,7 @@ read_fails (plan_faults.SameName place) read fails known = fails
 read_fails plan_faults.NoMemory read fails known = absurd cc
 
 -- the line of a refusal is written for a text that is no plan
-pub writes_refusal : (untouched : Type 0) (came : List Key → List Knowledge → Outcome) (read : Result (List Key) PlanFault) (fault : PlanFault) (saved : Option (List ℕ)) (path : List ℕ) (limit : ℕ) (result : Result Bool CommandFault) (old new : Option (List ℕ))
+pub writes_refusal : (untouched : Type 0) (came : List Key → List Knowledge → Outcome → Type 0) (read : Result (List Key) PlanFault) (fault : PlanFault) (saved : Option (List ℕ)) (path : List ℕ) (limit : ℕ) (result : Result Bool CommandFault) (old new : Option (List ℕ))
     → untouched → FailsPlan fault read
     → IfOk result (λ refused. is_memory fault ≡ false)
     → IfOk result (λ refused. (refused ≡ true) × Appends old new (plan_refusal_text fault))

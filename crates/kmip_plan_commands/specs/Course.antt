@@ -1,6 +1,6 @@
 -- What comes of a run: what its exchanges taught, what was kept of it, and what stays safe.
 -- Source: own (view), but `KeepsSafe` and `AsksFew`: own (law).
-use Rattle.std.specs.Prelude.{◌≡◌, ◌≤◌, ◌<◌, ◌⊎◌, ⊤, ℕ, Bool, true, false, List, ◌++◌, Option, Some, None, Result, Ok, Err}
+use Rattle.std.specs.Prelude.{◌≡◌, ◌≤◌, ◌<◌, ◌⊎◌, ⊤, ℕ, Bool, true, false, List, ◌++◌, Option, Some, None, Ok, Err}
 use Rattle.std.specs.List.{All, AllZip}
 use Rattle.kmip_objects.specs.Objects.{Object}
 use Rattle.kmip_plan.specs.Chains.{bound}
@@ -16,50 +16,63 @@ use Rattle.kmip_protocol.specs.Seen.{Seen}
 use Rattle.kmip_protocol.specs.Ready.{IsReady}
 use Rattle.kmip_runs.specs.Headline.{GoodLink}
 use Rattle.kmip_runs.specs.Driving.{IsQuestion, Learnt, WentOn}
-use Rattle.kmip_runs.specs.declared.stop.Stop.{Stop}
 use Rattle.kmip_runs.specs.Losing.{IsEnough}
 use Rattle.kmip_runs.specs.declared.stop.Stop.TheVariants as stops
 use Rattle.kmip_runs.specs.Refusals.{HasRisen}
 use Rattle.kmip_runs.specs.Saved.{AreSaved, IsLeft, IsWhole}
-use Rattle.kmip_runs.specs.declared.save_fault.SaveFault.{SaveFault}
 use Rattle.kmip_runs.specs.declared.save_fault.SaveFault.TheVariants as faults
 use Rattle.kmip_runs.specs.Keeping.{Kept}
+use Rattle.kmip_plan_commands.specs.RunText.{Outcome}
 
 -- Nothing was sent, and nothing was kept.
 abbrev pub AreUntouched : {L K : Type 0} → L → L → K → K → Type 0
 AreUntouched old new old_keeper new_keeper = (new ≡ old) × (new_keeper ≡ old_keeper)
 
--- What came of `exchanges` exchanges over a link, each about at most `most` keys. `knowns` is what was
--- known at first, `nexts` what is known then, and `result` says why no more were made. `good` is that the
--- link was honest, all was sound, and what was known was true.
-pub record Came (limit most : ℕ) (was_tired is_tired : Bool) (good : List Key → Type 0) (old new : Seen) (old_keeper new_keeper : Kept) (keys : List Key) (knowns nexts : List Knowledge) (result : Result Stop SaveFault) (exchanges : ℕ) : Type 0 where
+-- The state of a run at a moment: what is seen of its link and its keeper, and whether patience has given up.
+pub record RunState : Type 1 where
+  -- What is seen of the link.
+  pub link : Seen
+  -- What is seen of the keeper.
+  pub keeper : Kept
+  -- Whether patience has given up.
+  pub is_tired : Bool
+
+-- The state of these parts.
+abbrev pub run_state : Seen → Kept → Bool → RunState
+run_state link keeper is_tired = record { link = link; keeper = keeper; is_tired = is_tired }
+
+-- What came of exchanges over a link, each about at most `most` keys, and no more than `limit`. `old` is the
+-- state at first, `new` the state then. `knowns` is what was known at first, and `outcome` says what is known
+-- then, why no more were made, and how many were. `good` is that the link was honest, all was sound, and what
+-- was known was true.
+pub record Came (limit most : ℕ) (good : List Key → Type 0) (old new : RunState) (keys : List Key) (knowns : List Knowledge) (outcome : Outcome) : Type 0 where
   -- No identifier or count is taken back.
-  pub kept : AllZip IsKept knowns nexts
+  pub kept : AllZip IsKept knowns outcome.knowns
   -- Over an honest link, each message asked about keys of the plan. What is known then is what was known
   -- at first and what the exchanges handed over.
-  pub learnt : old.honest (is_planned keys) → Learnt keys most old.past new.past knowns nexts exchanges
+  pub learnt : old.link.honest (is_planned keys) → Learnt keys most old.link.past new.link.past knowns outcome.knowns outcome.exchanges
   -- Where the keeper keeps what it is given, it does so still. The text of what was known after each
   -- exchange was kept, but for the last one where it could not be (`AreSaved`). Where all was good, what
   -- each of these texts says is true of the objects at the end, so that the next run may begin with it.
-  pub saved_are : old_keeper.keeps → new_keeper.keeps
-      × AreSaved keys most (good keys) (old.honest (is_planned keys)) (record { knowns = knowns; past = old.past }) (record { knowns = nexts; past = new.past }) result exchanges old_keeper.saved new_keeper.saved
+  pub saved_are : old.keeper.keeps → new.keeper.keeps
+      × AreSaved keys most (good keys) (old.link.honest (is_planned keys)) (record { knowns = knowns; past = old.link.past }) (record { knowns = outcome.knowns; past = new.link.past }) outcome.result outcome.exchanges old.keeper.saved new.keeper.saved
   -- Over a calm link, with what is ready to settle, and a limit of at least the plan's bound: every key
   -- is finished after no more exchanges than the bound. That is said where each text could be kept,
   -- memory did not run out, and patience has not given up.
-  pub settles : old.calm (is_planned keys) → IsReady old.past.room keys old.past.objects knowns → bound keys ≤ limit → is_tired ≡ false → IsWhole result
-      → (result ≡ Ok stops.AllFinished) × (exchanges ≤ bound keys)
+  pub settles : old.link.calm (is_planned keys) → IsReady old.link.past.room keys old.link.past.objects knowns → bound keys ≤ limit → new.is_tired ≡ false → IsWhole outcome.result
+      → (outcome.result ≡ Ok stops.AllFinished) × (outcome.exchanges ≤ bound keys)
   -- It stops with `Limit` only after as many exchanges as it may make, or where patience has given up.
-  pub at_limit : result ≡ Ok stops.Limit → (exchanges ≡ limit) ⊎ (is_tired ≡ true)
+  pub at_limit : outcome.result ≡ Ok stops.Limit → (outcome.exchanges ≡ limit) ⊎ (new.is_tired ≡ true)
   -- Where patience gives up in the run, fewer exchanges are made than may be, and it stops with `Limit`,
   -- or for want of memory.
-  pub given_up : was_tired ≡ false → is_tired ≡ true → IsLeft result × (exchanges < limit)
+  pub given_up : old.is_tired ≡ false → new.is_tired ≡ true → IsLeft outcome.result × (outcome.exchanges < limit)
   -- That a text could not be written is told only where the keeper's count of refusals has risen, or
   -- stands at its last value.
-  pub unwritten : result ≡ Err faults.Output → HasRisen old_keeper.refusals new_keeper.refusals
+  pub unwritten : outcome.result ≡ Err faults.Output → HasRisen old.keeper.refusals new.keeper.refusals
   -- Where all was good, with no premise of calm: the plan's bound, one exchange for each key, and what
   -- the link counted of the run's disturbed exchanges are enough for every key. That too is said where
   -- each text could be kept, memory did not run out, and patience has not given up.
-  pub outlasts : good keys → is_tired ≡ false → IsWhole result → IsEnough keys limit old.disturbances new.disturbances → result ≡ Ok stops.AllFinished
+  pub outlasts : good keys → new.is_tired ≡ false → IsWhole outcome.result → IsEnough keys limit old.link.disturbances new.link.disturbances → outcome.result ≡ Ok stops.AllFinished
 
 -- The text of a progress, where there is one, says what is true of these objects.
 abbrev pub IsTrueText : List Object → List Key → Option (List ℕ) → Type 0

@@ -22,10 +22,14 @@ use Rattle.kmip_runs.specs.declared.save_fault.SaveFault.{SaveFault}
 use Rattle.kmip_runs.specs.declared.save_fault.SaveFault.TheVariants as faults
 use Rattle.kmip_plan_commands.specs.Checking.{plan_refusal_text}
 
--- What may have come of a run: what is known after it, why no more exchanges were made, and how many
--- were.
-abbrev pub Outcome : Type 1
-Outcome = List Knowledge → Result Stop SaveFault → ℕ → Type 0
+-- What came of a run: what is known after it, why no more exchanges were made, and how many were.
+pub record Outcome : Type 0 where
+  -- What is known of each key.
+  pub knowns : List Knowledge
+  -- Why no more exchanges were made.
+  pub result : Result Stop SaveFault
+  -- How many were made.
+  pub exchanges : ℕ
 
 -- The line that says why a text is no progress of the plan, with the number and the name of the fault.
 unfoldable pub progress_refusal_text : ProgressFault → List ℕ
@@ -53,11 +57,11 @@ begin_knowns keys (Some text) = knowns_read keys (read_text keys text)
 -- The text tells of the exchanges that were made: the report of how the keys stand where the run stopped,
 -- and the line that says why it did and after how many exchanges. What is told has come of these
 -- exchanges. Something is refused unless all keys are finished.
-pub record TellsExchanges (came : Outcome) (keys : List Key) (limit : ℕ) (refused : Bool) (text : List ℕ) : Type 0 where
+pub record TellsExchanges (came : Outcome → Type 0) (keys : List Key) (limit : ℕ) (refused : Bool) (text : List ℕ) : Type 0 where
   pub knowns : List Knowledge
   pub stop : Stop
   pub exchanges : ℕ
-  pub has_come : came knowns (Ok stop) exchanges
+  pub has_come : came (record { knowns = knowns; result = Ok stop; exchanges = exchanges })
   pub in_memory : stop ≢ stops.NoMemory
   pub stands : Stands stop keys knowns
   pub within : exchanges ≤ limit
@@ -66,38 +70,38 @@ pub record TellsExchanges (came : Outcome) (keys : List Key) (limit : ℕ) (refu
 
 -- The text is the line that says that what was known after the last of these exchanges could not be kept
 -- at the path.
-pub record TellsUnwritten (came : Outcome) (path : List ℕ) (refused : Bool) (text : List ℕ) : Type 0 where
+pub record TellsUnwritten (came : Outcome → Type 0) (path : List ℕ) (refused : Bool) (text : List ℕ) : Type 0 where
   pub knowns : List Knowledge
   pub exchanges : ℕ
-  pub has_come : came knowns (Err faults.Output) exchanges
+  pub has_come : came (record { knowns = knowns; result = Err faults.Output; exchanges = exchanges })
   pub refused_is : refused ≡ true
   pub text_is : text ≡ unwritten_text path
 
 -- What is told of exchanges that were made: how the keys stand, or that what was known could not be kept.
-abbrev pub TellsEither : Outcome → List Key → List ℕ → ℕ → Bool → List ℕ → Type 0
+abbrev pub TellsEither : (Outcome → Type 0) → List Key → List ℕ → ℕ → Bool → List ℕ → Type 0
 TellsEither came keys path limit refused text = TellsExchanges came keys limit refused text ⊎ TellsUnwritten came path refused text
 
 -- What is told of a run that begins with what is known at first. Where there is a fault of the progress
 -- instead, the text says why it is refused; nothing was sent, and nothing was kept.
-abbrev pub TellsRunFrom : Type 0 → (List Knowledge → Outcome) → List Key → List ℕ → ℕ → Result (List Knowledge) ProgressFault → Bool → List ℕ → Type 0
+abbrev pub TellsRunFrom : Type 0 → (List Knowledge → Outcome → Type 0) → List Key → List ℕ → ℕ → Result (List Knowledge) ProgressFault → Bool → List ℕ → Type 0
 TellsRunFrom untouched came keys path limit (Ok knowns) refused text = TellsEither (came knowns) keys path limit refused text
 TellsRunFrom untouched came keys path limit (Err fault) refused text = untouched × (refused ≡ true) × (text ≡ progress_refusal_text fault)
 
 -- What is told for what was read of a plan: of a plan, what is told of a run that begins with the text of
 -- a progress. Where the plan is refused, the text says why; nothing was sent, and nothing was kept.
-abbrev pub TellsRun : Type 0 → (List Key → List Knowledge → Outcome) → Result (List Key) PlanFault → Option (List ℕ) → List ℕ → ℕ → Bool → List ℕ → Type 0
+abbrev pub TellsRun : Type 0 → (List Key → List Knowledge → Outcome → Type 0) → Result (List Key) PlanFault → Option (List ℕ) → List ℕ → ℕ → Bool → List ℕ → Type 0
 TellsRun untouched came (Ok keys) saved path limit refused text = TellsRunFrom untouched (came keys) keys path limit (begin_knowns keys saved) refused text
 TellsRun untouched came (Err fault) saved path limit refused text = untouched × (refused ≡ true) × (text ≡ plan_refusal_text fault)
 
 -- What is told for what was read of a plan, and of the text of a progress, was written, and nothing else.
-pub record WritesRun (untouched : Type 0) (came : List Key → List Knowledge → Outcome) (read : Result (List Key) PlanFault) (saved : Option (List ℕ)) (path : List ℕ) (limit : ℕ) (refused : Bool) (old new : Option (List ℕ)) : Type 0 where
+pub record WritesRun (untouched : Type 0) (came : List Key → List Knowledge → Outcome → Type 0) (read : Result (List Key) PlanFault) (saved : Option (List ℕ)) (path : List ℕ) (limit : ℕ) (refused : Bool) (old new : Option (List ℕ)) : Type 0 where
   pub text : List ℕ
   pub tells : TellsRun untouched came read saved path limit refused text
   pub written : Appends old new text
 
 -- What is told for a plan that was read before, and for the text of a progress, was written, and nothing
 -- else.
-pub record WritesPlanRun (untouched : Type 0) (came : List Knowledge → Outcome) (keys : List Key) (saved : Option (List ℕ)) (path : List ℕ) (limit : ℕ) (refused : Bool) (old new : Option (List ℕ)) : Type 0 where
+pub record WritesPlanRun (untouched : Type 0) (came : List Knowledge → Outcome → Type 0) (keys : List Key) (saved : Option (List ℕ)) (path : List ℕ) (limit : ℕ) (refused : Bool) (old new : Option (List ℕ)) : Type 0 where
   pub text : List ℕ
   pub tells : TellsRunFrom untouched came keys path limit (begin_knowns keys saved) refused text
   pub written : Appends old new text

@@ -10,7 +10,7 @@ ghost use Rattle.kmip_protocol.specs.Past.{is_planned};
 ghost use Rattle.kmip_runs.specs.Headline.{GoodLink};
 ghost use Rattle.kmip_runs.specs.Driving.{IsGood};
 ghost use Rattle.kmip_plan_commands.specs.Checking.{is_memory, plan_refusal_text};
-ghost use Rattle.kmip_plan_commands.specs.Course.{AreUntouched, AsksFew, Came, IsGoodStart, IsTrueText, KeepsSafe};
+ghost use Rattle.kmip_plan_commands.specs.Course.{AreUntouched, AsksFew, Came, IsGoodStart, IsTrueText, KeepsSafe, run_state};
 ghost use Rattle.kmip_plan_commands.specs.RunText.{TellsEither, TellsRunFrom, WritesPlanRun, WritesRun, begin_knowns};
 
 use crate::beginning::begin;
@@ -56,9 +56,9 @@ pub fn run_run<L: Link, K: Keeper, E: Patience, W: Write>(
     ensures text { IfWhole result (λ r. WritesRun
         (AreUntouched link.old link.new keeper.old keeper.new)
         (Came input.now.limit input.now.batch
-        (E.has_given_up patience.old) (E.has_given_up patience.new)
         (IsGoodStart (option_map (λ text. text.now) saved.entry) (L.seen link.old))
-        (L.seen link.old) (L.seen link.new) (K.kept keeper.old) (K.kept keeper.new))
+        (run_state (L.seen link.old) (K.kept keeper.old) (E.has_given_up patience.old))
+        (run_state (L.seen link.new) (K.kept keeper.new) (E.has_given_up patience.new)))
         (plan_read plan.now) (option_map (λ text. text.now) saved.entry)
         input.now.path.now input.now.limit r (W.contents writer.old) (W.contents writer.new)) }
     // Where it ends with `Failed`, exactly the line of the fault is written. Of a writer that failed,
@@ -106,9 +106,9 @@ pub fn run_plan<L: Link, K: Keeper, E: Patience, W: Write>(
     ensures text { IfWhole result (λ r. WritesPlanRun
         (AreUntouched link.old link.new keeper.old keeper.new)
         (Came input.now.limit input.now.batch
-        (E.has_given_up patience.old) (E.has_given_up patience.new)
         (IsGoodStart (option_map (λ text. text.now) saved.entry) (L.seen link.old))
-        (L.seen link.old) (L.seen link.new) (K.kept keeper.old) (K.kept keeper.new) plan.now)
+        (run_state (L.seen link.old) (K.kept keeper.old) (E.has_given_up patience.old))
+        (run_state (L.seen link.new) (K.kept keeper.new) (E.has_given_up patience.new)) plan.now)
         plan.now (option_map (λ text. text.now) saved.entry)
         input.now.path.now input.now.limit r (W.contents writer.old) (W.contents writer.new)) }
     // Where it ends with `Failed`, exactly the line of the fault is written. Of a writer that failed,
@@ -188,9 +188,9 @@ pub fn run<L: Link, K: Keeper, E: Patience, W: Write>(
     ensures text { IfOk result (λ r. WritesRun
         (AreUntouched link.old link.new keeper.old keeper.new)
         (Came input.now.limit input.now.batch
-        (E.has_given_up patience.old) (E.has_given_up patience.new)
         (IsGoodStart (option_map (λ text. text.now) saved.entry) (L.seen link.old))
-        (L.seen link.old) (L.seen link.new) (K.kept keeper.old) (K.kept keeper.new))
+        (run_state (L.seen link.old) (K.kept keeper.old) (E.has_given_up patience.old))
+        (run_state (L.seen link.new) (K.kept keeper.new) (E.has_given_up patience.new)))
         (plan_read plan.now) (option_map (λ text. text.now) saved.entry)
         input.now.path.now input.now.limit r (W.contents writer.old) (W.contents writer.new)) }
     // At want of memory nothing is written. Of a writer that failed, nothing is said.
@@ -240,9 +240,9 @@ pub fn run_bytes<L: Link, K: Keeper, E: Patience>(
     ensures text { IfOk result (λ r. WritesRun
         (AreUntouched link.old link.new keeper.old keeper.new)
         (Came input.now.limit input.now.batch
-        (E.has_given_up patience.old) (E.has_given_up patience.new)
         (IsGoodStart (option_map (λ text. text.now) saved.entry) (L.seen link.old))
-        (L.seen link.old) (L.seen link.new) (K.kept keeper.old) (K.kept keeper.new))
+        (run_state (L.seen link.old) (K.kept keeper.old) (E.has_given_up patience.old))
+        (run_state (L.seen link.new) (K.kept keeper.new) (E.has_given_up patience.new)))
         (plan_read plan.now) (option_map (λ text. text.now) saved.entry)
         input.now.path.now input.now.limit r (Some output.old.items) (Some output.new.items)) }
     // At want of memory, the only fault, nothing is appended.
@@ -302,9 +302,9 @@ fn run_to<L: Link, K: Keeper, E: Patience, P: Printer>(
     ensures text { IfOk result (λ r. WritesRun
         (AreUntouched link.old link.new keeper.old keeper.new)
         (Came input.now.limit input.now.batch
-        (E.has_given_up patience.old) (E.has_given_up patience.new)
         (IsGoodStart (option_map (λ text. text.now) saved.entry) (L.seen link.old))
-        (L.seen link.old) (L.seen link.new) (K.kept keeper.old) (K.kept keeper.new))
+        (run_state (L.seen link.old) (K.kept keeper.old) (E.has_given_up patience.old))
+        (run_state (L.seen link.new) (K.kept keeper.new) (E.has_given_up patience.new)))
         (plan_read plan.now) (option_map (λ text. text.now) saved.entry)
         input.now.path.now input.now.limit r (P.contents printer.old) (P.contents printer.new)) }
     ensures broken { IfErr result (λ fault. Fails fault P.own_fault P.IsWhole
@@ -368,9 +368,9 @@ fn run_plan_to<L: Link, K: Keeper, E: Patience, P: Printer>(
     ensures text { IfOk result (λ r. WritesPlanRun
         (AreUntouched link.old link.new keeper.old keeper.new)
         (Came input.now.limit input.now.batch
-        (E.has_given_up patience.old) (E.has_given_up patience.new)
         (IsGoodStart (option_map (λ text. text.now) saved.entry) (L.seen link.old))
-        (L.seen link.old) (L.seen link.new) (K.kept keeper.old) (K.kept keeper.new) plan.now)
+        (run_state (L.seen link.old) (K.kept keeper.old) (E.has_given_up patience.old))
+        (run_state (L.seen link.new) (K.kept keeper.new) (E.has_given_up patience.new)) plan.now)
         plan.now (option_map (λ text. text.now) saved.entry)
         input.now.path.now input.now.limit r (P.contents printer.old) (P.contents printer.new)) }
     ensures broken { IfErr result (λ fault. Fails fault P.own_fault P.IsWhole
@@ -404,9 +404,9 @@ fn told_of_plan<L: Link, K: Keeper, E: Patience>(
     ensures text { IfOk result (λ told. TellsRunFrom
         (AreUntouched link.old link.new keeper.old keeper.new)
         (Came input.now.limit input.now.batch
-        (E.has_given_up patience.old) (E.has_given_up patience.new)
         (IsGoodStart (option_map (λ text. text.now) saved.entry) (L.seen link.old))
-        (L.seen link.old) (L.seen link.new) (K.kept keeper.old) (K.kept keeper.new) plan.now)
+        (run_state (L.seen link.old) (K.kept keeper.old) (E.has_given_up patience.old))
+        (run_state (L.seen link.new) (K.kept keeper.new) (E.has_given_up patience.new)) plan.now)
         plan.now input.now.path.now input.now.limit
         (begin_knowns plan.now (option_map (λ text. text.now) saved.entry))
         told.refused told.text.items) }
@@ -451,10 +451,10 @@ fn told_of_exchanges<L: Link, K: Keeper, E: Patience>(
 ) -> Result<Told, NoMemory>
     ensures text { IfOk result (λ told. TellsEither
         (Came input.now.limit client.old.batch
-        (E.has_given_up patience.old) (E.has_given_up patience.new)
         (λ keys. IsGood client.old (L.seen link.old))
-        (L.seen link.old) (L.seen link.new) (K.kept keeper.old) (K.kept keeper.new) client.old.keys
-        client.old.knowns)
+        (run_state (L.seen link.old) (K.kept keeper.old) (E.has_given_up patience.old))
+        (run_state (L.seen link.new) (K.kept keeper.new) (E.has_given_up patience.new))
+        client.old.keys client.old.knowns)
         client.old.keys input.now.path.now input.now.limit told.refused told.text.items) }
     ensures safe { IsGood client.old (L.seen link.old)
         → KeepsSafe client.old.keys (L.seen link.old) (L.seen link.new) }
