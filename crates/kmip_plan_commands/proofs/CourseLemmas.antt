@@ -24,7 +24,7 @@ use Rattle.kmip_runs.specs.declared.save_fault.SaveFault.{SaveFault}
 use Rattle.kmip_runs.specs.CarriesOut.{CarriesOut, Stage}
 use Rattle.kmip_plan_commands.specs.Course.{Came, IsGoodStart, IsTrueText, RunState, run_state}
 use Rattle.kmip_plan_commands.specs.Checking.{is_memory, plan_refusal_text}
-use Rattle.kmip_plan_commands.specs.RunText.{Outcome, TellsEither, TellsRunFrom, WritesPlanRun, WritesRun}
+use Rattle.kmip_plan_commands.specs.RunText.{Outcome, TellsEither, TellsRun, TellsRunFrom, Writes, begin_knowns}
 
 abbrev ended : Result Stop SaveFault → Result Stop SaveFault
 ended r = r
@@ -154,9 +154,9 @@ tells_start untouched a old new keys text path limit read refused told same is h
 -- what is written for a plan is written for the text that it was read from
 pub writes_read : (untouched : Type 0) (came : List Key → List Knowledge → Outcome → Type 0) (read : Result (List Key) PlanFault) (keys : List Key) (saved : Option (List ℕ)) (path : List ℕ) (limit : ℕ) (result : Result Bool CommandFault) (old new : Option (List ℕ))
     → read ≡ Ok keys
-    → IfOk result (λ refused. WritesPlanRun untouched (came keys) keys saved path limit refused old new)
-    → IfOk result (λ refused. WritesRun untouched came read saved path limit refused old new)
-writes_read untouched came read keys saved path limit (Ok refused) old new is w = record { text = w.text; tells = rw is w.tells; written = w.written }
+    → IfOk result (λ refused. Writes (TellsRunFrom untouched (came keys) keys path limit (begin_knowns keys saved) refused) old new)
+    → IfOk result (λ refused. Writes (TellsRun untouched came read saved path limit refused) old new)
+writes_read untouched came read keys saved path limit (Ok refused) old new is w = record { text = w.text; told = rw is w.told; written = w.written }
 writes_read untouched came read keys saved path limit (Err fault) old new is w = tt
 
 -- a fault that is not want of memory is the one that reading gives
@@ -179,7 +179,7 @@ pub writes_refusal : (untouched : Type 0) (came : List Key → List Knowledge �
     → untouched → FailsPlan fault read
     → IfOk result (λ refused. is_memory fault ≡ false)
     → IfOk result (λ refused. (refused ≡ true) × Appends old new (plan_refusal_text fault))
-    → IfOk result (λ refused. WritesRun untouched came read saved path limit refused old new)
+    → IfOk result (λ refused. Writes (TellsRun untouched came read saved path limit refused) old new)
 writes_refusal untouched came read fault saved path limit (Ok refused) old new kept fails known w =
-    record { text = plan_refusal_text fault; tells = rw (read_fails fault read fails known) (kept, w.0, refl); written = w.1 }
+    record { text = plan_refusal_text fault; told = rw (read_fails fault read fails known) (kept, w.0, refl); written = w.1 }
 writes_refusal untouched came read fault saved path limit (Err f) old new kept fails known w = tt

@@ -93,15 +93,11 @@ abbrev pub TellsRun : Type 0 → (List Key → List Knowledge → Outcome → Ty
 TellsRun untouched came (Ok keys) saved path limit refused text = TellsRunFrom untouched (came keys) keys path limit (begin_knowns keys saved) refused text
 TellsRun untouched came (Err fault) saved path limit refused text = untouched × (refused ≡ true) × (text ≡ plan_refusal_text fault)
 
--- What is told for what was read of a plan, and of the text of a progress, was written, and nothing else.
-pub record WritesRun (untouched : Type 0) (came : List Key → List Knowledge → Outcome → Type 0) (read : Result (List Key) PlanFault) (saved : Option (List ℕ)) (path : List ℕ) (limit : ℕ) (refused : Bool) (old new : Option (List ℕ)) : Type 0 where
+-- A text that tells this was written, and nothing else.
+pub record Writes (tells : List ℕ → Type 0) (old new : Option (List ℕ)) : Type 0 where
+  -- The text.
   pub text : List ℕ
-  pub tells : TellsRun untouched came read saved path limit refused text
-  pub written : Appends old new text
-
--- What is told for a plan that was read before, and for the text of a progress, was written, and nothing
--- else.
-pub record WritesPlanRun (untouched : Type 0) (came : List Knowledge → Outcome → Type 0) (keys : List Key) (saved : Option (List ℕ)) (path : List ℕ) (limit : ℕ) (refused : Bool) (old new : Option (List ℕ)) : Type 0 where
-  pub text : List ℕ
-  pub tells : TellsRunFrom untouched came keys path limit (begin_knowns keys saved) refused text
+  -- It tells this.
+  pub told : tells text
+  -- It was written, and nothing else.
   pub written : Appends old new text

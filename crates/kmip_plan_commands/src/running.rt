@@ -11,7 +11,7 @@ ghost use Rattle.kmip_runs.specs.Headline.{GoodLink};
 ghost use Rattle.kmip_runs.specs.Driving.{IsGood};
 ghost use Rattle.kmip_plan_commands.specs.Checking.{is_memory, plan_refusal_text};
 ghost use Rattle.kmip_plan_commands.specs.Course.{AreUntouched, AsksFew, Came, IsGoodStart, IsTrueText, KeepsSafe, run_state};
-ghost use Rattle.kmip_plan_commands.specs.RunText.{TellsEither, TellsRunFrom, WritesPlanRun, WritesRun, begin_knowns};
+ghost use Rattle.kmip_plan_commands.specs.RunText.{TellsEither, TellsRun, TellsRunFrom, Writes, begin_knowns};
 
 use crate::beginning::begin;
 use crate::push_refusal;
@@ -51,16 +51,17 @@ pub fn run_run<L: Link, K: Keeper, E: Patience, W: Write>(
     // The `batch` of the input is a number from 1 to 8.
     requires { IsTrue (may_have input.now.batch) }
     // It never ends with `Usage`. Where it ends with `Done` or `Refused`, what is written is as for
-    // `run`, whole (`WritesRun`). It is `Refused` exactly where something was refused, not kept or left
+    // `run`, whole (`TellsRun`). It is `Refused` exactly where something was refused, not kept or left
     // unfinished. What is told has come of the exchanges that are told: `Came`.
-    ensures text { IfWhole result (λ r. WritesRun
+    ensures text { IfWhole result (λ r. Writes (TellsRun
         (AreUntouched link.old link.new keeper.old keeper.new)
         (Came input.now.limit input.now.batch
         (IsGoodStart (option_map (λ text. text.now) saved.entry) (L.seen link.old))
         (run_state (L.seen link.old) (K.kept keeper.old) (E.has_given_up patience.old))
         (run_state (L.seen link.new) (K.kept keeper.new) (E.has_given_up patience.new)))
         (plan_read plan.now) (option_map (λ text. text.now) saved.entry)
-        input.now.path.now input.now.limit r (W.contents writer.old) (W.contents writer.new)) }
+        input.now.path.now input.now.limit r)
+        (W.contents writer.old) (W.contents writer.new)) }
     // Where it ends with `Failed`, exactly the line of the fault is written. Of a writer that failed,
     // nothing is said.
     ensures broken { IfFailed result (λ fault. UnlessOutput fault
@@ -101,16 +102,17 @@ pub fn run_plan<L: Link, K: Keeper, E: Patience, W: Write>(
     requires { IsTrue (may_have input.now.batch) }
     // It never ends with `Usage`. Where it ends with `Done` or `Refused`, what is written for this plan
     // is whole: the report, that what was known could not be kept, or why the progress is refused
-    // (`WritesPlanRun`). It is `Refused` exactly where something was refused, not kept or left
+    // (`TellsRunFrom`). It is `Refused` exactly where something was refused, not kept or left
     // unfinished. What is told has come of the exchanges that are told: `Came`.
-    ensures text { IfWhole result (λ r. WritesPlanRun
+    ensures text { IfWhole result (λ r. Writes (TellsRunFrom
         (AreUntouched link.old link.new keeper.old keeper.new)
         (Came input.now.limit input.now.batch
         (IsGoodStart (option_map (λ text. text.now) saved.entry) (L.seen link.old))
         (run_state (L.seen link.old) (K.kept keeper.old) (E.has_given_up patience.old))
         (run_state (L.seen link.new) (K.kept keeper.new) (E.has_given_up patience.new)) plan.now)
-        plan.now (option_map (λ text. text.now) saved.entry)
-        input.now.path.now input.now.limit r (W.contents writer.old) (W.contents writer.new)) }
+        plan.now input.now.path.now input.now.limit
+        (begin_knowns plan.now (option_map (λ text. text.now) saved.entry)) r)
+        (W.contents writer.old) (W.contents writer.new)) }
     // Where it ends with `Failed`, exactly the line of the fault is written. Of a writer that failed,
     // nothing is said.
     ensures broken { IfFailed result (λ fault. UnlessOutput fault
@@ -182,17 +184,18 @@ pub fn run<L: Link, K: Keeper, E: Patience, W: Write>(
     // The `batch` of the input is a number from 1 to 8.
     requires { IsTrue (may_have input.now.batch) }
     // What is written is for what the text of the plan says, and the result says whether something was
-    // refused, not kept or left unfinished: `WritesRun`. What is told has come of the exchanges that are
+    // refused, not kept or left unfinished: `TellsRun`. What is told has come of the exchanges that are
     // told. `Came` says what they taught, what was kept after each, when the limit is enough for all
     // keys, and when fewer are made.
-    ensures text { IfOk result (λ r. WritesRun
+    ensures text { IfOk result (λ r. Writes (TellsRun
         (AreUntouched link.old link.new keeper.old keeper.new)
         (Came input.now.limit input.now.batch
         (IsGoodStart (option_map (λ text. text.now) saved.entry) (L.seen link.old))
         (run_state (L.seen link.old) (K.kept keeper.old) (E.has_given_up patience.old))
         (run_state (L.seen link.new) (K.kept keeper.new) (E.has_given_up patience.new)))
         (plan_read plan.now) (option_map (λ text. text.now) saved.entry)
-        input.now.path.now input.now.limit r (W.contents writer.old) (W.contents writer.new)) }
+        input.now.path.now input.now.limit r)
+        (W.contents writer.old) (W.contents writer.new)) }
     // At want of memory nothing is written. Of a writer that failed, nothing is said.
     ensures broken { IfErr result (λ fault. UnlessOutput fault
         (Appends (W.contents writer.old) (W.contents writer.new) [])) }
@@ -235,16 +238,17 @@ pub fn run_bytes<L: Link, K: Keeper, E: Patience>(
     // The `batch` of the input is a number from 1 to 8.
     requires { IsTrue (may_have input.now.batch) }
     // What is appended is for what the text of the plan says, and the result says whether something was
-    // refused, not kept or left unfinished: `WritesRun`. What is told has come of the exchanges that are
+    // refused, not kept or left unfinished: `TellsRun`. What is told has come of the exchanges that are
     // told: `Came`.
-    ensures text { IfOk result (λ r. WritesRun
+    ensures text { IfOk result (λ r. Writes (TellsRun
         (AreUntouched link.old link.new keeper.old keeper.new)
         (Came input.now.limit input.now.batch
         (IsGoodStart (option_map (λ text. text.now) saved.entry) (L.seen link.old))
         (run_state (L.seen link.old) (K.kept keeper.old) (E.has_given_up patience.old))
         (run_state (L.seen link.new) (K.kept keeper.new) (E.has_given_up patience.new)))
         (plan_read plan.now) (option_map (λ text. text.now) saved.entry)
-        input.now.path.now input.now.limit r (Some output.old.items) (Some output.new.items)) }
+        input.now.path.now input.now.limit r)
+        (Some output.old.items) (Some output.new.items)) }
     // At want of memory, the only fault, nothing is appended.
     ensures broken { OnErr result (output.new.items ≡ output.old.items) }
     // It asks that the text is a plan, that the link is honest for its names, that all that has happened
@@ -299,14 +303,15 @@ fn run_to<L: Link, K: Keeper, E: Patience, P: Printer>(
     printer: &mut P,
 ) -> Result<bool, CommandFault>
     requires { IsTrue (may_have input.now.batch) }
-    ensures text { IfOk result (λ r. WritesRun
+    ensures text { IfOk result (λ r. Writes (TellsRun
         (AreUntouched link.old link.new keeper.old keeper.new)
         (Came input.now.limit input.now.batch
         (IsGoodStart (option_map (λ text. text.now) saved.entry) (L.seen link.old))
         (run_state (L.seen link.old) (K.kept keeper.old) (E.has_given_up patience.old))
         (run_state (L.seen link.new) (K.kept keeper.new) (E.has_given_up patience.new)))
         (plan_read plan.now) (option_map (λ text. text.now) saved.entry)
-        input.now.path.now input.now.limit r (P.contents printer.old) (P.contents printer.new)) }
+        input.now.path.now input.now.limit r)
+        (P.contents printer.old) (P.contents printer.new)) }
     ensures broken { IfErr result (λ fault. Fails fault P.own_fault P.IsWhole
         (P.contents printer.old) (P.contents printer.new)) }
     ensures safe { (keys : List Key) → plan_read plan.now ≡ Ok keys
@@ -365,14 +370,15 @@ fn run_plan_to<L: Link, K: Keeper, E: Patience, P: Printer>(
     printer: &mut P,
 ) -> Result<bool, CommandFault>
     requires { IsTrue (may_have input.now.batch) }
-    ensures text { IfOk result (λ r. WritesPlanRun
+    ensures text { IfOk result (λ r. Writes (TellsRunFrom
         (AreUntouched link.old link.new keeper.old keeper.new)
         (Came input.now.limit input.now.batch
         (IsGoodStart (option_map (λ text. text.now) saved.entry) (L.seen link.old))
         (run_state (L.seen link.old) (K.kept keeper.old) (E.has_given_up patience.old))
         (run_state (L.seen link.new) (K.kept keeper.new) (E.has_given_up patience.new)) plan.now)
-        plan.now (option_map (λ text. text.now) saved.entry)
-        input.now.path.now input.now.limit r (P.contents printer.old) (P.contents printer.new)) }
+        plan.now input.now.path.now input.now.limit
+        (begin_knowns plan.now (option_map (λ text. text.now) saved.entry)) r)
+        (P.contents printer.old) (P.contents printer.new)) }
     ensures broken { IfErr result (λ fault. Fails fault P.own_fault P.IsWhole
         (P.contents printer.old) (P.contents printer.new)) }
     ensures safe { GoodLink plan.now (L.seen link.old)
