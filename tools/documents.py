@@ -1,5 +1,5 @@
 """Compares the documents with the code: the names in them, where their links lead, how long they are, and what the
-sources say of themselves."""
+sources say of themselves and bring in."""
 import re
 
 from comments import check_comments
@@ -11,6 +11,7 @@ from mistakes import check_mistakes
 from own_numbers import check_own_numbers
 from prose import check_prose, documents
 from sources import CRATES
+from uses import check_uses
 from ways import check_ways
 
 NAME = re.compile(r'`((?:\w+::)*[A-Za-z]+(?:_\w+|[a-z0-9][A-Z]\w*))`')
@@ -20,6 +21,7 @@ def check(repository):
     """Prints what does not fit, and returns the exit status: 1 where there is something."""
     faults = check_comments(repository) + check_headline(repository) + check_own_numbers() + check_layers()
     faults += check_links() + check_names() + check_messages() + check_mistakes(repository) + check_ways() + check_prose()
+    faults += check_uses(repository)
     print(f'{faults} places to look at' if faults else 'nothing to look at')
     return 1 if faults else 0
 
