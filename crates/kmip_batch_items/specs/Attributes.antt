@@ -3,7 +3,7 @@
 -- Source: KMIP 2.1, Message Structure, Object Attributes, and Operations, Locate and Get Attributes. Own
 -- (choice): the range of a name in a request, and that other items in Attributes of a request are refused.
 -- Own (order): the order in which attributes are written and read.
-use Rattle.std.specs.Prelude.{◌≡◌, ℕ, List, [], ◌∷◌, Option, Some, None, IsTrue}
+use Rattle.std.specs.Prelude.{◌≡◌, ℕ, List, Option, Some, None, IsTrue}
 use Rattle.std.specs.Option.{option_map}
 use Rattle.kmip_ttlv.specs.Node.{Node, integer, enumeration, text_string}
 use Rattle.kmip_batch_items.specs.Formats.{Format, inside, integers, enumerations, optional, as_record, ◌⊗◌}
@@ -11,6 +11,7 @@ use Rattle.kmip_batch_items.specs.Occurrences.{Once, AtMostOnce, HaveTags}
 use Rattle.kmip_objects.specs.Ranges.{is_name}
 use Rattle.kmip_objects.specs.declared.attrs.Attrs.{Attrs}
 use Rattle.kmip_batch_items.specs.declared.standard.TheConstants.{
+  FILTER_TAGS,
   TAG_OBJECT_TYPE,
   TAG_NAME,
   TAG_NAME_VALUE,
@@ -46,14 +47,10 @@ IsNameIfAny attributes (Some name) = IsAnyName attributes name
 
 -- ---- each attribute
 
--- the tags of the attributes that keys are looked for by
-abbrev pub filter_tags : List ℕ
-filter_tags = TAG_OBJECT_TYPE ∷ TAG_NAME ∷ TAG_CRYPTOGRAPHIC_ALGORITHM ∷ TAG_CRYPTOGRAPHIC_LENGTH ∷ TAG_CRYPTOGRAPHIC_USAGE_MASK ∷ TAG_STATE ∷ []
-
 -- The attributes of a Locate say what to look for. The Name has to be there, each other may be there once,
 -- and no attribute outside the profile is.
 pub record IsFilter (attributes : List Node) (filter : Attrs) : Type 0 where
-  pub no_others : HaveTags filter_tags attributes
+  pub no_others : HaveTags FILTER_TAGS attributes
   pub object_type : AtMostOnce TAG_OBJECT_TYPE (option_map enumeration filter.object_type) attributes
   pub text : List ℕ
   pub has_name : Some text ≡ filter.name

@@ -3,7 +3,7 @@
 -- Source: KMIP 2.1, Message Structure (Request Message), Operations (Create, Locate, Get Attributes,
 -- Activate, Revoke, Destroy) and Object Attributes. Own (choice): the ranges, and that other items in
 -- Attributes are refused.
-use Rattle.std.specs.Prelude.{ℕ, ℤ, List, [], ◌∷◌, Option, IsTrue}
+use Rattle.std.specs.Prelude.{ℕ, ℤ, List, Option, IsTrue}
 use Rattle.std.specs.Option.{option_map}
 use Rattle.kmip_ttlv.specs.Node.{Node, integer, enumeration}
 use Rattle.kmip_objects.specs.declared.key_attrs.KeyAttrs.{KeyAttrs}
@@ -11,6 +11,7 @@ use Rattle.kmip_objects.specs.declared.attrs.Attrs.{Attrs}
 use Rattle.kmip_batch_items.specs.declared.ask.Ask.{Ask}
 use Rattle.kmip_batch_items.specs.declared.ask.Ask.TheVariants.{Create, Locate, GetAttributes, Activate, Revoke, Destroy}
 use Rattle.kmip_batch_items.specs.declared.standard.TheConstants.{
+  KEY_TAGS,
   TAG_PROTOCOL_VERSION,
   TAG_PROTOCOL_VERSION_MAJOR,
   TAG_PROTOCOL_VERSION_MINOR,
@@ -18,7 +19,6 @@ use Rattle.kmip_batch_items.specs.declared.standard.TheConstants.{
   TAG_REQUEST_PAYLOAD,
   TAG_OBJECT_TYPE,
   TAG_ATTRIBUTES,
-  TAG_NAME,
   TAG_CRYPTOGRAPHIC_ALGORITHM,
   TAG_CRYPTOGRAPHIC_LENGTH,
   TAG_CRYPTOGRAPHIC_USAGE_MASK,
@@ -43,13 +43,9 @@ pub record IsVersion (header : List Node) : Type 0 where
   pub major : Once TAG_PROTOCOL_VERSION_MAJOR (integer VERSION_MAJOR) parts
   pub minor : Once TAG_PROTOCOL_VERSION_MINOR (integer VERSION_MINOR) parts
 
--- the tags of the attributes of a new key
-abbrev pub key_tags : List ℕ
-key_tags = TAG_NAME ∷ TAG_CRYPTOGRAPHIC_ALGORITHM ∷ TAG_CRYPTOGRAPHIC_LENGTH ∷ TAG_CRYPTOGRAPHIC_USAGE_MASK ∷ []
-
 -- The attributes are those of a new key, all four of them in their ranges, and no others.
 pub record IsKeyAttrs (attributes : List Node) (key : KeyAttrs) : Type 0 where
-  pub no_others : HaveTags key_tags attributes
+  pub no_others : HaveTags KEY_TAGS attributes
   pub called : IsName attributes key.name
   pub algorithm : Once TAG_CRYPTOGRAPHIC_ALGORITHM (enumeration key.algorithm) attributes
   pub algorithm_in_range : IsTrue (is_algorithm key.algorithm)

@@ -18,7 +18,7 @@ use crate::fitting::{name_size, number_size};
 use crate::reply_reading::any_name_of;
 use crate::request_reading::name_of;
 use crate::standard::{
-    TAG_ATTRIBUTES, TAG_CRYPTOGRAPHIC_ALGORITHM, TAG_CRYPTOGRAPHIC_LENGTH,
+    FILTER_TAGS, TAG_ATTRIBUTES, TAG_CRYPTOGRAPHIC_ALGORITHM, TAG_CRYPTOGRAPHIC_LENGTH,
     TAG_CRYPTOGRAPHIC_USAGE_MASK, TAG_NAME, TAG_OBJECT_TYPE, TAG_STATE,
 };
 use crate::{MessageFault, enumeration_if_any, integer_if_any, only};
@@ -62,17 +62,7 @@ pub(crate) fn filter_of(alloc: Global, attributes: &[Item]) -> Result<Attrs, Mes
     ensures exact { Gives (λ a. a) result (filter_format.read (views attributes.now)) }
     ensures fits { IfOk result (λ a. IsTrue (option_map_or is_name a.name false)) }
 {
-    only(
-        &[
-            TAG_OBJECT_TYPE,
-            TAG_NAME,
-            TAG_CRYPTOGRAPHIC_ALGORITHM,
-            TAG_CRYPTOGRAPHIC_LENGTH,
-            TAG_CRYPTOGRAPHIC_USAGE_MASK,
-            TAG_STATE,
-        ],
-        attributes,
-    )?;
+    only(&FILTER_TAGS, attributes)?;
     let object_type = enumeration_if_any(attributes, TAG_OBJECT_TYPE)?;
     let name = name_of(alloc, attributes)?;
     let algorithm = enumeration_if_any(attributes, TAG_CRYPTOGRAPHIC_ALGORITHM)?;

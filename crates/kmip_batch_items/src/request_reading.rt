@@ -25,7 +25,7 @@ use crate::parts::{id_of, identifier_of};
 use crate::refusal::Refusal;
 use crate::request::Request;
 use crate::standard::{
-    NAME_TYPE_UNINTERPRETED_TEXT_STRING, TAG_ATTRIBUTES, TAG_CRYPTOGRAPHIC_ALGORITHM,
+    KEY_TAGS, NAME_TYPE_UNINTERPRETED_TEXT_STRING, TAG_ATTRIBUTES, TAG_CRYPTOGRAPHIC_ALGORITHM,
     TAG_CRYPTOGRAPHIC_LENGTH, TAG_CRYPTOGRAPHIC_USAGE_MASK, TAG_NAME, TAG_NAME_TYPE,
     TAG_NAME_VALUE, TAG_OBJECT_TYPE, TAG_OPERATION, TAG_REQUEST_PAYLOAD, TAG_REVOCATION_REASON,
     TAG_REVOCATION_REASON_CODE, TAG_STORAGE_STATUS_MASK, VERSION_MAJOR, VERSION_MINOR,
@@ -145,15 +145,7 @@ fn key_attrs_of(alloc: Global, attributes: &[Item]) -> Result<KeyAttrs, MessageF
     ensures exact { Gives (λ k. k) result (key_attrs_format.read (views attributes.now)) }
     ensures fits { IfOk result (λ k. IsTrue (attrs_fit k)) }
 {
-    only(
-        &[
-            TAG_NAME,
-            TAG_CRYPTOGRAPHIC_ALGORITHM,
-            TAG_CRYPTOGRAPHIC_LENGTH,
-            TAG_CRYPTOGRAPHIC_USAGE_MASK,
-        ],
-        attributes,
-    )?;
+    only(&KEY_TAGS, attributes)?;
     let name = name_of(alloc, attributes)?;
     let algorithm = the_enumeration(attributes, TAG_CRYPTOGRAPHIC_ALGORITHM)?;
     within(TAG_CRYPTOGRAPHIC_ALGORITHM, is_algorithm(algorithm))?;

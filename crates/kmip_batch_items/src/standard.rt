@@ -67,6 +67,26 @@ pub const TAG_UNIQUE_IDENTIFIER: u32 = 0x420094;
 
 pub const TAG_ATTRIBUTES: u32 = 0x420125;
 
+// What Attributes have in which no others may stand (own).
+
+/// The attributes of a new key.
+pub const KEY_TAGS: [u32; 4] = [
+    TAG_NAME,
+    TAG_CRYPTOGRAPHIC_ALGORITHM,
+    TAG_CRYPTOGRAPHIC_LENGTH,
+    TAG_CRYPTOGRAPHIC_USAGE_MASK,
+];
+
+/// The attributes that keys are looked for by.
+pub const FILTER_TAGS: [u32; 6] = [
+    TAG_OBJECT_TYPE,
+    TAG_NAME,
+    TAG_CRYPTOGRAPHIC_ALGORITHM,
+    TAG_CRYPTOGRAPHIC_LENGTH,
+    TAG_CRYPTOGRAPHIC_USAGE_MASK,
+    TAG_STATE,
+];
+
 // Operations.
 
 pub const OPERATION_CREATE: u32 = 0x1;

@@ -1,5 +1,5 @@
 -- The four attributes are read one after the other, and each is in its range.
-use Rattle.std.proofs.Common.{rules, ◌≡◌, ℕ, ℤ, List, [], ◌∷◌, Ok, refl, sym, ap, ◌∙◌}
+use Rattle.std.proofs.Common.{rules, ◌≡◌, ℕ, ℤ, List, Ok, refl, sym, ap, ◌∙◌}
 use Rattle.std.specs.Int.{w32}
 use Rattle.std.proofs.Math.Facts.{to_z-of_z}
 use Rattle.kmip_ttlv.specs.View.{views}
@@ -7,11 +7,11 @@ use Rattle.kmip_ttlv.specs.Node.{Node, as_enumeration, as_integer}
 use Rattle.kmip_batch_items.specs.Siblings.{only, the, within}
 use Rattle.kmip_objects.specs.Ranges.{is_algorithm, is_length, is_usage}
 use Rattle.kmip_batch_items.specs.RequestFormats.{key_attrs_format, name_format}
-use Rattle.kmip_batch_items.specs.declared.standard.TheConstants.{TAG_NAME, TAG_CRYPTOGRAPHIC_ALGORITHM, TAG_CRYPTOGRAPHIC_LENGTH, TAG_CRYPTOGRAPHIC_USAGE_MASK}
+use Rattle.kmip_batch_items.specs.declared.standard.TheConstants.{KEY_TAGS, TAG_CRYPTOGRAPHIC_ALGORITHM, TAG_CRYPTOGRAPHIC_LENGTH, TAG_CRYPTOGRAPHIC_USAGE_MASK}
 use Rattle.kmip_batch_items.proofs.request_reading.key_attrs_of.Goals as goal
 
 read_key : (ns : List Node) (name : List ℕ) (algorithm : ℕ) (length usage : ℤ)
-    → only (TAG_NAME ∷ TAG_CRYPTOGRAPHIC_ALGORITHM ∷ TAG_CRYPTOGRAPHIC_LENGTH ∷ TAG_CRYPTOGRAPHIC_USAGE_MASK ∷ []) ns ≡ Ok tt
+    → only KEY_TAGS ns ≡ Ok tt
     → name_format.read ns ≡ Ok name
     → the as_enumeration TAG_CRYPTOGRAPHIC_ALGORITHM ns ≡ Ok algorithm → within TAG_CRYPTOGRAPHIC_ALGORITHM (is_algorithm algorithm) ≡ Ok tt
     → the as_integer TAG_CRYPTOGRAPHIC_LENGTH ns ≡ Ok length → within TAG_CRYPTOGRAPHIC_LENGTH (is_length algorithm length) ≡ Ok tt
