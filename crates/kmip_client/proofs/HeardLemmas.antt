@@ -297,6 +297,14 @@ stays_after keys ks reply s knowns nexts (Ok heard) same about is kept =
     (taught_stays h.key reply.outcome h.known h.new (was_taught h.key reply.outcome h.known h.new heard.news h.teaches)))
 stays_after keys ks reply s knowns nexts (Err fault) same about is kept = λ place settled. ap (λ k. verdict_at keys k place) kept
 
+-- what is put where it stood changes nothing
+pub put_again : {A : Type 0} (xs : List A) (place : ℕ) (x y : A) → slice_get xs place ≡ Some x → y ≡ x → slice_set xs place y ≡ xs
+put_again [] place x y here same = refl
+put_again (a ∷ xs) zero x y here same =
+    let own : a ≡ x = cc in
+    ap (λ b. b ∷ xs) (same ∙ sym own)
+put_again (a ∷ xs) (suc place) x y here same = ap (λ zs. a ∷ zs) (put_again xs place x y here same)
+
 -- the count after the one key was taught
 pub count_after : (keys : List Key) (knowns : List Knowledge) (place working left : ℕ) (key : Key) (known new : Knowledge)
     → slice_get keys place ≡ Some key → slice_get knowns place ≡ Some known → working ≡ working_count keys knowns

@@ -1,6 +1,6 @@
 -- Private: definitions that only clauses of private functions cite.
 -- Source: own (view): parts of the public definitions of this crate.
-use Rattle.std.specs.Prelude.{◌≡◌, ℕ, Bool, false, List, None, slice_get, if◌then◌else◌, ◌≢◌, ◌≤◌, ◌<◌, length, IfSome, IsTrue}
+use Rattle.std.specs.Prelude.{◌≡◌, ℕ, Bool, false, List, None, Result, Ok, Err, slice_get, if◌then◌else◌, ◌≢◌, ◌≤◌, ◌<◌, length, IfErr, IfOk, IfSome, IsTrue, OnErr}
 use Rattle.std.specs.List.{AllZip}
 use Rattle.std.specs.Option.{option_map_or}
 use Rattle.kmip_batch_items.specs.Faults.{is_no_memory}
@@ -9,6 +9,7 @@ use Rattle.kmip_plan.specs.TargetWords.{is_text}
 use Rattle.kmip_plan.specs.declared.key.Key.{Key}
 use Rattle.kmip_client.specs.declared.hear_fault.HearFault.{HearFault}
 use Rattle.kmip_client.specs.declared.hear_fault.HearFault.TheVariants as faults
+use Rattle.kmip_client.specs.declared.heard.Heard.{Heard}
 use Rattle.kmip_client.specs.declared.knowledge.Knowledge.{Knowledge}
 use Rattle.kmip_client.specs.Knowledge.{chain_length}
 use Rattle.kmip_objects.specs.Ranges.{is_identifier}
@@ -45,3 +46,11 @@ pub record AreShaped (keys : List Key) (knowns : List Knowledge) (next working :
 -- The same, and how many keys a message asks about at most
 abbrev pub IsClient : List Key → List Knowledge → ℕ → ℕ → ℕ → Type 0
 IsClient keys knowns next working batch = AreShaped keys knowns next working × IsTrue (may_have batch)
+
+-- A reply was heard as `told` says, or it was refused and taught nothing. How many keys are worked on is counted
+-- either way.
+pub record HearsOne (keys : List Key) (result : Result Heard HearFault) (told : Result (Heard × List Knowledge) HearFault) (old new : List Knowledge) (working : ℕ) : Type 0 where
+  pub ok : IfOk result (λ heard. told ≡ Ok (heard, new))
+  pub err : IfErr result (λ e. told ≡ Err e)
+  pub same : OnErr result (new ≡ old)
+  pub counted : working ≡ working_count keys new

@@ -8,7 +8,7 @@ ghost use Rattle.kmip_plan.specs.Plans.{IsLawful};
 ghost use Rattle.kmip_client.specs.Knowledge.{is_working};
 ghost use Rattle.kmip_client.specs.Learning.{learn};
 ghost use Rattle.kmip_client.specs.Hearing.{is_other_operation, has_failed, has_grown, news_of, with_news, teach, heard_at, heard_about, hear, known_after_each, Refuses};
-ghost use Rattle.kmip_client.specs.Private.{unheard};
+ghost use Rattle.kmip_client.specs.Private.{unheard, HearsOne};
 
 use crate::heard::Heard;
 use crate::news::News;
@@ -71,12 +71,8 @@ pub(crate) fn hear_about(
     reply: Reply,
 ) -> Result<Heard, HearFault>
     requires { working.old ≡ working_count keys.now knowns.old.items }
-    ensures ok { IfOk result (λ heard.
-        heard_about keys.now reply subject knowns.old.items ≡ Ok (heard, knowns.new.items)) }
-    ensures err { IfErr result (λ e. heard_about keys.now reply subject knowns.old.items
-        ≡ Err e) }
-    ensures same { OnErr result (knowns.new.items ≡ knowns.old.items) }
-    ensures counted { working.new ≡ working_count keys.now knowns.new.items }
+    ensures { HearsOne keys.now result (heard_about keys.now reply subject knowns.old.items)
+        knowns.old.items knowns.new.items working.new }
 {
     let Some(subject) = subject else {
         return Err(HearFault::StrangerId);
@@ -96,12 +92,8 @@ fn hear_at(
     outcome: Outcome,
 ) -> Result<Heard, HearFault>
     requires { working.old ≡ working_count keys.now knowns.old.items }
-    ensures ok { IfOk result (λ heard.
-        heard_at keys.now subject outcome knowns.old.items ≡ Ok (heard, knowns.new.items)) }
-    ensures err { IfErr result (λ e. heard_at keys.now subject outcome knowns.old.items
-        ≡ Err e) }
-    ensures same { OnErr result (knowns.new.items ≡ knowns.old.items) }
-    ensures counted { working.new ≡ working_count keys.now knowns.new.items }
+    ensures { HearsOne keys.now result (heard_at keys.now subject outcome knowns.old.items)
+        knowns.old.items knowns.new.items working.new }
 {
     let Some(key) = keys.get(subject.key) else {
         return Err(HearFault::StrangerId);

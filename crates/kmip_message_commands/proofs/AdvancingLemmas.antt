@@ -1,5 +1,5 @@
 -- `answer --stream`: what the framer takes of a piece is what its bytes say one by one.
-use Rattle.std.proofs.Common.{◌≡◌, ℕ, ◌+◌, ◌-◌, ◌<◌, ◌≤◌, Bool, true, false, not, eqb, min, List, [], ◌∷◌, ◌++◌, ◌⊎◌, length, take, drop, Option, Some, None, is_some, inl, inr, refl, sym, ap, subst, ◌∙◌, arith, append_assoc, append-nil, eqb-true, eq-eqb, ne_eqb, take_all}
+use Rattle.std.proofs.Common.{◌≡◌, ℕ, ◌+◌, ◌-◌, ◌<◌, ◌≤◌, Bool, true, false, not, eqb, min, List, [], ◌∷◌, ◌++◌, ◌⊎◌, length, take, drop, Option, Some, None, Ok, is_some, inl, inr, refl, sym, ap, subst, ◌∙◌, arith, append_assoc, append-nil, eqb-true, eq-eqb, ne_eqb, take_all}
 use Rattle.std.specs.Io.KnownBytes.{Appends}
 use Rattle.std.proofs.KnownBytes.{Appends-nil, Appends-trans}
 use Rattle.std.proofs.Math.Nat.{min_comm}
@@ -7,7 +7,7 @@ use Rattle.std.proofs.lemmas.Bool.{cases_lt}
 use Rattle.std.proofs.lemmas.List.{length-append, take_at, take_min, take-append-drop}
 use Rattle.kmip_frames.proofs.ForCallers.{fault_size, fault_more, size_needed_fault, size_needed_more, size_needed_least, message_lawful, message_size, message_whole, fault_stays}
 use Rattle.kmip_frames.specs.declared.frame_fault.FrameFault.{FrameFault}
-use Rattle.kmip_frames.specs.Framing.{fault_in, size_needed, held_after}
+use Rattle.kmip_frames.specs.Framing.{answer_after, count_taken, fault_in, feed, size_needed, held_after}
 use Rattle.kmip_frames.specs.Streams.{IsMessage, BeginsWithNoMessage}
 use Rattle.kmip_store.specs.Stock.{Stock}
 use Rattle.kmip_server.specs.Batching.{stock_after_batch}
@@ -160,6 +160,18 @@ advance_refused stock held held' piece fault old new lawful is after written =
     subst (λ p. Advances (stock, held) (stock, held') p old new) (sym (take_all (length piece) piece (omega arith)))
     (advances (stock, held) (stock, held') (stock, take 8 (held ++ piece)) piece (stream_refusal_text fault) old new (refused stock held piece fault lawful is) written
     (ap (λ h. (stock, h)) (after ∙ held_of_fault held piece fault lawful is)))
+
+-- a piece that was taken brought no bad head
+pub taken_lawful : (held now piece : List ℕ) (count : ℕ) → Ok count ≡ feed held piece → now ≡ held ++ take count piece → fault_in now ≡ None
+taken_lawful held now piece count fed taken =
+    let whole = lawful (fault_in held) (fault_in (held ++ piece)) (count_taken held piece) fed in
+    let cut = append_assoc held (take count piece) (drop count piece) ∙ ap (λ p. held ++ p) (take-append-drop count piece) in
+    ap fault_in taken ∙ no_fault_front (held ++ take count piece) (drop count piece) (ap fault_in cut ∙ whole)
+  where
+    lawful : (before after : Option FrameFault) (n : ℕ) → Ok count ≡ answer_after before after n → after ≡ None
+    lawful (Some fault) after n is = absurd cc
+    lawful None (Some fault) n is = absurd cc
+    lawful None None n is = refl
 
 pub advance_quiet : (stock : Stock) (held held' now bytes : List ℕ) (old : Option (List ℕ)) → held' ≡ held ++ bytes
     → (fault_in held' ≡ None) × BeginsWithNoMessage held' × (now ≡ held') → Advances (stock, held) (stock, now) bytes old old

@@ -1,6 +1,6 @@
 //! Answers the messages of a stream by a server's replies.
-ghost use Rattle.std.specs.Prelude.{◌≡◌, ◌≤◌, ◌<◌, ◌++◌, [], length, take, None, Some, IfOk};
-ghost use Rattle.kmip_frames.specs.Framing.{fault_in};
+ghost use Rattle.std.specs.Prelude.{◌≡◌, ◌≤◌, ◌<◌, ◌++◌, [], length, take, None, Some, Ok, IfOk};
+ghost use Rattle.kmip_frames.specs.Framing.{fault_in, Hands};
 ghost use Rattle.kmip_frames.specs.Streams.{BeginsWithNoMessage};
 ghost use Rattle.kmip_message_commands.specs.AnswerText.{first_stock};
 ghost use Rattle.kmip_message_commands.specs.PrivateBytewise.{StreamState, IsReady, piece_text, state_after_piece, streams};
@@ -10,7 +10,7 @@ use crate::answering::{new_server, push_reply};
 use crate::input_end::InputEnd;
 use crate::respond::Respond;
 use crate::streaming::push_refusal;
-use kmip_frames::Framer;
+use kmip_frames::{FrameFault, Framer};
 use kmip_server::{IndexedStore, Server};
 use kmip_ttlv::NoMemory;
 use std::alloc::Global;
@@ -71,14 +71,29 @@ impl Streamer {
                 return Ok(piece.len());
             }
         };
-        let Ok(next) = self.framer.next(alloc) else {
-            return Err(NoMemory);
-        };
+        let next = next_message(alloc, &mut self.framer)?;
         let Some(message) = next else {
             return Ok(count);
         };
         push_reply(alloc, &mut self.server, message.as_slice(), text)?;
         Ok(count)
+    }
+}
+
+/// The message that waits, where one does, of a framer that was not refused.
+///
+/// # Errors
+/// Where there is no memory for it.
+fn next_message(alloc: Global, framer: &mut Framer) -> Result<Option<Vec<u8>>, NoMemory>
+    requires { fault_in framer.old ≡ None }
+    ensures { IfOk result (λ next. Hands (λ message. message.items) (Ok next) framer.old framer.new) }
+{
+    match framer.next(alloc) {
+        Ok(next) => Ok(next),
+        Err(FrameFault::NoMemory) => Err(NoMemory),
+        Err(
+            FrameFault::BadHead | FrameFault::BadLength | FrameFault::TooLong | FrameFault::Failed,
+        ) => unreachable!(),
     }
 }
 

@@ -1,7 +1,7 @@
 -- What came of a question of a probe.
 -- Source: KMIP 2.1, Message Structure (Operation, Unique Batch Item ID), and Message Data, Result Status.
--- What a reply without the id of a question says is own (choice); `outcome_in`, `unread_in`, `uids_in`,
--- `uids_told` and `IsLawful` are own (view).
+-- What a reply without the id of a question says is own (choice); `outcome_in`, `located_in`, `unread_in`,
+-- `uids_in`, `uids_told` and `IsLawful` are own (view).
 use Rattle.std.specs.Prelude.{ℕ, nat_eq, Bool, true, false, List, [], ◌∷◌, slice_get, Option, Some, None, Result, Ok, Err, IsTrue, if◌then◌else◌}
 use Rattle.std.specs.Cmp.Lexicographic.{pointwise}
 use Rattle.std.specs.List.{All}
@@ -94,6 +94,11 @@ outcome_in Nothing = None
 outcome_in (Told outcome) = Some outcome
 outcome_in (Unmarked outcome) = Some outcome
 outcome_in (Unreadable unread) = None
+
+-- the identifiers that a Locate found, where the outcome is that of one
+abbrev pub located_in : Option Outcome → Option (List (List ℕ))
+located_in (Some (Located uids)) = Some uids
+located_in outcome = None
 
 -- why the reply can't be read, where one came that can't
 abbrev pub unread_in : Answer → Option Unread

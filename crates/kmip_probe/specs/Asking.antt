@@ -1,14 +1,13 @@
 -- What a probe asks next, and what its answers are.
 -- Source: own (choice), over KMIP 2.1, Operations; what says which messages and answers there were is own
 -- (view).
-use Rattle.std.specs.Prelude.{◌≡◌, ℕ, Bool, true, false, ◌&&◌, List, [], ◌∷◌, ◌++◌, ◌-◌, length, take, drop, flat_map, slice_get, Option, Some, None, option_map, option_and_then, option_to_list, if◌then◌else◌}
+use Rattle.std.specs.Prelude.{◌≡◌, ◌==◌, ℕ, Bool, true, false, ◌&&◌, List, [], ◌∷◌, ◌++◌, ◌-◌, length, take, drop, flat_map, slice_get, Option, Some, None, option_map, option_and_then, option_to_list, if◌then◌else◌}
 use Rattle.std.specs.Option.{option_map_or}
 use Rattle.kmip_ttlv.specs.Spelling.{canon}
 use Rattle.kmip_messages.specs.Written.{requests_item}
 use Rattle.kmip_batch_items.specs.declared.outcome.Outcome.{Outcome}
-use Rattle.kmip_batch_items.specs.declared.outcome.Outcome.TheVariants.{Located}
 use Rattle.kmip_batch_items.specs.declared.request.Request.{Request}
-use Rattle.kmip_probe.specs.Answers.{answer_to, marker_of, outcome_in, uids_told}
+use Rattle.kmip_probe.specs.Answers.{answer_to, located_in, marker_of, outcome_in, uids_told}
 use Rattle.kmip_probe.specs.Inquiries.{ask_of, name_of}
 use Rattle.kmip_probe.specs.declared.answer.Answer.{Answer}
 use Rattle.kmip_probe.specs.declared.answer.Answer.TheVariants.{Nothing}
@@ -19,8 +18,7 @@ use Rattle.kmip_probe.specs.declared.which.Which.TheVariants.{First, Second}
 
 -- a Locate has found nothing
 abbrev pub finds_none : Option Outcome → Bool
-finds_none (Some (Located [])) = true
-finds_none outcome = false
+finds_none outcome = option_map_or (λ uids. length uids == 0) (located_in outcome) false
 
 -- the answer is a Locate that has found nothing
 abbrev pub is_free : Answer → Bool

@@ -11,7 +11,7 @@ use Rattle.kmip_batch_items.specs.declared.outcome.Outcome.TheVariants.{Failed, 
 use Rattle.kmip_objects.specs.declared.step.Step.{Step}
 use Rattle.kmip_objects.specs.declared.step.Step.TheVariants.{Activate, Revoke, Destroy}
 use Rattle.kmip_server.specs.Again.{has_failed}
-use Rattle.kmip_probe.specs.Answers.{outcome_in, uids_told}
+use Rattle.kmip_probe.specs.Answers.{located_in, outcome_in, uids_told}
 use Rattle.kmip_probe.specs.Asking.{part, uid_of, uids_of}
 use Rattle.kmip_probe.specs.Inquiries.{name_of}
 use Rattle.kmip_probe.specs.Telling.{attributes_told}
@@ -143,8 +143,7 @@ active_is_kept answers =
 
 -- the premise is kept where a Locate has told this identifier, and broken where it told others alone, or none
 abbrev pub found_in : List ℕ → Option Outcome → Finding
-found_in uid (Some (Located uids)) = judged (not (list_any (pointwise nat_eq uid) uids)) NotFound true
-found_in uid outcome = Untold
+found_in uid outcome = option_map_or (λ uids. judged (not (list_any (pointwise nat_eq uid) uids)) NotFound true) (located_in outcome) Untold
 
 -- the Locate of this number finds the first object by its name
 abbrev pub found_at : List Answer → ℕ → Finding

@@ -4,7 +4,7 @@ ghost use Rattle.std.specs.Cmp.Lexicographic.{pointwise};
 ghost use Rattle.std.specs.List.{All};
 ghost use Rattle.kmip_batch_items.specs.BatchItems.{answer_fits};
 ghost use Rattle.kmip_batch_items.specs.Fits.{outcome_fits};
-ghost use Rattle.kmip_probe.specs.Answers.{answer_in, answer_marked, answer_to, answer_with, is_asked_for, is_marker, is_of, marker_of, outcome_in, unmarked, unread_in, uids_told, without_id, IsLawful};
+ghost use Rattle.kmip_probe.specs.Answers.{answer_in, answer_marked, answer_to, answer_with, is_asked_for, is_marker, is_of, located_in, marker_of, outcome_in, unmarked, unread_in, uids_told, without_id, IsLawful};
 ghost use Rattle.kmip_batch_items.specs.Faults.{is_no_memory};
 ghost use Rattle.kmip_probe.specs.Asking.{is_free};
 ghost use Rattle.kmip_probe.specs.Unreadable.{version_in};
@@ -74,18 +74,29 @@ impl Answer {
     pub(crate) fn is_free(&self) -> bool
         ensures { result ≡ is_free self.now }
     {
-        match self.outcome() {
-            Some(Outcome::Located(uids)) => uids.as_slice().is_empty(),
-            Some(
-                Outcome::Created(_)
-                | Outcome::Attributes(..)
-                | Outcome::Activated(_)
-                | Outcome::Revoked(_)
-                | Outcome::Destroyed(_)
-                | Outcome::Failed(_),
-            )
-            | None => false,
+        match located(self.outcome()) {
+            Some(uids) => uids.is_empty(),
+            None => false,
         }
+    }
+}
+
+/// The identifiers that a Locate found, where the outcome is that of one.
+pub(crate) fn located(outcome: Option<&Outcome>) -> Option<&[Text]>
+    ensures { option_map (λ uids. uids.now) result
+        ≡ located_in (option_map (λ outcome. outcome.now) outcome.entry) }
+{
+    match outcome {
+        Some(Outcome::Located(uids)) => Some(uids.as_slice()),
+        Some(
+            Outcome::Created(_)
+            | Outcome::Attributes(..)
+            | Outcome::Activated(_)
+            | Outcome::Revoked(_)
+            | Outcome::Destroyed(_)
+            | Outcome::Failed(_),
+        )
+        | None => None,
     }
 }
 

@@ -33,7 +33,7 @@ ghost use Rattle.kmip_probe.specs.Judging.{
   was_refused,
 };
 
-use crate::answer::Answer;
+use crate::answer::{Answer, located};
 use crate::finding::Finding;
 use crate::findings::Findings;
 use crate::flaw::Flaw;
@@ -285,22 +285,10 @@ fn found_at(answers: &[Answer], number: usize) -> Finding
     let Some(uid) = uid_of(Which::First, answers) else {
         return Finding::Untold;
     };
-    match outcome_at(answers, number) {
-        Some(Outcome::Located(uids)) => judged(
-            !is_among(uid.as_str(), uids.as_slice()),
-            Flaw::NotFound,
-            true,
-        ),
-        Some(
-            Outcome::Created(_)
-            | Outcome::Attributes(..)
-            | Outcome::Activated(_)
-            | Outcome::Revoked(_)
-            | Outcome::Destroyed(_)
-            | Outcome::Failed(_),
-        )
-        | None => Finding::Untold,
-    }
+    let Some(uids) = located(outcome_at(answers, number)) else {
+        return Finding::Untold;
+    };
+    judged(!is_among(uid.as_str(), uids), Flaw::NotFound, true)
 }
 
 fn destroyed_are_found(answers: &[Answer]) -> Finding

@@ -1,8 +1,10 @@
 -- Private: definitions that only clauses of private functions cite.
 -- Source: own (view): parts of the public definitions of this crate.
-use Rattle.std.specs.Prelude.{ℕ, List, [], Option, ◌≡◌, ◌<◌, Bool, ◌∷◌, length, Some, None, ◌+◌}
+use Rattle.std.specs.Prelude.{ℕ, List, [], Option, ◌≡◌, ◌<◌, Bool, ◌∷◌, length, pos, Some, None, ◌+◌}
 use Rattle.std.specs.List.{All, Contains}
-use Rattle.kmip_messages.specs.Items.{requests_in}
+use Rattle.kmip_messages.specs.Items.{parts_in, replies_in, requests_in, stops_in}
+use Rattle.kmip_server.specs.Batching.{batch_reply}
+use Rattle.kmip_protocol.specs.Calm.{AreTaken}
 use Rattle.kmip_scripted.specs.declared.word.Word.{Word}
 use Rattle.kmip_scripted.specs.Scenes.{Scene, past_in}
 use Rattle.kmip_scripted.specs.Words.{after_words, AreBegun}
@@ -16,6 +18,11 @@ use Rattle.kmip_scripted.specs.Following.{Call, after_call, after_calls, Follows
 -- The requests of a message were all asked.
 abbrev pub WasAsked : List ℕ → Scene → Type 0
 WasAsked message s = All (Contains (past_in s).requests) (requests_in message)
+
+-- A message was taken calmly: it was served once, with the replies of the link's server at the time 0.
+abbrev pub IsTaken : List ℕ → Scene → Scene → Type 0
+IsTaken message old new =
+    AreTaken (stops_in message) (parts_in message) (replies_in (batch_reply old.stock message (pos 0))) (past_in old) (past_in new)
 
 -- The first word, where there is one.
 abbrev pub first_of : List Word → Option Word

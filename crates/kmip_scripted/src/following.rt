@@ -1,15 +1,14 @@
 //! What an exchange and the end of a run do, word by word.
 ghost use Rattle.std.specs.Prelude.{◌≡◌, ◌⊎◌, ℕ, List, length, [], pos, true, false, Some, None, IfOk, OnErr, OnOk, option_map};
-ghost use Rattle.kmip_messages.specs.Items.{parts_in, replies_in, stops_in};
 ghost use Rattle.kmip_server.specs.Batching.{batch_reply};
-ghost use Rattle.kmip_protocol.specs.Calm.{AreTaken, Calmly};
+ghost use Rattle.kmip_protocol.specs.Calm.{Calmly};
 ghost use Rattle.kmip_protocol.specs.Clean.{IsCounted};
 ghost use Rattle.kmip_protocol.specs.Moves.{Delivered};
 ghost use Rattle.kmip_protocol.specs.Past.{Names};
 ghost use Rattle.kmip_scripted.specs.declared.word.Word.TheVariants.{Pass};
 ghost use Rattle.kmip_scripted.specs.Disturbing.{is_repeated};
-ghost use Rattle.kmip_scripted.specs.PrivateEarly.{AreOfEarlier, IsEarly, IsOfEarlier, asked_only};
-ghost use Rattle.kmip_scripted.specs.Private.{WasAsked};
+ghost use Rattle.kmip_scripted.specs.PrivateEarly.{DoesWords, IsOfEarlier, asked_only};
+ghost use Rattle.kmip_scripted.specs.Private.{IsTaken, WasAsked};
 ghost use Rattle.kmip_scripted.specs.Scenes.{disturbances_in, past_in};
 ghost use Rattle.kmip_scripted.specs.Serving.{IsHalfServed, with_served};
 ghost use Rattle.kmip_scripted.specs.Words.{AreBegun, IsBegun, IsHalfDelivered, IsHalfDone, IsHalfPlayed, IsPlaying, IsPreparing, after_word, after_run, after_words, before_play, exchange, exchange_word, message_at, play, played, with_delivered};
@@ -17,7 +16,8 @@ ghost use Rattle.kmip_scripted.specs.Private.{HasStopped, StepsOn};
 ghost use Rattle.kmip_scripted.specs.Wanting.{IsWanting};
 ghost use Rattle.kmip_protocol.specs.Exchanges.{HandsOver, with_asked};
 
-use crate::scripted::Scripted;
+use crate::disturbing::counts_after;
+use crate::scripted::{Scripted, copied};
 use crate::word::Word;
 use crate::words::goes_on;
 use kmip_protocol::laws::{deliveries_join, deliveries_keep_the_requests};
@@ -40,7 +40,8 @@ impl<S: Records> Scripted<S> {
             (past_in (asked_only asked self.new))) }
     {
         deliveries_join();
-        let Some(message) = self.copied_request(alloc, number)? else {
+        let asked = self.request(number);
+        let Some(message) = copied(alloc, asked)? else {
             return Ok(());
         };
         self.serve(alloc, message.as_slice())?;
@@ -73,12 +74,7 @@ impl<S: Records> Scripted<S> {
         ensures went { IfOk result (λ went. went ≡ true → StepsOn at_end self.old self.new) }
         ensures stopped { IfOk result (λ went. went ≡ false
             → HasStopped at_end self.old self.new) }
-        ensures begun { OnErr result (AreBegun at_end self.old.words self.old self.new) }
-        ensures delivered { (names : Names)
-            → Delivered names (past_in self.old) (past_in self.new) }
-        ensures early { OnOk result ((names : Names) (asked : List (List ℕ))
-            → at_end ≡ false → AreOfEarlier asked self.old.asked self.old.words
-            → IsEarly names asked self.old self.new) }
+        ensures words { DoesWords at_end result self.old self.new }
     {
         deliveries_join();
         let Some(word) = self.first_word() else {
@@ -95,12 +91,7 @@ impl<S: Records> Scripted<S> {
     /// Does the words that go on, and takes them.
     pub(crate) fn do_words(&mut self, alloc: Global, at_end: bool) -> Result<(), NoMemory>
         ensures ok { OnOk result (self.new ≡ after_words at_end self.old.words self.old) }
-        ensures begun { OnErr result (AreBegun at_end self.old.words self.old self.new) }
-        ensures delivered { (names : Names)
-            → Delivered names (past_in self.old) (past_in self.new) }
-        ensures early { OnOk result ((names : Names) (asked : List (List ℕ))
-            → at_end ≡ false → AreOfEarlier asked self.old.asked self.old.words
-            → IsEarly names asked self.old self.new) }
+        ensures words { DoesWords at_end result self.old self.new }
     {
         deliveries_join();
         'words: loop {
@@ -124,9 +115,7 @@ impl<S: Records> Scripted<S> {
             ⊎ (self.new ≡ (play word request.now self.old).1)
             ⊎ IsHalfPlayed word request.now self.old self.new) }
         ensures taken { OnOk result (word ≡ Pass → WasAsked request.now self.old
-            → AreTaken (stops_in request.now) (parts_in request.now)
-            (replies_in (batch_reply self.old.stock request.now (pos 0)))
-            (past_in self.old) (past_in self.new)) }
+            → IsTaken request.now self.old self.new) }
         ensures delivered { (names : Names) → WasAsked request.now self.old
             → Delivered names (past_in self.old) (past_in self.new) }
     {
@@ -167,9 +156,7 @@ impl<S: Records> Scripted<S> {
         ensures begun { OnErr result (IsHalfServed request.now self.old self.new
             ⊎ (self.new ≡ with_served request.now self.old)) }
         ensures taken { OnOk result (WasAsked request.now self.old
-            → AreTaken (stops_in request.now) (parts_in request.now)
-            (replies_in (batch_reply self.old.stock request.now (pos 0)))
-            (past_in self.old) (past_in self.new)) }
+            → IsTaken request.now self.old self.new) }
         ensures delivered { (names : Names) → WasAsked request.now self.old
             → Delivered names (past_in self.old) (past_in self.new) }
     {
@@ -208,9 +195,7 @@ impl<S: Records> Scripted<S> {
         ensures begun { OnErr result (IsPlaying request.now self.old self.new) }
         ensures taken { OnOk result (exchange_word self.old.words ≡ Pass
             → WasAsked request.now self.old
-            → AreTaken (stops_in request.now) (parts_in request.now)
-            (replies_in (batch_reply self.old.stock request.now (pos 0)))
-            (past_in self.old) (past_in self.new)) }
+            → IsTaken request.now self.old self.new) }
         ensures delivered { (names : Names) → WasAsked request.now self.old
             → Delivered names (past_in self.old) (past_in self.new) }
     {
@@ -262,7 +247,8 @@ impl<S: Records> Scripted<S> {
         let word = self.next_word();
         let answer = self.take_and_play(alloc, request)?;
         let handed = bytes_of(&answer);
-        let counts = self.counts_after(alloc, request, word, repeated, handed)?;
+        let before = self.disturbances();
+        let counts = counts_after(alloc, before, request, word, repeated, handed)?;
         self.hand_over(alloc, request, word, handed)?;
         self.count(counts);
         Ok(answer)

@@ -1,23 +1,20 @@
 //! A link in memory that follows a script.
 ghost use Rattle.std.specs.Prelude.{◌≡◌, ℕ, List, ◌++◌, [], ◌∷◌, pos, drop, length, IfOk, OnErr, OnOk, option_map};
-ghost use Rattle.kmip_messages.specs.Items.{parts_in, replies_in, requests_in, stops_in};
+ghost use Rattle.kmip_messages.specs.Items.{parts_in, replies_in, stops_in};
 ghost use Rattle.kmip_server.specs.Batching.{AreServedInTurn, batch_reply, effects_in};
 ghost use Rattle.kmip_server.specs.Shown.{HasLawfulObjects};
-ghost use Rattle.kmip_protocol.specs.Calm.{AreTaken};
-ghost use Rattle.kmip_protocol.specs.Clean.{strange_handed};
 ghost use Rattle.kmip_protocol.specs.Moves.{Delivered};
 ghost use Rattle.kmip_protocol.specs.Past.{Names};
-ghost use Rattle.kmip_scripted.specs.Counting.{counted, every_name};
-ghost use Rattle.kmip_scripted.specs.Disturbing.{is_disturbed, is_repeated};
+ghost use Rattle.kmip_scripted.specs.Disturbing.{is_repeated};
 ghost use Rattle.kmip_scripted.specs.PrivateEarly.{asked_only};
-ghost use Rattle.kmip_scripted.specs.Private.{WasAsked};
+ghost use Rattle.kmip_scripted.specs.Private.{IsTaken, WasAsked};
 ghost use Rattle.kmip_scripted.specs.Scenes.{disturbances_in, past_in, scene_of, with_disturbances};
 ghost use Rattle.kmip_scripted.specs.Serving.{IsHalfServed, with_served};
 ghost use Rattle.kmip_scripted.specs.Words.{answer_at, exchange_word, message_at, word_at, next_words, with_ended, with_request, with_words, words_after_exchange, words_after_run};
 ghost use Rattle.kmip_scripted.specs.Private.{first_of};
 
 use crate::Counts;
-use crate::disturbing::{counts_after, is_repeated};
+use crate::disturbing::is_repeated;
 use crate::script::Script;
 use crate::serving::{arrival_laws, serve_logged};
 use crate::word::Word;
@@ -198,9 +195,7 @@ impl<S: Records> Scripted<S> {
         ensures ok { OnOk result (self.new ≡ with_served message.now self.old) }
         ensures begun { OnErr result (IsHalfServed message.now self.old self.new) }
         ensures taken { OnOk result (WasAsked message.now self.old
-            → AreTaken (stops_in message.now) (parts_in message.now)
-            (replies_in (batch_reply self.old.stock message.now (pos 0)))
-            (past_in self.old) (past_in self.new)) }
+            → IsTaken message.now self.old self.new) }
         ensures delivered { (names : Names) → WasAsked message.now self.old
             → Delivered names (past_in self.old) (past_in self.new) }
         ensures early { OnOk result ((names : Names) (asked : List (List ℕ))
@@ -278,18 +273,6 @@ impl<S: Records> Scripted<S> {
         Ok(())
     }
 
-    /// A copy of the request of this number.
-    pub(crate) fn copied_request(
-        &self,
-        alloc: Global,
-        number: usize,
-    ) -> Result<Option<Vec<u8>>, NoMemory>
-        ensures { IfOk result (λ m.
-            option_map (λ v. v.items) m ≡ message_at number self.now.asked) }
-    {
-        copied(alloc, self.request(number))
-    }
-
     /// A copy of the reply of this number.
     pub(crate) fn copied_reply(
         &self,
@@ -316,22 +299,11 @@ impl<S: Records> Scripted<S> {
         is_repeated(self.asked.as_slice().len(), &self.words)
     }
 
-    /// The counts after an exchange.
-    pub(crate) fn counts_after(
-        &self,
-        alloc: Global,
-        request: &[u8],
-        word: Word,
-        repeated: bool,
-        answer: Option<&[u8]>,
-    ) -> Result<Counts, NoMemory>
-        ensures { IfOk result (λ c. c ≡ counted
-            (is_disturbed word repeated (option_map (λ m. m.now) answer.entry))
-            (length (requests_in request.now))
-            (strange_handed every_name request.now (option_map (λ m. m.now) answer.entry))
-            (disturbances_in self.now)) }
+    /// The counts of what was disturbed until now.
+    pub(crate) fn disturbances(&self) -> Counts
+        ensures { result ≡ disturbances_in self.now }
     {
-        counts_after(alloc, self.counts, request, word, repeated, answer)
+        self.counts
     }
 
     /// Keeps the counts.
@@ -382,7 +354,7 @@ fn message_at(messages: &[Bytes], number: usize) -> Option<&[u8]>
 }
 
 /// A copy of a message, where there is one.
-fn copied(alloc: Global, message: Option<&[u8]>) -> Result<Option<Vec<u8>>, NoMemory>
+pub(crate) fn copied(alloc: Global, message: Option<&[u8]>) -> Result<Option<Vec<u8>>, NoMemory>
     ensures { IfOk result (λ m.
         option_map (λ v. v.items) m ≡ option_map (λ b. b.now) message.entry) }
 {

@@ -16,6 +16,8 @@ pub mod Messages
 pub mod Effects
 -- the questions of a message in turn: the reply, the records after it, and the steps
 pub mod Batching
+-- what answering a message promises
+pub mod Handles
 -- what a Locate by a name alone answers
 pub mod Laws
 -- private: the reply that is being made

@@ -1,6 +1,6 @@
 -- Private: the reply that is being made, in the clauses of the functions that make it.
 -- Source: own (view).
-use Rattle.std.specs.Prelude.{◌≡◌, ℕ, ℤ, List, length, Some, Result, Ok, Err, OnErr, if◌then◌else◌}
+use Rattle.std.specs.Prelude.{◌≡◌, ℕ, ℤ, List, length, Some, Result, Ok, Err, IfOk, OnErr, if◌then◌else◌}
 use Rattle.kmip_ttlv.specs.Spelling.{canon}
 use Rattle.kmip_batch_items.specs.declared.outcome.Outcome.{Outcome}
 use Rattle.kmip_batch_items.specs.declared.reply.Reply.{Reply}
@@ -48,3 +48,10 @@ pub record CarriesOut {A : Type 0} (done : Result A StoreFault) (ask : Ask) (old
   pub after : new ≡ (answer old ask).1
   -- a refusal leaves them as they were
   pub refused : OnErr done (new ≡ old)
+
+-- The change that a question asks for is made or refused. Where memory runs out nothing is.
+pub record ChangesRecords {A E : Type 0} (result : Result (Result A StoreFault) E) (ask : Ask) (old new : Stock) : Type 0 where
+  -- it is made, or refused for this reason
+  pub done : IfOk result (λ done. CarriesOut done ask old new)
+  -- where there is no memory the records are as they were
+  pub same : OnErr result (new ≡ old)

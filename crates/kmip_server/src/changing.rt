@@ -2,7 +2,7 @@
 ghost use Rattle.std.specs.Prelude.{◌≡◌, OnErr, IfOk, IsTrue};
 ghost use Rattle.kmip_batch_items.specs.RequestFits.{ask_fits};
 ghost use Rattle.kmip_objects.specs.Ranges.{attrs_fit};
-ghost use Rattle.kmip_server.specs.PrivateAnswering.{CarriesOut};
+ghost use Rattle.kmip_server.specs.PrivateAnswering.{ChangesRecords};
 ghost use Rattle.kmip_store.specs.Stepping.{Becomes};
 ghost use Rattle.kmip_store.specs.Stock.{create};
 
@@ -23,9 +23,7 @@ pub(crate) fn change_records<S: Records>(
     ask: &Ask,
 ) -> Result<Result<(), StoreFault>, NoMemory>
     requires { IsTrue (ask_fits ask.now) }
-    ensures done { IfOk result (λ done.
-        CarriesOut done ask.now (S.stock store.old) (S.stock store.new)) }
-    ensures same { OnErr result (S.stock store.new ≡ S.stock store.old) }
+    ensures { ChangesRecords result ask.now (S.stock store.old) (S.stock store.new) }
 {
     match ask {
         Ask::Create(attrs) => {

@@ -1,8 +1,7 @@
 //! A step that took effect.
 ghost use Rattle.std.specs.Prelude.{◌≡◌, ◌++◌, Some, OnErr, OnOk, IfOk, IsTrue, option_to_list};
 ghost use Rattle.kmip_batch_items.specs.RequestFits.{ask_fits};
-ghost use Rattle.kmip_server.specs.PrivateAnswering.{CarriesOut};
-ghost use Rattle.kmip_server.specs.Private.{LeavesAll};
+ghost use Rattle.kmip_server.specs.PrivateAnswering.{ChangesRecords};
 ghost use Rattle.kmip_server.specs.Effects.{effect_asked, effect_of, effect_on};
 ghost use Rattle.kmip_server.specs.Serving.{answer};
 ghost use Rattle.kmip_server.specs.Shown.{objects_in};
@@ -33,14 +32,12 @@ pub(crate) fn carry_out_noted<S: Records>(
     ask: &Ask,
 ) -> Result<Result<(), StoreFault>, NoMemory>
     requires { IsTrue (ask_fits ask.now) }
-    ensures done { IfOk result (λ done.
-        CarriesOut done ask.now (S.stock store.old) (S.stock store.new)) }
+    ensures changed { ChangesRecords result ask.now (S.stock store.old) (S.stock store.new) }
     ensures effects { OnOk result (effects.new.items ≡ effects.old.items ++ option_to_list
         (effect_of (objects_in (S.stock store.old)) ask.now
         (answer (S.stock store.old) ask.now).0)) }
     ensures refused { IfOk result (λ done. OnErr done (effects.new.items ≡ effects.old.items)) }
-    ensures same { OnErr result (LeavesAll (S.stock store.old) (S.stock store.new)
-        effects.old.items effects.new.items) }
+    ensures same { OnErr result (effects.new.items ≡ effects.old.items) }
 {
     let Some(effect) = effect_asked(store, alloc, ask)? else {
         return change_records(store, alloc, ask);

@@ -1,11 +1,11 @@
 //! A server over the records of one store.
-ghost use Rattle.std.specs.Prelude.{◌≡◌, ◌++◌, List, OnErr, OnOk, IfOk};
-ghost use Rattle.kmip_messages.specs.Items.{parts_in, replies_in, stops_in};
+ghost use Rattle.std.specs.Prelude.{◌≡◌, ◌++◌, OnErr, OnOk, IfOk};
+ghost use Rattle.kmip_messages.specs.Items.{parts_in, stops_in};
 ghost use Rattle.kmip_server.specs.PrivateAnswering.{Tells};
-ghost use Rattle.kmip_server.specs.Batching.{batch_reply, effects_in, replies_to, stock_after_batch, AreBegun, AreServedInTurn, GrownBy};
+ghost use Rattle.kmip_server.specs.Batching.{effects_in, replies_to, stock_after_batch, AreBegun, GrownBy};
+ghost use Rattle.kmip_server.specs.Handles.{Handles};
 ghost use Rattle.kmip_server.specs.Private.{IsCutShort};
 ghost use Rattle.kmip_server.specs.Shown.{HasLawfulObjects};
-ghost use Rattle.kmip_server.specs.declared.effect.Effect.{Effect};
 ghost use Rattle.kmip_store.specs.Stock.{IsKept};
 
 use crate::batching::{answer_all, refuse_batch};
@@ -69,33 +69,7 @@ impl<S: Records> Server<S> {
     /// # Errors
     /// Where there is no memory. Some of the first questions are served then, and not all of them.
     pub fn handle(&mut self, alloc: Global, message: &[u8], now: i64) -> Result<Vec<u8>, NoMemory>
-        // The bytes of the reply are `batch_reply` of the records, the message and the time: the replies to
-        // the questions in turn, and to those after the first failure only with the option Continue.
-        ensures reply { IfOk result (λ r. r.items ≡ batch_reply self.old message.now now) }
-        // The records after it are those that the answered questions leave (`stock_after_batch`).
-        ensures after { OnOk result (self.new ≡ stock_after_batch self.old message.now) }
-        // Where memory ran out, some of the first questions were served, not all of them, and no reply is
-        // written. So nothing has happened where there is one question.
-        ensures begun { OnErr result ((effects : List Effect) × AreBegun (stops_in message.now)
-            (parts_in message.now) effects self.old self.new) }
-        // The room stays, however the call ends.
-        ensures room { self.new.room ≡ self.old.room }
-        // The records are kept before the call (`IsKept`).
-        ensures kept_before { IsKept self.old.rows self.old.room }
-        // The records are kept after the call, whatever the message, and however the call ends.
-        ensures kept { IsKept self.new.rows self.new.room }
-        // So the objects are lawful before the call: names and identifiers are distinct, they are at most as
-        // many as the room, and each is in its ranges.
-        ensures objects_before { HasLawfulObjects self.old }
-        // So the objects are lawful after the call, whatever the message, and however the call ends.
-        ensures objects { HasLawfulObjects self.new }
-        // The message is served question by question, each once, and what the bytes of the reply say are the
-        // replies to these questions. A request is a step of the server, and its reply says the outcome, with
-        // the operation and the id of the request. A question that is refused leaves the records, and its
-        // reply is Failed with what the refusal carries and the reason of its fault.
-        ensures served { IfOk result (λ r. AreServedInTurn (stops_in message.now)
-            (parts_in message.now) (replies_in r.items) (effects_in self.old message.now)
-            self.old self.new) }
+        ensures { Handles (λ r. r.items) message.now now result self.old self.new }
     {
         let mut effects = Vec::new(alloc);
         self.handle_batch(alloc, message, now, &mut effects)
@@ -113,11 +87,8 @@ impl<S: Records> Server<S> {
         now: i64,
         effects: &mut Vec<Effect>,
     ) -> Result<Vec<u8>, NoMemory>
-        // The bytes of the reply are `batch_reply` of the records, the message and the time: the replies to
-        // the questions in turn, and to those after the first failure only with the option Continue.
-        ensures reply { IfOk result (λ r. r.items ≡ batch_reply self.old message.now now) }
-        // The records after it are those that the answered questions leave (`stock_after_batch`).
-        ensures after { OnOk result (self.new ≡ stock_after_batch self.old message.now) }
+        // It answers the message as `handle` does.
+        ensures handled { Handles (λ r. r.items) message.now now result self.old self.new }
         // The steps that took effect are noted at the end of the list, in their order.
         ensures effects { OnOk result (effects.new.items
             ≡ effects.old.items ++ effects_in self.old message.now) }
@@ -126,24 +97,6 @@ impl<S: Records> Server<S> {
         ensures begun { OnErr result (GrownBy (λ more. AreBegun (stops_in message.now)
             (parts_in message.now) more self.old self.new)
             effects.old.items effects.new.items) }
-        // The room stays, however the call ends.
-        ensures room { self.new.room ≡ self.old.room }
-        // The records are kept before the call (`IsKept`).
-        ensures kept_before { IsKept self.old.rows self.old.room }
-        // The records are kept after the call, whatever the message, and however the call ends.
-        ensures kept { IsKept self.new.rows self.new.room }
-        // So the objects are lawful before the call.
-        ensures objects_before { HasLawfulObjects self.old }
-        // So the objects are lawful after the call, whatever the message, and however the call ends.
-        ensures objects { HasLawfulObjects self.new }
-        // The message is served question by question, each once, with the replies that the bytes of the reply
-        // say, and with these steps. A request is a step of the server, and its reply says the outcome, with
-        // the operation and the id of the request. A question that is refused leaves the records, and its
-        // reply is Failed with what the refusal carries and the reason of its fault. Nothing else is
-        // answered.
-        ensures served { IfOk result (λ r. AreServedInTurn (stops_in message.now)
-            (parts_in message.now) (replies_in r.items)
-            (effects_in self.old message.now) self.old self.new) }
     {
         question_laws();
         serving_is_a_step();

@@ -1,8 +1,8 @@
 -- At most one row has the name that a Locate gives.
-use Rattle.std.proofs.Common.{if◌then◌else◌, ◌≡◌, ℕ, Bool, false, nat_eq, ℤ, List, [], ◌∷◌, Option, Some, None, refl, sym, ap, ◌∙◌, inl, inr}
+use Rattle.std.proofs.Common.{if◌then◌else◌, ◌≡◌, ℕ, Bool, true, false, nat_eq, ℤ, List, [], ◌∷◌, Option, Some, None, Bor, IfSome, subst, refl, sym, ap, ◌∙◌, inl, inr}
 use Rattle.std.specs.Cmp.Lexicographic.{pointwise}
 use Rattle.std.specs.List.{find, position}
-use Rattle.std.specs.Option.{option_map, option_to_list, is_some, IsSome}
+use Rattle.std.specs.Option.{option_copied, option_map, option_to_list, is_some, IsSome}
 use Rattle.std.specs.declared.string.String.{String}
 use Rattle.indexmap.specs.IndexMap.{IndexMap, get_by_text}
 use Rattle.std.proofs.lemmas.Bool.{and_right, or_parts, cases_Bool, both_ways, false≢true, cond-true, cond-false}
@@ -11,7 +11,9 @@ use Rattle.std.proofs.lemmas.Slice.Eq.{bytes_eq-Decides}
 use Rattle.kmip_objects.specs.Objects.{Object}
 use Rattle.kmip_objects.specs.declared.attrs.Attrs.{Attrs}
 use Rattle.kmip_store.specs.declared.row.Row.{Row}
-use Rattle.kmip_store.specs.Stock.{object_of, objects_of, has_row_named, HaveOwnNames}
+use Rattle.kmip_objects.specs.Ranges.{is_identifier}
+use Rattle.kmip_store.specs.Stock.{object_of, objects_of, has_row_named, HaveOwnNames, IsKept}
+use Rattle.kmip_store.proofs.KeptLemmas.{IsLawful, kept_fits}
 use Rattle.kmip_store.proofs.PlaceLemmas.{none_passes, any_map, found_any}
 use Rattle.kmip_store.specs.PrivateIndexing.{LeadsTo, names_of}
 use Rattle.kmip_objects.specs.Attributes.{has_given}
@@ -53,12 +55,28 @@ name_of : (name : Option (List ℕ)) → IsSome name → (own : List ℕ) × (na
 name_of None some = absurd (false≢true some)
 name_of (Some own) some = (own, refl)
 
-pub located_is : (mask : Option ℤ) (given : Attrs) (rows : List Row) (found : Option Row) → IsSome given.name → HaveOwnNames rows
+located_is : (mask : Option ℤ) (given : Attrs) (rows : List Row) (found : Option Row) → IsSome given.name → HaveOwnNames rows
     → found ≡ find (wants mask given) rows
     → locate mask given (objects_of rows) ≡ option_to_list (option_map (λ r. r.uid) found)
 located_is mask given rows found some named is =
     let name = name_of given.name some in
     first_located mask given name.0 rows name.1 named ∙ ap (λ o. option_to_list (option_map (λ r. r.uid) o)) (sym is)
+
+uid_fits : (found : Option (Bor Row)) → IfSome found (λ r. IsLawful r.now)
+    → IfSome (option_map (λ r. r.uid) (option_copied found)) (λ u. is_identifier u ≡ true)
+uid_fits None lawful = tt
+uid_fits (Some r) lawful = lawful.0
+
+-- the identifier of the row that was found is what a Locate answers, and is in its range
+pub located : (mask : Option ℤ) (given : Attrs) (rows : List Row) (room : ℕ) (found : Option (Bor Row)) (uid : Option (List ℕ))
+    → IsSome given.name → IsKept rows room → option_copied found ≡ find (wants mask given) rows
+    → uid ≡ option_map (λ r. r.uid) (option_copied found)
+    → (locate mask given (objects_of rows) ≡ option_to_list uid) × IfSome uid (λ u. is_identifier u ≡ true)
+located mask given rows room found uid some kept first is =
+    let lawful = kept_fits (wants mask given) rows room found kept first in (
+      located_is mask given rows (option_copied found) some kept.named first ∙ ap option_to_list (sym is),
+      subst (λ u. IfSome u (λ u. is_identifier u ≡ true)) (sym is) (uid_fits found lawful),
+    )
 
 -- the test of a row by its name
 abbrev pub has_name : List ℕ → Row → Bool

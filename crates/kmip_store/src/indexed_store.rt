@@ -3,7 +3,7 @@ ghost use Rattle.std.specs.Prelude.{◌≡◌, ◌≤◌};
 ghost use Rattle.kmip_store.specs.Stock.{empty_stock, most_room};
 
 use crate::making::{NewObject, new_object};
-use crate::matching::{row_by_index, wanted_by_index};
+use crate::matching::{row_by_index, uid_found, wanted_by_index};
 use crate::material::draw;
 use crate::places::{Places, has_text, note_both};
 use crate::records::Records;
@@ -92,11 +92,9 @@ impl Records for IndexedStore {
         mask: Option<i32>,
         filter: &Attrs,
     ) -> Result<Option<Text>, StoreFault> {
-        let Some(row) = wanted_by_index(self.rows.as_slice(), &self.names, mask, filter) else {
-            return Ok(None);
-        };
-        let uid = Text::copied(alloc, row.uid.as_str())?;
-        Ok(Some(uid))
+        let row = wanted_by_index(self.rows.as_slice(), &self.names, mask, filter);
+        let uid = uid_found(alloc, row)?;
+        Ok(uid)
     }
 
     fn find(&self, uid: &str) -> Option<&Row> {

@@ -3,7 +3,7 @@ ghost use Rattle.std.specs.Prelude.{◌≡◌, ◌≤◌};
 ghost use Rattle.kmip_store.specs.Stock.{empty_stock, most_room};
 
 use crate::making::new_row;
-use crate::matching::{first_wanted, has_row_named, row_with};
+use crate::matching::{first_wanted, has_row_named, row_with, uid_found};
 use crate::material::draw;
 use crate::records::Records;
 use crate::row::Row;
@@ -75,11 +75,9 @@ impl Records for ListStore {
         mask: Option<i32>,
         filter: &Attrs,
     ) -> Result<Option<Text>, StoreFault> {
-        let Some(row) = first_wanted(self.rows.as_slice(), mask, filter) else {
-            return Ok(None);
-        };
-        let uid = Text::copied(alloc, row.uid.as_str())?;
-        Ok(Some(uid))
+        let row = first_wanted(self.rows.as_slice(), mask, filter);
+        let uid = uid_found(alloc, row)?;
+        Ok(uid)
     }
 
     fn find(&self, uid: &str) -> Option<&Row> {

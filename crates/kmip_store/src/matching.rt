@@ -1,5 +1,5 @@
 //! Rows found by name, by identifier, and by what a Locate gives.
-ghost use Rattle.std.specs.Prelude.{◌≡◌, IsSome};
+ghost use Rattle.std.specs.Prelude.{◌≡◌, IfOk, IsSome, option_map};
 ghost use Rattle.std.specs.List.{find, slice_get};
 ghost use Rattle.std.specs.Option.{option_copied};
 ghost use Rattle.kmip_store.specs.Locating.{storage_bit, is_searched, is_wanted};
@@ -11,6 +11,8 @@ use crate::places::{Places, place_of};
 use crate::row::Row;
 use kmip_objects::standard::{STORAGE_DESTROYED, STORAGE_ON_LINE};
 use kmip_objects::{Attrs, KeyState, has_given};
+use kmip_ttlv::Text;
+use std::alloc::{AllocError, Global};
 
 /// Whether a row has the name.
 pub(crate) fn has_row_named(rows: &[Row], name: &str) -> bool
@@ -66,6 +68,20 @@ pub(crate) fn wanted_by_index<'a>(
     } else {
         None
     }
+}
+
+/// The identifier of the row that was found, where one was.
+///
+/// # Errors
+/// Where there is no memory for it.
+pub(crate) fn uid_found(alloc: Global, found: Option<&Row>) -> Result<Option<Text>, AllocError>
+    ensures { IfOk result (λ uid. uid ≡ option_map (λ r. r.uid) (option_copied found.entry)) }
+{
+    let Some(row) = found else {
+        return Ok(None);
+    };
+    let uid = Text::copied(alloc, row.uid.as_str())?;
+    Ok(Some(uid))
 }
 
 /// The row at a place.

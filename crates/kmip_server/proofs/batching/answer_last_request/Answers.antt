@@ -17,7 +17,7 @@ returns-in_err-written-clause-same g c =
 
 pub returns-in-Err-clause-tells : goal.returns-in-Err-clause-tells
 returns-in-Err-clause-tells g c =
-    let refused = ap Failed c.store_reason.ensures ∙ (rw c.in-Err.is at c.in_ok-carry_out_noted.ensures.done.outcome) in
+    let refused = ap Failed c.store_reason.ensures ∙ (rw c.in-Err.is at c.in_ok-carry_out_noted.ensures.changed.done.outcome) in
     subst (λ outcome. IfOk c.refuse_last.result (λ v. Tells v.items (c.args.replies.now.items ++ reply_with c.args.request.now outcome ∷ []) c.args.now)) refused
     (subst (λ z. IfOk c.refuse_last.result (λ v. Tells v.items (c.args.replies.now.items ++ reply_with c.args.request.now (Failed c.store_reason.result) ∷ []) z))
     (to_z-of_z c.ranges.now) (c.refuse_last.ensures c.args.replies.now.items c.in_ok-reply.reply c.in_ok-written.ensures.joined))

@@ -54,6 +54,7 @@ returns-clause-counted g c = λ names.
       mid_is = c.in_ok-answer.ensures.ok;
       answer_is = c.in_ok-answer.ensures.answer;
       counts_are = c.in_ok-counts.ensures
+          ∙ ap (counted (is_disturbed c.next_word-word.result c.is_repeated-repeated.result (option_map (λ m. m.now) c.bytes_of-handed.result)) (length (requests_in c.args.request.now)) (strange_handed every_name c.args.request.now (option_map (λ m. m.now) c.bytes_of-handed.result))) c.disturbances-before.ensures
           ∙ ap (λ a. counted (is_disturbed c.next_word-word.result c.is_repeated-repeated.result a) (length (requests_in c.args.request.now)) (strange_handed every_name c.args.request.now a) (disturbances_in c.take_and_play.new.self)) c.bytes_of-handed.ensures;
       last_is = c.in_ok-hand_over.ensures.ok ∙ ap (λ a. handed c.args.request.now c.next_word-word.result a c.take_and_play.new.self) c.bytes_of-handed.ensures;
       new_is = c.count.ensures;
