@@ -17,7 +17,7 @@ use Rattle.kmip_protocol.specs.Past.{Names, Past, is_planned}
 use Rattle.kmip_protocol.specs.Seen.{Seen}
 use Rattle.kmip_runs.specs.PrivateCampaignParts.{AreSame, HasEnded, HasRun, IsBroken, begins_with}
 use Rattle.kmip_runs.specs.Driving.{Grown, IsQuestion, Keeps, Learnt}
-use Rattle.kmip_runs.specs.Remembering.{AreAsked, AreHeard, AreKnownFrom, AreTaught, IsTalkOf, Shows, Talk, limit_at, saved_after, saved_from, start_knowns, starts, starts_from}
+use Rattle.kmip_runs.specs.Remembering.{AreAsked, AreHeard, AreKnownFrom, AreTaught, IsTalkOf, Shows, Talk, limit_at, notes_of, saved_after, saved_from, start_knowns, starts, starts_from}
 use Rattle.kmip_runs.specs.declared.campaign_end.CampaignEnd.{CampaignEnd}
 use Rattle.kmip_runs.specs.declared.run.Run.{Run}
 use Rattle.kmip_runs.specs.declared.run_end.RunEnd.{RunEnd}
@@ -204,7 +204,7 @@ module _ (keys : List Key) (carried : List (List Known)) (runs : List Run) where
       })
 
   pub recalled_known : (c : ClientState) (x y : Seen) (ends : List RunEnd) (saved : List (List Known)) (whole : Type 0) → Recalled c x y ends saved
-      → AreKnownFrom keys carried runs ends saved (x.honest (is_planned keys)) whole x.past y.past
+      → AreKnownFrom keys carried runs (record { ends = ends; saved = saved }) (x.honest (is_planned keys)) whole x.past y.past
   recalled_known c x y ends saved whole recalled = record {
     known = recalled.known;
     shown = recalled.shown;
@@ -220,7 +220,7 @@ module _ (keys : List Key) (carried : List (List Known)) (runs : List Run) where
   -- the next run was broken off
   pub broken_known : (c : ClientState) (x y z : Seen) (run : Run) (old new : CampaignEnd) (place : ℕ) (whole : Type 0) → slice_get runs place ≡ Some run
       → length old.runs.items ≡ place → (whole → y.past ≡ z.past) → Recalled c x y old.runs.items old.saved.items → IsBroken keys run y z old new
-      → AreKnownFrom keys carried runs new.runs.items new.saved.items (x.honest (is_planned keys)) whole x.past z.past
+      → AreKnownFrom keys carried runs (notes_of new) (x.honest (is_planned keys)) whole x.past z.past
   broken_known c x y z run old new place whole is long no_more recalled broken =
       let many = AllZip-long (Shows keys) recalled.known old.runs.items recalled.shown in
       let at = subst (λ n. slice_get runs n ≡ Some run) (sym long ∙ many) is in

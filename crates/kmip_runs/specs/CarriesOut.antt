@@ -10,7 +10,7 @@ use Rattle.kmip_runs.specs.Driving.{AsksOne, Grown, IsGood, IsSettling, Keeps, L
 use Rattle.kmip_runs.specs.Keeping.{Kept}
 use Rattle.kmip_runs.specs.Losing.{ArePaid, IsEnough, left_for}
 use Rattle.kmip_runs.specs.Refusals.{HasRisen}
-use Rattle.kmip_runs.specs.Saved.{AreSaved, IsInMemory, IsLeft, IsWhole, moment}
+use Rattle.kmip_runs.specs.Saved.{AreSavedBetween, IsInMemory, IsLeft, IsWhole, Situation}
 use Rattle.kmip_runs.specs.declared.save_fault.SaveFault.{SaveFault}
 use Rattle.kmip_runs.specs.declared.stop.Stop.{Stop}
 use Rattle.kmip_runs.specs.declared.stop.Stop.TheVariants as stops
@@ -23,6 +23,10 @@ pub record Stage : Type 1 where
   pub client : ClientState
   pub keeper : Kept
   pub is_tired : Bool
+
+-- What is seen at a stage, but for patience.
+abbrev pub situation : Stage → Situation
+situation stage = record { client = stage.client; link = stage.link; keeper = stage.keeper }
 
 -- What carrying out a plan promises where all was good before (`IsGood`).
 pub record CarriesOutWell (most : ℕ) (old : Stage) (stopped : Result Stop SaveFault) (made : ℕ) (new : Stage) : Type 0 where
@@ -107,9 +111,7 @@ pub record CarriesOut (most : ℕ) (old : Stage) (stopped : Result Stop SaveFaul
   -- end, takes back an identifier or a count. `AreSaved` says what each text says over an honest link,
   -- and what it says where all was good at the start.
   pub saved : old.keeper.keeps → new.keeper.keeps
-      × AreSaved old.client.keys old.client.batch (IsGood old.client old.link)
-      (old.link.honest (is_planned old.client.keys)) (moment old.client old.link)
-      (moment new.client new.link) stopped made old.keeper.saved new.keeper.saved
+      × AreSavedBetween (situation old) (situation new) stopped made
   -- The keeper's count of refusals never falls.
   pub counted : old.keeper.refusals ≤ new.keeper.refusals
   -- It answers that a text could not be written only where the keeper's count of refusals has risen, or

@@ -11,11 +11,11 @@ use Rattle.kmip_protocol.specs.Seen.{Seen}
 use Rattle.kmip_protocol.specs.Sound.{Opening}
 use Rattle.kmip_runs.specs.Campaign.{CalmLink, HasNoConflict, IsEnd, Settles, saves}
 use Rattle.kmip_runs.specs.Headline.{GoodLink, reported}
-use Rattle.kmip_runs.specs.Campaigns.{AreInTurn, CalmStart, GoodStart, IsTrueFor, last_plan}
+use Rattle.kmip_runs.specs.Campaigns.{AreInTurn, GoodStart, IsTrueFor, last_plan, premises_of}
 use Rattle.kmip_runs.specs.Driving.{WentOn}
 use Rattle.kmip_runs.specs.Ending.{AreEnded}
 use Rattle.kmip_runs.specs.Losing.{AllOutlast}
-use Rattle.kmip_runs.specs.Remembering.{AreKnown}
+use Rattle.kmip_runs.specs.Remembering.{AreKnown, notes_of}
 use Rattle.kmip_runs.specs.TurnedRuns.{AreTurnedFrom}
 use Rattle.kmip_runs.specs.declared.campaign_end.CampaignEnd.{CampaignEnd}
 use Rattle.kmip_runs.specs.declared.run.Run.{Run}
@@ -68,7 +68,7 @@ pub record MakesCampaign (old : Seen) (keys : List Key) (runs : List Run) (end :
   -- run began with and what its exchanges handed over. Nothing else was asked, sent or handed over until
   -- the last end, and later only where memory ran out: then the next run sent no more messages than its
   -- limit.
-  pub known : AreKnown keys runs end.runs.items end.saved.items (old.honest (is_planned keys))
+  pub known : AreKnown keys runs (notes_of end) (old.honest (is_planned keys))
       (end.fault ≡ None) old.past new.past
   -- Client by client: each run begins with a client that knows nothing, with that of the run before, or
   -- with one that goes on from a save. The turns of the run, one for each exchange that its end counts,
@@ -125,8 +125,8 @@ pub record MakesCampaigns (old : Seen) (plans : List (List Key)) (runs : List (L
   -- may make as many exchanges as its plan's bound finishes every key of the plan within it. The runs on
   -- each plan begin where those before them ended. Only where memory ran out are runs missing: then the
   -- runs on the last plan that was begun lack an end, or a further plan was not begun.
-  pub in_turn : AreInTurn plans runs end.runs.items end.saved.items
-      (old.honest (is_planned (last_plan plans))) (CalmStart plans old) (end.fault ≡ None) old.past new.past
+  pub in_turn : AreInTurn plans runs (notes_of end) (premises_of plans old) (end.fault ≡ None)
+      old.past new.past
   -- Where the link is honest for the names of the last plan, the runs that have ends are those that were
   -- ended over it, each right after its last exchange, and no other run was.
   pub ended : old.honest (is_planned (last_plan plans))

@@ -17,13 +17,13 @@ use Rattle.kmip_client.specs.Shapes.{IsKept}
 use Rattle.kmip_client.specs.Verdicts.{AreWithin, counts_of, verdicts_of}
 use Rattle.kmip_client.specs.declared.knowledge.Knowledge.{Knowledge}
 use Rattle.kmip_protocol.specs.Laws.{DeliveriesKeepSound, DeliveriesKeepTheImage, ObjectsGoOnward, OpeningIsMirrored, SoundIsSafe}
-use Rattle.kmip_protocol.specs.Past.{Past, Names, is_planned}
+use Rattle.kmip_protocol.specs.Past.{Names, is_planned}
 use Rattle.kmip_protocol.specs.Seen.{Seen}
 use Rattle.kmip_protocol.specs.SettlingLaws.{SoundIsReady}
 use Rattle.kmip_runs.specs.Campaign.{CalmLink, HasNoConflict, IsEnd, Settles, saves}
 use Rattle.kmip_runs.specs.Headline.{GoodLink}
 use Rattle.kmip_runs.specs.Driving.{Grown, IsGood, KeepsFurther, Learnt, WentOn}
-use Rattle.kmip_runs.specs.Remembering.{AreKnownFrom, Shows, saved_after, start_knowns}
+use Rattle.kmip_runs.specs.Remembering.{AreKnownFrom, Shows, notes_of, saved_after, start_knowns}
 use Rattle.kmip_runs.specs.Reporting.{report_text}
 use Rattle.kmip_runs.specs.declared.campaign_end.CampaignEnd.{CampaignEnd}
 use Rattle.kmip_runs.specs.declared.run.Run.{Run}
@@ -153,6 +153,6 @@ pub record HasRunAll (keys : List Key) (carried : List (List Known)) (runs : Lis
   pub order : AllZip (IsEnd keys) (take (length end.runs.items) runs) end.runs.items
   pub complete : end.fault ≡ None → AllZip (IsEnd keys) runs end.runs.items × (length end.saved.items ≡ length (filter saves runs))
   pub fewer : end.fault ≢ None → length end.runs.items < length runs
-  pub known : AreKnownFrom keys carried runs end.runs.items end.saved.items (old.honest (is_planned keys)) (end.fault ≡ None) old.past new.past
+  pub known : AreKnownFrom keys carried runs (notes_of end) (old.honest (is_planned keys)) (end.fault ≡ None) old.past new.past
   pub settles : CalmLink keys old → All (TrueProgress old.past.objects keys) carried → end.fault ≡ None
       → AllZip (Settles keys) runs end.runs.items × CalmLink keys new

@@ -8,14 +8,15 @@ use Rattle.kmip_progress.specs.Suiting.{Suits}
 use Rattle.kmip_progress.specs.declared.known.Known.{Known}
 use Rattle.kmip_client.specs.Laws.{PositionsAreNoLess, TrueOfProlonged}
 use Rattle.kmip_protocol.specs.Laws.{IsReached, NamesOfProlonged, SoundBetween, SoundOfProlonged}
-use Rattle.kmip_protocol.specs.Past.{Names, Past, is_planned}
+use Rattle.kmip_protocol.specs.Past.{Past}
 use Rattle.kmip_protocol.specs.Seen.{Seen}
 use Rattle.kmip_protocol.specs.SettlingLaws.{ProlongedMissNoLess}
 use Rattle.kmip_runs.specs.Headline.{GoodLink, reported_by}
 use Rattle.kmip_runs.specs.Campaign.{HasNoConflict}
 use Rattle.kmip_runs.specs.PrivateCampaignParts.{HasRunAll, CampaignStage}
-use Rattle.kmip_runs.specs.Campaigns.{AreInTurn, CalmStart, GoodStart, IsTrueFor, carried_over, last_plan}
+use Rattle.kmip_runs.specs.Campaigns.{AreInTurn, GoodStart, IsTrueFor, carried_over, last_plan, premises_of}
 use Rattle.kmip_runs.specs.Driving.{WentOn}
+use Rattle.kmip_runs.specs.Remembering.{notes_of}
 use Rattle.kmip_runs.specs.declared.campaign_end.CampaignEnd.{CampaignEnd}
 use Rattle.kmip_runs.specs.declared.run.Run.{Run}
 use Rattle.kmip_runs.specs.declared.run_end.RunEnd.{RunEnd}
@@ -73,5 +74,4 @@ pub record IsGoodFor (keys : List Key) (old new : Seen) (ends : List RunEnd) (sa
 -- was noted plan by plan
 pub record HasRunPlans (plans : List (List Key)) (runs : List (List Run)) (whole : Type 0) (old new : Seen) (end : CampaignEnd) : Type 0 where
   pub good : GoodStart plans old → IsGoodFor (last_plan plans) old new end.runs.items end.saved.items
-  pub in_turn : AreInTurn plans runs end.runs.items end.saved.items (old.honest (is_planned (last_plan plans))) (CalmStart plans old)
-      whole old.past new.past
+  pub in_turn : AreInTurn plans runs (notes_of end) (premises_of plans old) whole old.past new.past

@@ -17,7 +17,7 @@ ghost use Rattle.kmip_runs.specs.Ending.{AreEnded};
 ghost use Rattle.kmip_runs.specs.Private.{EndsJoin};
 ghost use Rattle.kmip_runs.specs.Losing.{AllOutlast};
 ghost use Rattle.kmip_runs.specs.Private.{HasOutlasted};
-ghost use Rattle.kmip_runs.specs.Remembering.{AreKnown, AreKnownFrom, resumed, saved_numbered, start_knowns};
+ghost use Rattle.kmip_runs.specs.Remembering.{AreKnown, AreKnownFrom, notes_of, resumed, saved_numbered, start_knowns};
 ghost use Rattle.kmip_runs.specs.TurnedRuns.{AreTurnedFrom, begin_client, resumed_client};
 ghost use Rattle.kmip_runs.specs.Private.{RanTurned};
 ghost use Rattle.kmip_runs.specs.MakesCampaigns.{MakesCampaign};
@@ -144,8 +144,8 @@ fn run_each<L: Link>(
         end.new.runs.items }
     ensures complete { OnOk result (AllZip (IsEnd plan.now) runs.now end.new.runs.items
         × (length end.new.saved.items ≡ length (filter saves runs.now))) }
-    ensures known { AreKnownFrom plan.now carried.now runs.now end.new.runs.items
-        end.new.saved.items ((L.seen link.old).honest (is_planned plan.now)) (result ≡ Ok tt)
+    ensures known { AreKnownFrom plan.now carried.now runs.now (notes_of end.new)
+        ((L.seen link.old).honest (is_planned plan.now)) (result ≡ Ok tt)
         (L.seen link.old).past (L.seen link.new).past }
     ensures turned { AreTurnedFrom plan.now carried.now runs.now end.new.runs.items
         ((L.seen link.old).honest (is_planned plan.now)) (result ≡ Ok tt)

@@ -1,5 +1,5 @@
 -- Begun, driven, ended over the link and noted.
-use Rattle.std.proofs.Common.{◌≡◌, ◌∙◌, ◌++◌, ◌∷◌, [], IfSome, Ok, arith, ap, refl, rules, subst, sym}
+use Rattle.std.proofs.Common.{◌≡◌, ◌∙◌, ◌++◌, ◌∷◌, [], IfSome, arith, ap, refl, rules, subst, sym}
 use Rattle.std.specs.List.{All}
 use Rattle.kmip_client.specs.Held.{TrueProgress}
 use Rattle.kmip_progress.specs.Suiting.{Suits}

@@ -1,5 +1,6 @@
 -- No fault is noted exactly where none was met.
 use Rattle.std.proofs.Common.{[]}
+use Rattle.kmip_runs.specs.Remembering.{notes_of}
 use Rattle.kmip_runs.proofs.DriveLemmas.{further_if}
 use Rattle.kmip_runs.proofs.EndingLemmas.{join_if}
 use Rattle.kmip_runs.proofs.RunLemmas.{if_fault, if_ok, known_if, ok_of}
@@ -23,7 +24,7 @@ returns g c =
         order = c.run_each.ensures.order;
         complete = λ is. if_ok c.run_each.result (whole is) c.run_each.ensures.complete;
         fewer = λ fault. if_fault c.run_each.result c.err-fault.result c.err-fault.ensures.value fault c.run_each.ensures.fewer;
-        known = known_if keys c.args.carried.now c.args.runs.now end.runs.items end.saved.items _ _ _ (g.L.Link.seen c.args.link.now).past (g.L.Link.seen c.run_each.new.link).past whole
+        known = known_if keys c.args.carried.now c.args.runs.now (notes_of end) _ _ _ (g.L.Link.seen c.args.link.now).past (g.L.Link.seen c.run_each.new.link).past whole
             c.run_each.ensures.known;
         settles = λ calmly carried is. if_ok c.run_each.result (whole is) (c.run_each.ensures.settles calmly carried);
       };

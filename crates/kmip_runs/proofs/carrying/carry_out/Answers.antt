@@ -3,7 +3,7 @@ use Rattle.std.proofs.Common.{subst, sym, rules}
 use Rattle.kmip_plan.specs.Plans.{IsLawful}
 use Rattle.kmip_protocol.specs.Past.{is_planned}
 use Rattle.kmip_runs.specs.Losing.{ArePaid, left_for}
-use Rattle.kmip_runs.specs.Saved.{IsInMemory}
+use Rattle.kmip_runs.specs.Saved.{IsInMemory, Situation}
 use Rattle.kmip_runs.proofs.CarryLemmas.{carried_closed, good_end, left_last, limit_last, memory_before, settled_end, stands_last, unless_given_up}
 use Rattle.kmip_runs.proofs.CarryEndingLemmas.{ended_once, ended_whole, one_of_both}
 use Rattle.kmip_runs.proofs.CarryLosingLemmas.{outlasted, paid_closed}
@@ -25,11 +25,15 @@ returns g c =
     let new = g.L.Link.seen close.new.link in
     let names = is_planned client.keys in
     let kept = g.K.Keeper.kept in
-    let first = done.ensures.carried in
+    let made = done.ensures.exchanges in
+    let first = made.carried in
+    let before : Situation = record { client = client; link = old; keeper = kept c.args.keeper.now } in
+    let between : Situation = record { client = next; link = mid; keeper = kept done.new.keeper } in
+    let after : Situation = record between { link = new } in
     let limit = limit_last close.result done.result.0 last end.whole end.stop end.fault in
-    let stands = stands_last next close.result done.result.0 last end.whole end.stop end.fault done.ensures.stands in
+    let stands = stands_last next close.result done.result.0 last end.whole end.stop end.fault made.stands in
     let carried =
-    carried_closed laws client next old mid new (kept c.args.keeper.now) (kept done.new.keeper) done.result.0 last close.result done.result.1 lawful
+    carried_closed laws before between new done.result.0 last close.result done.result.1 lawful
     (λ names honest. (close.ensures.honestly names honest).honest) close.ensures.calm end.whole end.stop end.fault first in
     record {
       well = λ good.
@@ -38,7 +42,7 @@ returns g c =
           paid_closed laws next mid new done.result.1 (left_for client old.past) old.disturbances
           (subst IsLawful (sym first.went.keeps.keys_stay) lawful) (first.went.good good)
           (λ names honest. (close.ensures.honestly names honest).honest) (λ names honest. (close.ensures.honestly names honest).undisturbed)
-          (done.ensures.losing good (memory_before close.result done.result.0 last end.whole end.stop end.fault memory)) in
+          (made.losing good (memory_before close.result done.result.0 last end.whole end.stop end.fault memory)) in
           record {
             good = carried.went.good good;
             goes = carried.went.goes good;
@@ -46,7 +50,7 @@ returns g c =
             outlasts = λ patient whole enough.
                 outlasted laws client next old new last done.result.1 c.args.limit lawful good (carried.went.good good) paid stands
                 (λ is. unless_given_up _ _ _ _ done.ensures.limit patient (limit is)) whole enough;
-            no_conflict = good_end laws client next old new last done.result.1 carried.went stands good;
+            no_conflict = good_end laws before after last done.result.1 carried.went stands good;
           };
       honestly = λ honest.
           let known = first.went.known honest in
@@ -65,7 +69,7 @@ returns g c =
       kept = carried.went.keeps;
       saved = carried.kept;
       counted = search rules;
-      output = λ is. done.ensures.output (output_before close.result done.result.0 last end.whole end.stop end.fault is);
+      output = λ is. made.output (output_before close.result done.result.0 last end.whole end.stop end.fault is);
       stands = stands;
       limit = λ is. done.ensures.limit (limit is);
       given_up = λ fresh gave.
@@ -75,7 +79,7 @@ returns g c =
       calmly = λ settling. record {
         calm = carried.went.near settling;
         settles = λ enough patient whole.
-            settled_end laws client next old new last done.result.1 c.args.limit lawful carried.went stands
+            settled_end laws before after last done.result.1 c.args.limit lawful carried.went stands
             (λ is. unless_given_up _ _ _ _ done.ensures.limit patient (limit is)) settling enough whole;
       };
     }

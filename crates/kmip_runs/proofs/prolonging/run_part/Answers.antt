@@ -1,6 +1,7 @@
 -- There was room for what was noted; and it is noted behind what was there.
 use Rattle.std.proofs.Common.{◌≡◌, ◌++◌, ◌∙◌, None, ap, inl, inr, refl, rules, arith}
 use Rattle.kmip_runs.specs.Campaign.{IsEnd}
+use Rattle.kmip_runs.specs.Remembering.{notes_of}
 use Rattle.kmip_runs.proofs.EndingLemmas.{join_none, join_part}
 use Rattle.kmip_runs.proofs.KnownLemmas.{on_err}
 use Rattle.kmip_runs.proofs.PlanLemmas.{few_ends, few_saved, if_ok_more, read_for, some_not}
@@ -18,7 +19,7 @@ returns-in_err-append-2-clause-broken g c =
     let part = c.run_all-part.result in
     let all = c.run_all-part.ensures.all in
     let few = few_ends (IsEnd c.args.plan.now) c.args.runs.now part.runs.items all.order in
-    let saves = few_saved c.args.plan.now c.args.carried.now c.args.runs.now part.runs.items part.saved.items _ _ _ _ all.known few in
+    let saves = few_saved c.args.plan.now c.args.carried.now c.args.runs.now (notes_of part) _ _ _ _ all.known few in
     absurd (omega (arith, saves, part.saved.ok.0, c.in_err-append-2.ensures.full, c.in_ok-reserve-2.ensures.ok))
 
 pub returns-then-is_some-clause-broken : goal.returns-then-is_some-clause-broken
@@ -85,7 +86,7 @@ returns-in_err-append-2-clause-ended g c =
     let part = c.run_all-part.result in
     let all = c.run_all-part.ensures.all in
     let few = few_ends (IsEnd c.args.plan.now) c.args.runs.now part.runs.items all.order in
-    let saves = few_saved c.args.plan.now c.args.carried.now c.args.runs.now part.runs.items part.saved.items _ _ _ _ all.known few in
+    let saves = few_saved c.args.plan.now c.args.carried.now c.args.runs.now (notes_of part) _ _ _ _ all.known few in
     absurd (omega (arith, saves, part.saved.ok.0, c.in_err-append-2.ensures.full, c.in_ok-reserve-2.ensures.ok))
 
 pub returns-then-is_some-clause-ended : goal.returns-then-is_some-clause-ended
