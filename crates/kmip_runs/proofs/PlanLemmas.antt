@@ -234,7 +234,7 @@ module _ (plans : List (List Key)) (runs : List (List Run)) where
         }
 
     part_of : (start x y : Seen) (place : ℕ) (keys : List Key) (list : List Run) (old : CampaignEnd) (carried : List (List Known)) (whole : Type 0) → IsLawful keys
-        → slice_get plans place ≡ Some keys → (before : Turning start x place old carried) (part : CampaignEnd) → HasRunAll keys carried list part x y
+        → slice_get plans place ≡ Some keys → (before : Turning start x place old carried) (part : CampaignEnd) → HasRunAll keys carried list (notes_of part) (part.fault ≡ None) x y
         → (whole → part.fault ≡ None)
         → IsPart keys (map (carried_over keys) ([] ++ flat_map noted_saves before.parts)) list (record { ends = part.runs.items; saved = part.saved.items })
         (premises_of plans start) whole x.past y.past
@@ -268,8 +268,8 @@ module _ (plans : List (List Key)) (runs : List (List Run)) where
               x.past y.past is so before.each (part_of start x y place keys list old carried whole lawful_keys is before ran.part ran.all to);
           good = λ begun.
               let reached = before.stands begun in
-              let (camp, kept) = ran.all.stands (good_of start x place old keys carried is lawful_keys before begun) (reached.carried_true keys is) in
-              let (last, went) = kept.good (last_plan plans) lawful prolongs reached.good.good in
+              let ended = ran.all.well (good_of start x place old keys carried is lawful_keys before begun) (reached.carried_true keys is) in
+              let (last, went) = ended.further.good (last_plan plans) lawful prolongs reached.good.good in
               record {
                 good = last;
                 went = record {
@@ -279,7 +279,7 @@ module _ (plans : List (List Key)) (runs : List (List Run)) where
                 noted = rw (ran.runs_are, ran.saved_are)
                     (noted_for_both (last_plan plans) y.past old.runs.items ran.part.runs.items old.saved.items ran.part.saved.items
                     (noted_for_onward r (last_plan plans) x.past y.past old.runs.items old.saved.items lawful went.onward reached.good.noted)
-                    (noted_over r l (last_plan plans) keys y.past ran.part.runs.items ran.part.saved.items lawful prolongs camp.noted));
+                    (noted_over r l (last_plan plans) keys y.past ran.part.runs.items ran.part.saved.items lawful prolongs ended.campaigned.noted));
               };
         }
 
@@ -305,11 +305,12 @@ module _ (plans : List (List Key)) (runs : List (List Run)) where
                 (before.carried_are keys is).0 ran.ran.saved_are,
             (reads next at).1,
           );
-          honest_still = λ names holds. all.honest_still names (before.honest_still names holds);
+          honest_still = λ names holds. all.stays_honest names (before.honest_still names holds);
           stands = λ begun.
               let reached = before.stands begun in
-              let (camp, kept) = all.stands (good_of start x place old keys carried is lawful_keys before begun) (reached.carried_true keys is) in
-              let (last, went) = kept.good (last_plan plans) lawful (last_prolongs l plans place keys prolonged is) reached.good.good in
+              let ended = all.well (good_of start x place old keys carried is lawful_keys before begun) (reached.carried_true keys is) in
+              let camp = ended.campaigned in
+              let (last, went) = ended.further.good (last_plan plans) lawful (last_prolongs l plans place keys prolonged is) reached.good.good in
               record {
                 good = end.good begun;
                 sound = λ next at lawful_next.
@@ -328,8 +329,8 @@ module _ (plans : List (List Key)) (runs : List (List Run)) where
               };
           calmly = λ begun.
               let reached = before.stands (begun_of start begun) in
-              let kept = (all.stands (good_of start x place old keys carried is lawful_keys before (begun_of start begun)) (reached.carried_true keys is)).1 in
-              kept.calmly ran.whole (last_plan plans) lawful (last_prolongs l plans place keys prolonged is) (before.calmly begun);
+              let ended = all.well (good_of start x place old keys carried is lawful_keys before (begun_of start begun)) (reached.carried_true keys is) in
+              ended.further.calmly ran.whole (last_plan plans) lawful (last_prolongs l plans place keys prolonged is) (before.calmly begun);
         }
 
     -- or one of them has no end, or nothing was carried over to the next plan

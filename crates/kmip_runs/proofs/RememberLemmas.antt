@@ -171,7 +171,7 @@ module _ (keys : List Key) (carried : List (List Known)) (runs : List Run) where
 
   pub recalled_more : (a b : ClientState) (x y z : Seen) (run : Run) (old new : CampaignEnd) (place : ℕ) → slice_get runs place ≡ Some run
       → length old.runs.items ≡ place → Recalled a x y old.runs.items old.saved.items
-      → HasRun keys carried run a b (record { link = y; end = old }) (record { link = z; end = new }) → Recalled b x z new.runs.items new.saved.items
+      → HasRun keys carried run (record { client = a; link = y; end = old }) (record { client = b; link = z; end = new }) → Recalled b x z new.runs.items new.saved.items
   recalled_more a b x y z run old new place is long before ran =
       let noted = ran.ended.noted in
       let many = AllZip-long (Shows keys) before.known old.runs.items before.shown in
@@ -244,7 +244,7 @@ module _ (keys : List Key) (carried : List (List Known)) where
       → b.knowns ≡ begins_with keys carried run a old → Keeps b c
       → (x.honest (is_planned b.keys) → y.honest (is_planned b.keys) × Learnt b.keys b.batch x.past y.past b.knowns c.knowns driven.1)
       → HasEnded c.keys run c.knowns driven old new → ((names : Names) → y.honest names → z.honest names × Delivered names y.past z.past)
-      → HasRun keys carried run a c (record { link = x; end = old }) (record { link = z; end = new })
+      → HasRun keys carried run (record { client = a; link = x; end = old }) (record { client = c; link = z; end = new })
   ran_closed run a b c x y z driven old new b_keys b_batch begun keeps learnt ended closes = record {
     driven = driven;
     ended = subst (λ ks. HasEnded ks run c.knowns driven old new) (keeps.keys_stay ∙ b_keys) ended;

@@ -95,7 +95,7 @@ module _ (keys : List Key) (carried : List (List Known)) where
       → Standing keys b y new.runs.items new.saved.items × WentOn keys x.past y.past)
       → ((names : Names) → x.honest names → y.honest names)
       → (Standing keys a x old.runs.items old.saved.items → All (TrueProgress x.past.objects keys) carried → KeepsFurther keys ⊤ x y)
-      → HasRun keys carried run a b (record { link = x; end = old }) (record { link = y; end = new })
+      → HasRun keys carried run (record { client = a; link = x; end = old }) (record { client = b; link = y; end = new })
       → (Standing keys a x old.runs.items old.saved.items → All (TrueProgress x.past.objects keys) carried → CalmLink keys x
       → HasSettled keys run old.runs.items new.runs.items × CalmLink keys y) → Running keys carried b start y runs (notes_of new) (at + 1)
   running_more l a b start x y runs at run old new lawful is before b_keys suits stands still further ran settles =

@@ -1,6 +1,6 @@
 -- Private: what a turn promises, and the exchange of its message.
 -- Source: own (view).
-use Rattle.std.specs.Prelude.{Bool, IfErr, IfOk, IsOk, None, OnErr, OnOk, Result, Unit, false, ℕ, ◌++◌, ◌≡◌}
+use Rattle.std.specs.Prelude.{Bool, IfErr, IfOk, IsOk, None, OnErr, OnOk, Result, false, ℕ, ◌++◌, ◌≡◌}
 use Rattle.kmip_client.specs.Clients.{AreSettled, ClientState, one_if}
 use Rattle.kmip_client.specs.Justified.{JustifiedMessage}
 use Rattle.kmip_client.specs.Known.{facts}

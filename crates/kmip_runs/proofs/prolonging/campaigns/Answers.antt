@@ -7,7 +7,7 @@ use Rattle.kmip_runs.specs.Campaigns.{last_plan}
 use Rattle.kmip_runs.specs.Remembering.{notes_of}
 use Rattle.kmip_runs.proofs.EndingLemmas.{all_joined, join_if}
 use Rattle.kmip_runs.proofs.PlanLemmas.{in_turn_if}
-use Rattle.kmip_runs.proofs.RunLemmas.{if_ok, of_ok, ok_of}
+use Rattle.kmip_runs.proofs.RunLemmas.{of_ok, ok_of}
 use Rattle.kmip_runs.proofs.prolonging.campaigns.Goals as goal
 
 pub returns : goal.returns
@@ -39,5 +39,5 @@ returns g c =
       ended = λ honest.
           all_joined end.runs.items _ _ _ _ _
           (join_if [] end.runs.items _ _ _ _ _ _ (ok_of c.run_plans.result c.err-fault.result c.err-fault.ensures.value) (c.run_plans.ensures.ended honest));
-      followed = λ is. if_ok c.run_plans.result (ok_of c.run_plans.result c.err-fault.result c.err-fault.ensures.value is) c.run_plans.ensures.followed;
+      followed = λ is. c.run_plans.ensures.followed (ok_of c.run_plans.result c.err-fault.result c.err-fault.ensures.value is);
     }
