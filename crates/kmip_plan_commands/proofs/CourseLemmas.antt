@@ -42,8 +42,8 @@ state_at s = run_state s.link s.keeper s.is_tired
 came : (limit : ℕ) (old new : Stage) (r : Result Stop SaveFault) (made : ℕ) → IsInMemory r → CarriesOut limit old r made new
     → Came limit old.client.batch (λ keys. IsGood old.client old.link) (state_at old) (state_at new) old.client.keys old.client.knowns (outcome new.client.knowns r made)
 came limit old new r made whole carries = record {
-  kept = carries.kept.kept;
-  learnt = λ h. (carries.honestly h).known.1 whole;
+  kept = carries.forgets_nothing.kept;
+  learnt = λ h. (carries.honestly h).learns.1 whole;
   saved_are = carries.saved;
   settles = λ quiet ready within patient all.
       let s = (carries.calmly (record { calm_for = quiet; ready = ready })).settles within patient all in (s.0, s.3);
@@ -77,7 +77,7 @@ saved_for keys most good other honest old new r made f s = record {
   unsaved = s.unsaved;
   are_unsaved = s.are_unsaved;
   as_many = s.as_many;
-  kept = s.kept;
+  forgets_nothing = s.forgets_nothing;
   taught = s.taught;
   rest = s.rest;
   true_of = λ o. s.true_of (f o);

@@ -17,7 +17,7 @@ use Rattle.kmip_protocol.specs.Seen.{Seen}
 use Rattle.kmip_client.specs.Saving.{progress}
 use Rattle.kmip_progress.specs.Texts.{progress_text}
 use Rattle.kmip_protocol.specs.Sound.{Sound}
-use Rattle.kmip_runs.specs.Driving.{AreFinished, AsksOne, IsGood, IsSettling, IsUnheard, IsUnmade, Learnt, Nearer, Stands, WentOn, need}
+use Rattle.kmip_runs.specs.Driving.{AreFinished, AsksOne, IsBorneOut, IsGood, IsSettling, IsUnheard, IsUnmade, Learnt, Nearer, WentOn, need}
 use Rattle.kmip_runs.specs.declared.stop.Stop.{Stop}
 use Rattle.kmip_runs.specs.declared.stop.Stop.TheVariants as stops
 use Rattle.kmip_runs.specs.Private.{IsBrokenOff, exchanges_made}
@@ -100,7 +100,7 @@ saved_from_start keys most before later old new result n betters gives a = recor
   unsaved = a.unsaved;
   are_unsaved = a.are_unsaved;
   as_many = a.as_many;
-  kept = a.kept;
+  forgets_nothing = a.forgets_nothing;
   taught = λ h. a.taught (gives h);
   rest = λ h. a.rest (gives h);
   true_of = λ g. a.true_of (betters g);
@@ -114,12 +114,12 @@ pub took : (a b : Situation) (result : Result Stop SaveFault) (asked : Bool) (fo
     → MakesTurn a.link a.client (Ok asked) b.link b.client follows → Went a b result (one_if asked)
 took a b result asked follows memory turn = record {
   good = λ good. (turn.well good).good;
-  goes = λ good. (turn.well good).onward;
-  known = λ holds. ((turn.honestly holds).stays_honest, λ in_memory. (turn.honestly holds).learnt);
+  onward = λ good. (turn.well good).onward;
+  learns = λ holds. ((turn.honestly holds).stays_honest, λ in_memory. (turn.honestly holds).learnt);
   broken = λ holds is. absurd (memory is);
-  grown = λ holds. (turn.honestly holds).takes_nothing_back;
-  keeps = turn.moves.keeps;
-  near = λ settling whole. turn.moves.nearer settling;
+  takes_nothing_back = λ holds. (turn.honestly holds).takes_nothing_back;
+  keeps = turn.tries.keeps;
+  near = λ settling whole. turn.tries.nearer settling;
 }
 
 one_at_most : (fault : TurnFault) → exchanges_made fault ≤ 1
@@ -136,8 +136,8 @@ pub broke : (a b : Situation) (fault : TurnFault) (follows : Type 0) → MakesTu
     → Went a b (Ok stops.NoMemory) (exchanges_made fault)
 broke a b fault follows turn = record {
   good = λ good. (turn.well good).good;
-  goes = λ good. (turn.well good).onward;
-  known = λ holds. ((turn.honestly holds).stays_honest, λ in_memory. absurd (in_memory refl));
+  onward = λ good. (turn.well good).onward;
+  learns = λ holds. ((turn.honestly holds).stays_honest, λ in_memory. absurd (in_memory refl));
   broken = λ holds is.
       let off = (turn.honestly holds).broken in
       record {
@@ -147,8 +147,8 @@ broke a b fault follows turn = record {
             (learnt_nothing a.client.keys a.client.batch a.link.past a.client.knowns) (stays_itself a.link.past) off.0;
         broken = broken_first a.client.keys a.client.batch a.link.past b.link.past fault off.1;
       };
-  grown = λ holds. (turn.honestly holds).takes_nothing_back;
-  keeps = turn.moves.keeps;
+  takes_nothing_back = λ holds. (turn.honestly holds).takes_nothing_back;
+  keeps = turn.tries.keeps;
   near = λ settling whole. absurd (whole refl);
 }
 
@@ -157,7 +157,7 @@ pub carried_broken : (a : Situation) (next : ClientState) (y : Seen) (fault : Tu
     → Went a (record a { client = next; link = y }) (Ok stops.NoMemory) (exchanges_made fault) → Carried a (record a { client = next; link = y }) (Ok stops.NoMemory) n
 carried_broken a next y fault n made went = record {
   went = subst (λ n. Went a (record a { client = next; link = y }) (Ok stops.NoMemory) n) (sym made) went;
-  kept = λ keeping. (
+  saved = λ keeping. (
     keeping,
     saved_broken a.client.keys a.client.batch (grounds_in a) (moment a.client a.link) (moment next y) n a.keeper.saved went.keeps.kept
         (subst (λ n. n ≤ 1) (sym made) (one_at_most fault)),
@@ -166,14 +166,14 @@ carried_broken a next y fault n made went = record {
 
 learns : (a b : Situation) (stop : Stop) (n : ℕ) → stop ≢ stops.NoMemory → Went a b (Ok stop) n → a.link.honest (is_planned a.client.keys)
     → Learnt a.client.keys a.client.batch a.link.past b.link.past a.client.knowns b.client.knowns n
-learns a b stop n in_memory went holds = (went.known holds).1 (λ is. in_memory (stop_is stop stops.NoMemory is))
+learns a b stop n in_memory went holds = (went.learns holds).1 (λ is. in_memory (stop_is stop stops.NoMemory is))
 
 -- where no exchange was made
 pub carried_none : (a : Situation) (next : ClientState) (y : Seen) (stop : Stop) → Went a (record a { client = next; link = y }) (Ok stop) 0
     → Carried a (record a { client = next; link = y }) (Ok stop) 0
 carried_none a next y stop went = record {
   went = went;
-  kept = λ keeping. (
+  saved = λ keeping. (
     keeping,
     saved_none a.client.keys a.client.batch (grounds_in a) (moment a.client a.link) (moment next y) stop a.keeper.saved went.keeps.kept
         (λ holds memory. learns a (record a { client = next; link = y }) stop 0 memory went holds),
@@ -184,7 +184,7 @@ carried_none a next y stop went = record {
 pub carried_unbegun : CarryingLaws → (a : Situation) → Carried a a (Ok stops.NoMemory) 0
 carried_unbegun l a = record {
   went = went_unbegun l a;
-  kept = λ keeping. (
+  saved = λ keeping. (
     keeping,
     saved_broken a.client.keys a.client.batch (grounds_in a) (moment a.client a.link) (moment a.client a.link) 0 a.keeper.saved (kept_itself a.client.knowns) (omega arith),
   );
@@ -196,7 +196,7 @@ pub carried_one : (a b : Situation) (stop : Stop) → stop ≢ stops.NoMemory
     → Carried a b (Ok stop) 1
 carried_one a b stop memory saves went = record {
   went = went;
-  kept = λ keeping.
+  saved = λ keeping.
       let so = saves keeping in (
         so.0,
         saved_one a.client.keys a.client.batch (grounds_in a) (moment a.client a.link) (moment b.client b.link) stop a.keeper.saved b.keeper.saved went.keeps.kept
@@ -211,11 +211,11 @@ pub carried_not : (a b : Situation) (fault : SaveFault) → (a.keeper.keeps → 
     → Went a b (Err fault) 1 → Carried a b (Err fault) 1
 carried_not a b fault saves went = record {
   went = went;
-  kept = λ keeping.
+  saved = λ keeping.
       let so = saves keeping in (
         so.0,
         saved_not a.client.keys a.client.batch (grounds_in a) (moment a.client a.link) (moment b.client b.link) fault a.keeper.saved b.keeper.saved went.keeps.kept
-            (λ holds. (went.known holds).1 (λ is. absurd cc)) so.1,
+            (λ holds. (went.learns holds).1 (λ is. absurd cc)) so.1,
       );
 }
 
@@ -226,7 +226,7 @@ carried_rest l a stop memory =
     let went = went_nowhere l a (Ok stop) (λ is. memory (stop_is stop stops.NoMemory is)) in
     record {
       went = went;
-      kept = λ keeping. (
+      saved = λ keeping. (
         keeping,
         saved_none a.client.keys a.client.batch (grounds_in a) (moment a.client a.link) (moment a.client a.link) stop a.keeper.saved (kept_itself a.client.knowns)
             (λ holds memory. learns a a stop 0 memory went holds),
@@ -245,18 +245,18 @@ carried_then l a b c result m n lawful first second =
     let grounds_for : List Key → Grounds = λ ks. record { good = IsGood b.client b.link; honest = b.link.honest (is_planned ks) } in
     record {
       went = went_then l a b c stops.Limit result m n memory first.went second.went;
-      kept = λ keeping.
-          let before = first.kept keeping in
-          let after = second.kept before.0 in (
+      saved = λ keeping.
+          let before = first.saved keeping in
+          let after = second.saved before.0 in (
             after.0,
             saved_then l.blind a.client.keys a.client.batch (grounds_in a) (moment a.client a.link) (moment b.client b.link) (moment c.client c.link) stops.Limit result m n a.keeper.saved
                 b.keeper.saved c.keeper.saved memory
                 (λ good knowns.
                 l.known_for_good a.client.keys knowns b.link.past.objects c.link.past.objects lawful
-                (subst (λ ks. WentOn ks b.link.past c.link.past) keys (second.went.goes (first.went.good good))).onward)
+                (subst (λ ks. WentOn ks b.link.past c.link.past) keys (second.went.onward (first.went.good good))).onward)
                 before.1
                 (saved_from_start a.client.keys a.client.batch (grounds_in a) (grounds_for a.client.keys) (snapshot_in b) (snapshot_in c) result n first.went.good
-                (λ holds. (first.went.known holds).0)
+                (λ holds. (first.went.learns holds).0)
                 (subst (λ ks. AreSaved ks a.client.batch (grounds_for ks) (snapshot_in b) (snapshot_in c) result n) keys
                 (subst (λ most. AreSaved b.client.keys most (grounds_in b) (snapshot_in b) (snapshot_in c) result n) first.went.keeps.batch_stays after.1))),
           );
@@ -289,14 +289,14 @@ carried_closed l a b z result ended closed m lawful delivers calms same stop fau
     let whole = whole_before {P = z.past ≡ b.link.past} closed result ended same stop fault in
     record {
       went = went_closed l a b z result ended closed m lawful delivers calms memory (λ is. cut_before closed result ended same stop fault is) whole first.went;
-      kept = λ keeping.
-          let before = first.kept keeping in (
+      saved = λ keeping.
+          let before = first.saved keeping in (
             before.0,
             saved_closed l.blind a.client.keys a.client.batch (grounds_in a) (moment a.client a.link) (moment b.client b.link) (moment b.client z) result ended m a.keeper.saved b.keeper.saved
                 refl
                 (λ holds.
                 learnt_delivered l.requests a.client.keys a.client.batch (is_planned a.client.keys) b.link.past z.past b.client.knowns
-                (delivers (is_planned a.client.keys) (first.went.known holds).0).1)
+                (delivers (is_planned a.client.keys) (first.went.learns holds).0).1)
                 (still_unsaved closed result ended same stop fault) memory (λ done. (whole done).0)
                 (λ good knowns.
                 l.known_for_good a.client.keys knowns b.link.past.objects z.past.objects lawful
@@ -310,11 +310,11 @@ carried_closed l a b z result ended closed m lawful delivers calms same stop fau
 -- ---- how it ends
 
 pub stands_last : (c : ClientState) → {V E : Type 0} (closed : Result V E) (result last : Result Stop SaveFault) → OnOk closed (last ≡ result)
-    → OnErr closed (OnOk result (last ≡ Ok stops.NoMemory)) → OnErr result (last ≡ result) → IfOk result (λ stop. Stands stop c.keys c.knowns)
-    → IfOk last (λ stop. Stands stop c.keys c.knowns)
-stands_last c (Ok v) result last same stop fault stands = subst (λ r. IfOk r (λ s. Stands s c.keys c.knowns)) (sym same) stands
-stands_last c (Err e) (Ok s) last same stop fault stands = subst (λ r. IfOk r (λ s. Stands s c.keys c.knowns)) (sym stop) tt
-stands_last c (Err e) (Err f) last same stop fault stands = subst (λ r. IfOk r (λ s. Stands s c.keys c.knowns)) (sym fault) tt
+    → OnErr closed (OnOk result (last ≡ Ok stops.NoMemory)) → OnErr result (last ≡ result) → IfOk result (λ stop. IsBorneOut stop c.keys c.knowns)
+    → IfOk last (λ stop. IsBorneOut stop c.keys c.knowns)
+stands_last c (Ok v) result last same stop fault stands = subst (λ r. IfOk r (λ s. IsBorneOut s c.keys c.knowns)) (sym same) stands
+stands_last c (Err e) (Ok s) last same stop fault stands = subst (λ r. IfOk r (λ s. IsBorneOut s c.keys c.knowns)) (sym stop) tt
+stands_last c (Err e) (Err f) last same stop fault stands = subst (λ r. IfOk r (λ s. IsBorneOut s c.keys c.knowns)) (sym fault) tt
 
 pub limit_last : {V E : Type 0} (closed : Result V E) (result last : Result Stop SaveFault) → OnOk closed (last ≡ result) → OnErr closed (OnOk result (last ≡ Ok stops.NoMemory))
     → OnErr result (last ≡ result) → last ≡ Ok stops.Limit → result ≡ Ok stops.Limit
@@ -337,7 +337,7 @@ unless_given_up result made limit tired at fresh is = elim (at is) [ inl all ↦
 
 -- over a calm link, with as many exchanges as the plan is bounded by, all keys are finished
 settled_stop : CarryingLaws → (a b : ClientState) (x y : Seen) (stop : Stop) (made limit : ℕ) → IsLawful a.keys → IsSettling a x
-    → Nearer a b x y made → stop ≢ stops.NoMemory → Stands stop b.keys b.knowns → (stop ≡ stops.Limit → made ≡ limit) → bound a.keys ≤ limit
+    → Nearer a b x y made → stop ≢ stops.NoMemory → IsBorneOut stop b.keys b.knowns → (stop ≡ stops.Limit → made ≡ limit) → bound a.keys ≤ limit
     → (stop ≡ stops.AllFinished) × (made ≤ need a x.past) × (AsksOne a → made ≡ need a x.past) × (made ≤ bound a.keys)
 settled_stop l a b x y stops.AllFinished made limit lawful first near memory stands at enough =
     let held = near.settling.ready.held in
@@ -358,7 +358,7 @@ settled_stop l a b x y stops.Conflict made limit lawful first near memory stands
 settled_stop l a b x y stops.NoMemory made limit lawful first near memory stands at enough = absurd (memory refl)
 
 pub settled_end : CarryingLaws → (a b : Situation) (result : Result Stop SaveFault) (made limit : ℕ) → IsLawful a.client.keys
-    → Went a b result made → IfOk result (λ stop. Stands stop b.client.keys b.client.knowns) → (result ≡ Ok stops.Limit → made ≡ limit)
+    → Went a b result made → IfOk result (λ stop. IsBorneOut stop b.client.keys b.client.knowns) → (result ≡ Ok stops.Limit → made ≡ limit)
     → IsSettling a.client a.link → bound a.client.keys ≤ limit → IsWhole result → (result ≡ Ok stops.AllFinished) × (made ≤ need a.client a.link.past)
     × (AsksOne a.client → made ≡ need a.client a.link.past) × (made ≤ bound a.client.keys)
 settled_end l a b (Err fault) made limit lawful went stands at settling enough whole = absurd whole
@@ -369,7 +369,7 @@ settled_end l a b (Ok stop) made limit lawful went stands at settling enough who
 
 -- what is true is in no conflict
 pub good_end : CarryingLaws → (a b : Situation) (result : Result Stop SaveFault) (made : ℕ) → Went a b result made
-    → IfOk result (λ stop. Stands stop b.client.keys b.client.knowns) → IsGood a.client a.link → result ≢ Ok stops.Conflict
+    → IfOk result (λ stop. IsBorneOut stop b.client.keys b.client.knowns) → IsGood a.client a.link → result ≢ Ok stops.Conflict
 good_end l a b result made went stands good = λ is.
-    let clash = (subst (λ r. IfOk r (λ stop. Stands stop b.client.keys b.client.knowns)) is stands).1 in
+    let clash = (subst (λ r. IfOk r (λ stop. IsBorneOut stop b.client.keys b.client.knowns)) is stands).1 in
     l.no_conflict b.link.past.objects b.client.keys b.client.knowns (went.good good).held clash.0 clash.1 clash.3

@@ -87,11 +87,11 @@ pub known_for : (keys : List Key) (carried : List (List Known)) (runs : List Run
 known_for keys carried runs notes honest other whole old new to is = record {
   known = is.known;
   shown = is.shown;
-  kept = is.kept;
+  forgets_nothing = is.forgets_nothing;
   saved_are = is.saved_are;
   until = is.until;
   heard = λ holds. is.heard (to holds);
-  grown = λ holds. is.grown (to holds);
+  takes_nothing_back = λ holds. is.takes_nothing_back (to holds);
   few_more = λ holds. is.few_more (to holds);
   no_more = is.no_more;
 }

@@ -191,11 +191,11 @@ pub known_if : (keys : List Key) (carried : List (List Known)) (runs : List Run)
 known_if keys carried runs notes honest whole other old new to known = record {
   known = known.known;
   shown = known.shown;
-  kept = known.kept;
+  forgets_nothing = known.forgets_nothing;
   saved_are = known.saved_are;
   until = known.until;
   heard = known.heard;
-  grown = known.grown;
+  takes_nothing_back = known.takes_nothing_back;
   few_more = known.few_more;
   no_more = λ is. known.no_more (to is);
 }

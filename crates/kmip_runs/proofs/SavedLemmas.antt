@@ -117,7 +117,7 @@ saved_none keys most grounds begun ended stop texts kept learnt = record {
   unsaved = 0;
   are_unsaved = none_unsaved stop;
   as_many = refl;
-  kept = (kept, tt);
+  forgets_nothing = (kept, tt);
   taught = λ holds. tt;
   rest = λ holds memory. learnt holds (λ is. memory (ap Ok is));
   true_of = λ holds. All-nil (λ (m : Moment). Held ended.past.objects keys m.knowns);
@@ -134,7 +134,7 @@ saved_one keys most grounds begun ended stop old new kept learnt is held = recor
   unsaved = 0;
   are_unsaved = none_unsaved stop;
   as_many = refl;
-  kept = (kept, (kept_itself ended.knowns, tt));
+  forgets_nothing = (kept, (kept_itself ended.knowns, tt));
   taught = λ holds. (learnt holds, tt);
   rest = λ holds memory. learnt_nothing keys most ended.past ended.knowns;
   true_of = λ holds.
@@ -152,7 +152,7 @@ saved_not keys most grounds begun ended fault old new kept learnt same = record 
   unsaved = 1;
   are_unsaved = refl;
   as_many = refl;
-  kept = (kept, tt);
+  forgets_nothing = (kept, tt);
   taught = λ holds. tt;
   rest = λ holds memory. learnt holds;
   true_of = λ holds. All-nil (λ (m : Moment). Held ended.past.objects keys m.knowns);
@@ -168,7 +168,7 @@ saved_broken keys most grounds begun ended made texts kept few = record {
   unsaved = made;
   are_unsaved = few;
   as_many = omega arith;
-  kept = (kept, tt);
+  forgets_nothing = (kept, tt);
   taught = λ holds. tt;
   rest = λ holds memory. absurd (memory refl);
   true_of = λ holds. All-nil (λ (m : Moment). Held ended.past.objects keys m.knowns);
@@ -190,8 +190,8 @@ saved_then blind keys most grounds begun mid ended stop result m n old between n
       unsaved = b.unsaved;
       are_unsaved = b.are_unsaved;
       as_many = let long = length-append a.moments b.moments in omega (arith, long, none, a.as_many, b.as_many);
-      kept = subst (λ ms. AreKept begun.knowns ms) (sym (append_assoc a.moments b.moments (ended ∷ [])))
-          (kept_joined begun.knowns a.moments mid (b.moments ++ ended ∷ []) a.kept b.kept);
+      forgets_nothing = subst (λ ms. AreKept begun.knowns ms) (sym (append_assoc a.moments b.moments (ended ∷ [])))
+          (kept_joined begun.knowns a.moments mid (b.moments ++ ended ∷ []) a.forgets_nothing b.forgets_nothing);
       taught = λ holds. taught_joined blind keys most begun a.moments mid b.moments (a.taught holds) (rests holds) (b.taught holds);
       rest = λ holds whole. rest_joined blind keys most begun a.moments mid b.moments ended b.unsaved (rests holds) (b.rest holds whole);
       true_of = λ holds.
@@ -211,7 +211,7 @@ saved_closed blind keys most grounds begun mid ended result last m old new same 
   unsaved = a.unsaved;
   are_unsaved = still a.unsaved a.are_unsaved;
   as_many = a.as_many;
-  kept = kept_joined begun.knowns a.moments mid (ended ∷ []) a.kept (subst (λ ks. AllZip IsKept mid.knowns ks) same (kept_itself mid.knowns), tt);
+  forgets_nothing = kept_joined begun.knowns a.moments mid (ended ∷ []) a.forgets_nothing (subst (λ ks. AllZip IsKept mid.knowns ks) same (kept_itself mid.knowns), tt);
   taught = a.taught;
   rest = λ holds in_memory.
       let before = last_moment begun a.moments in

@@ -17,7 +17,7 @@ use Rattle.kmip_protocol.specs.Moves.{Delivered}
 use Rattle.kmip_protocol.specs.Past.{Names, Past, is_planned}
 use Rattle.kmip_protocol.specs.Seen.{Seen}
 use Rattle.kmip_protocol.specs.Ready.{IsReady}
-use Rattle.kmip_runs.specs.Driving.{AsksOne, Grown, IsGood, IsQuestion, Keeps, Learnt, LearntUntil, WentOn, need}
+use Rattle.kmip_runs.specs.Driving.{AsksOne, IsGood, IsQuestion, Keeps, Learnt, LearntUntil, TakesNothingBack, WentOn, need}
 use Rattle.kmip_runs.specs.declared.stop.Stop.{Stop}
 use Rattle.kmip_runs.specs.declared.stop.Stop.TheVariants as stops
 use Rattle.kmip_runs.specs.PrivateCarried.{CarryingLaws, Went}
@@ -194,17 +194,17 @@ grown_by old between new first second = (first.0 ++ second.0, joined old between
 still : {A : Type 0} (old new : List A) → new ≡ old → (more : List A) × (new ≡ old ++ more)
 still old new same = ([], same ∙ sym (append-nil old))
 
-grown_itself : (p : Past) → Grown p p
+grown_itself : (p : Past) → TakesNothingBack p p
 grown_itself p = record { requests = still p.requests p.requests refl; sent = still p.sent p.sent refl; handed = still p.handed p.handed refl }
 
-grown_then : (old between new : Past) → Grown old between → Grown between new → Grown old new
+grown_then : (old between new : Past) → TakesNothingBack old between → TakesNothingBack between new → TakesNothingBack old new
 grown_then old between new first second = record {
   requests = grown_by old.requests between.requests new.requests first.requests second.requests;
   sent = grown_by old.sent between.sent new.sent first.sent second.sent;
   handed = grown_by old.handed between.handed new.handed first.handed second.handed;
 }
 
-grown_delivered : DeliveriesKeepTheRequests → (names : Names) (old new : Past) → Delivered names old new → Grown old new
+grown_delivered : DeliveriesKeepTheRequests → (names : Names) (old new : Past) → Delivered names old new → TakesNothingBack old new
 grown_delivered requests names old new done =
     let grows = requests names old new done in
     record {
@@ -226,10 +226,10 @@ stop_is s t is = cc
 pub went_nowhere : CarryingLaws → (a : Situation) (result : Result Stop SaveFault) → IsInMemory result → Went a a result 0
 went_nowhere l a result memory = record {
   good = λ good. good;
-  goes = λ good. record { onward = l.itself a.client.keys a.link.past.objects; mirrored = λ image. image };
-  known = λ holds. (holds, λ in_memory. learnt_nothing a.client.keys a.client.batch a.link.past a.client.knowns);
+  onward = λ good. record { onward = l.itself a.client.keys a.link.past.objects; mirrored = λ image. image };
+  learns = λ holds. (holds, λ in_memory. learnt_nothing a.client.keys a.client.batch a.link.past a.client.knowns);
   broken = λ holds is. absurd (memory is);
-  grown = λ holds. grown_itself a.link.past;
+  takes_nothing_back = λ holds. grown_itself a.link.past;
   keeps = keeps_itself a.client;
   near = λ settling whole. record { settling = settling; nearer = omega arith; exactly = λ one. omega arith };
 }
@@ -238,15 +238,15 @@ went_nowhere l a result memory = record {
 pub went_unbegun : CarryingLaws → (a : Situation) → Went a a (Ok stops.NoMemory) 0
 went_unbegun l a = record {
   good = λ good. good;
-  goes = λ good. record { onward = l.itself a.client.keys a.link.past.objects; mirrored = λ image. image };
-  known = λ holds. (holds, λ memory. absurd (memory refl));
+  onward = λ good. record { onward = l.itself a.client.keys a.link.past.objects; mirrored = λ image. image };
+  learns = λ holds. (holds, λ memory. absurd (memory refl));
   broken = λ holds is. record {
     between = a.link.past;
     heard = 0;
     learnt = learnt_nothing a.client.keys a.client.batch a.link.past a.client.knowns;
     broken = inl (refl, record { asked = inl refl; sent_stays = refl; handed_stays = refl });
   };
-  grown = λ holds. grown_itself a.link.past;
+  takes_nothing_back = λ holds. grown_itself a.link.past;
   keeps = keeps_itself a.client;
   near = λ settling whole. absurd (whole refl);
 }
@@ -258,16 +258,16 @@ went_then l a b c stop result m n memory first second =
     let keys = first.keeps.keys_stay in
     record {
       good = λ good. second.good (first.good good);
-      goes = λ good.
-          let before = first.goes good in
-          let after = subst (λ ks. WentOn ks b.link.past c.link.past) keys (second.goes (first.good good)) in
+      onward = λ good.
+          let before = first.onward good in
+          let after = subst (λ ks. WentOn ks b.link.past c.link.past) keys (second.onward (first.good good)) in
           record {
             onward = l.twice a.client.keys a.link.past.objects b.link.past.objects c.link.past.objects before.onward after.onward;
             mirrored = λ image. after.mirrored (before.mirrored image);
           };
-      known = λ holds.
-          let before = first.known holds in
-          let after = second.known (subst (λ ks. b.link.honest (is_planned ks)) (sym keys) before.0) in (
+      learns = λ holds.
+          let before = first.learns holds in
+          let after = second.learns (subst (λ ks. b.link.honest (is_planned ks)) (sym keys) before.0) in (
             subst (λ ks. c.link.honest (is_planned ks)) keys after.0,
             λ whole.
                 learnt_then l.blind a.client.keys a.client.batch a.link.past b.link.past c.link.past a.client.knowns b.client.knowns c.client.knowns m n (before.1 in_memory)
@@ -275,13 +275,13 @@ went_then l a b c stop result m n memory first second =
                 (subst (λ most. Learnt b.client.keys most b.link.past c.link.past b.client.knowns c.client.knowns n) first.keeps.batch_stays (after.1 whole))),
           );
       broken = λ holds is.
-          let before = first.known holds in
+          let before = first.learns holds in
           let after = second.broken (subst (λ ks. b.link.honest (is_planned ks)) (sym keys) before.0) is in
           until_then l.blind a.client.keys a.client.batch a.link.past b.link.past c.link.past a.client.knowns b.client.knowns c.client.knowns m n (before.1 in_memory)
           (subst (λ ks. LearntUntil ks a.client.batch b.link.past c.link.past b.client.knowns c.client.knowns n) keys
           (subst (λ most. LearntUntil b.client.keys most b.link.past c.link.past b.client.knowns c.client.knowns n) first.keeps.batch_stays after));
-      grown = λ holds.
-          grown_then a.link.past b.link.past c.link.past (first.grown holds) (second.grown (subst (λ ks. b.link.honest (is_planned ks)) (sym keys) (first.known holds).0));
+      takes_nothing_back = λ holds.
+          grown_then a.link.past b.link.past c.link.past (first.takes_nothing_back holds) (second.takes_nothing_back (subst (λ ks. b.link.honest (is_planned ks)) (sym keys) (first.learns holds).0));
       keeps = keeps_then a.client b.client c.client first.keeps second.keeps;
       near = λ settling whole.
           let before = first.near settling memory in
@@ -303,15 +303,15 @@ went_closed l a b z result ended closed m lawful delivers calms memory cut whole
     let keys = first.keeps.keys_stay in
     record {
       good = λ good. (good_closed (first.good good)).0;
-      goes = λ good.
-          let before = first.goes good in
+      onward = λ good.
+          let before = first.onward good in
           let after = subst (λ ks. WentOn ks b.link.past z.past) keys (good_closed (first.good good)).1 in
           record {
             onward = l.twice a.client.keys a.link.past.objects b.link.past.objects z.past.objects before.onward after.onward;
             mirrored = λ image. after.mirrored (before.mirrored image);
           };
-      known = λ holds.
-          let before = first.known holds in
+      learns = λ holds.
+          let before = first.learns holds in
           let step = delivers (is_planned a.client.keys) before.0 in (
             step.0,
             λ in_memory.
@@ -321,15 +321,15 @@ went_closed l a b z result ended closed m lawful delivers calms memory cut whole
                 (learnt_delivered l.requests a.client.keys a.client.batch (is_planned a.client.keys) b.link.past z.past b.client.knowns step.1)),
           );
       broken = λ holds is.
-          let before = first.known holds in
+          let before = first.learns holds in
           let step = delivers (is_planned a.client.keys) before.0 in
           elim (cut is) [
             | inl so ↦ until_delivered l.requests a.client.keys a.client.batch (is_planned a.client.keys) a.link.past b.link.past z.past a.client.knowns b.client.knowns m step.1 (first.broken holds so)
             | inr in_memory ↦ until_behind l.requests a.client.keys a.client.batch (is_planned a.client.keys) a.link.past b.link.past z.past a.client.knowns b.client.knowns m step.1 (before.1 in_memory)
           ];
-      grown = λ holds.
-          let step = delivers (is_planned a.client.keys) (first.known holds).0 in
-          grown_then a.link.past b.link.past z.past (first.grown holds) (grown_delivered l.requests (is_planned a.client.keys) b.link.past z.past step.1);
+      takes_nothing_back = λ holds.
+          let step = delivers (is_planned a.client.keys) (first.learns holds).0 in
+          grown_then a.link.past b.link.past z.past (first.takes_nothing_back holds) (grown_delivered l.requests (is_planned a.client.keys) b.link.past z.past step.1);
       keeps = first.keeps;
       near = λ settling done.
           let held = whole done in

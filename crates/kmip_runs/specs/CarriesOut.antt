@@ -6,7 +6,7 @@ use Rattle.kmip_plan.specs.Chains.{bound}
 use Rattle.kmip_protocol.specs.Ending.{EndedAt}
 use Rattle.kmip_protocol.specs.Past.{is_planned}
 use Rattle.kmip_protocol.specs.Seen.{Seen}
-use Rattle.kmip_runs.specs.Driving.{AsksOne, Grown, IsGood, IsSettling, Keeps, Learnt, LearntUntil, Nearer, Stands, WentOn, need}
+use Rattle.kmip_runs.specs.Driving.{AsksOne, IsBorneOut, IsGood, IsSettling, Keeps, Learnt, LearntUntil, Nearer, TakesNothingBack, WentOn, need}
 use Rattle.kmip_runs.specs.Keeping.{Kept}
 use Rattle.kmip_runs.specs.Losing.{ArePaid, IsEnough, left_for}
 use Rattle.kmip_runs.specs.Refusals.{HasRisen}
@@ -35,7 +35,7 @@ pub record CarriesOutWell (most : ℕ) (old : Stage) (stopped : Result Stop Save
   pub good : IsGood new.client new.link
   -- Where all was good (`IsGood`), the objects have gone onward. A past that was an image of the plan
   -- machine is one still.
-  pub goes : WentOn old.client.keys old.link.past new.link.past
+  pub onward : WentOn old.client.keys old.link.past new.link.past
   -- Where all was good (`IsGood`), with no premise of calm: the exchanges that were made and those that
   -- are left are no more than were left, and what disturbed exchanges cost. That is said unless it
   -- stops for want of memory, and also where the text of the last one was not saved. What arrives at
@@ -58,7 +58,7 @@ pub record CarriesOutHonestly (old : Stage) (stopped : Result Stop SaveFault) (m
   -- many messages were sent as it counts exchanges, and nothing else was asked. Each asks about keys of
   -- the plan, each once, and about no more than the client asks about at once. What is then known of
   -- identifiers, counts and conflicts is what was known before and what these exchanges handed over.
-  pub known : new.link.honest (is_planned old.client.keys)
+  pub learns : new.link.honest (is_planned old.client.keys)
       × (IsInMemory stopped → Learnt old.client.keys old.client.batch old.link.past new.link.past
       old.client.knowns new.client.knowns made)
   -- Where it stops for want of memory, over a link that was honest for the plan's names: the exchanges
@@ -70,7 +70,7 @@ pub record CarriesOutHonestly (old : Stage) (stopped : Result Stop SaveFault) (m
       new.client.knowns made
   -- Over a link that was honest for the plan's names nothing that was asked, sent or handed over is
   -- taken back, however it stops.
-  pub grown : Grown old.link.past new.link.past
+  pub takes_nothing_back : TakesNothingBack old.link.past new.link.past
   -- Over a link that was honest for the plan's names the run is ended once, right after its last
   -- exchange, unless memory ran out or a text was not saved.
   pub ended : IsWhole stopped
@@ -104,7 +104,7 @@ pub record CarriesOut (most : ℕ) (old : Stage) (stopped : Result Stop SaveFaul
       → CarriesOutHonestly old stopped made new
   -- Over any link the plan stays, and how many keys a message may ask about. No identifier or count is
   -- taken back.
-  pub kept : Keeps old.client new.client
+  pub forgets_nothing : Keeps old.client new.client
   -- A keeper that keeps what it is given does so still. It saved one text for each exchange, in order,
   -- and no other. The last exchange has none where its text was not saved, and may have none where
   -- memory ran out. Each is the progress text of what was known at a moment; no moment, and not the
@@ -119,7 +119,7 @@ pub record CarriesOut (most : ℕ) (old : Stage) (stopped : Result Stop SaveFaul
   pub output : stopped ≡ Err faults.Output → HasRisen old.keeper.refusals new.keeper.refusals
   -- `AllFinished`: every key is finished. `Limit`: some key is worked on. `Conflict`: no key is worked
   -- on, and one is in conflict.
-  pub stands : IfOk stopped (λ stop. Stands stop new.client.keys new.client.knowns)
+  pub stops_for_its_reason : IfOk stopped (λ stop. IsBorneOut stop new.client.keys new.client.knowns)
   -- It stops with `Limit` only after exactly `most` exchanges, or where patience has given up.
   pub limit : stopped ≡ Ok stops.Limit → (made ≡ most) ⊎ IsTrue new.is_tired
   -- Where patience gives up in the call, fewer than `most` exchanges were made. It stops with `Limit`

@@ -22,7 +22,7 @@ use Rattle.kmip_protocol.specs.Seen.{Seen}
 use Rattle.kmip_protocol.specs.SettlingLaws.{SoundIsReady}
 use Rattle.kmip_runs.specs.Campaign.{CalmLink, HasNoConflict, IsEnd, Settles, saves}
 use Rattle.kmip_runs.specs.Headline.{GoodLink}
-use Rattle.kmip_runs.specs.Driving.{Grown, IsGood, KeepsFurther, Learnt, WentOn}
+use Rattle.kmip_runs.specs.Driving.{IsGood, KeepsFurther, Learnt, TakesNothingBack, WentOn}
 use Rattle.kmip_runs.specs.Losing.{AllOutlast}
 use Rattle.kmip_runs.specs.Private.{EndsJoin, HasOutlasted, RanTurned}
 use Rattle.kmip_runs.specs.Remembering.{AreKnownFrom, Notes, Shows, saved_after, start_knowns}
@@ -132,7 +132,7 @@ pub record CampaignStage : Type 1 where
 pub record HasRun (keys : List Key) (carried : List (List Known)) (run : Run) (old new : CampaignStage) : Type 0 where
   pub driven : Stop × ℕ
   pub ended : HasEnded keys run new.client.knowns driven old.end new.end
-  pub kept : AllZip IsKept (begins_with keys carried run old.client old.end) new.client.knowns
+  pub forgets_nothing : AllZip IsKept (begins_with keys carried run old.client old.end) new.client.knowns
   pub learnt : old.link.honest (is_planned keys) → new.link.honest (is_planned keys)
       × Learnt keys run.batch old.link.past new.link.past (begins_with keys carried run old.client old.end) new.client.knowns driven.1
 
@@ -145,7 +145,7 @@ pub record HasSettled (keys : List Key) (run : Run) (old new : List RunEnd) : Ty
 -- the run was broken off, and nothing is noted of it
 pub record IsBroken (keys : List Key) (run : Run) (x y : Seen) (old new : CampaignEnd) : Type 0 where
   pub same : AreSame old new
-  pub grown : x.honest (is_planned keys) → Grown x.past y.past
+  pub takes_nothing_back : x.honest (is_planned keys) → TakesNothingBack x.past y.past
   pub few : x.honest (is_planned keys) → length y.past.sent ≤ length x.past.sent + run.limit
 
 -- What a run promises where all was good before it, and what was carried over is true.

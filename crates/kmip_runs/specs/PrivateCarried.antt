@@ -6,7 +6,7 @@ use Rattle.kmip_protocol.specs.Laws.{DeliveriesKeepSound, DeliveriesKeepTheImage
 use Rattle.kmip_protocol.specs.Past.{Names, is_planned}
 use Rattle.kmip_protocol.specs.SettlingLaws.{NeedsAreBounded, WhoIsSettledNeedsNothing, WhoNeedsNothingIsFinished}
 use Rattle.kmip_protocol.specs.LosingLaws.{LateArrivalsAddNothing, LeftIsBounded, NeedsAreLeft}
-use Rattle.kmip_runs.specs.Driving.{Grown, IsGood, IsSettling, Keeps, Learnt, LearntUntil, Nearer, Stands, WentOn}
+use Rattle.kmip_runs.specs.Driving.{IsBorneOut, IsGood, IsSettling, Keeps, Learnt, LearntUntil, Nearer, TakesNothingBack, WentOn}
 use Rattle.kmip_runs.specs.declared.stop.Stop.{Stop}
 use Rattle.kmip_runs.specs.declared.stop.Stop.TheVariants as stops
 use Rattle.kmip_runs.specs.Saved.{AreSavedBetween, IsInMemory, IsLeft, IsWhole, Situation}
@@ -37,20 +37,20 @@ pub record CarryingLaws : Type 0 where
 -- What `made` exchanges keep of what is good, and what they teach. The fields are clauses of `carry_out`.
 pub record Went (old new : Situation) (result : Result Stop SaveFault) (made : ℕ) : Type 0 where
   pub good : IsGood old.client old.link → IsGood new.client new.link
-  pub goes : IsGood old.client old.link → WentOn old.client.keys old.link.past new.link.past
-  pub known : old.link.honest (is_planned old.client.keys)
+  pub onward : IsGood old.client old.link → WentOn old.client.keys old.link.past new.link.past
+  pub learns : old.link.honest (is_planned old.client.keys)
       → new.link.honest (is_planned old.client.keys)
       × (IsInMemory result → Learnt old.client.keys old.client.batch old.link.past new.link.past old.client.knowns new.client.knowns made)
   pub broken : old.link.honest (is_planned old.client.keys) → result ≡ Ok stops.NoMemory
       → LearntUntil old.client.keys old.client.batch old.link.past new.link.past old.client.knowns new.client.knowns made
-  pub grown : old.link.honest (is_planned old.client.keys) → Grown old.link.past new.link.past
+  pub takes_nothing_back : old.link.honest (is_planned old.client.keys) → TakesNothingBack old.link.past new.link.past
   pub keeps : Keeps old.client new.client
   pub near : IsSettling old.client old.link → IsWhole result → Nearer old.client new.client old.link new.link made
 
 -- So many exchanges were made, and what was known after each was saved.
 pub record Carried (old new : Situation) (result : Result Stop SaveFault) (made : ℕ) : Type 0 where
   pub went : Went old new result made
-  pub kept : old.keeper.keeps → new.keeper.keeps × AreSavedBetween old new result made
+  pub saved : old.keeper.keeps → new.keeper.keeps × AreSavedBetween old new result made
 
 -- What exchanges make of a run, however many are made.
 pub record MakesExchanges (old new : Situation) (result : Result Stop SaveFault) (made : ℕ) : Type 0 where
@@ -61,7 +61,7 @@ pub record MakesExchanges (old new : Situation) (result : Result Stop SaveFault)
   -- That a text could not be written is answered only where the count has risen, or stands at its last value.
   pub output : result ≡ Err faults.Output → HasRisen old.keeper.refusals new.keeper.refusals
   -- How the keys stand bears out why no more were made.
-  pub stands : IfOk result (λ stop. Stands stop new.client.keys new.client.knowns)
+  pub stops_for_its_reason : IfOk result (λ stop. IsBorneOut stop new.client.keys new.client.knowns)
   -- Where all was good, they are paid for.
   pub losing : IsGood old.client old.link → IsInMemory result
       → ArePaid made (left_for old.client old.link.past) (left_for new.client new.link.past) old.link.disturbances new.link.disturbances

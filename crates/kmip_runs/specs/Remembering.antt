@@ -13,7 +13,7 @@ use Rattle.kmip_client.specs.Shapes.{IsKept}
 use Rattle.kmip_client.specs.Verdicts.{counts_of, verdicts_of}
 use Rattle.kmip_client.specs.declared.knowledge.Knowledge.{Knowledge}
 use Rattle.kmip_protocol.specs.Past.{Past}
-use Rattle.kmip_runs.specs.Driving.{Grown, IsQuestion}
+use Rattle.kmip_runs.specs.Driving.{IsQuestion, TakesNothingBack}
 use Rattle.kmip_runs.specs.declared.campaign_end.CampaignEnd.{CampaignEnd}
 use Rattle.kmip_runs.specs.declared.run.Run.{Run}
 use Rattle.kmip_runs.specs.declared.run_end.RunEnd.{RunEnd}
@@ -125,11 +125,11 @@ limit_at runs place = option_map_or (λ run. run.limit) (slice_get runs place) 0
 pub record AreKnownFrom (keys : List Key) (carried : List (List Known)) (runs : List Run) (notes : Notes) (honest whole : Type 0) (old new : Past) : Type 0 where
   pub known : List (List Knowledge)
   pub shown : AllZip (Shows keys) known notes.ends
-  pub kept : AllZip (AllZip IsKept) (starts keys carried runs known) known
+  pub forgets_nothing : AllZip (AllZip IsKept) (starts keys carried runs known) known
   pub saved_are : carried ++ notes.saved ≡ saved_from carried runs known
   pub until : Past
   pub heard : honest → AreHeard keys runs (starts keys carried runs known) known notes.ends old until
-  pub grown : honest → Grown until new
+  pub takes_nothing_back : honest → TakesNothingBack until new
   pub few_more : honest → length new.sent ≤ length until.sent + limit_at runs (length known)
   pub no_more : whole → until ≡ new
 

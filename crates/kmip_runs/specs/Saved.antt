@@ -97,8 +97,9 @@ AreUnsaved (Ok stops.Conflict) count = count ≡ 0
 AreUnsaved (Ok stops.NoMemory) count = count ≤ 1
 AreUnsaved (Err fault) count = count ≡ 1
 
--- Which texts were saved from one snapshot to the other: for each exchange one, of what was then known. The last exchange may have none, as `AreUnsaved` says. No moment, and not the end,
--- takes back an identifier or a count.
+-- Which texts were saved from one snapshot to the other: for each exchange one, of what was then known. The
+-- last exchange may have none, as `AreUnsaved` says. No moment, and not the end, takes back an identifier or a
+-- count.
 -- Over an honest link each moment is one exchange later than the one before, with what that exchange
 -- taught. Unless memory ran out, the end has what the exchanges without a text taught beyond the last
 -- moment. Where all was saved, the text of what is known at the end is that of the last moment, or of the
@@ -110,7 +111,7 @@ pub record AreSaved (keys : List Key) (most : ℕ) (grounds : Grounds) (old new 
   pub unsaved : ℕ
   pub are_unsaved : AreUnsaved result unsaved
   pub as_many : length moments + unsaved ≡ exchanges
-  pub kept : AreKept old.moment.knowns (moments ++ new.moment ∷ [])
+  pub forgets_nothing : AreKept old.moment.knowns (moments ++ new.moment ∷ [])
   pub taught : grounds.honest → AreTaughtInTurn keys most old.moment moments
   pub rest : grounds.honest → IsInMemory result
       → Learnt keys most (last_moment old.moment moments).past new.moment.past (last_moment old.moment moments).knowns new.moment.knowns unsaved

@@ -5,7 +5,7 @@ ghost use Rattle.kmip_objects.specs.Objects.{Object};
 ghost use Rattle.kmip_client.specs.Held.{Held};
 ghost use Rattle.kmip_client.specs.Hearing.{hear};
 ghost use Rattle.kmip_client.specs.Truth.{TrueMessage};
-ghost use Rattle.kmip_runs.specs.Driving.{IsGood, Keeps, Stands};
+ghost use Rattle.kmip_runs.specs.Driving.{IsBorneOut, IsGood, Keeps};
 ghost use Rattle.kmip_runs.specs.Private.{IsToBePut, AreParts};
 ghost use Rattle.kmip_runs.specs.PrivateLawbook.{Lawbook};
 ghost use Rattle.kmip_protocol.specs.Turns.{answers_part, is_unanswered, lost_each, taught, taught_by};
@@ -279,7 +279,7 @@ fn unless_no_memory(fault: HearFault) -> Result<(), TurnFault>
 
 /// Why a run stops that makes no further exchange.
 pub(crate) fn stop_of(client: &Client<'_>) -> Stop
-    ensures stands { Stands result client.now.keys client.now.knowns }
+    ensures stops_for_its_reason { IsBorneOut result client.now.keys client.now.knowns }
     ensures in_memory { result ≢ Stop.NoMemory }
 {
     if client.working() > 0 {

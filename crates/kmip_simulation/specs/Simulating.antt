@@ -45,7 +45,7 @@ pub record IsCarriedOut (keys : List Key) (runs : List Run) (end : CampaignEnd) 
   pub no_conflict : All HasNoConflict end.runs.items
   pub sound : Sound keys (past_in after)
   pub true_saved : All (TrueProgress (past_in after).objects keys) end.saved.items
-  pub goes : WentOn keys (past_in before) (past_in after)
+  pub onward : WentOn keys (past_in before) (past_in after)
   pub order : AllZip (IsEnd keys) (take (length end.runs.items) runs) end.runs.items
   pub complete : end.fault ≡ None → AreMade keys runs end
   pub known : AreKnown keys runs (notes_of end) ⊤ (end.fault ≡ None) (past_in before) (past_in after)

@@ -34,7 +34,7 @@ returns g c =
         no_conflict = (all.well good nothing).campaigned.noted.no_conflict;
         sound = (all.well good nothing).campaigned.good;
         true_saved = (all.well good nothing).campaigned.noted.true_saved;
-        goes = (all.well good nothing).campaigned.on;
+        onward = (all.well good nothing).campaigned.on;
         outlasts = (all.well good nothing).outlasts;
       };
       order = all.order;

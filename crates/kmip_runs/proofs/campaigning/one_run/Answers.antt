@@ -43,7 +43,7 @@ returns-in_err-begin g c =
           always_err c.from_residual.result
           (record {
             same = record { same_runs = refl; same_saved = refl };
-            grown = λ honest. grown_itself old.past;
+            takes_nothing_back = λ honest. grown_itself old.past;
             few = λ honest. omega arith;
           });
       ended = λ honest. join_none ends ends _ _ _ _ _ refl refl (λ is. refl);
@@ -64,7 +64,7 @@ returns-in_err-ending g c =
     let l = c.laws_of_runs.ensures in
     let lawful = c.keys.ensures.lawful in
     let drives = c.drive-driven.ensures in
-    let driven_keys = drives.kept.keys_stay ∙ c.begin.ensures.keys in
+    let driven_keys = drives.forgets_nothing.keys_stay ∙ c.begin.ensures.keys in
     let begins = λ (holds : All (TrueProgress old.past.objects keys) carried) (saved : All (TrueProgress old.past.objects keys) end.saved.items).
     c.begin.ensures.held old.past.objects holds (subst (λ ps. All (TrueProgress old.past.objects keys) ps) (sym c.as_slice.ensures.value) saved) in
     let after = c.ending_of.new.end in
@@ -77,7 +77,7 @@ returns-in_err-ending g c =
           let all =
           stood l keys client begun driven old mid c.drive-driven.result.0 end.runs.items after.runs.items end.saved.items after.saved.items
           lawful c.requires.keys c.begin.ensures.keys driven_keys (begins holds)
-          (λ good. (drives.well good).good) (λ good. (drives.well good).goes) (λ good. (drives.well good).no_conflict)
+          (λ good. (drives.well good).good) (λ good. (drives.well good).onward) (λ good. (drives.well good).no_conflict)
           (λ objects none held noted. noted_still objects driven.keys end after c.ending_of.ensures.same noted) standing in
           record {
             standing = all.0;
@@ -92,7 +92,7 @@ returns-in_err-ending g c =
       honest = drives.honest;
       ran = search rules;
       turned = search rules;
-      broken = always_err result (broken_off keys carried begun old mid c.args.run end after c.begin.ensures.keys (λ honest. (drives.honestly honest).grown) (λ honest. (drives.honestly honest).few) c.ending_of.ensures.same);
+      broken = always_err result (broken_off keys carried begun old mid c.args.run end after c.begin.ensures.keys (λ honest. (drives.honestly honest).takes_nothing_back) (λ honest. (drives.honestly honest).few) c.ending_of.ensures.same);
       ended = λ honest.
           join_none end.runs.items after.runs.items _ _ _ _ _ c.ending_of.ensures.same.same_runs (drives.ended (is_planned keys) honest)
           (λ is. no_ok result tt failed is);
@@ -113,7 +113,7 @@ returns-in_err-close_run g c =
     let l = c.laws_of_runs.ensures in
     let lawful = c.keys.ensures.lawful in
     let drives = c.drive-driven.ensures in
-    let driven_keys = drives.kept.keys_stay ∙ c.begin.ensures.keys in
+    let driven_keys = drives.forgets_nothing.keys_stay ∙ c.begin.ensures.keys in
     let begins = λ (holds : All (TrueProgress old.past.objects keys) carried) (saved : All (TrueProgress old.past.objects keys) end.saved.items).
     c.begin.ensures.held old.past.objects holds (subst (λ ps. All (TrueProgress old.past.objects keys) ps) (sym c.as_slice.ensures.value) saved) in
     let new = g.L.Link.seen c.close_run.new.link in
@@ -128,7 +128,7 @@ returns-in_err-close_run g c =
           closed l keys driven old mid new after.runs.items after.saved.items lawful driven_keys (λ names honest. (c.close_run.ensures.honestly names honest).honest)
           (stood l keys client begun driven old mid c.drive-driven.result.0 end.runs.items after.runs.items end.saved.items after.saved.items
           lawful c.requires.keys c.begin.ensures.keys driven_keys (begins holds)
-          (λ good. (drives.well good).good) (λ good. (drives.well good).goes) (λ good. (drives.well good).no_conflict)
+          (λ good. (drives.well good).good) (λ good. (drives.well good).onward) (λ good. (drives.well good).no_conflict)
           (λ objects none held noted. noted_still objects driven.keys end after c.ending_of.ensures.same noted) standing) in
           record {
             standing = all.0;
@@ -147,7 +147,7 @@ returns-in_err-close_run g c =
       turned = search rules;
       broken =
           always_err result
-          (broken_closed keys carried begun old mid new c.args.run end after c.begin.ensures.keys (λ honest. (drives.honestly honest).grown) (λ honest. (drives.honestly honest).few) drives.honest
+          (broken_closed keys carried begun old mid new c.args.run end after c.begin.ensures.keys (λ honest. (drives.honestly honest).takes_nothing_back) (λ honest. (drives.honestly honest).few) drives.honest
           (λ names honest. (c.close_run.ensures.honestly names honest).honest) c.ending_of.ensures.same);
       ended = λ honest.
           let names = is_planned keys in
@@ -171,7 +171,7 @@ returns g c =
     let l = c.laws_of_runs.ensures in
     let lawful = c.keys.ensures.lawful in
     let drives = c.drive-driven.ensures in
-    let driven_keys = drives.kept.keys_stay ∙ c.begin.ensures.keys in
+    let driven_keys = drives.forgets_nothing.keys_stay ∙ c.begin.ensures.keys in
     let begins = λ (holds : All (TrueProgress old.past.objects keys) carried) (saved : All (TrueProgress old.past.objects keys) end.saved.items).
     c.begin.ensures.held old.past.objects holds (subst (λ ps. All (TrueProgress old.past.objects keys) ps) (sym c.as_slice.ensures.value) saved) in
     let new = g.L.Link.seen c.close_run.new.link in
@@ -182,7 +182,7 @@ returns g c =
     let runs_are = c.note.ensures.runs ∙ ap (λ ends. ends ++ ending.run ∷ []) c.ending_of.ensures.same.same_runs in
     let saved_are = c.note.ensures.saved ∙ ap (λ saved. saved_with ending.saved saved) c.ending_of.ensures.same.same_saved in
     let ended =
-    has_ended driven.keys driven.knowns c.args.run c.drive-driven.result ending end after ending_is drives.stands drives.limit drives.within
+    has_ended driven.keys driven.knowns c.args.run c.drive-driven.result ending end after ending_is drives.stops_for_its_reason drives.limit drives.within
     runs_are saved_are in
     record {
       keys_stay = driven_keys;
@@ -196,7 +196,7 @@ returns g c =
           closed l keys driven old mid new after.runs.items after.saved.items lawful driven_keys (λ names honest. (c.close_run.ensures.honestly names honest).honest)
           (stood l keys client begun driven old mid c.drive-driven.result.0 end.runs.items after.runs.items end.saved.items after.saved.items
           lawful c.requires.keys c.begin.ensures.keys driven_keys (begins holds)
-          (λ good. (drives.well good).good) (λ good. (drives.well good).goes) (λ good. (drives.well good).no_conflict)
+          (λ good. (drives.well good).good) (λ good. (drives.well good).onward) (λ good. (drives.well good).no_conflict)
           (λ objects none held noted. noted_ending objects driven.keys c.args.run driven.knowns c.drive-driven.result ending end after ending_is
           (c.in_ok-ending.ensures.held objects) runs_are saved_are none held noted) standing) in
           record {
@@ -226,15 +226,15 @@ returns g c =
           c.in_ok-begin.ensures.batch
           (subst (λ ps. begun.knowns ≡ start_knowns keys c.args.run.start client.knowns (carried ++ ps)) c.as_slice.ensures.value
           c.in_ok-begin.ensures.begun)
-          drives.kept (λ honest. let known = (drives.honestly honest).known in (known.0, known.1 memory)) ended (λ names honest. (c.close_run.ensures.honestly names honest).honest);
+          drives.forgets_nothing (λ honest. let known = (drives.honestly honest).learns in (known.0, known.1 memory)) ended (λ names honest. (c.close_run.ensures.honestly names honest).honest);
       turned =
           ran_turned keys c.args.run _ begun driven old mid new c.drive-driven.result end after c.begin.ensures.keys
           (subst (λ ps. begun ≡ begin_client keys c.args.run client (carried ++ ps)) c.as_slice.ensures.value c.in_ok-begin.ensures.client)
-          drives.kept drives.honest (λ names honest. (c.close_run.ensures.honestly names honest).honest) memory drives.turned ended;
+          drives.forgets_nothing drives.honest (λ names honest. (c.close_run.ensures.honestly names honest).honest) memory drives.turned ended;
       broken = search rules;
       ended = λ honest.
           let names = is_planned keys in
-          let known = (drives.honestly (subst (λ ks. old.honest (is_planned ks)) (sym c.begin.ensures.keys) honest)).known in
+          let known = (drives.honestly (subst (λ ks. old.honest (is_planned ks)) (sym c.begin.ensures.keys) honest)).learns in
           let still = drives.honest names honest in
           join_run begun.keys driven.keys begun.batch names c.args.run begun.knowns driven.knowns driven.knowns c.drive-driven.result
           old.past mid.past new.past end after _ old.ended mid.ended new.ended ended (known.1 memory)

@@ -31,7 +31,7 @@ returns g c =
     let between : Situation = record { client = next; link = mid; keeper = kept done.new.keeper } in
     let after : Situation = record between { link = new } in
     let limit = limit_last close.result done.result.0 last end.whole end.stop end.fault in
-    let stands = stands_last next close.result done.result.0 last end.whole end.stop end.fault made.stands in
+    let stands = stands_last next close.result done.result.0 last end.whole end.stop end.fault made.stops_for_its_reason in
     let carried =
     carried_closed laws before between new done.result.0 last close.result done.result.1 lawful
     (λ names honest. (close.ensures.honestly names honest).honest) close.ensures.calm end.whole end.stop end.fault first in
@@ -45,7 +45,7 @@ returns g c =
           (made.losing good (memory_before close.result done.result.0 last end.whole end.stop end.fault memory)) in
           record {
             good = carried.went.good good;
-            goes = carried.went.goes good;
+            onward = carried.went.onward good;
             losing = paid;
             outlasts = λ patient whole enough.
                 outlasted laws client next old new last done.result.1 c.args.limit lawful good (carried.went.good good) paid stands
@@ -53,12 +53,12 @@ returns g c =
             no_conflict = good_end laws before after last done.result.1 carried.went stands good;
           };
       honestly = λ honest.
-          let known = first.went.known honest in
+          let known = first.went.learns honest in
           let closed = close.ensures.honestly names known.0 in
           record {
-            known = carried.went.known honest;
+            learns = carried.went.learns honest;
             broken = carried.went.broken honest;
-            grown = carried.went.grown honest;
+            takes_nothing_back = carried.went.takes_nothing_back honest;
             ended =
                 ended_whole client.keys client.batch old.past mid.past client.knowns next.knowns close.result done.result.0 last done.result.1
                 old.ended mid.ended new.ended end.whole end.stop end.fault known.1 (done.ensures.ended honest) closed.ended;
@@ -66,11 +66,11 @@ returns g c =
                 ended_once mid.past new.past old.ended mid.ended new.ended (laws.requests names mid.past new.past closed.honest.1).sent
                 (done.ensures.ended honest) (one_of_both close.result closed.ended closed.unended);
           };
-      kept = carried.went.keeps;
-      saved = carried.kept;
+      forgets_nothing = carried.went.keeps;
+      saved = carried.saved;
       counted = search rules;
       output = λ is. made.output (output_before close.result done.result.0 last end.whole end.stop end.fault is);
-      stands = stands;
+      stops_for_its_reason = stands;
       limit = λ is. done.ensures.limit (limit is);
       given_up = λ fresh gave.
           let left = done.ensures.given_up fresh gave in

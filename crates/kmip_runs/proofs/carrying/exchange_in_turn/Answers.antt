@@ -35,7 +35,7 @@ returns-then-not-is_at_limit g c =
             step.result.0 c.loop-made.made step.result.1 c.plan-plan.ensures.lawful before.carried made.carried;
         counted = search rules;
         output = λ is. rises_from _ _ _ before.counted (made.output is);
-        stands = search rules;
+        stops_for_its_reason = search rules;
         losing = λ good memory.
             let first = before.paid good in
             let second = made.losing (before.carried.went.good good) memory in
@@ -45,7 +45,7 @@ returns-then-not-is_at_limit g c =
       given_up = search rules;
       within = search rules;
       ended = λ honest.
-          step.ensures.ended (is_planned c.args.client.now.keys) (before.carried.went.known honest).0 ∙ before.ended honest;
+          step.ensures.ended (is_planned c.args.client.now.keys) (before.carried.went.learns honest).0 ∙ before.ended honest;
     }
 
 pub loop-made-preserved : goal.loop-made-preserved
@@ -70,7 +70,7 @@ loop-made-preserved g c =
           ];
       counted = omega (arith, c.loop-made.invariant.counted, made.counted);
       ended = λ honest.
-          let still = (c.loop-made.invariant.carried.went.known honest).0 in
+          let still = (c.loop-made.invariant.carried.went.learns honest).0 in
           step.ensures.ended (is_planned c.args.client.now.keys) still ∙ c.loop-made.invariant.ended honest;
       paid = λ good.
           let first = c.loop-made.invariant.paid good in
@@ -85,7 +85,7 @@ returns-in_default g c = record {
     carried = carried_unbegun c.laws_below.ensures (record { client = c.args.client.now; link = g.L.Link.seen c.args.link.now; keeper = g.K.Keeper.kept c.args.keeper.now });
     counted = search rules;
     output = search rules;
-    stands = search rules;
+    stops_for_its_reason = search rules;
     losing = search rules;
   };
   limit = search rules;
@@ -108,7 +108,7 @@ returns-then-not-go_on g c =
             step.result.0 c.loop-made.made step.result.1 c.plan-plan.ensures.lawful c.loop-made.invariant.carried made.carried limit (step.ensures.limit limit);
         counted = search rules;
         output = search rules;
-        stands = search rules;
+        stops_for_its_reason = search rules;
         losing = λ good memory.
             let first = c.loop-made.invariant.paid good in
             let second = made.losing (c.loop-made.invariant.carried.went.good good) (limit_in_memory step.result.0 limit) in
@@ -119,7 +119,7 @@ returns-then-not-go_on g c =
       given_up = search rules;
       within = search rules;
       ended = λ honest.
-          step.ensures.ended (is_planned c.args.client.now.keys) (c.loop-made.invariant.carried.went.known honest).0 ∙ c.loop-made.invariant.ended honest;
+          step.ensures.ended (is_planned c.args.client.now.keys) (c.loop-made.invariant.carried.went.learns honest).0 ∙ c.loop-made.invariant.ended honest;
     }
 
 pub returns : goal.returns
@@ -133,7 +133,7 @@ returns g c =
             c.stop_of.result c.loop-made.made c.args.limit c.plan-plan.ensures.lawful c.stop_of.ensures.in_memory made c.loop-made.invariant.carried;
         counted = search rules;
         output = search rules;
-        stands = search rules;
+        stops_for_its_reason = search rules;
         losing = λ good memory.
             let paid = c.loop-made.invariant.paid good in
             omega (arith, made, paid);

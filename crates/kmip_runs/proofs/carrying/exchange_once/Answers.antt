@@ -25,7 +25,7 @@ returns-in-Ok-false g c =
             (λ is. c.stop_of.ensures.in_memory (stop_is stop stops.NoMemory is)) e));
         counted = search rules;
         output = search rules;
-        stands = search rules;
+        stops_for_its_reason = search rules;
         losing = search rules;
       };
       limit = search rules;
@@ -49,7 +49,7 @@ returns-in-Err g c =
             (broke (record { client = client; link = x; keeper = i }) (record { client = next; link = y; keeper = i }) fault _ e);
         counted = search rules;
         output = search rules;
-        stands = search rules;
+        stops_for_its_reason = search rules;
         losing = search rules;
       };
       limit = search rules;
@@ -77,7 +77,7 @@ returns-in-Ok g c =
             (λ is. c.stop_of-in-Ok.ensures.in_memory (stop_is stop stops.NoMemory is)) e));
         counted = search rules;
         output = search rules;
-        stands = search rules;
+        stops_for_its_reason = search rules;
         losing = search rules;
       };
       limit = search rules;
@@ -104,7 +104,7 @@ returns-in-Err-save_progress g c =
             (took (record { client = client; link = x; keeper = i }) (record { client = next; link = y; keeper = j }) (Err fault) c.in-Ok-true.field-0 _ (λ is. absurd cc) e));
         counted = search rules;
         output = search rules;
-        stands = search rules;
+        stops_for_its_reason = search rules;
         losing = search rules;
       };
       limit = search rules;

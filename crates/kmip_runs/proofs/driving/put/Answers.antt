@@ -39,7 +39,7 @@ returns-in_default g c =
     broken_asked names client old.past new.past c.args.question.now answered c.requires none
     (subst (λ bytes. Exchanged names old.past bytes answered new.past) c.as_slice.ensures (c.exchange.ensures.honestly names honest).honest.1) in
     record {
-      moves = record {
+      tries = record {
         keeps = c.lose_each.ensures.kept;
         nearer = search rules;
         paid = search rules;
@@ -62,7 +62,7 @@ returns-in_default g c =
                 (λ is. absurd cc) may good;
           };
       honestly = λ honest. record {
-        moves = record {
+        tries = record {
           stays_honest = (c.exchange.ensures.honestly names honest).honest.0;
           learnt = tt;
           broken = (lost_facts l.lost client next c.args.question.now lost, unmade honest);
@@ -89,7 +89,7 @@ returns g c =
     subst (λ bytes. HandsOver names old.past bytes (option_map (λ v. v.items) c.in-Ok.answer) new.past) c.as_slice.ensures
     (handed_over names old.past new.past c.as_slice.result.now _ _ (sym c.in-Ok.ensures) (c.exchange.ensures.honestly names honest).honest.1) in
     record {
-      moves = record {
+      tries = record {
         keeps = c.learn.ensures.kept;
         nearer = λ settling.
             on_ok c.learn.result
@@ -125,7 +125,7 @@ returns g c =
                 (λ is. (_, sym c.in-Ok.ensures)) may good;
           };
       honestly = λ honest. record {
-        moves = record {
+        tries = record {
           stays_honest = (c.exchange.ensures.honestly names honest).honest.0;
           learnt =
               on_ok c.learn.result (learnt_one l.lost names client next old.past new.past question _ c.requires (hands honest)) c.learn.ensures.taught;

@@ -42,7 +42,7 @@ returns-in_err-question g c =
     let failed = c.from_residual.ensures.0 in
     let fault = err_from_is_err_and result c.from_residual.ensures.1 in
     record {
-      moves = record {
+      tries = record {
         keeps = subst (λ s. Keeps client s) (sym same) (keeps_itself client);
         nearer = λ settling. if_err _ result failed;
         paid = λ good. if_err _ result failed;
@@ -75,7 +75,7 @@ returns-in_default g c =
     let left = left_for client link.past in
     let lost = link.disturbances in
     record {
-      moves = record {
+      tries = record {
         keeps = keeps_asked client c.ask.new.self turn;
         nearer = nearer_asked client c.ask.new.self link turn;
         paid = λ good. subst (λ s. ArePaid 0 left (left_for s link.past) lost lost) (sym turn) (paid_none left lost);
@@ -119,12 +119,12 @@ returns-in_err-put g c =
     let fault = err_from_is_err_and result c.from_residual-in_err-put.ensures.1 in
     let still = λ (honest : link.honest (is_planned client.keys)). subst (λ (s : ClientState). link.honest (is_planned s.keys)) (sym turn) honest in
     record {
-      moves = record {
-        keeps = keeps_then client asked next (keeps_asked client asked turn) c.put.ensures.moves.keeps;
+      tries = record {
+        keeps = keeps_then client asked next (keeps_asked client asked turn) c.put.ensures.tries.keeps;
         nearer = λ settling. if_err _ result failed;
         paid = λ good. if_err _ result failed;
-        honest = c.put.ensures.moves.honest;
-        ended = c.put.ensures.moves.ended;
+        honest = c.put.ensures.tries.honest;
+        ended = c.put.ensures.tries.ended;
         followed = search rules;
       };
       well = λ good.
@@ -138,9 +138,9 @@ returns-in_err-put g c =
                 (further_if asked.keys link new _ _ (λ is. no_both result failed is) well.further);
           };
       honestly = λ honest.
-          let put = (c.in_err-put.ensures.honestly (still honest)).moves in
+          let put = (c.in_err-put.ensures.honestly (still honest)).tries in
           record {
-            stays_honest = c.put.ensures.moves.honest _ honest;
+            stays_honest = c.put.ensures.tries.honest _ honest;
             learnt = if_err _ result failed;
             broken =
                 rw (fault.1, fault.2)
@@ -169,16 +169,16 @@ returns g c =
     let put = c.in_ok-put.ensures in
     let may = good_asked client asked link _ c.in-Some.question turn c.in-Some.is c.in_ok-question.ensures.justified in
     record {
-      moves = record {
-        keeps = keeps_then client asked next (keeps_asked client asked turn) put.moves.keeps;
+      tries = record {
+        keeps = keeps_then client asked next (keeps_asked client asked turn) put.tries.keeps;
         nearer = λ settling.
             let first = nearer_asked client asked link turn settling in
-            nearer_then client asked next link link new 0 1 (asks_one client asked (keeps_asked client asked turn)) first (put.moves.nearer first.settling);
+            nearer_then client asked next link link new 0 1 (asks_one client asked (keeps_asked client asked turn)) first (put.tries.nearer first.settling);
         paid = λ good.
-            subst (λ s. ArePaid 1 (left_for s link.past) (left_for next new.past) link.disturbances new.disturbances) turn (put.moves.paid (may good).0);
-        honest = put.moves.honest;
-        ended = put.moves.ended;
-        followed = put.moves.followed;
+            subst (λ s. ArePaid 1 (left_for s link.past) (left_for next new.past) link.disturbances new.disturbances) turn (put.tries.paid (may good).0);
+        honest = put.tries.honest;
+        ended = put.tries.ended;
+        followed = put.tries.followed;
       };
       well = λ good.
           let well = put.well (may good).0 (may good).1 in
@@ -190,9 +190,9 @@ returns g c =
                 (subst (λ (s : ClientState). KeepsFurther s.keys ⊤ link new) turn (further_if asked.keys link new _ ⊤ (λ is. search rules) well.further));
           };
       honestly = λ honest.
-          let learns = (put.honestly (subst (λ (s : ClientState). link.honest (is_planned s.keys)) (sym turn) honest)).moves in
+          let learns = (put.honestly (subst (λ (s : ClientState). link.honest (is_planned s.keys)) (sym turn) honest)).tries in
           record {
-            stays_honest = put.moves.honest _ honest;
+            stays_honest = put.tries.honest _ honest;
             learnt = subst (λ (s : ClientState). Learnt s.keys s.batch link.past new.past s.knowns next.knowns 1) turn learns.learnt;
             broken = tt;
             takes_nothing_back = learns.takes_nothing_back;

@@ -32,7 +32,7 @@ returns g c =
         no_conflict = (all.good begun).noted.no_conflict;
         sound = (all.good begun).good;
         true_saved = (all.good begun).noted.true_saved;
-        goes = (all.good begun).went;
+        onward = (all.good begun).went;
       };
       in_turn = in_turn_if plans (map (λ list. list.items) c.args.runs.now) (notes_of end) _ _ _ old new
           (ok_of c.run_plans.result c.err-fault.result c.err-fault.ensures.value) (of_ok c.run_plans.result c.err-fault.result c.err-fault.ensures.value) all.in_turn;
