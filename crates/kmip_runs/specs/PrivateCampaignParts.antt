@@ -219,6 +219,7 @@ pub record HasRunAll (keys : List Key) (carried : List (List Known)) (runs : Lis
 -- The runs of a plan were made in turn: all that is promised of them. `follows` is that the link after them is
 -- what calls made of the link before.
 pub record MakesRuns (keys : List Key) (carried : List (List Known)) (runs : List Run) (notes : Notes) (whole : Type 0) (old new : Seen) (follows : Type 0) : Type 0 where
+  -- What stands after them, and what their ends say.
   pub all : HasRunAll keys carried runs notes whole old new
   -- Each end shows what the turns of its run made of the client that it began with.
   pub turned : AreTurnedFrom keys carried runs notes.ends (old.honest (is_planned keys)) whole old.past new.past

@@ -107,6 +107,7 @@ pub record HasRunPlans (plans : List (List Key)) (runs : List (List Run)) (whole
 -- The lists of runs were made in turn, each on its plan: all that is promised of them. `follows` is that the
 -- link after them is what calls made of the link before.
 pub record MakesPlans (plans : List (List Key)) (runs : List (List Run)) (whole : Type 0) (old new : Seen) (end : CampaignEnd) (follows : Type 0) : Type 0 where
+  -- All is good for the last plan, and what is noted was noted plan by plan.
   pub ran : HasRunPlans plans runs whole old new end
   -- The runs that have ends are those that were ended over an honest link, and no other was.
   pub ended : old.honest (is_planned (last_plan plans))

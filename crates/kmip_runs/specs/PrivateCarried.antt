@@ -68,20 +68,24 @@ pub record MakesExchanges (old new : Situation) (result : Result Stop SaveFault)
 
 -- One exchange was made at most, and saved.
 pub record MakesOneExchange (old new : Situation) (result : Result Stop SaveFault) (made : ℕ) : Type 0 where
+  -- It is an exchange as any other.
   pub exchanges : MakesExchanges old new result made
   -- Where it might go on, one was made.
   pub limit : result ≡ Ok stops.Limit → made ≡ 1
+  -- One is made at most.
   pub within : made ≤ 1
   -- Over a link that was honest for some names no run was ended.
   pub ended : (names : Names) → old.link.honest names → new.link.ended ≡ old.link.ended
 
 -- Exchanges were made in turn, `most` at most, and saved.
 pub record MakesExchangesInTurn (most : ℕ) (old : Stage) (result : Result Stop SaveFault) (made : ℕ) (new : Stage) : Type 0 where
+  -- Each is an exchange as any other.
   pub exchanges : MakesExchanges (situation old) (situation new) result made
   -- It stops with `Limit` only after exactly `most` exchanges, or where patience has given up.
   pub limit : result ≡ Ok stops.Limit → (made ≡ most) ⊎ IsTrue new.is_tired
   -- Where patience gives up meanwhile, fewer were made, and it was left so.
   pub given_up : old.is_tired ≡ false → IsTrue new.is_tired → IsLeft result × (made < most)
+  -- `most` are made at most.
   pub within : made ≤ most
   -- Over a link that was honest for the names of the plan no run was ended.
   pub ended : old.link.honest (is_planned old.client.keys) → new.link.ended ≡ old.link.ended

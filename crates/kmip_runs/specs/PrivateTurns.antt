@@ -68,6 +68,7 @@ pub record MakesTurn (old : Seen) (client : ClientState) (done : Result Bool Tur
 
 -- What the exchange of a question teaches, over a link that is honest for the names of the plan.
 pub record PutsHonestly (question : Question) (old : Seen) (client : ClientState) (done : Result (Unit {0}) TurnFault) (new : Seen) (next : ClientState) : Type 0 where
+  -- What any exchange teaches.
   pub tries : TriesHonestly (λ v. 1) old client done new next
   -- Where memory ran out, the message was sent if the exchange was made.
   pub sent : IfErr done (λ fault. new.past.sent ≡ old.past.sent ++ messages_made fault question.bytes)
